@@ -1,0 +1,23 @@
+//! What every crate of the analyser stands on: numbers and places of what was read, small types that
+//! contracts see as lists, the limits, the traits of the outside, and their forms in memory and for real.
+#![tactic(auto)]
+
+mod ids;
+mod items;
+mod limits;
+mod naming;
+mod out_of_memory;
+mod outside;
+mod text;
+
+pub use ids::{ClassId, FieldId, FileId, Kind, MethodId, Moment, Place, SiteId, Touch, VarId};
+pub use items::Items;
+pub use limits::{
+    MAX_CALL_EDGES, MAX_CLASSES, MAX_FILE_BYTES, MAX_FILES, MAX_FOLDER_BYTES, MAX_LOCALS,
+    MAX_METHODS, MAX_NESTING, MAX_PARAMETERS, MAX_PATH_FIELDS, MAX_SUMMARY_KEYS, MAX_WAY_STEPS,
+    MAX_WORKERS,
+};
+pub use naming::Names;
+pub use out_of_memory::Memory;
+pub use outside::{Failed, Folder, FolderFault, Gate, OpenGate, Sink};
+pub use text::Text;
