@@ -1,3 +1,9 @@
 pub mod Name
 pub mod Outside
 pub mod Causes
+pub mod FileList
+pub mod Failing
+pub mod MemoryFolder
+pub mod MemorySink
+pub mod DirFolder
+pub mod StdSink

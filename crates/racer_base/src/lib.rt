@@ -2,14 +2,22 @@
 //! contracts see as lists, the limits, the traits of the outside, and their forms in memory and for real.
 #![tactic(auto)]
 
+mod dir_folder;
+mod failing;
 mod ids;
 mod items;
 mod limits;
+mod memory_folder;
+mod memory_sink;
 mod naming;
 mod out_of_memory;
 mod outside;
+mod std_sink;
+#[cfg(test)]
+mod tests;
 mod text;
 
+pub use dir_folder::DirFolder;
 pub use ids::{ClassId, FieldId, FileId, Kind, MethodId, Moment, Place, SiteId, Touch, VarId};
 pub use items::Items;
 pub use limits::{
@@ -17,7 +25,10 @@ pub use limits::{
     MAX_METHODS, MAX_NESTING, MAX_PARAMETERS, MAX_PATH_FIELDS, MAX_SUMMARY_KEYS, MAX_WAY_STEPS,
     MAX_WORKERS,
 };
+pub use memory_folder::MemoryFolder;
+pub use memory_sink::MemorySink;
 pub use naming::Names;
 pub use out_of_memory::Memory;
 pub use outside::{Failed, Folder, FolderFault, Gate, OpenGate, Sink};
+pub use std_sink::StdSink;
 pub use text::Text;

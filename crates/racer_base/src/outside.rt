@@ -4,7 +4,7 @@ ghost use Rattle.std.specs.FinMap as finite;
 ghost use Rattle.racer_base.specs.Outside.{Told, AreNames, IsRise, taken_and};
 ghost use Rattle.racer_base.specs.Causes.{IsCause};
 
-use crate::Moment;
+use crate::{Memory, Moment};
 use std::alloc::{AllocError, AllocFailed, Global};
 
 /// Why a call on a folder gives no answer.
@@ -14,6 +14,17 @@ pub enum FolderFault {
     Failed,
     /// Memory was refused.
     Memory,
+}
+
+impl From<Memory> for FolderFault {
+    ghost use Rattle.std.specs.Prelude.{◌≡◌};
+    ghost use Rattle.racer_base.specs.declared.outside.FolderFault.TheVariants as fault;
+
+    ghost from_gives = { λ _ given. given ≡ fault.Memory };
+
+    fn from(_error: Memory) -> FolderFault {
+        FolderFault::Memory
+    }
 }
 
 impl From<AllocError> for FolderFault {

@@ -1,0 +1,65 @@
+-- The firsts of a list with one more element.
+use Rattle.std.proofs.Common.{◌≡◌, ◌+◌, ◌<◌, Bool, true, false, cond, not, ◌||◌, List, [], ◌∷◌, ◌++◌, length, filter, refl, sym, ap, ◌∙◌, arith, length-append}
+use Rattle.std.specs.List.{list_any}
+use Rattle.racer_base.specs.declared.limits.TheConstants.{MAX_SUMMARY_KEYS}
+use Rattle.access_domain.specs.declared.access.Access.{Access}
+use Rattle.access_domain.specs.Records.{same_key, firsts, IsWithin}
+
+first_false : (a b : Bool) → (a || b) ≡ false → a ≡ false
+first_false true b h = h
+first_false false b h = refl
+
+second_false : (a b : Bool) → (a || b) ≡ false → b ≡ false
+second_false true b h = cc
+second_false false b h = h
+
+or_false : (b : Bool) → (b || false) ≡ b
+or_false true = refl
+or_false false = refl
+
+append_nil : {X : Type 0} (xs : List X) → (xs ++ []) ≡ xs
+append_nil [] = refl
+append_nil (x ∷ xs) = ap (λ ys. x ∷ ys) (append_nil xs)
+
+filter_push : {X : Type 0} (p : X → Bool) (xs : List X) (y : X) → filter p (xs ++ y ∷ []) ≡ filter p xs ++ cond (p y) (y ∷ []) []
+filter_push p [] y = refl
+filter_push {X} p (x ∷ xs) y =
+    elim (p x) as (λ b. cond b (x ∷ filter p (xs ++ y ∷ [])) (filter p (xs ++ y ∷ [])) ≡ cond b (x ∷ filter p xs) (filter p xs) ++ cond (p y) (y ∷ []) []) [
+      | true ↦ ap (λ zs. x ∷ zs) (filter_push p xs y)
+      | false ↦ filter_push p xs y
+    ]
+
+-- the last one is among the firsts where no earlier one is the same
+pub firsts-new : {X : Type 0} (same : X → X → Bool) (xs : List X) (y : X) → list_any (λ x. same x y) xs ≡ false → firsts same (xs ++ y ∷ []) ≡ firsts same xs ++ y ∷ []
+firsts-new same [] y none = refl
+firsts-new {X} same (x ∷ xs) y none =
+    let here : same x y ≡ false = first_false (same x y) (list_any (λ z. same z y) xs) none in
+    let later : list_any (λ z. same z y) xs ≡ false = second_false (same x y) (list_any (λ z. same z y) xs) none in
+    ap (λ zs. x ∷ filter (λ z. not (same x z)) zs) (firsts-new same xs y later)
+    ∙ ap (λ zs. x ∷ zs) (filter_push (λ z. not (same x z)) (firsts same xs) y)
+    ∙ ap (λ b. x ∷ (filter (λ z. not (same x z)) (firsts same xs) ++ cond (not b) (y ∷ []) [])) here
+
+pub IsWithin-push : (records : List Access) (access : Access) → IsWithin records → list_any (λ r. same_key r access) records ≡ false → length records < MAX_SUMMARY_KEYS → IsWithin (records ++ access ∷ [])
+IsWithin-push records access w new room =
+    let long : length (records ++ access ∷ []) ≡ length records + 1 = length-append records (access ∷ []) in
+    record {
+      firsts = firsts-new same_key records access new ∙ ap (λ rs. rs ++ access ∷ []) w.firsts;
+      limit = omega arith;
+    }
+
+pub IsWithin-none : IsWithin []
+IsWithin-none = record { firsts = refl; limit = omega arith }
+
+-- one that is the same as an earlier one is not among the firsts
+pub firsts-old : {X : Type 0} (same : X → X → Bool) (xs : List X) (y : X) → list_any (λ x. same x y) xs ≡ true → firsts same (xs ++ y ∷ []) ≡ firsts same xs
+firsts-old same [] y one = cc
+firsts-old {X} same (x ∷ xs) y one =
+    elim (list_any (λ z. same z y) xs) as (λ b. list_any (λ z. same z y) xs ≡ b → (same x y || b) ≡ true → firsts same (x ∷ (xs ++ y ∷ [])) ≡ firsts same (x ∷ xs)) [
+      | true ↦ λ e h. ap (λ zs. x ∷ filter (λ z. not (same x z)) zs) (firsts-old same xs y e)
+      | false ↦ λ e h.
+          let here : same x y ≡ true = sym (or_false (same x y)) ∙ h in
+          ap (λ zs. x ∷ filter (λ z. not (same x z)) zs) (firsts-new same xs y e)
+          ∙ ap (λ zs. x ∷ zs) (filter_push (λ z. not (same x z)) (firsts same xs) y)
+          ∙ ap (λ b. x ∷ (filter (λ z. not (same x z)) (firsts same xs) ++ cond (not b) (y ∷ []) [])) here
+          ∙ ap (λ zs. x ∷ zs) (append_nil (filter (λ z. not (same x z)) (firsts same xs)))
+    ] refl one

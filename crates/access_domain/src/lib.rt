@@ -1,0 +1,24 @@
+//! Access records, summaries, and the definition of the analysis of one method and of all.
+//!
+//! In clauses an `Accesses` is the list of its records, no two of one key, and a `Summary` the record of
+//! that list, a set of wobbly paths, and a value.
+//!
+//! # The definitions
+//!
+//! - `specs/Records.antt`: keys, and the first record of each.
+//! - `specs/Given.antt`: what a flow needs of a program (`Given`), and `given_of` a program's parts.
+//! - `specs/Substitution.antt`: a callee's summary in its caller's values.
+//! - `specs/Operations.antt`: what one operation does.
+//! - `specs/Flow.antt`: the flow of a piece of code, by cases on its tree.
+//! - `specs/Summaries.antt`: the outcome of a method, `sum`, and those of all, by rank.
+#![tactic(auto)]
+
+mod access;
+pub mod laws;
+mod summary;
+
+pub use access::{Access, Accesses};
+pub use summary::{Outcome, Outcomes, Summary};
+
+#[cfg(test)]
+mod tests;

@@ -1,0 +1,4 @@
+pub mod Paths
+pub mod Order
+pub mod Text
+pub mod Same

@@ -1,0 +1,15 @@
+//! Access paths: a root and the fields that lead on from it, with prefix, extension and text.
+//!
+//! In clauses a `Path` is the record of its root and the list of its fields; the definitions stand in
+//! `specs/Paths.antt`.
+#![tactic(auto)]
+
+pub mod laws;
+mod path;
+mod text;
+
+pub use path::{Path, Root};
+pub use text::path_text;
+
+#[cfg(test)]
+mod tests;

@@ -1,0 +1,9 @@
+pub mod Bytes
+pub mod Fronts
+pub mod OneDivision
+pub mod Runs
+pub mod ByFirst
+pub mod Reading
+pub mod FirstScans
+pub mod Ascii
+pub mod FirstTexts

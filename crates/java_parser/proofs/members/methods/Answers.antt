@@ -1,0 +1,30 @@
+use Rattle.std.proofs.Common.{◌≡◌, ◌++◌, ◌∷◌, [], length, map, true, false, sym, ◌∙◌}
+use Rattle.std.proofs.lemmas.Result.{err_from_is_err_and}
+use Rattle.std.proofs.lemmas.List.{map_push}
+use Rattle.java_parser.specs.Reading.{several, starts, begins_method, method_at}
+use Rattle.java_parser.specs.View.{method_of}
+use Rattle.java_parser.proofs.Loops.{goes_on, fails, stops, runs_out}
+use Rattle.java_parser.proofs.members.methods.Goals as goal
+use Rattle.java_parser.proofs.members.methods.Goals.{else-loop-test, then-loop-test+then-not-begins_method}
+
+pub returns-in_err-next : goal.returns-in_err-next
+returns-in_err-next c =
+    let p = err_from_is_err_and c.from_residual.result c.from_residual.ensures.1 in
+    let begins : starts begins_method c.loop.rest.now ≡ true = sym c.begins_method.ensures ∙ c.if-not-begins_method.false in
+    rw (p.1, p.2) (fails begins_method (method_at c.args.limit) (several begins_method (method_at c.args.limit) (length c.args.tokens.now) c.args.tokens.now) (length c.args.tokens.now) c.loop.counter (map method_of c.loop.found) c.in_err-next.field-0.0 c.loop.rest.now c.loop-test.true begins c.in_err-next.ensures c.loop.invariant)
+
+pub loop-preserved : goal.loop-preserved
+loop-preserved c =
+    let n = c.in_ok-next.next in
+    let e : map method_of c.push.new.self ≡ map method_of c.loop.found ++ method_of n ∷ [] = rw c.in_ok-push.ensures.ok (map_push _ c.loop.found n) in
+    let begins : starts begins_method c.loop.rest.now ≡ true = sym c.begins_method.ensures ∙ c.if-not-begins_method.false in
+    rw e (goes_on begins_method (method_at c.args.limit) (several begins_method (method_at c.args.limit) (length c.args.tokens.now) c.args.tokens.now) (length c.args.tokens.now) c.loop.counter (map method_of c.loop.found) (method_of n) c.loop.rest.now c.in_ok-next.after.now c.loop-test.true begins c.in_ok-next.ensures c.loop.invariant)
+
+pub returns : goal.returns
+returns c =
+    elim c.loop-test.branch [
+      | else-loop-test w ↦ runs_out begins_method (method_at c.args.limit) (several begins_method (method_at c.args.limit) (length c.args.tokens.now) c.args.tokens.now) (length c.args.tokens.now) c.loop.counter (map method_of c.loop.found) c.loop.rest.now w.loop-test.false c.loop.invariant
+      | then-loop-test+then-not-begins_method w ↦
+          let ends : starts begins_method c.loop.rest.now ≡ false = sym w.begins_method.ensures ∙ w.if-not-begins_method.true in
+          stops begins_method (method_at c.args.limit) (several begins_method (method_at c.args.limit) (length c.args.tokens.now) c.args.tokens.now) (length c.args.tokens.now) c.loop.counter (map method_of c.loop.found) c.loop.rest.now w.loop-test.true ends c.loop.invariant
+    ]

@@ -1,0 +1,67 @@
+//! The join of two states.
+ghost use Rattle.std.specs.Prelude.{◌≡◌, ◌++◌, IfOk, OnOk, length};
+ghost use Rattle.owner_domain.specs.Values.{names_of, joined, lost, joined_values, lost_values, joined_state, lost_state};
+
+use crate::{State, Value};
+use access_paths::Path;
+use racer_base::{Items, Memory};
+use std::alloc::Global;
+
+/// The state where two ways meet, and the paths that are lost there: those that two different values name, in
+/// order of places.
+pub fn join(alloc: Global, a: &State, b: &State) -> Result<(State, Vec<Path>), Memory>
+    requires vars { length a.now.vars ≡ length b.now.vars }
+    requires stack { length a.now.stack ≡ length b.now.stack }
+    ensures state { IfOk result (λ made. made.0 ≡ joined_state a.now b.now) }
+    ensures lost { IfOk result (λ made. made.1.items ≡ lost_state a.now b.now) }
+{
+    let mut lost = Vec::new(alloc);
+    let vars = join_values(alloc, a.vars.as_slice(), b.vars.as_slice(), &mut lost)?;
+    let stack = join_values(alloc, a.stack.as_slice(), b.stack.as_slice(), &mut lost)?;
+    let state = State {
+        vars: Items::from(vars),
+        stack: Items::from(stack),
+    };
+    Ok((state, lost))
+}
+
+fn join_values(
+    alloc: Global,
+    a: &[Value],
+    b: &[Value],
+    names: &mut Vec<Path>,
+) -> Result<Vec<Value>, Memory>
+    requires { length a.now ≡ length b.now }
+    ensures values { IfOk result (λ made. made.items ≡ joined_values a.now b.now) }
+    ensures lost { OnOk result (names.new.items ≡ names.old.items ++ lost_values a.now b.now) }
+{
+    let mut values = Vec::new(alloc);
+    for (place, left) in a.iter().enumerate() {
+        let value = join_value(alloc, left, &b[place], names)?;
+        values.push(value)?;
+    }
+    Ok(values)
+}
+
+fn join_value(alloc: Global, a: &Value, b: &Value, names: &mut Vec<Path>) -> Result<Value, Memory>
+    ensures value { IfOk result (λ made. made ≡ joined a.now b.now) }
+    ensures lost { OnOk result (names.new.items ≡ names.old.items ++ lost a.now b.now) }
+{
+    if a == b {
+        return a.copied(alloc);
+    }
+    lose(alloc, a, names)?;
+    lose(alloc, b, names)?;
+    Ok(Value::Unnamed)
+}
+
+/// Puts the path of a named value at the end.
+fn lose(alloc: Global, value: &Value, names: &mut Vec<Path>) -> Result<(), Memory>
+    ensures { OnOk result (names.new.items ≡ names.old.items ++ names_of value.now) }
+{
+    if let Value::Named(path) = value {
+        let name = path.copied(alloc)?;
+        names.push(name)?;
+    }
+    Ok(())
+}

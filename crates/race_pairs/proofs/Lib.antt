@@ -1,0 +1,5 @@
+pub mod Membership
+pub mod WarningPairs
+pub mod OneWarning
+pub mod Turns
+pub mod Known

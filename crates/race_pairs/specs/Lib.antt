@@ -1,0 +1,3 @@
+pub mod Warnings
+pub mod Pairs
+pub mod Placing

@@ -1,0 +1,69 @@
+-- Which records conflict, and the list of warnings (JLS 17.4.1).
+use Rattle.std.specs.Prelude.{ℕ, Bool, ◌&&◌, ◌||◌, not, List, [], Option, None, Some, map, option_map, nat_eq, if◌then◌else◌}
+use Rattle.std.specs.List.{enumerate_from, flat_map, filter_map, find}
+use Rattle.racer_base.specs.declared.ids.ClassId.{ClassId}
+use Rattle.racer_base.specs.declared.ids.MethodId.{MethodId}
+use Rattle.access_paths.specs.Paths.{same_path, is_formal}
+use Rattle.core_code.specs.Core.{Core, Method}
+use Rattle.core_code.specs.declared.parts.ClassCore.{ClassCore}
+use Rattle.access_domain.specs.declared.access.Access.{Access}
+use Rattle.access_domain.specs.declared.summary.Outcome.{Outcome}
+use Rattle.access_domain.specs.Records.{is_write}
+use Rattle.access_domain.specs.Summaries.{sum, accesses_of}
+use Rattle.race_pairs.specs.declared.warning.Warning.{Warning}
+
+-- Two records conflict when their paths are equal with root `this`, a class or `some c`, at least one writes, not both are locked, and not both are on the main thread.
+abbrev pub conflicts : Access → Access → Bool
+conflicts a b =
+    same_path a.path b.path && not (is_formal a.path.root) && (is_write a.kind || is_write b.kind) && not (a.locked && b.locked)
+    && not (a.main && b.main)
+
+-- a record with its method and its index among the method's records
+pub record Placed : Type 0 where
+  pub method : MethodId
+  pub index : ℕ
+  pub access : Access
+
+-- the records of what is known of a method; none where it is not analysed, or large
+abbrev pub records_held : Option Outcome → List Access
+records_held None = []
+records_held (Some outcome) = accesses_of outcome
+
+-- the records of the outcome of a method
+abbrev pub records_of : Core → MethodId → List Access
+records_of core m = records_held (sum core m)
+
+abbrev pub placed_at : MethodId → ℕ × Access → Placed
+placed_at m e = record { method = m; index = e.0; access = e.1 }
+
+abbrev pub placed_in : MethodId → List Access → List Placed
+placed_in m accesses = map (placed_at m) (enumerate_from 0 accesses)
+
+abbrev pub is_entry_of : ClassId → Method → Bool
+is_entry_of c method = method.entry && nat_eq method.class.0 c.0
+
+-- the records of a method, with its number, where it is an entry of class c
+abbrev pub entry_records : Core → ClassId → ℕ × Method → List Placed
+entry_records core c e = if is_entry_of c e.1 then placed_in (record { 0 = e.0 }) (records_of core (record { 0 = e.0 })) else []
+
+-- the records of the entries of class c, in order of entries and records
+abbrev pub records_in : Core → ClassId → List Placed
+records_in core c = flat_map (entry_records core c) (enumerate_from 0 core.methods)
+
+abbrev pub warning_of : ClassId → Placed → Placed → Warning
+warning_of c first partner =
+    record { class = c; entry = first.method; access = first.index; partner = partner.method; partner_access = partner.index }
+
+-- the warning of a record: with the first of these that conflicts with it
+abbrev pub warning_among : ClassId → List Placed → Placed → Option Warning
+warning_among c records first = option_map (warning_of c first) (find (λ partner. conflicts first.access partner.access) records)
+
+abbrev pub warnings_among : ClassId → List Placed → List Warning
+warnings_among c records = filter_map (warning_among c records) records
+
+-- the warnings of a class, with its number, where it is checked
+abbrev pub class_warnings : Core → ℕ × ClassCore → List Warning
+class_warnings core e = if e.1.checked then warnings_among (record { 0 = e.0 }) (records_in core (record { 0 = e.0 })) else []
+
+abbrev pub warnings : Core → List Warning
+warnings core = flat_map (class_warnings core) (enumerate_from 0 core.classes)

@@ -1,0 +1,14 @@
+//! Warnings: pairs of records of one checked class that conflict.
+//!
+//! The definitions stand in `specs/Warnings.antt`, over a program's parts and the outcomes of its methods;
+//! `specs/Pairs.antt` says in the subject's words what the list of warnings has. `warnings` makes that list.
+#![tactic(auto)]
+
+pub mod laws;
+mod pairing;
+#[cfg(test)]
+mod tests;
+mod warning;
+
+pub use pairing::warnings;
+pub use warning::Warning;

@@ -1,0 +1,159 @@
+//! The list of warnings of a program.
+ghost use Rattle.std.specs.Prelude.{◌≡◌, ◌++◌, ◌^◌, ◌≤◌, IfOk, OnOk, MatchResult, option_map};
+ghost use Rattle.std.specs.List.{find};
+ghost use Rattle.std.specs.Arc.{arc_value};
+ghost use Rattle.core_code.specs.Core.{method_of};
+ghost use Rattle.core_code.specs.Program.{core};
+ghost use Rattle.access_domain.specs.Outcomes.{AreSums};
+ghost use Rattle.race_pairs.specs.Warnings.{conflicts, records_held, placed_in, is_entry_of, records_in, warnings_among, warnings};
+ghost use Rattle.race_pairs.specs.Placing.{placed_of, all_placed};
+
+use crate::Warning;
+use access_domain::{Access, Outcome, Outcomes};
+use access_paths::Root;
+use core_code::{MethodCore, Program};
+use racer_base::{ClassId, Memory, MethodId, Touch};
+use std::alloc::Global;
+use std::sync::Arc;
+
+/// A record with its method and its index among the method's records.
+#[derive(Clone, Copy)]
+struct PlacedAccess<'a> {
+    method: MethodId,
+    index: u32,
+    access: &'a Access,
+}
+
+/// Whether two threads that make these accesses may meet in them.
+fn conflicts(a: &Access, b: &Access) -> bool
+    ensures { result ≡ conflicts a.now b.now }
+{
+    a.path == b.path
+        && !matches!(a.path.root, Root::Formal(_))
+        && (a.kind == Touch::Write || b.kind == Touch::Write)
+        && !(a.locked && b.locked)
+        && !(a.main && b.main)
+}
+
+/// The first of these records that conflicts with this one.
+fn first_partner<'a>(first: &Access, records: &[PlacedAccess<'a>]) -> Option<PlacedAccess<'a>>
+    ensures { option_map placed_of result
+        ≡ find (λ partner. conflicts first.now partner.access) (all_placed records.now) }
+{
+    for partner in records {
+        if conflicts(first, partner.access) {
+            return Some(*partner);
+        }
+    }
+    None
+}
+
+/// Puts the warnings of a class behind those that there are; these are the records of its entries.
+fn push_warnings(
+    found: &mut Vec<Warning>,
+    class: ClassId,
+    records: &[PlacedAccess],
+) -> Result<(), Memory>
+    ensures { OnOk result (found.new.items ≡ found.old.items ++ warnings_among class (all_placed records.now)) }
+{
+    for first in records {
+        if let Some(partner) = first_partner(first.access, records) {
+            found.push(Warning {
+                class,
+                entry: first.method,
+                access: first.index,
+                partner: partner.method,
+                partner_access: partner.index,
+            })?;
+        }
+    }
+    Ok(())
+}
+
+/// The records of what is known of a method: none where it is not analysed, or large.
+fn records_held(outcome: &Option<Arc<Outcome>>) -> &[Access]
+    ensures { result.now ≡ records_held (option_map arc_value outcome.now) }
+{
+    match outcome {
+        None => &[],
+        Some(outcome) => match &**outcome {
+            Outcome::Large => &[],
+            Outcome::Summary(summary) => summary.accesses.as_slice(),
+        },
+    }
+}
+
+/// The same number, where it has a place in what warnings are made of.
+fn in_32_bits(n: usize) -> Result<u32, Memory>
+    ensures { MatchResult result (λ number. number ≡ n) (λ _. 2 ^ 32 ≤ n) }
+{
+    u32::try_from(n).map_err(|_| Memory)
+}
+
+/// Whether the method is an entry of this class.
+fn is_entry_of(class: ClassId, method: &MethodCore) -> bool
+    ensures { result ≡ is_entry_of class (method_of method.now) }
+{
+    method.entry && method.class == class
+}
+
+/// Puts the records of a method behind those that there are.
+fn push_records<'a>(
+    records: &mut Vec<PlacedAccess<'a>>,
+    method: MethodId,
+    accesses: &'a [Access],
+) -> Result<(), Memory>
+    ensures { OnOk result (all_placed records.new.items ≡ all_placed records.old.items ++ placed_in method accesses.now) }
+{
+    for (index, access) in accesses.iter().enumerate() {
+        let index = in_32_bits(index)?;
+        records.push(PlacedAccess {
+            method,
+            index,
+            access,
+        })?;
+    }
+    Ok(())
+}
+
+/// The records of the entries of a class, in order of entries and records.
+fn records_in<'a>(
+    alloc: Global,
+    program: &Program,
+    outcomes: &'a Outcomes,
+    class: ClassId,
+) -> Result<Vec<PlacedAccess<'a>>, Memory>
+    requires { AreSums (core program.now) outcomes.now.items }
+    ensures { IfOk result (λ records. all_placed records.items ≡ records_in (core program.now) class) }
+{
+    let mut records = Vec::new(alloc);
+    for (number, method) in program.methods().iter().enumerate() {
+        if is_entry_of(class, method) {
+            let accesses = records_held(&outcomes[number]);
+            let number = in_32_bits(number)?;
+            push_records(&mut records, MethodId(number), accesses)?;
+        }
+    }
+    Ok(records)
+}
+
+/// The warnings of a program whose methods have these outcomes: one for each record of an entry of a checked
+/// class that conflicts with such a record of its class, in order.
+pub fn warnings(
+    alloc: Global,
+    program: &Program,
+    outcomes: &Outcomes,
+) -> Result<Vec<Warning>, Memory>
+    requires { AreSums (core program.now) outcomes.now.items }
+    ensures { IfOk result (λ found. found.items ≡ warnings (core program.now)) }
+{
+    let mut found = Vec::new(alloc);
+    for (number, class) in program.classes().iter().enumerate() {
+        if class.checked {
+            let id = ClassId(in_32_bits(number)?);
+            let records = records_in(alloc, program, outcomes, id)?;
+            push_warnings(&mut found, id, records.as_slice())?;
+        }
+    }
+    Ok(found)
+}

@@ -1,0 +1,18 @@
+mod Written
+mod SortedNames
+pub mod BoolParts
+pub mod Placed
+pub mod Sequences
+pub mod Turns
+pub mod Added
+pub mod LoweredSites
+pub mod LoweredStacks
+pub mod LoweredEntries
+pub mod LoweredNumbers
+mod SourceLemmas
+pub mod ReportOutcomes
+mod OneStatus
+pub mod AdditionLemmas
+pub mod ShortPrograms
+pub mod Kept
+pub mod Summed

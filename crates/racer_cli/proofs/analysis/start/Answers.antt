@@ -1,0 +1,18 @@
+use Rattle.std.proofs.Common.{◌≡◌, ℕ, suc, ◌+◌, ◌-◌, ◌<◌, List, [], ◌∷◌, ◌++◌, length, replicate, ap, ◌∙◌, append_assoc, arith}
+use Rattle.owner_domain.specs.declared.value.Value.{Value}
+use Rattle.owner_domain.specs.declared.value.Value.TheVariants.{Owned}
+use Rattle.racer_cli.proofs.analysis.start.Goals as goal
+
+replicate_turn : {X : Type 0} (before : List X) (n i : ℕ) (x : X) → i < n → (before ++ x ∷ []) ++ replicate (n - (i + 1)) x ≡ before ++ replicate (n - i) x
+replicate_turn before n i x within =
+    let one : suc (n - (i + 1)) ≡ n - i = omega arith in
+    append_assoc before (x ∷ []) (replicate (n - (i + 1)) x) ∙ ap (λ (k : ℕ). before ++ replicate k x) one
+
+pub loop-place-preserved : goal.loop-place-preserved
+loop-place-preserved c =
+    let n = length c.args.method.now.variables in
+    let i = c.loop-place._place in
+    let within : i < n = omega (arith, c.loop-place-test.true, c.len-place-end.ensures) in
+    ap (λ (values : List Value). values ++ replicate (n - (i + 1)) Owned) c.in_ok-push.ensures
+    ∙ replicate_turn c.loop-place.values n i Owned within
+    ∙ c.loop-place.invariant

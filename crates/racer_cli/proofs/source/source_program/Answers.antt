@@ -1,0 +1,21 @@
+use Rattle.std.proofs.Common.{◌≡◌, true, List, sym, subst}
+use Rattle.std.specs.List.{All}
+use Rattle.java_lexer.specs.declared.token.Token.{Token}
+use Rattle.java_parser.specs.declared.first.FirstClass.{FirstClass}
+use Rattle.java_parser.specs.View.{classes_of}
+use Rattle.core_code.specs.Core.{Core}
+use Rattle.racer_cli.specs.InFile.{are_in_file}
+use Rattle.racer_cli.specs.Short.{is_short_program}
+use Rattle.racer_cli.proofs.Placed.{placed_by_tokens}
+use Rattle.racer_cli.proofs.SourceLemmas.{tokens_in_first}
+use Rattle.racer_cli.proofs.ShortPrograms.{program_of-short}
+use Rattle.racer_cli.proofs.source.source_program.Goals as goal
+
+pub lower_first-requires-clause-placed : goal.lower_first-requires-clause-placed
+lower_first-requires-clause-placed c =
+    let all = subst (λ (tokens : List Token). All (λ (t : Token). t.place.file.0 ≡ 0) tokens) (sym c.in_ok-lexed.ensures.tokens) (tokens_in_first c.args.bytes.now) in
+    let placed = placed_by_tokens c.in_ok-lexed.lexed.tokens (classes_of c.in-Ok.classes.items) c.in-Ok.ensures.file all in
+    subst (λ (classes : List FirstClass). are_in_file 0 (classes_of classes) ≡ true) (sym c.as_slice.ensures.value) placed
+
+pub returns-in-Ok-clause-short : goal.returns-in-Ok-clause-short
+returns-in-Ok-clause-short c = subst (λ (program : Core). is_short_program program ≡ true) (sym c.in_ok-lower_first-in-Ok.ensures) (program_of-short c.args.name.now (classes_of c.as_slice.result.now))

@@ -1,0 +1,121 @@
+-- Why a run ends with a status.
+use Rattle.std.specs.Prelude.{◌≡◌, ◌⊎◌, ℕ, Bool, true, false, ◌<◌, List, Option, None, Some, length, take, IfSome}
+use Rattle.racer_base.specs.Outside.{Told, Files, taken_and}
+use Rattle.racer_cli.specs.declared.said.Said.{Said}
+use Rattle.racer_cli.specs.declared.status.Status.{Status}
+use Rattle.racer_cli.specs.declared.status.Status.TheVariants.{Clean, Warned, Usage, FolderFault, SinkFault, Refused, Memory, NoRace, NotAWitness}
+use Rattle.racer_cli.specs.Words.{Request, request_of}
+use Rattle.racer_cli.specs.Said.{usage_text, fault_text, Says}
+
+-- What can be seen of a call's words and folder: the words, what the folder tells, and its counts of faults.
+pub record Asked : Type 0 where
+  pub words : List (List ℕ)
+  pub told : Option Told
+  pub before : ℕ
+  pub after : ℕ
+
+-- What can be seen of its sink: the counts of faults, and the bytes taken where it tells them.
+pub record Wrote : Type 0 where
+  pub before : ℕ
+  pub after : ℕ
+  pub taken_before : Option (List ℕ)
+  pub taken_after : Option (List ℕ)
+
+-- the whole text was written
+pub record IsWhole (wrote : Wrote) (text : List ℕ) : Type 0 where
+  pub taken : wrote.taken_after ≡ taken_and wrote.taken_before text
+  pub no_fault : wrote.after ≡ wrote.before
+
+-- a front of the text was written, and then the sink failed
+pub record IsFront (wrote : Wrote) (text : List ℕ) : Type 0 where
+  pub many : ℕ
+  pub front : many < length text
+  pub taken : wrote.taken_after ≡ taken_and wrote.taken_before (take many text)
+  pub fault : wrote.before < wrote.after
+
+-- nothing was written
+pub record IsNothing (wrote : Wrote) : Type 0 where
+  pub taken : wrote.taken_after ≡ wrote.taken_before
+  pub no_fault : wrote.after ≡ wrote.before
+
+-- the words ask for nothing, and the folder was left alone
+pub record IsUsage (asked : Asked) (text : List ℕ) : Type 0 where
+  pub nothing : request_of asked.words ≡ None
+  pub line : text ≡ usage_text
+  pub no_fault : asked.after ≡ asked.before
+
+-- the words ask for a folder, and its count of faults rose
+pub record IsFault (asked : Asked) (text : List ℕ) : Type 0 where
+  pub request : Request
+  pub asks : request_of asked.words ≡ Some request
+  pub line : text ≡ fault_text
+  pub fault : asked.before < asked.after
+
+-- the words ask for this folder, which did not fail, and this is what is said of its files
+pub record IsSaid (status : Status) (asked : Asked) (text : List ℕ) : Type 0 where
+  pub request : Request
+  pub asks : request_of asked.words ≡ Some request
+  pub entered : IfSome asked.told (λ told. request.folder ≡ told.name)
+  pub said : IfSome asked.told (λ told. Says request told.files (record { status = status; text = text }))
+  pub no_fault : asked.after ≡ asked.before
+
+-- the statuses of what is said of a folder's files
+abbrev pub is_said : Status → Bool
+is_said Clean = true
+is_said Warned = true
+is_said Refused = true
+is_said NoRace = true
+is_said NotAWitness = true
+is_said _ = false
+
+-- what each status comes from, but for those of the sink and of memory, and the text that is due then
+abbrev pub IsDue : Status → Asked → List ℕ → Type 0
+IsDue Clean asked text = IsSaid Clean asked text
+IsDue Warned asked text = IsSaid Warned asked text
+IsDue Usage asked text = IsUsage asked text
+IsDue FolderFault asked text = IsFault asked text
+IsDue SinkFault asked text = ⊥
+IsDue Refused asked text = IsSaid Refused asked text
+IsDue Memory asked text = ⊥
+IsDue NoRace asked text = IsSaid NoRace asked text
+IsDue NotAWitness asked text = IsSaid NotAWitness asked text
+
+-- the text that is due was written whole
+pub record IsAnswer (status : Status) (asked : Asked) (wrote : Wrote) : Type 0 where
+  pub text : List ℕ
+  pub due : IsDue status asked text
+  pub whole : IsWhole wrote text
+
+-- the sink failed before the text that was due was written whole
+pub record IsCut (asked : Asked) (wrote : Wrote) : Type 0 where
+  pub status : Status
+  pub text : List ℕ
+  pub due : IsDue status asked text
+  pub front : IsFront wrote text
+
+-- why a run ends with this status
+abbrev pub IsCause : Status → Asked → Wrote → Type 0
+IsCause Clean asked wrote = IsAnswer Clean asked wrote
+IsCause Warned asked wrote = IsAnswer Warned asked wrote
+IsCause Usage asked wrote = IsAnswer Usage asked wrote
+IsCause FolderFault asked wrote = IsAnswer FolderFault asked wrote
+IsCause SinkFault asked wrote = IsCut asked wrote
+IsCause Refused asked wrote = IsAnswer Refused asked wrote
+IsCause Memory asked wrote = IsNothing wrote
+IsCause NoRace asked wrote = IsAnswer NoRace asked wrote
+IsCause NotAWitness asked wrote = IsAnswer NotAWitness asked wrote
+
+-- what is said to the request was written whole, and gives the status
+pub record IsWholeAnswer (request : Request) (files : Files) (status : Status) (wrote : Wrote) : Type 0 where
+  pub said : Said
+  pub says : Says request files said
+  pub gives : status ≡ said.status
+  pub whole : IsWhole wrote said.text
+
+-- where the words ask for the folder that tells itself, and no count rose, the answer is whole, or memory
+-- was refused
+abbrev pub IsComplete : Status → Asked → Wrote → Type 0
+IsComplete status asked wrote =
+    (told : Told) → asked.told ≡ Some told → request_of asked.words ≡ Some (record { folder = told.name })
+    → asked.after ≡ asked.before → wrote.after ≡ wrote.before
+    → (status ≡ Memory) ⊎ IsWholeAnswer (record { folder = told.name }) told.files status wrote

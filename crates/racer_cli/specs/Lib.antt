@@ -1,0 +1,15 @@
+pub mod Number
+pub mod Words
+pub mod Lowering
+pub mod Report
+pub mod Short
+pub mod Additions
+pub mod Roots
+pub mod Walks
+pub mod InFile
+pub mod LoweringSteps
+pub mod LoweringExamples
+pub mod Source
+pub mod Counted
+pub mod Said
+pub mod Causes

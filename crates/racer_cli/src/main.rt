@@ -1,0 +1,53 @@
+//! Reads a folder of Java sources and reports the data races in it.
+#![tactic(auto)]
+
+mod analysis;
+mod laws;
+mod lowering;
+mod lowering_laws;
+mod operands;
+mod report;
+mod report_laws;
+mod request;
+mod run;
+mod said;
+mod source;
+mod sources;
+mod status;
+#[cfg(test)]
+mod tests;
+mod writing;
+
+use racer_base::{DirFolder, OpenGate, StdSink};
+use run::run;
+use status::Status;
+use std::process::ExitCode;
+use std::rt::Env;
+use std::{env, io};
+
+/// The words after the program's name.
+fn words<R: Env + AllocGlobal>(rt: &R) -> io::Result<Vec<String>> {
+    let mut words = Vec::new(rt.alloc());
+    for word in env::args(rt)?.skip(1) {
+        words.push(word)?;
+    }
+    Ok(words)
+}
+
+fn main(rt: HostRuntime) -> io::Result<ExitCode> {
+    let words = match words(&rt) {
+        Ok(words) => words,
+        Err(_) => return Ok(ExitCode::from(Status::Memory.number())),
+    };
+    let mut folder = DirFolder::new(rt.clone()?);
+    let mut sink = StdSink::new(&rt);
+    let status = run(
+        &rt,
+        rt.alloc(),
+        words.as_slice(),
+        &mut folder,
+        &mut sink,
+        &OpenGate,
+    );
+    Ok(ExitCode::from(status.number()))
+}

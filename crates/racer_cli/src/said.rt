@@ -1,0 +1,149 @@
+//! What a run has to say.
+ghost use Rattle.std.specs.Prelude.{◌≡◌, ◌≢◌, ◌<◌, Some, IfErr, IfOk, IfSome, IsTrue, MatchResult, OnOk, map, string_bytes, true};
+ghost use Rattle.std.specs.FinMap as finite;
+ghost use Rattle.racer_base.specs.Outside.{last_count};
+ghost use Rattle.racer_base.specs.Causes.{IsCause as IsFolderCause};
+ghost use Rattle.core_code.specs.Program.{core};
+ghost use Rattle.racer_cli.specs.Words.{request_of};
+ghost use Rattle.racer_cli.specs.Short.{is_short_program};
+ghost use Rattle.racer_cli.specs.Source.{AreCounted, IsOneSource, IsSourceFile, Accepted, count_of, no_program, refusal_line, source_names, Source};
+ghost use Rattle.racer_cli.specs.Said.{said_from, Says};
+ghost use Rattle.racer_cli.specs.Counted.{count_told};
+ghost use Rattle.racer_cli.specs.Causes.{IsDue, is_said};
+
+use crate::analysis::outcomes;
+use crate::report::report;
+use crate::request::requested_folder;
+use crate::source::source_program;
+use crate::sources::{Counted, count, sources};
+use crate::status::Status;
+use core_code::{Parts, Program};
+use race_pairs::warnings;
+use racer_base::{Folder, FolderFault, Items, MAX_FILE_BYTES, Memory, Text};
+use std::alloc::Global;
+
+/// The text that a run writes, and the status that it has once the text is written.
+#[derive(Drop)]
+pub struct Said {
+    pub status: Status,
+    pub text: Text,
+}
+
+/// The line of the sources that are refused for this one.
+fn refused(alloc: Global, name: &str) -> Result<Said, Memory>
+    ensures { IfOk result (λ said. said ≡ record { status = Status.Refused; text = refusal_line name.now }) }
+{
+    let line = format!(in alloc; "refused {name} not built yet\n")?;
+    Ok(Said {
+        status: Status::Refused,
+        text: Text::from(line),
+    })
+}
+
+/// The report on a program.
+fn reported(alloc: Global, program: &Program) -> Result<Said, Memory>
+    requires { IsTrue (is_short_program (core program.now)) }
+    ensures status { IfOk result (λ said. is_said said.status ≡ true) }
+    ensures said { IfOk result (λ said. said ≡ said_from (Accepted (core program.now))) }
+{
+    let outcomes = outcomes(alloc, program)?;
+    let found = warnings(alloc, program, &outcomes)?;
+    let text = report(alloc, program, outcomes.as_slice(), found.as_slice())?;
+    let status = if found.is_empty() {
+        Status::Clean
+    } else {
+        Status::Warned
+    };
+    Ok(Said {
+        status,
+        text: Text::from(text),
+    })
+}
+
+/// The program of no source.
+fn nothing(alloc: Global) -> Program
+    ensures program { core result ≡ no_program }
+    ensures short { IsTrue (is_short_program (core result)) }
+{
+    Program::of(Parts {
+        files: Items::new(alloc),
+        skipped: Items::new(alloc),
+        classes: Items::new(alloc),
+        fields: Items::new(alloc),
+        methods: Items::new(alloc),
+    })
+}
+
+/// What is said of a source of this name and these bytes.
+fn said_of_source(alloc: Global, name: &str, bytes: &[u8]) -> Result<Said, Memory>
+    ensures status { IfOk result (λ said. is_said said.status ≡ true) }
+    ensures said { IfOk result (λ said. (source : Source) × IsOneSource name.now bytes.now source × (said ≡ said_from source)) }
+{
+    match source_program(alloc, name, bytes)? {
+        Some(program) => reported(alloc, &program),
+        None => refused(alloc, name),
+    }
+}
+
+/// What is said of the one source of this name.
+fn one_source<F: Folder>(alloc: Global, folder: &mut F, name: &str) -> Result<Said, FolderFault>
+    ensures status { IfOk result (λ said. is_said said.status ≡ true) }
+    ensures count { MatchResult result (λ _. F.faults folder.new ≡ F.faults folder.old) (λ fault. IsFolderCause fault (F.faults folder.old) (F.faults folder.new)) }
+    ensures said { IfOk result (λ said. IfSome (F.told folder.old) (λ told. (source : Source) × IsSourceFile told.files name.now source × (said ≡ said_from source))) }
+    ensures steady { F.steady folder.old → IfSome (F.told folder.old) (λ told. IfSome (finite.get told.files name.now) (λ _. IfErr result (λ fault. fault ≡ FolderFault.Memory))) }
+{
+    let bytes = folder.read(alloc, name, MAX_FILE_BYTES + 1)?;
+    Ok(said_of_source(alloc, name, bytes.as_slice())?)
+}
+
+/// What is said of so many sources.
+fn judged<F: Folder>(alloc: Global, folder: &mut F, counted: Counted) -> Result<Said, FolderFault>
+    ensures count { MatchResult result (λ _. F.faults folder.new ≡ F.faults folder.old) (λ fault. IsFolderCause fault (F.faults folder.old) (F.faults folder.new)) }
+    ensures status { IfOk result (λ said. is_said said.status ≡ true) }
+    ensures said { IfOk result (λ said. IfSome (F.told folder.old) (λ told. (source : Source) × AreCounted told.files (count_told counted.entry) source × (said ≡ said_from source))) }
+    ensures steady { F.steady folder.old → IfSome (F.told folder.old) (λ told. count_told counted.entry ≡ count_of (source_names told.files) → IfErr result (λ fault. fault ≡ FolderFault.Memory)) }
+{
+    match counted {
+        Counted::Nothing => Ok(reported(alloc, &nothing(alloc))?),
+        Counted::One(name) => one_source(alloc, folder, name),
+        Counted::More(second) => Ok(refused(alloc, second)?),
+    }
+}
+
+/// What is said of the folder of this name.
+fn answered<F: Folder>(alloc: Global, folder: &mut F, name: &str) -> Result<Said, FolderFault>
+    ensures status { IfOk result (λ said. is_said said.status ≡ true) }
+    ensures count { MatchResult result (λ _. F.faults folder.new ≡ F.faults folder.old) (λ fault. IsFolderCause fault (F.faults folder.old) (F.faults folder.new)) }
+    ensures entered { OnOk result (IfSome (F.told folder.old) (λ told. name.now ≡ told.name)) }
+    ensures said { IfOk result (λ said. IfSome (F.told folder.old) (λ told. Says (record { folder = name.now }) told.files said)) }
+    ensures steady { F.steady folder.old → IfSome (F.told folder.old) (λ told. name.now ≡ told.name → IfErr result (λ fault. fault ≡ FolderFault.Memory)) }
+{
+    let names = sources(alloc, folder, name)?;
+    judged(alloc, folder, count(names.as_slice()))
+}
+
+/// What is to be said to these words, over this folder.
+pub fn what_to_say<F: Folder>(
+    alloc: Global,
+    words: &[String],
+    folder: &mut F,
+) -> Result<Said, Memory>
+    requires { F.faults folder.old < last_count }
+    ensures due { IfOk result (λ said. IsDue said.status (record { words = map string_bytes words.now; told = F.told folder.old; before = F.faults folder.old; after = F.faults folder.new }) said.text) }
+    ensures steady { F.steady folder.old → IfSome (F.told folder.old) (λ told. request_of (map string_bytes words.now) ≡ Some (record { folder = told.name }) → IfOk result (λ said. said.status ≢ Status.FolderFault)) }
+{
+    let Some(name) = requested_folder(words) else {
+        return Ok(Said {
+            status: Status::Usage,
+            text: Text::from_str(alloc, "usage: racer FOLDER\n")?,
+        });
+    };
+    match answered(alloc, folder, name) {
+        Err(FolderFault::Memory) => Err(Memory),
+        Err(FolderFault::Failed) => Ok(Said {
+            status: Status::FolderFault,
+            text: Text::from_str(alloc, "folder fault\n")?,
+        }),
+        Ok(said) => Ok(said),
+    }
+}

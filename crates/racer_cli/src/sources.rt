@@ -1,0 +1,63 @@
+//! The sources of a folder.
+ghost use Rattle.std.specs.Prelude.{◌≡◌, filter, map, string_bytes, IfOk, IfErr, IfSome, OnOk, MatchResult};
+ghost use Rattle.racer_base.specs.Causes.{IsCause as IsFolderCause};
+ghost use Rattle.racer_cli.specs.Source.{is_java, source_names, count_of};
+ghost use Rattle.racer_cli.specs.Counted.{count_told};
+
+use racer_base::{Folder, FolderFault};
+use std::alloc::Global;
+
+/// How many sources there are.
+#[derive(Clone, Copy)]
+pub enum Counted<'a> {
+    Nothing,
+    /// The name of the only one.
+    One(&'a str),
+    /// The name of the second.
+    More(&'a str),
+}
+
+/// How many sources these are.
+pub fn count(names: &[String]) -> Counted<'_>
+    ensures { count_told result ≡ count_of (map string_bytes names.now) }
+{
+    match names {
+        [] => Counted::Nothing,
+        [name] => Counted::One(name.as_str()),
+        [_, name, ..] => Counted::More(name.as_str()),
+    }
+}
+
+/// Whether a file is a source.
+fn is_source(name: &str) -> bool
+    ensures { result ≡ is_java name.now }
+{
+    name.as_bytes().ends_with(b".java")
+}
+
+/// Keeps the names of sources.
+fn keep_sources(names: &mut Vec<String>)
+    ensures { names.new.items ≡ filter (λ name. is_java (string_bytes name)) names.old.items }
+{
+    names.retain(|name| is_source(name.as_str()));
+}
+
+/// Enters a folder, and gives the names of its sources in byte order.
+pub fn sources<F: Folder>(
+    alloc: Global,
+    folder: &mut F,
+    name: &str,
+) -> Result<Vec<String>, FolderFault>
+    ensures count { MatchResult result (λ _. F.faults folder.new ≡ F.faults folder.old) (λ fault. IsFolderCause fault (F.faults folder.old) (F.faults folder.new)) }
+    ensures told { F.told folder.new ≡ F.told folder.old }
+    ensures entered { OnOk result (IfSome (F.told folder.old) (λ told. name.now ≡ told.name)) }
+    ensures names { IfOk result (λ names. IfSome (F.told folder.old) (λ told. map string_bytes names.items ≡ source_names told.files)) }
+    ensures steady { F.steady folder.old → IfSome (F.told folder.old) (λ told. name.now ≡ told.name → IfErr result (λ fault. fault ≡ FolderFault.Memory)) }
+    ensures stays { F.steady folder.old → F.steady folder.new }
+{
+    folder.enter(alloc, name)?;
+    let mut names = folder.names(alloc)?;
+    names.sort()?;
+    keep_sources(&mut names);
+    Ok(names)
+}

@@ -1,0 +1,132 @@
+//! A set of wobbly paths.
+ghost use Rattle.std.specs.Prelude.{◌≡◌, ◌≤◌, ◌&&◌, IfOk, MatchOption, length, nat_eq, vec_len};
+ghost use Rattle.std.specs.List.{list_any};
+ghost use Rattle.std.specs.FinSet as set;
+ghost use Rattle.racer_base.specs.declared.limits.TheConstants.{MAX_PATH_FIELDS, MAX_SUMMARY_KEYS};
+ghost use Rattle.access_paths.specs.Paths.{front, is_prefix};
+ghost use Rattle.wobbly_paths.specs.Sets.{IsAnswer, HasNoPrefix, IsShortestPrefix};
+
+use access_paths::Path;
+use racer_base::{MAX_SUMMARY_KEYS, Memory};
+use std::alloc::Global;
+use std::marker::Model;
+
+/// What became of something that was to be added.
+#[derive(Clone, Copy, Debug, PartialEq, Eq)]
+pub enum Adding {
+    Added,
+    /// It was there already.
+    Present,
+    /// It was not there, and there is no room for more.
+    Full,
+    /// Memory was refused.
+    Memory,
+}
+
+/// A set of at most 1,024 paths.
+#[derive(Drop)]
+pub struct Wobbly {
+    paths: Vec<Path>,
+}
+
+impl Model for Wobbly {
+    ghost use Rattle.std.specs.FinSet as set;
+    ghost use Rattle.access_paths.specs.contracts.path.Path as path;
+    ghost use Rattle.access_paths.specs.Order.{path_cmp};
+
+    ghost Value = { set.FinSet path_cmp };
+
+    ghost coded = { set.code path.the_row.coded };
+
+    ghost use Rattle.wobbly_paths.specs.Inside.{set_of, IsWithin};
+
+    ghost view = { λ wobbly. set_of wobbly.paths.items };
+
+    ghost invariant = { λ wobbly. IsWithin wobbly.paths.items };
+}
+
+impl Wobbly {
+    pub fn new(alloc: Global) -> Wobbly
+        ensures { result ≡ set.empty }
+    {
+        Wobbly {
+            paths: Vec::new(alloc),
+        }
+    }
+
+    /// Adds a path. Unless the answer is `Added`, the set is as before.
+    pub fn add(&mut self, path: Path) -> Adding
+        ensures cases { IsAnswer (set.contains self.old path) (set.len self.old) self.old self.new (set.insert self.old path) result }
+        ensures limit { set.len self.new ≤ MAX_SUMMARY_KEYS }
+    {
+        if self.has(&path) {
+            return Adding::Present;
+        }
+        if self.paths.len() >= MAX_SUMMARY_KEYS {
+            return Adding::Full;
+        }
+        if self.paths.push(path).is_err() {
+            return Adding::Memory;
+        }
+        Adding::Added
+    }
+
+    /// The number of fields of the shortest proper prefix of a path, the root alone included, that is in the set.
+    pub fn unstable_prefix(&self, path: &Path) -> Option<u32>
+        requires { length path.now.fields ≤ MAX_PATH_FIELDS }
+        ensures { MatchOption result (HasNoPrefix self.now path.now (length path.now.fields)) (IsShortestPrefix self.now path.now) }
+    {
+        for fields in 0..path.fields.len() {
+            if self.has_front(path, fields) {
+                return Some(fields as u32);
+            }
+        }
+        None
+    }
+
+    /// Whether a path is in the set.
+    fn has(&self, path: &Path) -> bool
+        ensures { result ≡ set.contains self.now path.now }
+    {
+        self.paths.as_slice().contains(path)
+    }
+
+    /// Whether the path of the first so many fields is in the set.
+    fn has_front(&self, path: &Path, fields: usize) -> bool
+        requires { fields ≤ length path.now.fields }
+        ensures { result ≡ set.contains self.now (front fields path.now) }
+    {
+        has_front(self.paths.as_slice(), path, fields)
+    }
+
+    /// The paths of the set, each once, in no stated order.
+    pub fn paths(&self, alloc: Global) -> Result<Vec<Path>, Memory>
+        ensures all { IfOk result (λ paths. set.from_list paths.items ≡ self.now) }
+        ensures each_once { IfOk result (λ paths. vec_len paths ≡ set.len self.now) }
+    {
+        copies(alloc, self.paths.as_slice())
+    }
+}
+
+/// Whether the path of the first so many fields is among these.
+fn has_front(paths: &[Path], path: &Path, fields: usize) -> bool
+    ensures { result ≡ list_any (λ p. nat_eq (length p.fields) fields && is_prefix p path.now) paths.now }
+{
+    for prefix in paths {
+        if prefix.fields.len() == fields && prefix.is_prefix(path) {
+            return true;
+        }
+    }
+    false
+}
+
+/// Paths that are equal to these, in order.
+fn copies(alloc: Global, paths: &[Path]) -> Result<Vec<Path>, Memory>
+    ensures { IfOk result (λ copies. copies.items ≡ paths.now) }
+{
+    let mut copies = Vec::new(alloc);
+    for path in paths {
+        copies.push(path.copied(alloc)?)?;
+    }
+    Ok(copies)
+}
