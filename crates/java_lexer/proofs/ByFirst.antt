@@ -10,7 +10,7 @@ use Rattle.java_lexer.specs.Divisions.{Lexis, IsFront}
 use Rattle.java_lexer.specs.Kinds.{is_nothing}
 use Rattle.java_lexer.proofs.Runs.{run_passes, run_longest}
 
-if_some : (v : Bool) (kind : PieceKind) → IsSome (cond v (Some kind) None) → v ≡ true
+pub if_some : (v : Bool) (kind : PieceKind) → IsSome (cond v (Some kind) None) → v ≡ true
 if_some true kind h = refl
 if_some false kind h = absurd (false≢true h)
 
@@ -35,7 +35,7 @@ module _ (lexis : Lexis) (b : ℕ) (bs : List ℕ) (test : List ℕ → Bool) (k
 pub run_front : (lexis : Lexis) (b : ℕ) (bs : List ℕ) (test : ℕ → Bool) (kind : List ℕ → PieceKind) → ((xs : List ℕ) → lexis.kind_of (b ∷ xs) ≡ cond (list_all test xs) (Some (kind xs)) None) → lexis.kind_of [] ≡ None → lexis.fault_at (b ∷ bs) ≡ None → IsFront lexis (b ∷ bs) (1 + prefix_len test bs) (kind (take (prefix_len test bs) bs))
 run_front lexis b bs test kind is none clear = rw one-add (tested_front lexis b bs (list_all test) kind is none clear (prefix_len test bs) (prefix_len-le-length test bs) (run_passes test bs) (run_longest test bs))
 
-nothing_longer : (bs : List ℕ) (k : ℕ) → k ≤ length bs → is_nothing (take k bs) ≡ true → k ≤ 0
+pub nothing_longer : (bs : List ℕ) (k : ℕ) → k ≤ length bs → is_nothing (take k bs) ≡ true → k ≤ 0
 nothing_longer bs zero le h = omega arith
 nothing_longer [] (suc k) le h = absurd (omega arith)
 nothing_longer (b ∷ bs) (suc k) le h = absurd (false≢true h)

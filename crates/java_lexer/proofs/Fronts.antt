@@ -41,7 +41,7 @@ IsAmong lexis text n p = (k : ℕ) × (0 < k) × (k ≤ n) × (p ≡ front_piece
 some_piece : (p q : Piece) → Some p ≡ Some q → p ≡ q
 some_piece p q e = cc
 
-none_some : {A : Type 0} (o : Option A) → o ≡ None → IsSome o → ⊥
+pub none_some : {A : Type 0} (o : Option A) → o ≡ None → IsSome o → ⊥
 none_some None e s = false≢true s
 none_some (Some x) e s = cc
 

@@ -1,5 +1,5 @@
 -- A text has one division, and it is that of the function.
-use Rattle.std.proofs.Common.{◌≡◌, ℕ, zero, suc, ◌≤◌, ◌<◌, List, [], ◌∷◌, ◌++◌, length, take, drop, Option, Some, None, refl, sym, ap, ◌∙◌, subst, arith, le_antisymm, length-append, length-drop, take-append-drop}
+use Rattle.std.proofs.Common.{◌≡◌, ℕ, zero, suc, ◌≤◌, ◌<◌, List, [], ◌∷◌, ◌++◌, length, take, drop, Option, Some, None, refl, sym, ap, ◌∙◌, subst, arith, le_antisymm, append_assoc, length-append, length-drop, take-append-drop}
 use Rattle.std.specs.Prelude.{IsSome}
 use Rattle.std.proofs.lemmas.List.{take_at, drop_at, drop-drop}
 use Rattle.java_lexer.specs.declared.piece.PieceKind.{PieceKind}
@@ -103,3 +103,12 @@ upto_divided lexis (suc n) (b ∷ bs) none le =
 pub pieces_divide : (lexis : Lexis) (text : List ℕ) → lexis.kind_of [] ≡ None → IsDivision lexis (pieces lexis text) text (undivided lexis text)
 unfolding HasDivision
 pieces_divide lexis text none = upto_divided lexis (length text) text none (omega arith)
+
+-- ---- the pieces are the text
+
+divides_joined : (lexis : Lexis) (ps : List Piece) (text rest : List ℕ) → Divides lexis ps text rest → joined ps ++ rest ≡ text
+divides_joined lexis [] text rest d = sym d
+divides_joined lexis (p ∷ ps) text rest d = append_assoc p.bytes (joined ps) rest ∙ ap (λ (t : List ℕ). p.bytes ++ t) (divides_joined lexis ps d.0 rest d.3) ∙ sym d.1
+
+pub pieces_joined : (lexis : Lexis) (text : List ℕ) → lexis.kind_of [] ≡ None → joined (pieces lexis text) ++ undivided lexis text ≡ text
+pieces_joined lexis text none = divides_joined lexis (pieces lexis text) text (undivided lexis text) (pieces_divide lexis text none).divides

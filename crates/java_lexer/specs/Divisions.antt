@@ -1,5 +1,5 @@
 -- The division of a text into longest pieces.
-use Rattle.std.specs.Prelude.{◌≡◌, ℕ, zero, suc, ◌<◌, ◌≤◌, List, [], ◌∷◌, ◌++◌, length, take, drop, Option, Some, None, IsSome}
+use Rattle.std.specs.Prelude.{◌≡◌, ℕ, zero, suc, ◌<◌, ◌≤◌, List, [], ◌∷◌, ◌++◌, length, take, drop, Option, Some, None, Result, Ok, Err, IsSome}
 use Rattle.java_lexer.specs.declared.piece.PieceKind.{PieceKind}
 use Rattle.java_lexer.specs.declared.piece.LexicalFault.{LexicalFault}
 
@@ -81,3 +81,8 @@ pub record IsFront (lexis : Lexis) (text : List ℕ) (n : ℕ) (kind : PieceKind
   pub some : 0 < n
   pub fits : n ≤ length text
   pub first : IsFirst lexis (front_piece text n kind) text
+
+-- the length and the kind of the piece in front, or the fault that is named there
+abbrev pub IsScanned : Lexis → List ℕ → Result (ℕ × PieceKind) LexicalFault → Type 0
+IsScanned lexis text (Ok piece) = IsFront lexis text piece.0 piece.1
+IsScanned lexis text (Err fault) = lexis.fault_at text ≡ Some fault

@@ -1,7 +1,15 @@
 pub mod Places
 pub mod Divisions
-pub mod Kinds
-pub mod FirstKinds
+pub mod Fronts
 pub mod Tokens
+pub mod Kinds
+pub mod Comments
+pub mod Numbers
+pub mod Literals
+pub mod Signs
+pub mod JavaKinds
+pub mod JavaTokens
+pub mod Scanning
+pub mod FirstKinds
 pub mod FirstTokens
 pub mod FirstExample

@@ -1,5 +1,5 @@
 -- Places in a text: lines and columns from 1, columns in bytes. A CR, an LF and a CR LF each end a line (JLS 3.4).
-use Rattle.std.specs.Prelude.{ℕ, ◌+◌, Bool, true, false, List, ◌==◌, if◌then◌else◌}
+use Rattle.std.specs.Prelude.{◌≡◌, ◌≤◌, ℕ, ◌+◌, Bool, true, false, List, ◌==◌, if◌then◌else◌}
 use Rattle.std.specs.List.{fold}
 use Rattle.racer_base.specs.declared.ids.FileId.{FileId}
 use Rattle.racer_base.specs.declared.ids.Place.{Place}
@@ -34,3 +34,7 @@ place_at file spot = record { file = file; line = spot.line; column = spot.colum
 -- the place behind the first bytes of a file
 abbrev pub place_behind : FileId → List ℕ → Place
 place_behind file bytes = place_at file (spot_behind bytes)
+
+-- the first of two places in one file is not behind the second
+abbrev pub IsNotBehind : Place → Place → Type 0
+IsNotBehind a b = (a.line ≤ b.line) × (a.line ≡ b.line → a.column ≤ b.column)

@@ -1,10 +1,16 @@
-//! Laws of the definitions that the contracts cite.
-ghost use Rattle.std.specs.Prelude.{◌≡◌, ℕ, List, []};
+//! Laws of the definitions that the contracts cite, by functions that do nothing.
+ghost use Rattle.std.specs.Prelude.{◌≡◌, ℕ, List, [], ◌∷◌, ◌++◌, None, Some, map, codes};
 ghost use Rattle.racer_base.specs.declared.ids.FileId.{FileId};
-ghost use Rattle.java_lexer.specs.Divisions.{Piece, IsDivision, pieces};
+ghost use Rattle.java_lexer.specs.Divisions.{Piece, IsDivision, pieces, joined, undivided};
+ghost use Rattle.java_lexer.specs.Tokens.{GoForward, texts};
 ghost use Rattle.java_lexer.specs.FirstKinds.{first_lexis};
 ghost use Rattle.java_lexer.specs.FirstTokens.{first_tokens};
 ghost use Rattle.java_lexer.specs.FirstExample.{short_example, short_example_tokens};
+ghost use Rattle.java_lexer.specs.JavaKinds.{java_kind, java_fault, java_lexis};
+ghost use Rattle.java_lexer.specs.JavaTokens.{java_tokens};
+
+use crate::TokenKind;
+use crate::piece::{LexicalFault, PieceKind};
 
 /// A text is divided whole, and in one way, into the pieces of a short form of Java.
 pub fn one_first_division()
@@ -15,4 +21,39 @@ pub fn one_first_division()
 /// The tokens of two lines, computed from the definition.
 pub fn short_form_example()
     ensures { (file : FileId) → first_tokens file short_example ≡ short_example_tokens file }
+{}
+
+/// Up to the first place where no piece stands, a text is divided in one way into the pieces of Java. Where
+/// no fault is named there, nothing is left.
+pub fn one_java_division()
+    ensures divides { (text : List ℕ) → IsDivision java_lexis (pieces java_lexis text) text (undivided java_lexis text) }
+    ensures only { (ps : List Piece) (text rest : List ℕ) → IsDivision java_lexis ps text rest → (ps ≡ pieces java_lexis text) × (rest ≡ undivided java_lexis text) }
+    ensures whole { (text : List ℕ) → java_fault (undivided java_lexis text) ≡ None → undivided java_lexis text ≡ [] }
+{}
+
+/// The pieces, one after the other, and what is left behind them are the text.
+pub fn pieces_are_the_text()
+    ensures { (text : List ℕ) → joined (pieces java_lexis text) ++ undivided java_lexis text ≡ text }
+{}
+
+/// No token has a place before that of an earlier one.
+pub fn tokens_go_forward()
+    ensures { (file : FileId) (bytes : List ℕ) → GoForward (java_tokens file bytes) }
+{}
+
+/// Tokens computed from the definition.
+pub fn java_examples()
+    ensures shifts { (file : FileId) → texts (java_tokens file (codes "x>>=y>>z")) ≡ codes "x" ∷ codes ">>=" ∷ codes "y" ∷ codes ">" ∷ codes ">" ∷ codes "z" ∷ [] }
+    ensures exponents { (file : FileId) → texts (java_tokens file (codes "1e+5 0x1e+5 .5")) ≡ codes "1e+5" ∷ codes "0x1e" ∷ codes "+" ∷ codes "5" ∷ codes ".5" ∷ [] }
+    ensures dots { (file : FileId) → texts (java_tokens file (codes "....")) ≡ codes "..." ∷ codes "." ∷ [] }
+{}
+
+/// Faults computed from the definition; 34 is a double quote, 39 a single one and 92 a backslash.
+pub fn fault_examples()
+    ensures short_comment { java_fault (codes "/*/") ≡ Some LexicalFault.Unclosed }
+    ensures line_feed { java_fault (39 ∷ 92 ∷ codes "u000a'") ≡ Some LexicalFault.BadLiteral }
+    ensures long_octal { java_fault (39 ∷ 92 ∷ codes "400'") ≡ Some LexicalFault.BadLiteral }
+    ensures octal_in_text { java_kind (34 ∷ 92 ∷ (codes "400" ++ 34 ∷ [])) ≡ Some (PieceKind.Token TokenKind.Text) }
+    ensures three_quotes { java_fault (34 ∷ 34 ∷ 34 ∷ []) ≡ Some LexicalFault.BadLiteral }
+    ensures open_escape { java_fault (34 ∷ 92 ∷ 34 ∷ []) ≡ Some LexicalFault.Unclosed }
 {}

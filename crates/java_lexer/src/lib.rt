@@ -1,15 +1,25 @@
 //! The tokens of Java (JLS 3).
 #![tactic(auto)]
 
+mod comments;
+mod escapes;
+mod fault;
 mod first;
 mod first_scan;
+mod java;
 pub mod laws;
+mod literals;
+mod numbers;
 mod piece;
+mod scan;
+mod signs;
 mod spot;
 #[cfg(test)]
 mod tests;
 mod token;
 mod words;
 
+pub use fault::LexFault;
 pub use first::lex_first;
+pub use java::lex;
 pub use token::{Lexed, Token, TokenKind};

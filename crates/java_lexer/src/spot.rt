@@ -25,7 +25,7 @@ impl Spot {
     }
 
     /// The place behind this byte.
-    fn advance(self, byte: u8) -> Spot
+    pub fn advance(self, byte: u8) -> Spot
         requires one { 1 ≤ self.column }
         requires line { self.line + 1 < 2 ^ 32 }
         requires column { self.column + 1 < 2 ^ 32 }

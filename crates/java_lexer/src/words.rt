@@ -2,64 +2,11 @@
 ghost use Rattle.std.specs.Prelude.{◌≡◌, IfOk, map, Bool};
 ghost use Rattle.std.specs.Str.{IsUtf8};
 ghost use Rattle.racer_base.specs.Name.{is_listed, is_letter, is_digit, is_word_byte, keywords, fixed_words};
-ghost use Rattle.java_lexer.specs.Kinds.{is_white, is_number_byte, word_kind};
+ghost use Rattle.java_lexer.specs.Kinds.{is_white, is_number_byte, keywords_with, word_kind};
 
 use crate::TokenKind;
 use racer_base::{Memory, Text};
 use std::alloc::Global;
-
-const KEYWORDS: [&[u8]; 50] = [
-    b"abstract",
-    b"assert",
-    b"boolean",
-    b"break",
-    b"byte",
-    b"case",
-    b"catch",
-    b"char",
-    b"class",
-    b"const",
-    b"continue",
-    b"default",
-    b"do",
-    b"double",
-    b"else",
-    b"enum",
-    b"extends",
-    b"final",
-    b"finally",
-    b"float",
-    b"for",
-    b"goto",
-    b"if",
-    b"implements",
-    b"import",
-    b"instanceof",
-    b"int",
-    b"interface",
-    b"long",
-    b"native",
-    b"new",
-    b"package",
-    b"private",
-    b"protected",
-    b"public",
-    b"return",
-    b"short",
-    b"static",
-    b"strictfp",
-    b"super",
-    b"switch",
-    b"synchronized",
-    b"this",
-    b"throw",
-    b"throws",
-    b"transient",
-    b"try",
-    b"void",
-    b"volatile",
-    b"while",
-];
 
 const FIXED_WORDS: [&[u8]; 3] = [b"true", b"false", b"null"];
 
@@ -105,10 +52,53 @@ pub fn is_listed(table: &[&[u8]], text: &[u8]) -> bool
     false
 }
 
+/// The keywords that begin with this byte.
+#[tactic(none)]
+fn keywords_with(first: u8) -> &'static [&'static [u8]]
+    ensures { map (λ word. word.now) result.now ≡ keywords_with first }
+{
+    match first {
+        b'a' => &[b"abstract", b"assert"],
+        b'b' => &[b"boolean", b"break", b"byte"],
+        b'c' => &[b"case", b"catch", b"char", b"class", b"const", b"continue"],
+        b'd' => &[b"default", b"do", b"double"],
+        b'e' => &[b"else", b"enum", b"extends"],
+        b'f' => &[b"final", b"finally", b"float", b"for"],
+        b'g' => &[b"goto"],
+        b'i' => &[
+            b"if",
+            b"implements",
+            b"import",
+            b"instanceof",
+            b"int",
+            b"interface",
+        ],
+        b'l' => &[b"long"],
+        b'n' => &[b"native", b"new"],
+        b'p' => &[b"package", b"private", b"protected", b"public"],
+        b'r' => &[b"return"],
+        b's' => &[
+            b"short",
+            b"static",
+            b"strictfp",
+            b"super",
+            b"switch",
+            b"synchronized",
+        ],
+        b't' => &[b"this", b"throw", b"throws", b"transient", b"try"],
+        b'v' => &[b"void", b"volatile"],
+        b'w' => &[b"while"],
+        _ => &[],
+    }
+}
+
 fn is_keyword(word: &[u8]) -> bool
     ensures { result ≡ is_listed keywords word.now }
 {
-    is_listed(&KEYWORDS, word)
+    match word.split_first() {
+        Some((first, _)) => is_listed(keywords_with(*first), word),
+        None => false,
+    }
 }
 
 fn is_fixed_word(word: &[u8]) -> bool

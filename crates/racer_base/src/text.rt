@@ -68,6 +68,10 @@ impl PartialEq for Text {
 }
 
 impl Clone for Text {
+    ghost use Rattle.std.specs.Prelude.{◌≡◌};
+
+    ghost is_clone = { λ text copy. copy ≡ text };
+
     fn clone(&self) -> Result<Text, AllocError> {
         Ok(Text {
             inner: self.inner.clone()?,

@@ -21,6 +21,7 @@ mod writing;
 use racer_base::{DirFolder, OpenGate, StdSink};
 use run::run;
 use status::Status;
+use std::io::ErrorKind;
 use std::process::ExitCode;
 use std::rt::Env;
 use std::{env, io};
@@ -37,7 +38,11 @@ fn words<R: Env + AllocGlobal>(rt: &R) -> io::Result<Vec<String>> {
 fn main(rt: HostRuntime) -> io::Result<ExitCode> {
     let words = match words(&rt) {
         Ok(words) => words,
-        Err(_) => return Ok(ExitCode::from(Status::Memory.number())),
+        Err(error) if error.kind() == ErrorKind::OutOfMemory => {
+            return Ok(ExitCode::from(Status::Memory.number()));
+        }
+        // A word is no UTF-8: as no words at all, it asks for nothing.
+        Err(_) => Vec::new(rt.alloc()),
     };
     let mut folder = DirFolder::new(rt.clone()?);
     let mut sink = StdSink::new(&rt);

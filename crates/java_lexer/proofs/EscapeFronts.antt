@@ -1,0 +1,108 @@
+-- What begins an escape.
+use Rattle.std.proofs.Common.{◌≡◌, ℕ, zero, suc, ◌≤◌, ◌<◌, Bool, true, false, cond, ◌&&◌, ◌||◌, List, [], ◌∷◌, length, take, inl, inr, refl, sym, ap, ◌∙◌, arith, eqb-true, length-take}
+use Rattle.std.specs.Prelude.{nat_le, ◌==◌}
+use Rattle.java_lexer.specs.Literals.{is_simple, is_simple_escape, is_octal, is_octal_escape, is_code_unit, behind_us, is_unicode_escape, is_escape}
+use Rattle.java_lexer.specs.Fronts.{some_front}
+use Rattle.java_lexer.specs.Scanning.{begins_escape}
+use Rattle.java_lexer.proofs.Bytes.{and_left, and_right}
+use Rattle.java_lexer.proofs.SomeFronts.{or_cases, or_left, or_right, front_is, front_found}
+
+-- ---- a run of u
+
+us_case : (b : ℕ) (bs : List ℕ) (m : ℕ) (v : Bool) → (b == 117) ≡ v → m ≤ length (cond v (behind_us bs) (b ∷ bs)) → ((m : ℕ) → m ≤ length (behind_us bs) → (k : ℕ) × (k ≤ length bs) × (behind_us (take k bs) ≡ take m (behind_us bs))) → (k : ℕ) × (k ≤ suc (length bs)) × (behind_us (take k (b ∷ bs)) ≡ take m (cond v (behind_us bs) (b ∷ bs)))
+us_case b bs m true e le ih = let f = ih m le in (suc f.0, omega (arith, f.1), rw e f.2)
+us_case b bs zero false e le ih = (0, omega arith, refl)
+us_case b bs (suc j) false e le ih = (suc j, omega arith, rw e refl)
+
+us_found : (bs : List ℕ) (m : ℕ) → m ≤ length (behind_us bs) → (k : ℕ) × (k ≤ length bs) × (behind_us (take k bs) ≡ take m (behind_us bs))
+us_found [] zero le = (0, omega arith, refl)
+us_found [] (suc m) le = (0, omega arith, refl)
+us_found (b ∷ bs) m le = us_case b bs m (b == 117) refl le (us_found bs)
+
+us_take_case : (b : ℕ) (bs : List ℕ) (k : ℕ) (v : Bool) → (j : ℕ) × (behind_us (take k bs) ≡ take j (behind_us bs)) → (j : ℕ) × (cond v (behind_us (take k bs)) (b ∷ take k bs) ≡ take j (cond v (behind_us bs) (b ∷ bs)))
+us_take_case b bs k true ih = ih
+us_take_case b bs k false ih = (suc k, refl)
+
+us_take : (bs : List ℕ) (k : ℕ) → (j : ℕ) × (behind_us (take k bs) ≡ take j (behind_us bs))
+us_take [] zero = (0, refl)
+us_take [] (suc k) = (0, refl)
+us_take (b ∷ bs) zero = (0, refl)
+us_take (b ∷ bs) (suc k) = us_take_case b bs k (b == 117) (us_take bs k)
+
+same_take : (us : List ℕ) (j n : ℕ) → length (take j us) ≡ n → take j us ≡ take n us
+same_take us zero zero e = refl
+same_take us zero (suc n) e = absurd (omega arith)
+same_take [] (suc j) zero e = refl
+same_take [] (suc j) (suc n) e = absurd (omega arith)
+same_take (u ∷ us) (suc j) zero e = absurd (omega arith)
+same_take (u ∷ us) (suc j) (suc n) e = ap (λ (t : List ℕ). u ∷ t) (same_take us j n (omega arith))
+
+-- ---- an escape
+
+length_four : (quote : ℕ) (bytes : List ℕ) → is_code_unit quote bytes ≡ true → length bytes ≡ 4
+length_four quote bytes h = eqb-true (length bytes) 4 (and_left _ _ (and_left _ _ h))
+
+one_or_two : (v : Bool) → nat_le 0 (cond v 2 1) ≡ true
+one_or_two true = refl
+one_or_two false = refl
+
+simple_is : (quote b : ℕ) → is_simple b ≡ true → is_escape quote (b ∷ []) ≡ true
+simple_is quote b h = rw h refl
+
+octal_is : (quote b : ℕ) → is_octal b ≡ true → is_escape quote (b ∷ []) ≡ true
+octal_is quote b h = or_left _ _ (or_right (is_simple b && true) _ (rw (h, one_or_two (nat_le b 51)) refl))
+
+unicode_is : (quote b : ℕ) (bs : List ℕ) → (b == 117) ≡ true → is_code_unit quote (take 4 (behind_us bs)) ≡ true → some_front (is_escape quote) (b ∷ bs) ≡ true
+unicode_is quote b bs u h =
+    let four = length_four quote (take 4 (behind_us bs)) h in
+    let enough : 4 ≤ length (behind_us bs) = omega (arith, length-take 4 (behind_us bs)) in
+    let f = us_found bs 4 enough in
+    front_is (is_escape quote) (b ∷ bs) (suc f.0) (omega arith) (omega (arith, f.1)) (or_right (is_simple_escape (b ∷ take f.0 bs) || is_octal_escape (b ∷ take f.0 bs)) _ (rw (u, f.2) h))
+
+module _ (quote b : ℕ) (bs : List ℕ) where
+  escape_there : begins_escape quote (b ∷ bs) ≡ true → some_front (is_escape quote) (b ∷ bs) ≡ true
+  escape_there h =
+      elim (or_cases (is_simple b || is_octal b) ((b == 117) && is_code_unit quote (take 4 (behind_us bs))) h) [
+        | inl e ↦ front_is (is_escape quote) (b ∷ bs) 1 (omega arith) (omega arith) (elim (or_cases (is_simple b) (is_octal b) e) [
+          | inl simple ↦ simple_is quote b simple
+          | inr octal ↦ octal_is quote b octal
+        ])
+        | inr e ↦ unicode_is quote b bs (and_left _ _ e) (and_right _ _ e)
+      ]
+
+  unit_there : (k : ℕ) → is_code_unit quote (behind_us (take k bs)) ≡ true → is_code_unit quote (take 4 (behind_us bs)) ≡ true
+  unit_there k h =
+      let j = us_take bs k in
+      let four = length_four quote (behind_us (take k bs)) h in
+      let same : behind_us (take k bs) ≡ take 4 (behind_us bs) = j.1 ∙ same_take (behind_us bs) j.0 4 (sym (ap (length {A = ℕ}) j.1) ∙ four) in
+      rw same at h
+
+  escape_front : (k : ℕ) → is_escape quote (b ∷ take k bs) ≡ true → begins_escape quote (b ∷ bs) ≡ true
+  escape_front k h =
+      elim (or_cases (is_simple_escape (b ∷ take k bs) || is_octal_escape (b ∷ take k bs)) (is_unicode_escape quote (b ∷ take k bs)) h) [
+        | inl e ↦ or_left _ _ (elim (or_cases (is_simple_escape (b ∷ take k bs)) (is_octal_escape (b ∷ take k bs)) e) [
+          | inl simple ↦ or_left (is_simple b) (is_octal b) (and_left _ _ simple)
+          | inr octal ↦ or_right (is_simple b) (is_octal b) (and_left _ _ (and_left _ _ octal))
+        ])
+        | inr e ↦ or_right (is_simple b || is_octal b) _ (let u : (b == 117) ≡ true = and_left _ _ e in rw (u, unit_there k (and_right (b == 117) (is_code_unit quote (behind_us (take k bs))) e)) refl)
+      ]
+
+  escape_from : some_front (is_escape quote) (b ∷ bs) ≡ true → begins_escape quote (b ∷ bs) ≡ true
+  escape_from h = let f = front_found (is_escape quote) (b ∷ bs) h in at f.0 f.1 f.3
+    where
+      at : (n : ℕ) → 0 < n → is_escape quote (take n (b ∷ bs)) ≡ true → begins_escape quote (b ∷ bs) ≡ true
+      at zero some h = absurd (omega arith)
+      at (suc k) some h = escape_front k h
+
+same_truth : (v w : Bool) → (v ≡ true → w ≡ true) → (w ≡ true → v ≡ true) → v ≡ w
+same_truth true w f g = sym (f refl)
+same_truth false true f g = g refl
+same_truth false false f g = refl
+
+nil_front : (quote : ℕ) → false ≡ some_front (is_escape quote) []
+unfolding some_front
+nil_front quote = refl
+
+pub begins_is : (quote : ℕ) (bytes : List ℕ) → begins_escape quote bytes ≡ some_front (is_escape quote) bytes
+begins_is quote [] = nil_front quote
+begins_is quote (b ∷ bs) = same_truth (begins_escape quote (b ∷ bs)) (some_front (is_escape quote) (b ∷ bs)) (escape_there quote b bs) (escape_from quote b bs)

@@ -1,0 +1,48 @@
+-- Fronts of a text that pass a test.
+use Rattle.std.proofs.Common.{◌≡◌, ℕ, zero, suc, ◌≤◌, ◌<◌, Bool, true, false, ◌||◌, List, length, take, inl, inr, ◌⊎◌, refl, arith}
+use Rattle.std.proofs.lemmas.Bool.{false≢true}
+use Rattle.java_lexer.specs.Fronts.{some_upto, some_front}
+use Rattle.java_lexer.proofs.Bytes.{or_less}
+
+pub or_cases : (a b : Bool) → (a || b) ≡ true → (a ≡ true) ⊎ (b ≡ true)
+or_cases true b h = inl refl
+or_cases false b h = inr h
+
+pub or_left : (a b : Bool) → a ≡ true → (a || b) ≡ true
+or_left true b h = refl
+or_left false b h = absurd (false≢true h)
+
+pub or_right : (a b : Bool) → b ≡ true → (a || b) ≡ true
+or_right true b h = refl
+or_right false b h = h
+
+pub is_false : (a : Bool) → (a ≡ true → ⊥) → a ≡ false
+is_false true h = absurd (h refl)
+is_false false h = refl
+
+upto_is : (is : List ℕ → Bool) (text : List ℕ) (m n : ℕ) → 0 < n → n ≤ m → is (take n text) ≡ true → some_upto is text m ≡ true
+upto_is is text zero n some le h = absurd (omega arith)
+upto_is is text (suc m) n some le h =
+    elim (or_less n (suc m) (omega arith)) [
+      | inl e ↦ or_left (is (take (suc m) text)) (some_upto is text m) (rw (← e) h)
+      | inr less ↦ or_right (is (take (suc m) text)) (some_upto is text m) (upto_is is text m n some (omega arith) h)
+    ]
+
+upto_found : (is : List ℕ → Bool) (text : List ℕ) (m : ℕ) → some_upto is text m ≡ true → (n : ℕ) × (0 < n) × (n ≤ m) × (is (take n text) ≡ true)
+upto_found is text zero h = absurd (false≢true h)
+upto_found is text (suc m) h =
+    elim (or_cases (is (take (suc m) text)) (some_upto is text m) h) [
+      | inl e ↦ (suc m, omega arith, omega arith, e)
+      | inr e ↦ let f = upto_found is text m e in (f.0, f.1, omega (arith, f.2), f.3)
+    ]
+
+pub front_is : (is : List ℕ → Bool) (text : List ℕ) (n : ℕ) → 0 < n → n ≤ length text → is (take n text) ≡ true → some_front is text ≡ true
+unfolding some_front
+front_is is text n some le h = upto_is is text (length text) n some le h
+
+pub front_found : (is : List ℕ → Bool) (text : List ℕ) → some_front is text ≡ true → (n : ℕ) × (0 < n) × (n ≤ length text) × (is (take n text) ≡ true)
+unfolding some_front
+front_found is text h = upto_found is text (length text) h
+
+pub no_front : (is : List ℕ → Bool) (text : List ℕ) → ((n : ℕ) → 0 < n → n ≤ length text → is (take n text) ≡ true → ⊥) → some_front is text ≡ false
+no_front is text h = is_false (some_front is text) (λ e. let f = front_found is text e in h f.0 f.1 f.2 f.3)

@@ -1,0 +1,43 @@
+-- Lengths that the code finds at the front of a text.
+use Rattle.std.specs.Prelude.{ℕ, suc, Bool, false, ◌&&◌, ◌||◌, List, [], ◌∷◌, length, take, Option, Some, None, nat_eq, ◌==◌, if◌then◌else◌}
+use Rattle.std.specs.List.{starts_with}
+use Rattle.java_lexer.specs.Comments.{closes, is_line_end}
+use Rattle.java_lexer.specs.Numbers.{is_next}
+use Rattle.java_lexer.specs.Literals.{is_simple, is_octal, is_code_unit, behind_us}
+
+-- the length of the first of these texts that begins the bytes
+abbrev pub first_len : List (List ℕ) → List ℕ → Option ℕ
+first_len [] bytes = None
+first_len (s ∷ ss) bytes = if starts_with nat_eq bytes s then Some (length s) else first_len ss bytes
+
+abbrev pub one_more : Option ℕ → Option ℕ
+one_more None = None
+one_more (Some n) = Some (suc n)
+
+-- how many bytes there are up to and with the first `*/`
+abbrev pub closed_len : List ℕ → Option ℕ
+closed_len [] = None
+closed_len (b ∷ bs) = if closes (b ∷ bs) then Some 2 else one_more (closed_len bs)
+
+abbrev mutual
+  -- how many bytes there are up to and with the closing quote
+  pub quoted_len : ℕ → List ℕ → Option ℕ
+  quoted_len quote [] = None
+  quoted_len quote (b ∷ bs) =
+      if b == quote then Some 1 else
+      (if b == 92 then one_more (behind_one_len quote bs) else
+      (if is_line_end b then None else one_more (quoted_len quote bs)))
+
+  pub behind_one_len : ℕ → List ℕ → Option ℕ
+  behind_one_len quote [] = None
+  behind_one_len quote (b ∷ bs) = if is_line_end b then None else one_more (quoted_len quote bs)
+
+-- how many bytes go on a number behind b
+abbrev pub number_len : Bool → ℕ → List ℕ → ℕ
+number_len hex b [] = 0
+number_len hex b (c ∷ cs) = if is_next hex b c then suc (number_len hex c cs) else 0
+
+-- an escape stands behind a backslash
+abbrev pub begins_escape : ℕ → List ℕ → Bool
+begins_escape quote [] = false
+begins_escape quote (b ∷ bs) = is_simple b || is_octal b || (b == 117 && is_code_unit quote (take 4 (behind_us bs)))
