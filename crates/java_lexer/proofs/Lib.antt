@@ -14,6 +14,8 @@ pub mod SignRuns
 pub mod Calm
 pub mod JavaScans
 pub mod EscapeFronts
+pub mod QuotedItems
+pub mod TextItems
 pub mod Later
 pub mod TokenTexts
 pub mod JavaReading

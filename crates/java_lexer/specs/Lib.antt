@@ -6,6 +6,7 @@ pub mod Kinds
 pub mod Comments
 pub mod Numbers
 pub mod Literals
+pub mod Items
 pub mod Signs
 pub mod JavaKinds
 pub mod JavaTokens

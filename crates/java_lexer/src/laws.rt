@@ -1,5 +1,5 @@
 //! Laws of the definitions that the contracts cite, by functions that do nothing.
-ghost use Rattle.std.specs.Prelude.{◌≡◌, ℕ, List, [], ◌∷◌, ◌++◌, None, Some, map, codes};
+ghost use Rattle.std.specs.Prelude.{◌≡◌, ◌≢◌, ◌↔◌, ℕ, List, [], ◌∷◌, ◌++◌, IsTrue, None, Some, map, codes};
 ghost use Rattle.racer_base.specs.declared.ids.FileId.{FileId};
 ghost use Rattle.java_lexer.specs.Divisions.{Piece, IsDivision, pieces, joined, undivided};
 ghost use Rattle.java_lexer.specs.Tokens.{GoForward, texts};
@@ -8,6 +8,8 @@ ghost use Rattle.java_lexer.specs.FirstTokens.{first_tokens};
 ghost use Rattle.java_lexer.specs.FirstExample.{short_example, short_example_tokens};
 ghost use Rattle.java_lexer.specs.JavaKinds.{java_kind, java_fault, java_lexis};
 ghost use Rattle.java_lexer.specs.JavaTokens.{java_tokens};
+ghost use Rattle.java_lexer.specs.Literals.{is_quoted, is_text};
+ghost use Rattle.java_lexer.specs.Items.{QuotedOfItems, TextOfItems};
 
 use crate::TokenKind;
 use crate::piece::{LexicalFault, PieceKind};
@@ -39,6 +41,19 @@ pub fn pieces_are_the_text()
 /// No token has a place before that of an earlier one.
 pub fn tokens_go_forward()
     ensures { (file : FileId) (bytes : List ℕ) → GoForward (java_tokens file bytes) }
+{}
+
+/// What is closed on its line is a quote, items one after the other, and the quote. An item is one byte other
+/// than the quote, a backslash and a line end, or a backslash and any byte that ends no line. The quote may be
+/// any byte but a backslash.
+pub fn quoted_items()
+    ensures { (quote : ℕ) (bytes : List ℕ) → quote ≢ 92 → (IsTrue (is_quoted quote bytes) ↔ QuotedOfItems quote bytes) }
+{}
+
+/// A text literal is a double quote, items one after the other, and a double quote. An item is one byte other
+/// than a double quote, a backslash and a line end, or a backslash and an escape.
+pub fn text_items()
+    ensures { (bytes : List ℕ) → IsTrue (is_text bytes) ↔ TextOfItems bytes }
 {}
 
 /// Tokens computed from the definition.
