@@ -24,21 +24,37 @@ made bytes kind = record { bytes = bytes; kind = kind }
 piece_is : (p q : Piece) → p.bytes ≡ q.bytes → p.kind ≡ q.kind → p ≡ q
 piece_is p q e f = ap (λ b. made b p.kind) e ∙ ap (λ k. made q.bytes k) f
 
+-- two pieces that are each the first of a text are the same, and so is what stands behind them
+same_first : (lexis : Lexis) (p q : Piece) (text after more : List ℕ) → text ≡ p.bytes ++ after → text ≡ q.bytes ++ more → IsFirst lexis p text → IsFirst lexis q text → (p ≡ q) × (after ≡ more)
+same_first lexis p q text after more e f first other =
+    let len : length p.bytes ≡ length q.bytes = le_antisymm (shorter lexis q p text more after f e other first) (shorter lexis p q text after more e f first other) in
+    let bytes : p.bytes ≡ q.bytes = sym (take_at p.bytes after (length p.bytes) refl) ∙ ap (take (length p.bytes)) (sym e ∙ f) ∙ take_at q.bytes more (length p.bytes) (sym len) in
+    let kind : p.kind ≡ q.kind = some_is p.kind q.kind (sym first.is ∙ ap lexis.kind_of bytes ∙ other.is) in
+    (piece_is p q bytes kind, sym (drop_at p.bytes after (length p.bytes) refl) ∙ ap (drop (length p.bytes)) (sym e ∙ f) ∙ drop_at q.bytes more (length p.bytes) (sym len))
+
 one_way : (lexis : Lexis) (ps qs : List Piece) (text r s : List ℕ) → Divides lexis ps text r → Divides lexis qs text s → IsStuck lexis r → IsStuck lexis s → (ps ≡ qs) × (r ≡ s)
 one_way lexis [] [] text r s d e stuck stop = (refl, sym d ∙ e)
 one_way lexis [] (q ∷ qs) text r s d e stuck stop = absurd (subst (IsStuck lexis) (sym d) stuck q e.0 e.1 e.2)
 one_way lexis (p ∷ ps) [] text r s d e stuck stop = absurd (subst (IsStuck lexis) (sym e) stop p d.0 d.1 d.2)
 one_way lexis (p ∷ ps) (q ∷ qs) text r s d e stuck stop =
-    let len : length p.bytes ≡ length q.bytes = le_antisymm (shorter lexis q p text e.0 d.0 e.1 d.1 e.2 d.2) (shorter lexis p q text d.0 e.0 d.1 e.1 d.2 e.2) in
-    let bytes : p.bytes ≡ q.bytes = sym (take_at p.bytes d.0 (length p.bytes) refl) ∙ ap (take (length p.bytes)) (sym d.1 ∙ e.1) ∙ take_at q.bytes e.0 (length p.bytes) (sym len) in
-    let after : d.0 ≡ e.0 = sym (drop_at p.bytes d.0 (length p.bytes) refl) ∙ ap (drop (length p.bytes)) (sym d.1 ∙ e.1) ∙ drop_at q.bytes e.0 (length p.bytes) (sym len) in
-    let kind : p.kind ≡ q.kind = some_is p.kind q.kind (sym d.2.is ∙ ap lexis.kind_of bytes ∙ e.2.is) in
-    let rest = one_way lexis ps qs e.0 r s (subst (λ t. Divides lexis ps t r) after d.3) e.3 stuck stop in
-    let head : p ≡ q = piece_is p q bytes kind in
-    (cc (head, rest.0), rest.1)
+    let same = same_first lexis p q text d.0 e.0 d.1 e.1 d.2 e.2 in
+    let rest = one_way lexis ps qs e.0 r s (subst (λ t. Divides lexis ps t r) same.1 d.3) e.3 stuck stop in
+    (cc (same.0, rest.0), rest.1)
 
 pub one_division : (lexis : Lexis) (ps qs : List Piece) (text r s : List ℕ) → IsDivision lexis ps text r → IsDivision lexis qs text s → (ps ≡ qs) × (r ≡ s)
 one_division lexis ps qs text r s d e = one_way lexis ps qs text r s d.divides e.divides d.stuck e.stuck
+
+divides_joined : (lexis : Lexis) (ps : List Piece) (text rest : List ℕ) → Divides lexis ps text rest → joined ps ++ rest ≡ text
+divides_joined lexis [] text rest d = sym d
+divides_joined lexis (p ∷ ps) text rest d = append_assoc p.bytes (joined ps) rest ∙ ap (λ (t : List ℕ). p.bytes ++ t) (divides_joined lexis ps d.0 rest d.3) ∙ sym d.1
+
+-- a division that goes on as far as it can leaves no more than another
+pub leaves_least : (lexis : Lexis) (ps qs : List Piece) (text r s : List ℕ) → Divides lexis ps text r → Divides lexis qs text s → IsStuck lexis s → length s ≤ length r
+leaves_least lexis [] qs text r s d e stop = omega (arith, ap length d, ap length (divides_joined lexis qs text s e), length-append (joined qs) s)
+leaves_least lexis (p ∷ ps) [] text r s d e stop = absurd (subst (IsStuck lexis) (sym e) stop p d.0 d.1 d.2)
+leaves_least lexis (p ∷ ps) (q ∷ qs) text r s d e stop =
+    let same = same_first lexis p q text d.0 e.0 d.1 e.1 d.2 e.2 in
+    leaves_least lexis ps qs e.0 r s (subst (λ t. Divides lexis ps t r) same.1 d.3) e.3 stop
 
 -- ---- at least one
 
@@ -105,10 +121,6 @@ unfolding HasDivision
 pieces_divide lexis text none = upto_divided lexis (length text) text none (omega arith)
 
 -- ---- the pieces are the text
-
-divides_joined : (lexis : Lexis) (ps : List Piece) (text rest : List ℕ) → Divides lexis ps text rest → joined ps ++ rest ≡ text
-divides_joined lexis [] text rest d = sym d
-divides_joined lexis (p ∷ ps) text rest d = append_assoc p.bytes (joined ps) rest ∙ ap (λ (t : List ℕ). p.bytes ++ t) (divides_joined lexis ps d.0 rest d.3) ∙ sym d.1
 
 pub pieces_joined : (lexis : Lexis) (text : List ℕ) → lexis.kind_of [] ≡ None → joined (pieces lexis text) ++ undivided lexis text ≡ text
 pieces_joined lexis text none = divides_joined lexis (pieces lexis text) text (undivided lexis text) (pieces_divide lexis text none).divides

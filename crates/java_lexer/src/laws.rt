@@ -1,7 +1,7 @@
 //! Laws of the definitions that the contracts cite, by functions that do nothing.
-ghost use Rattle.std.specs.Prelude.{◌≡◌, ◌≢◌, ◌↔◌, ℕ, List, [], ◌∷◌, ◌++◌, IsTrue, None, Some, map, codes};
+ghost use Rattle.std.specs.Prelude.{◌≡◌, ◌≢◌, ◌↔◌, ◌≤◌, ℕ, List, [], ◌∷◌, ◌++◌, length, IsTrue, None, Some, map, codes};
 ghost use Rattle.racer_base.specs.declared.ids.FileId.{FileId};
-ghost use Rattle.java_lexer.specs.Divisions.{Piece, IsDivision, pieces, joined, undivided};
+ghost use Rattle.java_lexer.specs.Divisions.{Piece, Divides, IsDivision, pieces, joined, undivided};
 ghost use Rattle.java_lexer.specs.Tokens.{GoForward, texts};
 ghost use Rattle.java_lexer.specs.FirstKinds.{first_lexis};
 ghost use Rattle.java_lexer.specs.FirstTokens.{first_tokens};
@@ -25,11 +25,12 @@ pub fn short_form_example()
     ensures { (file : FileId) → first_tokens file short_example ≡ short_example_tokens file }
 {}
 
-/// Up to the first place where no piece stands, a text is divided in one way into the pieces of Java. Where
-/// no fault is named there, nothing is left.
+/// Up to the first place where no piece stands, a text is divided in one way into the pieces of Java, and no
+/// longer front of it has a division. Where no fault is named there, nothing is left.
 pub fn one_java_division()
     ensures divides { (text : List ℕ) → IsDivision java_lexis (pieces java_lexis text) text (undivided java_lexis text) }
     ensures only { (ps : List Piece) (text rest : List ℕ) → IsDivision java_lexis ps text rest → (ps ≡ pieces java_lexis text) × (rest ≡ undivided java_lexis text) }
+    ensures longest { (ps : List Piece) (text rest : List ℕ) → Divides java_lexis ps text rest → length (undivided java_lexis text) ≤ length rest }
     ensures whole { (text : List ℕ) → java_fault (undivided java_lexis text) ≡ None → undivided java_lexis text ≡ [] }
 {}
 
