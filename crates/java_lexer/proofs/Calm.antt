@@ -9,8 +9,8 @@ use Rattle.java_lexer.specs.declared.piece.LexicalFault.TheVariants.{BadCharacte
 use Rattle.java_lexer.specs.declared.token.TokenKind.TheVariants.{Number}
 use Rattle.java_lexer.specs.Kinds.{is_nothing, is_white, word_kind}
 use Rattle.java_lexer.specs.Numbers.{begins_hex, go_on}
-use Rattle.java_lexer.specs.Signs.{signs, signs_with, is_sign}
-use Rattle.java_lexer.specs.Scanning.{number_len}
+use Rattle.java_lexer.specs.Signs.{signs, is_sign}
+use Rattle.java_lexer.specs.Scanning.{signs_with, number_len}
 use Rattle.java_lexer.specs.JavaKinds.{java_kind, is_piece, unless_front, java_fault, java_lexis}
 use Rattle.java_lexer.specs.Divisions.{IsFront}
 use Rattle.java_lexer.proofs.Bytes.{never_both, all_below}

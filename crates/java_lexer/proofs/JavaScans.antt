@@ -16,9 +16,9 @@ use Rattle.java_lexer.specs.Kinds.{is_white}
 use Rattle.java_lexer.specs.Comments.{is_inline, is_line_comment, is_block_comment, is_comment, ends_closed}
 use Rattle.java_lexer.specs.Numbers.{begins_with_digit, begins_number, begins_hex, is_next, go_on}
 use Rattle.java_lexer.specs.Literals.{ends_quoted, is_quoted, between_quotes, is_one_character, is_character, escapes_hold, is_text}
-use Rattle.java_lexer.specs.Signs.{signs, signs_with, is_sign}
-use Rattle.java_lexer.specs.Fronts.{some_front, begins_with}
-use Rattle.java_lexer.specs.Scanning.{first_len, closed_len, quoted_len, number_len}
+use Rattle.java_lexer.specs.Signs.{signs, is_sign}
+use Rattle.java_lexer.specs.Fronts.{some_front}
+use Rattle.java_lexer.specs.Scanning.{signs_with, begins_with, first_len, closed_len, quoted_len, number_len}
 use Rattle.java_lexer.specs.JavaKinds.{java_kind, is_piece, unless_front, literal_fault, java_fault, java_lexis}
 use Rattle.java_lexer.specs.Divisions.{IsFront}
 use Rattle.java_lexer.proofs.Bytes.{never_both, and_left, and_right}

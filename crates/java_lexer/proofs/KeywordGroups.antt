@@ -1,7 +1,7 @@
 -- The keywords with each first byte.
 use Rattle.std.proofs.Common.{◌≡◌, ℕ, ◌<◌, Bool, false, ◌||◌, [], ◌∷◌, refl}
 use Rattle.std.specs.Prelude.{◌==◌}
-use Rattle.java_lexer.specs.Kinds.{keywords_with}
+use Rattle.java_lexer.specs.Scanning.{keywords_with}
 use Rattle.java_lexer.proofs.Bytes.{each_below}
 use Rattle.java_lexer.proofs.Tables.{is_empty, or_none}
 

@@ -1,7 +1,8 @@
 -- The signs with each first byte.
 use Rattle.std.proofs.Common.{◌≡◌, ℕ, ◌<◌, Bool, false, ◌||◌, [], ◌∷◌, refl}
 use Rattle.std.specs.Prelude.{◌==◌}
-use Rattle.java_lexer.specs.Signs.{signs, signs_with}
+use Rattle.java_lexer.specs.Signs.{signs}
+use Rattle.java_lexer.specs.Scanning.{signs_with}
 use Rattle.java_lexer.proofs.Bytes.{each_below}
 use Rattle.java_lexer.proofs.Tables.{is_empty, or_none}
 

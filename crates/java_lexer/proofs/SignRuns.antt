@@ -7,8 +7,8 @@ use Rattle.std.proofs.lemmas.List.{length-take-le}
 use Rattle.std.proofs.lemmas.Bool.{false≢true}
 use Rattle.std.proofs.lemmas.Bool.Decides.{nat_tests}
 use Rattle.racer_base.specs.Name.{is_listed}
-use Rattle.java_lexer.specs.Signs.{signs, signs_with}
-use Rattle.java_lexer.specs.Scanning.{first_len}
+use Rattle.java_lexer.specs.Signs.{signs}
+use Rattle.java_lexer.specs.Scanning.{signs_with, first_len}
 use Rattle.java_lexer.proofs.Tables.{cut_listed}
 use Rattle.java_lexer.proofs.Bytes.{and_left, and_right, each_below}
 use Rattle.java_lexer.proofs.SomeFronts.{or_cases, or_right}

@@ -5,8 +5,7 @@ use Rattle.std.specs.Cmp.Lexicographic.{pointwise}
 use Rattle.std.proofs.lemmas.Bool.{false≢true, true≢false}
 use Rattle.std.proofs.lemmas.Bool.Decides.{nat_tests}
 use Rattle.racer_base.specs.Name.{is_listed, keywords}
-use Rattle.java_lexer.specs.Kinds.{keywords_with}
-use Rattle.java_lexer.specs.Fronts.{begins_with}
+use Rattle.java_lexer.specs.Scanning.{keywords_with, begins_with}
 use Rattle.java_lexer.proofs.Bytes.{and_left}
 use Rattle.java_lexer.proofs.SomeFronts.{is_false}
 

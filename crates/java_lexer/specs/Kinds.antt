@@ -1,7 +1,6 @@
 -- What one piece of a text is, as a test of all of its bytes.
-use Rattle.std.specs.Prelude.{ℕ, Bool, true, false, not, ◌&&◌, ◌||◌, List, [], ◌∷◌, filter, ◌==◌, if◌then◌else◌}
+use Rattle.std.specs.Prelude.{ℕ, Bool, true, false, not, ◌&&◌, ◌||◌, List, [], ◌∷◌, ◌==◌, if◌then◌else◌}
 use Rattle.racer_base.specs.Name.{is_word_byte, keywords, fixed_words, is_listed}
-use Rattle.java_lexer.specs.Fronts.{begins_with}
 use Rattle.java_lexer.specs.declared.token.TokenKind.{TokenKind}
 use Rattle.java_lexer.specs.declared.token.TokenKind.TheVariants.{Keyword, Fixed, Name}
 
@@ -21,10 +20,6 @@ is_white_space (b ∷ bs) = is_white b && is_nothing bs
 -- the kind of a word (JLS 3.8, 3.9, 3.10.3, 3.10.7)
 abbrev pub word_kind : List ℕ → TokenKind
 word_kind word = if is_listed keywords word then Keyword else (if is_listed fixed_words word then Fixed else Name)
-
--- the keywords with this first byte
-unfoldable pub keywords_with : ℕ → List (List ℕ)
-keywords_with first = filter (begins_with first) keywords
 
 -- an ASCII letter, a digit or an underscore
 abbrev pub is_number_byte : ℕ → Bool

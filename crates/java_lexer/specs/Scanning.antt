@@ -1,9 +1,25 @@
--- Lengths that the code finds at the front of a text.
-use Rattle.std.specs.Prelude.{ℕ, suc, Bool, false, ◌&&◌, ◌||◌, List, [], ◌∷◌, length, take, Option, Some, None, nat_eq, ◌==◌, if◌then◌else◌}
+-- What the code computes: tables by the first byte, and lengths at the front of a text. What a text is read as is said without
+-- any of this, so no public contract rests on it.
+use Rattle.std.specs.Prelude.{ℕ, suc, Bool, false, ◌&&◌, ◌||◌, List, [], ◌∷◌, length, take, filter, Option, Some, None, nat_eq, ◌==◌, if◌then◌else◌}
 use Rattle.std.specs.List.{starts_with}
+use Rattle.racer_base.specs.Name.{keywords}
+use Rattle.java_lexer.specs.Signs.{signs}
 use Rattle.java_lexer.specs.Comments.{closes, is_line_end}
 use Rattle.java_lexer.specs.Numbers.{is_next}
 use Rattle.java_lexer.specs.Literals.{is_simple, is_octal, is_code_unit, behind_us}
+
+-- a text with this first byte
+abbrev pub begins_with : ℕ → List ℕ → Bool
+begins_with first [] = false
+begins_with first (b ∷ bs) = b == first
+
+-- the keywords with this first byte
+unfoldable pub keywords_with : ℕ → List (List ℕ)
+keywords_with first = filter (begins_with first) keywords
+
+-- the signs with this first byte
+unfoldable pub signs_with : ℕ → List (List ℕ)
+signs_with first = filter (begins_with first) signs
 
 -- the length of the first of these texts that begins the bytes
 abbrev pub first_len : List (List ℕ) → List ℕ → Option ℕ

@@ -1,9 +1,8 @@
 -- Separators and operators (JLS 3.11, 3.12).
-use Rattle.std.specs.Prelude.{ℕ, Bool, List, [], ◌∷◌, codes, filter}
+use Rattle.std.specs.Prelude.{ℕ, Bool, List, [], ◌∷◌, codes}
 use Rattle.racer_base.specs.Name.{is_listed}
-use Rattle.java_lexer.specs.Fronts.{begins_with}
 
--- of those with one first byte the longer ones first
+-- the code tries those with one first byte in this order, the longer ones first; what a sign is does not rest on the order
 unfoldable pub signs : List (List ℕ)
 signs =
     codes "(" ∷ codes ")" ∷ codes "{" ∷ codes "}" ∷ codes "[" ∷ codes "]" ∷ codes ";" ∷ codes "," ∷
@@ -22,7 +21,3 @@ is_sign bytes = is_listed signs bytes
 -- the shifts, which are given as single `>`
 abbrev pub shifts : List (List ℕ)
 shifts = codes ">>" ∷ codes ">>>" ∷ []
-
--- the signs with this first byte
-unfoldable pub signs_with : ℕ → List (List ℕ)
-signs_with first = filter (begins_with first) signs

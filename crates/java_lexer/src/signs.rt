@@ -1,7 +1,6 @@
 //! Separators and operators.
 ghost use Rattle.std.specs.Prelude.{◌≡◌, map};
-ghost use Rattle.java_lexer.specs.Signs.{signs_with};
-ghost use Rattle.java_lexer.specs.Scanning.{first_len};
+ghost use Rattle.java_lexer.specs.Scanning.{signs_with, first_len};
 
 /// The signs that begin with this byte, the longer ones first.
 #[tactic(none)]

@@ -2,7 +2,8 @@
 ghost use Rattle.std.specs.Prelude.{◌≡◌, IfOk, map, Bool};
 ghost use Rattle.std.specs.Str.{IsUtf8};
 ghost use Rattle.racer_base.specs.Name.{is_listed, is_letter, is_digit, is_word_byte, keywords, fixed_words};
-ghost use Rattle.java_lexer.specs.Kinds.{is_white, is_number_byte, keywords_with, word_kind};
+ghost use Rattle.java_lexer.specs.Kinds.{is_white, is_number_byte, word_kind};
+ghost use Rattle.java_lexer.specs.Scanning.{keywords_with};
 
 use crate::TokenKind;
 use racer_base::{Memory, Text};
