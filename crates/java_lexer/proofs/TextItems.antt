@@ -7,7 +7,7 @@ use Rattle.std.proofs.lemmas.Bool.Decides.{nat_tests}
 use Rattle.std.proofs.lemmas.List.Elements.{All-head, All-tail, All-cons}
 use Rattle.java_lexer.specs.Kinds.{is_nothing}
 use Rattle.java_lexer.specs.Comments.{is_line_end, is_inline}
-use Rattle.java_lexer.specs.Literals.{is_simple, is_simple_escape, is_octal, is_octal_escape, is_hex, is_code_unit, behind_us, is_unicode_escape, is_escape, ends_quoted, ends_behind_one, is_quoted, between_quotes, escapes_hold, hold_behind_one, is_text}
+use Rattle.java_lexer.specs.Literals.{is_simple, is_simple_escape, is_octal, is_octal_escape, is_hex, is_allowed_unit, behind_u_run, is_unicode_escape, is_escape, ends_quoted, ends_behind_one, is_quoted, between_quotes, escapes_hold, hold_behind_one, is_text}
 use Rattle.java_lexer.specs.Items.{is_plain, IsTextItem, TextOfItems}
 use Rattle.java_lexer.specs.Fronts.{some_front}
 use Rattle.java_lexer.proofs.Bytes.{and_left, and_right, never_both}
@@ -50,13 +50,13 @@ all_plain : (test : ℕ → Bool) → ((b : ℕ) → test b ≡ true → is_plai
 all_plain test plain [] h = refl
 all_plain test plain (b ∷ bs) h = rw (plain b (and_left _ _ h)) (all_plain test plain bs (and_right _ _ h))
 
-us_case : (b : ℕ) (bs : List ℕ) (v : Bool) → (b == 117) ≡ v → ArePlain (cond v (behind_us bs) (b ∷ bs)) → (ArePlain (behind_us bs) → ArePlain bs) → ArePlain (b ∷ bs)
-us_case b bs true e h ih = let is : b ≡ 117 = eqb-true b 117 e in rw is (ih h)
-us_case b bs false e h ih = h
+u_run_case : (b : ℕ) (bs : List ℕ) (v : Bool) → (b == 117) ≡ v → ArePlain (cond v (behind_u_run bs) (b ∷ bs)) → (ArePlain (behind_u_run bs) → ArePlain bs) → ArePlain (b ∷ bs)
+u_run_case b bs true e h ih = let is : b ≡ 117 = eqb-true b 117 e in rw is (ih h)
+u_run_case b bs false e h ih = h
 
-us_plain : (bs : List ℕ) → ArePlain (behind_us bs) → ArePlain bs
-us_plain [] h = refl
-us_plain (b ∷ bs) h = us_case b bs (b == 117) refl h (us_plain bs)
+u_run_plain : (bs : List ℕ) → ArePlain (behind_u_run bs) → ArePlain bs
+u_run_plain [] h = refl
+u_run_plain (b ∷ bs) h = u_run_case b bs (b == 117) refl h (u_run_plain bs)
 
 nothing_plain : (bs : List ℕ) → is_nothing bs ≡ true → ArePlain bs
 nothing_plain [] h = refl
@@ -71,8 +71,8 @@ escape_plain b bs h =
       ]
       | inr e ↦
         let is : b ≡ 117 = eqb-true b 117 (and_left _ _ e) in
-        let unit : is_code_unit 34 (behind_us bs) ≡ true = and_right (b == 117) _ e in
-        (rw is refl, us_plain bs (all_plain is_hex hex_plain (behind_us bs) (and_right _ _ (and_left _ _ unit))))
+        let unit : is_allowed_unit 34 (behind_u_run bs) ≡ true = and_right (b == 117) _ e in
+        (rw is refl, u_run_plain bs (all_plain is_hex hex_plain (behind_u_run bs) (and_right _ _ (and_left _ _ unit))))
     ]
 
 -- ---- plain bytes are passed

@@ -33,18 +33,20 @@ hex_digit b = if is_digit b then b - 48 else (if nat_le 97 b then b - 87 else b 
 abbrev pub hex_value : List ℕ → ℕ
 hex_value digits = fold (λ n b. n * 16 + hex_digit b) 0 digits
 
--- four hexadecimal digits, of no line end, no backslash and not of the quote
-abbrev pub is_code_unit : ℕ → List ℕ → Bool
-is_code_unit quote bytes = length bytes == 4 && list_all is_hex bytes && not (list_any (nat_eq (hex_value bytes)) (10 ∷ 13 ∷ 92 ∷ quote ∷ []))
+-- four hexadecimal digits, but not of a line end, a backslash or the quote: JLS 3.3 would read such an escape as that very
+-- character before the literal is looked at, so it would end the line, begin another escape or close the literal
+abbrev pub is_allowed_unit : ℕ → List ℕ → Bool
+is_allowed_unit quote bytes = length bytes == 4 && list_all is_hex bytes && not (list_any (nat_eq (hex_value bytes)) (10 ∷ 13 ∷ 92 ∷ quote ∷ []))
 
-abbrev pub behind_us : List ℕ → List ℕ
-behind_us [] = []
-behind_us (b ∷ bs) = if b == 117 then behind_us bs else b ∷ bs
+-- what stands behind a run of u, which may be empty
+abbrev pub behind_u_run : List ℕ → List ℕ
+behind_u_run [] = []
+behind_u_run (b ∷ bs) = if b == 117 then behind_u_run bs else b ∷ bs
 
 -- one or more u, and four digits
 abbrev pub is_unicode_escape : ℕ → List ℕ → Bool
 is_unicode_escape quote [] = false
-is_unicode_escape quote (b ∷ bs) = b == 117 && is_code_unit quote (behind_us bs)
+is_unicode_escape quote (b ∷ bs) = b == 117 && is_allowed_unit quote (behind_u_run bs)
 
 abbrev pub is_escape : ℕ → List ℕ → Bool
 is_escape quote bytes = is_simple_escape bytes || is_octal_escape bytes || is_unicode_escape quote bytes

@@ -6,7 +6,7 @@ use Rattle.racer_base.specs.Name.{keywords}
 use Rattle.java_lexer.specs.Signs.{signs}
 use Rattle.java_lexer.specs.Comments.{closes, is_line_end}
 use Rattle.java_lexer.specs.Numbers.{is_next}
-use Rattle.java_lexer.specs.Literals.{is_simple, is_octal, is_code_unit, behind_us}
+use Rattle.java_lexer.specs.Literals.{is_simple, is_octal, is_allowed_unit, behind_u_run}
 
 -- a text with this first byte
 abbrev pub begins_with : ℕ → List ℕ → Bool
@@ -56,4 +56,4 @@ number_len hex b (c ∷ cs) = if is_next hex b c then suc (number_len hex c cs) 
 -- an escape stands behind a backslash
 abbrev pub begins_escape : ℕ → List ℕ → Bool
 begins_escape quote [] = false
-begins_escape quote (b ∷ bs) = is_simple b || is_octal b || (b == 117 && is_code_unit quote (take 4 (behind_us bs)))
+begins_escape quote (b ∷ bs) = is_simple b || is_octal b || (b == 117 && is_allowed_unit quote (take 4 (behind_u_run bs)))

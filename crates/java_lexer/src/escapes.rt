@@ -1,7 +1,7 @@
 //! Escapes of literals, behind their backslash (JLS 3.3, 3.10.6).
 ghost use Rattle.std.specs.Prelude.{◌≡◌, ◌<◌, ◌≤◌, [], ◌∷◌, length, take, true, nat_eq};
 ghost use Rattle.std.specs.List.{list_all, list_any};
-ghost use Rattle.java_lexer.specs.Literals.{is_simple, is_simple_escape, is_octal, is_octal_escape, is_hex, hex_digit, hex_value, is_code_unit, behind_us, is_unicode_escape, is_escape};
+ghost use Rattle.java_lexer.specs.Literals.{is_simple, is_simple_escape, is_octal, is_octal_escape, is_hex, hex_digit, hex_value, is_allowed_unit, behind_u_run, is_unicode_escape, is_escape};
 ghost use Rattle.java_lexer.specs.Fronts.{some_front};
 ghost use Rattle.java_lexer.specs.Scanning.{begins_escape};
 
@@ -88,16 +88,17 @@ fn is_barred(quote: u8, value: u32) -> bool
     value == 10 || value == 13 || value == 92 || value == u32::from(quote)
 }
 
-/// Whether these are four hexadecimal digits of a number that is not barred.
-fn is_code_unit(quote: u8, bytes: &[u8]) -> bool
-    ensures { result ≡ is_code_unit quote bytes.now }
+/// Whether these are four hexadecimal digits of a number that is not barred: with such a one the escape would
+/// be read as a line end, a backslash or the quote before the literal is looked at (JLS 3.3).
+fn is_allowed_unit(quote: u8, bytes: &[u8]) -> bool
+    ensures { result ≡ is_allowed_unit quote bytes.now }
 {
     bytes.len() == 4 && all_hex(bytes) && !is_barred(quote, hex_value(bytes))
 }
 
 /// What stands behind a run of `u`.
-fn behind_us(bytes: &[u8]) -> &[u8]
-    ensures { result.now ≡ behind_us bytes.now }
+fn behind_u_run(bytes: &[u8]) -> &[u8]
+    ensures { result.now ≡ behind_u_run bytes.now }
 {
     let mut rest = bytes;
     while let Some((first, after)) = rest.split_first() {
@@ -113,7 +114,7 @@ fn is_unicode_escape(quote: u8, bytes: &[u8]) -> bool
     ensures { result ≡ is_unicode_escape quote bytes.now }
 {
     match bytes.split_first() {
-        Some((first, rest)) => *first == b'u' && is_code_unit(quote, behind_us(rest)),
+        Some((first, rest)) => *first == b'u' && is_allowed_unit(quote, behind_u_run(rest)),
         None => false,
     }
 }
@@ -151,5 +152,5 @@ fn begins(quote: u8, bytes: &[u8]) -> bool
     if is_simple(*first) || is_octal(*first) {
         return true;
     }
-    *first == b'u' && is_code_unit(quote, first_four(behind_us(rest)))
+    *first == b'u' && is_allowed_unit(quote, first_four(behind_u_run(rest)))
 }
