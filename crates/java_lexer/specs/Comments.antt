@@ -1,9 +1,11 @@
--- Comments (JLS 3.7).
+-- Comments (JLS 3.7) and line ends (JLS 3.4).
 use Rattle.std.specs.Prelude.{ℕ, Bool, false, not, ◌&&◌, ◌||◌, List, [], ◌∷◌, length, drop, codes, nat_eq, ◌==◌, if◌then◌else◌}
+use Rattle.std.specs.Str.{byte}
 use Rattle.std.specs.List.{list_all, starts_with}
 
+-- an LF or a CR (JLS 3.4)
 abbrev pub is_line_end : ℕ → Bool
-is_line_end b = b == 10 || b == 13
+is_line_end b = b == byte "\n" || b == byte "\r"
 
 abbrev pub is_inline : ℕ → Bool
 is_inline b = not (is_line_end b)

@@ -1,4 +1,4 @@
--- The division of a text into longest pieces.
+-- The division of a text into longest pieces (JLS 3.2).
 use Rattle.std.specs.Prelude.{◌≡◌, ℕ, zero, suc, ◌<◌, ◌≤◌, List, [], ◌∷◌, ◌++◌, length, take, drop, Option, Some, None, Result, Ok, Err, IsSome}
 use Rattle.java_lexer.specs.declared.piece.PieceKind.{PieceKind}
 use Rattle.java_lexer.specs.declared.piece.LexicalFault.{LexicalFault}
@@ -12,7 +12,8 @@ pub record Piece : Type 0 where
   pub bytes : List ℕ
   pub kind : PieceKind
 
--- the piece in front of a text: no fault is named there, and no longer front is a piece
+-- the piece in front of a text: no fault is named there, and no longer front is a piece, so that the longest possible
+-- translation is used at each step (JLS 3.2)
 pub record IsFirst (lexis : Lexis) (piece : Piece) (text : List ℕ) : Type 0 where
   pub is : lexis.kind_of piece.bytes ≡ Some piece.kind
   pub longest : (n : ℕ) → n ≤ length text → IsSome (lexis.kind_of (take n text)) → n ≤ length piece.bytes

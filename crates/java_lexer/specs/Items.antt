@@ -1,12 +1,12 @@
--- What a literal between quotes is, item by item. 34 is the quote of a text, 39 that of a character, and 92 the backslash.
+-- What a literal between quotes is, item by item.
 use Rattle.std.specs.Prelude.{◌≡◌, ℕ, Bool, not, ◌||◌, List, [], ◌∷◌, ◌++◌, ◌⊎◌, IsTrue, ◌==◌}
 use Rattle.std.specs.List.{All, concat}
 use Rattle.java_lexer.specs.Comments.{is_line_end, is_inline}
-use Rattle.java_lexer.specs.Literals.{is_escape}
+use Rattle.java_lexer.specs.Literals.{double_quote, backslash, is_escape}
 
 -- no quote, no backslash and no line end
 abbrev pub is_plain : ℕ → ℕ → Bool
-is_plain quote b = not (b == quote || b == 92 || is_line_end b)
+is_plain quote b = not (b == quote || b == backslash || is_line_end b)
 
 -- one such byte
 abbrev pub IsPlainItem : ℕ → List ℕ → Type 0
@@ -14,11 +14,11 @@ IsPlainItem quote item = (b : ℕ) × (item ≡ b ∷ []) × IsTrue (is_plain qu
 
 -- a plain byte, or a backslash and any one byte that ends no line
 abbrev pub IsQuotedItem : ℕ → List ℕ → Type 0
-IsQuotedItem quote item = IsPlainItem quote item ⊎ ((b : ℕ) × (item ≡ 92 ∷ b ∷ []) × IsTrue (is_inline b))
+IsQuotedItem quote item = IsPlainItem quote item ⊎ ((b : ℕ) × (item ≡ backslash ∷ b ∷ []) × IsTrue (is_inline b))
 
 -- a plain byte, or a backslash and one escape
 abbrev pub IsTextItem : List ℕ → Type 0
-IsTextItem item = IsPlainItem 34 item ⊎ ((escape : List ℕ) × (item ≡ 92 ∷ escape) × IsTrue (is_escape 34 escape))
+IsTextItem item = IsPlainItem double_quote item ⊎ ((escape : List ℕ) × (item ≡ backslash ∷ escape) × IsTrue (is_escape double_quote escape))
 
 -- the quote, items one after the other, and the quote
 abbrev pub IsOfItems : ℕ → (List ℕ → Type 0) → List ℕ → Type 0
@@ -30,4 +30,4 @@ QuotedOfItems quote bytes = IsOfItems quote (IsQuotedItem quote) bytes
 
 -- a text literal. Its items need not be the only ones: `\400` is the item `\40` and a plain 0, or `\4` and two
 abbrev pub TextOfItems : List ℕ → Type 0
-TextOfItems bytes = IsOfItems 34 IsTextItem bytes
+TextOfItems bytes = IsOfItems double_quote IsTextItem bytes

@@ -10,11 +10,12 @@ use Rattle.java_lexer.specs.declared.token.TokenKind.TheVariants.{Number, Charac
 use Rattle.java_lexer.specs.Kinds.{is_white_space, word_kind}
 use Rattle.java_lexer.specs.Comments.{is_comment, is_block_comment}
 use Rattle.java_lexer.specs.Numbers.{is_number}
-use Rattle.java_lexer.specs.Literals.{is_quoted, is_character, is_text}
+use Rattle.java_lexer.specs.Literals.{double_quote, single_quote, is_quoted, is_character, is_text}
 use Rattle.java_lexer.specs.Signs.{is_sign}
 use Rattle.java_lexer.specs.Fronts.{some_front}
 use Rattle.java_lexer.specs.Divisions.{Lexis}
 
+-- the kind of a piece (JLS 3.5); a division takes the longest front that has one (JLS 3.2)
 abbrev pub java_kind : List ℕ → Option PieceKind
 java_kind bytes =
     if is_white_space bytes then Some White else
@@ -41,9 +42,9 @@ abbrev pub java_fault : List ℕ → Option LexicalFault
 java_fault [] = None
 java_fault (b ∷ bs) =
     if starts_with nat_eq (b ∷ bs) (codes "/*") then unless_front is_block_comment Unclosed (b ∷ bs) else
-    (if starts_with nat_eq (b ∷ bs) (34 ∷ 34 ∷ 34 ∷ []) then Some BadLiteral else
-    (if starts_with nat_eq (b ∷ bs) (34 ∷ []) then literal_fault (is_quoted 34) is_text (b ∷ bs) else
-    (if starts_with nat_eq (b ∷ bs) (39 ∷ []) then literal_fault (is_quoted 39) is_character (b ∷ bs) else
+    (if starts_with nat_eq (b ∷ bs) (double_quote ∷ double_quote ∷ double_quote ∷ []) then Some BadLiteral else
+    (if starts_with nat_eq (b ∷ bs) (double_quote ∷ []) then literal_fault (is_quoted double_quote) is_text (b ∷ bs) else
+    (if starts_with nat_eq (b ∷ bs) (single_quote ∷ []) then literal_fault (is_quoted single_quote) is_character (b ∷ bs) else
     unless_front is_piece BadCharacter (b ∷ bs))))
 
 abbrev pub java_lexis : Lexis

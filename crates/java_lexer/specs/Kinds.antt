@@ -1,5 +1,6 @@
 -- What one piece of a text is, as a test of all of its bytes.
 use Rattle.std.specs.Prelude.{ℕ, Bool, true, false, not, ◌&&◌, ◌||◌, List, [], ◌∷◌, ◌==◌, if◌then◌else◌}
+use Rattle.std.specs.Str.{byte}
 use Rattle.racer_base.specs.Name.{is_word_byte, keywords, fixed_words, is_listed}
 use Rattle.java_lexer.specs.declared.token.TokenKind.{TokenKind}
 use Rattle.java_lexer.specs.declared.token.TokenKind.TheVariants.{Keyword, Fixed, Name}
@@ -8,9 +9,9 @@ abbrev pub is_nothing : List ℕ → Bool
 is_nothing [] = true
 is_nothing (b ∷ bs) = false
 
--- a space, a tab, a form feed, a CR or an LF (JLS 3.6)
+-- a space, a tab, a form feed (12), a CR or an LF (JLS 3.6)
 abbrev pub is_white : ℕ → Bool
-is_white b = b == 32 || b == 9 || b == 12 || b == 13 || b == 10
+is_white b = b == byte " " || b == byte "\t" || b == 12 || b == byte "\r" || b == byte "\n"
 
 -- one white space character
 abbrev pub is_white_space : List ℕ → Bool
@@ -23,4 +24,4 @@ word_kind word = if is_listed keywords word then Keyword else (if is_listed fixe
 
 -- an ASCII letter, a digit or an underscore
 abbrev pub is_number_byte : ℕ → Bool
-is_number_byte b = is_word_byte b && not (b == 36)
+is_number_byte b = is_word_byte b && not (b == byte "$")

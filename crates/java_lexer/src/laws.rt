@@ -8,7 +8,7 @@ ghost use Rattle.java_lexer.specs.FirstTokens.{first_tokens};
 ghost use Rattle.java_lexer.specs.FirstExample.{short_example, short_example_tokens};
 ghost use Rattle.java_lexer.specs.JavaKinds.{java_kind, java_fault, java_lexis};
 ghost use Rattle.java_lexer.specs.JavaTokens.{java_tokens};
-ghost use Rattle.java_lexer.specs.Literals.{is_quoted, is_text};
+ghost use Rattle.java_lexer.specs.Literals.{backslash, is_quoted, is_text};
 ghost use Rattle.java_lexer.specs.Items.{QuotedOfItems, TextOfItems};
 
 use crate::TokenKind;
@@ -48,7 +48,7 @@ pub fn tokens_go_forward()
 /// than the quote, a backslash and a line end, or a backslash and any byte that ends no line. The quote may be
 /// any byte but a backslash.
 pub fn quoted_items()
-    ensures { (quote : ℕ) (bytes : List ℕ) → quote ≢ 92 → (IsTrue (is_quoted quote bytes) ↔ QuotedOfItems quote bytes) }
+    ensures { (quote : ℕ) (bytes : List ℕ) → quote ≢ backslash → (IsTrue (is_quoted quote bytes) ↔ QuotedOfItems quote bytes) }
 {}
 
 /// A text literal is a double quote, items one after the other, and a double quote. An item is one byte other
