@@ -10,6 +10,7 @@ pub mod Items
 pub mod Signs
 pub mod JavaKinds
 pub mod JavaTokens
+pub mod JavaExample
 pub mod Scanning
 pub mod FirstKinds
 pub mod FirstTokens

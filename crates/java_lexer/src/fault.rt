@@ -6,11 +6,13 @@ use racer_base::{Memory, Place};
 pub enum LexFault {
     /// The first byte that is not part of valid UTF-8 has this offset.
     NotUtf8(usize),
-    /// No token begins at this place.
+    /// What begins at this place is no white space, no comment and no token.
     BadCharacter(Place),
-    /// A comment or literal that begins at this place is not closed.
+    /// A comment that begins at this place is not closed, or a literal is not closed on its line. This fault comes
+    /// before `BadLiteral` where both could be named: an unclosed literal is this one, also with a wrong escape.
     Unclosed(Place),
-    /// A quote stands at this place, and what it begins is no literal.
+    /// A quote stands at this place, and what it begins is closed on its line and no literal, or three double
+    /// quotes stand here, whatever follows them.
     BadLiteral(Place),
     /// Memory was refused.
     Memory,

@@ -8,6 +8,7 @@ ghost use Rattle.java_lexer.specs.FirstTokens.{first_tokens};
 ghost use Rattle.java_lexer.specs.FirstExample.{short_example, short_example_tokens};
 ghost use Rattle.java_lexer.specs.JavaKinds.{java_kind, java_fault, java_lexis};
 ghost use Rattle.java_lexer.specs.JavaTokens.{java_tokens};
+ghost use Rattle.java_lexer.specs.JavaExample.{java_example, java_example_tokens};
 ghost use Rattle.java_lexer.specs.Literals.{backslash, is_quoted, is_text};
 ghost use Rattle.java_lexer.specs.Items.{QuotedOfItems, TextOfItems};
 
@@ -62,6 +63,7 @@ pub fn java_examples()
     ensures shifts { (file : FileId) → texts (java_tokens file (codes "x>>=y>>z")) ≡ codes "x" ∷ codes ">>=" ∷ codes "y" ∷ codes ">" ∷ codes ">" ∷ codes "z" ∷ [] }
     ensures exponents { (file : FileId) → texts (java_tokens file (codes "1e+5 0x1e+5 .5")) ≡ codes "1e+5" ∷ codes "0x1e" ∷ codes "+" ∷ codes "5" ∷ codes ".5" ∷ [] }
     ensures dots { (file : FileId) → texts (java_tokens file (codes "....")) ≡ codes "..." ∷ codes "." ∷ [] }
+    ensures whole { (file : FileId) → java_tokens file java_example ≡ java_example_tokens file }
 {}
 
 /// Faults computed from the definition; 34 is a double quote, 39 a single one and 92 a backslash.

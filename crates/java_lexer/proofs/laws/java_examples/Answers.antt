@@ -10,4 +10,5 @@ returns c = record {
   shifts = λ file. refl;
   exponents = λ file. refl;
   dots = λ file. refl;
+  whole = λ file. refl;
 }
