@@ -1,4 +1,4 @@
--- What is read of a file of Java SE 8, from its pieces.
+-- What is read of a file, from its pieces.
 use Rattle.std.proofs.Common.{◌≡◌, ℕ, ◌+◌, ◌-◌, ◌≤◌, true, List, [], ◌++◌, length, take, drop, Some, None, Result, Ok, Err, sym, ap, ◌∙◌, arith, length-drop}
 use Rattle.std.specs.Prelude.{◌==◌}
 use Rattle.std.specs.List.{fold}

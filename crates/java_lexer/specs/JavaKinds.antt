@@ -1,4 +1,7 @@
--- The pieces of a text of Java SE 8, and the faults that are named where none may begin (JLS 3).
+-- The pieces of a text in a profile of Java SE 8, and the faults that are named where none may begin (JLS 3). The text is divided as
+-- its bytes stand, without the translation of JLS 3.3. So a Unicode escape outside literals and comments, a letter past ASCII in a
+-- name and a last control-Z are bad characters, three double quotes are a bad literal, a Unicode escape in a comment means nothing,
+-- and numbers are taken more loosely than in JLS 3.10.
 use Rattle.std.specs.Prelude.{ℕ, Bool, List, [], ◌∷◌, Option, Some, None, codes, nat_eq, is_some, if◌then◌else◌}
 use Rattle.std.specs.List.{starts_with}
 use Rattle.racer_base.specs.Name.{is_word}

@@ -1,4 +1,4 @@
-//! The tokens of a file of Java SE 8.
+//! The tokens of a file in a profile of Java SE 8.
 ghost use Rattle.std.specs.Prelude.{◌≡◌, ◌+◌, ◌^◌, ◌<◌, ◌≤◌, ◌++◌, IfOk, IfErr, OnOk, Some, length, false};
 ghost use Rattle.std.specs.Str.{IsUtf8};
 ghost use Rattle.racer_base.specs.Name.{is_listed};
@@ -118,8 +118,8 @@ fn divided(alloc: Global, file: FileId, bytes: &[u8]) -> Result<Lexed, LexFault>
     })
 }
 
-/// The tokens of a file of Java SE 8 (JLS 3), or the first fault in it. That it is UTF-8 is looked for in
-/// all of it first.
+/// The tokens of a file in a profile of Java SE 8 (JLS 3), or the first fault in it. That it is UTF-8 is looked
+/// for in all of it first. Bytes are taken as they stand: a Unicode escape is one in literals alone.
 ///
 /// Want of memory is also the answer to a text of 4 GiB, whose lines may have no number.
 pub fn lex(alloc: Global, file: FileId, bytes: &[u8]) -> Result<Lexed, LexFault>

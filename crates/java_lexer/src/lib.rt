@@ -1,4 +1,4 @@
-//! The tokens of Java (JLS 3).
+//! The tokens of a profile of Java SE 8 (JLS 3).
 #![tactic(auto)]
 
 mod comments;
