@@ -70,9 +70,9 @@ escape_plain b bs h =
         | inr octal ↦ (octal_inline b (and_left _ _ (and_left _ _ octal)), all_plain is_octal octal_plain bs (and_right (is_octal b) _ (and_left _ _ octal)))
       ]
       | inr e ↦
-        let is : b ≡ 117 = eqb-true b 117 (and_left _ _ e) in
-        let unit : is_allowed_unit 34 (behind_u_run bs) ≡ true = and_right (b == 117) _ e in
-        (rw is refl, u_run_plain bs (all_plain is_hex hex_plain (behind_u_run bs) (and_right _ _ (and_left _ _ unit))))
+          let is : b ≡ 117 = eqb-true b 117 (and_left _ _ e) in
+          let unit : is_allowed_unit 34 (behind_u_run bs) ≡ true = and_right (b == 117) _ e in
+          (rw is refl, u_run_plain bs (all_plain is_hex hex_plain (behind_u_run bs) (and_right _ _ (and_left _ _ unit))))
     ]
 
 -- ---- plain bytes are passed
@@ -111,8 +111,7 @@ escape_item (c ∷ ps) bs is h =
     let plain = escape_plain c ps is in
     let front : take (suc (length ps)) (c ∷ (ps ++ bs)) ≡ c ∷ ps = take_at (c ∷ ps) bs (suc (length ps)) refl in
     let fits : suc (length ps) ≤ length (c ∷ (ps ++ bs)) = omega (arith, length-append ps bs) in
-    let some : some_front (is_escape 34) (c ∷ (ps ++ bs)) ≡ true = front_is (is_escape 34) (c ∷ (ps ++ bs)) (suc (length ps)) (omega arith) fits (ap (is_escape 34) front ∙ is) in
-    (
+    let some : some_front (is_escape 34) (c ∷ (ps ++ bs)) ≡ true = front_is (is_escape 34) (c ∷ (ps ++ bs)) (suc (length ps)) (omega arith) fits (ap (is_escape 34) front ∙ is) in (
       escaped_goes 34 c ((ps ++ bs) ++ (34 ∷ [])) other_quote plain.0 ∙ ap (ends_quoted 34) (append_assoc ps bs (34 ∷ [])) ∙ plains_end ps (bs ++ (34 ∷ [])) plain.1 ∙ h.0,
       rw some (plains_hold ps bs plain.1 ∙ h.1),
     )

@@ -72,13 +72,14 @@ fn short_form(rt: HostRuntime) -> Result<(), Fail> {
 
 #[test]
 fn tokens(rt: HostRuntime) -> Result<(), Fail> {
-    let rows: [(&[u8], &str); 41] = [
+    let rows: [(&[u8], &str); 43] = [
         (b"", "end 1:1"),
         (b" \t\x0c\r\n", "end 2:1"),
         (b"//", "end 1:3"),
         (b"// a\rb", "Name b 2:1, end 2:2"),
         (b"// \\u000a a\n+", "Sign + 2:1, end 2:2"),
         (b"/**/a", "Name a 1:5, end 1:6"),
+        (b"/*\\u002a/*/a", "Name a 1:12, end 1:13"),
         (b"/* /* */ */", "Sign * 1:10, Sign / 1:11, end 1:12"),
         (b"/*\r\n\xe2\x82\xac*/a", "Name a 2:6, end 2:7"),
         (b"/ /=a", "Sign / 1:1, Sign /= 1:3, Name a 1:5, end 1:6"),
@@ -105,6 +106,10 @@ fn tokens(rt: HostRuntime) -> Result<(), Fail> {
             "Number 1e+5 1:1, Sign - 1:5, Number 1 1:6, end 1:7",
         ),
         (b"1E-5f", "Number 1E-5f 1:1, end 1:6"),
+        (
+            b"1..2 0x 09",
+            "Number 1..2 1:1, Number 0x 1:6, Number 09 1:9, end 1:11",
+        ),
         (b"1p+5", "Number 1p 1:1, Sign + 1:3, Number 5 1:4, end 1:5"),
         (
             b"0x1e+5",
@@ -195,7 +200,7 @@ fn at(line: u32, column: u32) -> Place {
 
 #[test]
 fn faults(rt: HostRuntime) {
-    let rows: [(&[u8], LexFault); 40] = [
+    let rows: [(&[u8], LexFault); 41] = [
         (b"\xff", LexFault::NotUtf8(0)),
         (b"# ab\xc3", LexFault::NotUtf8(4)),
         (b"/*\xe2\x82\xac*/\xe2\x82", LexFault::NotUtf8(7)),
@@ -213,6 +218,7 @@ fn faults(rt: HostRuntime) {
         (b"int \\u0061;", LexFault::BadCharacter(at(1, 5))),
         (b"a`", LexFault::BadCharacter(at(1, 2))),
         (b"a\0", LexFault::BadCharacter(at(1, 2))),
+        (b"a\x1a", LexFault::BadCharacter(at(1, 2))),
         (b"class B {}\n/* x", LexFault::Unclosed(at(2, 1))),
         (b"/*/", LexFault::Unclosed(at(1, 1))),
         (b" /**\n*\n/", LexFault::Unclosed(at(1, 2))),
