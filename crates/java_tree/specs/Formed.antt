@@ -1,0 +1,307 @@
+-- The formed trees: those that stand for a method of this subset of Java. Each condition on a level, and each
+-- one that is no level, stands with its form; so two formed trees never have one spelling.
+use Rattle.std.specs.Prelude.{◌≡◌, ℕ, zero, suc, ◌≤◌, Bool, true, false, not, ◌&&◌, List, [], ◌∷◌, Option, Some, None, IsTrue, codes}
+use Rattle.racer_base.specs.Name.{is_listed}
+use Rattle.java_lexer.specs.declared.token.TokenKind.{TokenKind}
+use Rattle.java_lexer.specs.declared.token.TokenKind.TheVariants as kind
+use Rattle.java_tree.specs.Brackets.{are_parentheses_or_none}
+use Rattle.java_tree.specs.Operators.{conditional_level, relational_level, unary_level, postfix_level, primary_level, assignment_level, IsBinary, binary_level, is_assignment, is_prefix, is_step, is_signed}
+use Rattle.java_tree.specs.Trees.{Ty, Typed, Base, Plain, Named, Parts, no_part, part_then, Part, Bare, Generic, Arguments, Angled, ArgumentList, no_argument, argument_then, Argument, Exact, Any, Extends, Super, Expr, Assign, Conditional, Binary, InstanceOf, Prefix, Cast, Postfix, Literal, This, Name, Paren, Field, Index, Call, CallOn, ClassOf, New, NewArray, NewItems, Exprs, no_expr, expr_then, Array, Braces, Inits, no_init, init_then, Init, Value, Items, Variable, Locals, Start, Declares, Runs, Stmt, Block, Local, Run, If, IfElse, While, For, ForEach, Sync, Return, Empty, Stmts, no_stmt, stmt_then, Note, Modifier, Word, Annotated, Result, NoResult, VoidResult, TypeResult, Parameter, Method}
+
+-- ---- lists
+
+-- the fact holds of each element
+abbrev pub Each : {A : Type 0} → (A → Type 0) → List A → Type 0
+Each P [] = Unit {0}
+Each P (x ∷ xs) = P x × Each P xs
+
+-- there is an element
+abbrev pub IsSomeOf : {A : Type 0} → List A → Type 0
+IsSomeOf [] = ⊥
+IsSomeOf (x ∷ xs) = Unit {0}
+
+-- ---- types (JLS 4)
+
+-- the primitive types (JLS 4.2)
+abbrev pub is_plain_word : List ℕ → Bool
+is_plain_word text =
+    is_listed
+    (codes "boolean" ∷ codes "byte" ∷ codes "short" ∷ codes "int" ∷ codes "long" ∷ codes "char" ∷ codes "float" ∷ codes "double" ∷ [])
+    text
+
+abbrev mutual
+  pub FormedTy : Ty → Type 0
+  FormedTy (Typed base arrays) = FormedBase base
+
+  pub FormedBase : Base → Type 0
+  FormedBase (Plain text) = IsTrue (is_plain_word text)
+  FormedBase (Named no_part) = ⊥
+  FormedBase (Named (part_then p ps)) = FormedPart p × FormedParts ps
+
+  pub FormedParts : Parts → Type 0
+  FormedParts no_part = Unit {0}
+  FormedParts (part_then p ps) = FormedPart p × FormedParts ps
+
+  pub FormedPart : Part → Type 0
+  FormedPart (Bare x) = Unit {0}
+  FormedPart (Generic x a) = FormedAngled a
+
+  -- `< >` is formed behind `new` alone
+  pub FormedAngled : Arguments → Type 0
+  FormedAngled (Angled no_argument glued) = ⊥
+  FormedAngled (Angled (argument_then a others) glued) = FormedArgument a × FormedArguments others
+
+  pub FormedArguments : ArgumentList → Type 0
+  FormedArguments no_argument = Unit {0}
+  FormedArguments (argument_then a others) = FormedArgument a × FormedArguments others
+
+  pub FormedArgument : Argument → Type 0
+  FormedArgument (Exact t) = FormedTy t
+  FormedArgument Any = Unit {0}
+  FormedArgument (Extends t) = FormedTy t
+  FormedArgument (Super t) = FormedTy t
+
+abbrev pub arrays_of : Ty → ℕ
+arrays_of (Typed base arrays) = arrays
+
+abbrev pub is_named : Ty → Bool
+is_named (Typed (Plain text) arrays) = false
+is_named (Typed (Named ps) arrays) = true
+
+-- a primitive type without `[ ]`
+abbrev pub is_primitive : Ty → Bool
+is_primitive (Typed (Plain text) zero) = true
+is_primitive _ = false
+
+-- the last part of a class that is made may have `< >` (JLS 15.9)
+abbrev pub FormedLastPart : Part → Type 0
+FormedLastPart (Bare x) = Unit {0}
+FormedLastPart (Generic x (Angled list glued)) = FormedArguments list
+
+abbrev pub FormedClassParts : Parts → Type 0
+FormedClassParts no_part = ⊥
+FormedClassParts (part_then p no_part) = FormedLastPart p
+FormedClassParts (part_then p (part_then q ps)) = FormedPart p × FormedClassParts (part_then q ps)
+
+-- the class that a `new` makes an object of: a named type without `[ ]` (JLS 15.9)
+abbrev pub FormedClass : Ty → Type 0
+FormedClass (Typed (Plain text) arrays) = ⊥
+FormedClass (Typed (Named ps) arrays) = FormedClassParts ps × (arrays ≡ 0)
+
+-- the type of the elements that a `new` makes an array of (JLS 15.10.1)
+abbrev pub FormedElement : Ty → Type 0
+FormedElement t = FormedTy t × (arrays_of t ≡ 0)
+
+abbrev pub is_bare_part : Part → Bool
+is_bare_part (Bare x) = true
+is_bare_part (Generic x a) = false
+
+abbrev pub are_bare_parts : Parts → Bool
+are_bare_parts no_part = true
+are_bare_parts (part_then p ps) = is_bare_part p && are_bare_parts ps
+
+-- a type without type arguments (JLS 15.20.2)
+abbrev pub is_bare : Ty → Bool
+is_bare (Typed (Plain text) arrays) = true
+is_bare (Typed (Named ps) arrays) = are_bare_parts ps
+
+-- ---- expressions (JLS 15)
+
+abbrev pub level : Expr → ℕ
+level (Assign a op b) = assignment_level
+level (Conditional a b c) = conditional_level
+level (Binary a op b) = binary_level op
+level (InstanceOf a t) = relational_level
+level (Prefix op a) = unary_level
+level (Cast t a) = unary_level
+level (Postfix a op) = postfix_level
+level _ = primary_level
+
+-- what may stand left of `=` and beside `++`: a name, a field or an element (JLS 15.26)
+abbrev pub is_variable : Expr → Bool
+is_variable (Name x) = true
+is_variable (Field a x) = true
+is_variable (Index a i) = true
+is_variable _ = false
+
+-- an array creation, which takes no `[` (JLS 15.10.3)
+abbrev pub makes_array : Expr → Bool
+makes_array (NewArray t lengths n) = true
+makes_array (NewItems t n items) = true
+makes_array _ = false
+
+-- what may be a statement with a `;` behind it (JLS 14.8)
+abbrev pub is_run : Expr → Bool
+is_run (Assign a op b) = true
+is_run (Prefix op a) = is_step op
+is_run (Postfix a op) = true
+is_run (Call x all) = true
+is_run (CallOn a x all) = true
+is_run (New t all) = true
+is_run _ = false
+
+-- whether the spelling begins with `+`, `-`, `++` or `--`
+abbrev pub begins_signed : Expr → Bool
+begins_signed (Assign a op b) = begins_signed a
+begins_signed (Conditional a b c) = begins_signed a
+begins_signed (Binary a op b) = begins_signed a
+begins_signed (InstanceOf a t) = begins_signed a
+begins_signed (Prefix op a) = is_signed op
+begins_signed (Postfix a op) = begins_signed a
+begins_signed (Field a x) = begins_signed a
+begins_signed (Index a i) = begins_signed a
+begins_signed (CallOn a x all) = begins_signed a
+begins_signed _ = false
+
+-- the literals that are no names, keywords or signs (JLS 15.8.1)
+abbrev pub is_literal : TokenKind → Bool
+is_literal kind.Number = true
+is_literal kind.Character = true
+is_literal kind.Text = true
+is_literal kind.Fixed = true
+is_literal _ = false
+
+abbrev pub has_expr : Exprs → Bool
+has_expr no_expr = false
+has_expr (expr_then e es) = true
+
+abbrev pub has_init : Inits → Bool
+has_init no_init = false
+has_init (init_then i is) = true
+
+abbrev mutual
+  pub FormedExpr : Expr → Type 0
+  FormedExpr (Assign a op b) = FormedExpr a × FormedExpr b × IsTrue (is_assignment op) × IsTrue (is_variable a)
+  FormedExpr (Conditional a b c) =
+      FormedExpr a × FormedExpr b × FormedExpr c × (suc conditional_level ≤ level a) × (conditional_level ≤ level c)
+  FormedExpr (Binary a op b) =
+      FormedExpr a × FormedExpr b × IsBinary op × (binary_level op ≤ level a) × (suc (binary_level op) ≤ level b)
+  FormedExpr (InstanceOf a t) = FormedExpr a × FormedTy t × (relational_level ≤ level a) × IsTrue (is_bare t)
+  FormedExpr (Prefix op a) =
+      FormedExpr a × IsTrue (is_prefix op) × (unary_level ≤ level a) × (IsTrue (is_step op) → IsTrue (is_variable a))
+  FormedExpr (Cast t a) =
+      FormedTy t × FormedExpr a × (unary_level ≤ level a) × (IsTrue (begins_signed a) → IsTrue (is_primitive t))
+  FormedExpr (Postfix a op) = FormedExpr a × IsTrue (is_step op) × IsTrue (is_variable a)
+  FormedExpr (Literal k text) = IsTrue (is_literal k)
+  FormedExpr This = Unit {0}
+  FormedExpr (Name x) = Unit {0}
+  FormedExpr (Paren a) = FormedExpr a
+  FormedExpr (Field a x) = FormedExpr a × (primary_level ≤ level a)
+  FormedExpr (Index a i) = FormedExpr a × FormedExpr i × (primary_level ≤ level a) × IsTrue (not (makes_array a))
+  FormedExpr (Call x all) = FormedExprs all
+  FormedExpr (CallOn a x all) = FormedExpr a × FormedExprs all × (primary_level ≤ level a)
+  FormedExpr (ClassOf xs) = IsSomeOf xs
+  FormedExpr (New t all) = FormedClass t × FormedExprs all
+  FormedExpr (NewArray t lengths n) = FormedElement t × FormedExprs lengths × IsTrue (has_expr lengths)
+  FormedExpr (NewItems t n items) = FormedElement t × (1 ≤ n) × FormedArray items
+
+  pub FormedExprs : Exprs → Type 0
+  FormedExprs no_expr = Unit {0}
+  FormedExprs (expr_then e es) = FormedExpr e × FormedExprs es
+
+  -- a last comma stands behind an item (JLS 10.6)
+  pub FormedArray : Array → Type 0
+  FormedArray (Braces items last_comma) = FormedInits items × (IsTrue last_comma → IsTrue (has_init items))
+
+  pub FormedInits : Inits → Type 0
+  FormedInits no_init = Unit {0}
+  FormedInits (init_then i is) = FormedInit i × FormedInits is
+
+  pub FormedInit : Init → Type 0
+  FormedInit (Value e) = FormedExpr e
+  FormedInit (Items items) = FormedArray items
+
+abbrev pub FormedMaybeExpr : Option Expr → Type 0
+FormedMaybeExpr None = Unit {0}
+FormedMaybeExpr (Some e) = FormedExpr e
+
+-- an expression that is run for what it does
+abbrev pub FormedRun : Expr → Type 0
+FormedRun e = FormedExpr e × IsTrue (is_run e)
+
+abbrev pub FormedRuns : Exprs → Type 0
+FormedRuns no_expr = Unit {0}
+FormedRuns (expr_then e es) = FormedRun e × FormedRuns es
+
+-- ---- statements (JLS 14)
+
+abbrev pub FormedInitial : Option Init → Type 0
+FormedInitial None = Unit {0}
+FormedInitial (Some i) = FormedInit i
+
+abbrev pub FormedVariable : Variable → Type 0
+FormedVariable v = FormedInitial v.initial
+
+abbrev pub FormedLocals : Locals → Type 0
+FormedLocals l = FormedTy l.kind × IsSomeOf l.variables × Each FormedVariable l.variables
+
+abbrev pub FormedStart : Start → Type 0
+FormedStart (Declares l) = FormedLocals l
+FormedStart (Runs all) = FormedRuns all
+
+-- a declaration is no body of an `if` or a loop (JLS 14.5)
+abbrev pub is_body : Stmt → Bool
+is_body (Local l) = false
+is_body _ = true
+
+-- whether an `else` behind the statement would belong to an `if` at its end (JLS 14.5)
+abbrev pub ends_in_if : Stmt → Bool
+ends_in_if (If e s) = true
+ends_in_if (IfElse e s t) = ends_in_if t
+ends_in_if (While e s) = ends_in_if s
+ends_in_if (For start condition updates s) = ends_in_if s
+ends_in_if (ForEach is_final t x e s) = ends_in_if s
+ends_in_if _ = false
+
+abbrev mutual
+  pub FormedStmt : Stmt → Type 0
+  FormedStmt (Block ss) = FormedStmts ss
+  FormedStmt (Local l) = FormedLocals l
+  FormedStmt (Run e) = FormedRun e
+  FormedStmt (If e s) = FormedExpr e × FormedStmt s × IsTrue (is_body s)
+  FormedStmt (IfElse e s t) =
+      FormedExpr e × FormedStmt s × FormedStmt t × IsTrue (is_body s) × IsTrue (is_body t) × IsTrue (not (ends_in_if s))
+  FormedStmt (While e s) = FormedExpr e × FormedStmt s × IsTrue (is_body s)
+  FormedStmt (For start condition updates s) =
+      FormedStart start × FormedMaybeExpr condition × FormedRuns updates × FormedStmt s × IsTrue (is_body s)
+  FormedStmt (ForEach is_final t x e s) = FormedTy t × FormedExpr e × FormedStmt s × IsTrue (is_body s)
+  FormedStmt (Sync e ss) = FormedExpr e × FormedStmts ss
+  FormedStmt (Return e) = FormedMaybeExpr e
+  FormedStmt Empty = Unit {0}
+
+  pub FormedStmts : Stmts → Type 0
+  FormedStmts no_stmt = Unit {0}
+  FormedStmts (stmt_then s ss) = FormedStmt s × FormedStmts ss
+
+-- ---- methods (JLS 8.4, 8.8)
+
+-- the words of a method (JLS 8.4.3)
+abbrev pub is_method_modifier : List ℕ → Bool
+is_method_modifier text =
+    is_listed
+    (codes "public" ∷ codes "protected" ∷ codes "private" ∷ codes "static" ∷ codes "final" ∷ codes "synchronized" ∷ codes "strictfp" ∷ [])
+    text
+
+-- names, and parentheses with any balanced tokens or none (JLS 9.7)
+abbrev pub FormedNote : Note → Type 0
+FormedNote n = IsSomeOf n.names × IsTrue (are_parentheses_or_none n.arguments)
+
+abbrev pub FormedModifier : Modifier → Type 0
+FormedModifier (Word text) = IsTrue (is_method_modifier text)
+FormedModifier (Annotated n) = FormedNote n
+
+abbrev pub FormedResult : Result → Type 0
+FormedResult NoResult = Unit {0}
+FormedResult VoidResult = Unit {0}
+FormedResult (TypeResult t) = FormedTy t
+
+abbrev pub FormedParameter : Parameter → Type 0
+FormedParameter p = Each FormedNote p.notes × FormedTy p.kind
+
+-- an exception is no primitive type (JLS 8.4.6)
+abbrev pub FormedThrown : Ty → Type 0
+FormedThrown t = FormedTy t × IsTrue (is_named t)
+
+abbrev pub FormedMethod : Method → Type 0
+FormedMethod m =
+    Each FormedModifier m.modifiers × FormedResult m.result × Each FormedParameter m.parameters × Each FormedThrown m.throws × FormedStmts m.body

@@ -1,0 +1,14 @@
+pub mod Words
+pub mod Operators
+pub mod Trees
+pub mod Spelling
+pub mod Nesting
+pub mod Brackets
+pub mod Formed
+pub mod View
+pub mod Examples
+pub mod Sameness
+pub mod SameParts
+pub mod SameTrees
+pub mod SameMethods
+pub mod SameLaws

@@ -1,0 +1,239 @@
+-- The spelling of a tree: its tokens, and then the rest.
+use Rattle.std.specs.Prelude.{ℕ, zero, suc, Bool, true, false, List, [], ◌∷◌, ◌++◌, Option, Some, None, codes, bytes_eq, if◌then◌else◌}
+use Rattle.java_tree.specs.declared.words.Spelled.{Spelled}
+use Rattle.java_tree.specs.Words.{keyword, identifier, sign, sign_glued, word_of}
+use Rattle.java_tree.specs.Trees.{Ty, Typed, Base, Plain, Named, Parts, no_part, part_then, Part, Bare, Generic, Arguments, Angled, ArgumentList, no_argument, argument_then, Argument, Exact, Any, Extends, Super, Expr, Assign, Conditional, Binary, InstanceOf, Prefix, Cast, Postfix, Literal, This, Name, Paren, Field, Index, Call, CallOn, ClassOf, New, NewArray, NewItems, Exprs, no_expr, expr_then, Array, Braces, Inits, no_init, init_then, Init, Value, Items, Variable, Locals, Start, Declares, Runs, Stmt, Block, Local, Run, If, IfElse, While, For, ForEach, Sync, Return, Empty, Stmts, no_stmt, stmt_then, Note, Modifier, Word, Annotated, Result, NoResult, VoidResult, TypeResult, Parameter, Method}
+
+-- ---- lists
+
+-- each behind a comma
+abbrev pub behind_commas : {A : Type 0} → (A → List Spelled → List Spelled) → List A → List Spelled → List Spelled
+behind_commas onto [] rest = rest
+behind_commas onto (x ∷ xs) rest = sign (codes ",") ∷ onto x (behind_commas onto xs rest)
+
+-- with commas between them
+abbrev pub commas_onto : {A : Type 0} → (A → List Spelled → List Spelled) → List A → List Spelled → List Spelled
+commas_onto onto [] rest = rest
+commas_onto onto (x ∷ xs) rest = onto x (behind_commas onto xs rest)
+
+-- each behind a point
+abbrev pub behind_points : List (List ℕ) → List Spelled → List Spelled
+behind_points [] rest = rest
+behind_points (x ∷ xs) rest = sign (codes ".") ∷ identifier x ∷ behind_points xs rest
+
+-- with points between them
+abbrev pub names_onto : List (List ℕ) → List Spelled → List Spelled
+names_onto [] rest = rest
+names_onto (x ∷ xs) rest = identifier x ∷ behind_points xs rest
+
+-- as many `[ ]`
+abbrev pub brackets_onto : ℕ → List Spelled → List Spelled
+brackets_onto zero rest = rest
+brackets_onto (suc n) rest = sign (codes "[") ∷ sign (codes "]") ∷ brackets_onto n rest
+
+-- the keyword `final`, where it stands
+abbrev pub final_onto : Bool → List Spelled → List Spelled
+final_onto true rest = keyword (codes "final") ∷ rest
+final_onto false rest = rest
+
+-- ---- types (JLS 4)
+
+abbrev mutual
+  pub ty_onto : Ty → List Spelled → List Spelled
+  ty_onto (Typed base arrays) rest = base_onto base (brackets_onto arrays rest)
+
+  pub base_onto : Base → List Spelled → List Spelled
+  base_onto (Plain text) rest = keyword text ∷ rest
+  base_onto (Named ps) rest = parts_onto ps rest
+
+  -- with points between them
+  pub parts_onto : Parts → List Spelled → List Spelled
+  parts_onto no_part rest = rest
+  parts_onto (part_then p ps) rest = part_onto p (more_parts_onto ps rest)
+
+  -- each behind a point
+  pub more_parts_onto : Parts → List Spelled → List Spelled
+  more_parts_onto no_part rest = rest
+  more_parts_onto (part_then p ps) rest = sign (codes ".") ∷ part_onto p (more_parts_onto ps rest)
+
+  pub part_onto : Part → List Spelled → List Spelled
+  part_onto (Bare x) rest = identifier x ∷ rest
+  part_onto (Generic x a) rest = identifier x ∷ angled_onto a rest
+
+  pub angled_onto : Arguments → List Spelled → List Spelled
+  angled_onto (Angled list glued) rest = sign (codes "<") ∷ arguments_onto list (sign_glued glued (codes ">") ∷ rest)
+
+  -- with commas between them
+  pub arguments_onto : ArgumentList → List Spelled → List Spelled
+  arguments_onto no_argument rest = rest
+  arguments_onto (argument_then a others) rest = argument_onto a (more_arguments_onto others rest)
+
+  -- each behind a comma
+  pub more_arguments_onto : ArgumentList → List Spelled → List Spelled
+  more_arguments_onto no_argument rest = rest
+  more_arguments_onto (argument_then a others) rest = sign (codes ",") ∷ argument_onto a (more_arguments_onto others rest)
+
+  -- JLS 4.5.1
+  pub argument_onto : Argument → List Spelled → List Spelled
+  argument_onto (Exact t) rest = ty_onto t rest
+  argument_onto Any rest = sign (codes "?") ∷ rest
+  argument_onto (Extends t) rest = sign (codes "?") ∷ keyword (codes "extends") ∷ ty_onto t rest
+  argument_onto (Super t) rest = sign (codes "?") ∷ keyword (codes "super") ∷ ty_onto t rest
+
+-- ---- expressions (JLS 15) and array initialisers (JLS 10.6)
+
+-- the shifts to the right are two or three `>`, each but the first glued
+abbrev pub operator_onto : List ℕ → List Spelled → List Spelled
+operator_onto text rest =
+    if bytes_eq text (codes ">>") then sign (codes ">") ∷ sign_glued true (codes ">") ∷ rest
+    else (if bytes_eq text (codes ">>>") then sign (codes ">") ∷ sign_glued true (codes ">") ∷ sign_glued true (codes ">") ∷ rest
+    else sign text ∷ rest)
+
+-- the last comma of an array initialiser, where it stands
+abbrev pub last_comma_onto : Bool → List Spelled → List Spelled
+last_comma_onto true rest = sign (codes ",") ∷ rest
+last_comma_onto false rest = rest
+
+abbrev mutual
+  pub expr_onto : Expr → List Spelled → List Spelled
+  expr_onto (Assign a op b) rest = expr_onto a (sign op ∷ expr_onto b rest)
+  expr_onto (Conditional a b c) rest = expr_onto a (sign (codes "?") ∷ expr_onto b (sign (codes ":") ∷ expr_onto c rest))
+  expr_onto (Binary a op b) rest = expr_onto a (operator_onto op (expr_onto b rest))
+  expr_onto (InstanceOf a t) rest = expr_onto a (keyword (codes "instanceof") ∷ ty_onto t rest)
+  expr_onto (Prefix op a) rest = sign op ∷ expr_onto a rest
+  expr_onto (Cast t a) rest = sign (codes "(") ∷ ty_onto t (sign (codes ")") ∷ expr_onto a rest)
+  expr_onto (Postfix a op) rest = expr_onto a (sign op ∷ rest)
+  expr_onto (Literal k text) rest = word_of k text ∷ rest
+  expr_onto This rest = keyword (codes "this") ∷ rest
+  expr_onto (Name x) rest = identifier x ∷ rest
+  expr_onto (Paren a) rest = sign (codes "(") ∷ expr_onto a (sign (codes ")") ∷ rest)
+  expr_onto (Field a x) rest = expr_onto a (sign (codes ".") ∷ identifier x ∷ rest)
+  expr_onto (Index a i) rest = expr_onto a (sign (codes "[") ∷ expr_onto i (sign (codes "]") ∷ rest))
+  expr_onto (Call x all) rest = identifier x ∷ sign (codes "(") ∷ exprs_onto all (sign (codes ")") ∷ rest)
+  expr_onto (CallOn a x all) rest =
+      expr_onto a (sign (codes ".") ∷ identifier x ∷ sign (codes "(") ∷ exprs_onto all (sign (codes ")") ∷ rest))
+  expr_onto (ClassOf xs) rest = names_onto xs (sign (codes ".") ∷ keyword (codes "class") ∷ rest)
+  expr_onto (New t all) rest = keyword (codes "new") ∷ ty_onto t (sign (codes "(") ∷ exprs_onto all (sign (codes ")") ∷ rest))
+  expr_onto (NewArray t lengths n) rest = keyword (codes "new") ∷ ty_onto t (lengths_onto lengths (brackets_onto n rest))
+  expr_onto (NewItems t n items) rest = keyword (codes "new") ∷ ty_onto t (brackets_onto n (array_onto items rest))
+
+  -- with commas between them
+  pub exprs_onto : Exprs → List Spelled → List Spelled
+  exprs_onto no_expr rest = rest
+  exprs_onto (expr_then e es) rest = expr_onto e (more_exprs_onto es rest)
+
+  -- each behind a comma
+  pub more_exprs_onto : Exprs → List Spelled → List Spelled
+  more_exprs_onto no_expr rest = rest
+  more_exprs_onto (expr_then e es) rest = sign (codes ",") ∷ expr_onto e (more_exprs_onto es rest)
+
+  -- each in brackets
+  pub lengths_onto : Exprs → List Spelled → List Spelled
+  lengths_onto no_expr rest = rest
+  lengths_onto (expr_then e es) rest = sign (codes "[") ∷ expr_onto e (sign (codes "]") ∷ lengths_onto es rest)
+
+  pub array_onto : Array → List Spelled → List Spelled
+  array_onto (Braces items last_comma) rest =
+      sign (codes "{") ∷ inits_onto items (last_comma_onto last_comma (sign (codes "}") ∷ rest))
+
+  -- with commas between them
+  pub inits_onto : Inits → List Spelled → List Spelled
+  inits_onto no_init rest = rest
+  inits_onto (init_then i is) rest = init_onto i (more_inits_onto is rest)
+
+  -- each behind a comma
+  pub more_inits_onto : Inits → List Spelled → List Spelled
+  more_inits_onto no_init rest = rest
+  more_inits_onto (init_then i is) rest = sign (codes ",") ∷ init_onto i (more_inits_onto is rest)
+
+  pub init_onto : Init → List Spelled → List Spelled
+  init_onto (Value e) rest = expr_onto e rest
+  init_onto (Items items) rest = array_onto items rest
+
+abbrev pub maybe_expr_onto : Option Expr → List Spelled → List Spelled
+maybe_expr_onto None rest = rest
+maybe_expr_onto (Some e) rest = expr_onto e rest
+
+-- ---- statements (JLS 14)
+
+abbrev pub initial_onto : Option Init → List Spelled → List Spelled
+initial_onto None rest = rest
+initial_onto (Some i) rest = sign (codes "=") ∷ init_onto i rest
+
+abbrev pub variable_onto : Variable → List Spelled → List Spelled
+variable_onto v rest = identifier v.name ∷ initial_onto v.initial rest
+
+abbrev pub locals_onto : Locals → List Spelled → List Spelled
+locals_onto l rest = final_onto l.is_final (ty_onto l.kind (commas_onto variable_onto l.variables rest))
+
+abbrev pub start_onto : Start → List Spelled → List Spelled
+start_onto (Declares l) rest = locals_onto l rest
+start_onto (Runs all) rest = exprs_onto all rest
+
+abbrev mutual
+  pub stmt_onto : Stmt → List Spelled → List Spelled
+  stmt_onto (Block ss) rest = sign (codes "{") ∷ stmts_onto ss (sign (codes "}") ∷ rest)
+  stmt_onto (Local l) rest = locals_onto l (sign (codes ";") ∷ rest)
+  stmt_onto (Run e) rest = expr_onto e (sign (codes ";") ∷ rest)
+  stmt_onto (If e s) rest = keyword (codes "if") ∷ sign (codes "(") ∷ expr_onto e (sign (codes ")") ∷ stmt_onto s rest)
+  stmt_onto (IfElse e s t) rest =
+      keyword (codes "if") ∷ sign (codes "(") ∷ expr_onto e (sign (codes ")") ∷ stmt_onto s (keyword (codes "else") ∷ stmt_onto t rest))
+  stmt_onto (While e s) rest = keyword (codes "while") ∷ sign (codes "(") ∷ expr_onto e (sign (codes ")") ∷ stmt_onto s rest)
+  stmt_onto (For start condition updates s) rest =
+      keyword (codes "for") ∷ sign (codes "(") ∷
+      start_onto start (sign (codes ";") ∷ maybe_expr_onto condition (sign (codes ";") ∷ exprs_onto updates (sign (codes ")") ∷ stmt_onto s rest)))
+  stmt_onto (ForEach is_final t x e s) rest =
+      keyword (codes "for") ∷ sign (codes "(") ∷
+      final_onto is_final (ty_onto t (identifier x ∷ sign (codes ":") ∷ expr_onto e (sign (codes ")") ∷ stmt_onto s rest)))
+  stmt_onto (Sync e ss) rest =
+      keyword (codes "synchronized") ∷ sign (codes "(") ∷ expr_onto e (sign (codes ")") ∷ sign (codes "{") ∷ stmts_onto ss (sign (codes "}") ∷ rest))
+  stmt_onto (Return e) rest = keyword (codes "return") ∷ maybe_expr_onto e (sign (codes ";") ∷ rest)
+  stmt_onto Empty rest = sign (codes ";") ∷ rest
+
+  pub stmts_onto : Stmts → List Spelled → List Spelled
+  stmts_onto no_stmt rest = rest
+  stmts_onto (stmt_then s ss) rest = stmt_onto s (stmts_onto ss rest)
+
+abbrev pub block_onto : Stmts → List Spelled → List Spelled
+block_onto ss rest = sign (codes "{") ∷ stmts_onto ss (sign (codes "}") ∷ rest)
+
+-- ---- methods (JLS 8.4, 8.8)
+
+-- JLS 9.7
+abbrev pub note_onto : Note → List Spelled → List Spelled
+note_onto n rest = sign (codes "@") ∷ names_onto n.names (n.arguments ++ rest)
+
+abbrev pub notes_onto : List Note → List Spelled → List Spelled
+notes_onto [] rest = rest
+notes_onto (n ∷ ns) rest = note_onto n (notes_onto ns rest)
+
+abbrev pub modifier_onto : Modifier → List Spelled → List Spelled
+modifier_onto (Word text) rest = keyword text ∷ rest
+modifier_onto (Annotated n) rest = note_onto n rest
+
+abbrev pub modifiers_onto : List Modifier → List Spelled → List Spelled
+modifiers_onto [] rest = rest
+modifiers_onto (m ∷ ms) rest = modifier_onto m (modifiers_onto ms rest)
+
+abbrev pub result_onto : Result → List Spelled → List Spelled
+result_onto NoResult rest = rest
+result_onto VoidResult rest = keyword (codes "void") ∷ rest
+result_onto (TypeResult t) rest = ty_onto t rest
+
+-- JLS 8.4.1
+abbrev pub parameter_onto : Parameter → List Spelled → List Spelled
+parameter_onto p rest = final_onto p.is_final (notes_onto p.notes (ty_onto p.kind (identifier p.name ∷ rest)))
+
+-- JLS 8.4.6
+abbrev pub throws_onto : List Ty → List Spelled → List Spelled
+throws_onto [] rest = rest
+throws_onto (t ∷ ts) rest = keyword (codes "throws") ∷ commas_onto ty_onto (t ∷ ts) rest
+
+abbrev pub method_onto : Method → List Spelled → List Spelled
+method_onto m rest =
+    modifiers_onto m.modifiers (result_onto m.result (identifier m.name ∷ sign (codes "(") ∷
+    commas_onto parameter_onto m.parameters (sign (codes ")") ∷ throws_onto m.throws (block_onto m.body rest))))
+
+-- the tokens of a method
+abbrev pub spelling : Method → List Spelled
+spelling m = method_onto m []

@@ -1,0 +1,178 @@
+-- The trees of the code without places and without memory.
+use Rattle.std.specs.Prelude.{ℕ, List, Option, Some, None, map, option_map}
+use Rattle.java_tree.specs.declared.words.Ident.{Ident}
+use Rattle.java_tree.specs.declared.types.TypeTree.{TypeTree}
+use Rattle.java_tree.specs.declared.types.BaseType.{BaseType}
+use Rattle.java_tree.specs.declared.types.TypePart.{TypePart}
+use Rattle.java_tree.specs.declared.types.TypeArguments.{TypeArguments}
+use Rattle.java_tree.specs.declared.types.TypeArgument.{TypeArgument}
+use Rattle.java_tree.specs.declared.types.BaseType.TheOpen.{BaseType-F, TypeArgument-F, TypeArguments-F, TypePart-F, TypeTree-F}
+use Rattle.java_tree.specs.declared.types.BaseType.TheOpen as type
+use Rattle.java_tree.specs.declared.types.BaseType.TheFolds.{fold-TypeTree, fold-BaseType, fold-TypePart, fold-TypeArguments, fold-TypeArgument}
+use Rattle.java_tree.specs.declared.expressions.Expression.{Expression}
+use Rattle.java_tree.specs.declared.expressions.Initial.{Initial}
+use Rattle.java_tree.specs.declared.expressions.ArrayItems.{ArrayItems}
+use Rattle.java_tree.specs.declared.expressions.Expression.TheOpen.{Expression-F, Initial-F, ArrayItems-F}
+use Rattle.java_tree.specs.declared.expressions.Expression.TheOpen as expression
+use Rattle.java_tree.specs.declared.expressions.Expression.TheFolds.{fold-Expression, fold-Initial, fold-ArrayItems}
+use Rattle.java_tree.specs.declared.statements.Declarator.{Declarator}
+use Rattle.java_tree.specs.declared.statements.LocalTree.{LocalTree}
+use Rattle.java_tree.specs.declared.statements.ForInit.{ForInit}
+use Rattle.java_tree.specs.declared.statements.ForInit.TheVariants as init
+use Rattle.java_tree.specs.declared.statements.Statement.{Statement}
+use Rattle.java_tree.specs.declared.statements.Statement.TheOpen.{Statement-F}
+use Rattle.java_tree.specs.declared.statements.Statement.TheOpen as statement
+use Rattle.java_tree.specs.declared.statements.Statement.TheFolds.{fold-Statement}
+use Rattle.java_tree.specs.declared.methods.Annotation.{Annotation}
+use Rattle.java_tree.specs.declared.methods.Modifier as modifiers
+use Rattle.java_tree.specs.declared.methods.Modifier.TheVariants as modifier
+use Rattle.java_tree.specs.declared.methods.ResultTree.{ResultTree}
+use Rattle.java_tree.specs.declared.methods.ResultTree.TheVariants as result
+use Rattle.java_tree.specs.declared.methods.ParameterTree.{ParameterTree}
+use Rattle.java_tree.specs.declared.methods.MethodTree.{MethodTree}
+use Rattle.java_tree.specs.Trees.{Ty, Typed, Base, Plain, Named, Part, Bare, Generic, Arguments, Angled, Argument, Exact, Any, Extends, Super, Expr, Assign, Conditional, Binary, InstanceOf, Prefix, Cast, Postfix, Literal, This, Name, Paren, Field, Index, Call, CallOn, ClassOf, New, NewArray, NewItems, Array, Braces, Init, Value, Items, Variable, Locals, Start, Declares, Runs, Stmt, Block, Local, Run, If, IfElse, While, For, ForEach, Sync, Return, Empty, Note, Modifier, Word, Annotated, Result, NoResult, VoidResult, TypeResult, Parameter, Method, pack_parts, pack_arguments, pack_exprs, pack_inits, pack_stmts}
+
+abbrev pub name_of : Ident → List ℕ
+name_of x = x.text
+
+-- ---- types
+
+abbrev pub base_step : BaseType-F Base Argument Arguments Part Ty → Base
+base_step (type.Plain text) = Plain text
+base_step (type.Named parts) = Named (pack_parts parts.items)
+
+abbrev pub argument_step : TypeArgument-F Base Argument Arguments Part Ty → Argument
+argument_step (type.Exact t) = Exact t
+argument_step type.Any = Any
+argument_step (type.Extends t) = Extends t
+argument_step (type.Super t) = Super t
+
+abbrev pub arguments_step : TypeArguments-F Base Argument Arguments Part Ty → Arguments
+arguments_step a = Angled (pack_arguments a.items.items) a.glued
+
+abbrev pub part_of_name : List ℕ → Option Arguments → Part
+part_of_name x None = Bare x
+part_of_name x (Some a) = Generic x a
+
+abbrev pub part_step : TypePart-F Base Argument Arguments Part Ty → Part
+part_step p = part_of_name (name_of p.name) p.arguments
+
+abbrev pub ty_step : TypeTree-F Base Argument Arguments Part Ty → Ty
+ty_step t = Typed t.base t.arrays
+
+abbrev pub ty_of : TypeTree → Ty
+ty_of = fold-TypeTree Base Argument Arguments Part Ty base_step argument_step arguments_step part_step ty_step
+
+abbrev pub base_of : BaseType → Base
+base_of = fold-BaseType Base Argument Arguments Part Ty base_step argument_step arguments_step part_step ty_step
+
+abbrev pub angled_of : TypeArguments → Arguments
+angled_of = fold-TypeArguments Base Argument Arguments Part Ty base_step argument_step arguments_step part_step ty_step
+
+abbrev pub part_of : TypePart → Part
+part_of = fold-TypePart Base Argument Arguments Part Ty base_step argument_step arguments_step part_step ty_step
+
+abbrev pub argument_of : TypeArgument → Argument
+argument_of = fold-TypeArgument Base Argument Arguments Part Ty base_step argument_step arguments_step part_step ty_step
+
+-- ---- expressions
+
+abbrev pub call_of : Option Expr → List ℕ → List Expr → Expr
+call_of None x all = Call x (pack_exprs all)
+call_of (Some a) x all = CallOn a x (pack_exprs all)
+
+abbrev pub expr_step : Expression-F Expr Init Array → Expr
+expr_step (expression.Assign a op b) = Assign a.value op b.value
+expr_step (expression.Conditional a b c) = Conditional a.value b.value c.value
+expr_step (expression.Binary a op b) = Binary a.value op b.value
+expr_step (expression.InstanceOf a t) = InstanceOf a.value (ty_of t)
+expr_step (expression.Prefix op a) = Prefix op a.value
+expr_step (expression.Cast t a) = Cast (ty_of t) a.value
+expr_step (expression.Postfix a op) = Postfix a.value op
+expr_step (expression.Literal k text) = Literal k text
+expr_step expression.This = This
+expr_step (expression.Name x) = Name (name_of x)
+expr_step (expression.Paren a) = Paren a.value
+expr_step (expression.Field a x) = Field a.value (name_of x)
+expr_step (expression.Index a i) = Index a.value i.value
+expr_step (expression.Call a x all) = call_of (option_map (λ b. b.value) a) (name_of x) all.items
+expr_step (expression.ClassOf xs) = ClassOf (map name_of xs.items)
+expr_step (expression.New place t all) = New (ty_of t) (pack_exprs all.items)
+expr_step (expression.NewArray place t lengths n) = NewArray (ty_of t) (pack_exprs lengths.items) n
+expr_step (expression.NewItems place t n items) = NewItems (ty_of t) n items
+
+abbrev pub init_step : Initial-F Expr Init Array → Init
+init_step (expression.Value e) = Value e
+init_step (expression.Items items) = Items items
+
+abbrev pub array_step : ArrayItems-F Expr Init Array → Array
+array_step a = Braces (pack_inits a.items.items) a.last_comma
+
+abbrev pub expr_of : Expression → Expr
+expr_of = fold-Expression Expr Init Array expr_step init_step array_step
+
+abbrev pub init_of : Initial → Init
+init_of = fold-Initial Expr Init Array expr_step init_step array_step
+
+abbrev pub array_of : ArrayItems → Array
+array_of = fold-ArrayItems Expr Init Array expr_step init_step array_step
+
+-- ---- statements
+
+abbrev pub variable_of : Declarator → Variable
+variable_of d = record { name = name_of d.name; initial = option_map init_of d.initial }
+
+abbrev pub locals_of : LocalTree → Locals
+locals_of l = record { is_final = l.is_final; kind = ty_of l.kind; variables = map variable_of l.declarators }
+
+abbrev pub start_of : ForInit → Start
+start_of (init.Local l) = Declares (locals_of l)
+start_of (init.Expressions all) = Runs (pack_exprs (map expr_of all))
+
+abbrev pub if_of : Expr → Stmt → Option Stmt → Stmt
+if_of e s None = If e s
+if_of e s (Some t) = IfElse e s t
+
+abbrev pub stmt_step : Statement-F Stmt → Stmt
+stmt_step (statement.Block ss) = Block (pack_stmts ss.items)
+stmt_step (statement.Local l) = Local (locals_of l)
+stmt_step (statement.Expr e) = Run (expr_of e)
+stmt_step (statement.If e s t) = if_of (expr_of e) s.value (option_map (λ b. b.value) t)
+stmt_step (statement.While e s) = While (expr_of e) s.value
+stmt_step (statement.For start condition updates s) = For (start_of start) (option_map expr_of condition) (pack_exprs (map expr_of updates.items)) s.value
+stmt_step (statement.ForEach is_final t x e s) = ForEach is_final (ty_of t) (name_of x) (expr_of e) s.value
+stmt_step (statement.Sync place e ss) = Sync (expr_of e) (pack_stmts ss.items)
+stmt_step (statement.Return e) = Return (option_map expr_of e)
+stmt_step statement.Empty = Empty
+
+abbrev pub stmt_of : Statement → Stmt
+stmt_of = fold-Statement Stmt stmt_step
+
+-- ---- methods
+
+abbrev pub note_of : Annotation → Note
+note_of n = record { names = n.names; arguments = n.arguments }
+
+abbrev pub modifier_of : modifiers.Modifier → Modifier
+modifier_of (modifier.Word text) = Word text
+modifier_of (modifier.Note n) = Annotated (note_of n)
+
+abbrev pub result_of : ResultTree → Result
+result_of result.Constructor = NoResult
+result_of result.Void = VoidResult
+result_of (result.Of t) = TypeResult (ty_of t)
+
+abbrev pub parameter_of : ParameterTree → Parameter
+parameter_of p =
+    record { is_final = p.is_final; notes = map note_of p.annotations; kind = ty_of p.kind; name = name_of p.name }
+
+abbrev pub method_of : MethodTree → Method
+method_of m =
+    record {
+      modifiers = map modifier_of m.modifiers;
+      result = result_of m.result;
+      name = name_of m.name;
+      parameters = map parameter_of m.parameters;
+      throws = map ty_of m.throws;
+      body = pack_stmts (map stmt_of m.body);
+    }

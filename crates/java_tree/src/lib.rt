@@ -1,0 +1,26 @@
+//! Trees of Java's methods and fields, and the tokens that they spell.
+#![tactic(auto)]
+
+mod depth;
+mod equality;
+mod expressions;
+pub mod laws;
+mod methods;
+mod spelling;
+mod statements;
+mod types;
+mod words;
+
+pub use depth::nesting;
+pub use expressions::{ArrayItems, Expression, Initial};
+pub use methods::{
+    Annotation, FieldDeclarator, FieldInitial, FieldTree, MethodTree, Modifier, ParameterTree,
+    ResultTree,
+};
+pub use spelling::spell;
+pub use statements::{Declarator, ForInit, LocalTree, Statement};
+pub use types::{BaseType, TypeArgument, TypeArguments, TypePart, TypeTree};
+pub use words::{Ident, Spelled};
+
+#[cfg(test)]
+mod tests;

@@ -1,0 +1,72 @@
+//! Methods and constructors (JLS 8.4, 8.8) and fields (JLS 8.3).
+use crate::expressions::Initial;
+use crate::statements::Statement;
+use crate::types::TypeTree;
+use crate::words::{Ident, Spelled};
+use racer_base::{Items, Text};
+
+/// `@` and names joined by `.`, with the tokens of its parentheses, these included (JLS 9.7). It has no
+/// such tokens where it has no parentheses.
+#[derive(Drop)]
+pub struct Annotation {
+    pub names: Items<Text>,
+    pub arguments: Items<Spelled>,
+}
+
+/// A modifier's word, or an annotation among the modifiers (JLS 8.3.1, 8.4.3).
+#[derive(Drop)]
+pub enum Modifier {
+    Word(Text),
+    Note(Annotation),
+}
+
+/// What stands before the name of a method: nothing for a constructor, `void`, or a type (JLS 8.4.5).
+#[derive(Drop)]
+pub enum ResultTree {
+    Constructor,
+    Void,
+    Of(TypeTree),
+}
+
+/// A formal parameter (JLS 8.4.1).
+#[derive(Drop)]
+pub struct ParameterTree {
+    pub is_final: bool,
+    pub annotations: Items<Annotation>,
+    pub kind: TypeTree,
+    pub name: Ident,
+}
+
+/// A method or a constructor with its body.
+#[derive(Drop)]
+pub struct MethodTree {
+    pub modifiers: Items<Modifier>,
+    pub result: ResultTree,
+    pub name: Ident,
+    pub parameters: Items<ParameterTree>,
+    pub throws: Items<TypeTree>,
+    pub body: Items<Statement>,
+}
+
+/// A declaration of fields.
+#[derive(Drop)]
+pub struct FieldTree {
+    pub modifiers: Items<Modifier>,
+    pub kind: TypeTree,
+    pub declarators: Items<FieldDeclarator>,
+}
+
+/// A field, with what it begins with.
+#[derive(Drop)]
+pub struct FieldDeclarator {
+    pub name: Ident,
+    pub initial: FieldInitial,
+}
+
+/// What a field begins with: nothing, what has a tree, or tokens that have none.
+#[derive(Drop)]
+pub enum FieldInitial {
+    Absent,
+    Formed(Initial),
+    Unread,
+}

@@ -1,0 +1,163 @@
+//! The tokens of methods and constructors (JLS 8.4, 8.8).
+ghost use Rattle.std.specs.Prelude.{◌≡◌, List, ◌∷◌, ◌++◌, map, OnOk, codes};
+ghost use Rattle.java_tree.specs.declared.words.Spelled.{Spelled};
+ghost use Rattle.java_tree.specs.Spelling.{ty_onto, names_onto, note_onto, notes_onto, modifier_onto, modifiers_onto, result_onto, parameter_onto, throws_onto, commas_onto, method_onto};
+ghost use Rattle.java_tree.specs.View.{ty_of, note_of, modifier_of, result_of, parameter_of, method_of};
+
+use super::put::{put_final, put_keyword, put_name, put_sign};
+use super::statements::spell_block;
+use super::types::spell_type;
+use crate::methods::{Annotation, MethodTree, Modifier, ParameterTree, ResultTree};
+use crate::types::TypeTree;
+use crate::words::Spelled;
+use racer_base::{Items, Memory, Text};
+use std::alloc::Global;
+
+/// Names with points between them.
+fn put_texts(alloc: Global, out: &mut Items<Spelled>, names: &[Text]) -> Result<(), Memory>
+    ensures { OnOk result ((rest : List Spelled) → out.old ++ names_onto names.now rest ≡ out.new ++ rest) }
+{
+    let [first, others @ ..] = names else {
+        return Ok(());
+    };
+    put_name(alloc, out, first.as_str())?;
+    for other in others {
+        put_sign(alloc, out, ".")?;
+        put_name(alloc, out, other.as_str())?;
+    }
+    Ok(())
+}
+
+/// Tokens as they stand.
+fn put_tokens(alloc: Global, out: &mut Items<Spelled>, tokens: &[Spelled]) -> Result<(), Memory>
+    ensures { OnOk result ((rest : List Spelled) → out.old ++ (tokens.now ++ rest) ≡ out.new ++ rest) }
+{
+    for token in tokens {
+        let text = Text::from_str(alloc, token.text.as_str())?;
+        out.push(Spelled {
+            kind: token.kind,
+            text,
+            glued: token.glued,
+        })?;
+    }
+    Ok(())
+}
+
+fn spell_note(alloc: Global, out: &mut Items<Spelled>, note: &Annotation) -> Result<(), Memory>
+    ensures { OnOk result ((rest : List Spelled) → out.old ++ note_onto (note_of note.now) rest ≡ out.new ++ rest) }
+{
+    put_sign(alloc, out, "@")?;
+    put_texts(alloc, out, note.names.as_slice())?;
+    put_tokens(alloc, out, note.arguments.as_slice())
+}
+
+fn spell_notes(alloc: Global, out: &mut Items<Spelled>, notes: &[Annotation]) -> Result<(), Memory>
+    ensures { OnOk result ((rest : List Spelled) → out.old ++ notes_onto (map note_of notes.now) rest ≡ out.new ++ rest) }
+{
+    for note in notes {
+        spell_note(alloc, out, note)?;
+    }
+    Ok(())
+}
+
+fn spell_modifier(
+    alloc: Global,
+    out: &mut Items<Spelled>,
+    modifier: &Modifier,
+) -> Result<(), Memory>
+    ensures { OnOk result ((rest : List Spelled) → out.old ++ modifier_onto (modifier_of modifier.now) rest ≡ out.new ++ rest) }
+{
+    match modifier {
+        Modifier::Word(text) => put_keyword(alloc, out, text.as_str()),
+        Modifier::Note(note) => spell_note(alloc, out, note),
+    }
+}
+
+fn spell_modifiers(
+    alloc: Global,
+    out: &mut Items<Spelled>,
+    modifiers: &[Modifier],
+) -> Result<(), Memory>
+    ensures { OnOk result ((rest : List Spelled) → out.old ++ modifiers_onto (map modifier_of modifiers.now) rest ≡ out.new ++ rest) }
+{
+    for modifier in modifiers {
+        spell_modifier(alloc, out, modifier)?;
+    }
+    Ok(())
+}
+
+/// What stands before the name.
+fn spell_result(alloc: Global, out: &mut Items<Spelled>, outcome: &ResultTree) -> Result<(), Memory>
+    ensures { OnOk result ((rest : List Spelled) → out.old ++ result_onto (result_of outcome.now) rest ≡ out.new ++ rest) }
+{
+    match outcome {
+        ResultTree::Constructor => Ok(()),
+        ResultTree::Void => put_keyword(alloc, out, "void"),
+        ResultTree::Of(kind) => spell_type(alloc, out, kind),
+    }
+}
+
+fn spell_parameter(
+    alloc: Global,
+    out: &mut Items<Spelled>,
+    parameter: &ParameterTree,
+) -> Result<(), Memory>
+    ensures { OnOk result ((rest : List Spelled) → out.old ++ parameter_onto (parameter_of parameter.now) rest ≡ out.new ++ rest) }
+{
+    put_final(alloc, out, parameter.is_final)?;
+    spell_notes(alloc, out, parameter.annotations.as_slice())?;
+    spell_type(alloc, out, &parameter.kind)?;
+    put_name(alloc, out, parameter.name.text.as_str())
+}
+
+/// Parameters with commas between them.
+fn spell_parameters(
+    alloc: Global,
+    out: &mut Items<Spelled>,
+    parameters: &[ParameterTree],
+) -> Result<(), Memory>
+    ensures { OnOk result ((rest : List Spelled) → out.old ++ commas_onto parameter_onto (map parameter_of parameters.now) rest ≡ out.new ++ rest) }
+{
+    let [first, others @ ..] = parameters else {
+        return Ok(());
+    };
+    spell_parameter(alloc, out, first)?;
+    for other in others {
+        put_sign(alloc, out, ",")?;
+        spell_parameter(alloc, out, other)?;
+    }
+    Ok(())
+}
+
+/// The exceptions, behind `throws` where there is one.
+fn spell_throws(alloc: Global, out: &mut Items<Spelled>, throws: &[TypeTree]) -> Result<(), Memory>
+    ensures { OnOk result ((rest : List Spelled) → out.old ++ throws_onto (map ty_of throws.now) rest ≡ out.new ++ rest) }
+{
+    let [first, others @ ..] = throws else {
+        return Ok(());
+    };
+    put_keyword(alloc, out, "throws")?;
+    spell_type(alloc, out, first)?;
+    for other in others {
+        put_sign(alloc, out, ",")?;
+        spell_type(alloc, out, other)?;
+    }
+    Ok(())
+}
+
+pub fn spell_method(
+    alloc: Global,
+    out: &mut Items<Spelled>,
+    tree: &MethodTree,
+) -> Result<(), Memory>
+    ensures { OnOk result ((rest : List Spelled) → out.old ++ method_onto (method_of tree.now) rest ≡ out.new ++ rest) }
+{
+    spell_modifiers(alloc, out, tree.modifiers.as_slice())?;
+    spell_result(alloc, out, &tree.result)?;
+    put_name(alloc, out, tree.name.text.as_str())?;
+    put_sign(alloc, out, "(")?;
+    spell_parameters(alloc, out, tree.parameters.as_slice())?;
+    put_sign(alloc, out, ")")?;
+    spell_throws(alloc, out, tree.throws.as_slice())?;
+    spell_block(alloc, out, tree.body.as_slice())
+}
