@@ -1,0 +1,10 @@
+//! Methods of Java, read from their tokens.
+#![tactic(auto)]
+
+pub mod laws;
+mod spellings;
+
+pub use spellings::spell_the_same;
+
+#[cfg(test)]
+mod tests;
