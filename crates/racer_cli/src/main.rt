@@ -44,7 +44,10 @@ fn main(rt: HostRuntime) -> io::Result<ExitCode> {
         // A word is no UTF-8: as no words at all, it asks for nothing.
         Err(_) => Vec::new(rt.alloc()),
     };
-    let mut folder = DirFolder::new(rt.clone()?);
+    let Ok(shared) = rt.clone() else {
+        return Ok(ExitCode::from(Status::Memory.number()));
+    };
+    let mut folder = DirFolder::new(shared);
     let mut sink = StdSink::new(&rt);
     let status = run(
         &rt,
