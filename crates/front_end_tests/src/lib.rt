@@ -1,0 +1,6 @@
+//! The tests of the front end: outside, tokens, trees, reading. They stand here, over public calls alone, since a crate
+//! with tests is proved twice. There is no code.
+#![tactic(auto)]
+
+#[cfg(test)]
+mod tokens;

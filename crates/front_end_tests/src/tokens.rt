@@ -1,0 +1,6 @@
+//! Tokens of texts.
+
+#[test]
+fn nothing(rt: HostRuntime) {
+    assert_eq!(rt; 1, 1);
+}
