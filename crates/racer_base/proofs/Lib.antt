@@ -1,2 +1,3 @@
 mod FailingLemmas
+mod FirstFile
 mod FileLemmas

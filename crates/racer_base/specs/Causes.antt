@@ -1,4 +1,4 @@
--- What the count of a folder's faults does at each of its faults.
+-- A contract of a public call rests on this: `Folder`. What the count of a folder's faults does at each of its faults.
 use Rattle.std.specs.Prelude.{◌≡◌, ℕ}
 use Rattle.racer_base.specs.declared.outside.FolderFault.{FolderFault}
 use Rattle.racer_base.specs.declared.outside.FolderFault.TheVariants.{Failed, Memory}

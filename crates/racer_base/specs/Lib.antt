@@ -1,4 +1,5 @@
 pub mod Name
+pub mod Limits
 pub mod Outside
 pub mod Causes
 pub mod FileList

@@ -1,4 +1,4 @@
--- What is seen of a folder in memory.
+-- A contract of a public call rests on this: `MemoryFolder`. What is seen of a folder in memory.
 use Rattle.std.specs.Prelude.{◌≡◌, ℕ, Bool, true, not, ◌||◌, if◌then◌else◌, List, Option, Some, string_bytes}
 use Rattle.std.specs.FinMap.{contains_key}
 use Rattle.racer_base.specs.Outside.{Told, same_name}

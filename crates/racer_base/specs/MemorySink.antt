@@ -1,4 +1,4 @@
--- What is seen of a sink in memory.
+-- A contract of a public call rests on this: `MemorySink`. What is seen of a sink in memory.
 use Rattle.std.specs.Prelude.{◌≡◌, ℕ, ◌-◌, min, Bool, ◌&&◌, ◌||◌, if◌then◌else◌, List, length, nat_eq, nat_lt}
 use Rattle.racer_base.specs.Failing.{is_failing, is_quiet, risen}
 use Rattle.racer_base.specs.declared.memory_sink.MemorySink.{MemorySink}

@@ -1,5 +1,5 @@
--- The form of a name: JLS 3.8, 3.9, 3.10.3 and 3.10.7, with ASCII letters alone.
-use Rattle.std.specs.Prelude.{ℕ, Bool, false, not, ◌&&◌, ◌||◌, List, [], ◌∷◌, codes, nat_eq, nat_le}
+-- A contract of a public call rests on this: `lex` of java_lexer. The form of a word: JLS 3.8, 3.9, 3.10.3 and 3.10.7, with ASCII letters alone.
+use Rattle.std.specs.Prelude.{ℕ, Bool, false, ◌&&◌, ◌||◌, List, [], ◌∷◌, codes, nat_eq, nat_le}
 use Rattle.std.specs.List.{list_all, list_any}
 use Rattle.std.specs.Cmp.Lexicographic.{pointwise}
 
@@ -45,7 +45,3 @@ is_listed words text = list_any (pointwise nat_eq text) words
 abbrev pub is_word : List ℕ → Bool
 is_word [] = false
 is_word (b ∷ bs) = is_letter b && list_all is_word_byte bs
-
--- a word that is no keyword and no fixed word
-abbrev pub is_name : List ℕ → Bool
-is_name text = is_word text && not (is_listed keywords text) && not (is_listed fixed_words text)

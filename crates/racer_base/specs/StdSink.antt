@@ -1,4 +1,4 @@
--- What is seen of standard output as a sink.
+-- A contract of a public call rests on this: `StdSink`. What is seen of standard output as a sink.
 use Rattle.std.specs.Prelude.{ℕ}
 use Rattle.racer_base.specs.declared.std_sink.StdSink.{StdSink}
 

@@ -25,7 +25,8 @@ impl Failing {
         ensures next { self.new.next ≡ risen self.old.next }
         // Where nothing fails any more, this call does not, and it stays so.
         ensures passes { is_quiet self.old.calls.items self.old.next ≡ true → result ≡ false }
-        ensures quiet { is_quiet self.old.calls.items self.old.next ≡ true → is_quiet self.new.calls.items self.new.next ≡ true }
+        ensures quiet { is_quiet self.old.calls.items self.old.next ≡ true
+            → is_quiet self.new.calls.items self.new.next ≡ true }
     {
         let call = self.next;
         self.next = call.saturating_add(1);

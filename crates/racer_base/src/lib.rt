@@ -6,6 +6,7 @@ mod dir_folder;
 mod failing;
 mod ids;
 mod items;
+mod laws;
 mod limits;
 mod memory_folder;
 mod memory_sink;
@@ -13,17 +14,16 @@ mod naming;
 mod out_of_memory;
 mod outside;
 mod std_sink;
-#[cfg(test)]
-mod tests;
 mod text;
 
 pub use dir_folder::DirFolder;
 pub use ids::{ClassId, FieldId, FileId, Kind, MethodId, Moment, Place, SiteId, Touch, VarId};
 pub use items::Items;
+pub use laws::limit_numbers;
 pub use limits::{
-    MAX_CALL_EDGES, MAX_CLASSES, MAX_FILE_BYTES, MAX_FILES, MAX_FOLDER_BYTES, MAX_LOCALS,
-    MAX_METHODS, MAX_NESTING, MAX_PARAMETERS, MAX_PATH_FIELDS, MAX_SUMMARY_KEYS, MAX_WAY_STEPS,
-    MAX_WORKERS,
+    MAX_BRACKET_NESTING, MAX_CALL_EDGES, MAX_CLASSES, MAX_FILE_BYTES, MAX_FILES, MAX_FOLDER_BYTES,
+    MAX_LOCALS, MAX_METHODS, MAX_NESTING, MAX_PARAMETERS, MAX_PATH_FIELDS, MAX_SUMMARY_KEYS,
+    MAX_WAY_STEPS, MAX_WORKERS, MIN_WORKERS,
 };
 pub use memory_folder::MemoryFolder;
 pub use memory_sink::MemorySink;

@@ -1,9 +1,9 @@
-//! The limits of the analysis.
+//! The limits of the analysis. Code and definitions cite these names, and the law `limit_numbers` says each number.
 
 /// Fields in a path.
 pub const MAX_PATH_FIELDS: usize = 16;
 
-/// Different keys of access records in a summary, and paths in its set of wobbly ones.
+/// Different keys of access records in a summary, and as many paths in its set of wobbly ones.
 pub const MAX_SUMMARY_KEYS: usize = 1_024;
 
 /// Steps of a way.
@@ -27,8 +27,11 @@ pub const MAX_METHODS: usize = 4_096;
 /// Different call edges of a folder.
 pub const MAX_CALL_EDGES: usize = 65_536;
 
-/// Nesting of a method's tree, and of the brackets of a file.
+/// Nesting of a method's tree.
 pub const MAX_NESTING: u32 = 200;
+
+/// Nesting of the brackets of a file.
+pub const MAX_BRACKET_NESTING: u32 = 200;
 
 /// Parameters of a method.
 pub const MAX_PARAMETERS: usize = 64;
@@ -36,5 +39,8 @@ pub const MAX_PARAMETERS: usize = 64;
 /// Locals of a method that are no parameters.
 pub const MAX_LOCALS: usize = 512;
 
-/// Workers.
+/// Workers, at least.
+pub const MIN_WORKERS: u32 = 1;
+
+/// Workers, at most.
 pub const MAX_WORKERS: u32 = 64;

@@ -85,7 +85,8 @@ impl MemoryFolder {
 
     /// The bytes of a file.
     fn find(&self, name: &str) -> Option<&Vec<u8>>
-        ensures { option_map (λ bytes. bytes.now.items) result ≡ finite.get (files_of self.now.files.items) name.now }
+        ensures { option_map (λ bytes. bytes.now.items) result
+            ≡ finite.get (files_of self.now.files.items) name.now }
     {
         for file in &self.files {
             if name == file.0.as_str() {

@@ -70,27 +70,38 @@ pub trait Folder {
 
     /// Makes this folder the one that is read.
     fn enter(&mut self, alloc: Global, name: &str) -> Result<(), FolderFault>
-        ensures count { MatchResult result (λ _. faults self.new ≡ faults self.old) (λ fault. IsCause fault (faults self.old) (faults self.new)) }
+        ensures count { MatchResult result
+            (λ _. faults self.new ≡ faults self.old)
+            (λ fault. IsCause fault (faults self.old) (faults self.new)) }
         ensures told { told self.new ≡ told self.old }
         ensures entered { OnOk result (IfSome (told self.old) (λ t. name.now ≡ t.name)) }
-        ensures steady { steady self.old → IfSome (told self.old) (λ t. name.now ≡ t.name → IfErr result (λ fault. fault ≡ FolderFault.Memory)) }
+        ensures steady { steady self.old → IfSome (told self.old)
+            (λ t. name.now ≡ t.name → IfErr result (λ fault. fault ≡ FolderFault.Memory)) }
         ensures stays { steady self.old → steady self.new };
 
     /// The names of its files, in some order.
     fn names(&mut self, alloc: Global) -> Result<Vec<String>, FolderFault>
-        ensures count { MatchResult result (λ _. faults self.new ≡ faults self.old) (λ fault. IsCause fault (faults self.old) (faults self.new)) }
+        ensures count { MatchResult result
+            (λ _. faults self.new ≡ faults self.old)
+            (λ fault. IsCause fault (faults self.old) (faults self.new)) }
         ensures told { told self.new ≡ told self.old }
-        ensures names { IfOk result (λ names. IfSome (told self.old) (λ t. AreNames t.files (map string_bytes names.items))) }
+        ensures names { IfOk result (λ names. IfSome (told self.old)
+            (λ t. AreNames t.files (map string_bytes names.items))) }
         ensures steady { steady self.old → IfErr result (λ fault. fault ≡ FolderFault.Memory) }
         ensures stays { steady self.old → steady self.new };
 
     /// The first bytes of a file, at most `most` of them.
     fn read(&mut self, alloc: Global, name: &str, most: usize) -> Result<Vec<u8>, FolderFault>
-        ensures count { MatchResult result (λ _. faults self.new ≡ faults self.old) (λ fault. IsCause fault (faults self.old) (faults self.new)) }
+        ensures count { MatchResult result
+            (λ _. faults self.new ≡ faults self.old)
+            (λ fault. IsCause fault (faults self.old) (faults self.new)) }
         ensures told { told self.new ≡ told self.old }
         ensures most { IfOk result (λ bytes. vec_len bytes ≤ most) }
-        ensures bytes { IfOk result (λ bytes. IfSome (told self.old) (λ t. option_map (take most) (finite.get t.files name.now) ≡ Some bytes.items)) }
-        ensures steady { steady self.old → IfSome (told self.old) (λ t. IfSome (finite.get t.files name.now) (λ _. IfErr result (λ fault. fault ≡ FolderFault.Memory))) }
+        ensures bytes { IfOk result (λ bytes. IfSome (told self.old)
+            (λ t. option_map (take most) (finite.get t.files name.now) ≡ Some bytes.items)) }
+        ensures steady { steady self.old → IfSome (told self.old)
+            (λ t. IfSome (finite.get t.files name.now)
+            (λ _. IfErr result (λ fault. fault ≡ FolderFault.Memory))) }
         ensures stays { steady self.old → steady self.new };
 }
 
@@ -109,7 +120,9 @@ pub trait Sink {
     ghost room: { Self → ℕ };
 
     fn write(&mut self, piece: &[u8]) -> Result<usize, Failed>
-        ensures count { MatchResult result (λ _. faults self.new ≡ faults self.old) (λ _. IsRise (faults self.old) (faults self.new)) }
+        ensures count { MatchResult result
+            (λ _. faults self.new ≡ faults self.old)
+            (λ _. IsRise (faults self.old) (faults self.new)) }
         ensures most { IfOk result (λ n. n ≤ length piece.now) }
         ensures some { IfOk result (λ n. 0 < length piece.now → 0 < n) }
         ensures taken { IfOk result (λ n. taken self.new ≡ taken_and (taken self.old) (take n piece.now)) }

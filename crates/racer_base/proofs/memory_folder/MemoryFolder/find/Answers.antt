@@ -1,6 +1,6 @@
 use Rattle.std.proofs.Common.{sym, ◌∙◌}
 use Rattle.std.proofs.lemmas.List.{at_drop_all}
-use Rattle.racer_base.specs.FileList.{bytes_of}
+use Rattle.racer_base.proofs.FirstFile.{bytes_of}
 use Rattle.racer_base.proofs.FileLemmas.{bytes_of-step, get-files_of}
 use Rattle.racer_base.proofs.memory_folder.MemoryFolder.find.Goals as goal
 

@@ -1,5 +1,5 @@
 use Rattle.std.proofs.Common.{◌≡◌, drop}
-use Rattle.racer_base.specs.FileList.{bytes_of}
+use Rattle.racer_base.proofs.FirstFile.{bytes_of}
 use Rattle.racer_base.proofs.memory_folder.MemoryFolder.find.Given as goal
 
 abbrev pub invariant-loop-file : goal.invariant-loop-file
