@@ -13,6 +13,6 @@ mod SourceLemmas
 pub mod ReportOutcomes
 mod OneStatus
 pub mod AdditionLemmas
-pub mod ShortPrograms
+pub mod FirstPrograms
 pub mod Kept
 pub mod Summed

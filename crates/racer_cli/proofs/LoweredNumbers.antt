@@ -7,7 +7,7 @@ use Rattle.std.specs.List.{list_all}
 use Rattle.std.specs.Cmp.Lexicographic.{pointwise}
 use Rattle.racer_base.specs.declared.ids.Place.{Place}
 use Rattle.racer_base.specs.Name.{is_listed}
-use Rattle.java_parser.specs.Tree as short
+use Rattle.java_parser.specs.Tree as grammar
 use Rattle.java_parser.specs.Tree.{Set, Sync, Statements, no_statement, statement_then, Class}
 use Rattle.java_parser.specs.Conditions.{sets_only, all_set_only, is_allowed_method, is_allowed_class, is_allowed}
 use Rattle.core_code.specs.Core.{Core}
@@ -34,7 +34,7 @@ module _ (core : Core) (some_file : 0 < length core.files) where
   class_in_range c h = lt-ltb c (length core.classes) h
 
   mutual
-    lowered_in_range : (around : Around) (s : short.Statement) (n : ℕ) → is_place core around.place ≡ true → around.first + length around.fields ≤ length core.fields → sets_only around.fields s ≡ true → is_statement_in_file 0 s ≡ true → is_code core 1 (lowered around s n) ≡ true
+    lowered_in_range : (around : Around) (s : grammar.Statement) (n : ℕ) → is_place core around.place ≡ true → around.first + length around.fields ≤ length core.fields → sets_only around.fields s ≡ true → is_statement_in_file 0 s ≡ true → is_code core 1 (lowered around s n) ≡ true
     lowered_in_range around (Set field place) n here enough listed inside =
         let index : index_of around.fields field < length around.fields = index_of-listed around.fields field listed in
         let put : nat_lt (around.first + index_of around.fields field) (length core.fields) ≡ true = lt-ltb _ _ (omega arith) in
@@ -52,7 +52,7 @@ module _ (core : Core) (some_file : 0 < length core.files) where
         (lowered_in_range around first n here enough (first_part _ _ listed) (first_part _ _ inside))
         (all_lowered_in_range around others (n + size_of first) here enough (last_part (sets_only around.fields first) _ listed) (last_part (is_statement_in_file 0 first) _ inside))
 
-  method_in_range : (c f : ℕ) (class : Class) (m : short.Method) → c < length core.classes → f + length class.fields ≤ length core.fields → is_allowed_method class.fields m ≡ true → is_method_in_file 0 m ≡ true → is_method_in_range core (method_lowered c f class m) ≡ true
+  method_in_range : (c f : ℕ) (class : Class) (m : grammar.Method) → c < length core.classes → f + length class.fields ≤ length core.fields → is_allowed_method class.fields m ≡ true → is_method_in_file 0 m ≡ true → is_method_in_range core (method_lowered c f class m) ≡ true
   method_in_range c f class m numbered enough allowed inside =
       let known : nat_lt c (length core.classes) ≡ true = class_in_range c numbered in
       let here : is_place core m.place ≡ true = place_in_range m.place (first_part _ _ inside) in
@@ -66,7 +66,7 @@ module _ (core : Core) (some_file : 0 < length core.files) where
       let here : is_place core class.place ≡ true = place_in_range class.place inside in
       rw (known, here) refl
 
-  declared_in_range : (c f : ℕ) (class : Class) (methods : List short.Method) → c < length core.classes → f + length class.fields ≤ length core.fields → list_all (is_allowed_method class.fields) methods ≡ true → list_all (is_method_in_file 0) methods ≡ true → list_all (is_method_in_range core) (map (method_lowered c f class) methods) ≡ true
+  declared_in_range : (c f : ℕ) (class : Class) (methods : List grammar.Method) → c < length core.classes → f + length class.fields ≤ length core.fields → list_all (is_allowed_method class.fields) methods ≡ true → list_all (is_method_in_file 0) methods ≡ true → list_all (is_method_in_range core) (map (method_lowered c f class) methods) ≡ true
   declared_in_range c f class [] numbered enough allowed inside = refl
   declared_in_range c f class (m ∷ methods) numbered enough allowed inside =
       both _ (list_all (is_method_in_range core) (map (method_lowered c f class) methods))
@@ -77,7 +77,7 @@ module _ (core : Core) (some_file : 0 < length core.files) where
   methods_in_range c f [] numbered enough allowed inside = refl
   methods_in_range c f (class ∷ others) numbered enough allowed inside =
       let names : List (List ℕ) = class.fields in
-      let own : List short.Method = class.methods in
+      let own : List grammar.Method = class.methods in
       let sum = length-append (map (field_lowered c) names) (fields_from (suc c) others) in
       let same = length-map names (field_lowered c) in
       let one : is_allowed_class class ≡ true = first_part _ _ allowed in

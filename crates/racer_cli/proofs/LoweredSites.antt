@@ -4,7 +4,7 @@ use Rattle.std.proofs.lemmas.Bool.{eq-eqb}
 use Rattle.std.proofs.lemmas.List.Folds.{list_all-append}
 use Rattle.std.specs.List.{list_all}
 use Rattle.racer_base.specs.declared.ids.SiteId.{SiteId}
-use Rattle.java_parser.specs.Tree as short
+use Rattle.java_parser.specs.Tree as grammar
 use Rattle.java_parser.specs.Tree.{Set, Sync, Statements, no_statement, statement_then, Class}
 use Rattle.core_code.specs.Facts.{sites_of, counts_from, is_in_order, are_sites_in_order}
 use Rattle.racer_cli.specs.Lowering.{Around, lowered, all_lowered, body_lowered, size_of, size_of_all, method_lowered, making_method, methods_from, program_of}
@@ -17,7 +17,7 @@ one_more : (n m : ℕ) (rest : List SiteId) → m ≡ n → counts_from n (at m 
 one_more n m rest h = ap (λ (b : Bool). b && counts_from (suc n) rest) (eq-eqb m n h)
 
 mutual
-  sites-lowered : (around : Around) (s : short.Statement) (n : ℕ) (rest : List SiteId) → counts_from n (sites_of (lowered around s n) ++ rest) ≡ counts_from (n + size_of s) rest
+  sites-lowered : (around : Around) (s : grammar.Statement) (n : ℕ) (rest : List SiteId) → counts_from n (sites_of (lowered around s n) ++ rest) ≡ counts_from (n + size_of s) rest
   sites-lowered around (Set field place) n rest =
       one_more n n (at (n + 1) ∷ (at (n + 2) ∷ (at (n + 3) ∷ rest))) refl
       ∙ one_more (suc n) (n + 1) (at (n + 2) ∷ (at (n + 3) ∷ rest)) (omega arith)
@@ -48,7 +48,7 @@ sites-body_lowered around body =
     ∙ one_more (0 + size) size (at (size + 1) ∷ []) (omega arith)
     ∙ one_more (suc (0 + size)) (size + 1) [] (omega arith)
 
-declared_in_order : (c f : ℕ) (class : Class) (methods : List short.Method) → list_all is_in_order (map (method_lowered c f class) methods) ≡ true
+declared_in_order : (c f : ℕ) (class : Class) (methods : List grammar.Method) → list_all is_in_order (map (method_lowered c f class) methods) ≡ true
 declared_in_order c f class [] = refl
 declared_in_order c f class (m ∷ methods) =
     both _ (list_all is_in_order (map (method_lowered c f class) methods)) (sites-body_lowered (record { place = m.place; fields = class.fields; first = f }) m.body) (declared_in_order c f class methods)

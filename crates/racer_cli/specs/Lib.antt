@@ -2,9 +2,8 @@ pub mod Number
 pub mod Words
 pub mod Lowering
 pub mod Report
-pub mod Short
+pub mod FirstCode
 pub mod Additions
-pub mod Roots
 pub mod Walks
 pub mod InFile
 pub mod LoweringSteps

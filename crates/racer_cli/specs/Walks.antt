@@ -16,7 +16,7 @@ use Rattle.racer_cli.specs.declared.analysis.Walk.{Walk}
 use Rattle.racer_cli.specs.declared.analysis.Flowed.{Flowed}
 use Rattle.racer_cli.specs.declared.analysis.Flowed.TheVariants.{GoesOn, Returned}
 
--- short code calls no method, so that nothing need be known of any
+-- code of the first grammar calls no method, so that nothing need be known of any
 abbrev pub unknown : Table
 unknown m = None
 

@@ -1,29 +1,29 @@
--- The lowering of the short grammar gives short code.
+-- The lowering of the first grammar gives code of the first grammar.
 use Rattle.std.proofs.Common.{◌≡◌, ℕ, suc, ◌+◌, Bool, true, ◌&&◌, List, [], ◌∷◌, ◌++◌, length, map, refl, ap, ◌∙◌}
 use Rattle.std.specs.List.{list_all}
-use Rattle.java_parser.specs.Tree as short
+use Rattle.java_parser.specs.Tree as grammar
 use Rattle.java_parser.specs.Tree.{Set, Sync, no_statement, statement_then, Class}
 use Rattle.core_code.specs.Core.{Core, Method}
 use Rattle.racer_cli.specs.Lowering.{Around, lowered, all_lowered, body_lowered, size_of, making_method, method_lowered, methods_from, program_of}
-use Rattle.racer_cli.specs.Short.{is_short, is_short_program}
+use Rattle.racer_cli.specs.FirstCode.{is_first_code, is_first_program}
 
 mutual
-  lowered-short : (around : Around) (s : short.Statement) (n : ℕ) → is_short (lowered around s n) ≡ true
+  lowered-short : (around : Around) (s : grammar.Statement) (n : ℕ) → is_first_code (lowered around s n) ≡ true
   lowered-short around (Set field place) n = refl
   lowered-short around (Sync place body) n = ap (λ b. b && true) (all_lowered-short around body (n + 1))
 
-  all_lowered-short : (around : Around) (ss : short.Statements) (n : ℕ) → is_short (all_lowered around ss n) ≡ true
+  all_lowered-short : (around : Around) (ss : grammar.Statements) (n : ℕ) → is_first_code (all_lowered around ss n) ≡ true
   all_lowered-short around no_statement n = refl
   all_lowered-short around (statement_then first others) n =
-      ap (λ b. b && is_short (all_lowered around others (n + size_of first))) (lowered-short around first n) ∙ all_lowered-short around others (n + size_of first)
+      ap (λ b. b && is_first_code (all_lowered around others (n + size_of first))) (lowered-short around first n) ∙ all_lowered-short around others (n + size_of first)
 
-body-short : (around : Around) (body : short.Statements) → is_short (body_lowered around body) ≡ true
+body-short : (around : Around) (body : grammar.Statements) → is_first_code (body_lowered around body) ≡ true
 body-short around body = ap (λ b. b && true) (all_lowered-short around body 0)
 
 abbrev is_short_method : Method → Bool
-is_short_method m = is_short m.code
+is_short_method m = is_first_code m.code
 
-methods-short : (c f : ℕ) (class : Class) (methods : List short.Method) (rest : List Method) → list_all is_short_method rest ≡ true → list_all is_short_method (map (method_lowered c f class) methods ++ rest) ≡ true
+methods-short : (c f : ℕ) (class : Class) (methods : List grammar.Method) (rest : List Method) → list_all is_short_method rest ≡ true → list_all is_short_method (map (method_lowered c f class) methods ++ rest) ≡ true
 methods-short c f class [] rest h = h
 methods-short c f class (m ∷ ms) rest h =
     ap (λ b. b && list_all is_short_method (map (method_lowered c f class) ms ++ rest)) (body-short (record { place = m.place; fields = class.fields; first = f }) m.body)
@@ -33,5 +33,5 @@ methods_from-short : (c f : ℕ) (classes : List Class) → list_all is_short_me
 methods_from-short c f [] = refl
 methods_from-short c f (class ∷ others) = methods-short c f class class.methods (methods_from (suc c) (f + length class.fields) others) (methods_from-short (suc c) (f + length class.fields) others)
 
-pub program_of-short : (file : List ℕ) (classes : List Class) → is_short_program (program_of file classes) ≡ true
-program_of-short file classes = methods_from-short 0 0 classes
+pub program_of-first_code : (file : List ℕ) (classes : List Class) → is_first_program (program_of file classes) ≡ true
+program_of-first_code file classes = methods_from-short 0 0 classes
