@@ -2,11 +2,12 @@
 use Rattle.std.proofs.Common.{◌≡◌, ℕ, zero, suc, ◌+◌, Bool, true, false, cond, ◌&&◌, List, [], ◌∷◌, ◌++◌, length, map, nat_eq}
 use Rattle.std.proofs.Common.{Some, slice_get, refl, ap, sym, ◌∙◌, add-zero, zero-add, arith}
 use Rattle.std.proofs.Math.Bool.{and_assoc}
+use Rattle.std.proofs.lemmas.List.{map-append}
 use Rattle.std.specs.List.{find}
 use borrow.Author.Tests.{eqb-true}
 use Rattle.std.proofs.lemmas.Bool.{ne_eqb}
 use Rattle.racer_base.specs.declared.ids.SiteId.{SiteId}
-use Rattle.core_code.specs.Tree.{Tree, Operation, steps_of, op_at}
+use Rattle.core_code.specs.Tree.{Tree, Then, Operation, steps_of, op_at}
 use Rattle.core_code.specs.Facts.{sites_of, counts_from}
 
 pub counts_from-append : (n : ℕ) (first rest : List SiteId) →
@@ -22,6 +23,10 @@ pub sites_go_on : (n : ℕ) (first rest : List SiteId) → counts_from n first �
     counts_from (n + length first) rest ≡ true → counts_from n (first ++ rest) ≡ true
 sites_go_on n first rest a b =
     counts_from-append n first rest ∙ ap (λ x. x && counts_from (n + length first) rest) a ∙ b
+
+-- the sites of one part and then another
+pub sites_of-then : (first rest : Tree) → sites_of (Then first rest) ≡ sites_of first ++ sites_of rest
+sites_of-then first rest = map-append (λ (o : Operation). o.site) (steps_of first) (steps_of rest)
 
 left_true : (a b : Bool) → (a && b) ≡ true → a ≡ true
 left_true true b h = refl

@@ -1,4 +1,4 @@
--- The code that the short path's analysis knows: stores without choices, loops and calls.
+-- No public contract rests on this: the code of the first grammar, which is stores without choices, loops and calls.
 use Rattle.std.specs.Prelude.{Bool, true, false, ◌&&◌}
 use Rattle.std.specs.List.{list_all}
 use Rattle.core_code.specs.declared.code.Op.{Op as CoreOp}
@@ -22,6 +22,6 @@ is_first_code (Either left right) = false
 is_first_code (Again body) = false
 is_first_code (Held place body) = is_first_code body
 
--- the code of each method is short
+-- the code of each method is of the first grammar
 abbrev pub is_first_program : Core → Bool
 is_first_program core = list_all (λ (m : Method). is_first_code m.code) core.methods

@@ -3,7 +3,6 @@ pub mod Words
 pub mod Lowering
 pub mod Report
 pub mod FirstCode
-pub mod Additions
 pub mod Walks
 pub mod InFile
 pub mod LoweringSteps

@@ -10,6 +10,6 @@ invariant-go_through-loop-part l =
     let whole = in_sequence (map tree_of l.parts) in
     let rest = in_sequence (map tree_of (drop l.part-index l.parts)) in
     record {
-      short : is_first_code rest ≡ true;
+      first_code : is_first_code rest ≡ true;
       left : IsLeft (flow_here l.frame whole l.locked l.fn.walk) (flow_here l.frame rest l.locked l.walk) l.fn.walk l.walk;
     }

@@ -27,16 +27,16 @@ loop-method-preserved c =
     let program = core c.args.program.now in
     let rest = are_first_code (drop (i + 1) ms) in
     let item : MethodCore = get_or ms i m in
-    let split : (is_first_code (method_of item).code && rest) ≡ true = sym (at_drop_more are_first_code ms i m c.loop-method-test.true) ∙ at.short in
-    let short : is_first_code (method_of m).code ≡ true = ap (λ (x : MethodCore). is_first_code (method_of x).code) c.method-item.is ∙ first_part (is_first_code (method_of item).code) rest split in
+    let split : (is_first_code (method_of item).code && rest) ≡ true = sym (at_drop_more are_first_code ms i m c.loop-method-test.true) ∙ at.first_code in
+    let this : is_first_code (method_of m).code ≡ true = ap (λ (x : MethodCore). is_first_code (method_of x).code) c.method-item.is ∙ first_part (is_first_code (method_of item).code) rest split in
     let outs = c.loop-method.outcomes.items in
     let found = c.in_ok-known.known in
     record {
-      short = last_part (is_first_code (method_of item).code) rest split;
+      first_code = last_part (is_first_code (method_of item).code) rest split;
       all = at.all;
-      outcomes_of =
+      outcomes =
           ap (λ (xs : List (Option (Arc Outcome Global))). outcomes_held xs ++ outcomes_from program (i + 1) (length (drop (i + 1) ms))) c.in_ok-push.ensures.items
           ∙ ap (λ (xs : List (Option Outcome)). xs ++ outcomes_from program (i + 1) (length (drop (i + 1) ms))) (map_push (option_map arc_value) outs found)
-          ∙ sym (outcomes_turn program ms i m (outcomes_held outs) (option_map arc_value found) at.all c.loop-method-test.true c.method-item.is short c.in_ok-known.ensures)
-          ∙ at.outcomes_of;
+          ∙ sym (outcomes_turn program ms i m (outcomes_held outs) (option_map arc_value found) at.all c.loop-method-test.true c.method-item.is this c.in_ok-known.ensures)
+          ∙ at.outcomes;
     }

@@ -11,7 +11,7 @@ abbrev pub invariant-loop-method : goal.invariant-loop-method
 invariant-loop-method l =
     let left = drop l.method-index l.method-items in
     record {
-      short : list_all (λ (m : Method). is_first_code m.code) (map method_of left) ≡ true;
+      first_code : list_all (λ (m : Method). is_first_code m.code) (map method_of left) ≡ true;
       all : map method_of l.method-items ≡ methods l.program;
-      outcomes_of : outcomes_held l.outcomes.items ++ outcomes_from (core l.program) l.method-index (length left) ≡ outcomes_of (core l.program);
+      outcomes : outcomes_held l.outcomes.items ++ outcomes_from (core l.program) l.method-index (length left) ≡ outcomes_of (core l.program);
     }
