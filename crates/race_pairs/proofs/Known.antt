@@ -10,40 +10,40 @@ use Rattle.racer_base.specs.declared.ids.ClassId.{ClassId}
 use Rattle.racer_base.specs.declared.ids.MethodId.{MethodId}
 use Rattle.core_code.specs.Core.{Core, Method}
 use Rattle.access_domain.specs.declared.summary.Outcome.{Outcome}
-use Rattle.access_domain.specs.Outcomes.{AreSums}
-use Rattle.access_domain.specs.Summaries.{sum, sums_from}
+use Rattle.access_domain.specs.Outcomes.{AreOutcomes}
+use Rattle.access_domain.specs.Summaries.{outcome_of, outcomes_from}
 use Rattle.race_pairs.specs.Warnings.{records_held, records_of, placed_in, is_entry_of, entry_records}
 
 abbrev number : ℕ → MethodId
 number i = record { 0 = i }
 
-length-sums_from : (core : Core) (i n : ℕ) → length (sums_from core i n) ≡ n
-length-sums_from core i zero = refl
-length-sums_from core i (suc n) = ap suc (length-sums_from core (suc i) n)
+length-outcomes_from : (core : Core) (i n : ℕ) → length (outcomes_from core i n) ≡ n
+length-outcomes_from core i zero = refl
+length-outcomes_from core i (suc n) = ap suc (length-outcomes_from core (suc i) n)
 
-get_or-sums_from : (core : Core) (i n k : ℕ) (d : Option Outcome) → k < n → get_or (sums_from core i n) k d ≡ sum core (number (i + k))
-get_or-sums_from core i zero k d within = absurd (omega arith)
-get_or-sums_from core i (suc n) zero d within = ap (λ j. sum core (number j)) (sym (add-zero i))
-get_or-sums_from core i (suc n) (suc k) d within =
+get_or-outcomes_from : (core : Core) (i n k : ℕ) (d : Option Outcome) → k < n → get_or (outcomes_from core i n) k d ≡ outcome_of core (number (i + k))
+get_or-outcomes_from core i zero k d within = absurd (omega arith)
+get_or-outcomes_from core i (suc n) zero d within = ap (λ j. outcome_of core (number j)) (sym (add-zero i))
+get_or-outcomes_from core i (suc n) (suc k) d within =
     let place : suc i + k ≡ i + suc k = omega arith in
-    get_or-sums_from core (suc i) n k d (omega arith) ∙ ap (λ j. sum core (number j)) place
+    get_or-outcomes_from core (suc i) n k d (omega arith) ∙ ap (λ j. outcome_of core (number j)) place
 
 -- there is a place for each method
-pub one_for_each : (core : Core) (outcomes : List (Option (Arc Outcome Global))) → AreSums core outcomes → length outcomes ≡ length core.methods
+pub one_for_each : (core : Core) (outcomes : List (Option (Arc Outcome Global))) → AreOutcomes core outcomes → length outcomes ≡ length core.methods
 one_for_each core outcomes are =
-    sym (length-map outcomes (option_map arc_value)) ∙ ap length are ∙ length-sums_from core 0 (length core.methods)
+    sym (length-map outcomes (option_map arc_value)) ∙ ap length are ∙ length-outcomes_from core 0 (length core.methods)
 
 -- what is read there is the method's outcome
-pub outcome_at : (core : Core) (outcomes : List (Option (Arc Outcome Global))) (m : ℕ) (o : Option (Arc Outcome Global)) → AreSums core outcomes → m < length core.methods → o ≡ get_or outcomes m o → option_map arc_value o ≡ sum core (number m)
+pub outcome_at : (core : Core) (outcomes : List (Option (Arc Outcome Global))) (m : ℕ) (o : Option (Arc Outcome Global)) → AreOutcomes core outcomes → m < length core.methods → o ≡ get_or outcomes m o → option_map arc_value o ≡ outcome_of core (number m)
 outcome_at core outcomes m o are within is =
     ap (option_map arc_value) is
     ∙ sym (get_or-map (option_map arc_value) outcomes m o)
     ∙ ap (λ known. get_or known m (option_map arc_value o)) are
-    ∙ get_or-sums_from core 0 (length core.methods) m (option_map arc_value o) within
-    ∙ ap (λ j. sum core (number j)) (zero-add m)
+    ∙ get_or-outcomes_from core 0 (length core.methods) m (option_map arc_value o) within
+    ∙ ap (λ j. outcome_of core (number j)) (zero-add m)
 
 -- the records of an entry, whose outcome is read at its place
-pub entry_adds : (core : Core) (c : ClassId) (m : ℕ) (method : Method) (id : MethodId) (o : Option (Arc Outcome Global)) → is_entry_of c method ≡ true → id.0 ≡ m → option_map arc_value o ≡ sum core (number m) → placed_in id (records_held (option_map arc_value o)) ≡ entry_records core c (m, method)
+pub entry_adds : (core : Core) (c : ClassId) (m : ℕ) (method : Method) (id : MethodId) (o : Option (Arc Outcome Global)) → is_entry_of c method ≡ true → id.0 ≡ m → option_map arc_value o ≡ outcome_of core (number m) → placed_in id (records_held (option_map arc_value o)) ≡ entry_records core c (m, method)
 entry_adds core c m method id o entry is known =
     let test : entry_records core c (m, method) ≡ placed_in (number m) (records_of core (number m)) = ap (λ b. cond b (placed_in (number m) (records_of core (number m))) []) entry in
     (λ i. placed_in (number (is i)) (records_held (known i))) ∙ sym test

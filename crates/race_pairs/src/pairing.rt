@@ -4,7 +4,7 @@ ghost use Rattle.std.specs.List.{find};
 ghost use Rattle.std.specs.Arc.{arc_value};
 ghost use Rattle.core_code.specs.Core.{method_of};
 ghost use Rattle.core_code.specs.Program.{core};
-ghost use Rattle.access_domain.specs.Outcomes.{AreSums};
+ghost use Rattle.access_domain.specs.Outcomes.{AreOutcomes};
 ghost use Rattle.race_pairs.specs.Warnings.{conflicts, records_held, placed_in, is_entry_of, records_in, warnings_among, warnings};
 ghost use Rattle.race_pairs.specs.Placing.{placed_of, all_placed};
 
@@ -123,7 +123,7 @@ fn records_in<'a>(
     outcomes: &'a Outcomes,
     class: ClassId,
 ) -> Result<Vec<PlacedAccess<'a>>, Memory>
-    requires { AreSums (core program.now) outcomes.now.items }
+    requires { AreOutcomes (core program.now) outcomes.now.items }
     ensures { IfOk result (λ records. all_placed records.items ≡ records_in (core program.now) class) }
 {
     let mut records = Vec::new(alloc);
@@ -144,7 +144,7 @@ pub fn warnings(
     program: &Program,
     outcomes: &Outcomes,
 ) -> Result<Vec<Warning>, Memory>
-    requires { AreSums (core program.now) outcomes.now.items }
+    requires { AreOutcomes (core program.now) outcomes.now.items }
     ensures { IfOk result (λ found. found.items ≡ warnings (core program.now)) }
 {
     let mut found = Vec::new(alloc);

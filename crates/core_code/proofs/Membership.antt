@@ -75,7 +75,7 @@ find_has {X} test (x ∷ xs) y h passes =
       | false ↦ λ e. ⊎_elim (λ is. absurd (let wrong : false ≡ true = sym e ∙ ap test is ∙ passes in cc)) (λ r. find_has test xs y r passes) h
     ] refl
 
--- a numbered element is the one at its place
+-- a numbered element is the one of its index
 pub in_enumerate_from : {X : Type 0} (n : ℕ) (xs : List X) (e : ℕ × X) → In (enumerate_from n xs) e → (k : ℕ) × (e.0 ≡ n + k) × (slice_get xs k ≡ Some e.1)
 in_enumerate_from n [] e h = absurd h
 in_enumerate_from n (x ∷ xs) e h =
