@@ -3,7 +3,8 @@ use Rattle.std.proofs.Common.{◌≡◌, List, [], refl}
 use Rattle.std.proofs.lemmas.Bool.{false≢true}
 use Rattle.java_lexer.specs.declared.token.TokenKind.TheVariants as kind
 use Rattle.java_tree.specs.declared.words.Spelled.{Spelled}
-use Rattle.java_tree.specs.Trees.{Expr, Assign, Conditional, Binary, InstanceOf, Postfix, Literal, Field, Index, CallOn, ClassOf}
+use Rattle.java_tree.specs.Trees.{Expr, Assign, Conditional, Binary, InstanceOf, Postfix, Literal, Field, Index}
+use Rattle.java_tree.specs.Trees.{CallOn, ClassOf}
 use Rattle.java_tree.specs.Spelling.{expr_onto}
 use Rattle.java_tree.specs.Formed.{FormedExpr, begins_signed}
 use Rattle.java_tree.specs.Examples.{opens_signed}
@@ -20,5 +21,5 @@ signed_front (CallOn a x all) rest f = signed_front a _ f.0
 signed_front (Literal kind.Name text) rest f = absurd (false≢true f)
 signed_front (Literal kind.Keyword text) rest f = absurd (false≢true f)
 signed_front (Literal kind.Sign text) rest f = absurd (false≢true f)
-signed_front (ClassOf []) rest f = absurd f
+signed_front (ClassOf []) rest f = absurd (false≢true f)
 signed_front _ rest f = refl

@@ -1,5 +1,6 @@
--- Worked readings: tokens as a reader writes them, and small trees.
-use Rattle.std.specs.Prelude.{◌≡◌, ℕ, Bool, true, false, ◌&&◌, List, [], ◌∷◌, ◌++◌, Option, None, codes, ◌==◌, if◌then◌else◌}
+-- A contract of a public call rests on this: worked readings, tokens as a reader writes them and small trees.
+use Rattle.std.specs.Prelude.{◌≡◌, ℕ, Bool, true, false, ◌&&◌, List, [], ◌∷◌, ◌++◌, Option, None, codes, ◌==◌}
+use Rattle.std.specs.Prelude.{if◌then◌else◌}
 use Rattle.racer_base.specs.Name.{is_word, is_listed}
 use Rattle.java_lexer.specs.declared.token.TokenKind.{TokenKind}
 use Rattle.java_lexer.specs.declared.token.TokenKind.TheVariants as kind
@@ -10,7 +11,10 @@ use Rattle.java_tree.specs.declared.words.Spelled.{Spelled}
 use Rattle.java_tree.specs.Words.{sign_glued, word_of}
 use Rattle.java_tree.specs.Brackets.{is_sign_kind}
 use Rattle.java_tree.specs.Operators.{is_signed}
-use Rattle.java_tree.specs.Trees.{Ty, Typed, Plain, Named, no_part, part_then, Bare, Generic, Angled, ArgumentList, no_argument, argument_then, Exact, Expr, Assign, Binary, Literal, Name, Postfix, Call, ClassOf, no_expr, Init, Variable, Locals, Stmt, Block, Run, Empty, Stmts, no_stmt, stmt_then, Note, Modifier, Result, VoidResult, Parameter, Method}
+use Rattle.java_tree.specs.Trees.{Ty, Typed, Plain, Named, no_part, part_then, Bare, Generic, Angled, ArgumentList}
+use Rattle.java_tree.specs.Trees.{no_argument, argument_then, Exact, Expr, Assign, Binary, Literal, Name, Postfix}
+use Rattle.java_tree.specs.Trees.{Call, ClassOf, no_expr, Init, Variable, Locals, Stmt, Block, Run, Empty, Stmts}
+use Rattle.java_tree.specs.Trees.{no_stmt, stmt_then, Annotation, Modifier, Result, VoidResult, Parameter, Method}
 use Rattle.java_tree.specs.Spelling.{stmt_onto}
 use Rattle.java_tree.specs.Formed.{FormedStmt}
 
@@ -20,15 +24,25 @@ abbrev pub onto_first : ℕ → List (List ℕ) → List (List ℕ)
 onto_first b [] = (b ∷ []) ∷ []
 onto_first b (word ∷ words) = (b ∷ word) ∷ words
 
+abbrev pub space : ℕ
+space = 32
+
+abbrev pub double_quote : ℕ
+double_quote = 34
+
+abbrev pub single_quote : ℕ
+single_quote = 39
+
 -- what stands between the spaces
 abbrev pub between_spaces : List ℕ → List (List ℕ)
 between_spaces [] = [] ∷ []
-between_spaces (b ∷ bs) = if b == 32 then [] ∷ between_spaces bs else onto_first b (between_spaces bs)
+between_spaces (b ∷ bs) = if b == space then [] ∷ between_spaces bs else onto_first b (between_spaces bs)
 
 -- of a literal by its quote, and else a sign
 abbrev pub quoted_kind : List ℕ → TokenKind
 quoted_kind [] = kind.Sign
-quoted_kind (b ∷ bs) = if b == 39 then kind.Character else (if b == 34 then kind.Text else kind.Sign)
+quoted_kind (b ∷ bs) = if b == single_quote then kind.Character else (if b == double_quote then kind.Text else
+    kind.Sign)
 
 abbrev pub kind_of : List ℕ → TokenKind
 kind_of text = if is_word text then word_kind text else (if begins_number text then kind.Number else quoted_kind text)
@@ -134,7 +148,7 @@ abbrev pub a_of_b : Ty
 a_of_b = a_of (only class_b)
 
 abbrev pub variable : List ℕ → Option Init → Variable
-variable name initial = record { name = name; initial = initial }
+variable name initialiser = record { name = name; initialiser = initialiser }
 
 abbrev pub locals : Bool → Ty → List Variable → Locals
 locals is_final kind variables = record { is_final = is_final; kind = kind; variables = variables }
@@ -151,19 +165,24 @@ assigns name value = Run (Assign (Name name) (codes "=") value)
 abbrev pub one_deep : Stmt
 one_deep = Block (stmt_then Empty no_stmt)
 
-abbrev pub note : List (List ℕ) → List ℕ → Note
-note names arguments = record { names = names; arguments = tokens_of arguments }
+abbrev pub annotation : List (List ℕ) → List ℕ → Annotation
+annotation names arguments = record { names = names; arguments = tokens_of arguments }
 
 -- an annotation without parentheses
-abbrev pub bare_note : List ℕ → Note
-bare_note name = record { names = name ∷ []; arguments = [] }
+abbrev pub bare_annotation : List ℕ → Annotation
+bare_annotation name = record { names = name ∷ []; arguments = [] }
 
 -- which is not formed
-abbrev pub nameless_note : Note
-nameless_note = record { names = []; arguments = [] }
+abbrev pub nameless_annotation : Annotation
+nameless_annotation = record { names = []; arguments = [] }
 
-abbrev pub parameter : Bool → List Note → Ty → Parameter
-parameter is_final notes kind = record { is_final = is_final; notes = notes; kind = kind; name = codes "x" }
+abbrev pub parameter : Bool → List Annotation → Ty → Parameter
+parameter is_final annotations kind = record {
+  is_final = is_final;
+  annotations = annotations;
+  kind = kind;
+  name = codes "x";
+}
 
 -- a parameter of this type
 abbrev pub formal : Ty → Parameter
@@ -171,7 +190,14 @@ formal kind = parameter false [] kind
 
 abbrev pub method : List Modifier → Result → List ℕ → List Parameter → List Ty → Stmts → Method
 method modifiers result name parameters throws body =
-    record { modifiers = modifiers; result = result; name = name; parameters = parameters; throws = throws; body = body }
+    record {
+      modifiers = modifiers;
+      result = result;
+      name = name;
+      parameters = parameters;
+      throws = throws;
+      body = body;
+    }
 
 -- a method `f` without a value
 abbrev pub void_f : List Modifier → List Parameter → List Ty → Stmts → Method

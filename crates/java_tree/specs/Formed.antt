@@ -1,12 +1,24 @@
--- The formed trees: those that stand for a method of this subset of Java. Each condition on a level, and each
--- one that is no level, stands with its form; so two formed trees never have one spelling.
-use Rattle.std.specs.Prelude.{◌≡◌, ℕ, zero, suc, ◌≤◌, Bool, true, false, not, ◌&&◌, List, [], ◌∷◌, Option, Some, None, IsTrue, codes}
+-- A contract of a public call rests on this: the formed trees, those that stand for a method of this subset of
+-- Java. Each condition on a level, and each one that is no level, stands with its form; so two formed trees never have
+-- one spelling.
+use Rattle.std.specs.Prelude.{◌≡◌, ℕ, zero, suc, ◌≤◌, Bool, true, false, not, ◌&&◌, List, [], ◌∷◌, Option, Some}
+use Rattle.std.specs.Prelude.{None, IsTrue, codes}
 use Rattle.racer_base.specs.Name.{is_listed}
 use Rattle.java_lexer.specs.declared.token.TokenKind.{TokenKind}
 use Rattle.java_lexer.specs.declared.token.TokenKind.TheVariants as kind
 use Rattle.java_tree.specs.Brackets.{are_parentheses_or_none}
-use Rattle.java_tree.specs.Operators.{conditional_level, relational_level, unary_level, postfix_level, primary_level, assignment_level, IsBinary, binary_level, is_assignment, is_prefix, is_step, is_signed}
-use Rattle.java_tree.specs.Trees.{Ty, Typed, Base, Plain, Named, Parts, no_part, part_then, Part, Bare, Generic, Arguments, Angled, ArgumentList, no_argument, argument_then, Argument, Exact, Any, Extends, Super, Expr, Assign, Conditional, Binary, InstanceOf, Prefix, Cast, Postfix, Literal, This, Name, Paren, Field, Index, Call, CallOn, ClassOf, New, NewArray, NewItems, Exprs, no_expr, expr_then, Array, Braces, Inits, no_init, init_then, Init, Value, Items, Variable, Locals, Start, Declares, Runs, Stmt, Block, Local, Run, If, IfElse, While, For, ForEach, Sync, Return, Empty, Stmts, no_stmt, stmt_then, Note, Modifier, Word, Annotated, Result, NoResult, VoidResult, TypeResult, Parameter, Method}
+use Rattle.java_tree.specs.Operators.{conditional_level, relational_level, unary_level, postfix_level}
+use Rattle.java_tree.specs.Operators.{primary_level, assignment_level, is_binary, binary_level, is_assignment}
+use Rattle.java_tree.specs.Operators.{is_prefix, is_step, is_signed}
+use Rattle.java_tree.specs.Trees.{Ty, Typed, Base, Plain, Named, Parts, no_part, part_then, Part, Bare, Generic}
+use Rattle.java_tree.specs.Trees.{Arguments, Angled, ArgumentList, no_argument, argument_then, Argument, Exact, Any}
+use Rattle.java_tree.specs.Trees.{Extends, Super, Expr, Assign, Conditional, Binary, InstanceOf, Prefix, Cast}
+use Rattle.java_tree.specs.Trees.{Postfix, Literal, This, Name, Paren, Field, Index, Call, CallOn, ClassOf, New}
+use Rattle.java_tree.specs.Trees.{NewArray, NewItems, Exprs, no_expr, expr_then, Array, Braces, Inits, no_init}
+use Rattle.java_tree.specs.Trees.{init_then, Init, Value, Items, Variable, Locals, Start, Declares, Runs, Stmt}
+use Rattle.java_tree.specs.Trees.{Block, Local, Run, If, IfElse, While, For, ForEach, Sync, Return, Empty, Stmts}
+use Rattle.java_tree.specs.Trees.{no_stmt, stmt_then, Annotation, Modifier, Word, Annotated, Result, NoResult}
+use Rattle.java_tree.specs.Trees.{VoidResult, TypeResult, Parameter, Method}
 
 -- ---- lists
 
@@ -15,10 +27,10 @@ abbrev pub Each : {A : Type 0} → (A → Type 0) → List A → Type 0
 Each P [] = Unit {0}
 Each P (x ∷ xs) = P x × Each P xs
 
--- there is an element
-abbrev pub IsSomeOf : {A : Type 0} → List A → Type 0
-IsSomeOf [] = ⊥
-IsSomeOf (x ∷ xs) = Unit {0}
+-- whether there is an element; so are has_part, has_argument, has_expr and has_init
+abbrev pub has_some : {A : Type 0} → List A → Bool
+has_some [] = false
+has_some (x ∷ xs) = true
 
 -- ---- types (JLS 4)
 
@@ -26,8 +38,17 @@ IsSomeOf (x ∷ xs) = Unit {0}
 abbrev pub is_plain_word : List ℕ → Bool
 is_plain_word text =
     is_listed
-    (codes "boolean" ∷ codes "byte" ∷ codes "short" ∷ codes "int" ∷ codes "long" ∷ codes "char" ∷ codes "float" ∷ codes "double" ∷ [])
+    (codes "boolean" ∷ codes "byte" ∷ codes "short" ∷ codes "int" ∷ codes "long" ∷ codes "char" ∷ codes "float"
+    ∷ codes "double" ∷ [])
     text
+
+abbrev pub has_part : Parts → Bool
+has_part no_part = false
+has_part (part_then p ps) = true
+
+abbrev pub has_argument : ArgumentList → Bool
+has_argument no_argument = false
+has_argument (argument_then a others) = true
 
 abbrev mutual
   pub FormedTy : Ty → Type 0
@@ -35,8 +56,7 @@ abbrev mutual
 
   pub FormedBase : Base → Type 0
   FormedBase (Plain text) = IsTrue (is_plain_word text)
-  FormedBase (Named no_part) = ⊥
-  FormedBase (Named (part_then p ps)) = FormedPart p × FormedParts ps
+  FormedBase (Named ps) = FormedParts ps × IsTrue (has_part ps)
 
   pub FormedParts : Parts → Type 0
   FormedParts no_part = Unit {0}
@@ -48,8 +68,7 @@ abbrev mutual
 
   -- `< >` is formed behind `new` alone
   pub FormedAngled : Arguments → Type 0
-  FormedAngled (Angled no_argument glued) = ⊥
-  FormedAngled (Angled (argument_then a others) glued) = FormedArgument a × FormedArguments others
+  FormedAngled (Angled list glued) = FormedArguments list × IsTrue (has_argument list)
 
   pub FormedArguments : ArgumentList → Type 0
   FormedArguments no_argument = Unit {0}
@@ -69,9 +88,9 @@ is_named (Typed (Plain text) arrays) = false
 is_named (Typed (Named ps) arrays) = true
 
 -- a primitive type without `[ ]`
-abbrev pub is_primitive : Ty → Bool
-is_primitive (Typed (Plain text) zero) = true
-is_primitive _ = false
+abbrev pub is_plain : Ty → Bool
+is_plain (Typed (Plain text) zero) = true
+is_plain _ = false
 
 -- the last part of a class that is made may have `< >` (JLS 15.9)
 abbrev pub FormedLastPart : Part → Type 0
@@ -79,14 +98,14 @@ FormedLastPart (Bare x) = Unit {0}
 FormedLastPart (Generic x (Angled list glued)) = FormedArguments list
 
 abbrev pub FormedClassParts : Parts → Type 0
-FormedClassParts no_part = ⊥
+FormedClassParts no_part = Unit {0}
 FormedClassParts (part_then p no_part) = FormedLastPart p
 FormedClassParts (part_then p (part_then q ps)) = FormedPart p × FormedClassParts (part_then q ps)
 
 -- the class that a `new` makes an object of: a named type without `[ ]` (JLS 15.9)
 abbrev pub FormedClass : Ty → Type 0
 FormedClass (Typed (Plain text) arrays) = ⊥
-FormedClass (Typed (Named ps) arrays) = FormedClassParts ps × (arrays ≡ 0)
+FormedClass (Typed (Named ps) arrays) = FormedClassParts ps × IsTrue (has_part ps) × (arrays ≡ 0)
 
 -- the type of the elements that a `new` makes an array of (JLS 15.10.1)
 abbrev pub FormedElement : Ty → Type 0
@@ -175,12 +194,13 @@ abbrev mutual
   FormedExpr (Conditional a b c) =
       FormedExpr a × FormedExpr b × FormedExpr c × (suc conditional_level ≤ level a) × (conditional_level ≤ level c)
   FormedExpr (Binary a op b) =
-      FormedExpr a × FormedExpr b × IsBinary op × (binary_level op ≤ level a) × (suc (binary_level op) ≤ level b)
+      FormedExpr a × FormedExpr b × IsTrue (is_binary op) × (binary_level op ≤ level a)
+      × (suc (binary_level op) ≤ level b)
   FormedExpr (InstanceOf a t) = FormedExpr a × FormedTy t × (relational_level ≤ level a) × IsTrue (is_bare t)
   FormedExpr (Prefix op a) =
       FormedExpr a × IsTrue (is_prefix op) × (unary_level ≤ level a) × (IsTrue (is_step op) → IsTrue (is_variable a))
   FormedExpr (Cast t a) =
-      FormedTy t × FormedExpr a × (unary_level ≤ level a) × (IsTrue (begins_signed a) → IsTrue (is_primitive t))
+      FormedTy t × FormedExpr a × (unary_level ≤ level a) × (IsTrue (begins_signed a) → IsTrue (is_plain t))
   FormedExpr (Postfix a op) = FormedExpr a × IsTrue (is_step op) × IsTrue (is_variable a)
   FormedExpr (Literal k text) = IsTrue (is_literal k)
   FormedExpr This = Unit {0}
@@ -190,7 +210,7 @@ abbrev mutual
   FormedExpr (Index a i) = FormedExpr a × FormedExpr i × (primary_level ≤ level a) × IsTrue (not (makes_array a))
   FormedExpr (Call x all) = FormedExprs all
   FormedExpr (CallOn a x all) = FormedExpr a × FormedExprs all × (primary_level ≤ level a)
-  FormedExpr (ClassOf xs) = IsSomeOf xs
+  FormedExpr (ClassOf xs) = IsTrue (has_some xs)
   FormedExpr (New t all) = FormedClass t × FormedExprs all
   FormedExpr (NewArray t lengths n) = FormedElement t × FormedExprs lengths × IsTrue (has_expr lengths)
   FormedExpr (NewItems t n items) = FormedElement t × (1 ≤ n) × FormedArray items
@@ -199,7 +219,7 @@ abbrev mutual
   FormedExprs no_expr = Unit {0}
   FormedExprs (expr_then e es) = FormedExpr e × FormedExprs es
 
-  -- a last comma stands behind an item (JLS 10.6)
+  -- a last comma stands behind an item: JLS 10.6 also has `{ , }`, which is left out here
   pub FormedArray : Array → Type 0
   FormedArray (Braces items last_comma) = FormedInits items × (IsTrue last_comma → IsTrue (has_init items))
 
@@ -225,15 +245,15 @@ FormedRuns (expr_then e es) = FormedRun e × FormedRuns es
 
 -- ---- statements (JLS 14)
 
-abbrev pub FormedInitial : Option Init → Type 0
-FormedInitial None = Unit {0}
-FormedInitial (Some i) = FormedInit i
+abbrev pub FormedMaybeInit : Option Init → Type 0
+FormedMaybeInit None = Unit {0}
+FormedMaybeInit (Some i) = FormedInit i
 
 abbrev pub FormedVariable : Variable → Type 0
-FormedVariable v = FormedInitial v.initial
+FormedVariable v = FormedMaybeInit v.initialiser
 
 abbrev pub FormedLocals : Locals → Type 0
-FormedLocals l = FormedTy l.kind × IsSomeOf l.variables × Each FormedVariable l.variables
+FormedLocals l = FormedTy l.kind × IsTrue (has_some l.variables) × Each FormedVariable l.variables
 
 abbrev pub FormedStart : Start → Type 0
 FormedStart (Declares l) = FormedLocals l
@@ -279,16 +299,17 @@ abbrev mutual
 abbrev pub is_method_modifier : List ℕ → Bool
 is_method_modifier text =
     is_listed
-    (codes "public" ∷ codes "protected" ∷ codes "private" ∷ codes "static" ∷ codes "final" ∷ codes "synchronized" ∷ codes "strictfp" ∷ [])
+    (codes "public" ∷ codes "protected" ∷ codes "private" ∷ codes "static" ∷ codes "final" ∷ codes "synchronized"
+    ∷ codes "strictfp" ∷ [])
     text
 
 -- names, and parentheses with any balanced tokens or none (JLS 9.7)
-abbrev pub FormedNote : Note → Type 0
-FormedNote n = IsSomeOf n.names × IsTrue (are_parentheses_or_none n.arguments)
+abbrev pub FormedAnnotation : Annotation → Type 0
+FormedAnnotation n = IsTrue (has_some n.names) × IsTrue (are_parentheses_or_none n.arguments)
 
 abbrev pub FormedModifier : Modifier → Type 0
 FormedModifier (Word text) = IsTrue (is_method_modifier text)
-FormedModifier (Annotated n) = FormedNote n
+FormedModifier (Annotated n) = FormedAnnotation n
 
 abbrev pub FormedResult : Result → Type 0
 FormedResult NoResult = Unit {0}
@@ -296,7 +317,7 @@ FormedResult VoidResult = Unit {0}
 FormedResult (TypeResult t) = FormedTy t
 
 abbrev pub FormedParameter : Parameter → Type 0
-FormedParameter p = Each FormedNote p.notes × FormedTy p.kind
+FormedParameter p = Each FormedAnnotation p.annotations × FormedTy p.kind
 
 -- an exception is no primitive type (JLS 8.4.6)
 abbrev pub FormedThrown : Ty → Type 0
@@ -304,4 +325,5 @@ FormedThrown t = FormedTy t × IsTrue (is_named t)
 
 abbrev pub FormedMethod : Method → Type 0
 FormedMethod m =
-    Each FormedModifier m.modifiers × FormedResult m.result × Each FormedParameter m.parameters × Each FormedThrown m.throws × FormedStmts m.body
+    Each FormedModifier m.modifiers × FormedResult m.result × Each FormedParameter m.parameters × Each FormedThrown
+    m.throws × FormedStmts m.body

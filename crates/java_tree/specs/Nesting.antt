@@ -1,6 +1,14 @@
--- The nesting of a tree: its depth, where each statement, expression, type and array initialiser counts one.
+-- A contract of a public call rests on this: the nesting of a tree, its depth, where each statement, expression,
+-- type and array initialiser counts one.
 use Rattle.std.specs.Prelude.{ℕ, suc, max, List, [], ◌∷◌, Option, Some, None}
-use Rattle.java_tree.specs.Trees.{Ty, Typed, Base, Plain, Named, Parts, no_part, part_then, Part, Bare, Generic, Arguments, Angled, ArgumentList, no_argument, argument_then, Argument, Exact, Any, Extends, Super, Expr, Assign, Conditional, Binary, InstanceOf, Prefix, Cast, Postfix, Literal, This, Name, Paren, Field, Index, Call, CallOn, ClassOf, New, NewArray, NewItems, Exprs, no_expr, expr_then, Array, Braces, Inits, no_init, init_then, Init, Value, Items, Variable, Locals, Start, Declares, Runs, Stmt, Block, Local, Run, If, IfElse, While, For, ForEach, Sync, Return, Empty, Stmts, no_stmt, stmt_then, Result, NoResult, VoidResult, TypeResult, Parameter, Method}
+use Rattle.java_tree.specs.Trees.{Ty, Typed, Base, Plain, Named, Parts, no_part, part_then, Part, Bare, Generic}
+use Rattle.java_tree.specs.Trees.{Arguments, Angled, ArgumentList, no_argument, argument_then, Argument, Exact, Any}
+use Rattle.java_tree.specs.Trees.{Extends, Super, Expr, Assign, Conditional, Binary, InstanceOf, Prefix, Cast}
+use Rattle.java_tree.specs.Trees.{Postfix, Literal, This, Name, Paren, Field, Index, Call, CallOn, ClassOf, New}
+use Rattle.java_tree.specs.Trees.{NewArray, NewItems, Exprs, no_expr, expr_then, Array, Braces, Inits, no_init}
+use Rattle.java_tree.specs.Trees.{init_then, Init, Value, Items, Variable, Locals, Start, Declares, Runs, Stmt}
+use Rattle.java_tree.specs.Trees.{Block, Local, Run, If, IfElse, While, For, ForEach, Sync, Return, Empty, Stmts}
+use Rattle.java_tree.specs.Trees.{no_stmt, stmt_then, Result, NoResult, VoidResult, TypeResult, Parameter, Method}
 
 -- the largest over a list, 0 of none
 abbrev pub most_over : {A : Type 0} → (A → ℕ) → List A → ℕ
@@ -78,12 +86,12 @@ abbrev pub maybe_expr_nesting : Option Expr → ℕ
 maybe_expr_nesting None = 0
 maybe_expr_nesting (Some e) = expr_nesting e
 
-abbrev pub initial_nesting : Option Init → ℕ
-initial_nesting None = 0
-initial_nesting (Some i) = init_nesting i
+abbrev pub maybe_init_nesting : Option Init → ℕ
+maybe_init_nesting None = 0
+maybe_init_nesting (Some i) = init_nesting i
 
 abbrev pub variable_nesting : Variable → ℕ
-variable_nesting v = initial_nesting v.initial
+variable_nesting v = maybe_init_nesting v.initialiser
 
 -- a declaration counts where it is a statement, and not in the head of a `for`
 abbrev pub locals_nesting : Locals → ℕ
@@ -102,7 +110,8 @@ abbrev mutual
   stmt_nesting (IfElse e s t) = suc (max (expr_nesting e) (max (stmt_nesting s) (stmt_nesting t)))
   stmt_nesting (While e s) = suc (max (expr_nesting e) (stmt_nesting s))
   stmt_nesting (For start condition updates s) =
-      suc (max (start_nesting start) (max (maybe_expr_nesting condition) (max (exprs_nesting updates) (stmt_nesting s))))
+      suc (max (start_nesting start) (max (maybe_expr_nesting condition) (max (exprs_nesting updates)
+      (stmt_nesting s))))
   stmt_nesting (ForEach is_final t x e s) = suc (max (ty_nesting t) (max (expr_nesting e) (stmt_nesting s)))
   -- the block of a `synchronized` is a statement of its own
   stmt_nesting (Sync e ss) = suc (max (expr_nesting e) (suc (stmts_nesting ss)))
@@ -127,4 +136,5 @@ parameter_nesting p = ty_nesting p.kind
 
 abbrev pub method_nesting : Method → ℕ
 method_nesting m =
-    max (result_nesting m.result) (max (most_over parameter_nesting m.parameters) (max (most_over ty_nesting m.throws) (block_nesting m.body)))
+    max (result_nesting m.result) (max (most_over parameter_nesting m.parameters) (max (most_over ty_nesting m.throws)
+    (block_nesting m.body)))

@@ -1,25 +1,31 @@
--- The operators and their levels: an operand of a higher level binds closer (JLS 15.14 to 15.26).
-use Rattle.std.specs.Prelude.{◌≡◌, ℕ, Bool, List, [], ◌∷◌, codes, bytes_eq, if◌then◌else◌}
+-- A contract of a public call rests on this: the operators and their levels, where an operand of a higher level
+-- binds closer (JLS 15.14 to 15.26).
+use Rattle.std.specs.Prelude.{ℕ, Bool, List, map, [], ◌∷◌, codes, bytes_eq, if◌then◌else◌}
 use Rattle.racer_base.specs.Name.{is_listed}
 
 -- ---- levels
 
+-- of `a = b` (JLS 15.26), and the lowest
 abbrev pub assignment_level : ℕ
 assignment_level = 0
 
+-- of `a ? b : c` (JLS 15.25)
 abbrev pub conditional_level : ℕ
 conditional_level = 1
 
+-- of `<` and of `instanceof` (JLS 15.20)
 abbrev pub relational_level : ℕ
 relational_level = 8
 
--- of prefix operators and casts
+-- of prefix operators and casts (JLS 15.15, 15.16)
 abbrev pub unary_level : ℕ
 unary_level = 12
 
+-- of `a++` and `a--` (JLS 15.14)
 abbrev pub postfix_level : ℕ
 postfix_level = 13
 
+-- of what binds closest (JLS 15.8 to 15.12)
 abbrev pub primary_level : ℕ
 primary_level = 14
 
@@ -93,9 +99,9 @@ level_of Times = 11  -- JLS 15.17
 level_of Divide = 11
 level_of Remainder = 11
 
--- the text is that of a binary operator
-abbrev pub IsBinary : List ℕ → Type 0
-IsBinary text = (operator : BinaryOperator) × (text_of operator ≡ text)
+-- whether the text is that of a binary operator (JLS 15.17 to 15.24)
+abbrev pub is_binary : List ℕ → Bool
+is_binary text = is_listed (map text_of binary_operators) text
 
 -- the level of the first of these operators that has the text, or the lowest level
 abbrev pub level_among : List BinaryOperator → List ℕ → ℕ

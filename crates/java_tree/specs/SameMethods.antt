@@ -5,30 +5,30 @@ use Rattle.std.specs.Cmp.Derive.{both_true}
 use Rattle.java_tree.specs.SameParts.{left, right, both_2, both_3, both_4, both_5, both_6, bytes_is, bytes_refl, bool_is, bool_refl, word_is, word_refl, list_is, list_refl, option_is, option_refl}
 use Rattle.java_tree.specs.declared.words.Spelled.{Spelled}
 use Rattle.java_tree.specs.SameTrees.{ty_is, ty_refl, expr_is, expr_refl, exprs_is, exprs_refl, init_is, init_refl}
-use Rattle.java_tree.specs.Sameness.{same_bool, same_word, same_list, same_option, same_ty, same_expr, same_exprs, same_init, same_variable, same_locals, same_start, same_stmt, same_stmts, same_note, same_modifier, same_result, same_parameter, same_method}
-use Rattle.java_tree.specs.Trees.{Ty, Init, Variable, Locals, Start, Declares, Runs, Stmt, Block, Local, Run, If, IfElse, While, For, ForEach, Sync, Return, Empty, Stmts, no_stmt, stmt_then, Note, Modifier, Word, Annotated, Result, NoResult, VoidResult, TypeResult, Parameter, Method}
+use Rattle.java_tree.specs.Sameness.{same_bool, same_word, same_list, same_option, same_ty, same_expr, same_exprs, same_init, same_variable, same_locals, same_start, same_stmt, same_stmts, same_annotation, same_modifier, same_result, same_parameter, same_method}
+use Rattle.java_tree.specs.Trees.{Ty, Init, Variable, Locals, Start, Declares, Runs, Stmt, Block, Local, Run, If, IfElse, While, For, ForEach, Sync, Return, Empty, Stmts, no_stmt, stmt_then, Annotation, Modifier, Word, Annotated, Result, NoResult, VoidResult, TypeResult, Parameter, Method}
 
 abbrev variable : List ℕ → Option Init → Variable
-variable name initial = record { name = name; initial = initial }
+variable name initialiser = record { name = name; initialiser = initialiser }
 
 abbrev locals : Bool → Ty → List Variable → Locals
 locals is_final kind variables = record { is_final = is_final; kind = kind; variables = variables }
 
-abbrev note : List (List ℕ) → List Spelled → Note
-note names arguments = record { names = names; arguments = arguments }
+abbrev annotation : List (List ℕ) → List Spelled → Annotation
+annotation names arguments = record { names = names; arguments = arguments }
 
-abbrev parameter : Bool → List Note → Ty → List ℕ → Parameter
-parameter is_final notes kind name = record { is_final = is_final; notes = notes; kind = kind; name = name }
+abbrev parameter : Bool → List Annotation → Ty → List ℕ → Parameter
+parameter is_final annotations kind name = record { is_final = is_final; annotations = annotations; kind = kind; name = name }
 
 abbrev method : List Modifier → Result → List ℕ → List Parameter → List Ty → Stmts → Method
 method modifiers result name parameters throws body =
     record { modifiers = modifiers; result = result; name = name; parameters = parameters; throws = throws; body = body }
 
 pub variable_is : (a b : Variable) → same_variable a b ≡ true → a ≡ b
-variable_is a b met = both_2 variable (bytes_is a.name b.name (left (bytes_eq a.name b.name) (same_option same_init a.initial b.initial) met)) (option_is same_init init_is a.initial b.initial (right (bytes_eq a.name b.name) (same_option same_init a.initial b.initial) met))
+variable_is a b met = both_2 variable (bytes_is a.name b.name (left (bytes_eq a.name b.name) (same_option same_init a.initialiser b.initialiser) met)) (option_is same_init init_is a.initialiser b.initialiser (right (bytes_eq a.name b.name) (same_option same_init a.initialiser b.initialiser) met))
 
 pub variable_refl : (a : Variable) → same_variable a a ≡ true
-variable_refl a = both_true (bytes_refl a.name) (option_refl same_init init_refl a.initial)
+variable_refl a = both_true (bytes_refl a.name) (option_refl same_init init_refl a.initialiser)
 
 pub locals_is : (a b : Locals) → same_locals a b ≡ true → a ≡ b
 locals_is a b met = both_3 locals (bool_is a.is_final b.is_final (left (same_bool a.is_final b.is_final) (same_ty a.kind b.kind && same_list same_variable a.variables b.variables) met)) (ty_is a.kind b.kind (left (same_ty a.kind b.kind) (same_list same_variable a.variables b.variables) (right (same_bool a.is_final b.is_final) (same_ty a.kind b.kind && same_list same_variable a.variables b.variables) met))) (list_is same_variable variable_is a.variables b.variables (right (same_ty a.kind b.kind) (same_list same_variable a.variables b.variables) (right (same_bool a.is_final b.is_final) (same_ty a.kind b.kind && same_list same_variable a.variables b.variables) met)))
@@ -83,20 +83,20 @@ mutual
   stmts_refl no_stmt = refl
   stmts_refl (stmt_then a cs) = both_true (stmt_refl a) (stmts_refl cs)
 
-pub note_is : (a b : Note) → same_note a b ≡ true → a ≡ b
-note_is a b met = both_2 note (list_is bytes_eq bytes_is a.names b.names (left (same_list bytes_eq a.names b.names) (same_list same_word a.arguments b.arguments) met)) (list_is same_word word_is a.arguments b.arguments (right (same_list bytes_eq a.names b.names) (same_list same_word a.arguments b.arguments) met))
+pub annotation_is : (a b : Annotation) → same_annotation a b ≡ true → a ≡ b
+annotation_is a b met = both_2 annotation (list_is bytes_eq bytes_is a.names b.names (left (same_list bytes_eq a.names b.names) (same_list same_word a.arguments b.arguments) met)) (list_is same_word word_is a.arguments b.arguments (right (same_list bytes_eq a.names b.names) (same_list same_word a.arguments b.arguments) met))
 
-pub note_refl : (a : Note) → same_note a a ≡ true
-note_refl a = both_true (list_refl bytes_eq bytes_refl a.names) (list_refl same_word word_refl a.arguments)
+pub annotation_refl : (a : Annotation) → same_annotation a a ≡ true
+annotation_refl a = both_true (list_refl bytes_eq bytes_refl a.names) (list_refl same_word word_refl a.arguments)
 
 pub modifier_is : (a b : Modifier) → same_modifier a b ≡ true → a ≡ b
 modifier_is (Word a) (Word b) met = ap Word (bytes_is a b met)
-modifier_is (Annotated a) (Annotated b) met = ap Annotated (note_is a b met)
+modifier_is (Annotated a) (Annotated b) met = ap Annotated (annotation_is a b met)
 modifier_is _ _ met = absurd (false≢true met)
 
 pub modifier_refl : (a : Modifier) → same_modifier a a ≡ true
 modifier_refl (Word a) = bytes_refl a
-modifier_refl (Annotated a) = note_refl a
+modifier_refl (Annotated a) = annotation_refl a
 
 pub result_is : (a b : Result) → same_result a b ≡ true → a ≡ b
 result_is NoResult NoResult met = refl
@@ -110,10 +110,10 @@ result_refl VoidResult = refl
 result_refl (TypeResult a) = ty_refl a
 
 pub parameter_is : (a b : Parameter) → same_parameter a b ≡ true → a ≡ b
-parameter_is a b met = both_4 parameter (bool_is a.is_final b.is_final (left (same_bool a.is_final b.is_final) (same_list same_note a.notes b.notes && (same_ty a.kind b.kind && bytes_eq a.name b.name)) met)) (list_is same_note note_is a.notes b.notes (left (same_list same_note a.notes b.notes) (same_ty a.kind b.kind && bytes_eq a.name b.name) (right (same_bool a.is_final b.is_final) (same_list same_note a.notes b.notes && (same_ty a.kind b.kind && bytes_eq a.name b.name)) met))) (ty_is a.kind b.kind (left (same_ty a.kind b.kind) (bytes_eq a.name b.name) (right (same_list same_note a.notes b.notes) (same_ty a.kind b.kind && bytes_eq a.name b.name) (right (same_bool a.is_final b.is_final) (same_list same_note a.notes b.notes && (same_ty a.kind b.kind && bytes_eq a.name b.name)) met)))) (bytes_is a.name b.name (right (same_ty a.kind b.kind) (bytes_eq a.name b.name) (right (same_list same_note a.notes b.notes) (same_ty a.kind b.kind && bytes_eq a.name b.name) (right (same_bool a.is_final b.is_final) (same_list same_note a.notes b.notes && (same_ty a.kind b.kind && bytes_eq a.name b.name)) met))))
+parameter_is a b met = both_4 parameter (bool_is a.is_final b.is_final (left (same_bool a.is_final b.is_final) (same_list same_annotation a.annotations b.annotations && (same_ty a.kind b.kind && bytes_eq a.name b.name)) met)) (list_is same_annotation annotation_is a.annotations b.annotations (left (same_list same_annotation a.annotations b.annotations) (same_ty a.kind b.kind && bytes_eq a.name b.name) (right (same_bool a.is_final b.is_final) (same_list same_annotation a.annotations b.annotations && (same_ty a.kind b.kind && bytes_eq a.name b.name)) met))) (ty_is a.kind b.kind (left (same_ty a.kind b.kind) (bytes_eq a.name b.name) (right (same_list same_annotation a.annotations b.annotations) (same_ty a.kind b.kind && bytes_eq a.name b.name) (right (same_bool a.is_final b.is_final) (same_list same_annotation a.annotations b.annotations && (same_ty a.kind b.kind && bytes_eq a.name b.name)) met)))) (bytes_is a.name b.name (right (same_ty a.kind b.kind) (bytes_eq a.name b.name) (right (same_list same_annotation a.annotations b.annotations) (same_ty a.kind b.kind && bytes_eq a.name b.name) (right (same_bool a.is_final b.is_final) (same_list same_annotation a.annotations b.annotations && (same_ty a.kind b.kind && bytes_eq a.name b.name)) met))))
 
 pub parameter_refl : (a : Parameter) → same_parameter a a ≡ true
-parameter_refl a = both_true (bool_refl a.is_final) (both_true (list_refl same_note note_refl a.notes) (both_true (ty_refl a.kind) (bytes_refl a.name)))
+parameter_refl a = both_true (bool_refl a.is_final) (both_true (list_refl same_annotation annotation_refl a.annotations) (both_true (ty_refl a.kind) (bytes_refl a.name)))
 
 pub method_is : (a b : Method) → same_method a b ≡ true → a ≡ b
 method_is a b met = both_6 method (list_is same_modifier modifier_is a.modifiers b.modifiers (left (same_list same_modifier a.modifiers b.modifiers) (same_result a.result b.result && (bytes_eq a.name b.name && (same_list same_parameter a.parameters b.parameters && (same_list same_ty a.throws b.throws && same_stmts a.body b.body)))) met)) (result_is a.result b.result (left (same_result a.result b.result) (bytes_eq a.name b.name && (same_list same_parameter a.parameters b.parameters && (same_list same_ty a.throws b.throws && same_stmts a.body b.body))) (right (same_list same_modifier a.modifiers b.modifiers) (same_result a.result b.result && (bytes_eq a.name b.name && (same_list same_parameter a.parameters b.parameters && (same_list same_ty a.throws b.throws && same_stmts a.body b.body)))) met))) (bytes_is a.name b.name (left (bytes_eq a.name b.name) (same_list same_parameter a.parameters b.parameters && (same_list same_ty a.throws b.throws && same_stmts a.body b.body)) (right (same_result a.result b.result) (bytes_eq a.name b.name && (same_list same_parameter a.parameters b.parameters && (same_list same_ty a.throws b.throws && same_stmts a.body b.body))) (right (same_list same_modifier a.modifiers b.modifiers) (same_result a.result b.result && (bytes_eq a.name b.name && (same_list same_parameter a.parameters b.parameters && (same_list same_ty a.throws b.throws && same_stmts a.body b.body)))) met)))) (list_is same_parameter parameter_is a.parameters b.parameters (left (same_list same_parameter a.parameters b.parameters) (same_list same_ty a.throws b.throws && same_stmts a.body b.body) (right (bytes_eq a.name b.name) (same_list same_parameter a.parameters b.parameters && (same_list same_ty a.throws b.throws && same_stmts a.body b.body)) (right (same_result a.result b.result) (bytes_eq a.name b.name && (same_list same_parameter a.parameters b.parameters && (same_list same_ty a.throws b.throws && same_stmts a.body b.body))) (right (same_list same_modifier a.modifiers b.modifiers) (same_result a.result b.result && (bytes_eq a.name b.name && (same_list same_parameter a.parameters b.parameters && (same_list same_ty a.throws b.throws && same_stmts a.body b.body)))) met))))) (list_is same_ty ty_is a.throws b.throws (left (same_list same_ty a.throws b.throws) (same_stmts a.body b.body) (right (same_list same_parameter a.parameters b.parameters) (same_list same_ty a.throws b.throws && same_stmts a.body b.body) (right (bytes_eq a.name b.name) (same_list same_parameter a.parameters b.parameters && (same_list same_ty a.throws b.throws && same_stmts a.body b.body)) (right (same_result a.result b.result) (bytes_eq a.name b.name && (same_list same_parameter a.parameters b.parameters && (same_list same_ty a.throws b.throws && same_stmts a.body b.body))) (right (same_list same_modifier a.modifiers b.modifiers) (same_result a.result b.result && (bytes_eq a.name b.name && (same_list same_parameter a.parameters b.parameters && (same_list same_ty a.throws b.throws && same_stmts a.body b.body)))) met)))))) (stmts_is a.body b.body (right (same_list same_ty a.throws b.throws) (same_stmts a.body b.body) (right (same_list same_parameter a.parameters b.parameters) (same_list same_ty a.throws b.throws && same_stmts a.body b.body) (right (bytes_eq a.name b.name) (same_list same_parameter a.parameters b.parameters && (same_list same_ty a.throws b.throws && same_stmts a.body b.body)) (right (same_result a.result b.result) (bytes_eq a.name b.name && (same_list same_parameter a.parameters b.parameters && (same_list same_ty a.throws b.throws && same_stmts a.body b.body))) (right (same_list same_modifier a.modifiers b.modifiers) (same_result a.result b.result && (bytes_eq a.name b.name && (same_list same_parameter a.parameters b.parameters && (same_list same_ty a.throws b.throws && same_stmts a.body b.body)))) met))))))

@@ -3,7 +3,7 @@ use Rattle.std.specs.Prelude.{Bool, true, false, ◌&&◌, ◌==◌, List, [], �
 use Rattle.java_lexer.specs.declared.token.TokenKind.{TokenKind}
 use Rattle.java_lexer.specs.declared.token.TokenKind.TheVariants as kind
 use Rattle.java_tree.specs.declared.words.Spelled.{Spelled}
-use Rattle.java_tree.specs.Trees.{Ty, Typed, Base, Plain, Named, Parts, no_part, part_then, Part, Bare, Generic, Arguments, Angled, ArgumentList, no_argument, argument_then, Argument, Exact, Any, Extends, Super, Expr, Assign, Conditional, Binary, InstanceOf, Prefix, Cast, Postfix, Literal, This, Name, Paren, Field, Index, Call, CallOn, ClassOf, New, NewArray, NewItems, Exprs, no_expr, expr_then, Array, Braces, Inits, no_init, init_then, Init, Value, Items, Variable, Locals, Start, Declares, Runs, Stmt, Block, Local, Run, If, IfElse, While, For, ForEach, Sync, Return, Empty, Stmts, no_stmt, stmt_then, Note, Modifier, Word, Annotated, Result, NoResult, VoidResult, TypeResult, Parameter, Method}
+use Rattle.java_tree.specs.Trees.{Ty, Typed, Base, Plain, Named, Parts, no_part, part_then, Part, Bare, Generic, Arguments, Angled, ArgumentList, no_argument, argument_then, Argument, Exact, Any, Extends, Super, Expr, Assign, Conditional, Binary, InstanceOf, Prefix, Cast, Postfix, Literal, This, Name, Paren, Field, Index, Call, CallOn, ClassOf, New, NewArray, NewItems, Exprs, no_expr, expr_then, Array, Braces, Inits, no_init, init_then, Init, Value, Items, Variable, Locals, Start, Declares, Runs, Stmt, Block, Local, Run, If, IfElse, While, For, ForEach, Sync, Return, Empty, Stmts, no_stmt, stmt_then, Annotation, Modifier, Word, Annotated, Result, NoResult, VoidResult, TypeResult, Parameter, Method}
 
 abbrev pub same_bool : Bool → Bool → Bool
 same_bool true true = true
@@ -115,7 +115,7 @@ abbrev mutual
 -- ---- statements
 
 abbrev pub same_variable : Variable → Variable → Bool
-same_variable a b = bytes_eq a.name b.name && same_option same_init a.initial b.initial
+same_variable a b = bytes_eq a.name b.name && same_option same_init a.initialiser b.initialiser
 
 abbrev pub same_locals : Locals → Locals → Bool
 same_locals a b = same_bool a.is_final b.is_final && (same_ty a.kind b.kind && same_list same_variable a.variables b.variables)
@@ -147,12 +147,12 @@ abbrev mutual
 
 -- ---- methods
 
-abbrev pub same_note : Note → Note → Bool
-same_note a b = same_list bytes_eq a.names b.names && same_list same_word a.arguments b.arguments
+abbrev pub same_annotation : Annotation → Annotation → Bool
+same_annotation a b = same_list bytes_eq a.names b.names && same_list same_word a.arguments b.arguments
 
 abbrev pub same_modifier : Modifier → Modifier → Bool
 same_modifier (Word a) (Word b) = bytes_eq a b
-same_modifier (Annotated a) (Annotated b) = same_note a b
+same_modifier (Annotated a) (Annotated b) = same_annotation a b
 same_modifier _ _ = false
 
 abbrev pub same_result : Result → Result → Bool
@@ -163,7 +163,7 @@ same_result _ _ = false
 
 abbrev pub same_parameter : Parameter → Parameter → Bool
 same_parameter a b =
-    same_bool a.is_final b.is_final && (same_list same_note a.notes b.notes && (same_ty a.kind b.kind && bytes_eq a.name b.name))
+    same_bool a.is_final b.is_final && (same_list same_annotation a.annotations b.annotations && (same_ty a.kind b.kind && bytes_eq a.name b.name))
 
 abbrev pub same_method : Method → Method → Bool
 same_method a b =

@@ -1,8 +1,17 @@
--- The spelling of a tree: its tokens, and then the rest.
-use Rattle.std.specs.Prelude.{ℕ, zero, suc, Bool, true, false, List, [], ◌∷◌, ◌++◌, Option, Some, None, codes, bytes_eq, if◌then◌else◌}
+-- A contract of a public call rests on this: the spelling of a tree, its tokens and then the rest.
+use Rattle.std.specs.Prelude.{ℕ, zero, suc, Bool, true, false, List, [], ◌∷◌, ◌++◌, Option, Some, None, codes}
+use Rattle.std.specs.Prelude.{bytes_eq, if◌then◌else◌}
 use Rattle.java_tree.specs.declared.words.Spelled.{Spelled}
 use Rattle.java_tree.specs.Words.{keyword, identifier, sign, sign_glued, word_of}
-use Rattle.java_tree.specs.Trees.{Ty, Typed, Base, Plain, Named, Parts, no_part, part_then, Part, Bare, Generic, Arguments, Angled, ArgumentList, no_argument, argument_then, Argument, Exact, Any, Extends, Super, Expr, Assign, Conditional, Binary, InstanceOf, Prefix, Cast, Postfix, Literal, This, Name, Paren, Field, Index, Call, CallOn, ClassOf, New, NewArray, NewItems, Exprs, no_expr, expr_then, Array, Braces, Inits, no_init, init_then, Init, Value, Items, Variable, Locals, Start, Declares, Runs, Stmt, Block, Local, Run, If, IfElse, While, For, ForEach, Sync, Return, Empty, Stmts, no_stmt, stmt_then, Note, Modifier, Word, Annotated, Result, NoResult, VoidResult, TypeResult, Parameter, Method}
+use Rattle.java_tree.specs.Trees.{Ty, Typed, Base, Plain, Named, Parts, no_part, part_then, Part, Bare, Generic}
+use Rattle.java_tree.specs.Trees.{Arguments, Angled, ArgumentList, no_argument, argument_then, Argument, Exact, Any}
+use Rattle.java_tree.specs.Trees.{Extends, Super, Expr, Assign, Conditional, Binary, InstanceOf, Prefix, Cast}
+use Rattle.java_tree.specs.Trees.{Postfix, Literal, This, Name, Paren, Field, Index, Call, CallOn, ClassOf, New}
+use Rattle.java_tree.specs.Trees.{NewArray, NewItems, Exprs, no_expr, expr_then, Array, Braces, Inits, no_init}
+use Rattle.java_tree.specs.Trees.{init_then, Init, Value, Items, Variable, Locals, Start, Declares, Runs, Stmt}
+use Rattle.java_tree.specs.Trees.{Block, Local, Run, If, IfElse, While, For, ForEach, Sync, Return, Empty, Stmts}
+use Rattle.java_tree.specs.Trees.{no_stmt, stmt_then, Annotation, Modifier, Word, Annotated, Result, NoResult}
+use Rattle.java_tree.specs.Trees.{VoidResult, TypeResult, Parameter, Method}
 
 -- ---- lists
 
@@ -71,7 +80,8 @@ abbrev mutual
   -- each behind a comma
   pub more_arguments_onto : ArgumentList → List Spelled → List Spelled
   more_arguments_onto no_argument rest = rest
-  more_arguments_onto (argument_then a others) rest = sign (codes ",") ∷ argument_onto a (more_arguments_onto others rest)
+  more_arguments_onto (argument_then a others) rest =
+      sign (codes ",") ∷ argument_onto a (more_arguments_onto others rest)
 
   -- JLS 4.5.1
   pub argument_onto : Argument → List Spelled → List Spelled
@@ -86,7 +96,8 @@ abbrev mutual
 abbrev pub operator_onto : List ℕ → List Spelled → List Spelled
 operator_onto text rest =
     if bytes_eq text (codes ">>") then sign (codes ">") ∷ sign_glued true (codes ">") ∷ rest
-    else (if bytes_eq text (codes ">>>") then sign (codes ">") ∷ sign_glued true (codes ">") ∷ sign_glued true (codes ">") ∷ rest
+    else (if bytes_eq text (codes ">>>") then sign (codes ">") ∷ sign_glued true (codes ">")
+    ∷ sign_glued true (codes ">") ∷ rest
     else sign text ∷ rest)
 
 -- the last comma of an array initialiser, where it stands
@@ -97,7 +108,8 @@ last_comma_onto false rest = rest
 abbrev mutual
   pub expr_onto : Expr → List Spelled → List Spelled
   expr_onto (Assign a op b) rest = expr_onto a (sign op ∷ expr_onto b rest)
-  expr_onto (Conditional a b c) rest = expr_onto a (sign (codes "?") ∷ expr_onto b (sign (codes ":") ∷ expr_onto c rest))
+  expr_onto (Conditional a b c) rest =
+      expr_onto a (sign (codes "?") ∷ expr_onto b (sign (codes ":") ∷ expr_onto c rest))
   expr_onto (Binary a op b) rest = expr_onto a (operator_onto op (expr_onto b rest))
   expr_onto (InstanceOf a t) rest = expr_onto a (keyword (codes "instanceof") ∷ ty_onto t rest)
   expr_onto (Prefix op a) rest = sign op ∷ expr_onto a rest
@@ -113,8 +125,10 @@ abbrev mutual
   expr_onto (CallOn a x all) rest =
       expr_onto a (sign (codes ".") ∷ identifier x ∷ sign (codes "(") ∷ exprs_onto all (sign (codes ")") ∷ rest))
   expr_onto (ClassOf xs) rest = names_onto xs (sign (codes ".") ∷ keyword (codes "class") ∷ rest)
-  expr_onto (New t all) rest = keyword (codes "new") ∷ ty_onto t (sign (codes "(") ∷ exprs_onto all (sign (codes ")") ∷ rest))
-  expr_onto (NewArray t lengths n) rest = keyword (codes "new") ∷ ty_onto t (lengths_onto lengths (brackets_onto n rest))
+  expr_onto (New t all) rest = keyword (codes "new") ∷ ty_onto t (sign (codes "(") ∷ exprs_onto all (sign (codes ")")
+      ∷ rest))
+  expr_onto (NewArray t lengths n) rest =
+      keyword (codes "new") ∷ ty_onto t (lengths_onto lengths (brackets_onto n rest))
   expr_onto (NewItems t n items) rest = keyword (codes "new") ∷ ty_onto t (brackets_onto n (array_onto items rest))
 
   -- with commas between them
@@ -156,12 +170,13 @@ maybe_expr_onto (Some e) rest = expr_onto e rest
 
 -- ---- statements (JLS 14)
 
-abbrev pub initial_onto : Option Init → List Spelled → List Spelled
-initial_onto None rest = rest
-initial_onto (Some i) rest = sign (codes "=") ∷ init_onto i rest
+-- `=` and what a variable begins with, where it stands
+abbrev pub maybe_init_onto : Option Init → List Spelled → List Spelled
+maybe_init_onto None rest = rest
+maybe_init_onto (Some i) rest = sign (codes "=") ∷ init_onto i rest
 
 abbrev pub variable_onto : Variable → List Spelled → List Spelled
-variable_onto v rest = identifier v.name ∷ initial_onto v.initial rest
+variable_onto v rest = identifier v.name ∷ maybe_init_onto v.initialiser rest
 
 abbrev pub locals_onto : Locals → List Spelled → List Spelled
 locals_onto l rest = final_onto l.is_final (ty_onto l.kind (commas_onto variable_onto l.variables rest))
@@ -177,16 +192,21 @@ abbrev mutual
   stmt_onto (Run e) rest = expr_onto e (sign (codes ";") ∷ rest)
   stmt_onto (If e s) rest = keyword (codes "if") ∷ sign (codes "(") ∷ expr_onto e (sign (codes ")") ∷ stmt_onto s rest)
   stmt_onto (IfElse e s t) rest =
-      keyword (codes "if") ∷ sign (codes "(") ∷ expr_onto e (sign (codes ")") ∷ stmt_onto s (keyword (codes "else") ∷ stmt_onto t rest))
-  stmt_onto (While e s) rest = keyword (codes "while") ∷ sign (codes "(") ∷ expr_onto e (sign (codes ")") ∷ stmt_onto s rest)
+      keyword (codes "if") ∷ sign (codes "(") ∷ expr_onto e (sign (codes ")") ∷ stmt_onto s (keyword (codes "else")
+      ∷ stmt_onto t rest))
+  stmt_onto (While e s) rest = keyword (codes "while") ∷ sign (codes "(") ∷ expr_onto e (sign (codes ")")
+      ∷ stmt_onto s rest)
   stmt_onto (For start condition updates s) rest =
       keyword (codes "for") ∷ sign (codes "(") ∷
-      start_onto start (sign (codes ";") ∷ maybe_expr_onto condition (sign (codes ";") ∷ exprs_onto updates (sign (codes ")") ∷ stmt_onto s rest)))
+      start_onto start (sign (codes ";") ∷ maybe_expr_onto condition (sign (codes ";") ∷ exprs_onto updates
+      (sign (codes ")") ∷ stmt_onto s rest)))
   stmt_onto (ForEach is_final t x e s) rest =
       keyword (codes "for") ∷ sign (codes "(") ∷
-      final_onto is_final (ty_onto t (identifier x ∷ sign (codes ":") ∷ expr_onto e (sign (codes ")") ∷ stmt_onto s rest)))
+      final_onto is_final (ty_onto t (identifier x ∷ sign (codes ":") ∷ expr_onto e (sign (codes ")")
+      ∷ stmt_onto s rest)))
   stmt_onto (Sync e ss) rest =
-      keyword (codes "synchronized") ∷ sign (codes "(") ∷ expr_onto e (sign (codes ")") ∷ sign (codes "{") ∷ stmts_onto ss (sign (codes "}") ∷ rest))
+      keyword (codes "synchronized") ∷ sign (codes "(") ∷ expr_onto e (sign (codes ")") ∷ sign (codes "{")
+      ∷ stmts_onto ss (sign (codes "}") ∷ rest))
   stmt_onto (Return e) rest = keyword (codes "return") ∷ maybe_expr_onto e (sign (codes ";") ∷ rest)
   stmt_onto Empty rest = sign (codes ";") ∷ rest
 
@@ -200,16 +220,16 @@ block_onto ss rest = sign (codes "{") ∷ stmts_onto ss (sign (codes "}") ∷ re
 -- ---- methods (JLS 8.4, 8.8)
 
 -- JLS 9.7
-abbrev pub note_onto : Note → List Spelled → List Spelled
-note_onto n rest = sign (codes "@") ∷ names_onto n.names (n.arguments ++ rest)
+abbrev pub annotation_onto : Annotation → List Spelled → List Spelled
+annotation_onto n rest = sign (codes "@") ∷ names_onto n.names (n.arguments ++ rest)
 
-abbrev pub notes_onto : List Note → List Spelled → List Spelled
-notes_onto [] rest = rest
-notes_onto (n ∷ ns) rest = note_onto n (notes_onto ns rest)
+abbrev pub annotations_onto : List Annotation → List Spelled → List Spelled
+annotations_onto [] rest = rest
+annotations_onto (n ∷ ns) rest = annotation_onto n (annotations_onto ns rest)
 
 abbrev pub modifier_onto : Modifier → List Spelled → List Spelled
 modifier_onto (Word text) rest = keyword text ∷ rest
-modifier_onto (Annotated n) rest = note_onto n rest
+modifier_onto (Annotated n) rest = annotation_onto n rest
 
 abbrev pub modifiers_onto : List Modifier → List Spelled → List Spelled
 modifiers_onto [] rest = rest
@@ -222,7 +242,8 @@ result_onto (TypeResult t) rest = ty_onto t rest
 
 -- JLS 8.4.1
 abbrev pub parameter_onto : Parameter → List Spelled → List Spelled
-parameter_onto p rest = final_onto p.is_final (notes_onto p.notes (ty_onto p.kind (identifier p.name ∷ rest)))
+parameter_onto p rest =
+    final_onto p.is_final (annotations_onto p.annotations (ty_onto p.kind (identifier p.name ∷ rest)))
 
 -- JLS 8.4.6
 abbrev pub throws_onto : List Ty → List Spelled → List Spelled

@@ -1,5 +1,6 @@
--- Trees without places and without memory: types, expressions, statements and methods, one constructor for
--- each form.
+-- A contract of a public call rests on this: trees without places and without memory, one constructor for each
+-- form. Each has the name of its type in the code without `Tree` or `Type`, and a long word is cut short: `Ty` is of
+-- `TypeTree`, `Expr` of `Expression`, `Init` of `Initialiser`, `Stmt` of `Statement`, `Method` of `MethodTree`.
 use Rattle.std.specs.Prelude.{ℕ, Bool, List, [], ◌∷◌, Option}
 use Rattle.java_lexer.specs.declared.token.TokenKind.{TokenKind}
 use Rattle.java_tree.specs.declared.words.Spelled.{Spelled}
@@ -98,7 +99,7 @@ pack_arguments (a ∷ rest) = argument_then a (pack_arguments rest)
 -- a variable, with what it begins with
 pub record Variable : Type 0 where
   pub name : List ℕ
-  pub initial : Option Init
+  pub initialiser : Option Init
 
 -- a declaration of variables, without its `;`
 pub record Locals : Type 0 where
@@ -136,13 +137,13 @@ pack_stmts (s ∷ ss) = stmt_then s (pack_stmts ss)
 -- ---- methods (JLS 8.4, 8.8)
 
 -- names joined by `.`, and the tokens of the parentheses, these included
-pub record Note : Type 0 where
+pub record Annotation : Type 0 where
   pub names : List (List ℕ)
   pub arguments : List Spelled
 
 pub data Modifier : Type 0 where
   Word : (text : List ℕ) → Modifier
-  Annotated : Note → Modifier
+  Annotated : Annotation → Modifier
 
 pub data Result : Type 0 where
   NoResult : Result
@@ -151,7 +152,7 @@ pub data Result : Type 0 where
 
 pub record Parameter : Type 0 where
   pub is_final : Bool
-  pub notes : List Note
+  pub annotations : List Annotation
   pub kind : Ty
   pub name : List ℕ
 

@@ -1,4 +1,4 @@
--- The trees of the code without places and without memory.
+-- A contract of a public call rests on this: the trees of the code without places and without memory.
 use Rattle.std.specs.Prelude.{ℕ, List, Option, Some, None, map, option_map}
 use Rattle.java_tree.specs.declared.words.Ident.{Ident}
 use Rattle.java_tree.specs.declared.types.TypeTree.{TypeTree}
@@ -6,31 +6,40 @@ use Rattle.java_tree.specs.declared.types.BaseType.{BaseType}
 use Rattle.java_tree.specs.declared.types.TypePart.{TypePart}
 use Rattle.java_tree.specs.declared.types.TypeArguments.{TypeArguments}
 use Rattle.java_tree.specs.declared.types.TypeArgument.{TypeArgument}
-use Rattle.java_tree.specs.declared.types.BaseType.TheOpen.{BaseType-F, TypeArgument-F, TypeArguments-F, TypePart-F, TypeTree-F}
+use Rattle.java_tree.specs.declared.types.BaseType.TheOpen.{BaseType-F, TypeArgument-F, TypeArguments-F, TypePart-F}
+use Rattle.java_tree.specs.declared.types.BaseType.TheOpen.{TypeTree-F}
 use Rattle.java_tree.specs.declared.types.BaseType.TheOpen as type
-use Rattle.java_tree.specs.declared.types.BaseType.TheFolds.{fold-TypeTree, fold-BaseType, fold-TypePart, fold-TypeArguments, fold-TypeArgument}
+use Rattle.java_tree.specs.declared.types.BaseType.TheFolds.{fold-TypeTree, fold-BaseType, fold-TypePart}
+use Rattle.java_tree.specs.declared.types.BaseType.TheFolds.{fold-TypeArguments, fold-TypeArgument}
 use Rattle.java_tree.specs.declared.expressions.Expression.{Expression}
-use Rattle.java_tree.specs.declared.expressions.Initial.{Initial}
-use Rattle.java_tree.specs.declared.expressions.ArrayItems.{ArrayItems}
-use Rattle.java_tree.specs.declared.expressions.Expression.TheOpen.{Expression-F, Initial-F, ArrayItems-F}
+use Rattle.java_tree.specs.declared.expressions.Initialiser.{Initialiser}
+use Rattle.java_tree.specs.declared.expressions.ArrayTree.{ArrayTree}
+use Rattle.java_tree.specs.declared.expressions.Expression.TheOpen.{Expression-F, Initialiser-F, ArrayTree-F}
 use Rattle.java_tree.specs.declared.expressions.Expression.TheOpen as expression
-use Rattle.java_tree.specs.declared.expressions.Expression.TheFolds.{fold-Expression, fold-Initial, fold-ArrayItems}
-use Rattle.java_tree.specs.declared.statements.Declarator.{Declarator}
-use Rattle.java_tree.specs.declared.statements.LocalTree.{LocalTree}
-use Rattle.java_tree.specs.declared.statements.ForInit.{ForInit}
-use Rattle.java_tree.specs.declared.statements.ForInit.TheVariants as init
+use Rattle.java_tree.specs.declared.expressions.Expression.TheFolds.{fold-Expression, fold-Initialiser, fold-ArrayTree}
+use Rattle.java_tree.specs.declared.statements.VariableTree.{VariableTree}
+use Rattle.java_tree.specs.declared.statements.LocalsTree.{LocalsTree}
+use Rattle.java_tree.specs.declared.statements.StartTree.{StartTree}
+use Rattle.java_tree.specs.declared.statements.StartTree.TheVariants as init
 use Rattle.java_tree.specs.declared.statements.Statement.{Statement}
 use Rattle.java_tree.specs.declared.statements.Statement.TheOpen.{Statement-F}
 use Rattle.java_tree.specs.declared.statements.Statement.TheOpen as statement
 use Rattle.java_tree.specs.declared.statements.Statement.TheFolds.{fold-Statement}
-use Rattle.java_tree.specs.declared.methods.Annotation.{Annotation}
-use Rattle.java_tree.specs.declared.methods.Modifier as modifiers
-use Rattle.java_tree.specs.declared.methods.Modifier.TheVariants as modifier
+use Rattle.java_tree.specs.declared.methods.AnnotationTree.{AnnotationTree}
+use Rattle.java_tree.specs.declared.methods.ModifierTree as modifiers
+use Rattle.java_tree.specs.declared.methods.ModifierTree.TheVariants as modifier
 use Rattle.java_tree.specs.declared.methods.ResultTree.{ResultTree}
 use Rattle.java_tree.specs.declared.methods.ResultTree.TheVariants as result
 use Rattle.java_tree.specs.declared.methods.ParameterTree.{ParameterTree}
 use Rattle.java_tree.specs.declared.methods.MethodTree.{MethodTree}
-use Rattle.java_tree.specs.Trees.{Ty, Typed, Base, Plain, Named, Part, Bare, Generic, Arguments, Angled, Argument, Exact, Any, Extends, Super, Expr, Assign, Conditional, Binary, InstanceOf, Prefix, Cast, Postfix, Literal, This, Name, Paren, Field, Index, Call, CallOn, ClassOf, New, NewArray, NewItems, Array, Braces, Init, Value, Items, Variable, Locals, Start, Declares, Runs, Stmt, Block, Local, Run, If, IfElse, While, For, ForEach, Sync, Return, Empty, Note, Modifier, Word, Annotated, Result, NoResult, VoidResult, TypeResult, Parameter, Method, pack_parts, pack_arguments, pack_exprs, pack_inits, pack_stmts}
+use Rattle.java_tree.specs.Trees.{Ty, Typed, Base, Plain, Named, Part, Bare, Generic, Arguments, Angled, Argument}
+use Rattle.java_tree.specs.Trees.{Exact, Any, Extends, Super, Expr, Assign, Conditional, Binary, InstanceOf, Prefix}
+use Rattle.java_tree.specs.Trees.{Cast, Postfix, Literal, This, Name, Paren, Field, Index, Call, CallOn, ClassOf}
+use Rattle.java_tree.specs.Trees.{New, NewArray, NewItems, Array, Braces, Init, Value, Items, Variable, Locals}
+use Rattle.java_tree.specs.Trees.{Start, Declares, Runs, Stmt, Block, Local, Run, If, IfElse, While, For, ForEach}
+use Rattle.java_tree.specs.Trees.{Sync, Return, Empty, Annotation, Modifier, Word, Annotated, Result, NoResult}
+use Rattle.java_tree.specs.Trees.{VoidResult, TypeResult, Parameter, Method, pack_parts, pack_arguments, pack_exprs}
+use Rattle.java_tree.specs.Trees.{pack_inits, pack_stmts}
 
 abbrev pub name_of : Ident → List ℕ
 name_of x = x.text
@@ -101,31 +110,31 @@ expr_step (expression.New place t all) = New (ty_of t) (pack_exprs all.items)
 expr_step (expression.NewArray place t lengths n) = NewArray (ty_of t) (pack_exprs lengths.items) n
 expr_step (expression.NewItems place t n items) = NewItems (ty_of t) n items
 
-abbrev pub init_step : Initial-F Expr Init Array → Init
+abbrev pub init_step : Initialiser-F Expr Init Array → Init
 init_step (expression.Value e) = Value e
 init_step (expression.Items items) = Items items
 
-abbrev pub array_step : ArrayItems-F Expr Init Array → Array
+abbrev pub array_step : ArrayTree-F Expr Init Array → Array
 array_step a = Braces (pack_inits a.items.items) a.last_comma
 
 abbrev pub expr_of : Expression → Expr
 expr_of = fold-Expression Expr Init Array expr_step init_step array_step
 
-abbrev pub init_of : Initial → Init
-init_of = fold-Initial Expr Init Array expr_step init_step array_step
+abbrev pub init_of : Initialiser → Init
+init_of = fold-Initialiser Expr Init Array expr_step init_step array_step
 
-abbrev pub array_of : ArrayItems → Array
-array_of = fold-ArrayItems Expr Init Array expr_step init_step array_step
+abbrev pub array_of : ArrayTree → Array
+array_of = fold-ArrayTree Expr Init Array expr_step init_step array_step
 
 -- ---- statements
 
-abbrev pub variable_of : Declarator → Variable
-variable_of d = record { name = name_of d.name; initial = option_map init_of d.initial }
+abbrev pub variable_of : VariableTree → Variable
+variable_of d = record { name = name_of d.name; initialiser = option_map init_of d.initialiser }
 
-abbrev pub locals_of : LocalTree → Locals
-locals_of l = record { is_final = l.is_final; kind = ty_of l.kind; variables = map variable_of l.declarators }
+abbrev pub locals_of : LocalsTree → Locals
+locals_of l = record { is_final = l.is_final; kind = ty_of l.kind; variables = map variable_of l.variables }
 
-abbrev pub start_of : ForInit → Start
+abbrev pub start_of : StartTree → Start
 start_of (init.Local l) = Declares (locals_of l)
 start_of (init.Expressions all) = Runs (pack_exprs (map expr_of all))
 
@@ -139,7 +148,8 @@ stmt_step (statement.Local l) = Local (locals_of l)
 stmt_step (statement.Expr e) = Run (expr_of e)
 stmt_step (statement.If e s t) = if_of (expr_of e) s.value (option_map (λ b. b.value) t)
 stmt_step (statement.While e s) = While (expr_of e) s.value
-stmt_step (statement.For start condition updates s) = For (start_of start) (option_map expr_of condition) (pack_exprs (map expr_of updates.items)) s.value
+stmt_step (statement.For start condition updates s) =
+    For (start_of start) (option_map expr_of condition) (pack_exprs (map expr_of updates.items)) s.value
 stmt_step (statement.ForEach is_final t x e s) = ForEach is_final (ty_of t) (name_of x) (expr_of e) s.value
 stmt_step (statement.Sync place e ss) = Sync (expr_of e) (pack_stmts ss.items)
 stmt_step (statement.Return e) = Return (option_map expr_of e)
@@ -150,12 +160,12 @@ stmt_of = fold-Statement Stmt stmt_step
 
 -- ---- methods
 
-abbrev pub note_of : Annotation → Note
-note_of n = record { names = n.names; arguments = n.arguments }
+abbrev pub annotation_of : AnnotationTree → Annotation
+annotation_of n = record { names = n.names; arguments = n.arguments }
 
-abbrev pub modifier_of : modifiers.Modifier → Modifier
+abbrev pub modifier_of : modifiers.ModifierTree → Modifier
 modifier_of (modifier.Word text) = Word text
-modifier_of (modifier.Note n) = Annotated (note_of n)
+modifier_of (modifier.Annotated n) = Annotated (annotation_of n)
 
 abbrev pub result_of : ResultTree → Result
 result_of result.Constructor = NoResult
@@ -164,7 +174,13 @@ result_of (result.Of t) = TypeResult (ty_of t)
 
 abbrev pub parameter_of : ParameterTree → Parameter
 parameter_of p =
-    record { is_final = p.is_final; notes = map note_of p.annotations; kind = ty_of p.kind; name = name_of p.name }
+    record {
+      is_final = p.is_final;
+      annotations = map annotation_of p.annotations;
+      kind = ty_of p.kind;
+      name = name_of
+          p.name;
+    }
 
 abbrev pub method_of : MethodTree → Method
 method_of m =

@@ -1,4 +1,4 @@
--- Tokens without places, as trees spell them (JLS 3.8 to 3.12).
+-- A contract of a public call rests on this: tokens without places, as trees spell them (JLS 3.8 to 3.12).
 use Rattle.std.specs.Prelude.{ℕ, Bool, false, List}
 use Rattle.java_lexer.specs.declared.token.TokenKind.{TokenKind}
 use Rattle.java_lexer.specs.declared.token.TokenKind.TheVariants as kind

@@ -43,21 +43,21 @@ pub enum Expression {
     /// `new T[a].. [ ]..`, with the number of its empty `[ ]` (JLS 15.10.1).
     NewArray(Place, TypeTree, Vec<Expression>, u32),
     /// `new T[ ].. { .. }`, with the number of its `[ ]` (JLS 15.10.1).
-    NewItems(Place, TypeTree, u32, ArrayItems),
+    NewItems(Place, TypeTree, u32, ArrayTree),
 }
 
 /// What a variable or an element of an array begins with.
 #[derive(Drop)]
 #[cycle(expressions)]
-pub enum Initial {
+pub enum Initialiser {
     Value(Expression),
-    Items(ArrayItems),
+    Items(ArrayTree),
 }
 
 /// An array initialiser, and whether a comma stands behind its last item (JLS 10.6).
 #[derive(Drop)]
 #[cycle(expressions)]
-pub struct ArrayItems {
-    pub items: Vec<Initial>,
+pub struct ArrayTree {
+    pub items: Vec<Initialiser>,
     pub last_comma: bool,
 }

@@ -12,13 +12,13 @@ mod types;
 mod words;
 
 pub use depth::nesting;
-pub use expressions::{ArrayItems, Expression, Initial};
+pub use expressions::{ArrayTree, Expression, Initialiser};
 pub use methods::{
-    Annotation, FieldDeclarator, FieldInitial, FieldTree, MethodTree, Modifier, ParameterTree,
-    ResultTree,
+    AnnotationTree, FieldInitialiser, FieldTree, FieldVariable, MethodTree, ModifierTree,
+    ParameterTree, ResultTree,
 };
 pub use spelling::spell;
-pub use statements::{Declarator, ForInit, LocalTree, Statement};
+pub use statements::{LocalsTree, StartTree, Statement, VariableTree};
 pub use types::{BaseType, TypeArgument, TypeArguments, TypePart, TypeTree};
 pub use words::{Ident, Spelled};
 

@@ -1,5 +1,5 @@
 //! Methods and constructors (JLS 8.4, 8.8) and fields (JLS 8.3).
-use crate::expressions::Initial;
+use crate::expressions::Initialiser;
 use crate::statements::Statement;
 use crate::types::TypeTree;
 use crate::words::{Ident, Spelled};
@@ -8,16 +8,16 @@ use racer_base::{Items, Text};
 /// `@` and names joined by `.`, with the tokens of its parentheses, these included (JLS 9.7). It has no
 /// such tokens where it has no parentheses.
 #[derive(Drop)]
-pub struct Annotation {
+pub struct AnnotationTree {
     pub names: Items<Text>,
     pub arguments: Items<Spelled>,
 }
 
 /// A modifier's word, or an annotation among the modifiers (JLS 8.3.1, 8.4.3).
 #[derive(Drop)]
-pub enum Modifier {
+pub enum ModifierTree {
     Word(Text),
-    Note(Annotation),
+    Annotated(AnnotationTree),
 }
 
 /// What stands before the name of a method: nothing for a constructor, `void`, or a type (JLS 8.4.5).
@@ -32,7 +32,7 @@ pub enum ResultTree {
 #[derive(Drop)]
 pub struct ParameterTree {
     pub is_final: bool,
-    pub annotations: Items<Annotation>,
+    pub annotations: Items<AnnotationTree>,
     pub kind: TypeTree,
     pub name: Ident,
 }
@@ -40,7 +40,7 @@ pub struct ParameterTree {
 /// A method or a constructor with its body.
 #[derive(Drop)]
 pub struct MethodTree {
-    pub modifiers: Items<Modifier>,
+    pub modifiers: Items<ModifierTree>,
     pub result: ResultTree,
     pub name: Ident,
     pub parameters: Items<ParameterTree>,
@@ -51,22 +51,22 @@ pub struct MethodTree {
 /// A declaration of fields.
 #[derive(Drop)]
 pub struct FieldTree {
-    pub modifiers: Items<Modifier>,
+    pub modifiers: Items<ModifierTree>,
     pub kind: TypeTree,
-    pub declarators: Items<FieldDeclarator>,
+    pub variables: Items<FieldVariable>,
 }
 
 /// A field, with what it begins with.
 #[derive(Drop)]
-pub struct FieldDeclarator {
+pub struct FieldVariable {
     pub name: Ident,
-    pub initial: FieldInitial,
+    pub initialiser: FieldInitialiser,
 }
 
 /// What a field begins with: nothing, what has a tree, or tokens that have none.
 #[derive(Drop)]
-pub enum FieldInitial {
+pub enum FieldInitialiser {
     Absent,
-    Formed(Initial),
+    Formed(Initialiser),
     Unread,
 }

@@ -4,9 +4,9 @@ ghost use Rattle.java_tree.specs.Nesting.{method_nesting};
 ghost use Rattle.java_tree.specs.View.{method_of};
 
 use crate::{
-    Annotation, ArrayItems, BaseType, Declarator, Expression, ForInit, Ident, Initial, LocalTree,
-    MethodTree, Modifier, ParameterTree, ResultTree, Spelled, Statement, TypeArgument,
-    TypeArguments, TypePart, TypeTree, nesting, spell,
+    AnnotationTree, ArrayTree, BaseType, Expression, Ident, Initialiser, LocalsTree, MethodTree,
+    ModifierTree, ParameterTree, ResultTree, Spelled, StartTree, Statement, TypeArgument,
+    TypeArguments, TypePart, TypeTree, VariableTree, nesting, spell,
 };
 use java_lexer::TokenKind;
 use racer_base::{FileId, Items, Memory, Place, Text};
@@ -61,16 +61,20 @@ fn plain(alloc: Global, word: &str, arrays: u32) -> Result<TypeTree, Memory> {
     })
 }
 
-fn local(alloc: Global, kind: TypeTree, initial: Option<Initial>) -> Result<LocalTree, Memory> {
-    let mut declarators = Items::new(alloc);
-    declarators.push(Declarator {
+fn local(
+    alloc: Global,
+    kind: TypeTree,
+    initialiser: Option<Initialiser>,
+) -> Result<LocalsTree, Memory> {
+    let mut variables = Items::new(alloc);
+    variables.push(VariableTree {
         name: ident(alloc, "v", 1)?,
-        initial,
+        initialiser,
     })?;
-    Ok(LocalTree {
+    Ok(LocalsTree {
         is_final: false,
         kind,
-        declarators,
+        variables,
     })
 }
 
@@ -90,14 +94,14 @@ fn operated(alloc: Global, operator: &str) -> Result<Expression, Memory> {
 }
 
 /// `{ a, { }, }`
-fn nested_items(alloc: Global) -> Result<ArrayItems, Memory> {
+fn nested_items(alloc: Global) -> Result<ArrayTree, Memory> {
     let mut items = Vec::new(alloc);
-    items.push(Initial::Value(name(alloc, "a")?))?;
-    items.push(Initial::Items(ArrayItems {
+    items.push(Initialiser::Value(name(alloc, "a")?))?;
+    items.push(Initialiser::Items(ArrayTree {
         items: Vec::new(alloc),
         last_comma: false,
     }))?;
-    Ok(ArrayItems {
+    Ok(ArrayTree {
         items,
         last_comma: true,
     })
@@ -145,7 +149,7 @@ fn put_for_each(alloc: Global, body: &mut Items<Statement>) -> Result<(), Memory
 fn put_for(alloc: Global, body: &mut Items<Statement>) -> Result<(), Memory> {
     let mut updates = Vec::new(alloc);
     updates.push(Expression::Postfix(boxed(alloc, "x")?, Text::from_str(alloc, "++")?))?;
-    let start = ForInit::Expressions(Items::new(alloc));
+    let start = StartTree::Expressions(Items::new(alloc));
     let block = Box::new(alloc, Statement::Block(Vec::new(alloc)))?;
     let condition = Some(name(alloc, "a")?);
     body.push(Statement::For(start, condition, updates, block))
@@ -185,7 +189,7 @@ fn put_operands(alloc: Global, body: &mut Items<Statement>) -> Result<(), Memory
 fn put_locals(alloc: Global, body: &mut Items<Statement>) -> Result<(), Memory> {
     let lists = list_of(alloc, list_of(alloc, part(alloc, "A", None)?, false)?, true)?;
     body.push(Statement::Local(local(alloc, lists, None)?))?;
-    let items = Some(Initial::Items(nested_items(alloc)?));
+    let items = Some(Initialiser::Items(nested_items(alloc)?));
     body.push(Statement::Local(local(alloc, plain(alloc, "int", 2)?, items)?))
 }
 
@@ -233,10 +237,9 @@ fn headed(alloc: Global) -> Result<MethodTree, Memory> {
             glued: false,
         })?;
     }
+    tree.modifiers.push(ModifierTree::Annotated(AnnotationTree { names, arguments }))?;
     tree.modifiers
-        .push(Modifier::Note(Annotation { names, arguments }))?;
-    tree.modifiers
-        .push(Modifier::Word(Text::from_str(alloc, "public")?))?;
+        .push(ModifierTree::Word(Text::from_str(alloc, "public")?))?;
     tree.parameters.push(ParameterTree {
         is_final: true,
         annotations: Items::new(alloc),
@@ -277,7 +280,7 @@ fn places_alone_make_no_difference(rt: HostRuntime) -> Result<(), Fail> {
     let mut static_one = empty_method(alloc, "m", 1)?;
     static_one
         .modifiers
-        .push(Modifier::Word(Text::from_str(alloc, "static")?))?;
+        .push(ModifierTree::Word(Text::from_str(alloc, "static")?))?;
     assert!(rt; plain != static_one);
     let (long, _) = long_method(alloc)?;
     assert!(rt; long == long);

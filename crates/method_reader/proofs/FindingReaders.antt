@@ -10,9 +10,12 @@ use Rattle.method_reader.specs.Readers.{Readers}
 
 -- EndsTy is of the tokens that do not go on with a type, EndsExpr of those that do not go on with an expression
 pub record Finds (readers : Readers) (EndsTy EndsExpr : List Spelled → Type 0) : Type 0 where
-  pub tree : (e : Expr) → FormedExpr e → (n : ℕ) (rest : List Spelled) → expr_nesting e ≤ n → EndsExpr rest → readers.tree n 0 (expr_onto e rest) ≡ Some (e, rest)
-  pub ty : (t : Ty) → FormedTy t → (n : ℕ) (rest : List Spelled) → ty_nesting t ≤ n → EndsTy rest → readers.ty n (ty_onto t rest) ≡ Some (t, rest)
-  pub initial : (i : Init) → FormedInit i → (n : ℕ) (rest : List Spelled) → init_nesting i ≤ n → EndsExpr rest → readers.initial n (init_onto i rest) ≡ Some (i, rest)
+  pub expr : (e : Expr) → FormedExpr e → (n : ℕ) (rest : List Spelled) → expr_nesting e ≤ n → EndsExpr rest
+      → readers.expr n 0 (expr_onto e rest) ≡ Some (e, rest)
+  pub ty : (t : Ty) → FormedTy t → (n : ℕ) (rest : List Spelled) → ty_nesting t ≤ n → EndsTy rest → readers.ty n
+      (ty_onto t rest) ≡ Some (t, rest)
+  pub init : (i : Init) → FormedInit i → (n : ℕ) (rest : List Spelled) → init_nesting i ≤ n → EndsExpr rest
+      → readers.init n (init_onto i rest) ≡ Some (i, rest)
   pub name_ends_ty : (x : List ℕ) (r : List Spelled) → EndsTy (identifier x ∷ r)
   pub comma_ends_ty : (r : List Spelled) → EndsTy (sign (codes ",") ∷ r)
   pub brace_ends_ty : (r : List Spelled) → EndsTy (sign (codes "{") ∷ r)

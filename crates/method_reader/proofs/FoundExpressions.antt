@@ -2,7 +2,10 @@
 use Rattle.std.proofs.Common.{◌≡◌, ℕ, ◌≤◌, max, List, [], Option, Some, refl, sym, ap, ◌∙◌, arith}
 use Rattle.std.proofs.lemmas.Bool.{false≢true}
 use Rattle.java_tree.specs.declared.words.Spelled.{Spelled}
-use Rattle.java_tree.specs.Trees.{Expr, Assign, Conditional, Binary, InstanceOf, Prefix, Cast, Postfix, Literal, This, Name, Paren, Field, Index, Call, CallOn, ClassOf, New, NewArray, NewItems, Exprs, no_expr, expr_then, Array, Braces, Inits, no_init, init_then, Init, Value, Items}
+use Rattle.java_tree.specs.Trees.{Expr, Assign, Conditional, Binary, InstanceOf, Prefix, Cast, Postfix, Literal}
+use Rattle.java_tree.specs.Trees.{This, Name, Paren, Field, Index, Call, CallOn, ClassOf, New, NewArray, NewItems}
+use Rattle.java_tree.specs.Trees.{Exprs, no_expr, expr_then, Array, Braces, Inits, no_init, init_then, Init, Value}
+use Rattle.java_tree.specs.Trees.{Items}
 use Rattle.java_tree.specs.Spelling.{expr_onto, array_onto, init_onto}
 use Rattle.java_tree.specs.Formed.{level, FormedExpr, FormedExprs, FormedArray, FormedInits, FormedInit}
 use Rattle.java_tree.specs.Nesting.{expr_nesting, array_nesting, init_nesting}
@@ -10,8 +13,13 @@ use Rattle.method_reader.specs.Leads.{pull}
 use Rattle.method_reader.specs.ExpressionReading.{read_at, array_at, init_at}
 use Rattle.method_reader.proofs.Taken.{pull_nothing}
 use Rattle.method_reader.proofs.Meetings.{Met, alone}
-use Rattle.method_reader.proofs.MetLists.{Given, GivenMore, given_none, given_some, more_none, more_some, Measured, measured_none, measured_some, Filled, filled_none, filled_some, Begun, begun_value, begun_items, FilledMore, filled_more_none, filled_more_some}
-use Rattle.method_reader.proofs.MetForms.{assign_met, conditional_met, binary_met, instance_met, prefix_met, cast_met, postfix_met, literal_met, this_met, name_met, paren_met, field_met, index_met, call_met, call_on_met, class_met, new_met, array_met, items_met}
+use Rattle.method_reader.proofs.MetLists.{Given, GivenMore, given_none, given_some, more_none, more_some, Measured}
+use Rattle.method_reader.proofs.MetLists.{measured_none, measured_some, Filled, filled_none, filled_some, Begun}
+use Rattle.method_reader.proofs.MetLists.{begun_value, begun_items, FilledMore, filled_more_none, filled_more_some}
+use Rattle.method_reader.proofs.MetForms.{assign_met, conditional_met, binary_met, instance_met, prefix_met}
+use Rattle.method_reader.proofs.MetForms.{cast_met, postfix_met, literal_met, this_met, name_met, paren_met}
+use Rattle.method_reader.proofs.MetForms.{field_met, index_met, call_met, call_on_met, class_met, new_met}
+use Rattle.method_reader.proofs.MetForms.{array_met, items_met}
 
 mutual
   pub met : (e : Expr) → FormedExpr e → Met e
@@ -61,20 +69,24 @@ mutual
   begun (Items a) f = begun_items a (filled a f)
 
 -- a formed expression is read, where the rest does not go on with it
-pub expression_found : (e : Expr) → FormedExpr e → (n l : ℕ) (rest : List Spelled) → expr_nesting e ≤ n → l ≤ level e → pull rest ≤ l → read_at n l (expr_onto e rest) ≡ Some (e, rest)
+pub expression_found : (e : Expr) → FormedExpr e → (n l : ℕ) (rest : List Spelled) → expr_nesting e ≤ n → l ≤ level e
+    → pull rest ≤ l → read_at n l (expr_onto e rest) ≡ Some (e, rest)
 expression_found e f n l rest fits low quiet = alone e (met e f) n l rest fits low quiet
 
 -- a formed array initialiser is read
-pub array_found : (a : Array) → FormedArray a → (n : ℕ) (rest : List Spelled) → array_nesting a ≤ n → array_at n (array_onto a rest) ≡ Some (a, rest)
+pub array_found : (a : Array) → FormedArray a → (n : ℕ) (rest : List Spelled) → array_nesting a ≤ n
+    → array_at n (array_onto a rest) ≡ Some (a, rest)
 array_found a f n rest fits = (filled a f).by n rest fits
 
 -- what a variable begins with is read
-pub init_found : (i : Init) → FormedInit i → (n : ℕ) (rest : List Spelled) → init_nesting i ≤ n → pull rest ≤ 0 → init_at n (init_onto i rest) ≡ Some (i, rest)
+pub init_found : (i : Init) → FormedInit i → (n : ℕ) (rest : List Spelled) → init_nesting i ≤ n → pull rest ≤ 0
+    → init_at n (init_onto i rest) ≡ Some (i, rest)
 init_found i f n rest fits quiet = (begun i f).by n rest fits quiet
 
 -- ---- unique reading
 
-same_read : {A : Type 0} (a b : A) (p q : A × List Spelled) (read : List Spelled → Option (A × List Spelled)) (r s : List Spelled) → p.0 ≡ a → q.0 ≡ b → r ≡ s → read r ≡ Some p → read s ≡ Some q → a ≡ b
+pub same_read : {A : Type 0} (a b : A) (p q : A × List Spelled) (read : List Spelled → Option (A × List Spelled))
+    (r s : List Spelled) → p.0 ≡ a → q.0 ≡ b → r ≡ s → read r ≡ Some p → read s ≡ Some q → a ≡ b
 same_read {A = A} a b p q read r s first second e found found' =
     let both : Some p ≡ Some q = sym found ∙ ap read e ∙ found' in
     let same : p ≡ q = cc in

@@ -23,9 +23,9 @@ EndsExpr rest = pull rest ≤ 0
 
 pub java_finds : Finds method_readers EndsTy EndsExpr
 java_finds = record {
-  tree = λ e f n rest fits ends. expression_found e f n 0 rest fits (omega arith) ends;
+  expr = λ e f n rest fits ends. expression_found e f n 0 rest fits (omega arith) ends;
   ty = ty_found;
-  initial = init_found;
+  init = init_found;
   name_ends_ty = λ x r. record { less = refl; point = refl; brackets = refl };
   comma_ends_ty = λ r. record { less = refl; point = refl; brackets = refl };
   brace_ends_ty = λ r. record { less = refl; point = refl; brackets = refl };
@@ -34,13 +34,15 @@ java_finds = record {
   semicolon_ends = λ r. omega (arith, pull_semicolon r);
 }
 
-pub statement_is_read : (s : Stmt) (n : ℕ) (rest : List Spelled) → FormedStmt s → stmt_nesting s ≤ n → Bears s rest → stmt_at method_readers n (stmt_onto s rest) ≡ Some (s, rest)
+pub statement_is_read : (s : Stmt) (n : ℕ) (rest : List Spelled) → FormedStmt s → stmt_nesting s ≤ n → Bears s rest
+    → stmt_at method_readers n (stmt_onto s rest) ≡ Some (s, rest)
 statement_is_read = stmt_found method_readers EndsTy EndsExpr java_finds
 
 pub one_java_statement : (a b : Stmt) → FormedStmt a → FormedStmt b → stmt_onto a [] ≡ stmt_onto b [] → a ≡ b
 one_java_statement = one_statement method_readers EndsTy EndsExpr java_finds
 
-pub method_is_read : (m : Method) (n : ℕ) → FormedMethod m → method_nesting m ≤ n → method_at method_readers n (spelling m) ≡ Some m
+pub method_is_read : (m : Method) (n : ℕ) → FormedMethod m → method_nesting m ≤ n → method_at method_readers n
+    (spelling m) ≡ Some m
 method_is_read = method_found method_readers EndsTy EndsExpr java_finds
 
 pub one_java_method : (a b : Method) → FormedMethod a → FormedMethod b → spelling a ≡ spelling b → a ≡ b

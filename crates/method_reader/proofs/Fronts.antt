@@ -5,7 +5,8 @@ use Rattle.java_lexer.specs.declared.token.TokenKind.TheVariants as kind
 use Rattle.java_tree.specs.declared.words.Spelled.{Spelled}
 use Rattle.java_tree.specs.Words.{sign}
 use Rattle.java_tree.specs.Operators.{is_prefix, is_signed}
-use Rattle.java_tree.specs.Trees.{Expr, Assign, Conditional, Binary, InstanceOf, Prefix, Postfix, Literal, Field, Index, CallOn, ClassOf}
+use Rattle.java_tree.specs.Trees.{Expr, Assign, Conditional, Binary, InstanceOf, Prefix, Postfix, Literal, Field}
+use Rattle.java_tree.specs.Trees.{Index, CallOn, ClassOf}
 use Rattle.java_tree.specs.Spelling.{expr_onto}
 use Rattle.java_tree.specs.Formed.{FormedExpr, begins_signed}
 use Rattle.method_reader.specs.Taking.{after_sign, after_glued}
@@ -28,12 +29,66 @@ front_prefix : (op : List ℕ) (ts : List Spelled) → IsTrue (is_prefix op) →
 unfolding lead
 front_prefix op ts h =
     prefix_cases (λ op. Front (is_signed op) (sign op ∷ ts))
-    (record { operand = refl; signs = refl; unglued = refl; not_plain = refl; not_close = refl; not_bracket = refl; not_brace = refl; not_end = refl })
-    (record { operand = refl; signs = refl; unglued = refl; not_plain = refl; not_close = refl; not_bracket = refl; not_brace = refl; not_end = refl })
-    (record { operand = refl; signs = refl; unglued = refl; not_plain = refl; not_close = refl; not_bracket = refl; not_brace = refl; not_end = refl })
-    (record { operand = refl; signs = refl; unglued = refl; not_plain = refl; not_close = refl; not_bracket = refl; not_brace = refl; not_end = refl })
-    (record { operand = refl; signs = refl; unglued = refl; not_plain = refl; not_close = refl; not_bracket = refl; not_brace = refl; not_end = refl })
-    (record { operand = refl; signs = refl; unglued = refl; not_plain = refl; not_close = refl; not_bracket = refl; not_brace = refl; not_end = refl })
+    (record {
+      operand = refl;
+      signs = refl;
+      unglued = refl;
+      not_plain = refl;
+      not_close = refl;
+      not_bracket = refl;
+      not_brace = refl;
+      not_end = refl;
+    })
+    (record {
+      operand = refl;
+      signs = refl;
+      unglued = refl;
+      not_plain = refl;
+      not_close = refl;
+      not_bracket = refl;
+      not_brace = refl;
+      not_end = refl;
+    })
+    (record {
+      operand = refl;
+      signs = refl;
+      unglued = refl;
+      not_plain = refl;
+      not_close = refl;
+      not_bracket = refl;
+      not_brace = refl;
+      not_end = refl;
+    })
+    (record {
+      operand = refl;
+      signs = refl;
+      unglued = refl;
+      not_plain = refl;
+      not_close = refl;
+      not_bracket = refl;
+      not_brace = refl;
+      not_end = refl;
+    })
+    (record {
+      operand = refl;
+      signs = refl;
+      unglued = refl;
+      not_plain = refl;
+      not_close = refl;
+      not_bracket = refl;
+      not_brace = refl;
+      not_end = refl;
+    })
+    (record {
+      operand = refl;
+      signs = refl;
+      unglued = refl;
+      not_plain = refl;
+      not_close = refl;
+      not_bracket = refl;
+      not_brace = refl;
+      not_end = refl;
+    })
     op h
 
 pub front : (e : Expr) → FormedExpr e → (rest : List Spelled) → Front (begins_signed e) (expr_onto e rest)
@@ -50,5 +105,14 @@ front (CallOn a x all) f rest = front a f.0 _
 front (Literal kind.Name text) f rest = absurd (false≢true f)
 front (Literal kind.Keyword text) f rest = absurd (false≢true f)
 front (Literal kind.Sign text) f rest = absurd (false≢true f)
-front (ClassOf []) f rest = absurd f
-front _ f rest = record { operand = refl; signs = refl; unglued = refl; not_plain = refl; not_close = refl; not_bracket = refl; not_brace = refl; not_end = refl }
+front (ClassOf []) f rest = absurd cc
+front _ f rest = record {
+  operand = refl;
+  signs = refl;
+  unglued = refl;
+  not_plain = refl;
+  not_close = refl;
+  not_bracket = refl;
+  not_brace = refl;
+  not_end = refl;
+}

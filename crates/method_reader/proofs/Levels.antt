@@ -1,8 +1,10 @@
 -- Levels, and what a whole expression bears behind it.
 use Rattle.std.proofs.Common.{◌≡◌, ℕ, suc, ◌≤◌, ◌<◌, Bool, true, false, not, cond, List, [], ◌∷◌, IsTrue, refl, arith}
 use Rattle.std.specs.Prelude.{bytes_eq}
-use Rattle.java_tree.specs.Operators.{BinaryOperator, LogicalOr, binary_operators, text_of, level_of, level_among, binary_level, IsBinary}
-use Rattle.java_tree.specs.Trees.{Expr, Assign, Conditional, Binary, InstanceOf, Prefix, Cast, Postfix, Name, Field, Index, CallOn, NewArray, NewItems}
+use Rattle.java_tree.specs.Operators.{BinaryOperator, LogicalOr, binary_operators, text_of, level_of, level_among}
+use Rattle.java_tree.specs.Operators.{binary_level, is_binary}
+use Rattle.java_tree.specs.Trees.{Expr, Assign, Conditional, Binary, InstanceOf, Prefix, Cast, Postfix, Name, Field}
+use Rattle.java_tree.specs.Trees.{Index, CallOn, NewArray, NewItems}
 use Rattle.java_tree.specs.Formed.{level, is_variable, makes_array}
 use Rattle.java_tree.specs.Nesting.{expr_nesting}
 use Rattle.method_reader.proofs.OperatorTexts.{binary_cases}
@@ -13,7 +15,7 @@ least_of : (o : BinaryOperator) → 2 ≤ binary_level (text_of o)
 least_of LogicalOr = omega arith
 least_of _ = omega arith
 
-pub binary_least : (op : List ℕ) → IsBinary op → 2 ≤ binary_level op
+pub binary_least : (op : List ℕ) → IsTrue (is_binary op) → 2 ≤ binary_level op
 binary_least op b = binary_cases (λ op. 2 ≤ binary_level op) least_of op b
 
 most_of : (o : BinaryOperator) → level_of o ≤ 11
@@ -26,7 +28,8 @@ most_choice false m n h k = k
 
 most_among : (os : List BinaryOperator) (op : List ℕ) → level_among os op ≤ 11
 most_among [] op = omega arith
-most_among (o ∷ os) op = most_choice (bytes_eq op (text_of o)) (level_of o) (level_among os op) (most_of o) (most_among os op)
+most_among (o ∷ os) op = most_choice (bytes_eq op (text_of o)) (level_of o) (level_among os op) (most_of o)
+    (most_among os op)
 
 pub binary_most : (op : List ℕ) → binary_level op ≤ 11
 binary_most op = most_among binary_operators op
@@ -79,7 +82,8 @@ level_most (Assign a op b) = omega arith
 level_most (Binary a op b) = omega (arith, binary_most op)
 level_most _ = omega arith
 
-pub bears_operator : (a : Expr) (op : List ℕ) → IsBinary op → binary_level op ≤ level a → suc (binary_level op) ≤ bears a
+pub bears_operator : (a : Expr) (op : List ℕ) → IsTrue (is_binary op) → binary_level op ≤ level a
+    → suc (binary_level op) ≤ bears a
 bears_operator (Assign a o b) op is h = absurd (omega (arith, binary_least op is))
 bears_operator (Conditional a b c) op is h = absurd (omega (arith, binary_least op is))
 bears_operator (Binary a o b) op is h = omega arith

@@ -15,6 +15,7 @@ pub mod SoundStatements
 pub mod SoundAnnotations
 pub mod SoundMethods
 pub mod FoundJava
+pub mod ListedVariables
 pub mod TypeFronts
 pub mod CommaLoops
 pub mod FoundTypes

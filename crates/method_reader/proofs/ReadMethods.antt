@@ -14,20 +14,25 @@ use Rattle.method_reader.proofs.SoundMethods.{GotMethod, method_sound}
 use Rattle.method_reader.proofs.SoundParts.{AreSound}
 
 -- what is read is formed, small, and spells the tokens
-pub read_is_formed : (readers : Readers) → AreSound readers → (n : ℕ) (ts : List Spelled) (m : Method) → method_at readers n ts ≡ Some m → GotMethod n ts m
-read_is_formed readers sound n ts m e = of_equation (GotMethod n ts) (method_at readers n ts) m (method_sound readers sound n ts) e
+pub read_is_formed : (readers : Readers) → AreSound readers → (n : ℕ) (ts : List Spelled) (m : Method)
+    → method_at readers n ts ≡ Some m → GotMethod n ts m
+read_is_formed readers sound n ts m e = of_equation (GotMethod n ts) (method_at readers n ts) m (method_sound readers
+    sound n ts) e
 
 module _ (readers : Readers) (EndsTy EndsExpr : List Spelled → Type 0) (finds : Finds readers EndsTy EndsExpr) where
   -- a formed method of the tokens is what is read
-  pub formed_is_read : (n : ℕ) (ts : List Spelled) (m : Method) → FormedMethod m → method_nesting m ≤ n → ts ≡ spelling m → method_at readers n ts ≡ Some m
+  pub formed_is_read : (n : ℕ) (ts : List Spelled) (m : Method) → FormedMethod m → method_nesting m ≤ n
+      → ts ≡ spelling m → method_at readers n ts ≡ Some m
   formed_is_read n ts m f fits e = ap (method_at readers n) e ∙ method_found readers EndsTy EndsExpr finds m n f fits
 
   -- it is the only one
-  pub only_one_read : (sound : AreSound readers) (n : ℕ) (ts : List Spelled) (m other : Method) → method_at readers n ts ≡ Some m → FormedMethod other → ts ≡ spelling other → other ≡ m
+  pub only_one_read : (sound : AreSound readers) (n : ℕ) (ts : List Spelled) (m other : Method) → method_at readers n
+      ts ≡ Some m → FormedMethod other → ts ≡ spelling other → other ≡ m
   only_one_read sound n ts m other e f d =
       let g = read_is_formed readers sound n ts m e in
       one_method readers EndsTy EndsExpr finds other m f g.formed (sym d ∙ g.spelled)
 
   -- where none is read there is none
-  pub none_read : (n : ℕ) (ts : List Spelled) → method_at readers n ts ≡ None → (m : Method) → FormedMethod m → method_nesting m ≤ n → ts ≡ spelling m → ⊥
+  pub none_read : (n : ℕ) (ts : List Spelled) → method_at readers n ts ≡ None → (m : Method) → FormedMethod m
+      → method_nesting m ≤ n → ts ≡ spelling m → ⊥
   none_read n ts none m f fits e = let read = formed_is_read n ts m f fits e in absurd cc

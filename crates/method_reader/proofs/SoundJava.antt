@@ -14,7 +14,10 @@ use Rattle.method_reader.proofs.SoundTypes.{GotTy, ty_sound}
 
 pub java_sound : AreSound method_readers
 java_sound = record {
-  tree = λ n ts. weaker (Got n 0 ts) (GotOne FormedExpr expr_nesting expr_onto n ts) (read_at n 0 ts) (λ x g. record { formed = g.formed; small = g.small; spelled = g.spelled }) (read_sound n 0 ts);
-  ty = λ n ts. weaker (GotTy n ts) (GotOne FormedTy ty_nesting ty_onto n ts) (ty_at n ts) (λ x g. record { formed = g.formed; small = g.small; spelled = g.spelled }) (ty_sound n ts);
-  initial = λ n ts. weaker (GotInit n ts) (GotOne FormedInit init_nesting init_onto n ts) (init_at n ts) (λ x g. record { formed = g.formed; small = g.small; spelled = g.spelled }) (variable_sound n ts);
+  expr = λ n ts. weaker (Got n 0 ts) (GotOne FormedExpr expr_nesting expr_onto n ts) (read_at n 0 ts)
+      (λ x g. record { formed = g.formed; small = g.small; spelled = g.spelled }) (read_sound n 0 ts);
+  ty = λ n ts. weaker (GotTy n ts) (GotOne FormedTy ty_nesting ty_onto n ts) (ty_at n ts)
+      (λ x g. record { formed = g.formed; small = g.small; spelled = g.spelled }) (ty_sound n ts);
+  init = λ n ts. weaker (GotInit n ts) (GotOne FormedInit init_nesting init_onto n ts) (init_at n ts)
+      (λ x g. record { formed = g.formed; small = g.small; spelled = g.spelled }) (variable_sound n ts);
 }

@@ -1,5 +1,6 @@
 -- What is taken stood in front.
-use Rattle.std.proofs.Common.{◌≡◌, ℕ, ◌≤◌, ◌<◌, Bool, true, false, cond, List, [], ◌∷◌, Option, Some, None, refl, ap, arith, codes}
+use Rattle.std.proofs.Common.{◌≡◌, ℕ, ◌≤◌, ◌<◌, Bool, true, false, cond, List, [], ◌∷◌, Option, Some, None, refl}
+use Rattle.std.proofs.Common.{ap, arith, codes}
 use Rattle.std.specs.Prelude.{bytes_eq}
 use Rattle.std.specs.Cmp.Lexicographic.{bytes_decides}
 use Rattle.java_lexer.specs.declared.token.TokenKind.{TokenKind}
@@ -18,7 +19,11 @@ sign_is text t h = by_parts text t.kind t.text t.glued h where
   by_text : (text u : List ℕ) → bytes_eq u text ≡ true → sign u ≡ sign text
   by_text text u e = ap sign ((bytes_decides u text).0 e)
 
-  by_parts : (text : List ℕ) (k : TokenKind) (u : List ℕ) (g : Bool) → is_sign text (record { kind = k; text = u; glued = g }) ≡ true → record { kind = k; text = u; glued = g } ≡ sign text
+  by_parts : (text : List ℕ) (k : TokenKind) (u : List ℕ) (g : Bool) → is_sign text (record {
+    kind = k;
+    text = u;
+    glued = g;
+  }) ≡ true → record { kind = k; text = u; glued = g } ≡ sign text
   by_parts text kind.Sign u false e = by_text text u e
   by_parts text kind.Sign u true e = absurd cc
   by_parts text _ u g e = absurd cc
@@ -34,7 +39,8 @@ after_sign_is text (t ∷ ts) r e = by_test (is_sign text t) refl e where
 -- ---- what does not go on with an expression
 
 -- the sign does not stand before what pulls less
-pub not_pulled : (text : List ℕ) (n : ℕ) (rest : List Spelled) → ((ts : List Spelled) → n < pull (sign text ∷ ts)) → pull rest ≤ n → after_sign text rest ≡ None
+pub not_pulled : (text : List ℕ) (n : ℕ) (rest : List Spelled) → ((ts : List Spelled) → n < pull (sign text ∷ ts))
+    → pull rest ≤ n → after_sign text rest ≡ None
 not_pulled text n rest more less = by_result (after_sign text rest) refl where
   by_result : (o : Option (List Spelled)) → after_sign text rest ≡ o → o ≡ None
   by_result None e = refl

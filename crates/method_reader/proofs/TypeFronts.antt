@@ -1,9 +1,13 @@
 -- What the spelling of a type begins with, and its length.
-use Rattle.std.proofs.Common.{◌≡◌, ℕ, zero, suc, ◌+◌, ◌≤◌, ◌<◌, Bool, true, false, List, ◌∷◌, length, None, refl, codes, arith}
+use Rattle.std.proofs.Common.{◌≡◌, ℕ, zero, suc, ◌+◌, ◌≤◌, ◌<◌, Bool, true, false, List, ◌∷◌, length, None, refl}
+use Rattle.std.proofs.Common.{codes, arith}
 use Rattle.java_tree.specs.declared.words.Spelled.{Spelled}
 use Rattle.java_tree.specs.Words.{sign_glued}
-use Rattle.java_tree.specs.Trees.{Ty, Typed, Base, Plain, Named, Parts, no_part, part_then, Part, Bare, Generic, Arguments, Angled, ArgumentList, no_argument, argument_then, Argument, Exact, Any, Extends, Super}
-use Rattle.java_tree.specs.Spelling.{brackets_onto, ty_onto, base_onto, more_parts_onto, part_onto, angled_onto, more_arguments_onto, argument_onto}
+use Rattle.java_tree.specs.Trees.{Ty, Typed, Base, Plain, Named, Parts, no_part, part_then, Part, Bare, Generic}
+use Rattle.java_tree.specs.Trees.{Arguments, Angled, ArgumentList, no_argument, argument_then, Argument, Exact, Any}
+use Rattle.java_tree.specs.Trees.{Extends, Super}
+use Rattle.java_tree.specs.Spelling.{brackets_onto, ty_onto, base_onto, more_parts_onto, part_onto, angled_onto}
+use Rattle.java_tree.specs.Spelling.{more_arguments_onto, argument_onto}
 use Rattle.java_tree.specs.Formed.{FormedTy, FormedArgument}
 use Rattle.method_reader.specs.Taking.{after_sign, after_keyword, after_angle}
 use Rattle.method_reader.specs.TypeReading.{after_brackets}
@@ -37,15 +41,18 @@ pub ends_angle : (glued : Bool) (rest : List Spelled) → EndsTy (sign_glued glu
 ends_angle true rest = record { less = refl; point = refl; brackets = refl }
 ends_angle false rest = record { less = refl; point = refl; brackets = refl }
 
-pub ends_argument : (others : ArgumentList) (glued : Bool) (rest : List Spelled) → EndsTy (more_arguments_onto others (sign_glued glued (codes ">") ∷ rest))
+pub ends_argument : (others : ArgumentList) (glued : Bool) (rest : List Spelled) → EndsTy (more_arguments_onto others
+    (sign_glued glued (codes ">") ∷ rest))
 ends_argument no_argument glued rest = ends_angle glued rest
 ends_argument (argument_then a others) glued rest = record { less = refl; point = refl; brackets = refl }
 
-pub angle_no_comma : (glued : Bool) (rest : List Spelled) → after_sign (codes ",") (sign_glued glued (codes ">") ∷ rest) ≡ None
+pub angle_no_comma : (glued : Bool) (rest : List Spelled) → after_sign (codes ",") (sign_glued glued (codes ">")
+    ∷ rest) ≡ None
 angle_no_comma true rest = refl
 angle_no_comma false rest = refl
 
-pub argument_no_word : (text : List ℕ) (others : ArgumentList) (glued : Bool) (rest : List Spelled) → after_keyword text (more_arguments_onto others (sign_glued glued (codes ">") ∷ rest)) ≡ None
+pub argument_no_word : (text : List ℕ) (others : ArgumentList) (glued : Bool) (rest : List Spelled) → after_keyword
+    text (more_arguments_onto others (sign_glued glued (codes ">") ∷ rest)) ≡ None
 argument_no_word text no_argument glued rest = refl
 argument_no_word text (argument_then a others) glued rest = refl
 
@@ -58,7 +65,7 @@ pub record NoSign (ts : List Spelled) : Type 0 where
 
 pub ty_front : (t : Ty) (rest : List Spelled) → FormedTy t → NoSign (ty_onto t rest)
 ty_front (Typed (Plain text) m) rest f = record { no_sign = λ s. refl; no_angle = refl }
-ty_front (Typed (Named no_part) m) rest f = absurd f
+ty_front (Typed (Named no_part) m) rest f = absurd cc
 ty_front (Typed (Named (part_then (Bare x) ps)) m) rest f = record { no_sign = λ s. refl; no_angle = refl }
 ty_front (Typed (Named (part_then (Generic x a) ps)) m) rest f = record { no_sign = λ s. refl; no_angle = refl }
 
@@ -91,7 +98,8 @@ mutual
   base_longer : (b : Base) (rest : List Spelled) → length rest ≤ length (base_onto b rest)
   base_longer (Plain text) rest = omega arith
   base_longer (Named no_part) rest = omega arith
-  base_longer (Named (part_then p ps)) rest = omega (arith, part_longer p (more_parts_onto ps rest), parts_longer ps rest)
+  base_longer (Named (part_then p ps)) rest =
+      omega (arith, part_longer p (more_parts_onto ps rest), parts_longer ps rest)
 
   pub part_longer : (p : Part) (rest : List Spelled) → length rest < length (part_onto p rest)
   part_longer (Bare x) rest = omega arith
@@ -110,18 +118,24 @@ mutual
   argument_longer (Super t) rest = omega (arith, ty_longer t rest)
 
   -- as many parts as tokens
-  pub parts_longer : (ps : Parts) (rest : List Spelled) → count_parts ps + length rest ≤ length (more_parts_onto ps rest)
+  pub parts_longer : (ps : Parts) (rest : List Spelled) → count_parts ps + length rest ≤ length (more_parts_onto ps
+      rest)
   parts_longer no_part rest = omega arith
   parts_longer (part_then p ps) rest = omega (arith, part_longer p (more_parts_onto ps rest), parts_longer ps rest)
 
-  pub arguments_longer : (others : ArgumentList) (rest : List Spelled) → count_arguments others + length rest ≤ length (more_arguments_onto others rest)
+  pub arguments_longer : (others : ArgumentList) (rest : List Spelled) → count_arguments others + length rest ≤ length
+      (more_arguments_onto others rest)
   arguments_longer no_argument rest = omega arith
-  arguments_longer (argument_then a others) rest = omega (arith, argument_longer a (more_arguments_onto others rest), arguments_longer others rest)
+  arguments_longer (argument_then a others) rest = omega (
+    arith,
+    argument_longer a (more_arguments_onto others rest),
+    arguments_longer others rest,
+  )
 
 -- a formed type has a token
 pub formed_longer : (t : Ty) → FormedTy t → (rest : List Spelled) → length rest < length (ty_onto t rest)
 formed_longer (Typed (Plain text) m) f rest = omega (arith, brackets_longer m rest)
-formed_longer (Typed (Named no_part) m) f rest = absurd f
+formed_longer (Typed (Named no_part) m) f rest = absurd cc
 formed_longer (Typed (Named (part_then p ps)) m) f rest =
     let r = brackets_onto m rest in
     omega (arith, brackets_longer m rest, part_longer p (more_parts_onto ps r), parts_longer ps r)

@@ -1,16 +1,22 @@
--- Reading expressions and array initialisers from tokens (JLS 15, 10.6).
-use Rattle.std.specs.Prelude.{ℕ, zero, suc, Bool, true, false, not, ◌&&◌, ◌||◌, List, [], ◌∷◌, length, Option, Some, None, nat_le, codes, bytes_eq, if◌then◌else◌}
+-- A contract of a public call rests on this: reading expressions and array initialisers from tokens (JLS 15, 10.6).
+use Rattle.std.specs.Prelude.{ℕ, zero, suc, Bool, true, false, not, ◌&&◌, ◌||◌, List, [], ◌∷◌, length, Option, Some}
+use Rattle.std.specs.Prelude.{None, nat_le, codes, bytes_eq, if◌then◌else◌}
 use Rattle.java_lexer.specs.declared.token.TokenKind.{TokenKind}
 use Rattle.java_lexer.specs.declared.token.TokenKind.TheVariants as kind
 use Rattle.java_tree.specs.declared.words.Spelled.{Spelled}
 use Rattle.java_tree.specs.Brackets.{is_sign}
-use Rattle.java_tree.specs.Operators.{assignment_level, conditional_level, relational_level, unary_level, postfix_level, primary_level, binary_level, is_prefix, is_step}
-use Rattle.java_tree.specs.Trees.{Ty, Typed, Base, Expr, Assign, Conditional, Binary, InstanceOf, Prefix, Cast, Postfix, Literal, This, Name, Paren, Field, Index, Call, CallOn, ClassOf, New, NewArray, NewItems, expr_then, Array, Braces, no_init, init_then, Init, Value, Items, pack_exprs, pack_inits}
+use Rattle.java_tree.specs.Operators.{assignment_level, conditional_level, relational_level, unary_level}
+use Rattle.java_tree.specs.Operators.{postfix_level, primary_level, binary_level, is_prefix, is_step}
+use Rattle.java_tree.specs.Trees.{Ty, Typed, Base, Expr, Assign, Conditional, Binary, InstanceOf, Prefix, Cast}
+use Rattle.java_tree.specs.Trees.{Postfix, Literal, This, Name, Paren, Field, Index, Call, CallOn, ClassOf, New}
+use Rattle.java_tree.specs.Trees.{NewArray, NewItems, expr_then, Array, Braces, no_init, init_then, Init, Value}
+use Rattle.java_tree.specs.Trees.{Items, pack_exprs, pack_inits}
 use Rattle.java_tree.specs.Formed.{level, is_variable, makes_array, is_named}
 use Rattle.java_tree.specs.Nesting.{expr_nesting}
 use Rattle.method_reader.specs.Taking.{◌>>=◌, match_option, is_keyword, is_name_kind, after_sign, after_name, commas}
 use Rattle.method_reader.specs.TypeReading.{after_brackets, brackets_at, has_diamond, ty_at, bare_ty_at, made_base_at}
-use Rattle.method_reader.specs.Leads.{Lead, Assigns, Asks, Joins, Tests, Steps, Selects, Indexes, Opens, Ends, lead, casts}
+use Rattle.method_reader.specs.Leads.{Lead, Assigns, Asks, Joins, Tests, Steps, Selects, Indexes, Opens, Ends, lead}
+use Rattle.method_reader.specs.Leads.{casts}
 
 -- what is read from the front of tokens, and the tokens behind it
 abbrev pub Reading : Type 0 → Type 0
@@ -108,11 +114,13 @@ new_with read made array ts = do
   b ← made ts
   match_option (after_sign (codes "(") b.1)
       (if has_diamond b.0 then None
-      else match_option (after_brackets b.1) (new_array_with (read assignment_level) b.0 b.1) (λ r. new_items_with array b.0 r))
+      else match_option (after_brackets b.1) (new_array_with (read assignment_level) b.0 b.1) (λ r. new_items_with
+      array b.0 r))
       (λ r. new_object_with read b.0 r)
 
 -- what begins with this token
-abbrev pub operand_of : (ℕ → Reading Expr) → Reading Ty → Reading Base → Reading Array → TokenKind → List ℕ → Reading Expr
+abbrev pub operand_of : (ℕ → Reading Expr) → Reading Ty → Reading Base → Reading Array → TokenKind → List ℕ
+    → Reading Expr
 operand_of read ty made array kind.Keyword text ts =
     if bytes_eq text (codes "this") then Some (This, ts)
     else (if bytes_eq text (codes "new") then new_with read made array ts else None)
@@ -175,16 +183,21 @@ index_with read n a ts = do
 
 -- a turn with what the first token begins
 unfoldable pub turn_with : (ℕ → Reading Expr) → ℕ → ℕ → Expr → Lead → Option Turn
-turn_with read n l a (Assigns op r) = if nat_le l assignment_level && is_variable a then assign_with read n a op r else Some (Stop a)
+turn_with read n l a (Assigns op r) = if nat_le l assignment_level && is_variable a then assign_with read n a op r
+    else Some (Stop a)
 turn_with read n l a (Asks r) =
-    if nat_le l conditional_level && nat_le (suc conditional_level) (level a) then conditional_with read n a r else Some (Stop a)
+    if nat_le l conditional_level && nat_le (suc conditional_level) (level a) then conditional_with read n a r else
+    Some (Stop a)
 turn_with read n l a (Joins op r) =
-    if nat_le l (binary_level op) && nat_le (binary_level op) (level a) then binary_with read n a op r else Some (Stop a)
+    if nat_le l (binary_level op) && nat_le (binary_level op) (level a) then binary_with read n a op r else Some
+    (Stop a)
 turn_with read n l a (Tests r) =
     if nat_le l relational_level && nat_le relational_level (level a) then instance_with n a r else Some (Stop a)
-turn_with read n l a (Steps op r) = if nat_le l postfix_level && is_variable a then grown n (Postfix a op) r else Some (Stop a)
+turn_with read n l a (Steps op r) = if nat_le l postfix_level && is_variable a then grown n (Postfix a op) r else Some
+    (Stop a)
 turn_with read n l a (Selects r) = if nat_le primary_level (level a) then select_with read n a r else Some (Stop a)
-turn_with read n l a (Indexes r) = if nat_le primary_level (level a) && not (makes_array a) then index_with read n a r else Some (Stop a)
+turn_with read n l a (Indexes r) = if nat_le primary_level (level a) && not (makes_array a) then index_with read n a r
+    else Some (Stop a)
 turn_with read n l a Opens = Some (Stop a)
 turn_with read n l a Ends = Some (Stop a)
 
@@ -243,7 +256,8 @@ unfoldable mutual
   pub read_at : ℕ → ℕ → Reading Expr
   read_at zero l ts = None
   read_at (suc n) l ts =
-      operand_with (read_at n) (ty_at n) (made_base_at n) (array_at n) ts >>= λ a. climb_with (read_at n) n l (suc n) a.0 a.1
+      operand_with (read_at n) (ty_at n) (made_base_at n) (array_at n) ts >>= λ a. climb_with (read_at n) n l (suc n)
+      a.0 a.1
 
   -- an array initialiser of a nesting of at most n
   pub array_at : ℕ → Reading Array

@@ -1,11 +1,14 @@
--- What the first token does behind an expression, and the choice between a cast and parentheses.
-use Rattle.std.specs.Prelude.{ℕ, zero, suc, Bool, true, false, not, ◌&&◌, ◌||◌, List, [], ◌∷◌, codes, bytes_eq, if◌then◌else◌}
+-- A contract of a public call rests on this: what the first token does behind an expression, and the choice between a
+-- cast and parentheses.
+use Rattle.std.specs.Prelude.{ℕ, zero, suc, Bool, true, false, not, ◌&&◌, ◌||◌, List, [], ◌∷◌, codes, bytes_eq}
+use Rattle.std.specs.Prelude.{if◌then◌else◌}
 use Rattle.racer_base.specs.Name.{is_listed}
 use Rattle.java_lexer.specs.declared.token.TokenKind.{TokenKind}
 use Rattle.java_lexer.specs.declared.token.TokenKind.TheVariants as kind
 use Rattle.java_tree.specs.declared.words.Spelled.{Spelled}
 use Rattle.java_tree.specs.Brackets.{is_sign_kind, is_sign, is_some_and}
-use Rattle.java_tree.specs.Operators.{binary_level, is_assignment, is_step, is_signed}
+use Rattle.java_tree.specs.Operators.{assignment_level, conditional_level, relational_level, postfix_level}
+use Rattle.java_tree.specs.Operators.{primary_level, binary_level, is_assignment, is_step, is_signed}
 use Rattle.method_reader.specs.Taking.{match_option, after_sign, after_glued}
 use Rattle.method_reader.specs.TypeReading.{after_plain}
 
@@ -33,13 +36,15 @@ pub data Lead : Type 0 where
 -- the binary operators that are one token and do not begin with `>`, and `>=`
 abbrev pub one_sign_operators : List (List ℕ)
 one_sign_operators =
-    codes "||" ∷ codes "&&" ∷ codes "|" ∷ codes "^" ∷ codes "&" ∷ codes "==" ∷ codes "!=" ∷ codes "<" ∷ codes "<=" ∷ codes ">=" ∷
+    codes "||" ∷ codes "&&" ∷ codes "|" ∷ codes "^" ∷ codes "&" ∷ codes "==" ∷ codes "!=" ∷ codes "<" ∷ codes "<="
+    ∷ codes ">=" ∷
     codes "<<" ∷ codes "+" ∷ codes "-" ∷ codes "*" ∷ codes "/" ∷ codes "%" ∷ []
 
 -- behind a `>`: the shifts have one or two glued `>` there
 abbrev pub lead_of_angle : List Spelled → Lead
 lead_of_angle ts =
-    match_option (after_glued ts) (Joins (codes ">") ts) (λ r. match_option (after_glued r) (Joins (codes ">>") r) (λ s. Joins (codes ">>>") s))
+    match_option (after_glued ts) (Joins (codes ">") ts) (λ r. match_option (after_glued r) (Joins (codes ">>") r)
+    (λ s. Joins (codes ">>>") s))
 
 -- the signs that begin an operand and are no operators between operands
 abbrev pub opens : List ℕ → Bool
@@ -67,16 +72,29 @@ unfoldable pub lead : List Spelled → Lead
 lead [] = Ends
 lead (t ∷ ts) = if t.glued then Ends else lead_of_word t.kind t.text ts
 
--- how strongly it goes on with the expression before it: one more than its level
+-- of `.`, which goes on with every primary expression
+abbrev pub point_pull : ℕ
+point_pull = suc primary_level
+
+-- of `[`, which goes on with every primary expression but an array creation (JLS 15.10.3)
+abbrev pub bracket_pull : ℕ
+bracket_pull = suc point_pull
+
+-- of an operand, which goes on with no expression
+abbrev pub operand_pull : ℕ
+operand_pull = suc bracket_pull
+
+-- how strongly it goes on with the expression before it: of an operator one more than the level of what it makes, and
+-- none where it may follow every expression
 abbrev pub pull_of : Lead → ℕ
-pull_of (Assigns op r) = 1
-pull_of (Asks r) = 2
+pull_of (Assigns op r) = suc assignment_level
+pull_of (Asks r) = suc conditional_level
 pull_of (Joins op r) = suc (binary_level op)
-pull_of (Tests r) = 9
-pull_of (Steps op r) = 14
-pull_of (Selects r) = 15
-pull_of (Indexes r) = 16
-pull_of Opens = 17
+pull_of (Tests r) = suc relational_level
+pull_of (Steps op r) = suc postfix_level
+pull_of (Selects r) = point_pull
+pull_of (Indexes r) = bracket_pull
+pull_of Opens = operand_pull
 pull_of Ends = 0
 
 -- how strongly the first token goes on with an expression before it

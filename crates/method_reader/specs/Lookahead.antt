@@ -1,9 +1,11 @@
--- Choices by the first tokens, without reading what they begin.
-use Rattle.std.specs.Prelude.{ℕ, Bool, true, false, not, ◌&&◌, ◌||◌, List, [], ◌∷◌, Option, Some, None, codes, if◌then◌else◌}
+-- A contract of a public call rests on this: choices by the first tokens, without reading what they begin.
+use Rattle.std.specs.Prelude.{ℕ, Bool, true, false, not, ◌&&◌, ◌||◌, List, [], ◌∷◌, Option, Some, None, codes}
+use Rattle.std.specs.Prelude.{if◌then◌else◌}
 use Rattle.java_tree.specs.declared.words.Spelled.{Spelled}
 use Rattle.java_tree.specs.Brackets.{is_sign}
 use Rattle.java_tree.specs.Formed.{is_plain_word, is_method_modifier}
-use Rattle.method_reader.specs.Taking.{◌>>=◌, match_option, is_keyword_kind, is_name_kind, is_keyword, after_sign, after_name}
+use Rattle.method_reader.specs.Taking.{◌>>=◌, match_option, is_keyword_kind, is_name_kind, is_keyword, after_sign}
+use Rattle.method_reader.specs.Taking.{after_name}
 
 -- whether this sign stands in front
 abbrev pub begins_with : List ℕ → List Spelled → Bool
@@ -74,4 +76,7 @@ is_constructor ts = match_option (after_name ts) false (λ x. begins_with (codes
 -- a modifier's word and the tokens behind it
 abbrev pub after_modifier : List Spelled → Option (List ℕ × List Spelled)
 after_modifier [] = None
-after_modifier (t ∷ ts) = if is_keyword_kind t.kind && (not t.glued && is_method_modifier t.text) then Some (t.text, ts) else None
+after_modifier (t ∷ ts) = if is_keyword_kind t.kind && (not t.glued && is_method_modifier t.text) then Some (
+  t.text,
+  ts,
+) else None

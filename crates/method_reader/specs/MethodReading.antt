@@ -1,9 +1,10 @@
--- Reading methods, over readers of expressions, types and what variables begin with.
+-- A contract of a public call rests on this: reading methods, over readers of expressions, types and initialisers.
 use Rattle.std.specs.Prelude.{ℕ, zero, suc, List, [], ◌∷◌, length, Option, Some, None, codes, if◌then◌else◌}
 use Rattle.java_tree.specs.declared.words.Spelled.{Spelled}
 use Rattle.java_tree.specs.Brackets.{awaited_behind}
 use Rattle.java_tree.specs.Formed.{is_named}
-use Rattle.java_tree.specs.Trees.{Ty, Note, Modifier, Word, Annotated, Result, NoResult, VoidResult, TypeResult, Parameter, Method}
+use Rattle.java_tree.specs.Trees.{Ty, Annotation, Modifier, Word, Annotated, Result, NoResult, VoidResult}
+use Rattle.java_tree.specs.Trees.{TypeResult, Parameter, Method}
 use Rattle.method_reader.specs.ExpressionReading.{Reading}
 use Rattle.method_reader.specs.Taking.{◌>>=◌, match_option, after_sign, after_keyword, after_name}
 use Rattle.method_reader.specs.TypeReading.{points}
@@ -41,18 +42,18 @@ names_at ts = do
   Some (x.0 ∷ others.0, others.1)
 
 -- an annotation, behind its `@`
-unfoldable pub note_at : Reading Note
-note_at ts = do
+unfoldable pub annotation_at : Reading Annotation
+annotation_at ts = do
   xs ← names_at ts
   a ← arguments_at xs.1
   Some (record { names = xs.0; arguments = a.0 }, a.1)
 
 -- annotations, as long as they come
-unfoldable pub notes_at : ℕ → Reading (List Note)
-notes_at zero ts = None
-notes_at (suc m) ts = match_option (after_sign (codes "@") ts) (Some ([], ts)) (λ r. do
-  first ← note_at r
-  others ← notes_at m first.1
+unfoldable pub annotations_at : ℕ → Reading (List Annotation)
+annotations_at zero ts = None
+annotations_at (suc m) ts = match_option (after_sign (codes "@") ts) (Some ([], ts)) (λ r. do
+  first ← annotation_at r
+  others ← annotations_at m first.1
   Some (first.0 ∷ others.0, others.1))
 
 -- ---- the head of a method
@@ -60,12 +61,13 @@ notes_at (suc m) ts = match_option (after_sign (codes "@") ts) (Some ([], ts)) (
 -- words and annotations, as long as they come
 unfoldable pub modifiers_at : ℕ → Reading (List Modifier)
 modifiers_at zero ts = None
-modifiers_at (suc m) ts = match_option (after_sign (codes "@") ts) (match_option (after_modifier ts) (Some ([], ts)) (λ w. do
-  others ← modifiers_at m w.1
-  Some (Word w.0 ∷ others.0, others.1))) (λ r. do
-    first ← note_at r
-    others ← modifiers_at m first.1
-    Some (Annotated first.0 ∷ others.0, others.1))
+modifiers_at (suc m) ts = match_option (after_sign (codes "@") ts) (match_option (after_modifier ts) (Some ([], ts))
+    (λ w. do
+      others ← modifiers_at m w.1
+      Some (Word w.0 ∷ others.0, others.1))) (λ r. do
+        first ← annotation_at r
+        others ← modifiers_at m first.1
+        Some (Annotated first.0 ∷ others.0, others.1))
 
 -- what was read, where no tokens are left
 abbrev pub if_ended : {A : Type 0} → A → List Spelled → Option A
@@ -81,10 +83,10 @@ module _ (readers : Readers) where
 
   unfoldable pub parameter_at : ℕ → Reading Parameter
   parameter_at n ts = do
-    notes ← notes_at (length ts) (final_at ts).1
-    t ← readers.ty n notes.1
+    annotations ← annotations_at (length ts) (final_at ts).1
+    t ← readers.ty n annotations.1
     x ← after_name t.1
-    Some (record { is_final = (final_at ts).0; notes = notes.0; kind = t.0; name = x.0 }, x.1)
+    Some (record { is_final = (final_at ts).0; annotations = annotations.0; kind = t.0; name = x.0 }, x.1)
 
   -- the parameters, up to the `)`
   abbrev pub parameters_at : ℕ → Reading (List Parameter)
@@ -110,7 +112,17 @@ module _ (readers : Readers) where
     b ← after_sign (codes ")") parameters.1
     throws ← throws_at n b
     body ← block_at readers n throws.1
-    Some (record { modifiers = modifiers; result = result; name = x.0; parameters = parameters.0; throws = throws.0; body = body.0 }, body.1)
+    Some (
+      record {
+        modifiers = modifiers;
+        result = result;
+        name = x.0;
+        parameters = parameters.0;
+        throws = throws.0;
+        body = body.0;
+      },
+      body.1,
+    )
 
   -- a method and the tokens behind it
   unfoldable pub method_from : ℕ → Reading Method

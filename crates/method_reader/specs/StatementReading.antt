@@ -1,13 +1,18 @@
--- Reading statements, over readers of expressions, types and what variables begin with. The first argument of
--- each is the nesting that is left.
-use Rattle.std.specs.Prelude.{ℕ, zero, suc, Bool, true, false, List, [], ◌∷◌, length, Option, Some, None, codes, if◌then◌else◌}
+-- A contract of a public call rests on this: reading statements, over readers of expressions, types and initialisers.
+-- A number that is handed down is the nesting that is left.
+use Rattle.std.specs.Prelude.{ℕ, zero, suc, Bool, true, false, List, [], ◌∷◌, length, Option, Some, None, codes}
+use Rattle.std.specs.Prelude.{if◌then◌else◌}
 use Rattle.java_tree.specs.declared.words.Spelled.{Spelled}
-use Rattle.java_tree.specs.Trees.{Ty, Expr, pack_exprs, Variable, Locals, Start, Declares, Runs, Stmt, Block, Local, Run, If, IfElse, While, For, ForEach, Sync, Return, Empty, Stmts, pack_stmts}
+use Rattle.java_tree.specs.Operators.{assignment_level}
+use Rattle.java_tree.specs.Trees.{Ty, Expr, pack_exprs, Variable, Locals, Start, Declares, Runs, Stmt, Block, Local}
+use Rattle.java_tree.specs.Trees.{Run, If, IfElse, While, For, ForEach, Sync, Return, Empty, Stmts, pack_stmts}
 use Rattle.java_tree.specs.Formed.{is_run, is_body}
 use Rattle.method_reader.specs.ExpressionReading.{Reading}
 use Rattle.method_reader.specs.Taking.{◌>>=◌, match_option, after_sign, after_keyword, after_name, commas}
 use Rattle.method_reader.specs.Readers.{Readers}
-use Rattle.method_reader.specs.Lookahead.{begins_with, looks_local, name_and_colon, StatementLead, Semicolon, Brace, IfWord, WhileWord, ForWord, SynchronizedWord, ReturnWord, Other, statement_lead}
+use Rattle.method_reader.specs.Lookahead.{begins_with, looks_local, name_and_colon, StatementLead, Semicolon, Brace}
+use Rattle.method_reader.specs.Lookahead.{IfWord, WhileWord, ForWord, SynchronizedWord, ReturnWord, Other}
+use Rattle.method_reader.specs.Lookahead.{statement_lead}
 
 -- one, and each behind a comma
 abbrev pub comma_list : {A : Type 0} → Reading A → Reading (List A)
@@ -26,9 +31,9 @@ module _ (readers : Readers) where
   unfoldable pub variable_at : ℕ → Reading Variable
   variable_at n ts = do
     x ← after_name ts
-    match_option (after_sign (codes "=") x.1) (Some (record { name = x.0; initial = None }, x.1)) (λ r. do
-      i ← readers.initial n r
-      Some (record { name = x.0; initial = Some i.0 }, i.1))
+    match_option (after_sign (codes "=") x.1) (Some (record { name = x.0; initialiser = None }, x.1)) (λ r. do
+      i ← readers.init n r
+      Some (record { name = x.0; initialiser = Some i.0 }, i.1))
 
   -- the variables of a declaration, behind its type
   unfoldable pub variables_at : ℕ → Bool → Ty → Reading Locals
@@ -48,20 +53,20 @@ module _ (readers : Readers) where
   unfoldable pub condition_at : ℕ → Reading Expr
   condition_at n ts = do
     r ← after_sign (codes "(") ts
-    e ← readers.tree n 0 r
+    e ← readers.expr n assignment_level r
     s ← after_sign (codes ")") e.1
     Some (e.0, s)
 
   -- an expression, where the sign that ends it does not stand here
   abbrev pub expr_until : ℕ → List ℕ → Reading (Option Expr)
   expr_until n end ts = if begins_with end ts then Some (None, ts) else do
-    e ← readers.tree n 0 ts
+    e ← readers.expr n assignment_level ts
     Some (Some e.0, e.1)
 
   -- an expression that is run for what it does
   abbrev pub run_at : ℕ → Reading Expr
   run_at n ts = do
-    e ← readers.tree n 0 ts
+    e ← readers.expr n assignment_level ts
     if is_run e.0 then Some e else None
 
   -- such expressions with commas between them, where the sign that ends them does not stand here
@@ -118,7 +123,7 @@ module _ (readers : Readers) where
   -- a `for` over the elements of something, from behind its `:`
   unfoldable pub each_from : Reading Stmt → ℕ → Bool → Ty → List ℕ → Reading Stmt
   each_from read n is_final t x ts = do
-    e ← readers.tree n 0 ts
+    e ← readers.expr n assignment_level ts
     r ← after_sign (codes ")") e.1
     s ← body_at read r
     Some (ForEach is_final t x e.0 s.0, s.1)

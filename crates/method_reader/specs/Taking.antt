@@ -1,5 +1,6 @@
--- Taking tokens from the front of a list, one at a time.
-use Rattle.std.specs.Prelude.{ℕ, zero, suc, Bool, true, false, not, ◌&&◌, List, [], ◌∷◌, Option, Some, None, codes, bytes_eq, if◌then◌else◌}
+-- A contract of a public call rests on this: taking tokens from the front of a list, one at a time.
+use Rattle.std.specs.Prelude.{ℕ, zero, suc, Bool, true, false, not, ◌&&◌, List, [], ◌∷◌, Option, Some, None, codes}
+use Rattle.std.specs.Prelude.{bytes_eq, if◌then◌else◌}
 use Rattle.java_lexer.specs.declared.token.TokenKind.{TokenKind}
 use Rattle.java_lexer.specs.declared.token.TokenKind.TheVariants as kind
 use Rattle.java_tree.specs.declared.words.Spelled.{Spelled}
@@ -51,9 +52,10 @@ abbrev pub after_glued : List Spelled → Option (List Spelled)
 after_glued [] = None
 after_glued (t ∷ ts) = if is_sign_kind t.kind && (t.glued && bytes_eq t.text (codes ">")) then Some ts else None
 
--- what is read behind each comma, as long as commas come
-unfoldable pub commas : {A : Type 0} → (List Spelled → Option (A × List Spelled)) → ℕ → List Spelled → Option (List A × List Spelled)
-commas read zero ts = None
+-- what is read behind each comma, as long as commas come, at most m times
+unfoldable pub commas : {A : Type 0} → (List Spelled → Option (A × List Spelled)) → ℕ → List Spelled → Option (List A
+    × List Spelled)
+commas read zero ts = Some ([], ts)
 commas read (suc m) ts = match_option (after_sign (codes ",") ts) (Some ([], ts)) (λ r. do
   first ← read r
   others ← commas read m first.1

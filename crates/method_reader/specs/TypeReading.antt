@@ -1,16 +1,21 @@
--- Reading types from tokens (JLS 4).
-use Rattle.std.specs.Prelude.{ℕ, zero, suc, Bool, true, false, not, ◌&&◌, ◌||◌, List, [], ◌∷◌, length, Option, Some, None, codes, if◌then◌else◌}
+-- A contract of a public call rests on this: reading types from tokens (JLS 4).
+use Rattle.std.specs.Prelude.{ℕ, zero, suc, Bool, true, false, not, ◌&&◌, ◌||◌, List, [], ◌∷◌, length, Option, Some}
+use Rattle.std.specs.Prelude.{None, codes, if◌then◌else◌}
 use Rattle.java_tree.specs.declared.words.Spelled.{Spelled}
-use Rattle.java_tree.specs.Trees.{Ty, Typed, Base, Plain, Named, Parts, no_part, part_then, Part, Bare, Generic, Arguments, Angled, no_argument, argument_then, Argument, Exact, Any, Extends, Super, pack_parts, pack_arguments}
+use Rattle.java_tree.specs.Trees.{Ty, Typed, Base, Plain, Named, Parts, no_part, part_then, Part, Bare, Generic}
+use Rattle.java_tree.specs.Trees.{Arguments, Angled, no_argument, argument_then, Argument, Exact, Any, Extends}
+use Rattle.java_tree.specs.Trees.{Super, pack_parts, pack_arguments}
 use Rattle.java_tree.specs.Formed.{is_plain_word}
-use Rattle.method_reader.specs.Taking.{◌>>=◌, match_option, is_keyword_kind, after_sign, after_keyword, after_name, after_angle, commas}
+use Rattle.method_reader.specs.Taking.{◌>>=◌, match_option, is_keyword_kind, after_sign, after_keyword, after_name}
+use Rattle.method_reader.specs.Taking.{after_angle, commas}
 
 -- ---- words, points and brackets
 
 -- the word of a primitive type and the tokens behind it
 abbrev pub after_plain : List Spelled → Option (List ℕ × List Spelled)
 after_plain [] = None
-after_plain (t ∷ ts) = if is_keyword_kind t.kind && (not t.glued && is_plain_word t.text) then Some (t.text, ts) else None
+after_plain (t ∷ ts) = if is_keyword_kind t.kind && (not t.glued && is_plain_word t.text) then Some (t.text, ts) else
+    None
 
 -- the tokens behind `[ ]`
 abbrev pub after_brackets : List Spelled → Option (List Spelled)
@@ -22,7 +27,8 @@ brackets_at zero ts = (0, ts)
 brackets_at (suc m) ts = match_option (after_brackets ts) (0, ts) (λ r. let b = brackets_at m r in (suc b.0, b.1))
 
 -- what is read behind each point, as long as points come, at most m times
-unfoldable pub points : {A : Type 0} → (List Spelled → Option (A × List Spelled)) → ℕ → List Spelled → Option (List A × List Spelled)
+unfoldable pub points : {A : Type 0} → (List Spelled → Option (A × List Spelled)) → ℕ → List Spelled → Option (List A
+    × List Spelled)
 points read zero ts = Some ([], ts)
 points read (suc m) ts = match_option (after_sign (codes ".") ts) (Some ([], ts)) (λ r. do
   first ← read r
@@ -52,7 +58,8 @@ argument_with read ts =
     (λ r. wildcard_with read r)
 
 -- type arguments behind their `<`, and the `>`
-unfoldable pub angled_with : (List Spelled → Option (Ty × List Spelled)) → List Spelled → Option (Arguments × List Spelled)
+unfoldable pub angled_with : (List Spelled → Option (Ty × List Spelled)) → List Spelled → Option (Arguments
+    × List Spelled)
 angled_with read ts = do
   first ← argument_with read ts
   others ← commas (argument_with read) (length first.1) first.1
@@ -115,7 +122,8 @@ has_diamond (Plain text) = false
 has_diamond (Named ps) = have_diamond ps
 
 -- a name with or without type arguments, or with `< >`
-unfoldable pub made_part_with : (List Spelled → Option (Ty × List Spelled)) → List Spelled → Option (Part × List Spelled)
+unfoldable pub made_part_with : (List Spelled → Option (Ty × List Spelled)) → List Spelled
+    → Option (Part × List Spelled)
 made_part_with read ts = do
   x ← after_name ts
   match_option (after_sign (codes "<") x.1) (Some (Bare x.0, x.1)) (λ r.
@@ -126,16 +134,19 @@ made_part_with read ts = do
       (λ g. Some (Generic x.0 (Angled no_argument g.0), g.1)))
 
 -- parts with points between them, of which one with `< >` is the last
-unfoldable pub made_parts_with : (List Spelled → Option (Ty × List Spelled)) → ℕ → List Spelled → Option (List Part × List Spelled)
+unfoldable pub made_parts_with : (List Spelled → Option (Ty × List Spelled)) → ℕ → List Spelled → Option (List Part
+    × List Spelled)
 made_parts_with read zero ts = None
 made_parts_with read (suc m) ts = do
   p ← made_part_with read ts
-  if is_diamond p.0 then Some (p.0 ∷ [], p.1) else match_option (after_sign (codes ".") p.1) (Some (p.0 ∷ [], p.1)) (λ r. do
-    others ← made_parts_with read m r
-    Some (p.0 ∷ others.0, others.1))
+  if is_diamond p.0 then Some (p.0 ∷ [], p.1) else match_option (after_sign (codes ".") p.1) (Some (p.0 ∷ [], p.1))
+      (λ r. do
+        others ← made_parts_with read m r
+        Some (p.0 ∷ others.0, others.1))
 
 -- the base of a type that a `new` makes
-unfoldable pub made_base_with : (List Spelled → Option (Ty × List Spelled)) → List Spelled → Option (Base × List Spelled)
+unfoldable pub made_base_with : (List Spelled → Option (Ty × List Spelled)) → List Spelled
+    → Option (Base × List Spelled)
 made_base_with read ts =
     match_option (after_plain ts)
     (do

@@ -5,7 +5,7 @@ ghost use Rattle.java_tree.specs.Nesting.{expr_nesting, exprs_nesting, array_nes
 ghost use Rattle.java_tree.specs.View.{expr_of, init_of, array_of};
 
 use super::types::type_nesting;
-use crate::expressions::{ArrayItems, Expression, Initial};
+use crate::expressions::{ArrayTree, Expression, Initialiser};
 
 #[cycle(measure_expressions)]
 pub fn expression_nesting(tree: &Expression) -> u32
@@ -55,7 +55,7 @@ pub fn list_nesting(all: &[Expression]) -> u32
 }
 
 #[cycle(measure_expressions)]
-fn array_nesting(array: &ArrayItems) -> u32
+fn array_nesting(array: &ArrayTree) -> u32
     requires { array_nesting (array_of array.now) < 2 ^ 32 }
     ensures { result ≡ array_nesting (array_of array.now) }
 {
@@ -63,24 +63,24 @@ fn array_nesting(array: &ArrayItems) -> u32
 }
 
 #[cycle(measure_expressions)]
-fn items_nesting(items: &[Initial]) -> u32
+fn items_nesting(items: &[Initialiser]) -> u32
     requires { inits_nesting (pack_inits (map init_of items.now)) < 2 ^ 32 }
     ensures { result ≡ inits_nesting (pack_inits (map init_of items.now)) }
 {
     let mut most = 0;
     for item in items {
-        most = initial_nesting(item).max(most);
+        most = initialiser_nesting(item).max(most);
     }
     most
 }
 
 #[cycle(measure_expressions)]
-pub fn initial_nesting(initial: &Initial) -> u32
-    requires { init_nesting (init_of initial.now) < 2 ^ 32 }
-    ensures { result ≡ init_nesting (init_of initial.now) }
+pub fn initialiser_nesting(initialiser: &Initialiser) -> u32
+    requires { init_nesting (init_of initialiser.now) < 2 ^ 32 }
+    ensures { result ≡ init_nesting (init_of initialiser.now) }
 {
-    match initial {
-        Initial::Value(value) => expression_nesting(value),
-        Initial::Items(items) => array_nesting(items),
+    match initialiser {
+        Initialiser::Value(value) => expression_nesting(value),
+        Initialiser::Items(items) => array_nesting(items),
     }
 }

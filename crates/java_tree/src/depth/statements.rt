@@ -1,25 +1,26 @@
 //! The nesting of statements (JLS 14).
 ghost use Rattle.std.specs.Prelude.{◌≡◌, ◌<◌, ◌^◌, map, option_map, suc, max};
 ghost use Rattle.java_tree.specs.Trees.{Sync, pack_stmts};
-ghost use Rattle.java_tree.specs.Nesting.{most_over, maybe_expr_nesting, variable_nesting, locals_nesting, start_nesting, stmt_nesting, block_nesting, stmts_nesting};
+ghost use Rattle.java_tree.specs.Nesting.{most_over, maybe_expr_nesting, variable_nesting, locals_nesting};
+ghost use Rattle.java_tree.specs.Nesting.{start_nesting, stmt_nesting, block_nesting, stmts_nesting};
 ghost use Rattle.java_tree.specs.View.{expr_of, variable_of, locals_of, start_of, stmt_of};
 
-use super::expressions::{expression_nesting, initial_nesting, list_nesting};
+use super::expressions::{expression_nesting, initialiser_nesting, list_nesting};
 use super::types::type_nesting;
 use crate::expressions::Expression;
-use crate::statements::{Declarator, ForInit, LocalTree, Statement};
+use crate::statements::{LocalsTree, StartTree, Statement, VariableTree};
 
-fn variable_nesting(variable: &Declarator) -> u32
+fn variable_nesting(variable: &VariableTree) -> u32
     requires { variable_nesting (variable_of variable.now) < 2 ^ 32 }
     ensures { result ≡ variable_nesting (variable_of variable.now) }
 {
-    match &variable.initial {
-        Some(initial) => initial_nesting(initial),
+    match &variable.initialiser {
+        Some(initialiser) => initialiser_nesting(initialiser),
         None => 0,
     }
 }
 
-fn variables_nesting(variables: &[Declarator]) -> u32
+fn variables_nesting(variables: &[VariableTree]) -> u32
     requires { most_over variable_nesting (map variable_of variables.now) < 2 ^ 32 }
     ensures { result ≡ most_over variable_nesting (map variable_of variables.now) }
 {
@@ -30,20 +31,20 @@ fn variables_nesting(variables: &[Declarator]) -> u32
     most
 }
 
-fn locals_nesting(locals: &LocalTree) -> u32
+fn locals_nesting(locals: &LocalsTree) -> u32
     requires { locals_nesting (locals_of locals.now) < 2 ^ 32 }
     ensures { result ≡ locals_nesting (locals_of locals.now) }
 {
-    type_nesting(&locals.kind).max(variables_nesting(locals.declarators.as_slice()))
+    type_nesting(&locals.kind).max(variables_nesting(locals.variables.as_slice()))
 }
 
-fn start_nesting(start: &ForInit) -> u32
+fn start_nesting(start: &StartTree) -> u32
     requires { start_nesting (start_of start.now) < 2 ^ 32 }
     ensures { result ≡ start_nesting (start_of start.now) }
 {
     match start {
-        ForInit::Local(locals) => locals_nesting(locals),
-        ForInit::Expressions(all) => list_nesting(all.as_slice()),
+        StartTree::Local(locals) => locals_nesting(locals),
+        StartTree::Expressions(all) => list_nesting(all.as_slice()),
     }
 }
 

@@ -1,7 +1,8 @@
 //! The nesting of types (JLS 4).
 ghost use Rattle.std.specs.Prelude.{◌≡◌, ◌<◌, ◌^◌, map};
 ghost use Rattle.java_tree.specs.Trees.{pack_parts, pack_arguments};
-ghost use Rattle.java_tree.specs.Nesting.{ty_nesting, base_nesting, parts_nesting, part_nesting, arguments_nesting, argument_nesting};
+ghost use Rattle.java_tree.specs.Nesting.{ty_nesting, base_nesting, parts_nesting, part_nesting, arguments_nesting};
+ghost use Rattle.java_tree.specs.Nesting.{argument_nesting};
 ghost use Rattle.java_tree.specs.View.{ty_of, base_of, part_of, argument_of};
 
 use crate::types::{BaseType, TypeArgument, TypePart, TypeTree};

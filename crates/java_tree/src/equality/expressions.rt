@@ -1,7 +1,8 @@
 //! Equality of expressions (JLS 15) and array initialisers (JLS 10.6).
 ghost use Rattle.std.specs.Prelude.{◌≡◌, ◌↔◌, IsTrue, map, option_map, bytes_eq};
 ghost use Rattle.java_tree.specs.Trees.{pack_exprs, pack_inits};
-ghost use Rattle.java_tree.specs.Sameness.{same_list, same_option, same_expr, same_exprs, same_array, same_inits, same_init};
+ghost use Rattle.java_tree.specs.Sameness.{same_list, same_option, same_expr, same_exprs, same_array, same_inits};
+ghost use Rattle.java_tree.specs.Sameness.{same_init};
 ghost use Rattle.java_tree.specs.SameTrees.{expr_is, expr_refl, init_is, init_refl};
 ghost use Rattle.java_tree.specs.SameLaws.{partial_equivalence};
 ghost use Rattle.java_tree.specs.View.{name_of, expr_of, init_of, array_of};
@@ -11,7 +12,7 @@ use crate::expressions::Expression::{
     Assign, Binary, Call, Cast, ClassOf, Conditional, Field, Index, InstanceOf, Literal, Name, New,
     NewArray, NewItems, Paren, Postfix, Prefix, This,
 };
-use crate::expressions::{ArrayItems, Expression, Initial};
+use crate::expressions::{ArrayTree, Expression, Initialiser};
 use crate::words::Ident;
 
 impl PartialEq for Expression {
@@ -27,15 +28,15 @@ impl PartialEq for Expression {
     }
 }
 
-impl PartialEq for Initial {
+impl PartialEq for Initialiser {
     ghost eq = { λ a b. same_init (init_of a) (init_of b) };
 
     ghost laws = { partial_equivalence init_of same_init init_is init_refl };
 
-    fn eq(&self, other: &Initial) -> bool
+    fn eq(&self, other: &Initialiser) -> bool
         ensures answer { result ≡ same_init (init_of self.now) (init_of other.now) }
     {
-        same_initial(self, other)
+        same_initialiser(self, other)
     }
 }
 
@@ -84,7 +85,8 @@ fn same_tree(a: &Expression, b: &Expression) -> bool
 
 #[cycle(compare_expressions)]
 fn same_receiver(a: &Option<Box<Expression>>, b: &Option<Box<Expression>>) -> bool
-    ensures { result ≡ same_option same_expr (option_map (λ x. expr_of x.value) a.now) (option_map (λ x. expr_of x.value) b.now) }
+    ensures { result ≡ same_option same_expr (option_map (λ x. expr_of x.value) a.now)
+        (option_map (λ x. expr_of x.value) b.now) }
 {
     match (a, b) {
         (None, None) => true,
@@ -111,14 +113,14 @@ pub fn same_trees(a: &[Expression], b: &[Expression]) -> bool
 }
 
 #[cycle(compare_expressions)]
-fn same_array(a: &ArrayItems, b: &ArrayItems) -> bool
+fn same_array(a: &ArrayTree, b: &ArrayTree) -> bool
     ensures { result ≡ same_array (array_of a.now) (array_of b.now) }
 {
     same_items(&a.items, &b.items) && a.last_comma == b.last_comma
 }
 
 #[cycle(compare_expressions)]
-fn same_items(a: &[Initial], b: &[Initial]) -> bool
+fn same_items(a: &[Initialiser], b: &[Initialiser]) -> bool
     ensures { result ≡ same_inits (pack_inits (map init_of a.now)) (pack_inits (map init_of b.now)) }
 {
     let mut rest = b;
@@ -126,7 +128,7 @@ fn same_items(a: &[Initial], b: &[Initial]) -> bool
         let [y, others @ ..] = rest else {
             return false;
         };
-        if !same_initial(x, y) {
+        if !same_initialiser(x, y) {
             return false;
         }
         rest = others;
@@ -135,12 +137,12 @@ fn same_items(a: &[Initial], b: &[Initial]) -> bool
 }
 
 #[cycle(compare_expressions)]
-fn same_initial(a: &Initial, b: &Initial) -> bool
+fn same_initialiser(a: &Initialiser, b: &Initialiser) -> bool
     ensures { result ≡ same_init (init_of a.now) (init_of b.now) }
 {
     match (a, b) {
-        (Initial::Value(a), Initial::Value(b)) => same_tree(a, b),
-        (Initial::Items(a), Initial::Items(b)) => same_array(a, b),
+        (Initialiser::Value(a), Initialiser::Value(b)) => same_tree(a, b),
+        (Initialiser::Items(a), Initialiser::Items(b)) => same_array(a, b),
         _ => false,
     }
 }

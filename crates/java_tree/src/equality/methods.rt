@@ -1,38 +1,40 @@
 //! Equality of methods (JLS 8.4, 8.8).
 ghost use Rattle.std.specs.Prelude.{◌≡◌, ◌↔◌, IsTrue};
-ghost use Rattle.java_tree.specs.Sameness.{same_note, same_modifier, same_result, same_parameter, same_method};
-ghost use Rattle.java_tree.specs.SameMethods.{note_is, note_refl, modifier_is, modifier_refl, result_is, result_refl, parameter_is, parameter_refl, method_is, method_refl};
+ghost use Rattle.java_tree.specs.Sameness.{same_annotation, same_modifier, same_result, same_parameter, same_method};
+ghost use Rattle.java_tree.specs.SameMethods.{annotation_is, annotation_refl, modifier_is, modifier_refl};
+ghost use Rattle.java_tree.specs.SameMethods.{result_is, result_refl, parameter_is, parameter_refl, method_is};
+ghost use Rattle.java_tree.specs.SameMethods.{method_refl};
 ghost use Rattle.java_tree.specs.SameLaws.{equivalence, partial_equivalence};
-ghost use Rattle.java_tree.specs.View.{note_of, modifier_of, result_of, parameter_of, method_of};
+ghost use Rattle.java_tree.specs.View.{annotation_of, modifier_of, result_of, parameter_of, method_of};
 
 use super::statements::same_statements;
-use crate::methods::{Annotation, MethodTree, Modifier, ParameterTree, ResultTree};
+use crate::methods::{AnnotationTree, MethodTree, ModifierTree, ParameterTree, ResultTree};
 
-impl PartialEq for Annotation {
-    ghost eq = { λ a b. same_note (note_of a) (note_of b) };
+impl PartialEq for AnnotationTree {
+    ghost eq = { λ a b. same_annotation (annotation_of a) (annotation_of b) };
 
-    ghost laws = { partial_equivalence note_of same_note note_is note_refl };
+    ghost laws = { partial_equivalence annotation_of same_annotation annotation_is annotation_refl };
 
     #[tactic(auto, using(crate::proofs::SameLists::slices))]
-    fn eq(&self, other: &Annotation) -> bool
-        ensures answer { result ≡ same_note (note_of self.now) (note_of other.now) }
+    fn eq(&self, other: &AnnotationTree) -> bool
+        ensures answer { result ≡ same_annotation (annotation_of self.now) (annotation_of other.now) }
     {
         self.names.as_slice() == other.names.as_slice()
             && self.arguments.as_slice() == other.arguments.as_slice()
     }
 }
 
-impl PartialEq for Modifier {
+impl PartialEq for ModifierTree {
     ghost eq = { λ a b. same_modifier (modifier_of a) (modifier_of b) };
 
     ghost laws = { partial_equivalence modifier_of same_modifier modifier_is modifier_refl };
 
-    fn eq(&self, other: &Modifier) -> bool
+    fn eq(&self, other: &ModifierTree) -> bool
         ensures answer { result ≡ same_modifier (modifier_of self.now) (modifier_of other.now) }
     {
         match (self, other) {
-            (Modifier::Word(a), Modifier::Word(b)) => a == b,
-            (Modifier::Note(a), Modifier::Note(b)) => a == b,
+            (ModifierTree::Word(a), ModifierTree::Word(b)) => a == b,
+            (ModifierTree::Annotated(a), ModifierTree::Annotated(b)) => a == b,
             _ => false,
         }
     }

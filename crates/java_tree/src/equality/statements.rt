@@ -2,7 +2,8 @@
 ghost use Rattle.std.specs.Prelude.{◌≡◌, ◌↔◌, IsTrue, map, option_map};
 ghost use Rattle.java_tree.specs.Trees.{pack_stmts};
 ghost use Rattle.java_tree.specs.Sameness.{same_option, same_variable, same_locals, same_start, same_stmt, same_stmts};
-ghost use Rattle.java_tree.specs.SameMethods.{variable_is, variable_refl, locals_is, locals_refl, start_is, start_refl, stmt_is, stmt_refl};
+ghost use Rattle.java_tree.specs.SameMethods.{variable_is, variable_refl, locals_is, locals_refl, start_is};
+ghost use Rattle.java_tree.specs.SameMethods.{start_refl, stmt_is, stmt_refl};
 ghost use Rattle.java_tree.specs.SameLaws.{partial_equivalence};
 ghost use Rattle.java_tree.specs.View.{variable_of, locals_of, start_of, stmt_of};
 
@@ -10,47 +11,47 @@ use super::expressions::same_trees;
 use crate::statements::Statement::{
     Block, Empty, Expr, For, ForEach, If, Local, Return, Sync, While,
 };
-use crate::statements::{Declarator, ForInit, LocalTree, Statement};
+use crate::statements::{LocalsTree, StartTree, Statement, VariableTree};
 
-impl PartialEq for Declarator {
+impl PartialEq for VariableTree {
     ghost eq = { λ a b. same_variable (variable_of a) (variable_of b) };
 
     ghost laws = { partial_equivalence variable_of same_variable variable_is variable_refl };
 
     #[tactic(auto, using(crate::proofs::SameLists::slices))]
-    fn eq(&self, other: &Declarator) -> bool
+    fn eq(&self, other: &VariableTree) -> bool
         ensures answer { result ≡ same_variable (variable_of self.now) (variable_of other.now) }
     {
-        self.name == other.name && self.initial == other.initial
+        self.name == other.name && self.initialiser == other.initialiser
     }
 }
 
-impl PartialEq for LocalTree {
+impl PartialEq for LocalsTree {
     ghost eq = { λ a b. same_locals (locals_of a) (locals_of b) };
 
     ghost laws = { partial_equivalence locals_of same_locals locals_is locals_refl };
 
     #[tactic(auto, using(crate::proofs::SameLists::slices))]
-    fn eq(&self, other: &LocalTree) -> bool
+    fn eq(&self, other: &LocalsTree) -> bool
         ensures answer { result ≡ same_locals (locals_of self.now) (locals_of other.now) }
     {
         self.is_final == other.is_final
             && self.kind == other.kind
-            && self.declarators.as_slice() == other.declarators.as_slice()
+            && self.variables.as_slice() == other.variables.as_slice()
     }
 }
 
-impl PartialEq for ForInit {
+impl PartialEq for StartTree {
     ghost eq = { λ a b. same_start (start_of a) (start_of b) };
 
     ghost laws = { partial_equivalence start_of same_start start_is start_refl };
 
-    fn eq(&self, other: &ForInit) -> bool
+    fn eq(&self, other: &StartTree) -> bool
         ensures answer { result ≡ same_start (start_of self.now) (start_of other.now) }
     {
         match (self, other) {
-            (ForInit::Local(a), ForInit::Local(b)) => a == b,
-            (ForInit::Expressions(a), ForInit::Expressions(b)) => {
+            (StartTree::Local(a), StartTree::Local(b)) => a == b,
+            (StartTree::Expressions(a), StartTree::Expressions(b)) => {
                 same_trees(a.as_slice(), b.as_slice())
             }
             _ => false,
@@ -104,7 +105,8 @@ fn same_statement(a: &Statement, b: &Statement) -> bool
 
 #[cycle(compare_statements)]
 fn same_else(a: &Option<Box<Statement>>, b: &Option<Box<Statement>>) -> bool
-    ensures { result ≡ same_option same_stmt (option_map (λ x. stmt_of x.value) a.now) (option_map (λ x. stmt_of x.value) b.now) }
+    ensures { result ≡ same_option same_stmt (option_map (λ x. stmt_of x.value) a.now)
+        (option_map (λ x. stmt_of x.value) b.now) }
 {
     match (a, b) {
         (None, None) => true,

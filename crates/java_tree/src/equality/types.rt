@@ -1,7 +1,8 @@
 //! Equality of types (JLS 4).
 ghost use Rattle.std.specs.Prelude.{◌≡◌, ◌↔◌, IsTrue, map};
 ghost use Rattle.java_tree.specs.Trees.{pack_parts, pack_arguments};
-ghost use Rattle.java_tree.specs.Sameness.{same_ty, same_base, same_parts, same_part, same_angled, same_arguments, same_argument};
+ghost use Rattle.java_tree.specs.Sameness.{same_ty, same_base, same_parts, same_part, same_angled, same_arguments};
+ghost use Rattle.java_tree.specs.Sameness.{same_argument};
 ghost use Rattle.java_tree.specs.SameTrees.{ty_is, ty_refl};
 ghost use Rattle.java_tree.specs.SameLaws.{partial_equivalence};
 ghost use Rattle.java_tree.specs.View.{ty_of, base_of, part_of, angled_of, argument_of};
@@ -78,7 +79,8 @@ fn same_angled(a: &TypeArguments, b: &TypeArguments) -> bool
 
 #[cycle(compare_types)]
 fn same_arguments(a: &[TypeArgument], b: &[TypeArgument]) -> bool
-    ensures { result ≡ same_arguments (pack_arguments (map argument_of a.now)) (pack_arguments (map argument_of b.now)) }
+    ensures { result ≡ same_arguments (pack_arguments (map argument_of a.now)) (pack_arguments (map argument_of
+        b.now)) }
 {
     let mut rest = b;
     for x in a {

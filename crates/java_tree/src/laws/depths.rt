@@ -1,58 +1,92 @@
 //! What counts for the nesting of a tree.
 ghost use Rattle.std.specs.Prelude.{◌≡◌, [], ◌∷◌, codes, true, false, Some, None};
 ghost use Rattle.java_lexer.specs.declared.token.TokenKind.TheVariants as kind;
-ghost use Rattle.java_tree.specs.Trees.{Typed, Named, no_part, part_then, Bare, Generic, Angled, no_argument, argument_then, Exact, Any, Extends, Super, Assign, Conditional, Binary, InstanceOf, Prefix, Cast, Literal, This, Paren, Field, Index, Call, CallOn, ClassOf, New, NewArray, NewItems, no_expr, expr_then, Braces, no_init, init_then, Value, Items, Declares, Runs, Block, Local, If, IfElse, While, For, ForEach, Sync, Return, Empty, no_stmt, stmt_then, NoResult, TypeResult};
+ghost use Rattle.java_tree.specs.Trees.{Typed, Named, no_part, part_then, Bare, Generic, Angled, no_argument};
+ghost use Rattle.java_tree.specs.Trees.{argument_then, Exact, Any, Extends, Super, Assign, Conditional, Binary};
+ghost use Rattle.java_tree.specs.Trees.{InstanceOf, Prefix, Cast, Literal, This, Paren, Field, Index, Call, CallOn};
+ghost use Rattle.java_tree.specs.Trees.{ClassOf, New, NewArray, NewItems, no_expr, expr_then, Braces, no_init};
+ghost use Rattle.java_tree.specs.Trees.{init_then, Value, Items, Declares, Runs, Block, Local, If, IfElse, While};
+ghost use Rattle.java_tree.specs.Trees.{For, ForEach, Sync, Return, Empty, no_stmt, stmt_then, NoResult};
+ghost use Rattle.java_tree.specs.Trees.{TypeResult};
 ghost use Rattle.java_tree.specs.Nesting.{ty_nesting, expr_nesting, array_nesting, stmt_nesting, method_nesting};
-ghost use Rattle.java_tree.specs.Examples.{a, b, c, f_call, a_up, difference, ints, class_a, class_b, generic, only, a_of, a_of_b, variable, locals, local_of, assigns, one_deep, formal, method, void_f};
+ghost use Rattle.java_tree.specs.Examples.{a, b, c, f_call, a_up, difference, ints, class_a, class_b, generic};
+ghost use Rattle.java_tree.specs.Examples.{only, a_of, a_of_b, variable, locals, local_of, assigns, one_deep};
+ghost use Rattle.java_tree.specs.Examples.{formal, method, void_f};
 
 /// A type counts one, and its arguments stand inside it; a `?` counts nothing.
 pub fn nesting_of_types()
     ensures named { ty_nesting class_a ≡ 1 }
-    ensures argument { ty_nesting (Typed (Named (part_then (Generic (codes "A") (Angled (only class_b) false)) no_part)) 3) ≡ 2 }
-    ensures bound { ty_nesting (Typed (Named (part_then (Generic (codes "A") (Angled (argument_then (Extends class_b) no_argument) false)) no_part)) 0) ≡ 2 }
-    ensures any { ty_nesting (Typed (Named (part_then (Generic (codes "A") (Angled (argument_then Any no_argument) false)) no_part)) 0) ≡ 1 }
+    ensures argument { ty_nesting (Typed (Named (part_then (Generic (codes "A") (Angled (only class_b) false))
+        no_part)) 3) ≡ 2 }
+    ensures bound { ty_nesting
+        (Typed (Named (part_then (Generic (codes "A") (Angled (argument_then (Extends class_b) no_argument) false))
+        no_part)) 0) ≡ 2 }
+    ensures any { ty_nesting (Typed (Named (part_then (Generic (codes "A") (Angled (argument_then Any no_argument)
+        false)) no_part)) 0) ≡ 1 }
     ensures plain { ty_nesting (ints 0) ≡ 1 }
     ensures lower_bound { ty_nesting (a_of (argument_then (Super class_b) no_argument)) ≡ 2 }
     ensures second_argument { ty_nesting (a_of (argument_then Any (only class_b))) ≡ 2 }
-    ensures second_part { ty_nesting (Typed (Named (part_then (Bare (codes "A")) (part_then (Generic (codes "B") (Angled (argument_then (Exact a_of_b) no_argument) false)) no_part))) 0) ≡ 3 }
+    ensures second_part { ty_nesting
+        (Typed (Named (part_then (Bare (codes "A"))
+        (part_then (Generic (codes "B") (Angled (argument_then (Exact a_of_b) no_argument) false)) no_part))) 0) ≡ 3 }
 {}
 
 /// Each expression and each array initialiser counts one.
 pub fn nesting_of_expressions()
     ensures parentheses { expr_nesting (Paren (Paren a)) ≡ 3 }
     ensures call { expr_nesting (Call (codes "f") (expr_then a (expr_then (Paren b) no_expr))) ≡ 3 }
-    ensures initialiser { array_nesting (Braces (init_then (Items (Braces no_init false)) (init_then (Value (Paren a)) no_init)) false) ≡ 3 }
-    ensures atoms { (expr_nesting This ≡ 1) × (expr_nesting (Literal kind.Number (codes "1")) ≡ 1) × (expr_nesting (ClassOf (codes "a" ∷ codes "B" ∷ [])) ≡ 1) × (expr_nesting f_call ≡ 1) }
-    ensures assignment { (expr_nesting (Assign (Field a (codes "x")) (codes "=") b) ≡ 3) × (expr_nesting (Assign a (codes "=") (Paren b)) ≡ 3) }
-    ensures conditional { (expr_nesting (Conditional (Paren a) b c) ≡ 3) × (expr_nesting (Conditional a (Paren b) c) ≡ 3) × (expr_nesting (Conditional a b (Paren c)) ≡ 3) }
-    ensures binary { (expr_nesting (Binary (Paren a) (codes "+") b) ≡ 3) × (expr_nesting (Binary a (codes "+") (Paren b)) ≡ 3) }
+    ensures initialiser { array_nesting (Braces (init_then (Items (Braces no_init false)) (init_then (Value (Paren a))
+        no_init)) false) ≡ 3 }
+    ensures atoms { (expr_nesting This ≡ 1) × (expr_nesting (Literal kind.Number (codes "1")) ≡ 1)
+        × (expr_nesting (ClassOf (codes "a" ∷ codes "B" ∷ [])) ≡ 1) × (expr_nesting f_call ≡ 1) }
+    ensures assignment { (expr_nesting (Assign (Field a (codes "x")) (codes "=") b) ≡ 3)
+        × (expr_nesting (Assign a (codes "=") (Paren b)) ≡ 3) }
+    ensures conditional { (expr_nesting (Conditional (Paren a) b c) ≡ 3)
+        × (expr_nesting (Conditional a (Paren b) c) ≡ 3) × (expr_nesting (Conditional a b (Paren c)) ≡ 3) }
+    ensures binary { (expr_nesting (Binary (Paren a) (codes "+") b) ≡ 3)
+        × (expr_nesting (Binary a (codes "+") (Paren b)) ≡ 3) }
     ensures relation { (expr_nesting (InstanceOf (Paren a) class_a) ≡ 3) × (expr_nesting (InstanceOf a a_of_b) ≡ 3) }
     ensures signs { (expr_nesting (Prefix (codes "-") a) ≡ 2) × (expr_nesting a_up ≡ 2) }
     ensures cast { (expr_nesting (Cast a_of_b a) ≡ 3) × (expr_nesting (Cast (ints 0) (Paren a)) ≡ 3) }
     ensures index { (expr_nesting (Index (Paren a) b) ≡ 3) × (expr_nesting (Index a (Paren b)) ≡ 3) }
-    ensures call_on { (expr_nesting (CallOn (Paren a) (codes "f") no_expr) ≡ 3) × (expr_nesting (CallOn a (codes "f") (expr_then b (expr_then (Paren c) no_expr))) ≡ 3) }
-    ensures object { (expr_nesting (New class_a no_expr) ≡ 2) × (expr_nesting (New class_a (expr_then (Paren a) no_expr)) ≡ 3) }
-    ensures array { (expr_nesting (NewArray a_of_b (expr_then a no_expr) 5) ≡ 3) × (expr_nesting (NewArray (ints 0) (expr_then a (expr_then (Paren b) no_expr)) 0) ≡ 3) }
-    ensures items { (expr_nesting (NewItems (ints 0) 1 (Braces no_init false)) ≡ 2) × (expr_nesting (NewItems a_of_b 1 (Braces no_init false)) ≡ 3) × (expr_nesting (NewItems (ints 0) 1 (Braces (init_then (Value a) no_init) true)) ≡ 3) }
+    ensures call_on { (expr_nesting (CallOn (Paren a) (codes "f") no_expr) ≡ 3)
+        × (expr_nesting (CallOn a (codes "f") (expr_then b (expr_then (Paren c) no_expr))) ≡ 3) }
+    ensures object { (expr_nesting (New class_a no_expr) ≡ 2)
+        × (expr_nesting (New class_a (expr_then (Paren a) no_expr)) ≡ 3) }
+    ensures array { (expr_nesting (NewArray a_of_b (expr_then a no_expr) 5) ≡ 3)
+        × (expr_nesting (NewArray (ints 0) (expr_then a (expr_then (Paren b) no_expr)) 0) ≡ 3) }
+    ensures items { (expr_nesting (NewItems (ints 0) 1 (Braces no_init false)) ≡ 2)
+        × (expr_nesting (NewItems a_of_b 1 (Braces no_init false)) ≡ 3)
+        × (expr_nesting (NewItems (ints 0) 1 (Braces (init_then (Value a) no_init) true)) ≡ 3) }
 {}
 
 /// Each statement counts one, a block too, but not the declaration in the head of a `for`.
 pub fn nesting_of_statements()
     ensures assignment { stmt_nesting (assigns (codes "x") (difference (difference a b) c)) ≡ 5 }
-    ensures local { stmt_nesting (Local (local_of (generic (codes "List") (only (generic (codes "List") (only class_a) false)) true))) ≡ 4 }
+    ensures local { stmt_nesting (Local (local_of (generic (codes "List") (only (generic (codes "List") (only class_a)
+        false)) true))) ≡ 4 }
     ensures block { stmt_nesting (Block no_stmt) ≡ 1 }
     ensures synchronised { stmt_nesting (Sync This (stmt_then Empty no_stmt)) ≡ 3 }
     ensures head { stmt_nesting (For (Declares (local_of class_a)) None no_expr Empty) ≡ 2 }
     ensures branch { stmt_nesting (If a (Block (stmt_then (Return None) no_stmt))) ≡ 3 }
-    ensures initials { stmt_nesting (Local (locals false (ints 0) (variable (codes "v") None ∷ variable (codes "w") (Some (Items (Braces (init_then (Value a) no_init) false))) ∷ []))) ≡ 3 }
+    ensures initials { stmt_nesting (Local (locals false (ints 0) (variable (codes "v") None ∷ variable (codes "w")
+        (Some (Items (Braces (init_then (Value a) no_init) false))) ∷ []))) ≡ 3 }
     ensures if_alone { (stmt_nesting (If (Paren a) Empty) ≡ 3) × (stmt_nesting (If a one_deep) ≡ 3) }
-    ensures if_else { (stmt_nesting (IfElse (Paren a) Empty Empty) ≡ 3) × (stmt_nesting (IfElse a one_deep Empty) ≡ 3) × (stmt_nesting (IfElse a Empty one_deep) ≡ 3) }
+    ensures if_else { (stmt_nesting (IfElse (Paren a) Empty Empty) ≡ 3) × (stmt_nesting (IfElse a one_deep Empty) ≡ 3)
+        × (stmt_nesting (IfElse a Empty one_deep) ≡ 3) }
     ensures while_loop { (stmt_nesting (While (Paren a) Empty) ≡ 3) × (stmt_nesting (While a one_deep) ≡ 3) }
-    ensures for_initials { stmt_nesting (For (Declares (locals false (ints 0) (variable (codes "v") (Some (Value (Paren a))) ∷ []))) None no_expr Empty) ≡ 3 }
-    ensures for_loop { (stmt_nesting (For (Runs (expr_then f_call (expr_then a_up no_expr))) None no_expr Empty) ≡ 3) × (stmt_nesting (For (Runs no_expr) (Some (Paren a)) no_expr Empty) ≡ 3) × (stmt_nesting (For (Runs no_expr) None (expr_then f_call (expr_then a_up no_expr)) Empty) ≡ 3) × (stmt_nesting (For (Runs no_expr) None no_expr one_deep) ≡ 3) }
-    ensures for_each { (stmt_nesting (ForEach false a_of_b (codes "x") a Empty) ≡ 3) × (stmt_nesting (ForEach false class_a (codes "x") (Paren a) Empty) ≡ 3) × (stmt_nesting (ForEach false class_a (codes "x") a one_deep) ≡ 3) }
+    ensures for_initials { stmt_nesting (For (Declares (locals false (ints 0) (variable (codes "v") (Some (Value (Paren a))) ∷ [])))
+        None no_expr Empty) ≡ 3 }
+    ensures for_loop { (stmt_nesting (For (Runs (expr_then f_call (expr_then a_up no_expr))) None no_expr Empty) ≡ 3)
+        × (stmt_nesting (For (Runs no_expr) (Some (Paren a)) no_expr Empty) ≡ 3)
+        × (stmt_nesting (For (Runs no_expr) None (expr_then f_call (expr_then a_up no_expr)) Empty) ≡ 3)
+        × (stmt_nesting (For (Runs no_expr) None no_expr one_deep) ≡ 3) }
+    ensures for_each { (stmt_nesting (ForEach false a_of_b (codes "x") a Empty) ≡ 3)
+        × (stmt_nesting (ForEach false class_a (codes "x") (Paren a) Empty) ≡ 3)
+        × (stmt_nesting (ForEach false class_a (codes "x") a one_deep) ≡ 3) }
     ensures lock { (stmt_nesting (Sync a no_stmt) ≡ 2) × (stmt_nesting (Sync (Paren (Paren a)) no_stmt) ≡ 4) }
-    ensures answer { (stmt_nesting (Return (Some a)) ≡ 2) × (stmt_nesting (Return None) ≡ 1) × (stmt_nesting Empty ≡ 1) }
+    ensures answer { (stmt_nesting (Return (Some a)) ≡ 2) × (stmt_nesting (Return None) ≡ 1)
+        × (stmt_nesting Empty ≡ 1) }
 {}
 
 /// The block of a method is a statement, beside the types of its head.
@@ -61,5 +95,6 @@ pub fn nesting_of_methods()
     ensures head { method_nesting (method [] (TypeResult a_of_b) (codes "f") [] [] no_stmt) ≡ 2 }
     ensures parameters { method_nesting (void_f [] (formal (ints 0) ∷ formal a_of_b ∷ []) [] no_stmt) ≡ 2 }
     ensures exceptions { method_nesting (void_f [] [] (class_a ∷ a_of_b ∷ []) no_stmt) ≡ 2 }
-    ensures body { method_nesting (void_f [] (formal a_of_b ∷ []) [] (stmt_then Empty (stmt_then (Return (Some a)) no_stmt))) ≡ 3 }
+    ensures body { method_nesting (void_f [] (formal a_of_b ∷ []) [] (stmt_then Empty (stmt_then (Return (Some a))
+        no_stmt))) ≡ 3 }
 {}

@@ -2,13 +2,15 @@
 ghost use Rattle.std.specs.Prelude.{◌≡◌, List, ◌∷◌, ◌++◌, map, OnOk};
 ghost use Rattle.java_tree.specs.declared.words.Spelled.{Spelled};
 ghost use Rattle.java_tree.specs.Words.{sign};
-ghost use Rattle.java_tree.specs.Trees.{Assign, Conditional, Binary, InstanceOf, Prefix, Cast, Paren, Field, Index, Call, CallOn, ClassOf, New, NewArray, NewItems, pack_exprs, pack_inits};
-ghost use Rattle.java_tree.specs.Spelling.{operator_onto, last_comma_onto, names_onto, expr_onto, exprs_onto, lengths_onto, array_onto, inits_onto, init_onto};
+ghost use Rattle.java_tree.specs.Trees.{Assign, Conditional, Binary, InstanceOf, Prefix, Cast, Paren, Field, Index};
+ghost use Rattle.java_tree.specs.Trees.{Call, CallOn, ClassOf, New, NewArray, NewItems, pack_exprs, pack_inits};
+ghost use Rattle.java_tree.specs.Spelling.{operator_onto, last_comma_onto, names_onto, expr_onto, exprs_onto};
+ghost use Rattle.java_tree.specs.Spelling.{lengths_onto, array_onto, inits_onto, init_onto};
 ghost use Rattle.java_tree.specs.View.{name_of, ty_of, expr_of, init_of, array_of};
 
 use super::put::{put_above, put_brackets, put_keyword, put_name, put_sign, put_word};
 use super::types::spell_type;
-use crate::expressions::{ArrayItems, Expression, Initial};
+use crate::expressions::{ArrayTree, Expression, Initialiser};
 use crate::types::TypeTree;
 use crate::words::{Ident, Spelled};
 use racer_base::{Items, Memory, Text};
@@ -33,7 +35,8 @@ fn put_operator(alloc: Global, out: &mut Items<Spelled>, text: &Text) -> Result<
 
 /// Names with points between them.
 fn put_names(alloc: Global, out: &mut Items<Spelled>, names: &[Ident]) -> Result<(), Memory>
-    ensures { OnOk result ((rest : List Spelled) → out.old ++ names_onto (map name_of names.now) rest ≡ out.new ++ rest) }
+    ensures { OnOk result ((rest : List Spelled) → out.old ++ names_onto (map name_of names.now) rest ≡ out.new
+        ++ rest) }
 {
     let [first, others @ ..] = names else {
         return Ok(());
@@ -58,7 +61,8 @@ fn put_last_comma(alloc: Global, out: &mut Items<Spelled>, stands: bool) -> Resu
 
 /// Names joined by points, and `.class`.
 fn put_class_of(alloc: Global, out: &mut Items<Spelled>, names: &[Ident]) -> Result<(), Memory>
-    ensures { OnOk result ((rest : List Spelled) → out.old ++ expr_onto (ClassOf (map name_of names.now)) rest ≡ out.new ++ rest) }
+    ensures { OnOk result ((rest : List Spelled) → out.old ++ expr_onto (ClassOf (map name_of names.now))
+        rest ≡ out.new ++ rest) }
 {
     put_names(alloc, out, names)?;
     put_sign(alloc, out, ".")?;
@@ -104,7 +108,8 @@ pub fn spell_before(
     a: &Expression,
     text: &str,
 ) -> Result<(), Memory>
-    ensures { OnOk result ((rest : List Spelled) → out.old ++ expr_onto (expr_of a.now) (sign text.now ∷ rest) ≡ out.new ++ rest) }
+    ensures { OnOk result ((rest : List Spelled) → out.old ++ expr_onto (expr_of a.now) (sign text.now
+        ∷ rest) ≡ out.new ++ rest) }
 {
     spell_expression(alloc, out, a)?;
     put_sign(alloc, out, text)
@@ -118,7 +123,8 @@ fn spell_assignment(
     operator: &Text,
     b: &Expression,
 ) -> Result<(), Memory>
-    ensures { OnOk result ((rest : List Spelled) → out.old ++ expr_onto (Assign (expr_of a.now) operator.now (expr_of b.now)) rest ≡ out.new ++ rest) }
+    ensures { OnOk result ((rest : List Spelled) → out.old ++ expr_onto (Assign (expr_of a.now) operator.now
+        (expr_of b.now)) rest ≡ out.new ++ rest) }
 {
     spell_before(alloc, out, a, operator.as_str())?;
     spell_expression(alloc, out, b)
@@ -132,7 +138,8 @@ fn spell_conditional(
     b: &Expression,
     c: &Expression,
 ) -> Result<(), Memory>
-    ensures { OnOk result ((rest : List Spelled) → out.old ++ expr_onto (Conditional (expr_of a.now) (expr_of b.now) (expr_of c.now)) rest ≡ out.new ++ rest) }
+    ensures { OnOk result ((rest : List Spelled) → out.old ++ expr_onto (Conditional (expr_of a.now) (expr_of b.now)
+        (expr_of c.now)) rest ≡ out.new ++ rest) }
 {
     spell_before(alloc, out, a, "?")?;
     spell_before(alloc, out, b, ":")?;
@@ -147,7 +154,8 @@ fn spell_binary(
     operator: &Text,
     b: &Expression,
 ) -> Result<(), Memory>
-    ensures { OnOk result ((rest : List Spelled) → out.old ++ expr_onto (Binary (expr_of a.now) operator.now (expr_of b.now)) rest ≡ out.new ++ rest) }
+    ensures { OnOk result ((rest : List Spelled) → out.old ++ expr_onto (Binary (expr_of a.now) operator.now
+        (expr_of b.now)) rest ≡ out.new ++ rest) }
 {
     spell_expression(alloc, out, a)?;
     put_operator(alloc, out, operator)?;
@@ -161,7 +169,8 @@ fn spell_instance_of(
     a: &Expression,
     kind: &TypeTree,
 ) -> Result<(), Memory>
-    ensures { OnOk result ((rest : List Spelled) → out.old ++ expr_onto (InstanceOf (expr_of a.now) (ty_of kind.now)) rest ≡ out.new ++ rest) }
+    ensures { OnOk result ((rest : List Spelled) → out.old ++ expr_onto (InstanceOf (expr_of a.now) (ty_of kind.now))
+        rest ≡ out.new ++ rest) }
 {
     spell_expression(alloc, out, a)?;
     put_keyword(alloc, out, "instanceof")?;
@@ -175,7 +184,8 @@ fn spell_prefix(
     operator: &Text,
     a: &Expression,
 ) -> Result<(), Memory>
-    ensures { OnOk result ((rest : List Spelled) → out.old ++ expr_onto (Prefix operator.now (expr_of a.now)) rest ≡ out.new ++ rest) }
+    ensures { OnOk result ((rest : List Spelled) → out.old ++ expr_onto (Prefix operator.now (expr_of a.now))
+        rest ≡ out.new ++ rest) }
 {
     put_sign(alloc, out, operator.as_str())?;
     spell_expression(alloc, out, a)
@@ -188,7 +198,8 @@ fn spell_cast(
     a: &Expression,
     kind: &TypeTree,
 ) -> Result<(), Memory>
-    ensures { OnOk result ((rest : List Spelled) → out.old ++ expr_onto (Cast (ty_of kind.now) (expr_of a.now)) rest ≡ out.new ++ rest) }
+    ensures { OnOk result ((rest : List Spelled) → out.old ++ expr_onto (Cast (ty_of kind.now) (expr_of a.now))
+        rest ≡ out.new ++ rest) }
 {
     put_sign(alloc, out, "(")?;
     spell_type(alloc, out, kind)?;
@@ -198,7 +209,8 @@ fn spell_cast(
 
 #[cycle(spell_expressions)]
 fn spell_parentheses(alloc: Global, out: &mut Items<Spelled>, a: &Expression) -> Result<(), Memory>
-    ensures { OnOk result ((rest : List Spelled) → out.old ++ expr_onto (Paren (expr_of a.now)) rest ≡ out.new ++ rest) }
+    ensures { OnOk result ((rest : List Spelled) → out.old ++ expr_onto (Paren (expr_of a.now)) rest ≡ out.new
+        ++ rest) }
 {
     put_sign(alloc, out, "(")?;
     spell_before(alloc, out, a, ")")
@@ -211,7 +223,8 @@ fn spell_field(
     a: &Expression,
     name: &Ident,
 ) -> Result<(), Memory>
-    ensures { OnOk result ((rest : List Spelled) → out.old ++ expr_onto (Field (expr_of a.now) (name_of name.now)) rest ≡ out.new ++ rest) }
+    ensures { OnOk result ((rest : List Spelled) → out.old ++ expr_onto (Field (expr_of a.now) (name_of name.now))
+        rest ≡ out.new ++ rest) }
 {
     spell_before(alloc, out, a, ".")?;
     put_name(alloc, out, name.text.as_str())
@@ -224,7 +237,8 @@ fn spell_index(
     a: &Expression,
     index: &Expression,
 ) -> Result<(), Memory>
-    ensures { OnOk result ((rest : List Spelled) → out.old ++ expr_onto (Index (expr_of a.now) (expr_of index.now)) rest ≡ out.new ++ rest) }
+    ensures { OnOk result ((rest : List Spelled) → out.old ++ expr_onto (Index (expr_of a.now) (expr_of index.now))
+        rest ≡ out.new ++ rest) }
 {
     spell_before(alloc, out, a, "[")?;
     spell_before(alloc, out, index, "]")
@@ -237,7 +251,8 @@ fn spell_call(
     all: &[Expression],
     name: &Ident,
 ) -> Result<(), Memory>
-    ensures { OnOk result ((rest : List Spelled) → out.old ++ expr_onto (Call (name_of name.now) (pack_exprs (map expr_of all.now))) rest ≡ out.new ++ rest) }
+    ensures { OnOk result ((rest : List Spelled)
+        → out.old ++ expr_onto (Call (name_of name.now) (pack_exprs (map expr_of all.now))) rest ≡ out.new ++ rest) }
 {
     put_name(alloc, out, name.text.as_str())?;
     put_sign(alloc, out, "(")?;
@@ -253,7 +268,8 @@ fn spell_call_on(
     name: &Ident,
     all: &[Expression],
 ) -> Result<(), Memory>
-    ensures { OnOk result ((rest : List Spelled) → out.old ++ expr_onto (CallOn (expr_of a.now) (name_of name.now) (pack_exprs (map expr_of all.now))) rest ≡ out.new ++ rest) }
+    ensures { OnOk result ((rest : List Spelled) → out.old ++ expr_onto (CallOn (expr_of a.now) (name_of name.now)
+        (pack_exprs (map expr_of all.now))) rest ≡ out.new ++ rest) }
 {
     spell_before(alloc, out, a, ".")?;
     spell_call(alloc, out, all, name)
@@ -266,7 +282,8 @@ fn spell_new(
     all: &[Expression],
     kind: &TypeTree,
 ) -> Result<(), Memory>
-    ensures { OnOk result ((rest : List Spelled) → out.old ++ expr_onto (New (ty_of kind.now) (pack_exprs (map expr_of all.now))) rest ≡ out.new ++ rest) }
+    ensures { OnOk result ((rest : List Spelled)
+        → out.old ++ expr_onto (New (ty_of kind.now) (pack_exprs (map expr_of all.now))) rest ≡ out.new ++ rest) }
 {
     put_keyword(alloc, out, "new")?;
     spell_type(alloc, out, kind)?;
@@ -283,7 +300,9 @@ fn spell_new_array(
     kind: &TypeTree,
     count: u32,
 ) -> Result<(), Memory>
-    ensures { OnOk result ((rest : List Spelled) → out.old ++ expr_onto (NewArray (ty_of kind.now) (pack_exprs (map expr_of lengths.now)) count) rest ≡ out.new ++ rest) }
+    ensures { OnOk result ((rest : List Spelled)
+        → out.old ++ expr_onto (NewArray (ty_of kind.now) (pack_exprs (map expr_of lengths.now)) count) rest ≡ out.new
+        ++ rest) }
 {
     put_keyword(alloc, out, "new")?;
     spell_type(alloc, out, kind)?;
@@ -295,11 +314,12 @@ fn spell_new_array(
 fn spell_new_items(
     alloc: Global,
     out: &mut Items<Spelled>,
-    items: &ArrayItems,
+    items: &ArrayTree,
     kind: &TypeTree,
     count: u32,
 ) -> Result<(), Memory>
-    ensures { OnOk result ((rest : List Spelled) → out.old ++ expr_onto (NewItems (ty_of kind.now) count (array_of items.now)) rest ≡ out.new ++ rest) }
+    ensures { OnOk result ((rest : List Spelled)
+        → out.old ++ expr_onto (NewItems (ty_of kind.now) count (array_of items.now)) rest ≡ out.new ++ rest) }
 {
     put_keyword(alloc, out, "new")?;
     spell_type(alloc, out, kind)?;
@@ -310,7 +330,8 @@ fn spell_new_items(
 /// Expressions with commas between them.
 #[cycle(spell_expressions)]
 pub fn spell_list(alloc: Global, out: &mut Items<Spelled>, all: &[Expression]) -> Result<(), Memory>
-    ensures { OnOk result ((rest : List Spelled) → out.old ++ exprs_onto (pack_exprs (map expr_of all.now)) rest ≡ out.new ++ rest) }
+    ensures { OnOk result ((rest : List Spelled) → out.old ++ exprs_onto (pack_exprs (map expr_of all.now))
+        rest ≡ out.new ++ rest) }
 {
     let [first, others @ ..] = all else {
         return Ok(());
@@ -330,7 +351,8 @@ fn spell_lengths(
     out: &mut Items<Spelled>,
     lengths: &[Expression],
 ) -> Result<(), Memory>
-    ensures { OnOk result ((rest : List Spelled) → out.old ++ lengths_onto (pack_exprs (map expr_of lengths.now)) rest ≡ out.new ++ rest) }
+    ensures { OnOk result ((rest : List Spelled) → out.old ++ lengths_onto (pack_exprs (map expr_of lengths.now))
+        rest ≡ out.new ++ rest) }
 {
     for length in lengths {
         put_sign(alloc, out, "[")?;
@@ -340,7 +362,7 @@ fn spell_lengths(
 }
 
 #[cycle(spell_expressions)]
-fn spell_array(alloc: Global, out: &mut Items<Spelled>, array: &ArrayItems) -> Result<(), Memory>
+fn spell_array(alloc: Global, out: &mut Items<Spelled>, array: &ArrayTree) -> Result<(), Memory>
     ensures { OnOk result ((rest : List Spelled) → out.old ++ array_onto (array_of array.now) rest ≡ out.new ++ rest) }
 {
     put_sign(alloc, out, "{")?;
@@ -351,30 +373,32 @@ fn spell_array(alloc: Global, out: &mut Items<Spelled>, array: &ArrayItems) -> R
 
 /// Items with commas between them.
 #[cycle(spell_expressions)]
-fn spell_items(alloc: Global, out: &mut Items<Spelled>, all: &[Initial]) -> Result<(), Memory>
-    ensures { OnOk result ((rest : List Spelled) → out.old ++ inits_onto (pack_inits (map init_of all.now)) rest ≡ out.new ++ rest) }
+fn spell_items(alloc: Global, out: &mut Items<Spelled>, all: &[Initialiser]) -> Result<(), Memory>
+    ensures { OnOk result ((rest : List Spelled) → out.old ++ inits_onto (pack_inits (map init_of all.now))
+        rest ≡ out.new ++ rest) }
 {
     let [first, others @ ..] = all else {
         return Ok(());
     };
-    spell_initial(alloc, out, first)?;
+    spell_initialiser(alloc, out, first)?;
     for other in others {
         put_sign(alloc, out, ",")?;
-        spell_initial(alloc, out, other)?;
+        spell_initialiser(alloc, out, other)?;
     }
     Ok(())
 }
 
 #[cycle(spell_expressions)]
-pub fn spell_initial(
+pub fn spell_initialiser(
     alloc: Global,
     out: &mut Items<Spelled>,
-    initial: &Initial,
+    initialiser: &Initialiser,
 ) -> Result<(), Memory>
-    ensures { OnOk result ((rest : List Spelled) → out.old ++ init_onto (init_of initial.now) rest ≡ out.new ++ rest) }
+    ensures { OnOk result ((rest : List Spelled) → out.old ++ init_onto (init_of initialiser.now) rest ≡ out.new
+        ++ rest) }
 {
-    match initial {
-        Initial::Value(value) => spell_expression(alloc, out, value),
-        Initial::Items(items) => spell_array(alloc, out, items),
+    match initialiser {
+        Initialiser::Value(value) => spell_expression(alloc, out, value),
+        Initialiser::Items(items) => spell_array(alloc, out, items),
     }
 }

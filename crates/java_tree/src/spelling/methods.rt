@@ -1,13 +1,15 @@
 //! The tokens of methods and constructors (JLS 8.4, 8.8).
 ghost use Rattle.std.specs.Prelude.{◌≡◌, List, ◌∷◌, ◌++◌, map, OnOk, codes};
 ghost use Rattle.java_tree.specs.declared.words.Spelled.{Spelled};
-ghost use Rattle.java_tree.specs.Spelling.{ty_onto, names_onto, note_onto, notes_onto, modifier_onto, modifiers_onto, result_onto, parameter_onto, throws_onto, commas_onto, method_onto};
-ghost use Rattle.java_tree.specs.View.{ty_of, note_of, modifier_of, result_of, parameter_of, method_of};
+ghost use Rattle.java_tree.specs.Spelling.{ty_onto, names_onto, annotation_onto, annotations_onto, modifier_onto};
+ghost use Rattle.java_tree.specs.Spelling.{modifiers_onto, result_onto, parameter_onto, throws_onto, commas_onto};
+ghost use Rattle.java_tree.specs.Spelling.{method_onto};
+ghost use Rattle.java_tree.specs.View.{ty_of, annotation_of, modifier_of, result_of, parameter_of, method_of};
 
 use super::put::{put_final, put_keyword, put_name, put_sign};
 use super::statements::spell_block;
 use super::types::spell_type;
-use crate::methods::{Annotation, MethodTree, Modifier, ParameterTree, ResultTree};
+use crate::methods::{AnnotationTree, MethodTree, ModifierTree, ParameterTree, ResultTree};
 use crate::types::TypeTree;
 use crate::words::Spelled;
 use racer_base::{Items, Memory, Text};
@@ -43,19 +45,29 @@ fn put_tokens(alloc: Global, out: &mut Items<Spelled>, tokens: &[Spelled]) -> Re
     Ok(())
 }
 
-fn spell_note(alloc: Global, out: &mut Items<Spelled>, note: &Annotation) -> Result<(), Memory>
-    ensures { OnOk result ((rest : List Spelled) → out.old ++ note_onto (note_of note.now) rest ≡ out.new ++ rest) }
+fn spell_annotation(
+    alloc: Global,
+    out: &mut Items<Spelled>,
+    annotation: &AnnotationTree,
+) -> Result<(), Memory>
+    ensures { OnOk result ((rest : List Spelled) → out.old ++ annotation_onto (annotation_of annotation.now)
+        rest ≡ out.new ++ rest) }
 {
     put_sign(alloc, out, "@")?;
-    put_texts(alloc, out, note.names.as_slice())?;
-    put_tokens(alloc, out, note.arguments.as_slice())
+    put_texts(alloc, out, annotation.names.as_slice())?;
+    put_tokens(alloc, out, annotation.arguments.as_slice())
 }
 
-fn spell_notes(alloc: Global, out: &mut Items<Spelled>, notes: &[Annotation]) -> Result<(), Memory>
-    ensures { OnOk result ((rest : List Spelled) → out.old ++ notes_onto (map note_of notes.now) rest ≡ out.new ++ rest) }
+fn spell_annotations(
+    alloc: Global,
+    out: &mut Items<Spelled>,
+    annotations: &[AnnotationTree],
+) -> Result<(), Memory>
+    ensures { OnOk result ((rest : List Spelled) → out.old ++ annotations_onto (map annotation_of annotations.now)
+        rest ≡ out.new ++ rest) }
 {
-    for note in notes {
-        spell_note(alloc, out, note)?;
+    for annotation in annotations {
+        spell_annotation(alloc, out, annotation)?;
     }
     Ok(())
 }
@@ -63,22 +75,24 @@ fn spell_notes(alloc: Global, out: &mut Items<Spelled>, notes: &[Annotation]) ->
 fn spell_modifier(
     alloc: Global,
     out: &mut Items<Spelled>,
-    modifier: &Modifier,
+    modifier: &ModifierTree,
 ) -> Result<(), Memory>
-    ensures { OnOk result ((rest : List Spelled) → out.old ++ modifier_onto (modifier_of modifier.now) rest ≡ out.new ++ rest) }
+    ensures { OnOk result ((rest : List Spelled) → out.old ++ modifier_onto (modifier_of modifier.now) rest ≡ out.new
+        ++ rest) }
 {
     match modifier {
-        Modifier::Word(text) => put_keyword(alloc, out, text.as_str()),
-        Modifier::Note(note) => spell_note(alloc, out, note),
+        ModifierTree::Word(text) => put_keyword(alloc, out, text.as_str()),
+        ModifierTree::Annotated(annotation) => spell_annotation(alloc, out, annotation),
     }
 }
 
 fn spell_modifiers(
     alloc: Global,
     out: &mut Items<Spelled>,
-    modifiers: &[Modifier],
+    modifiers: &[ModifierTree],
 ) -> Result<(), Memory>
-    ensures { OnOk result ((rest : List Spelled) → out.old ++ modifiers_onto (map modifier_of modifiers.now) rest ≡ out.new ++ rest) }
+    ensures { OnOk result ((rest : List Spelled) → out.old ++ modifiers_onto (map modifier_of modifiers.now)
+        rest ≡ out.new ++ rest) }
 {
     for modifier in modifiers {
         spell_modifier(alloc, out, modifier)?;
@@ -88,7 +102,8 @@ fn spell_modifiers(
 
 /// What stands before the name.
 fn spell_result(alloc: Global, out: &mut Items<Spelled>, outcome: &ResultTree) -> Result<(), Memory>
-    ensures { OnOk result ((rest : List Spelled) → out.old ++ result_onto (result_of outcome.now) rest ≡ out.new ++ rest) }
+    ensures { OnOk result ((rest : List Spelled) → out.old ++ result_onto (result_of outcome.now) rest ≡ out.new
+        ++ rest) }
 {
     match outcome {
         ResultTree::Constructor => Ok(()),
@@ -102,10 +117,11 @@ fn spell_parameter(
     out: &mut Items<Spelled>,
     parameter: &ParameterTree,
 ) -> Result<(), Memory>
-    ensures { OnOk result ((rest : List Spelled) → out.old ++ parameter_onto (parameter_of parameter.now) rest ≡ out.new ++ rest) }
+    ensures { OnOk result ((rest : List Spelled) → out.old ++ parameter_onto (parameter_of parameter.now)
+        rest ≡ out.new ++ rest) }
 {
     put_final(alloc, out, parameter.is_final)?;
-    spell_notes(alloc, out, parameter.annotations.as_slice())?;
+    spell_annotations(alloc, out, parameter.annotations.as_slice())?;
     spell_type(alloc, out, &parameter.kind)?;
     put_name(alloc, out, parameter.name.text.as_str())
 }
@@ -116,7 +132,8 @@ fn spell_parameters(
     out: &mut Items<Spelled>,
     parameters: &[ParameterTree],
 ) -> Result<(), Memory>
-    ensures { OnOk result ((rest : List Spelled) → out.old ++ commas_onto parameter_onto (map parameter_of parameters.now) rest ≡ out.new ++ rest) }
+    ensures { OnOk result ((rest : List Spelled) → out.old ++ commas_onto parameter_onto (map parameter_of
+        parameters.now) rest ≡ out.new ++ rest) }
 {
     let [first, others @ ..] = parameters else {
         return Ok(());
@@ -131,7 +148,8 @@ fn spell_parameters(
 
 /// The exceptions, behind `throws` where there is one.
 fn spell_throws(alloc: Global, out: &mut Items<Spelled>, throws: &[TypeTree]) -> Result<(), Memory>
-    ensures { OnOk result ((rest : List Spelled) → out.old ++ throws_onto (map ty_of throws.now) rest ≡ out.new ++ rest) }
+    ensures { OnOk result ((rest : List Spelled) → out.old ++ throws_onto (map ty_of throws.now) rest ≡ out.new
+        ++ rest) }
 {
     let [first, others @ ..] = throws else {
         return Ok(());

@@ -3,14 +3,16 @@ ghost use Rattle.std.specs.Prelude.{◌≡◌, List, ◌∷◌, ◌++◌, map, O
 ghost use Rattle.java_tree.specs.declared.words.Spelled.{Spelled};
 ghost use Rattle.java_tree.specs.Words.{keyword, identifier, sign};
 ghost use Rattle.java_tree.specs.Trees.{Local, Sync, Return, pack_exprs, pack_stmts};
-ghost use Rattle.java_tree.specs.Spelling.{final_onto, ty_onto, expr_onto, exprs_onto, maybe_expr_onto, commas_onto, variable_onto, locals_onto, start_onto, stmt_onto, block_onto, stmts_onto};
+ghost use Rattle.java_tree.specs.Spelling.{final_onto, ty_onto, expr_onto, exprs_onto, maybe_expr_onto};
+ghost use Rattle.java_tree.specs.Spelling.{commas_onto, variable_onto, locals_onto, start_onto, stmt_onto};
+ghost use Rattle.java_tree.specs.Spelling.{block_onto, stmts_onto};
 ghost use Rattle.java_tree.specs.View.{name_of, ty_of, expr_of, variable_of, locals_of, start_of, stmt_of};
 
-use super::expressions::{spell_before, spell_expression, spell_initial, spell_list};
+use super::expressions::{spell_before, spell_expression, spell_initialiser, spell_list};
 use super::put::{put_final, put_keyword, put_name, put_sign};
 use super::types::spell_type;
 use crate::expressions::Expression;
-use crate::statements::{Declarator, ForInit, LocalTree, Statement};
+use crate::statements::{LocalsTree, StartTree, Statement, VariableTree};
 use crate::types::TypeTree;
 use crate::words::{Ident, Spelled};
 use racer_base::{Items, Memory};
@@ -20,14 +22,15 @@ use std::alloc::Global;
 fn spell_variable(
     alloc: Global,
     out: &mut Items<Spelled>,
-    variable: &Declarator,
+    variable: &VariableTree,
 ) -> Result<(), Memory>
-    ensures { OnOk result ((rest : List Spelled) → out.old ++ variable_onto (variable_of variable.now) rest ≡ out.new ++ rest) }
+    ensures { OnOk result ((rest : List Spelled) → out.old ++ variable_onto (variable_of variable.now) rest ≡ out.new
+        ++ rest) }
 {
     put_name(alloc, out, variable.name.text.as_str())?;
-    if let Some(initial) = &variable.initial {
+    if let Some(initialiser) = &variable.initialiser {
         put_sign(alloc, out, "=")?;
-        spell_initial(alloc, out, initial)?;
+        spell_initialiser(alloc, out, initialiser)?;
     }
     Ok(())
 }
@@ -36,9 +39,10 @@ fn spell_variable(
 fn spell_variables(
     alloc: Global,
     out: &mut Items<Spelled>,
-    variables: &[Declarator],
+    variables: &[VariableTree],
 ) -> Result<(), Memory>
-    ensures { OnOk result ((rest : List Spelled) → out.old ++ commas_onto variable_onto (map variable_of variables.now) rest ≡ out.new ++ rest) }
+    ensures { OnOk result ((rest : List Spelled)
+        → out.old ++ commas_onto variable_onto (map variable_of variables.now) rest ≡ out.new ++ rest) }
 {
     let [first, others @ ..] = variables else {
         return Ok(());
@@ -52,21 +56,22 @@ fn spell_variables(
 }
 
 /// A declaration of variables, without its `;`.
-fn spell_locals(alloc: Global, out: &mut Items<Spelled>, locals: &LocalTree) -> Result<(), Memory>
-    ensures { OnOk result ((rest : List Spelled) → out.old ++ locals_onto (locals_of locals.now) rest ≡ out.new ++ rest) }
+fn spell_locals(alloc: Global, out: &mut Items<Spelled>, locals: &LocalsTree) -> Result<(), Memory>
+    ensures { OnOk result ((rest : List Spelled) → out.old ++ locals_onto (locals_of locals.now) rest ≡ out.new
+        ++ rest) }
 {
     put_final(alloc, out, locals.is_final)?;
     spell_type(alloc, out, &locals.kind)?;
-    spell_variables(alloc, out, locals.declarators.as_slice())
+    spell_variables(alloc, out, locals.variables.as_slice())
 }
 
 /// What stands before the first `;` of a `for`.
-fn spell_start(alloc: Global, out: &mut Items<Spelled>, start: &ForInit) -> Result<(), Memory>
+fn spell_start(alloc: Global, out: &mut Items<Spelled>, start: &StartTree) -> Result<(), Memory>
     ensures { OnOk result ((rest : List Spelled) → out.old ++ start_onto (start_of start.now) rest ≡ out.new ++ rest) }
 {
     match start {
-        ForInit::Local(locals) => spell_locals(alloc, out, locals),
-        ForInit::Expressions(all) => spell_list(alloc, out, all.as_slice()),
+        StartTree::Local(locals) => spell_locals(alloc, out, locals),
+        StartTree::Expressions(all) => spell_list(alloc, out, all.as_slice()),
     }
 }
 
@@ -76,7 +81,8 @@ fn spell_maybe(
     out: &mut Items<Spelled>,
     value: &Option<Expression>,
 ) -> Result<(), Memory>
-    ensures { OnOk result ((rest : List Spelled) → out.old ++ maybe_expr_onto (option_map expr_of value.now) rest ≡ out.new ++ rest) }
+    ensures { OnOk result ((rest : List Spelled) → out.old ++ maybe_expr_onto (option_map expr_of value.now)
+        rest ≡ out.new ++ rest) }
 {
     match value {
         Some(value) => spell_expression(alloc, out, value),
@@ -91,7 +97,8 @@ fn spell_head(
     word: &str,
     value: &Expression,
 ) -> Result<(), Memory>
-    ensures { OnOk result ((rest : List Spelled) → out.old ++ keyword word.now ∷ sign (codes "(") ∷ expr_onto (expr_of value.now) (sign (codes ")") ∷ rest) ≡ out.new ++ rest) }
+    ensures { OnOk result ((rest : List Spelled) → out.old ++ keyword word.now ∷ sign (codes "(")
+        ∷ expr_onto (expr_of value.now) (sign (codes ")") ∷ rest) ≡ out.new ++ rest) }
 {
     put_keyword(alloc, out, word)?;
     put_sign(alloc, out, "(")?;
@@ -102,11 +109,14 @@ fn spell_head(
 fn spell_for_head(
     alloc: Global,
     out: &mut Items<Spelled>,
-    start: &ForInit,
+    start: &StartTree,
     condition: &Option<Expression>,
     updates: &[Expression],
 ) -> Result<(), Memory>
-    ensures { OnOk result ((rest : List Spelled) → out.old ++ keyword (codes "for") ∷ sign (codes "(") ∷ start_onto (start_of start.now) (sign (codes ";") ∷ maybe_expr_onto (option_map expr_of condition.now) (sign (codes ";") ∷ exprs_onto (pack_exprs (map expr_of updates.now)) (sign (codes ")") ∷ rest))) ≡ out.new ++ rest) }
+    ensures { OnOk result ((rest : List Spelled) → out.old ++ keyword (codes "for") ∷ sign (codes "(")
+        ∷ start_onto (start_of start.now) (sign (codes ";") ∷ maybe_expr_onto (option_map expr_of condition.now)
+        (sign (codes ";") ∷ exprs_onto (pack_exprs (map expr_of updates.now)) (sign (codes ")") ∷ rest))) ≡ out.new
+        ++ rest) }
 {
     put_keyword(alloc, out, "for")?;
     put_sign(alloc, out, "(")?;
@@ -127,7 +137,9 @@ fn spell_for_each_head(
     name: &Ident,
     value: &Expression,
 ) -> Result<(), Memory>
-    ensures { OnOk result ((rest : List Spelled) → out.old ++ keyword (codes "for") ∷ sign (codes "(") ∷ final_onto is_final (ty_onto (ty_of kind.now) (identifier (name_of name.now) ∷ sign (codes ":") ∷ expr_onto (expr_of value.now) (sign (codes ")") ∷ rest))) ≡ out.new ++ rest) }
+    ensures { OnOk result ((rest : List Spelled) → out.old ++ keyword (codes "for") ∷ sign (codes "(")
+        ∷ final_onto is_final (ty_onto (ty_of kind.now) (identifier (name_of name.now) ∷ sign (codes ":")
+        ∷ expr_onto (expr_of value.now) (sign (codes ")") ∷ rest))) ≡ out.new ++ rest) }
 {
     put_keyword(alloc, out, "for")?;
     put_sign(alloc, out, "(")?;
@@ -138,8 +150,9 @@ fn spell_for_each_head(
     spell_before(alloc, out, value, ")")
 }
 
-fn spell_local(alloc: Global, out: &mut Items<Spelled>, locals: &LocalTree) -> Result<(), Memory>
-    ensures { OnOk result ((rest : List Spelled) → out.old ++ stmt_onto (Local (locals_of locals.now)) rest ≡ out.new ++ rest) }
+fn spell_local(alloc: Global, out: &mut Items<Spelled>, locals: &LocalsTree) -> Result<(), Memory>
+    ensures { OnOk result ((rest : List Spelled) → out.old ++ stmt_onto (Local (locals_of locals.now)) rest ≡ out.new
+        ++ rest) }
 {
     spell_locals(alloc, out, locals)?;
     put_sign(alloc, out, ";")
@@ -150,7 +163,8 @@ fn spell_return(
     out: &mut Items<Spelled>,
     value: &Option<Expression>,
 ) -> Result<(), Memory>
-    ensures { OnOk result ((rest : List Spelled) → out.old ++ stmt_onto (Return (option_map expr_of value.now)) rest ≡ out.new ++ rest) }
+    ensures { OnOk result ((rest : List Spelled) → out.old ++ stmt_onto (Return (option_map expr_of value.now))
+        rest ≡ out.new ++ rest) }
 {
     put_keyword(alloc, out, "return")?;
     spell_maybe(alloc, out, value)?;
@@ -199,7 +213,8 @@ fn spell_sync(
     block: &[Statement],
     value: &Expression,
 ) -> Result<(), Memory>
-    ensures { OnOk result ((rest : List Spelled) → out.old ++ stmt_onto (Sync (expr_of value.now) (pack_stmts (map stmt_of block.now))) rest ≡ out.new ++ rest) }
+    ensures { OnOk result ((rest : List Spelled)
+        → out.old ++ stmt_onto (Sync (expr_of value.now) (pack_stmts (map stmt_of block.now))) rest ≡ out.new ++ rest) }
 {
     spell_head(alloc, out, "synchronized", value)?;
     spell_block(alloc, out, block)
@@ -212,7 +227,8 @@ pub fn spell_block(
     out: &mut Items<Spelled>,
     block: &[Statement],
 ) -> Result<(), Memory>
-    ensures { OnOk result ((rest : List Spelled) → out.old ++ block_onto (pack_stmts (map stmt_of block.now)) rest ≡ out.new ++ rest) }
+    ensures { OnOk result ((rest : List Spelled) → out.old ++ block_onto (pack_stmts (map stmt_of block.now))
+        rest ≡ out.new ++ rest) }
 {
     put_sign(alloc, out, "{")?;
     spell_all(alloc, out, block)?;
@@ -226,7 +242,8 @@ fn spell_all(
     out: &mut Items<Spelled>,
     statements: &[Statement],
 ) -> Result<(), Memory>
-    ensures { OnOk result ((rest : List Spelled) → out.old ++ stmts_onto (pack_stmts (map stmt_of statements.now)) rest ≡ out.new ++ rest) }
+    ensures { OnOk result ((rest : List Spelled) → out.old ++ stmts_onto (pack_stmts (map stmt_of statements.now))
+        rest ≡ out.new ++ rest) }
 {
     for statement in statements {
         spell_statement(alloc, out, statement)?;

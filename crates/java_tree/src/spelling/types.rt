@@ -2,7 +2,8 @@
 ghost use Rattle.std.specs.Prelude.{◌≡◌, List, ◌++◌, map, OnOk};
 ghost use Rattle.java_tree.specs.declared.words.Spelled.{Spelled};
 ghost use Rattle.java_tree.specs.Trees.{pack_parts, pack_arguments};
-ghost use Rattle.java_tree.specs.Spelling.{ty_onto, base_onto, parts_onto, part_onto, angled_onto, arguments_onto, argument_onto};
+ghost use Rattle.java_tree.specs.Spelling.{ty_onto, base_onto, parts_onto, part_onto, angled_onto, arguments_onto};
+ghost use Rattle.java_tree.specs.Spelling.{argument_onto};
 ghost use Rattle.java_tree.specs.View.{ty_of, base_of, part_of, angled_of, argument_of};
 
 use super::put::{put_above, put_brackets, put_keyword, put_name, put_sign};
@@ -32,7 +33,8 @@ fn spell_base(alloc: Global, out: &mut Items<Spelled>, base: &BaseType) -> Resul
 /// Names with points between them.
 #[cycle(spell_types)]
 fn spell_parts(alloc: Global, out: &mut Items<Spelled>, parts: &[TypePart]) -> Result<(), Memory>
-    ensures { OnOk result ((rest : List Spelled) → out.old ++ parts_onto (pack_parts (map part_of parts.now)) rest ≡ out.new ++ rest) }
+    ensures { OnOk result ((rest : List Spelled) → out.old ++ parts_onto (pack_parts (map part_of parts.now))
+        rest ≡ out.new ++ rest) }
 {
     let [first, others @ ..] = parts else {
         return Ok(());
@@ -63,7 +65,8 @@ fn spell_angled(
     out: &mut Items<Spelled>,
     arguments: &TypeArguments,
 ) -> Result<(), Memory>
-    ensures { OnOk result ((rest : List Spelled) → out.old ++ angled_onto (angled_of arguments.now) rest ≡ out.new ++ rest) }
+    ensures { OnOk result ((rest : List Spelled) → out.old ++ angled_onto (angled_of arguments.now) rest ≡ out.new
+        ++ rest) }
 {
     put_sign(alloc, out, "<")?;
     spell_arguments(alloc, out, &arguments.items)?;
@@ -77,7 +80,8 @@ fn spell_arguments(
     out: &mut Items<Spelled>,
     arguments: &[TypeArgument],
 ) -> Result<(), Memory>
-    ensures { OnOk result ((rest : List Spelled) → out.old ++ arguments_onto (pack_arguments (map argument_of arguments.now)) rest ≡ out.new ++ rest) }
+    ensures { OnOk result ((rest : List Spelled)
+        → out.old ++ arguments_onto (pack_arguments (map argument_of arguments.now)) rest ≡ out.new ++ rest) }
 {
     let [first, others @ ..] = arguments else {
         return Ok(());
@@ -96,7 +100,8 @@ fn spell_argument(
     out: &mut Items<Spelled>,
     argument: &TypeArgument,
 ) -> Result<(), Memory>
-    ensures { OnOk result ((rest : List Spelled) → out.old ++ argument_onto (argument_of argument.now) rest ≡ out.new ++ rest) }
+    ensures { OnOk result ((rest : List Spelled) → out.old ++ argument_onto (argument_of argument.now) rest ≡ out.new
+        ++ rest) }
 {
     match argument {
         TypeArgument::Exact(tree) => spell_type(alloc, out, tree),

@@ -1,7 +1,9 @@
 //! Two formed trees with one spelling are equal.
-ghost use Rattle.std.specs.Prelude.{◌≡◌, []};
-ghost use Rattle.java_tree.specs.Trees.{Ty, Expr, Array, Init, Stmt, Method};
+ghost use Rattle.std.specs.Prelude.{◌≡◌, List, [], IsTrue};
+ghost use Rattle.java_tree.specs.Trees.{Ty, Expr, Array, Init, Variable, Stmt, Method};
+ghost use Rattle.java_tree.specs.Spelling.{commas_onto, variable_onto};
 ghost use Rattle.java_tree.specs.Spelling.{ty_onto, expr_onto, array_onto, init_onto, stmt_onto, spelling};
+ghost use Rattle.java_tree.specs.Formed.{Each, has_some, FormedVariable};
 ghost use Rattle.java_tree.specs.Formed.{FormedTy, FormedExpr, FormedArray, FormedInit, FormedStmt, FormedMethod};
 
 /// Two formed types with one spelling are equal.
@@ -22,6 +24,12 @@ pub fn one_array()
 /// Two formed beginnings of variables with one spelling are equal.
 pub fn one_init()
     ensures { (a b : Init) → FormedInit a → FormedInit b → init_onto a [] ≡ init_onto b [] → a ≡ b }
+{}
+
+/// Two formed lists of variables with one spelling are equal.
+pub fn one_list_of_variables()
+    ensures { (a b : List Variable) → IsTrue (has_some a) → IsTrue (has_some b) → Each FormedVariable a
+        → Each FormedVariable b → commas_onto variable_onto a [] ≡ commas_onto variable_onto b [] → a ≡ b }
 {}
 
 /// Two formed statements with one spelling are equal.

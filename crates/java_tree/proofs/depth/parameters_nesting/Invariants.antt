@@ -5,4 +5,5 @@ use Rattle.java_tree.proofs.depth.parameters_nesting.Given as goal
 
 abbrev pub invariant-loop-parameter : goal.invariant-loop-parameter
 invariant-loop-parameter l =
-    max (most_over parameter_nesting (map parameter_of (drop l.parameter-index l.parameters))) l.most ≡ most_over parameter_nesting (map parameter_of l.parameters)
+    max (most_over parameter_nesting (map parameter_of (drop l.parameter-index l.parameters))) l.most ≡ most_over
+    parameter_nesting (map parameter_of l.parameters)

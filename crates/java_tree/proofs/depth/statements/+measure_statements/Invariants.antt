@@ -6,4 +6,5 @@ use Rattle.java_tree.proofs.depth.statements.+measure_statements.Given as goal
 
 abbrev pub invariant-statements_nesting-loop-statement : goal.invariant-statements_nesting-loop-statement
 invariant-statements_nesting-loop-statement l =
-    max (stmts_nesting (pack_stmts (map stmt_of (drop l.statement-index l.statements)))) l.most ≡ stmts_nesting (pack_stmts (map stmt_of l.statements))
+    max (stmts_nesting (pack_stmts (map stmt_of (drop l.statement-index l.statements)))) l.most ≡ stmts_nesting
+    (pack_stmts (map stmt_of l.statements))

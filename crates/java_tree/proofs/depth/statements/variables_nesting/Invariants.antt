@@ -5,4 +5,5 @@ use Rattle.java_tree.proofs.depth.statements.variables_nesting.Given as goal
 
 abbrev pub invariant-loop-variable : goal.invariant-loop-variable
 invariant-loop-variable l =
-    max (most_over variable_nesting (map variable_of (drop l.variable-index l.variables))) l.most ≡ most_over variable_nesting (map variable_of l.variables)
+    max (most_over variable_nesting (map variable_of (drop l.variable-index l.variables))) l.most ≡ most_over
+    variable_nesting (map variable_of l.variables)

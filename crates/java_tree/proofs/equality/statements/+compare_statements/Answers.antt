@@ -9,7 +9,8 @@ use Rattle.java_tree.proofs.equality.statements.+compare_statements.Goals as goa
 pub same_statements-returns : goal.same_statements-returns
 same_statements-returns t c =
     c.is_empty.ensures
-    ∙ ended (λ xs ys. same_stmts (pack_stmts (map stmt_of xs)) (pack_stmts (map stmt_of ys))) refl (λ y ys. refl) c.args.a.now c.loop-x.rest.now c.loop-x.x-index c.loop-x-test.false
+    ∙ ended (λ xs ys. same_stmts (pack_stmts (map stmt_of xs)) (pack_stmts (map stmt_of ys))) refl (λ y ys. refl)
+    c.args.a.now c.loop-x.rest.now c.loop-x.x-index c.loop-x-test.false
     ∙ c.loop-x.invariant
 
 pub same_statement-same_statements-requires-then-eq-8 : goal.same_statement-same_statements-requires-then-eq-8

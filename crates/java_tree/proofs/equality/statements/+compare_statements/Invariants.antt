@@ -6,4 +6,5 @@ use Rattle.java_tree.proofs.equality.statements.+compare_statements.Given as goa
 
 abbrev pub invariant-same_statements-loop-x : goal.invariant-same_statements-loop-x
 invariant-same_statements-loop-x l =
-    same_stmts (pack_stmts (map stmt_of (drop l.x-index l.a))) (pack_stmts (map stmt_of l.rest)) ≡ same_stmts (pack_stmts (map stmt_of l.a)) (pack_stmts (map stmt_of l.initial.rest))
+    same_stmts (pack_stmts (map stmt_of (drop l.x-index l.a))) (pack_stmts (map stmt_of l.rest)) ≡ same_stmts
+    (pack_stmts (map stmt_of l.a)) (pack_stmts (map stmt_of l.initial.rest))

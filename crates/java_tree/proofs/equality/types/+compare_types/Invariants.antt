@@ -6,8 +6,10 @@ use Rattle.java_tree.proofs.equality.types.+compare_types.Given as goal
 
 abbrev pub invariant-same_parts-loop-x : goal.invariant-same_parts-loop-x
 invariant-same_parts-loop-x l =
-    same_parts (pack_parts (map part_of (drop l.x-index l.a))) (pack_parts (map part_of l.rest)) ≡ same_parts (pack_parts (map part_of l.a)) (pack_parts (map part_of l.initial.rest))
+    same_parts (pack_parts (map part_of (drop l.x-index l.a))) (pack_parts (map part_of l.rest)) ≡ same_parts
+    (pack_parts (map part_of l.a)) (pack_parts (map part_of l.initial.rest))
 
 abbrev pub invariant-same_arguments-loop-x : goal.invariant-same_arguments-loop-x
 invariant-same_arguments-loop-x l =
-    same_arguments (pack_arguments (map argument_of (drop l.x-index l.a))) (pack_arguments (map argument_of l.rest)) ≡ same_arguments (pack_arguments (map argument_of l.a)) (pack_arguments (map argument_of l.initial.rest))
+    same_arguments (pack_arguments (map argument_of (drop l.x-index l.a))) (pack_arguments (map argument_of l.rest))
+    ≡ same_arguments (pack_arguments (map argument_of l.a)) (pack_arguments (map argument_of l.initial.rest))

@@ -1,6 +1,4 @@
 use Rattle.std.proofs.Common.{◌≤◌, refl, arith}
-use Rattle.java_tree.specs.Operators.{LogicalOr, Below, Equal}
-use Rattle.java_tree.proofs.Operators.{is_binary}
 use Rattle.java_tree.proofs.laws.expression_edges.edges_of_operands.Goals as goal
 
 pub returns-clause-prefix : goal.returns-clause-prefix
@@ -10,18 +8,18 @@ pub returns-clause-cast : goal.returns-clause-cast
 returns-clause-cast c = (λ f. let h : 12 ≤ 11 = f.2 in omega arith, λ f. let h : 12 ≤ 11 = f.2 in omega arith)
 
 pub returns-clause-conditional : goal.returns-clause-conditional
-returns-clause-conditional c = ((tt, tt, is_binary LogicalOr, omega arith, omega arith), tt, tt, omega arith, omega arith)
+returns-clause-conditional c = ((tt, tt, refl, omega arith, omega arith), tt, tt, omega arith, omega arith)
 
 pub returns-clause-relation_left : goal.returns-clause-relation_left
 returns-clause-relation_left c = (
-  ((tt, tt, is_binary Below, omega arith, omega arith), (tt, tt), omega arith, refl),
+  ((tt, tt, refl, omega arith, omega arith), ((tt, tt), refl), omega arith, refl),
   λ f. let h : 8 ≤ 7 = f.2 in omega arith,
 )
 
 pub returns-clause-relation_inside : goal.returns-clause-relation_inside
 returns-clause-relation_inside c = (
-  ((tt, (tt, tt), omega arith, refl), tt, is_binary Below, omega arith, omega arith),
-  (tt, (tt, (tt, tt), omega arith, refl), is_binary Equal, omega arith, omega arith),
+  ((tt, ((tt, tt), refl), omega arith, refl), tt, refl, omega arith, omega arith),
+  (tt, (tt, ((tt, tt), refl), omega arith, refl), refl, omega arith, omega arith),
   λ f. let h : 9 ≤ 8 = f.4 in omega arith,
 )
 

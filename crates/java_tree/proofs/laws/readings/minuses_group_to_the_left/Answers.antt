@@ -1,7 +1,23 @@
 use Rattle.std.proofs.Common.{refl, arith}
-use Rattle.java_tree.specs.Operators.{Minus}
-use Rattle.java_tree.proofs.Operators.{is_binary}
 use Rattle.java_tree.proofs.laws.readings.minuses_group_to_the_left.Goals as goal
 
 pub returns-clause-reads : goal.returns-clause-reads
-returns-clause-reads c = record { spelled = refl; formed = ((tt, ((tt, tt, is_binary Minus, omega arith, omega arith), tt, is_binary Minus, omega arith, omega arith), refl, refl), refl) }
+returns-clause-reads c =
+    record {
+      spelled = refl;
+      formed = (
+        (
+          tt,
+          (
+            (tt, tt, refl, omega arith, omega arith),
+            tt,
+            refl,
+            omega arith,
+            omega arith,
+          ),
+          refl,
+          refl,
+        ),
+        refl,
+      );
+    }

@@ -1,7 +1,6 @@
 use Rattle.std.proofs.Common.{refl, arith}
-use Rattle.java_tree.specs.Operators.{Minus}
-use Rattle.java_tree.proofs.Operators.{is_binary}
 use Rattle.java_tree.proofs.laws.readings.named_parentheses_before_a_sign.Goals as goal
 
 pub returns-clause-reads : goal.returns-clause-reads
-returns-clause-reads c = record { spelled = refl; formed = ((tt, (tt, tt, is_binary Minus, omega arith, omega arith), refl, refl), refl) }
+returns-clause-reads c =
+    record { spelled = refl; formed = ((tt, (tt, tt, refl, omega arith, omega arith), refl, refl), refl) }

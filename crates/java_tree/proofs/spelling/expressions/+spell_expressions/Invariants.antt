@@ -53,8 +53,8 @@ decreases-spell_array l = 4 * goal.size-spell_array l + 0
 abbrev pub decreases-spell_items : goal.decreases-spell_items
 decreases-spell_items l = 4 * goal.size-spell_items l + 1
 
-abbrev pub decreases-spell_initial : goal.decreases-spell_initial
-decreases-spell_initial l = 4 * goal.size-spell_initial l + 0
+abbrev pub decreases-spell_initialiser : goal.decreases-spell_initialiser
+decreases-spell_initialiser l = 4 * goal.size-spell_initialiser l + 0
 
 abbrev pub decreases-spell_instance_of : goal.decreases-spell_instance_of
 decreases-spell_instance_of l = 4 * goal.size-spell_instance_of l + 1
@@ -75,7 +75,8 @@ abbrev pub decreases-spell_assignment : goal.decreases-spell_assignment
 decreases-spell_assignment l = 4 * (max (size-Expression l.a.now) (size-Expression l.b.now)) + 2
 
 abbrev pub decreases-spell_conditional : goal.decreases-spell_conditional
-decreases-spell_conditional l = 4 * (max (size-Expression l.a.now) (max (size-Expression l.b.now) (size-Expression l.c.now))) + 2
+decreases-spell_conditional l =
+    4 * (max (size-Expression l.a.now) (max (size-Expression l.b.now) (size-Expression l.c.now))) + 2
 
 abbrev pub decreases-spell_binary : goal.decreases-spell_binary
 decreases-spell_binary l = 4 * (max (size-Expression l.a.now) (size-Expression l.b.now)) + 2

@@ -5,4 +5,5 @@ use Rattle.java_tree.proofs.spelling.methods.put_texts.Given as goal
 
 abbrev pub invariant-loop-other : goal.invariant-loop-other
 invariant-loop-other l =
-    (rest : List Spelled) → l.initial.out ++ behind_points l.others rest ≡ l.out ++ behind_points (drop l.other-index l.others) rest
+    (rest : List Spelled) → l.initial.out ++ behind_points l.others rest ≡ l.out ++ behind_points (drop l.other-index
+    l.others) rest

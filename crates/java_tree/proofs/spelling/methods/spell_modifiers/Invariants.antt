@@ -6,4 +6,5 @@ use Rattle.java_tree.proofs.spelling.methods.spell_modifiers.Given as goal
 
 abbrev pub invariant-loop-modifier : goal.invariant-loop-modifier
 invariant-loop-modifier l =
-    (rest : List Spelled) → l.initial.out ++ modifiers_onto (map modifier_of l.modifiers) rest ≡ l.out ++ modifiers_onto (map modifier_of (drop l.modifier-index l.modifiers)) rest
+    (rest : List Spelled) → l.initial.out ++ modifiers_onto (map modifier_of l.modifiers) rest ≡ l.out
+    ++ modifiers_onto (map modifier_of (drop l.modifier-index l.modifiers)) rest

@@ -6,4 +6,5 @@ use Rattle.java_tree.proofs.spelling.methods.spell_throws.Given as goal
 
 abbrev pub invariant-loop-other : goal.invariant-loop-other
 invariant-loop-other l =
-    (rest : List Spelled) → l.initial.out ++ behind_commas ty_onto (map ty_of l.others) rest ≡ l.out ++ behind_commas ty_onto (map ty_of (drop l.other-index l.others)) rest
+    (rest : List Spelled) → l.initial.out ++ behind_commas ty_onto (map ty_of l.others) rest ≡ l.out
+    ++ behind_commas ty_onto (map ty_of (drop l.other-index l.others)) rest

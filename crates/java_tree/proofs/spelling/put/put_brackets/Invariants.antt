@@ -5,4 +5,5 @@ use Rattle.java_tree.proofs.spelling.put.put_brackets.Given as goal
 
 abbrev pub invariant-loop : goal.invariant-loop
 invariant-loop l =
-    (rest : List Spelled) → l.initial.out ++ brackets_onto l.count rest ≡ l.out ++ brackets_onto (l.count - l.counter) rest
+    (rest : List Spelled) → l.initial.out ++ brackets_onto l.count rest ≡ l.out ++ brackets_onto (l.count - l.counter)
+    rest

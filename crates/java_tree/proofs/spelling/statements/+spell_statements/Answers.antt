@@ -13,7 +13,8 @@ spell_sync-returns t c =
     c.args.out.now
     c.spell_head.new.out
     c.spell_block.new.out
-    (λ rest. keyword (codes "synchronized") ∷ sign (codes "(") ∷ expr_onto (expr_of c.args.value.now) (sign (codes ")") ∷ rest))
+    (λ rest. keyword (codes "synchronized") ∷ sign (codes "(") ∷ expr_onto (expr_of c.args.value.now)
+    (sign (codes ")") ∷ rest))
     (block_onto (pack_stmts (map stmt_of c.args.block.now)))
     (λ rest. c.in_ok-spell_head.ensures rest)
     c.spell_block.ensures

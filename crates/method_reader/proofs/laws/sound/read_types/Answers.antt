@@ -15,4 +15,6 @@ pub returns-clause-spelled : goal.returns-clause-spelled
 returns-clause-spelled c = λ n ts t rest e. (of_equation (GotTy n ts) (ty_at n ts) (t, rest) (ty_sound n ts) e).spelled
 
 pub returns-clause-shorter : goal.returns-clause-shorter
-returns-clause-shorter c = λ n ts t rest e. (let g = (of_equation (GotTy n ts) (ty_at n ts) (t, rest) (ty_sound n ts) e) in omega (arith, ap length g.spelled, formed_longer t g.formed rest))
+returns-clause-shorter c =
+    λ n ts t rest e. (let g = (of_equation (GotTy n ts) (ty_at n ts) (t, rest) (ty_sound n ts) e) in
+    omega (arith, ap length g.spelled, formed_longer t g.formed rest))

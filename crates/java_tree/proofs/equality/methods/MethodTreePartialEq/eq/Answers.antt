@@ -5,4 +5,5 @@ use Rattle.java_tree.specs.SameLaws.{decides}
 use Rattle.java_tree.proofs.equality.methods.MethodTreePartialEq.eq.Goals as goal
 
 pub returns-clause-places_aside : goal.returns-clause-places_aside
-returns-clause-places_aside c = decides method_of same_method method_is method_refl c.args.self.now c.args.other.now c.same_method.result c.same_method.ensures
+returns-clause-places_aside c = decides method_of same_method method_is method_refl c.args.self.now c.args.other.now
+    c.same_method.result c.same_method.ensures

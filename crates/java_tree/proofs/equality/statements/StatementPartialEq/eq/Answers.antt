@@ -5,4 +5,5 @@ use Rattle.java_tree.specs.SameLaws.{decides}
 use Rattle.java_tree.proofs.equality.statements.StatementPartialEq.eq.Goals as goal
 
 pub returns-clause-places_aside : goal.returns-clause-places_aside
-returns-clause-places_aside c = decides stmt_of same_stmt stmt_is stmt_refl c.args.self.now c.args.other.now c.same_statement.result c.same_statement.ensures
+returns-clause-places_aside c = decides stmt_of same_stmt stmt_is stmt_refl c.args.self.now c.args.other.now
+    c.same_statement.result c.same_statement.ensures
