@@ -10,18 +10,16 @@ ghost use Rattle.java_lexer.specs.JavaTokens.{angle_tokens, java_tokens_of, faul
 use crate::piece::{LexicalFault, PieceKind};
 use crate::scan::next_piece;
 use crate::spot::Spot;
-use crate::words::{is_listed, text_of};
+use crate::words::text_of;
 use crate::{LexFault, Lexed, Token, TokenKind};
 use racer_base::{FileId, Items, Memory, Place, Text};
 use std::alloc::Global;
 
-/// The shifts, which are given as single `>`.
-const SHIFTS: [&[u8]; 2] = [b">>", b">>>"];
-
+/// Whether this is a shift that is given as single `>`.
 fn is_shift(bytes: &[u8]) -> bool
     ensures { result ≡ is_listed shifts bytes.now }
 {
-    is_listed(&SHIFTS, bytes)
+    bytes == b">>".as_slice() || bytes == b">>>".as_slice()
 }
 
 /// Puts a token `>` for each byte at the end; each but the first is glued.
