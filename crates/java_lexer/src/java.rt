@@ -94,8 +94,10 @@ fn fault_answer(fault: LexicalFault, place: Place) -> LexFault
 fn divided(alloc: Global, file: FileId, bytes: &[u8]) -> Result<Lexed, LexFault>
     requires utf8 { IsUtf8 bytes.now }
     requires small { length bytes.now + 1 < 2 ^ 32 }
-    ensures ok { IfOk result (λ lexed. divided_answer file bytes.now (java_fault (undivided java_lexis bytes.now)) ≡ Ok lexed) }
-    ensures err { IfErr result (λ fault. IsFaultOf (divided_answer file bytes.now (java_fault (undivided java_lexis bytes.now))) fault) }
+    ensures ok { IfOk result
+        (λ lexed. divided_answer file bytes.now (java_fault (undivided java_lexis bytes.now)) ≡ Ok lexed) }
+    ensures err { IfErr result
+        (λ fault. IsFaultOf (divided_answer file bytes.now (java_fault (undivided java_lexis bytes.now))) fault) }
 {
     let mut tokens = Items::new(alloc);
     let mut spot = Spot::begin();
