@@ -4,6 +4,7 @@ use racer_base::{
 };
 use std::alloc::Global;
 use std::fmt::Display;
+use std::os::unix::fs::symlink;
 use std::process::Abort;
 use std::test::Fail;
 use std::{env, fs, io, process};
@@ -87,7 +88,7 @@ fn folder_in_memory(rt: HostRuntime) -> Result<(), Fail> {
     try_calls(&rt, alloc, &mut folder, &rows)
 }
 
-/// Writes a folder with two files, a folder, and two symbolic links, one of them with a name that is no UTF-8.
+/// Writes a folder with two files, a folder, and a symbolic link.
 fn lay_out(rt: &HostRuntime, root: &str) -> Result<(), Fail> {
     let alloc = rt.alloc();
     fs::create_dir_all(rt, format!(in alloc; "{root}/inner")?.as_str())?;
@@ -98,13 +99,11 @@ fn lay_out(rt: &HostRuntime, root: &str) -> Result<(), Fail> {
     ] {
         fs::write(rt, format!(in alloc; "{root}/{name}")?.as_str(), text)?;
     }
-    for name in [b"link.java".as_slice(), b"\xff.java"] {
-        let mut link = format!(in alloc; "{root}/")?.into_bytes();
-        link.extend_from_slice(name)?;
-        if os::symlink(b"B.java", link.as_slice()) != 0 {
-            return Err(Fail::from("no link"));
-        }
-    }
+    symlink(
+        rt,
+        "B.java",
+        format!(in alloc; "{root}/link.java")?.as_str(),
+    )?;
     Ok(())
 }
 
@@ -135,17 +134,6 @@ fn real_folder(rt: HostRuntime) -> Result<(), Fail> {
         (Call::Read("inner/C.java", 5), None),
     ];
     try_calls(&rt, alloc, &mut folder, &rows)?;
-    // a file whose name is no UTF-8 is a fault
-    let mut path = format!(in alloc; "{root}/")?.into_bytes();
-    path.extend_from_slice(b"\xfe.java")?;
-    assert_eq!(rt;
-        os::rename(
-            format!(in alloc; "{root}/a.txt")?.as_bytes(),
-            path.as_slice()
-        ),
-        0
-    );
-    try_calls(&rt, alloc, &mut folder, &[(Call::Names, None)])?;
     fs::remove_dir_all(&rt, root.as_str())?;
     Ok(())
 }
@@ -204,8 +192,10 @@ fn list_and_text(rt: HostRuntime) -> Result<(), Fail> {
     list.push(5)?;
     assert_eq!(rt; list.as_slice(), [7, 5].as_slice());
     assert_eq!(rt; list.into_vec().as_slice(), [7, 5].as_slice());
-    let text = Text::from_str(rt.alloc(), "racer")?;
-    assert_eq!(rt; text.clone()?.as_str(), "racer");
-    assert_eq!(rt; text.into_string().as_str(), "racer");
+    for bytes in ["", "racer", "sixteen bytes ..", "seventeen bytes .."] {
+        let text = Text::from_str(rt.alloc(), bytes)?;
+        assert_eq!(rt; text.clone()?.as_str(), bytes);
+        assert!(rt; text == Text::from(String::from_str(rt.alloc(), bytes)?));
+    }
     Ok(())
 }

@@ -6,7 +6,8 @@ use Rattle.std.proofs.lemmas.List.{length-take-le}
 use Rattle.std.proofs.lemmas.List.Sums.{prefix_len-le-length}
 use Rattle.std.proofs.lemmas.Bool.{false≢true}
 use Rattle.java_lexer.specs.declared.piece.PieceKind.{PieceKind}
-use Rattle.java_lexer.specs.Divisions.{Lexis, IsFront}
+use Rattle.java_lexer.specs.Divisions.{Lexis}
+use Rattle.java_lexer.specs.Scanning.{IsFront}
 use Rattle.java_lexer.specs.Kinds.{is_nothing}
 use Rattle.java_lexer.proofs.Runs.{run_passes, run_longest}
 

@@ -12,7 +12,7 @@ use Rattle.java_lexer.specs.Numbers.{begins_hex, go_on}
 use Rattle.java_lexer.specs.Signs.{signs, is_sign}
 use Rattle.java_lexer.specs.Scanning.{signs_with, number_len}
 use Rattle.java_lexer.specs.JavaKinds.{java_kind, is_piece, unless_front, java_fault, java_lexis}
-use Rattle.java_lexer.specs.Divisions.{IsFront}
+use Rattle.java_lexer.specs.Scanning.{IsFront}
 use Rattle.java_lexer.proofs.Bytes.{never_both, all_below}
 use Rattle.java_lexer.proofs.Ascii.{letter_below, digit_below, white_below}
 use Rattle.java_lexer.proofs.ByFirst.{run_front, single_front, tested_front}

@@ -1,4 +1,4 @@
--- The piece in front of a text in a short form of Java, by its first byte.
+-- The piece in front of a text in the first grammar, by its first byte.
 use Rattle.std.proofs.Common.{◌≡◌, ℕ, ◌+◌, Bool, true, false, cond, List, [], ◌∷◌, take, drop, Some, None, refl, sym, one-add, take-append-drop}
 use Rattle.std.specs.List.{prefix_len, list_all}
 use Rattle.racer_base.specs.Name.{is_letter, is_digit, is_word_byte}
@@ -7,7 +7,8 @@ use Rattle.java_lexer.specs.declared.piece.PieceKind.TheVariants.{White, Token}
 use Rattle.java_lexer.specs.declared.token.TokenKind.TheVariants.{Number, Sign}
 use Rattle.java_lexer.specs.Kinds.{is_nothing, is_white, word_kind, is_number_byte}
 use Rattle.java_lexer.specs.FirstKinds.{first_kind, first_lexis}
-use Rattle.java_lexer.specs.Divisions.{IsFront, IsStuck, IsDivision, front_piece, pieces, undivided}
+use Rattle.java_lexer.specs.Divisions.{IsStuck, IsDivision, front_piece, pieces, undivided}
+use Rattle.java_lexer.specs.Scanning.{IsFront}
 use Rattle.java_lexer.proofs.Bytes.{never_both}
 use Rattle.java_lexer.proofs.Ascii.{letter_below, digit_below, white_below}
 use Rattle.java_lexer.proofs.ByFirst.{run_front, single_front}

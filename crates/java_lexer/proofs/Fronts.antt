@@ -4,7 +4,8 @@ use Rattle.std.specs.Prelude.{IsSome}
 use Rattle.std.proofs.lemmas.List.{length-take-le}
 use Rattle.java_lexer.specs.declared.piece.PieceKind.{PieceKind}
 use Rattle.java_lexer.specs.declared.piece.LexicalFault.{LexicalFault}
-use Rattle.java_lexer.specs.Divisions.{Lexis, Piece, front_piece, piece_or, longest_piece, unless_fault, first_piece, and_then, pieces_upto, pieces, IsFront}
+use Rattle.java_lexer.specs.Divisions.{Lexis, Piece, front_piece, piece_or, longest_piece, unless_fault, next_piece, and_then, pieces_upto, pieces}
+use Rattle.java_lexer.specs.Scanning.{IsFront}
 use Rattle.std.proofs.lemmas.Bool.{false≢true}
 use Rattle.java_lexer.proofs.Bytes.{or_less}
 
@@ -26,8 +27,8 @@ longest_at lexis text (suc m) n kind some le fits is longest =
       | inr less ↦ longest_case lexis text m n kind (lexis.kind_of (take (suc m) text)) refl (omega arith) (longest (suc m) fits) (longest_at lexis text m n kind some (omega arith) (omega arith) is longest)
     ]
 
-pub first_is : (lexis : Lexis) (text : List ℕ) (n : ℕ) (kind : PieceKind) → IsFront lexis text n kind → first_piece lexis text ≡ Some (front_piece text n kind)
-unfolding first_piece
+pub first_is : (lexis : Lexis) (text : List ℕ) (n : ℕ) (kind : PieceKind) → IsFront lexis text n kind → next_piece lexis text ≡ Some (front_piece text n kind)
+unfolding next_piece
 first_is lexis text n kind f =
     let len : length (take n text) ≡ n = length-take-le n text f.fits in
     rw f.first.faultless (longest_at lexis text (length text) n kind f.some f.fits (omega arith) f.first.is (λ k le s. omega (arith, f.first.longest k le s, len)))
@@ -73,8 +74,8 @@ faultless_case : (o : Option LexicalFault) (piece : Option Piece) (p : Piece) �
 faultless_case None piece p e = (refl, e)
 faultless_case (Some f) piece p e = absurd cc
 
-pub found_front : (lexis : Lexis) (text : List ℕ) (p : Piece) → first_piece lexis text ≡ Some p → IsFront lexis text (length p.bytes) p.kind × (p ≡ front_piece text (length p.bytes) p.kind)
-unfolding first_piece
+pub found_front : (lexis : Lexis) (text : List ℕ) (p : Piece) → next_piece lexis text ≡ Some p → IsFront lexis text (length p.bytes) p.kind × (p ≡ front_piece text (length p.bytes) p.kind)
+unfolding next_piece
 found_front lexis text p found =
     let parts = faultless_case (lexis.fault_at text) (longest_piece lexis text (length text)) p found in
     let a = longest_among lexis text (length text) p parts.1 in
@@ -90,7 +91,7 @@ found_front lexis text p found =
 -- ---- the pieces
 
 pub pieces_nil : (lexis : Lexis) (n : ℕ) → pieces_upto lexis n [] ≡ []
-unfolding pieces_upto first_piece longest_piece
+unfolding pieces_upto next_piece longest_piece
 pieces_nil lexis zero = refl
 pieces_nil lexis (suc n) = nil_case (lexis.fault_at [])
   where
@@ -98,7 +99,7 @@ pieces_nil lexis (suc n) = nil_case (lexis.fault_at [])
     nil_case None = refl
     nil_case (Some f) = refl
 
-enough_case : (lexis : Lexis) (text : List ℕ) (n m : ℕ) (o : Option Piece) → first_piece lexis text ≡ o → ((p : Piece) → first_piece lexis text ≡ Some p → pieces_upto lexis n (drop (length p.bytes) text) ≡ pieces_upto lexis m (drop (length p.bytes) text)) → and_then o (λ piece. pieces_upto lexis n (drop (length piece.bytes) text)) ≡ and_then o (λ piece. pieces_upto lexis m (drop (length piece.bytes) text))
+enough_case : (lexis : Lexis) (text : List ℕ) (n m : ℕ) (o : Option Piece) → next_piece lexis text ≡ o → ((p : Piece) → next_piece lexis text ≡ Some p → pieces_upto lexis n (drop (length p.bytes) text) ≡ pieces_upto lexis m (drop (length p.bytes) text)) → and_then o (λ piece. pieces_upto lexis n (drop (length piece.bytes) text)) ≡ and_then o (λ piece. pieces_upto lexis m (drop (length piece.bytes) text))
 enough_case lexis text n m None e ih = refl
 enough_case lexis text n m (Some p) e ih = ap (λ (ps : List Piece). p ∷ ps) (ih p e)
 
@@ -108,7 +109,7 @@ enough lexis n m [] a b = pieces_nil lexis n ∙ sym (pieces_nil lexis m)
 enough lexis zero m (b ∷ bs) le more = absurd (omega arith)
 enough lexis (suc n) zero (b ∷ bs) le more = absurd (omega arith)
 enough lexis (suc n) (suc m) (b ∷ bs) le more =
-    enough_case lexis (b ∷ bs) n m (first_piece lexis (b ∷ bs)) refl (λ p found.
+    enough_case lexis (b ∷ bs) n m (next_piece lexis (b ∷ bs)) refl (λ p found.
     let front = (found_front lexis (b ∷ bs) p found).0 in
     let some : 0 < length p.bytes = front.some in
     let left : length (drop (length p.bytes) (b ∷ bs)) ≡ length (b ∷ bs) - length p.bytes = length-drop (length p.bytes) (b ∷ bs) in
@@ -123,7 +124,7 @@ pieces_first lexis (b ∷ bs) n kind f =
     let some = f.some in
     rw (first_is lexis (b ∷ bs) n kind f, len) (ap (λ (ps : List Piece). front_piece (b ∷ bs) n kind ∷ ps) (enough lexis (length bs) (length (drop n (b ∷ bs))) (drop n (b ∷ bs)) (omega arith) (omega arith)))
 
-pub pieces_none : (lexis : Lexis) (text : List ℕ) → first_piece lexis text ≡ None → pieces lexis text ≡ []
+pub pieces_none : (lexis : Lexis) (text : List ℕ) → next_piece lexis text ≡ None → pieces lexis text ≡ []
 unfolding pieces_upto
 pieces_none lexis [] none = refl
 pieces_none lexis (b ∷ bs) none = rw none refl

@@ -20,7 +20,7 @@ use Rattle.java_lexer.specs.Signs.{signs, is_sign}
 use Rattle.java_lexer.specs.Fronts.{some_front}
 use Rattle.java_lexer.specs.Scanning.{signs_with, begins_with, first_len, closed_len, quoted_len, number_len}
 use Rattle.java_lexer.specs.JavaKinds.{java_kind, is_piece, unless_front, literal_fault, java_fault, java_lexis}
-use Rattle.java_lexer.specs.Divisions.{IsFront}
+use Rattle.java_lexer.specs.Scanning.{IsFront}
 use Rattle.java_lexer.proofs.Bytes.{never_both, and_left, and_right}
 use Rattle.java_lexer.proofs.Ascii.{digit_below}
 use Rattle.java_lexer.proofs.Runs.{run_passes, run_longest}

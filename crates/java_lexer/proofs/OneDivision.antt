@@ -3,7 +3,7 @@ use Rattle.std.proofs.Common.{◌≡◌, ℕ, zero, suc, ◌≤◌, ◌<◌, Lis
 use Rattle.std.specs.Prelude.{IsSome}
 use Rattle.std.proofs.lemmas.List.{take_at, drop_at, drop-drop}
 use Rattle.java_lexer.specs.declared.piece.PieceKind.{PieceKind}
-use Rattle.java_lexer.specs.Divisions.{Lexis, Piece, IsFirst, Divides, IsStuck, IsDivision, front_piece, first_piece, and_then, pieces_upto, pieces, joined, undivided}
+use Rattle.java_lexer.specs.Divisions.{Lexis, Piece, IsFirst, Divides, IsStuck, IsDivision, front_piece, next_piece, and_then, pieces_upto, pieces, joined, undivided}
 use Rattle.java_lexer.proofs.Fronts.{some_of, first_is, found_front, pieces_nil}
 
 -- ---- at most one
@@ -65,10 +65,10 @@ no_empty_piece lexis p text after none e first = some_bytes p.bytes first.is
     some_bytes [] is = absurd (let no : None ≡ Some p.kind = sym none ∙ is in cc)
     some_bytes (b ∷ bs) is = omega arith
 
-none_stuck : (lexis : Lexis) (text : List ℕ) → lexis.kind_of [] ≡ None → first_piece lexis text ≡ None → IsStuck lexis text
+none_stuck : (lexis : Lexis) (text : List ℕ) → lexis.kind_of [] ≡ None → next_piece lexis text ≡ None → IsStuck lexis text
 none_stuck lexis text none found p after e first =
     let front : take (length p.bytes) text ≡ p.bytes = rw e (take_at p.bytes after (length p.bytes) refl) in
-    let is : first_piece lexis text ≡ Some (front_piece text (length p.bytes) p.kind) = first_is lexis text (length p.bytes) p.kind (record {
+    let is : next_piece lexis text ≡ Some (front_piece text (length p.bytes) p.kind) = first_is lexis text (length p.bytes) p.kind (record {
       some = no_empty_piece lexis p text after none e first;
       fits = omega (arith, ap length e, length-append p.bytes after);
       first = record {
@@ -101,7 +101,7 @@ more_divided lexis p ps text first e d =
       stuck = subst (IsStuck lexis) same d.stuck;
     }
 
-found_case : (lexis : Lexis) (n : ℕ) (text : List ℕ) (o : Option Piece) → lexis.kind_of [] ≡ None → first_piece lexis text ≡ o → ((p : Piece) → first_piece lexis text ≡ Some p → HasDivision lexis (pieces_upto lexis n (drop (length p.bytes) text)) (drop (length p.bytes) text)) → HasDivision lexis (and_then o (λ p. pieces_upto lexis n (drop (length p.bytes) text))) text
+found_case : (lexis : Lexis) (n : ℕ) (text : List ℕ) (o : Option Piece) → lexis.kind_of [] ≡ None → next_piece lexis text ≡ o → ((p : Piece) → next_piece lexis text ≡ Some p → HasDivision lexis (pieces_upto lexis n (drop (length p.bytes) text)) (drop (length p.bytes) text)) → HasDivision lexis (and_then o (λ p. pieces_upto lexis n (drop (length p.bytes) text))) text
 found_case lexis n text None none found ih = unfold HasDivision in record { divides = refl; stuck = none_stuck lexis text none found }
 found_case lexis n text (Some p) none found ih =
     let f = found_front lexis text p found in
@@ -112,7 +112,7 @@ unfolding pieces_upto
 upto_divided lexis n [] none le = rw (pieces_nil lexis n) (unfold HasDivision in record { divides = refl; stuck = nil_stuck lexis none })
 upto_divided lexis zero (b ∷ bs) none le = absurd (omega arith)
 upto_divided lexis (suc n) (b ∷ bs) none le =
-    found_case lexis n (b ∷ bs) (first_piece lexis (b ∷ bs)) none refl (λ p found.
+    found_case lexis n (b ∷ bs) (next_piece lexis (b ∷ bs)) none refl (λ p found.
     let some = (found_front lexis (b ∷ bs) p found).0.some in
     upto_divided lexis n (drop (length p.bytes) (b ∷ bs)) none (omega (arith, length-drop (length p.bytes) (b ∷ bs))))
 

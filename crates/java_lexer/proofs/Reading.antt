@@ -9,7 +9,8 @@ use Rattle.java_lexer.specs.declared.piece.LexicalFault.{LexicalFault}
 use Rattle.java_lexer.specs.declared.token.Token.{Token}
 use Rattle.java_lexer.specs.declared.spot.Spot.{Spot}
 use Rattle.java_lexer.specs.Places.{advance}
-use Rattle.java_lexer.specs.Divisions.{Lexis, Piece, first_piece, pieces, joined, undivided, IsFront}
+use Rattle.java_lexer.specs.Divisions.{Lexis, Piece, next_piece, pieces, joined, undivided}
+use Rattle.java_lexer.specs.Scanning.{IsFront}
 use Rattle.java_lexer.specs.Tokens.{tokens_from}
 use Rattle.java_lexer.proofs.Fronts.{pieces_first, pieces_nil, pieces_none}
 
@@ -43,8 +44,8 @@ one_undivided lexis rest n kind front =
     let len : n + m ≡ length (take n rest ++ joined (pieces lexis (drop n rest))) = omega (arith, length-append (take n rest) (joined (pieces lexis (drop n rest))), length-take-le n rest front.fits) in
     drop-drop m n rest ∙ ap (λ k. drop k rest) len ∙ ap (λ (ps : List Piece). drop (length (joined ps)) rest) (sym (pieces_first lexis rest n kind front))
 
-no_first : (lexis : Lexis) (rest : List ℕ) (fault : LexicalFault) → lexis.fault_at rest ≡ Some fault → first_piece lexis rest ≡ None
-unfolding first_piece
+no_first : (lexis : Lexis) (rest : List ℕ) (fault : LexicalFault) → lexis.fault_at rest ≡ Some fault → next_piece lexis rest ≡ None
+unfolding next_piece
 no_first lexis rest fault e = rw e refl
 
 pub fault_pieces : (lexis : Lexis) (rest : List ℕ) (fault : LexicalFault) → lexis.fault_at rest ≡ Some fault → pieces lexis rest ≡ []

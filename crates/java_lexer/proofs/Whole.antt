@@ -17,7 +17,7 @@ use Rattle.java_lexer.specs.Literals.{is_quoted, is_character, is_text}
 use Rattle.java_lexer.specs.Signs.{is_sign}
 use Rattle.java_lexer.specs.Fronts.{some_front}
 use Rattle.java_lexer.specs.JavaKinds.{java_kind, is_piece, unless_front, literal_fault, java_fault, java_lexis}
-use Rattle.java_lexer.specs.Divisions.{Piece, IsStuck, undivided, front_piece, piece_or, longest_piece, first_piece}
+use Rattle.java_lexer.specs.Divisions.{Piece, IsStuck, undivided, front_piece, piece_or, longest_piece, next_piece}
 use Rattle.java_lexer.proofs.SomeFronts.{or_right, front_found}
 use Rattle.java_lexer.proofs.Bytes.{or_less}
 use Rattle.java_lexer.proofs.Fronts.{none_some, found_front}
@@ -75,11 +75,11 @@ some_longest text zero zero le s = absurd (none_some (java_kind []) nil_kind s)
 some_longest text zero (suc n) le s = absurd (omega arith)
 some_longest text (suc m) n le s = found_case text m n (java_kind (take (suc m) text)) refl le s (λ less. some_longest text m n less s)
 
-some_first : (text : List ℕ) → java_fault text ≡ None → HasPiece text → IsSome (first_piece java_lexis text)
-unfolding first_piece HasPiece
+some_first : (text : List ℕ) → java_fault text ≡ None → HasPiece text → IsSome (next_piece java_lexis text)
+unfolding next_piece HasPiece
 some_first text e h = rw e (some_longest text (length text) h.0 h.1 h.2)
 
-stuck_case : (text : List ℕ) (o : Option Piece) → first_piece java_lexis text ≡ o → IsSome o → IsStuck java_lexis text → ⊥
+stuck_case : (text : List ℕ) (o : Option Piece) → next_piece java_lexis text ≡ o → IsSome o → IsStuck java_lexis text → ⊥
 stuck_case text None e s stuck = false≢true s
 stuck_case text (Some p) e s stuck =
     let front = (found_front java_lexis text p e).0 in
@@ -89,7 +89,7 @@ stuck_nothing : (rest : List ℕ) → IsStuck java_lexis rest → java_fault res
 stuck_nothing [] stuck e = refl
 stuck_nothing (b ∷ bs) stuck e =
     let piece = has_piece b bs (starts_with nat_eq (b ∷ bs) (codes "/*")) (starts_with nat_eq (b ∷ bs) (34 ∷ 34 ∷ 34 ∷ [])) (starts_with nat_eq (b ∷ bs) (34 ∷ [])) (starts_with nat_eq (b ∷ bs) (39 ∷ [])) e in
-    absurd (stuck_case (b ∷ bs) (first_piece java_lexis (b ∷ bs)) refl (some_first (b ∷ bs) e piece) stuck)
+    absurd (stuck_case (b ∷ bs) (next_piece java_lexis (b ∷ bs)) refl (some_first (b ∷ bs) e piece) stuck)
 
 pub divided_whole : (text : List ℕ) → java_fault (undivided java_lexis text) ≡ None → undivided java_lexis text ≡ []
 divided_whole text e = stuck_nothing (undivided java_lexis text) (pieces_divide java_lexis text nil_kind).stuck e

@@ -1,5 +1,6 @@
--- The division of a text into longest pieces (JLS 3.2).
-use Rattle.std.specs.Prelude.{◌≡◌, ℕ, zero, suc, ◌<◌, ◌≤◌, List, [], ◌∷◌, ◌++◌, length, take, drop, Option, Some, None, Result, Ok, Err, IsSome}
+-- A contract of a public call rests on this: `lex` and `lex_first`. The division of a text into longest pieces (JLS
+-- 3.2).
+use Rattle.std.specs.Prelude.{◌≡◌, ℕ, zero, suc, ◌≤◌, List, [], ◌∷◌, ◌++◌, length, take, drop, Option, Some, None, IsSome}
 use Rattle.java_lexer.specs.declared.piece.PieceKind.{PieceKind}
 use Rattle.java_lexer.specs.declared.piece.LexicalFault.{LexicalFault}
 
@@ -22,7 +23,8 @@ pub record IsFirst (lexis : Lexis) (piece : Piece) (text : List ℕ) : Type 0 wh
 -- the pieces, one after the other, and then the rest are the text; each is the first at its place
 abbrev pub Divides : Lexis → List Piece → List ℕ → List ℕ → Type 0
 Divides lexis [] text rest = text ≡ rest
-Divides lexis (p ∷ ps) text rest = (after : List ℕ) × (text ≡ p.bytes ++ after) × IsFirst lexis p text × Divides lexis ps after rest
+Divides lexis (p ∷ ps) text rest =
+    (after : List ℕ) × (text ≡ p.bytes ++ after) × IsFirst lexis p text × Divides lexis ps after rest
 
 -- no piece is the first of this text
 abbrev pub IsStuck : Lexis → List ℕ → Type 0
@@ -45,15 +47,16 @@ piece_or (Some kind) text n other = Some (front_piece text n kind)
 -- the longest front of at most n bytes that is a piece
 unfoldable pub longest_piece : Lexis → List ℕ → ℕ → Option Piece
 longest_piece lexis text zero = None
-longest_piece lexis text (suc n) = piece_or (lexis.kind_of (take (suc n) text)) text (suc n) (longest_piece lexis text n)
+longest_piece lexis text (suc n) =
+    piece_or (lexis.kind_of (take (suc n) text)) text (suc n) (longest_piece lexis text n)
 
 abbrev pub unless_fault : Option LexicalFault → Option Piece → Option Piece
 unless_fault None piece = piece
 unless_fault (Some fault) piece = None
 
 -- the piece in front of a text, where there is one and no fault is named
-unfoldable pub first_piece : Lexis → List ℕ → Option Piece
-first_piece lexis text = unless_fault (lexis.fault_at text) (longest_piece lexis text (length text))
+unfoldable pub next_piece : Lexis → List ℕ → Option Piece
+next_piece lexis text = unless_fault (lexis.fault_at text) (longest_piece lexis text (length text))
 
 abbrev pub and_then : Option Piece → (Piece → List Piece) → List Piece
 and_then None more = []
@@ -62,7 +65,8 @@ and_then (Some piece) more = piece ∷ more piece
 -- at most n pieces, one after the other
 unfoldable pub pieces_upto : Lexis → ℕ → List ℕ → List Piece
 pieces_upto lexis zero text = []
-pieces_upto lexis (suc n) text = and_then (first_piece lexis text) (λ piece. pieces_upto lexis n (drop (length piece.bytes) text))
+pieces_upto lexis (suc n) text =
+    and_then (next_piece lexis text) (λ piece. pieces_upto lexis n (drop (length piece.bytes) text))
 
 -- the pieces of the longest divided front; no piece is empty, so a text has at most as many as bytes
 abbrev pub pieces : Lexis → List ℕ → List Piece
@@ -76,14 +80,3 @@ joined (p ∷ ps) = p.bytes ++ joined ps
 -- what stands behind the longest divided front
 abbrev pub undivided : Lexis → List ℕ → List ℕ
 undivided lexis text = drop (length (joined (pieces lexis text))) text
-
--- the piece in front of a text has this length and this kind
-pub record IsFront (lexis : Lexis) (text : List ℕ) (n : ℕ) (kind : PieceKind) : Type 0 where
-  pub some : 0 < n
-  pub fits : n ≤ length text
-  pub first : IsFirst lexis (front_piece text n kind) text
-
--- the length and the kind of the piece in front, or the fault that is named there
-abbrev pub IsScanned : Lexis → List ℕ → Result (ℕ × PieceKind) LexicalFault → Type 0
-IsScanned lexis text (Ok piece) = IsFront lexis text piece.0 piece.1
-IsScanned lexis text (Err fault) = lexis.fault_at text ≡ Some fault

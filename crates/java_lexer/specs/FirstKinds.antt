@@ -1,4 +1,5 @@
--- The pieces of a short form of Java: white space, words, numbers without a dot, and single bytes.
+-- A contract of a public call rests on this: `lex_first`. The pieces of the first grammar: white space, words, numbers
+-- without a dot, and single bytes.
 use Rattle.std.specs.Prelude.{ℕ, Bool, false, not, ◌&&◌, ◌||◌, List, [], ◌∷◌, Option, Some, None, if◌then◌else◌}
 use Rattle.std.specs.List.{list_all}
 use Rattle.racer_base.specs.Name.{is_letter, is_digit, is_word}
@@ -10,9 +11,9 @@ use Rattle.java_lexer.specs.Kinds.{is_nothing, is_white, is_white_space, word_ki
 use Rattle.java_lexer.specs.Divisions.{Lexis}
 
 -- a digit, and then letters, digits and underscores
-abbrev pub is_short_number : List ℕ → Bool
-is_short_number [] = false
-is_short_number (b ∷ bs) = is_digit b && list_all is_number_byte bs
+abbrev pub is_dotless_number : List ℕ → Bool
+is_dotless_number [] = false
+is_dotless_number (b ∷ bs) = is_digit b && list_all is_number_byte bs
 
 -- one byte that begins none of the other kinds
 abbrev pub is_other_byte : List ℕ → Bool
@@ -23,7 +24,7 @@ abbrev pub first_kind : List ℕ → Option PieceKind
 first_kind bytes =
     if is_white_space bytes then Some White else
     (if is_word bytes then Some (Token (word_kind bytes)) else
-    (if is_short_number bytes then Some (Token Number) else
+    (if is_dotless_number bytes then Some (Token Number) else
     (if is_other_byte bytes then Some (Token Sign) else None)))
 
 -- each text has a division: no fault is named

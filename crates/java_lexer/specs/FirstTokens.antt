@@ -1,4 +1,4 @@
--- The tokens of a text in a short form of Java.
+-- A contract of a public call rests on this: `lex_first`. The tokens of a text in the first grammar.
 use Rattle.std.specs.Prelude.{ℕ, List, [], ◌∷◌, false, codes, if◌then◌else◌}
 use Rattle.racer_base.specs.declared.ids.FileId.{FileId}
 use Rattle.racer_base.specs.Name.{is_listed}
@@ -14,20 +14,22 @@ use Rattle.java_lexer.specs.Tokens.{tokens_from}
 use Rattle.java_lexer.specs.FirstKinds.{first_lexis}
 
 -- the signs whose text is kept
-abbrev pub short_signs : List (List ℕ)
-short_signs = codes "{" ∷ codes "}" ∷ codes "(" ∷ codes ")" ∷ codes ";" ∷ codes "=" ∷ codes "." ∷ codes "@" ∷ []
+abbrev pub kept_signs : List (List ℕ)
+kept_signs =
+    codes "{" ∷ codes "}" ∷ codes "(" ∷ codes ")" ∷ codes ";" ∷ codes "=" ∷ codes "." ∷ codes "@" ∷ []
 
 -- the text of a token: that of another sign is empty
-abbrev pub short_text : TokenKind → List ℕ → List ℕ
-short_text Sign bytes = if is_listed short_signs bytes then bytes else []
-short_text kind bytes = bytes
+abbrev pub kept_text : TokenKind → List ℕ → List ℕ
+kept_text Sign bytes = if is_listed kept_signs bytes then bytes else []
+kept_text kind bytes = bytes
 
 -- the token of a piece, if it is one
-abbrev pub short_tokens_of : FileId → Spot → PieceKind → List ℕ → List tokens.Token
-short_tokens_of file spot White bytes = []
-short_tokens_of file spot Comment bytes = []
-short_tokens_of file spot (Token kind) bytes = record { kind = kind; text = short_text kind bytes; place = place_at file spot; glued = false } ∷ []
+abbrev pub first_tokens_of : FileId → Spot → PieceKind → List ℕ → List tokens.Token
+first_tokens_of file spot White bytes = []
+first_tokens_of file spot Comment bytes = []
+first_tokens_of file spot (Token kind) bytes =
+    record { kind = kind; text = kept_text kind bytes; place = place_at file spot; glued = false } ∷ []
 
 -- the tokens of a file
 abbrev pub first_tokens : FileId → List ℕ → List tokens.Token
-first_tokens file bytes = tokens_from (short_tokens_of file) begin (pieces first_lexis bytes)
+first_tokens file bytes = tokens_from (first_tokens_of file) begin (pieces first_lexis bytes)

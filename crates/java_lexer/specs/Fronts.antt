@@ -1,4 +1,4 @@
--- Whether a text begins with something.
+-- A contract of a public call rests on this: `lex`. Whether a text begins with something.
 use Rattle.std.specs.Prelude.{ℕ, zero, suc, Bool, false, ◌||◌, List, length, take}
 
 abbrev pub some_upto : (List ℕ → Bool) → List ℕ → ℕ → Bool

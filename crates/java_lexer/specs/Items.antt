@@ -1,4 +1,5 @@
--- What a literal between quotes is, item by item.
+-- A contract of a public call rests on this: the laws `quoted_items` and `text_items`. What a literal between quotes
+-- is, item by item.
 use Rattle.std.specs.Prelude.{◌≡◌, ℕ, Bool, not, ◌||◌, List, [], ◌∷◌, ◌++◌, ◌⊎◌, IsTrue, ◌==◌}
 use Rattle.std.specs.List.{All, concat}
 use Rattle.java_lexer.specs.Comments.{is_line_end, is_inline}
@@ -14,15 +15,19 @@ IsPlainItem quote item = (b : ℕ) × (item ≡ b ∷ []) × IsTrue (is_plain qu
 
 -- a plain byte, or a backslash and any one byte that ends no line
 abbrev pub IsQuotedItem : ℕ → List ℕ → Type 0
-IsQuotedItem quote item = IsPlainItem quote item ⊎ ((b : ℕ) × (item ≡ backslash ∷ b ∷ []) × IsTrue (is_inline b))
+IsQuotedItem quote item =
+    IsPlainItem quote item ⊎ ((b : ℕ) × (item ≡ backslash ∷ b ∷ []) × IsTrue (is_inline b))
 
 -- a plain byte, or a backslash and one escape
 abbrev pub IsTextItem : List ℕ → Type 0
-IsTextItem item = IsPlainItem double_quote item ⊎ ((escape : List ℕ) × (item ≡ backslash ∷ escape) × IsTrue (is_escape double_quote escape))
+IsTextItem item =
+    IsPlainItem double_quote item
+    ⊎ ((escape : List ℕ) × (item ≡ backslash ∷ escape) × IsTrue (is_escape double_quote escape))
 
 -- the quote, items one after the other, and the quote
 abbrev pub IsOfItems : ℕ → (List ℕ → Type 0) → List ℕ → Type 0
-IsOfItems quote IsItem bytes = (items : List (List ℕ)) × All IsItem items × (bytes ≡ quote ∷ (concat items ++ (quote ∷ [])))
+IsOfItems quote IsItem bytes =
+    (items : List (List ℕ)) × All IsItem items × (bytes ≡ quote ∷ (concat items ++ (quote ∷ [])))
 
 -- what is closed on its line, also where it has a wrong escape
 abbrev pub QuotedOfItems : ℕ → List ℕ → Type 0

@@ -1,4 +1,4 @@
--- Two lines of Java, and their tokens.
+-- A contract of a public call rests on this: the law `java_examples`. Two lines of Java, and their tokens.
 use Rattle.std.specs.Prelude.{ℕ, Bool, true, false, List, [], ◌∷◌, codes}
 use Rattle.racer_base.specs.declared.ids.FileId.{FileId}
 use Rattle.java_lexer.specs.declared.token.TokenKind.{TokenKind}
@@ -10,7 +10,12 @@ abbrev pub java_example : List ℕ
 java_example = codes "int i =\r\n x>>>'1'/**/;"
 
 abbrev pub java_token : FileId → TokenKind → List ℕ → ℕ → ℕ → Bool → Token
-java_token file kind text line column glued = record { kind = kind; text = text; place = record { file = file; line = line; column = column }; glued = glued }
+java_token file kind text line column glued = record {
+  kind = kind;
+  text = text;
+  place = record { file = file; line = line; column = column };
+  glued = glued;
+}
 
 abbrev pub java_example_tokens : FileId → List Token
 java_example_tokens file =

@@ -1,7 +1,8 @@
--- The pieces of a text in a profile of Java SE 8, and the faults that are named where none may begin (JLS 3). The text is divided as
--- its bytes stand, without the translation of JLS 3.3. So a Unicode escape outside literals and comments, a letter past ASCII in a
--- name and a last control-Z are bad characters, three double quotes are a bad literal, a Unicode escape in a comment means nothing,
--- and numbers are taken more loosely than in JLS 3.10.
+-- A contract of a public call rests on this: `lex`. The pieces of a text in a profile of Java SE 8, and the faults
+-- that are named where none may begin (JLS 3). The text is divided as its bytes stand, without the translation of JLS
+-- 3.3. So a Unicode escape outside literals and comments, a letter past ASCII in a name and a last control-Z are bad
+-- characters, three double quotes are a bad literal, a Unicode escape in a comment means nothing, and numbers are
+-- taken more loosely than in JLS 3.10.
 use Rattle.std.specs.Prelude.{ℕ, Bool, List, [], ◌∷◌, Option, Some, None, codes, nat_eq, is_some, if◌then◌else◌}
 use Rattle.std.specs.List.{starts_with}
 use Rattle.racer_base.specs.Name.{is_word}
@@ -38,7 +39,8 @@ unless_front is fault text = if some_front is text then None else Some fault
 
 -- of a text that begins with the quote: it is not closed on its line, or is no literal
 abbrev pub literal_fault : (List ℕ → Bool) → (List ℕ → Bool) → List ℕ → Option LexicalFault
-literal_fault is_closed is_literal text = if some_front is_closed text then unless_front is_literal BadLiteral text else Some Unclosed
+literal_fault is_closed is_literal text =
+    if some_front is_closed text then unless_front is_literal BadLiteral text else Some Unclosed
 
 -- the fault that is named where this text begins; three quotes begin no literal
 abbrev pub java_fault : List ℕ → Option LexicalFault
@@ -46,8 +48,10 @@ java_fault [] = None
 java_fault (b ∷ bs) =
     if starts_with nat_eq (b ∷ bs) (codes "/*") then unless_front is_block_comment Unclosed (b ∷ bs) else
     (if starts_with nat_eq (b ∷ bs) (double_quote ∷ double_quote ∷ double_quote ∷ []) then Some BadLiteral else
-    (if starts_with nat_eq (b ∷ bs) (double_quote ∷ []) then literal_fault (is_quoted double_quote) is_text (b ∷ bs) else
-    (if starts_with nat_eq (b ∷ bs) (single_quote ∷ []) then literal_fault (is_quoted single_quote) is_character (b ∷ bs) else
+    (if starts_with nat_eq (b ∷ bs) (double_quote ∷ [])
+    then literal_fault (is_quoted double_quote) is_text (b ∷ bs) else
+    (if starts_with nat_eq (b ∷ bs) (single_quote ∷ [])
+    then literal_fault (is_quoted single_quote) is_character (b ∷ bs) else
     unless_front is_piece BadCharacter (b ∷ bs))))
 
 abbrev pub java_lexis : Lexis

@@ -1,4 +1,5 @@
--- What is read of a file in a profile of Java SE 8: its tokens (JLS 3.5) with their places (JLS 3.4), or a fault.
+-- A contract of a public call rests on this: `lex`. What is read of a file in a profile of Java SE 8: its tokens (JLS
+-- 3.5) with their places (JLS 3.4), or a fault.
 use Rattle.std.specs.Prelude.{◌≡◌, ℕ, Bool, true, false, List, [], ◌∷◌, Option, Some, None, Result, Ok, Err, codes, if◌then◌else◌}
 use Rattle.std.specs.Str.{is_utf8}
 use Rattle.std.specs.Str.Lossy.{utf8_valid_len}
@@ -28,11 +29,15 @@ one_token file spot kind text glued = record { kind = kind; text = text; place =
 -- a token `>` for each byte of a shift; each but the first is glued
 abbrev pub angle_tokens : FileId → Spot → Bool → List ℕ → List tokens.Token
 angle_tokens file spot glued [] = []
-angle_tokens file spot glued (b ∷ bs) = one_token file spot Sign (codes ">") glued ∷ angle_tokens file (advance spot b) true bs
+angle_tokens file spot glued (b ∷ bs) =
+    one_token file spot Sign (codes ">") glued ∷ angle_tokens file (advance spot b) true bs
 
--- a sign `>>` or `>>>` (JLS 3.12) is given as single `>`, since in a type each of them closes a bracket of its own (JLS 3.2)
+-- a sign `>>` or `>>>` (JLS 3.12) is given as single `>`, since in a type each of them closes a bracket of its own
+-- (JLS 3.2)
 abbrev pub token_of : FileId → Spot → TokenKind → List ℕ → List tokens.Token
-token_of file spot Sign bytes = if is_listed shifts bytes then angle_tokens file spot false bytes else one_token file spot Sign bytes false ∷ []
+token_of file spot Sign bytes =
+    if is_listed shifts bytes then angle_tokens file spot false bytes else
+    one_token file spot Sign bytes false ∷ []
 token_of file spot kind bytes = one_token file spot kind bytes false ∷ []
 
 -- the tokens of a piece: white space (JLS 3.6) and comments (JLS 3.7) have none

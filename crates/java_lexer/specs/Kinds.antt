@@ -1,4 +1,5 @@
--- What one piece of a text is, as a test of all of its bytes.
+-- A contract of a public call rests on this: `lex` and `lex_first`. What one piece of a text is, as a test of all of
+-- its bytes.
 use Rattle.std.specs.Prelude.{ℕ, Bool, true, false, not, ◌&&◌, ◌||◌, List, [], ◌∷◌, ◌==◌, if◌then◌else◌}
 use Rattle.std.specs.Str.{byte}
 use Rattle.racer_base.specs.Name.{is_word_byte, keywords, fixed_words, is_listed}
@@ -9,9 +10,12 @@ abbrev pub is_nothing : List ℕ → Bool
 is_nothing [] = true
 is_nothing (b ∷ bs) = false
 
--- a space, a tab, a form feed (12), a CR or an LF (JLS 3.6)
+abbrev pub form_feed : ℕ
+form_feed = 12
+
+-- a space, a tab, a form feed, a CR or an LF (JLS 3.6)
 abbrev pub is_white : ℕ → Bool
-is_white b = b == byte " " || b == byte "\t" || b == 12 || b == byte "\r" || b == byte "\n"
+is_white b = b == byte " " || b == byte "\t" || b == form_feed || b == byte "\r" || b == byte "\n"
 
 -- one white space character
 abbrev pub is_white_space : List ℕ → Bool

@@ -1,4 +1,5 @@
--- Character and text literals (JLS 3.10.4, 3.10.5) and their escapes (JLS 3.3, 3.10.6).
+-- A contract of a public call rests on this: `lex`. Character and text literals (JLS 3.10.4, 3.10.5) and their escapes
+-- (JLS 3.3, 3.10.6).
 use Rattle.std.specs.Prelude.{ℕ, ◌+◌, ◌-◌, ◌*◌, Bool, true, false, not, ◌&&◌, ◌||◌, List, [], ◌∷◌, length, take, drop, nat_eq, nat_le, ◌==◌, if◌then◌else◌}
 use Rattle.std.specs.Str.{byte}
 use Rattle.std.specs.List.{fold, list_all, list_any}
@@ -21,7 +22,9 @@ backslash = byte "\\"
 
 -- b, t, n, f, r, the quotes and the backslash
 abbrev pub is_simple : ℕ → Bool
-is_simple b = list_any (nat_eq b) (byte "b" ∷ byte "t" ∷ byte "n" ∷ byte "f" ∷ byte "r" ∷ double_quote ∷ single_quote ∷ backslash ∷ [])
+is_simple b =
+    list_any (nat_eq b)
+    (byte "b" ∷ byte "t" ∷ byte "n" ∷ byte "f" ∷ byte "r" ∷ double_quote ∷ single_quote ∷ backslash ∷ [])
 
 abbrev pub is_simple_escape : List ℕ → Bool
 is_simple_escape [] = false
@@ -33,21 +36,26 @@ is_octal b = is_between (byte "0") (byte "7") b
 -- one or two octal digits, or three of which the first is at most 3
 abbrev pub is_octal_escape : List ℕ → Bool
 is_octal_escape [] = false
-is_octal_escape (b ∷ bs) = is_octal b && list_all is_octal bs && nat_le (length bs) (if nat_le b (byte "3") then 2 else 1)
+is_octal_escape (b ∷ bs) =
+    is_octal b && list_all is_octal bs && nat_le (length bs) (if nat_le b (byte "3") then 2 else 1)
 
 abbrev pub is_hex : ℕ → Bool
 is_hex b = is_digit b || is_between (byte "a") (byte "f") b || is_between (byte "A") (byte "F") b
 
 abbrev pub hex_digit : ℕ → ℕ
-hex_digit b = if is_digit b then b - byte "0" else (if nat_le (byte "a") b then b - (byte "a" - 10) else b - (byte "A" - 10))
+hex_digit b =
+    if is_digit b then b - byte "0" else
+    (if nat_le (byte "a") b then b - (byte "a" - 10) else b - (byte "A" - 10))
 
 abbrev pub hex_value : List ℕ → ℕ
 hex_value digits = fold (λ n b. n * 16 + hex_digit b) 0 digits
 
--- four hexadecimal digits, but not of a line end, a backslash or the quote: JLS 3.3 would read such an escape as that very
--- character before the literal is looked at, so it would end the line, begin another escape or close the literal
+-- four hexadecimal digits, but not of a line end, a backslash or the quote: JLS 3.3 would read such an escape as that
+-- very character before the literal is looked at, so it would end the line, begin another escape or close the literal
 abbrev pub is_allowed_unit : ℕ → List ℕ → Bool
-is_allowed_unit quote bytes = length bytes == 4 && list_all is_hex bytes && not (list_any (nat_eq (hex_value bytes)) (byte "\n" ∷ byte "\r" ∷ backslash ∷ quote ∷ []))
+is_allowed_unit quote bytes =
+    length bytes == 4 && list_all is_hex bytes
+    && not (list_any (nat_eq (hex_value bytes)) (byte "\n" ∷ byte "\r" ∷ backslash ∷ quote ∷ []))
 
 -- what stands behind a run of u, which may be empty
 abbrev pub behind_u_run : List ℕ → List ℕ
@@ -104,10 +112,12 @@ abbrev mutual
   -- each backslash begins an escape, but for one that an escape takes along
   pub escapes_hold : List ℕ → Bool
   escapes_hold [] = true
-  escapes_hold (b ∷ bs) = if b == backslash then (some_front (is_escape double_quote) bs && hold_behind_one bs) else escapes_hold bs
+  escapes_hold (b ∷ bs) =
+      if b == backslash then (some_front (is_escape double_quote) bs && hold_behind_one bs) else
+      escapes_hold bs
 
-  -- behind a backslash that begins an escape: the first byte belongs to that escape. So a backslash there begins none of its
-  -- own: in `\\n` stands the escape `\\`, and a plain n. No further byte of an escape is a backslash
+  -- behind a backslash that begins an escape: the first byte belongs to that escape. So a backslash there begins none
+  -- of its own: in `\\n` stands the escape `\\`, and a plain n. No further byte of an escape is a backslash
   pub hold_behind_one : List ℕ → Bool
   hold_behind_one [] = true
   hold_behind_one (b ∷ bs) = escapes_hold bs

@@ -1,4 +1,5 @@
--- Numbers, whose digits are not looked at further (JLS 3.10.1, 3.10.2).
+-- A contract of a public call rests on this: `lex`. Numbers, whose digits are not looked at further (JLS 3.10.1,
+-- 3.10.2).
 use Rattle.std.specs.Prelude.{ℕ, Bool, true, false, ◌&&◌, ◌||◌, List, [], ◌∷◌, codes, nat_eq, ◌==◌, if◌then◌else◌}
 use Rattle.std.specs.Str.{byte}
 use Rattle.std.specs.List.{starts_with}

@@ -1,5 +1,7 @@
--- Places in a text: lines and columns from 1, columns in bytes. A CR, an LF and a CR LF each end a line (JLS 3.4).
+-- A contract of a public call rests on this: `lex` and `lex_first`. Places in a text: lines and columns from 1,
+-- columns in bytes. A CR, an LF and a CR LF each end a line (JLS 3.4).
 use Rattle.std.specs.Prelude.{◌≡◌, ◌≤◌, ℕ, ◌+◌, Bool, true, false, List, ◌==◌, if◌then◌else◌}
+use Rattle.std.specs.Str.{byte}
 use Rattle.std.specs.List.{fold}
 use Rattle.racer_base.specs.declared.ids.FileId.{FileId}
 use Rattle.racer_base.specs.declared.ids.Place.{Place}
@@ -15,13 +17,15 @@ next_line spot after_return = record { line = spot.line + 1; column = 1; after_r
 
 -- behind an LF: it ends the line, unless it belongs to the CR before it
 abbrev pub line_feed : Spot → Spot
-line_feed spot = if spot.after_return then record { line = spot.line; column = 1; after_return = false } else next_line spot false
+line_feed spot =
+    if spot.after_return then record { line = spot.line; column = 1; after_return = false } else
+    next_line spot false
 
 -- behind one more byte
 abbrev pub advance : Spot → ℕ → Spot
 advance spot b =
-    if b == 13 then next_line spot true else
-    (if b == 10 then line_feed spot else
+    if b == byte "\r" then next_line spot true else
+    (if b == byte "\n" then line_feed spot else
     record { line = spot.line; column = spot.column + 1; after_return = false })
 
 -- behind these bytes

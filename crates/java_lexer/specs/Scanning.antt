@@ -1,12 +1,16 @@
--- What the code computes: tables by the first byte, and lengths at the front of a text. What a text is read as is said without
--- any of this, so no public contract rests on it.
-use Rattle.std.specs.Prelude.{ℕ, suc, Bool, false, ◌&&◌, ◌||◌, List, [], ◌∷◌, length, take, filter, Option, Some, None, nat_eq, ◌==◌, if◌then◌else◌}
+-- No public contract rests on this: what the code computes of the front of a text, and tables by the first byte. What a
+-- text is read as is said without any of it.
+use Rattle.std.specs.Prelude.{◌≡◌, ℕ, suc, ◌<◌, ◌≤◌, Bool, false, ◌&&◌, ◌||◌, List, [], ◌∷◌, length, take, filter, Option, Some, None, Result, Ok, Err, nat_eq, ◌==◌, if◌then◌else◌}
+use Rattle.std.specs.Str.{byte}
 use Rattle.std.specs.List.{starts_with}
 use Rattle.racer_base.specs.Name.{keywords}
+use Rattle.java_lexer.specs.declared.piece.PieceKind.{PieceKind}
+use Rattle.java_lexer.specs.declared.piece.LexicalFault.{LexicalFault}
+use Rattle.java_lexer.specs.Divisions.{Lexis, IsFirst, front_piece}
 use Rattle.java_lexer.specs.Signs.{signs}
 use Rattle.java_lexer.specs.Comments.{closes, is_line_end}
 use Rattle.java_lexer.specs.Numbers.{is_next}
-use Rattle.java_lexer.specs.Literals.{is_simple, is_octal, is_allowed_unit, behind_u_run}
+use Rattle.java_lexer.specs.Literals.{backslash, is_simple, is_octal, is_allowed_unit, behind_u_run}
 
 -- a text with this first byte
 abbrev pub begins_with : ℕ → List ℕ → Bool
@@ -41,7 +45,7 @@ abbrev mutual
   quoted_len quote [] = None
   quoted_len quote (b ∷ bs) =
       if b == quote then Some 1 else
-      (if b == 92 then one_more (behind_one_len quote bs) else
+      (if b == backslash then one_more (behind_one_len quote bs) else
       (if is_line_end b then None else one_more (quoted_len quote bs)))
 
   pub behind_one_len : ℕ → List ℕ → Option ℕ
@@ -56,4 +60,16 @@ number_len hex b (c ∷ cs) = if is_next hex b c then suc (number_len hex c cs) 
 -- an escape stands behind a backslash
 abbrev pub begins_escape : ℕ → List ℕ → Bool
 begins_escape quote [] = false
-begins_escape quote (b ∷ bs) = is_simple b || is_octal b || (b == 117 && is_allowed_unit quote (take 4 (behind_u_run bs)))
+begins_escape quote (b ∷ bs) =
+    is_simple b || is_octal b || (b == byte "u" && is_allowed_unit quote (take 4 (behind_u_run bs)))
+
+-- the piece in front of a text has this length and this kind
+pub record IsFront (lexis : Lexis) (text : List ℕ) (n : ℕ) (kind : PieceKind) : Type 0 where
+  pub some : 0 < n
+  pub fits : n ≤ length text
+  pub first : IsFirst lexis (front_piece text n kind) text
+
+-- the length and the kind of the piece in front, or the fault that is named there
+abbrev pub IsScanned : Lexis → List ℕ → Result (ℕ × PieceKind) LexicalFault → Type 0
+IsScanned lexis text (Ok piece) = IsFront lexis text piece.0 piece.1
+IsScanned lexis text (Err fault) = lexis.fault_at text ≡ Some fault

@@ -1,8 +1,8 @@
--- Separators and operators (JLS 3.11, 3.12).
+-- A contract of a public call rests on this: `lex`. Separators and operators (JLS 3.11, 3.12).
 use Rattle.std.specs.Prelude.{ℕ, Bool, List, [], ◌∷◌, codes}
 use Rattle.racer_base.specs.Name.{is_listed}
 
--- the code tries those with one first byte in this order, the longer ones first; what a sign is does not rest on the order
+-- the code tries those with one first byte in this order, the longer ones first; what a sign is does not rest on it
 unfoldable pub signs : List (List ℕ)
 signs =
     codes "(" ∷ codes ")" ∷ codes "{" ∷ codes "}" ∷ codes "[" ∷ codes "]" ∷ codes ";" ∷ codes "," ∷

@@ -3,7 +3,7 @@ ghost use Rattle.std.specs.Prelude.{◌≡◌, ◌≤◌, IfSome, true, length, 
 ghost use Rattle.std.specs.List.{prefix_len, starts_with};
 ghost use Rattle.java_lexer.specs.Comments.{is_line_end, is_inline};
 ghost use Rattle.java_lexer.specs.Scanning.{closed_len};
-ghost use Rattle.java_lexer.specs.Divisions.{IsScanned};
+ghost use Rattle.java_lexer.specs.Scanning.{IsScanned};
 ghost use Rattle.java_lexer.specs.JavaKinds.{java_lexis};
 
 use crate::piece::{LexicalFault, PieceKind};

@@ -1,7 +1,8 @@
 //! Escapes of literals, behind their backslash (JLS 3.3, 3.10.6).
 ghost use Rattle.std.specs.Prelude.{◌≡◌, ◌<◌, ◌≤◌, [], ◌∷◌, length, take, true, nat_eq};
 ghost use Rattle.std.specs.List.{list_all, list_any};
-ghost use Rattle.java_lexer.specs.Literals.{is_simple, is_simple_escape, is_octal, is_octal_escape, is_hex, hex_digit, hex_value, is_allowed_unit, behind_u_run, is_unicode_escape, is_escape};
+ghost use Rattle.std.specs.Str.{byte};
+ghost use Rattle.java_lexer.specs.Literals.{backslash, is_simple, is_simple_escape, is_octal, is_octal_escape, is_hex, hex_digit, hex_value, is_allowed_unit, behind_u_run, is_unicode_escape, is_escape};
 ghost use Rattle.java_lexer.specs.Fronts.{some_front};
 ghost use Rattle.java_lexer.specs.Scanning.{begins_escape};
 
@@ -83,7 +84,7 @@ fn all_hex(bytes: &[u8]) -> bool
 
 /// Whether this is the number of a line end, of a backslash or of the quote.
 fn is_barred(quote: u8, value: u32) -> bool
-    ensures { result ≡ list_any (nat_eq value) (10 ∷ 13 ∷ 92 ∷ quote ∷ []) }
+    ensures { result ≡ list_any (nat_eq value) (byte "\n" ∷ byte "\r" ∷ backslash ∷ quote ∷ []) }
 {
     value == 10 || value == 13 || value == 92 || value == u32::from(quote)
 }

@@ -1,11 +1,11 @@
-//! The tokens of a short form of Java.
+//! The tokens of the first grammar.
 ghost use Rattle.std.specs.Prelude.{◌≡◌, ◌+◌, ◌^◌, ◌<◌, ◌≤◌, ◌++◌, IfOk, OnOk, Some, length, map};
 ghost use Rattle.racer_base.specs.Name.{is_listed};
 ghost use Rattle.java_lexer.specs.Places.{place_behind};
 ghost use Rattle.java_lexer.specs.FirstKinds.{first_kind};
-ghost use Rattle.java_lexer.specs.FirstTokens.{short_signs, short_text, short_tokens_of, first_tokens};
+ghost use Rattle.java_lexer.specs.FirstTokens.{kept_signs, kept_text, first_tokens_of, first_tokens};
 
-use crate::first_scan::first_piece;
+use crate::first_scan::scan_first;
 use crate::piece::PieceKind;
 use crate::spot::Spot;
 use crate::words::{is_listed, text_of};
@@ -14,19 +14,19 @@ use racer_base::{FileId, Items, Memory};
 use std::alloc::Global;
 
 /// The signs whose text is kept.
-const SHORT_SIGNS: [&[u8]; 8] = [b"{", b"}", b"(", b")", b";", b"=", b".", b"@"];
+const KEPT_SIGNS: [&[u8]; 8] = [b"{", b"}", b"(", b")", b";", b"=", b".", b"@"];
 
-fn is_short_sign(bytes: &[u8]) -> bool
-    ensures { result ≡ is_listed short_signs bytes.now }
+fn is_kept_sign(bytes: &[u8]) -> bool
+    ensures { result ≡ is_listed kept_signs bytes.now }
 {
-    is_listed(&SHORT_SIGNS, bytes)
+    is_listed(&KEPT_SIGNS, bytes)
 }
 
 /// The text of a token of this kind.
-fn short_text(kind: TokenKind, bytes: &[u8]) -> &[u8]
-    ensures { result.now ≡ short_text kind bytes.now }
+fn kept_text(kind: TokenKind, bytes: &[u8]) -> &[u8]
+    ensures { result.now ≡ kept_text kind bytes.now }
 {
-    if kind == TokenKind::Sign && !is_short_sign(bytes) {
+    if kind == TokenKind::Sign && !is_kept_sign(bytes) {
         &[]
     } else {
         bytes
@@ -43,12 +43,12 @@ fn put(
     bytes: &[u8],
 ) -> Result<(), Memory>
     requires { first_kind bytes.now ≡ Some kind }
-    ensures { OnOk result (tokens.new ≡ tokens.old ++ short_tokens_of file spot kind bytes.now) }
+    ensures { OnOk result (tokens.new ≡ tokens.old ++ first_tokens_of file spot kind bytes.now) }
 {
     if let PieceKind::Token(kind) = kind {
         tokens.push(Token {
             kind,
-            text: text_of(alloc, short_text(kind, bytes))?,
+            text: text_of(alloc, kept_text(kind, bytes))?,
             place: spot.place(file),
             glued: false,
         })?;
@@ -70,7 +70,7 @@ pub fn lex_first(alloc: Global, file: FileId, bytes: &[u8]) -> Result<Lexed, Mem
     let mut spot = Spot::begin();
     let mut rest = bytes;
     while !rest.is_empty() {
-        let (len, kind) = first_piece(rest);
+        let (len, kind) = scan_first(rest);
         let (piece, after) = rest.split_at(len);
         put(alloc, &mut tokens, file, spot, kind, piece)?;
         spot = spot.behind(piece);

@@ -1,8 +1,8 @@
-//! The piece in front of a text in a short form of Java.
+//! The piece in front of a text in the first grammar.
 ghost use Rattle.std.specs.Prelude.{◌≡◌, ◌<◌, ◌≤◌, length};
 ghost use Rattle.std.specs.List.{prefix_len};
 ghost use Rattle.racer_base.specs.Name.{is_word_byte};
-ghost use Rattle.java_lexer.specs.Divisions.{IsFront};
+ghost use Rattle.java_lexer.specs.Scanning.{IsFront};
 ghost use Rattle.java_lexer.specs.Kinds.{is_number_byte};
 ghost use Rattle.java_lexer.specs.FirstKinds.{first_lexis};
 
@@ -19,7 +19,7 @@ pub fn word_len(bytes: &[u8]) -> usize
 }
 
 /// How many of the bytes go on a number that has no dot.
-fn short_number_len(bytes: &[u8]) -> usize
+fn dotless_number_len(bytes: &[u8]) -> usize
     ensures gives { result ≡ prefix_len is_number_byte bytes.now }
     ensures fits { result ≤ length bytes.now }
 {
@@ -30,7 +30,7 @@ fn short_number_len(bytes: &[u8]) -> usize
 }
 
 /// The length and the kind of the piece in front.
-pub fn first_piece(bytes: &[u8]) -> (usize, PieceKind)
+pub fn scan_first(bytes: &[u8]) -> (usize, PieceKind)
     requires { 0 < length bytes.now }
     ensures { IsFront first_lexis bytes.now result.0 result.1 }
 {
@@ -45,7 +45,7 @@ pub fn first_piece(bytes: &[u8]) -> (usize, PieceKind)
         (len, PieceKind::Token(word_kind(word)))
     } else if is_digit(*first) {
         (
-            1 + short_number_len(rest),
+            1 + dotless_number_len(rest),
             PieceKind::Token(TokenKind::Number),
         )
     } else {

@@ -10,18 +10,16 @@ ghost use Rattle.java_lexer.specs.JavaTokens.{angle_tokens, java_tokens_of, faul
 use crate::piece::{LexicalFault, PieceKind};
 use crate::scan::next_piece;
 use crate::spot::Spot;
-use crate::words::{is_listed, text_of};
+use crate::words::text_of;
 use crate::{LexFault, Lexed, Token, TokenKind};
 use racer_base::{FileId, Items, Memory, Place, Text};
 use std::alloc::Global;
 
-/// The shifts, which are given as single `>`.
-const SHIFTS: [&[u8]; 2] = [b">>", b">>>"];
-
+/// Whether this is a shift that is given as single `>`.
 fn is_shift(bytes: &[u8]) -> bool
     ensures { result ≡ is_listed shifts bytes.now }
 {
-    is_listed(&SHIFTS, bytes)
+    bytes == b">>".as_slice() || bytes == b">>>".as_slice()
 }
 
 /// Puts a token `>` for each byte at the end; each but the first is glued.
@@ -96,8 +94,10 @@ fn fault_answer(fault: LexicalFault, place: Place) -> LexFault
 fn divided(alloc: Global, file: FileId, bytes: &[u8]) -> Result<Lexed, LexFault>
     requires utf8 { IsUtf8 bytes.now }
     requires small { length bytes.now + 1 < 2 ^ 32 }
-    ensures ok { IfOk result (λ lexed. divided_answer file bytes.now (java_fault (undivided java_lexis bytes.now)) ≡ Ok lexed) }
-    ensures err { IfErr result (λ fault. IsFaultOf (divided_answer file bytes.now (java_fault (undivided java_lexis bytes.now))) fault) }
+    ensures ok { IfOk result
+        (λ lexed. divided_answer file bytes.now (java_fault (undivided java_lexis bytes.now)) ≡ Ok lexed) }
+    ensures err { IfErr result
+        (λ fault. IsFaultOf (divided_answer file bytes.now (java_fault (undivided java_lexis bytes.now))) fault) }
 {
     let mut tokens = Items::new(alloc);
     let mut spot = Spot::begin();

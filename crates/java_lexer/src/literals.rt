@@ -1,9 +1,9 @@
 //! Character and text literals (JLS 3.10.4, 3.10.5).
 ghost use Rattle.std.specs.Prelude.{◌≡◌, ◌<◌, ◌≤◌, IfSome, ◌∷◌, length};
 ghost use Rattle.std.specs.List.{list_all};
-ghost use Rattle.java_lexer.specs.Literals.{is_continuation, is_one_character, escapes_hold};
+ghost use Rattle.java_lexer.specs.Literals.{double_quote, single_quote, is_continuation, is_one_character, escapes_hold};
 ghost use Rattle.java_lexer.specs.Scanning.{quoted_len};
-ghost use Rattle.java_lexer.specs.Divisions.{IsScanned};
+ghost use Rattle.java_lexer.specs.Scanning.{IsScanned};
 ghost use Rattle.java_lexer.specs.JavaKinds.{java_lexis};
 
 use crate::TokenKind;
@@ -84,7 +84,7 @@ fn is_one_character(content: &[u8]) -> bool
 
 /// The literal that a double quote begins, by what stands behind it.
 pub fn text(rest: &[u8]) -> Result<(usize, PieceKind), LexicalFault>
-    ensures { IsScanned java_lexis (34 ∷ rest.now) result }
+    ensures { IsScanned java_lexis (double_quote ∷ rest.now) result }
 {
     if rest.starts_with(b"\"\"") {
         return Err(LexicalFault::BadLiteral);
@@ -101,7 +101,7 @@ pub fn text(rest: &[u8]) -> Result<(usize, PieceKind), LexicalFault>
 
 /// The literal that a single quote begins, by what stands behind it.
 pub fn character(rest: &[u8]) -> Result<(usize, PieceKind), LexicalFault>
-    ensures { IsScanned java_lexis (39 ∷ rest.now) result }
+    ensures { IsScanned java_lexis (single_quote ∷ rest.now) result }
 {
     let Some(len) = quoted_len(b'\'', rest) else {
         return Err(LexicalFault::Unclosed);

@@ -1,6 +1,6 @@
 //! The piece in front of a text, or the fault that is named there.
 ghost use Rattle.std.specs.Prelude.{◌<◌, length};
-ghost use Rattle.java_lexer.specs.Divisions.{IsScanned};
+ghost use Rattle.java_lexer.specs.Scanning.{IsScanned};
 ghost use Rattle.java_lexer.specs.JavaKinds.{java_lexis};
 
 use crate::TokenKind;

@@ -1,5 +1,5 @@
--- A contract of a public call rests on this: `MemoryFolder` and `MemorySink`. Which calls on a folder or a sink in memory fail: those whose
--- numbers, from 0, stand in a list.
+-- A contract of a public call rests on this: `MemoryFolder` and `MemorySink`. Which calls on a folder or a sink in
+-- memory fail: those whose numbers, from 0, stand in a list.
 use Rattle.std.specs.Prelude.{ℕ, ◌+◌, min, Bool, true, false, List, nat_eq, nat_lt, Result, Ok, Err}
 use Rattle.std.specs.List.{list_all, list_any}
 use Rattle.racer_base.specs.Outside.{last_count}

@@ -1,5 +1,6 @@
 pub mod Name
 pub mod Limits
+pub mod Texts
 pub mod Outside
 pub mod Causes
 pub mod FileList

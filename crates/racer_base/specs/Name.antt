@@ -1,4 +1,5 @@
--- A contract of a public call rests on this: `lex` of java_lexer. The form of a word: JLS 3.8, 3.9, 3.10.3 and 3.10.7, with ASCII letters alone.
+-- A contract of a public call rests on this: `lex` of java_lexer. The form of a word: JLS 3.8, 3.9, 3.10.3 and 3.10.7,
+-- with ASCII letters alone.
 use Rattle.std.specs.Prelude.{ℕ, Bool, false, ◌&&◌, ◌||◌, List, [], ◌∷◌, codes, nat_eq, nat_le}
 use Rattle.std.specs.List.{list_all, list_any}
 use Rattle.std.specs.Cmp.Lexicographic.{pointwise}

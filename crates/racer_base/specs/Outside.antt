@@ -1,4 +1,5 @@
--- A contract of a public call rests on this: `Folder` and `Sink`. What they may tell of themselves, and how a count of faults moves.
+-- A contract of a public call rests on this: `Folder` and `Sink`. What they may tell of themselves, and how a count of
+-- faults moves.
 use Rattle.std.specs.Prelude.{◌≡◌, ℕ, Bool, ◌<◌, ◌≤◌, List, ◌++◌, Option, None, Some}
 use Rattle.std.specs.Ordering.{nat_cmp, eq_by_cmp}
 use Rattle.std.specs.List.{IsDistinct, list_any}

@@ -4,15 +4,15 @@ ghost use Rattle.std.specs.Prelude.{◌≡◌, ◌≤◌, IfOk, vec_len};
 use crate::{Folder, FolderFault};
 use std::alloc::Global;
 use std::fs::File;
-use std::io::{BufRead, BufReader, ErrorKind, Read};
+use std::io::{ErrorKind, Read};
 use std::rt::Files;
 use std::{fs, io};
 
 /// A folder of the file system.
 ///
-/// Its files are the regular files that stand directly in it. Symbolic links are left out whatever their names are,
-/// and folders too; any other name that is no UTF-8 is a fault. It tells nothing of them, since others may change
-/// them at any time.
+/// Its files are the regular files that stand directly in it: folders and symbolic links are left out. A name that
+/// is no UTF-8 is a fault, also that of a link: the runtime is asked by texts alone, so what has such a name cannot
+/// be known. It tells nothing of them, since others may change them at any time.
 #[derive(Drop)]
 pub struct DirFolder<R: Files + AllocGlobal + Clone + Drop> {
     rt: R,
@@ -54,43 +54,13 @@ impl<R: Files + AllocGlobal + Clone + Drop> DirFolder<R> {
         }
     }
 
-    /// The path of what has this name in it.
-    fn inner_path(&self, alloc: Global, name: &str) -> io::Result<String> {
-        let folder = self.path()?;
-        Ok(format!(in alloc; "{folder}/{name}")?)
-    }
-
-    /// Whether what has this name in it is a symbolic link. The runtime is asked by texts alone, so this is asked
-    /// of the system itself.
-    fn is_link(&self, alloc: Global, name: &[u8]) -> io::Result<bool> {
-        let mut path = self.inner_path(alloc, "")?.into_bytes();
-        path.extend_from_slice(name)?;
-        Ok(os::readlink(path.as_slice(), &mut [0]) >= 0)
-    }
-
-    /// The name of what has these bytes as its name, where it is a file. A link is left out before its name is judged.
-    fn file_name(&self, alloc: Global, name: &[u8]) -> io::Result<Option<String>> {
-        let Ok(text) = str::from_utf8(name) else {
-            if self.is_link(alloc, name)? {
-                return Ok(None);
-            }
-            return Err(io::Error::from(ErrorKind::InvalidFilename));
-        };
-        let path = self.inner_path(alloc, text)?;
-        if fs::symlink_metadata(&self.rt, path.as_str())?.is_file() {
-            return Ok(Some(String::from_str(alloc, text)?));
-        }
-        Ok(None)
-    }
-
-    /// The names of its files. What stands in a folder is read as names with a zero byte behind each, `.` and `..`
-    /// among them, which are no files.
+    /// The names of its files.
     fn listed(&self, alloc: Global) -> io::Result<Vec<String>> {
-        let path = self.inner_path(alloc, "")?;
         let mut names = Vec::new(alloc);
-        for name in BufReader::new(alloc, self.rt.open_dir(path.as_str())?)?.split(alloc, 0) {
-            if let Some(name) = self.file_name(alloc, name?.as_slice())? {
-                names.push(name)?;
+        for entry in fs::read_dir(&self.rt, self.path()?)? {
+            let entry = entry?;
+            if entry.file_type()?.is_file() {
+                names.push(String::from_str(alloc, entry.file_name())?)?;
             }
         }
         Ok(names)
@@ -98,7 +68,8 @@ impl<R: Files + AllocGlobal + Clone + Drop> DirFolder<R> {
 
     /// The path of one of its files.
     fn file_path(&self, alloc: Global, name: &str) -> io::Result<String> {
-        let path = self.inner_path(alloc, name)?;
+        let folder = self.path()?;
+        let path = format!(in alloc; "{folder}/{name}")?;
         let file = fs::symlink_metadata(&self.rt, path.as_str())?;
         if name.contains('/') || !file.is_file() {
             return Err(io::Error::from(ErrorKind::NotFound));

@@ -1,44 +1,54 @@
 //! A text for public fields.
-ghost use Rattle.std.specs.Prelude.{◌≡◌, IfOk, string_bytes};
+ghost use Rattle.std.specs.Prelude.{◌≡◌, IfOk};
 
 use crate::Memory;
+use arrayvec::ArrayString;
 use std::alloc::{AllocError, Global};
 use std::marker::Model;
+
+/// How many bytes may lie in a text itself.
+const MOST_INSIDE: usize = 16;
+
+/// Where the bytes of a text lie. Most tokens are short, so that they take no memory of their own.
+#[derive(Debug, Drop)]
+enum Inner {
+    Short(ArrayString<MOST_INSIDE>),
+    Long(String),
+}
 
 /// A text, which contracts see as the list of its bytes and nothing more.
 #[derive(Debug, Drop)]
 pub struct Text {
-    inner: String,
+    inner: Inner,
 }
 
 impl Model for Text {
-    ghost use Rattle.std.specs.Prelude.{List, ℕ, string_bytes};
+    ghost use Rattle.std.specs.Prelude.{List, ℕ};
+    ghost use Rattle.racer_base.specs.Texts.{bytes_of};
 
     ghost Value = { List ℕ };
 
-    ghost view = { λ text. string_bytes text.inner };
+    ghost view = { λ text. bytes_of text.inner };
 }
 
 impl Text {
     pub fn from_str(alloc: Global, text: &str) -> Result<Text, Memory>
         ensures { IfOk result (λ made. made ≡ text.now) }
     {
-        Ok(Text {
-            inner: String::from_str(alloc, text)?,
-        })
+        let inner = match ArrayString::from(text) {
+            Ok(short) => Inner::Short(short),
+            Err(_) => Inner::Long(String::from_str(alloc, text)?),
+        };
+        Ok(Text { inner })
     }
 
     pub fn as_str(&self) -> &str
         ensures { result.now ≡ self.now }
     {
-        self.inner.as_str()
-    }
-
-    /// The `String` that it was, without taking memory.
-    pub fn into_string(self) -> String
-        ensures { string_bytes result ≡ self }
-    {
-        self.inner
+        match &self.inner {
+            Inner::Short(text) => text.as_str(),
+            Inner::Long(text) => text.as_str(),
+        }
     }
 }
 
@@ -47,8 +57,10 @@ impl From<String> for Text {
 
     ghost from_gives = { λ string text. text ≡ string_bytes string };
 
-    fn from(inner: String) -> Text {
-        Text { inner }
+    fn from(text: String) -> Text {
+        Text {
+            inner: Inner::Long(text),
+        }
     }
 }
 
@@ -73,8 +85,10 @@ impl Clone for Text {
     ghost is_clone = { λ text copy. copy ≡ text };
 
     fn clone(&self) -> Result<Text, AllocError> {
-        Ok(Text {
-            inner: self.inner.clone()?,
-        })
+        let inner = match &self.inner {
+            Inner::Short(text) => Inner::Short(*text),
+            Inner::Long(text) => Inner::Long(text.clone()?),
+        };
+        Ok(Text { inner })
     }
 }

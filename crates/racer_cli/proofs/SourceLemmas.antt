@@ -18,7 +18,7 @@ use Rattle.java_lexer.specs.Places.{begin, advance}
 use Rattle.java_lexer.specs.Divisions.{Piece, pieces}
 use Rattle.java_lexer.specs.Tokens.{tokens_from}
 use Rattle.java_lexer.specs.FirstKinds.{first_lexis}
-use Rattle.java_lexer.specs.FirstTokens.{short_tokens_of, first_tokens}
+use Rattle.java_lexer.specs.FirstTokens.{first_tokens_of, first_tokens}
 use Rattle.java_parser.specs.Tree.{Class}
 use Rattle.java_parser.proofs.OneReading.{one_file}
 use Rattle.racer_cli.specs.Lowering.{program_of}
@@ -31,12 +31,12 @@ abbrev InFirst : Token → Type 0
 InFirst t = t.place.file.0 ≡ 0
 
 -- the token of a piece, and then the rest
-piece_then : (spot : Spot) (kind : PieceKind) (bytes : List ℕ) (rest : List Token) → All InFirst rest → All InFirst (short_tokens_of (record { 0 = 0 }) spot kind bytes ++ rest)
+piece_then : (spot : Spot) (kind : PieceKind) (bytes : List ℕ) (rest : List Token) → All InFirst rest → All InFirst (first_tokens_of (record { 0 = 0 }) spot kind bytes ++ rest)
 piece_then spot White bytes rest all = all
 piece_then spot Comment bytes rest all = all
 piece_then spot (TokenPiece kind) bytes rest all = All-cons InFirst _ rest refl all
 
-pieces_in_first : (spot : Spot) (ps : List Piece) → All InFirst (tokens_from (short_tokens_of (record { 0 = 0 })) spot ps)
+pieces_in_first : (spot : Spot) (ps : List Piece) → All InFirst (tokens_from (first_tokens_of (record { 0 = 0 })) spot ps)
 pieces_in_first spot [] = All-nil InFirst
 pieces_in_first spot (p ∷ ps) = piece_then spot p.kind p.bytes _ (pieces_in_first (fold advance spot p.bytes) ps)
 

@@ -1,6 +1,6 @@
 use Rattle.std.proofs.Common.{◌∙◌, sym}
 use Rattle.java_lexer.proofs.FirstScans.{white_front, word_front, number_front, other_front}
-use Rattle.java_lexer.proofs.first_scan.first_piece.Goals as goal
+use Rattle.java_lexer.proofs.first_scan.scan_first.Goals as goal
 
 pub returns-then-is_white : goal.returns-then-is_white
 returns-then-is_white c =
@@ -12,7 +12,7 @@ returns-then-is_letter c =
 
 pub returns-then-is_digit : goal.returns-then-is_digit
 returns-then-is_digit c =
-    rw (c.short_number_len.ensures.gives, c.in-Some.ensures.cases.0) (number_front c.in-Some.first.now c.in-Some.rest.now (sym c.is_digit.ensures ∙ c.if-is_digit.true))
+    rw (c.dotless_number_len.ensures.gives, c.in-Some.ensures.cases.0) (number_front c.in-Some.first.now c.in-Some.rest.now (sym c.is_digit.ensures ∙ c.if-is_digit.true))
 
 pub returns-else-is_digit : goal.returns-else-is_digit
 returns-else-is_digit c =
