@@ -3,12 +3,14 @@ use Rattle.std.proofs.Common.{◌≡◌, ℕ, zero, suc, ◌+◌, Bool, true, fa
 use Rattle.std.proofs.Common.{Some, slice_get, refl, ap, sym, ◌∙◌, add-zero, zero-add, arith}
 use Rattle.std.proofs.Math.Bool.{and_assoc}
 use Rattle.std.proofs.lemmas.List.{map-append}
-use Rattle.std.specs.List.{find}
+use Rattle.std.specs.List.{find, Contains}
+use Rattle.std.proofs.lemmas.Option.{slice_get-get_or}
 use borrow.Author.Tests.{eqb-true}
 use Rattle.std.proofs.lemmas.Bool.{ne_eqb}
 use Rattle.racer_base.specs.declared.ids.SiteId.{SiteId}
 use Rattle.core_code.specs.Tree.{Tree, Then, Operation, steps_of, op_at}
 use Rattle.core_code.specs.Facts.{sites_of, counts_from}
+use Rattle.core_code.proofs.Membership.{find_gives}
 
 pub counts_from-append : (n : ℕ) (first rest : List SiteId) →
     counts_from n (first ++ rest) ≡ (counts_from n first && counts_from (n + length first) rest)
@@ -61,3 +63,14 @@ find_site n (o ∷ ops) (suc k) h =
 pub op_at-index : (code : Tree) (site : SiteId) → counts_from 0 (sites_of code) ≡ true → op_at code site ≡ slice_get (steps_of code) site.0
 op_at-index code site h =
     ap (λ (n : ℕ). find (site_is n) (steps_of code)) (sym (zero-add site.0)) ∙ find_site 0 (steps_of code) site.0 h
+
+-- and each operation is found at its site
+pub op_at-contains : (code : Tree) (o : Operation) → counts_from 0 (sites_of code) ≡ true → Contains (steps_of code) o →
+    op_at code o.site ≡ Some o
+op_at-contains code o h there =
+    let ops : List Operation = steps_of code in
+    let k : ℕ = there.0 in
+    let here : slice_get ops k ≡ Some o = slice_get-get_or ops k o there.1 ∙ ap Some there.2 in
+    let found : find (site_is (0 + k)) ops ≡ Some o = find_site 0 ops k h ∙ here in
+    let passes : nat_eq o.site.0 (0 + k) ≡ true = (find_gives (site_is (0 + k)) ops o found).1 in
+    ap (λ (n : ℕ). find (site_is n) ops) (eqb-true o.site.0 (0 + k) passes) ∙ found

@@ -1,8 +1,8 @@
 //! Laws of the definitions, and their values on small programs.
 ghost use Rattle.std.specs.Prelude.{◌≡◌, ℕ, true, false, [], ◌∷◌, ◌++◌, ◌&&◌, ◌+◌, length, Some, None, IsTrue, List};
-ghost use Rattle.std.specs.Prelude.{slice_get};
+ghost use Rattle.std.specs.Prelude.{slice_get, Contains};
 ghost use Rattle.racer_base.specs.declared.ids.SiteId.{SiteId};
-ghost use Rattle.core_code.specs.Tree.{Tree, can_end, steps_of, op_at};
+ghost use Rattle.core_code.specs.Tree.{Tree, Operation, can_end, steps_of, op_at};
 ghost use Rattle.core_code.specs.Facts.{are_numbers_in_range, are_sites_in_order, are_entries_analysed, are_stacks_enough};
 ghost use Rattle.core_code.specs.Facts.{sites_of, counts_from, height_after};
 ghost use Rattle.core_code.specs.Pair.{pair, step, at, put_at, this, method_put, method_both, lock_elsewhere};
@@ -29,8 +29,11 @@ pub fn sites_go_on()
         IsTrue (counts_from (n + length first) rest) → IsTrue (counts_from n (first ++ rest)) }
 {}
 
-/// Where the sites of code are 0, 1 and so on, a site is the index of its operation.
+/// Where the sites of code are 0, 1 and so on, a site is the index of its operation, and each operation is the one at its
+/// site.
 pub fn sites_are_indices()
-    ensures { (code : Tree) (site : SiteId) → IsTrue (counts_from 0 (sites_of code)) →
+    ensures index { (code : Tree) (site : SiteId) → IsTrue (counts_from 0 (sites_of code)) →
         op_at code site ≡ slice_get (steps_of code) site.0 }
+    ensures each { (code : Tree) (o : Operation) → IsTrue (counts_from 0 (sites_of code)) →
+        Contains (steps_of code) o → op_at code o.site ≡ Some o }
 {}
