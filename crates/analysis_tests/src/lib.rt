@@ -3,4 +3,12 @@
 #![tactic(auto)]
 
 #[cfg(test)]
+mod paths;
+#[cfg(test)]
+mod programs;
+#[cfg(test)]
+mod records;
+#[cfg(test)]
+mod values;
+#[cfg(test)]
 mod warnings;
