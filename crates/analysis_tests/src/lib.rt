@@ -1,5 +1,5 @@
-//! The tests of the analysis: programs, paths, values, records, warnings. They stand here, over public calls alone, since
-//! a crate with tests is proved twice. There is no code.
+//! The tests of the analysis: programs, paths, values, records, warnings. They stand here, over public calls alone,
+//! since a crate with tests is proved twice. There is no code.
 #![tactic(auto)]
 
 #[cfg(test)]

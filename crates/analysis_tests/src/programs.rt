@@ -23,7 +23,13 @@ fn class(alloc: Global, name: &str) -> Result<ClassCore, Fail>
 }
 
 fn field(alloc: Global, name: &str) -> Result<FieldCore, Fail>
-    ensures { IfOk result (λ made. made ≡ record { class = record { 0 = 0 }; name = name.now; kind = Kind.Plain; is_static = false; recorded = true }) }
+    ensures { IfOk result (λ made. made ≡ record {
+      class = record { 0 = 0 };
+      name = name.now;
+      kind = Kind.Plain;
+      is_static = false;
+      recorded = true;
+    }) }
 {
     Ok(FieldCore {
         class: ClassId(0),

@@ -61,10 +61,19 @@ fn keeps_the_first_of_each_key(rt: HostRuntime) -> Result<(), Fail> {
 fn holds_so_many_records(rt: HostRuntime) -> Result<(), Fail> {
     let mut accesses = Accesses::new(rt.alloc());
     for field in 0..1_024u32 {
-        assert_eq!(rt; accesses.add(access(&rt, field, Touch::Write, field)?), Adding::Added);
+        assert_eq!(rt;
+            accesses.add(access(&rt, field, Touch::Write, field)?),
+            Adding::Added
+        );
     }
-    assert_eq!(rt; accesses.add(access(&rt, 1_024, Touch::Write, 0)?), Adding::Full);
-    assert_eq!(rt; accesses.add(access(&rt, 3, Touch::Write, 9)?), Adding::Present);
+    assert_eq!(rt;
+        accesses.add(access(&rt, 1_024, Touch::Write, 0)?),
+        Adding::Full
+    );
+    assert_eq!(rt;
+        accesses.add(access(&rt, 3, Touch::Write, 9)?),
+        Adding::Present
+    );
     assert_eq!(rt; accesses.len(), 1_024);
     Ok(())
 }
@@ -73,7 +82,10 @@ fn holds_so_many_records(rt: HostRuntime) -> Result<(), Fail> {
 fn holds_so_many_paths(rt: HostRuntime) -> Result<(), Fail> {
     let mut set = Wobbly::new(rt.alloc());
     for number in 0..1_024u32 {
-        assert_eq!(rt; set.add(path(&rt, Root::Formal(number), &[])?), Adding::Added);
+        assert_eq!(rt;
+            set.add(path(&rt, Root::Formal(number), &[])?),
+            Adding::Added
+        );
     }
     assert_eq!(rt; set.add(path(&rt, Root::Formal(1_024), &[])?), Adding::Full);
     assert_eq!(rt; set.add(path(&rt, Root::Formal(7), &[])?), Adding::Present);
@@ -81,8 +93,8 @@ fn holds_so_many_paths(rt: HostRuntime) -> Result<(), Fail> {
     Ok(())
 }
 
-/// Paths that are added one after the other, by the number of their fields, and the shortest proper prefix of a path of
-/// three fields that is then there. A path is no proper prefix of itself.
+/// Paths that are added one after the other, by the number of their fields, and the shortest proper prefix of a path
+/// of three fields that is then there. A path is no proper prefix of itself.
 const PREFIXES: [(usize, Option<u32>); 4] = [(3, None), (2, Some(2)), (1, Some(1)), (0, Some(0))];
 
 #[test]
@@ -90,7 +102,11 @@ fn shortest_prefix(rt: HostRuntime) -> Result<(), Fail> {
     let fields = [FieldId(1), FieldId(2), FieldId(3)];
     let long = path(&rt, Root::This, &fields)?;
     let mut set = Wobbly::new(rt.alloc());
-    assert_eq!(rt; set.add(path(&rt, Root::Formal(0), &[])?), Adding::Added, "of another root");
+    assert_eq!(rt;
+        set.add(path(&rt, Root::Formal(0), &[])?),
+        Adding::Added,
+        "of another root"
+    );
     for (count, shortest) in PREFIXES.iter() {
         let front = fields.as_slice().get(..*count).ok_or("three fields")?;
         assert_eq!(rt; set.add(path(&rt, Root::This, front)?), Adding::Added);
