@@ -6,7 +6,8 @@ ghost use Rattle.core_code.specs.Tree.{Tree, Operation, can_end, steps_of, op_at
 ghost use Rattle.core_code.specs.Facts.{are_numbers_in_range, are_sites_in_order, are_entries_analysed};
 ghost use Rattle.core_code.specs.Facts.{are_stacks_enough};
 ghost use Rattle.core_code.specs.Facts.{sites_of, counts_from, height_after};
-ghost use Rattle.core_code.specs.Pair.{pair, step, at, put_at, this, method_put, method_both, lock_elsewhere, with_method};
+ghost use Rattle.core_code.specs.Pair.{pair, step, at, put_at, this, method_put, method_both, lock_elsewhere};
+ghost use Rattle.core_code.specs.Pair.{with_method};
 
 /// What the type of `Program` keeps holds of a class with two methods, and is refused where one number of it is
 /// changed.
