@@ -8,3 +8,4 @@ pub mod Flow
 pub mod Summaries
 pub mod Rows
 pub mod Outcomes
+pub mod Origins

@@ -11,6 +11,7 @@
 //! - `specs/Substitution.antt`: what is found of a callee, in its caller's values.
 //! - `specs/Operations.antt`: what one operation does.
 //! - `specs/Flow.antt`: the flow of a piece of code, by cases on its tree.
+//! - `specs/Origins.antt`: where a record of a method comes from.
 //! - `specs/Summaries.antt`: what is known of a method by rank, its outcome (`outcome_of`), and those of all.
 #![tactic(auto)]
 
