@@ -3,4 +3,8 @@
 #![tactic(auto)]
 
 #[cfg(test)]
+mod reading;
+#[cfg(test)]
 mod tokens;
+#[cfg(test)]
+mod trees;

@@ -1,16 +1,16 @@
-//! Trees that spell the same tokens.
+//! A tree that is built by hand, and the tokens of the text that it stands for.
 ghost use Rattle.std.specs.Prelude.{IfOk};
 ghost use Rattle.java_tree.specs.Formed.{FormedMethod};
 ghost use Rattle.java_tree.specs.View.{method_of};
 
-use crate::spell_the_same;
-use java_tree::{Ident, MethodTree, ResultTree};
+use java_lexer::lex;
+use java_tree::{Ident, MethodTree, ResultTree, spell};
 use racer_base::{FileId, Items, Memory, Place, Text};
 use std::alloc::Global;
 use std::test::Fail;
 
 /// `void name() { }`, its name in this column.
-fn empty_method(alloc: Global, name: &str, column: u32) -> Result<MethodTree, Memory>
+pub fn empty_method(alloc: Global, name: &str, column: u32) -> Result<MethodTree, Memory>
     ensures { IfOk result (λ m. FormedMethod (method_of m)) }
 {
     let place = Place {
@@ -32,12 +32,15 @@ fn empty_method(alloc: Global, name: &str, column: u32) -> Result<MethodTree, Me
 }
 
 #[test]
-fn places_are_not_spelled(rt: HostRuntime) -> Result<(), Fail> {
+fn a_method_spells_the_tokens_of_its_text(rt: HostRuntime) -> Result<(), Fail> {
     let alloc = rt.alloc();
-    let first = empty_method(alloc, "m", 1)?;
-    let second = empty_method(alloc, "m", 2)?;
-    let other = empty_method(alloc, "n", 1)?;
-    assert!(rt; spell_the_same(alloc, &first, &second)?);
-    assert!(rt; !spell_the_same(alloc, &first, &other)?);
+    let spelled = spell(alloc, &empty_method(alloc, "m", 6)?)?;
+    let lexed = lex(alloc, FileId(0), b"void m() { }")?;
+    assert_eq!(rt; spelled.len(), lexed.tokens.len());
+    for (word, token) in spelled.iter().zip(lexed.tokens.as_slice()) {
+        assert_eq!(rt; word.kind, token.kind);
+        assert_eq!(rt; word.text.as_str(), token.text.as_str());
+        assert_eq!(rt; word.glued, token.glued);
+    }
     Ok(())
 }
