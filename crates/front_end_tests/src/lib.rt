@@ -3,8 +3,6 @@
 #![tactic(auto)]
 
 #[cfg(test)]
-mod reading;
-#[cfg(test)]
 mod tokens;
 #[cfg(test)]
 mod trees;

@@ -5,12 +5,13 @@ ghost use Rattle.java_tree.specs.View.{method_of};
 
 use java_lexer::lex;
 use java_tree::{Ident, MethodTree, ResultTree, spell};
+use method_reader::spell_the_same;
 use racer_base::{FileId, Items, Memory, Place, Text};
 use std::alloc::Global;
 use std::test::Fail;
 
-/// `void name() { }`, its name in this column.
-pub fn empty_method(alloc: Global, name: &str, column: u32) -> Result<MethodTree, Memory>
+/// `void m() { }`, its name in this column.
+fn empty_method(alloc: Global, column: u32) -> Result<MethodTree, Memory>
     ensures { IfOk result (λ m. FormedMethod (method_of m)) }
 {
     let place = Place {
@@ -22,7 +23,7 @@ pub fn empty_method(alloc: Global, name: &str, column: u32) -> Result<MethodTree
         modifiers: Items::new(alloc),
         result: ResultTree::Void,
         name: Ident {
-            text: Text::from_str(alloc, name)?,
+            text: Text::from_str(alloc, "m")?,
             place,
         },
         parameters: Items::new(alloc),
@@ -34,7 +35,8 @@ pub fn empty_method(alloc: Global, name: &str, column: u32) -> Result<MethodTree
 #[test]
 fn a_method_spells_the_tokens_of_its_text(rt: HostRuntime) -> Result<(), Fail> {
     let alloc = rt.alloc();
-    let spelled = spell(alloc, &empty_method(alloc, "m", 6)?)?;
+    let tree = empty_method(alloc, 6)?;
+    let spelled = spell(alloc, &tree)?;
     let lexed = lex(alloc, FileId(0), b"void m() { }")?;
     assert_eq!(rt; spelled.len(), lexed.tokens.len());
     for (word, token) in spelled.iter().zip(lexed.tokens.as_slice()) {
@@ -42,5 +44,6 @@ fn a_method_spells_the_tokens_of_its_text(rt: HostRuntime) -> Result<(), Fail> {
         assert_eq!(rt; word.text.as_str(), token.text.as_str());
         assert_eq!(rt; word.glued, token.glued);
     }
+    assert!(rt; spell_the_same(alloc, &tree, &empty_method(alloc, 7)?)?);
     Ok(())
 }
