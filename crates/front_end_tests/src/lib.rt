@@ -6,3 +6,5 @@
 mod outside;
 #[cfg(test)]
 mod tokens;
+#[cfg(test)]
+mod trees;

@@ -3,7 +3,8 @@ use Rattle.std.proofs.Common.{◌≡◌, ℕ, ◌≤◌, Bool, true, false, ◌=
 use Rattle.std.proofs.lemmas.Bool.{ne_eqb}
 use Rattle.std.proofs.lemmas.List.{drop_all}
 
-module _ {A : Type 0} (test : List A → List A → Bool) (none : test [] [] ≡ true) (some : (y : A) (ys : List A) → test [] (y ∷ ys) ≡ false) where
+module _ {A : Type 0} (test : List A → List A → Bool) (none : test [] [] ≡ true) (some : (y : A) (ys : List A)
+    → test [] (y ∷ ys) ≡ false) where
   none_left : (rest : List A) → (length rest == 0) ≡ test [] rest
   none_left [] = sym none
   none_left (y ∷ ys) = ne_eqb (length (y ∷ ys)) 0 (λ e. omega arith) ∙ sym (some y ys)

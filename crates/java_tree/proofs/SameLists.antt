@@ -11,7 +11,8 @@ listed same [] (y ∷ ys) = refl
 listed same (x ∷ xs) [] = refl
 listed same (x ∷ xs) (y ∷ ys) = ap (λ t. same x y && t) (listed same xs ys)
 
-pub maybe : {A B : Type 0} (view : A → B) (same : B → B → Bool) (x y : Option A) → same_option same (option_map view x) (option_map view y) ≡ option_eq (λ a b. same (view a) (view b)) x y
+pub maybe : {A B : Type 0} (view : A → B) (same : B → B → Bool) (x y : Option A)
+    → same_option same (option_map view x) (option_map view y) ≡ option_eq (λ a b. same (view a) (view b)) x y
 maybe view same None None = refl
 maybe view same None (Some y) = refl
 maybe view same (Some x) None = refl

@@ -1,5 +1,6 @@
 -- A contract of a public call rests on this: the formed trees, those that stand for a method of this subset of
--- Java. Each condition on a level, and each one that is no level, stands with its form; so two formed trees never have
+-- Java. Each condition on a level, and each one that is no level, stands with its form; so two formed trees never
+-- have
 -- one spelling.
 use Rattle.std.specs.Prelude.{◌≡◌, ℕ, zero, suc, ◌≤◌, Bool, true, false, not, ◌&&◌, List, [], ◌∷◌, Option, Some}
 use Rattle.std.specs.Prelude.{None, IsTrue, codes}
@@ -280,7 +281,8 @@ abbrev mutual
   FormedStmt (Run e) = FormedRun e
   FormedStmt (If e s) = FormedExpr e × FormedStmt s × IsTrue (is_body s)
   FormedStmt (IfElse e s t) =
-      FormedExpr e × FormedStmt s × FormedStmt t × IsTrue (is_body s) × IsTrue (is_body t) × IsTrue (not (ends_in_if s))
+      FormedExpr e × FormedStmt s × FormedStmt t × IsTrue (is_body s) × IsTrue (is_body t)
+      × IsTrue (not (ends_in_if s))
   FormedStmt (While e s) = FormedExpr e × FormedStmt s × IsTrue (is_body s)
   FormedStmt (For start condition updates s) =
       FormedStart start × FormedMaybeExpr condition × FormedRuns updates × FormedStmt s × IsTrue (is_body s)

@@ -1,14 +1,23 @@
--- The test of equality of types and expressions decides it.
+-- No public contract rests on this: the test of equality of types and expressions decides it, for the laws of `==`.
 use Rattle.std.proofs.Common.{◌≡◌, true, ◌&&◌, ◌==◌, bytes_eq, refl, ap}
 use Rattle.std.proofs.lemmas.Bool.{false≢true, eqb-true}
 use Rattle.std.specs.Cmp.Derive.{both_true}
-use Rattle.java_tree.specs.SameParts.{left, right, both_2, both_3, bytes_is, bytes_refl, nat_refl, bool_is, bool_refl, kind_is, kind_refl, list_is, list_refl}
-use Rattle.java_tree.specs.Sameness.{same_bool, same_kind, same_ty, same_base, same_parts, same_part, same_angled, same_arguments, same_argument, same_expr, same_exprs, same_array, same_inits, same_init}
-use Rattle.java_tree.specs.Trees.{Ty, Typed, Base, Plain, Named, Parts, no_part, part_then, Part, Bare, Generic, Arguments, Angled, ArgumentList, no_argument, argument_then, Argument, Exact, Any, Extends, Super, Expr, Assign, Conditional, Binary, InstanceOf, Prefix, Cast, Postfix, Literal, This, Name, Paren, Field, Index, Call, CallOn, ClassOf, New, NewArray, NewItems, Exprs, no_expr, expr_then, Array, Braces, Inits, no_init, init_then, Init, Value, Items}
+use Rattle.java_tree.specs.SameParts.{left, right, both_2, both_3, bytes_is, bytes_refl, nat_refl, bool_is}
+use Rattle.java_tree.specs.SameParts.{bool_refl, kind_is, kind_refl, list_is, list_refl}
+use Rattle.java_tree.specs.Sameness.{same_bool, same_kind, same_ty, same_base, same_parts, same_part, same_angled}
+use Rattle.java_tree.specs.Sameness.{same_arguments, same_argument, same_expr, same_exprs, same_array, same_inits}
+use Rattle.java_tree.specs.Sameness.{same_init}
+use Rattle.java_tree.specs.Trees.{Ty, Typed, Base, Plain, Named, Parts, no_part, part_then, Part, Bare, Generic}
+use Rattle.java_tree.specs.Trees.{Arguments, Angled, ArgumentList, no_argument, argument_then, Argument, Exact, Any}
+use Rattle.java_tree.specs.Trees.{Extends, Super, Expr, Assign, Conditional, Binary, InstanceOf, Prefix, Cast}
+use Rattle.java_tree.specs.Trees.{Postfix, Literal, This, Name, Paren, Field, Index, Call, CallOn, ClassOf, New}
+use Rattle.java_tree.specs.Trees.{NewArray, NewItems, Exprs, no_expr, expr_then, Array, Braces, Inits, no_init}
+use Rattle.java_tree.specs.Trees.{init_then, Init, Value, Items}
 
 mutual
   pub ty_is : (a b : Ty) → same_ty a b ≡ true → a ≡ b
-  ty_is (Typed a m) (Typed b n) met = both_2 Typed (base_is a b (left (same_base a b) (m == n) met)) (eqb-true m n (right (same_base a b) (m == n) met))
+  ty_is (Typed a m) (Typed b n) met = both_2 Typed (base_is a b (left (same_base a b) (m == n) met))
+      (eqb-true m n (right (same_base a b) (m == n) met))
 
   pub base_is : (a b : Base) → same_base a b ≡ true → a ≡ b
   base_is (Plain a) (Plain b) met = ap Plain (bytes_is a b met)
@@ -17,20 +26,27 @@ mutual
 
   pub parts_is : (a b : Parts) → same_parts a b ≡ true → a ≡ b
   parts_is no_part no_part met = refl
-  parts_is (part_then a more) (part_then b others) met = both_2 part_then (part_is a b (left (same_part a b) (same_parts more others) met)) (parts_is more others (right (same_part a b) (same_parts more others) met))
+  parts_is (part_then a more) (part_then b others) met =
+      both_2 part_then (part_is a b (left (same_part a b) (same_parts more others) met)) (parts_is more others
+      (right (same_part a b) (same_parts more others) met))
   parts_is _ _ met = absurd (false≢true met)
 
   pub part_is : (a b : Part) → same_part a b ≡ true → a ≡ b
   part_is (Bare a) (Bare b) met = ap Bare (bytes_is a b met)
-  part_is (Generic a p) (Generic b q) met = both_2 Generic (bytes_is a b (left (bytes_eq a b) (same_angled p q) met)) (angled_is p q (right (bytes_eq a b) (same_angled p q) met))
+  part_is (Generic a p) (Generic b q) met = both_2 Generic (bytes_is a b (left (bytes_eq a b) (same_angled p q) met))
+      (angled_is p q (right (bytes_eq a b) (same_angled p q) met))
   part_is _ _ met = absurd (false≢true met)
 
   pub angled_is : (a b : Arguments) → same_angled a b ≡ true → a ≡ b
-  angled_is (Angled a g) (Angled b h) met = both_2 Angled (arguments_is a b (left (same_arguments a b) (same_bool g h) met)) (bool_is g h (right (same_arguments a b) (same_bool g h) met))
+  angled_is (Angled a g) (Angled b h) met =
+      both_2 Angled (arguments_is a b (left (same_arguments a b) (same_bool g h) met))
+      (bool_is g h (right (same_arguments a b) (same_bool g h) met))
 
   pub arguments_is : (a b : ArgumentList) → same_arguments a b ≡ true → a ≡ b
   arguments_is no_argument no_argument met = refl
-  arguments_is (argument_then a more) (argument_then b others) met = both_2 argument_then (argument_is a b (left (same_argument a b) (same_arguments more others) met)) (arguments_is more others (right (same_argument a b) (same_arguments more others) met))
+  arguments_is (argument_then a more) (argument_then b others) met =
+      both_2 argument_then (argument_is a b (left (same_argument a b) (same_arguments more others) met))
+      (arguments_is more others (right (same_argument a b) (same_arguments more others) met))
   arguments_is _ _ met = absurd (false≢true met)
 
   pub argument_is : (a b : Argument) → same_argument a b ≡ true → a ≡ b
@@ -71,38 +87,73 @@ mutual
 
 mutual
   pub expr_is : (a b : Expr) → same_expr a b ≡ true → a ≡ b
-  expr_is (Assign a o b) (Assign c p d) met = both_3 Assign (expr_is a c (left (same_expr a c) (bytes_eq o p && same_expr b d) met)) (bytes_is o p (left (bytes_eq o p) (same_expr b d) (right (same_expr a c) (bytes_eq o p && same_expr b d) met))) (expr_is b d (right (bytes_eq o p) (same_expr b d) (right (same_expr a c) (bytes_eq o p && same_expr b d) met)))
-  expr_is (Conditional a b c) (Conditional d e f) met = both_3 Conditional (expr_is a d (left (same_expr a d) (same_expr b e && same_expr c f) met)) (expr_is b e (left (same_expr b e) (same_expr c f) (right (same_expr a d) (same_expr b e && same_expr c f) met))) (expr_is c f (right (same_expr b e) (same_expr c f) (right (same_expr a d) (same_expr b e && same_expr c f) met)))
-  expr_is (Binary a o b) (Binary c p d) met = both_3 Binary (expr_is a c (left (same_expr a c) (bytes_eq o p && same_expr b d) met)) (bytes_is o p (left (bytes_eq o p) (same_expr b d) (right (same_expr a c) (bytes_eq o p && same_expr b d) met))) (expr_is b d (right (bytes_eq o p) (same_expr b d) (right (same_expr a c) (bytes_eq o p && same_expr b d) met)))
-  expr_is (InstanceOf a s) (InstanceOf b t) met = both_2 InstanceOf (expr_is a b (left (same_expr a b) (same_ty s t) met)) (ty_is s t (right (same_expr a b) (same_ty s t) met))
-  expr_is (Prefix o a) (Prefix p b) met = both_2 Prefix (bytes_is o p (left (bytes_eq o p) (same_expr a b) met)) (expr_is a b (right (bytes_eq o p) (same_expr a b) met))
-  expr_is (Cast s a) (Cast t b) met = both_2 Cast (ty_is s t (left (same_ty s t) (same_expr a b) met)) (expr_is a b (right (same_ty s t) (same_expr a b) met))
-  expr_is (Postfix a o) (Postfix b p) met = both_2 Postfix (expr_is a b (left (same_expr a b) (bytes_eq o p) met)) (bytes_is o p (right (same_expr a b) (bytes_eq o p) met))
-  expr_is (Literal k a) (Literal l b) met = both_2 Literal (kind_is k l (left (same_kind k l) (bytes_eq a b) met)) (bytes_is a b (right (same_kind k l) (bytes_eq a b) met))
+  expr_is (Assign a o b) (Assign c p d) met =
+      both_3 Assign (expr_is a c (left (same_expr a c) (bytes_eq o p && same_expr b d) met))
+      (bytes_is o p (left (bytes_eq o p) (same_expr b d) (right (same_expr a c) (bytes_eq o p && same_expr b d) met)))
+      (expr_is b d (right (bytes_eq o p) (same_expr b d) (right (same_expr a c) (bytes_eq o p && same_expr b d) met)))
+  expr_is (Conditional a b c) (Conditional d e f) met =
+      both_3 Conditional (expr_is a d (left (same_expr a d) (same_expr b e && same_expr c f) met))
+      (expr_is b e (left (same_expr b e) (same_expr c f) (right (same_expr a d) (same_expr b e && same_expr c f)
+      met))) (expr_is c f (right (same_expr b e) (same_expr c f) (right (same_expr a d) (same_expr b e
+      && same_expr c f) met)))
+  expr_is (Binary a o b) (Binary c p d) met =
+      both_3 Binary (expr_is a c (left (same_expr a c) (bytes_eq o p && same_expr b d) met))
+      (bytes_is o p (left (bytes_eq o p) (same_expr b d) (right (same_expr a c) (bytes_eq o p && same_expr b d) met)))
+      (expr_is b d (right (bytes_eq o p) (same_expr b d) (right (same_expr a c) (bytes_eq o p && same_expr b d) met)))
+  expr_is (InstanceOf a s) (InstanceOf b t) met =
+      both_2 InstanceOf (expr_is a b (left (same_expr a b) (same_ty s t) met)) (ty_is s t (right (same_expr a b)
+      (same_ty s t) met))
+  expr_is (Prefix o a) (Prefix p b) met = both_2 Prefix (bytes_is o p (left (bytes_eq o p) (same_expr a b) met))
+      (expr_is a b (right (bytes_eq o p) (same_expr a b) met))
+  expr_is (Cast s a) (Cast t b) met = both_2 Cast (ty_is s t (left (same_ty s t) (same_expr a b) met))
+      (expr_is a b (right (same_ty s t) (same_expr a b) met))
+  expr_is (Postfix a o) (Postfix b p) met = both_2 Postfix (expr_is a b (left (same_expr a b) (bytes_eq o p) met))
+      (bytes_is o p (right (same_expr a b) (bytes_eq o p) met))
+  expr_is (Literal k a) (Literal l b) met = both_2 Literal (kind_is k l (left (same_kind k l) (bytes_eq a b) met))
+      (bytes_is a b (right (same_kind k l) (bytes_eq a b) met))
   expr_is This This met = refl
   expr_is (Name a) (Name b) met = ap Name (bytes_is a b met)
   expr_is (Paren a) (Paren b) met = ap Paren (expr_is a b met)
-  expr_is (Field a x) (Field b y) met = both_2 Field (expr_is a b (left (same_expr a b) (bytes_eq x y) met)) (bytes_is x y (right (same_expr a b) (bytes_eq x y) met))
-  expr_is (Index a i) (Index b j) met = both_2 Index (expr_is a b (left (same_expr a b) (same_expr i j) met)) (expr_is i j (right (same_expr a b) (same_expr i j) met))
-  expr_is (Call x cs) (Call y bs) met = both_2 Call (bytes_is x y (left (bytes_eq x y) (same_exprs cs bs) met)) (exprs_is cs bs (right (bytes_eq x y) (same_exprs cs bs) met))
-  expr_is (CallOn a x cs) (CallOn b y bs) met = both_3 CallOn (expr_is a b (left (same_expr a b) (bytes_eq x y && same_exprs cs bs) met)) (bytes_is x y (left (bytes_eq x y) (same_exprs cs bs) (right (same_expr a b) (bytes_eq x y && same_exprs cs bs) met))) (exprs_is cs bs (right (bytes_eq x y) (same_exprs cs bs) (right (same_expr a b) (bytes_eq x y && same_exprs cs bs) met)))
+  expr_is (Field a x) (Field b y) met = both_2 Field (expr_is a b (left (same_expr a b) (bytes_eq x y) met))
+      (bytes_is x y (right (same_expr a b) (bytes_eq x y) met))
+  expr_is (Index a i) (Index b j) met = both_2 Index (expr_is a b (left (same_expr a b) (same_expr i j) met))
+      (expr_is i j (right (same_expr a b) (same_expr i j) met))
+  expr_is (Call x cs) (Call y bs) met = both_2 Call (bytes_is x y (left (bytes_eq x y) (same_exprs cs bs) met))
+      (exprs_is cs bs (right (bytes_eq x y) (same_exprs cs bs) met))
+  expr_is (CallOn a x cs) (CallOn b y bs) met =
+      both_3 CallOn (expr_is a b (left (same_expr a b) (bytes_eq x y && same_exprs cs bs) met))
+      (bytes_is x y (left (bytes_eq x y) (same_exprs cs bs) (right (same_expr a b) (bytes_eq x y && same_exprs cs bs)
+      met))) (exprs_is cs bs (right (bytes_eq x y) (same_exprs cs bs) (right (same_expr a b) (bytes_eq x y
+      && same_exprs cs bs) met)))
   expr_is (ClassOf a) (ClassOf b) met = ap ClassOf (list_is bytes_eq bytes_is a b met)
-  expr_is (New s cs) (New t bs) met = both_2 New (ty_is s t (left (same_ty s t) (same_exprs cs bs) met)) (exprs_is cs bs (right (same_ty s t) (same_exprs cs bs) met))
-  expr_is (NewArray s cs m) (NewArray t bs n) met = both_3 NewArray (ty_is s t (left (same_ty s t) (same_exprs cs bs && m == n) met)) (exprs_is cs bs (left (same_exprs cs bs) (m == n) (right (same_ty s t) (same_exprs cs bs && m == n) met))) (eqb-true m n (right (same_exprs cs bs) (m == n) (right (same_ty s t) (same_exprs cs bs && m == n) met)))
-  expr_is (NewItems s m a) (NewItems t n b) met = both_3 NewItems (ty_is s t (left (same_ty s t) (m == n && same_array a b) met)) (eqb-true m n (left (m == n) (same_array a b) (right (same_ty s t) (m == n && same_array a b) met))) (array_is a b (right (m == n) (same_array a b) (right (same_ty s t) (m == n && same_array a b) met)))
+  expr_is (New s cs) (New t bs) met = both_2 New (ty_is s t (left (same_ty s t) (same_exprs cs bs) met))
+      (exprs_is cs bs (right (same_ty s t) (same_exprs cs bs) met))
+  expr_is (NewArray s cs m) (NewArray t bs n) met =
+      both_3 NewArray (ty_is s t (left (same_ty s t) (same_exprs cs bs && m == n) met))
+      (exprs_is cs bs (left (same_exprs cs bs) (m == n) (right (same_ty s t) (same_exprs cs bs && m == n) met)))
+      (eqb-true m n (right (same_exprs cs bs) (m == n) (right (same_ty s t) (same_exprs cs bs && m == n) met)))
+  expr_is (NewItems s m a) (NewItems t n b) met =
+      both_3 NewItems (ty_is s t (left (same_ty s t) (m == n && same_array a b) met))
+      (eqb-true m n (left (m == n) (same_array a b) (right (same_ty s t) (m == n && same_array a b) met)))
+      (array_is a b (right (m == n) (same_array a b) (right (same_ty s t) (m == n && same_array a b) met)))
   expr_is _ _ met = absurd (false≢true met)
 
   pub exprs_is : (a b : Exprs) → same_exprs a b ≡ true → a ≡ b
   exprs_is no_expr no_expr met = refl
-  exprs_is (expr_then a cs) (expr_then b bs) met = both_2 expr_then (expr_is a b (left (same_expr a b) (same_exprs cs bs) met)) (exprs_is cs bs (right (same_expr a b) (same_exprs cs bs) met))
+  exprs_is (expr_then a cs) (expr_then b bs) met =
+      both_2 expr_then (expr_is a b (left (same_expr a b) (same_exprs cs bs) met))
+      (exprs_is cs bs (right (same_expr a b) (same_exprs cs bs) met))
   exprs_is _ _ met = absurd (false≢true met)
 
   pub array_is : (a b : Array) → same_array a b ≡ true → a ≡ b
-  array_is (Braces a c) (Braces b d) met = both_2 Braces (inits_is a b (left (same_inits a b) (same_bool c d) met)) (bool_is c d (right (same_inits a b) (same_bool c d) met))
+  array_is (Braces a c) (Braces b d) met = both_2 Braces (inits_is a b (left (same_inits a b) (same_bool c d) met))
+      (bool_is c d (right (same_inits a b) (same_bool c d) met))
 
   pub inits_is : (a b : Inits) → same_inits a b ≡ true → a ≡ b
   inits_is no_init no_init met = refl
-  inits_is (init_then a cs) (init_then b bs) met = both_2 init_then (init_is a b (left (same_init a b) (same_inits cs bs) met)) (inits_is cs bs (right (same_init a b) (same_inits cs bs) met))
+  inits_is (init_then a cs) (init_then b bs) met =
+      both_2 init_then (init_is a b (left (same_init a b) (same_inits cs bs) met))
+      (inits_is cs bs (right (same_init a b) (same_inits cs bs) met))
   inits_is _ _ met = absurd (false≢true met)
 
   pub init_is : (a b : Init) → same_init a b ≡ true → a ≡ b

@@ -1,9 +1,17 @@
--- Whether two trees are equal, as a test: the same form with equal parts.
+-- A contract of a public call rests on this: whether two trees are equal, as a test, the same form with equal parts.
 use Rattle.std.specs.Prelude.{Bool, true, false, ◌&&◌, ◌==◌, List, [], ◌∷◌, Option, Some, None, bytes_eq}
 use Rattle.java_lexer.specs.declared.token.TokenKind.{TokenKind}
 use Rattle.java_lexer.specs.declared.token.TokenKind.TheVariants as kind
 use Rattle.java_tree.specs.declared.words.Spelled.{Spelled}
-use Rattle.java_tree.specs.Trees.{Ty, Typed, Base, Plain, Named, Parts, no_part, part_then, Part, Bare, Generic, Arguments, Angled, ArgumentList, no_argument, argument_then, Argument, Exact, Any, Extends, Super, Expr, Assign, Conditional, Binary, InstanceOf, Prefix, Cast, Postfix, Literal, This, Name, Paren, Field, Index, Call, CallOn, ClassOf, New, NewArray, NewItems, Exprs, no_expr, expr_then, Array, Braces, Inits, no_init, init_then, Init, Value, Items, Variable, Locals, Start, Declares, Runs, Stmt, Block, Local, Run, If, IfElse, While, For, ForEach, Sync, Return, Empty, Stmts, no_stmt, stmt_then, Annotation, Modifier, Word, Annotated, Result, NoResult, VoidResult, TypeResult, Parameter, Method}
+use Rattle.java_tree.specs.Trees.{Ty, Typed, Base, Plain, Named, Parts, no_part, part_then, Part, Bare, Generic}
+use Rattle.java_tree.specs.Trees.{Arguments, Angled, ArgumentList, no_argument, argument_then, Argument, Exact, Any}
+use Rattle.java_tree.specs.Trees.{Extends, Super, Expr, Assign, Conditional, Binary, InstanceOf, Prefix, Cast}
+use Rattle.java_tree.specs.Trees.{Postfix, Literal, This, Name, Paren, Field, Index, Call, CallOn, ClassOf, New}
+use Rattle.java_tree.specs.Trees.{NewArray, NewItems, Exprs, no_expr, expr_then, Array, Braces, Inits, no_init}
+use Rattle.java_tree.specs.Trees.{init_then, Init, Value, Items, Variable, Locals, Start, Declares, Runs, Stmt}
+use Rattle.java_tree.specs.Trees.{Block, Local, Run, If, IfElse, While, For, ForEach, Sync, Return, Empty, Stmts}
+use Rattle.java_tree.specs.Trees.{no_stmt, stmt_then, Annotation, Modifier, Word, Annotated, Result, NoResult}
+use Rattle.java_tree.specs.Trees.{VoidResult, TypeResult, Parameter, Method}
 
 abbrev pub same_bool : Bool → Bool → Bool
 same_bool true true = true
@@ -118,7 +126,8 @@ abbrev pub same_variable : Variable → Variable → Bool
 same_variable a b = bytes_eq a.name b.name && same_option same_init a.initialiser b.initialiser
 
 abbrev pub same_locals : Locals → Locals → Bool
-same_locals a b = same_bool a.is_final b.is_final && (same_ty a.kind b.kind && same_list same_variable a.variables b.variables)
+same_locals a b = same_bool a.is_final b.is_final && (same_ty a.kind b.kind && same_list same_variable a.variables
+    b.variables)
 
 abbrev pub same_start : Start → Start → Bool
 same_start (Declares a) (Declares b) = same_locals a b
@@ -133,8 +142,10 @@ abbrev mutual
   same_stmt (If a s) (If b t) = same_expr a b && same_stmt s t
   same_stmt (IfElse a s u) (IfElse b t v) = same_expr a b && (same_stmt s t && same_stmt u v)
   same_stmt (While a s) (While b t) = same_expr a b && same_stmt s t
-  same_stmt (For i a u s) (For j b v t) = same_start i j && (same_option same_expr a b && (same_exprs u v && same_stmt s t))
-  same_stmt (ForEach f k x a s) (ForEach g l y b t) = same_bool f g && (same_ty k l && (bytes_eq x y && (same_expr a b && same_stmt s t)))
+  same_stmt (For i a u s) (For j b v t) =
+      same_start i j && (same_option same_expr a b && (same_exprs u v && same_stmt s t))
+  same_stmt (ForEach f k x a s) (ForEach g l y b t) =
+      same_bool f g && (same_ty k l && (bytes_eq x y && (same_expr a b && same_stmt s t)))
   same_stmt (Sync a s) (Sync b t) = same_expr a b && same_stmts s t
   same_stmt (Return a) (Return b) = same_option same_expr a b
   same_stmt Empty Empty = true
@@ -163,9 +174,11 @@ same_result _ _ = false
 
 abbrev pub same_parameter : Parameter → Parameter → Bool
 same_parameter a b =
-    same_bool a.is_final b.is_final && (same_list same_annotation a.annotations b.annotations && (same_ty a.kind b.kind && bytes_eq a.name b.name))
+    same_bool a.is_final b.is_final && (same_list same_annotation a.annotations b.annotations
+    && (same_ty a.kind b.kind && bytes_eq a.name b.name))
 
 abbrev pub same_method : Method → Method → Bool
 same_method a b =
     same_list same_modifier a.modifiers b.modifiers && (same_result a.result b.result && (bytes_eq a.name b.name &&
-    (same_list same_parameter a.parameters b.parameters && (same_list same_ty a.throws b.throws && same_stmts a.body b.body))))
+    (same_list same_parameter a.parameters b.parameters && (same_list same_ty a.throws b.throws && same_stmts a.body
+    b.body))))

@@ -190,7 +190,8 @@ abbrev mutual
   stmt_onto (Block ss) rest = sign (codes "{") ∷ stmts_onto ss (sign (codes "}") ∷ rest)
   stmt_onto (Local l) rest = locals_onto l (sign (codes ";") ∷ rest)
   stmt_onto (Run e) rest = expr_onto e (sign (codes ";") ∷ rest)
-  stmt_onto (If e s) rest = keyword (codes "if") ∷ sign (codes "(") ∷ expr_onto e (sign (codes ")") ∷ stmt_onto s rest)
+  stmt_onto (If e s) rest = keyword (codes "if") ∷ sign (codes "(") ∷ expr_onto e (sign (codes ")")
+      ∷ stmt_onto s rest)
   stmt_onto (IfElse e s t) rest =
       keyword (codes "if") ∷ sign (codes "(") ∷ expr_onto e (sign (codes ")") ∷ stmt_onto s (keyword (codes "else")
       ∷ stmt_onto t rest))

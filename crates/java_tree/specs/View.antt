@@ -16,7 +16,11 @@ use Rattle.java_tree.specs.declared.expressions.Initialiser.{Initialiser}
 use Rattle.java_tree.specs.declared.expressions.ArrayTree.{ArrayTree}
 use Rattle.java_tree.specs.declared.expressions.Expression.TheOpen.{Expression-F, Initialiser-F, ArrayTree-F}
 use Rattle.java_tree.specs.declared.expressions.Expression.TheOpen as expression
-use Rattle.java_tree.specs.declared.expressions.Expression.TheFolds.{fold-Expression, fold-Initialiser, fold-ArrayTree}
+use Rattle.java_tree.specs.declared.expressions.Expression.TheFolds.{
+  fold-Expression,
+  fold-Initialiser,
+  fold-ArrayTree,
+}
 use Rattle.java_tree.specs.declared.statements.VariableTree.{VariableTree}
 use Rattle.java_tree.specs.declared.statements.LocalsTree.{LocalsTree}
 use Rattle.java_tree.specs.declared.statements.StartTree.{StartTree}
@@ -76,13 +80,15 @@ abbrev pub base_of : BaseType → Base
 base_of = fold-BaseType Base Argument Arguments Part Ty base_step argument_step arguments_step part_step ty_step
 
 abbrev pub angled_of : TypeArguments → Arguments
-angled_of = fold-TypeArguments Base Argument Arguments Part Ty base_step argument_step arguments_step part_step ty_step
+angled_of = fold-TypeArguments Base Argument Arguments Part Ty base_step argument_step arguments_step part_step
+    ty_step
 
 abbrev pub part_of : TypePart → Part
 part_of = fold-TypePart Base Argument Arguments Part Ty base_step argument_step arguments_step part_step ty_step
 
 abbrev pub argument_of : TypeArgument → Argument
-argument_of = fold-TypeArgument Base Argument Arguments Part Ty base_step argument_step arguments_step part_step ty_step
+argument_of = fold-TypeArgument Base Argument Arguments Part Ty base_step argument_step arguments_step part_step
+    ty_step
 
 -- ---- expressions
 

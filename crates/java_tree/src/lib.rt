@@ -21,6 +21,3 @@ pub use spelling::spell;
 pub use statements::{LocalsTree, StartTree, Statement, VariableTree};
 pub use types::{BaseType, TypeArgument, TypeArguments, TypePart, TypeTree};
 pub use words::{Ident, Spelled};
-
-#[cfg(test)]
-mod tests;

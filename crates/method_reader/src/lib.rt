@@ -5,6 +5,3 @@ pub mod laws;
 mod spellings;
 
 pub use spellings::spell_the_same;
-
-#[cfg(test)]
-mod tests;

@@ -1,7 +1,14 @@
 //! Equality of statements (JLS 14).
 ghost use Rattle.std.specs.Prelude.{◌≡◌, ◌↔◌, IsTrue, map, option_map};
 ghost use Rattle.java_tree.specs.Trees.{pack_stmts};
-ghost use Rattle.java_tree.specs.Sameness.{same_option, same_variable, same_locals, same_start, same_stmt, same_stmts};
+ghost use Rattle.java_tree.specs.Sameness.{
+  same_option,
+  same_variable,
+  same_locals,
+  same_start,
+  same_stmt,
+  same_stmts,
+};
 ghost use Rattle.java_tree.specs.SameMethods.{variable_is, variable_refl, locals_is, locals_refl, start_is};
 ghost use Rattle.java_tree.specs.SameMethods.{start_refl, stmt_is, stmt_refl};
 ghost use Rattle.java_tree.specs.SameLaws.{partial_equivalence};

@@ -75,8 +75,8 @@ pub fn nesting_of_statements()
     ensures if_else { (stmt_nesting (IfElse (Paren a) Empty Empty) ≡ 3) × (stmt_nesting (IfElse a one_deep Empty) ≡ 3)
         × (stmt_nesting (IfElse a Empty one_deep) ≡ 3) }
     ensures while_loop { (stmt_nesting (While (Paren a) Empty) ≡ 3) × (stmt_nesting (While a one_deep) ≡ 3) }
-    ensures for_initials { stmt_nesting (For (Declares (locals false (ints 0) (variable (codes "v") (Some (Value (Paren a))) ∷ [])))
-        None no_expr Empty) ≡ 3 }
+    ensures for_initials { stmt_nesting (For (Declares (locals false (ints 0)
+        (variable (codes "v") (Some (Value (Paren a))) ∷ []))) None no_expr Empty) ≡ 3 }
     ensures for_loop { (stmt_nesting (For (Runs (expr_then f_call (expr_then a_up no_expr))) None no_expr Empty) ≡ 3)
         × (stmt_nesting (For (Runs no_expr) (Some (Paren a)) no_expr Empty) ≡ 3)
         × (stmt_nesting (For (Runs no_expr) None (expr_then f_call (expr_then a_up no_expr)) Empty) ≡ 3)

@@ -28,7 +28,8 @@ pub fn formed_types()
         × FormedTy (Typed (Plain (codes "double")) 0) × (¬ FormedTy (Typed (Plain (codes "this")) 0)) }
     ensures bounds { (¬ FormedTy (a_of (argument_then (Extends no_type) no_argument)))
         × (¬ FormedTy (a_of (argument_then Any (argument_then (Super no_type) no_argument)))) }
-    ensures inner { FormedTy (Typed (Named (part_then (Generic (codes "A") (Angled (argument_then Any no_argument) false))
+    ensures inner { FormedTy (Typed (Named (part_then
+        (Generic (codes "A") (Angled (argument_then Any no_argument) false))
         (part_then (Bare (codes "B")) no_part))) 0)
         × (¬ FormedTy (Typed (Named (part_then (Generic (codes "A") (Angled no_argument false))
         (part_then (Bare (codes "B")) no_part))) 0))

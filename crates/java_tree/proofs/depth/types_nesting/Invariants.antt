@@ -5,4 +5,5 @@ use Rattle.java_tree.proofs.depth.types_nesting.Given as goal
 
 abbrev pub invariant-loop-kind : goal.invariant-loop-kind
 invariant-loop-kind l =
-    max (most_over ty_nesting (map ty_of (drop l.kind-index l.kinds))) l.most ≡ most_over ty_nesting (map ty_of l.kinds)
+    max (most_over ty_nesting (map ty_of (drop l.kind-index l.kinds))) l.most ≡ most_over ty_nesting
+    (map ty_of l.kinds)
