@@ -1,6 +1,6 @@
 -- How clauses name the records that the search for warnings goes over.
 use Rattle.std.specs.Prelude.{List, map}
-use Rattle.race_pairs.specs.declared.pairing.PlacedAccess.{PlacedAccess}
+use Rattle.race_pairs.specs.declared.placed.PlacedAccess.{PlacedAccess}
 use Rattle.race_pairs.specs.Warnings.{Placed}
 
 abbrev pub placed_of : PlacedAccess → Placed

@@ -6,6 +6,8 @@
 
 pub mod laws;
 mod pairing;
+mod partners;
+mod placed;
 #[cfg(test)]
 mod tests;
 mod warning;

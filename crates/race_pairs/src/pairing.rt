@@ -1,63 +1,34 @@
 //! The list of warnings of a program.
 ghost use Rattle.std.specs.Prelude.{◌≡◌, ◌++◌, ◌^◌, ◌≤◌, IfOk, OnOk, MatchResult, option_map};
-ghost use Rattle.std.specs.List.{find};
 ghost use Rattle.std.specs.Arc.{arc_value};
 ghost use Rattle.core_code.specs.Core.{method_of};
 ghost use Rattle.core_code.specs.Program.{core};
 ghost use Rattle.access_domain.specs.Outcomes.{AreSums};
-ghost use Rattle.race_pairs.specs.Warnings.{conflicts, records_held, placed_in, is_entry_of, records_in, warnings_among, warnings};
+ghost use Rattle.race_pairs.specs.Warnings.{records_held, placed_in, is_entry_of, records_in, warnings_among, warnings};
 ghost use Rattle.race_pairs.specs.Placing.{placed_of, all_placed};
 
 use crate::Warning;
+use crate::partners::{firsts_of, partner_of};
+use crate::placed::PlacedAccess;
 use access_domain::{Access, Outcome, Outcomes};
-use access_paths::Root;
 use core_code::{MethodCore, Program};
-use racer_base::{ClassId, Memory, MethodId, Touch};
+use racer_base::{ClassId, Memory, MethodId};
 use std::alloc::Global;
 use std::sync::Arc;
 
-/// A record with its method and its index among the method's records.
-#[derive(Clone, Copy)]
-struct PlacedAccess<'a> {
-    method: MethodId,
-    index: u32,
-    access: &'a Access,
-}
-
-/// Whether two threads that make these accesses may meet in them.
-fn conflicts(a: &Access, b: &Access) -> bool
-    ensures { result ≡ conflicts a.now b.now }
-{
-    a.path == b.path
-        && !matches!(a.path.root, Root::Formal(_))
-        && (a.kind == Touch::Write || b.kind == Touch::Write)
-        && !(a.locked && b.locked)
-        && !(a.main && b.main)
-}
-
-/// The first of these records that conflicts with this one.
-fn first_partner<'a>(first: &Access, records: &[PlacedAccess<'a>]) -> Option<PlacedAccess<'a>>
-    ensures { option_map placed_of result
-        ≡ find (λ partner. conflicts first.now partner.access) (all_placed records.now) }
-{
-    for partner in records {
-        if conflicts(first, partner.access) {
-            return Some(*partner);
-        }
-    }
-    None
-}
-
 /// Puts the warnings of a class behind those that there are; these are the records of its entries.
 fn push_warnings(
+    alloc: Global,
     found: &mut Vec<Warning>,
     class: ClassId,
     records: &[PlacedAccess],
 ) -> Result<(), Memory>
     ensures { OnOk result (found.new.items ≡ found.old.items ++ warnings_among class (all_placed records.now)) }
 {
+    let firsts = firsts_of(alloc, records)?;
     for first in records {
-        if let Some(partner) = first_partner(first.access, records) {
+        let partner = partner_of(alloc, first.access, &firsts)?;
+        if let Some(partner) = partner {
             found.push(Warning {
                 class,
                 entry: first.method,
@@ -152,7 +123,7 @@ pub fn warnings(
         if class.checked {
             let id = ClassId(in_32_bits(number)?);
             let records = records_in(alloc, program, outcomes, id)?;
-            push_warnings(&mut found, id, records.as_slice())?;
+            push_warnings(alloc, &mut found, id, records.as_slice())?;
         }
     }
     Ok(found)

@@ -7,7 +7,7 @@ use Rattle.racer_base.specs.declared.ids.MethodId.{MethodId}
 use Rattle.core_code.specs.Core.{Method, method_of}
 use Rattle.core_code.specs.Program.{core}
 use Rattle.core_code.specs.declared.parts.MethodCore.{MethodCore}
-use Rattle.race_pairs.specs.declared.pairing.PlacedAccess.{PlacedAccess}
+use Rattle.race_pairs.specs.declared.placed.PlacedAccess.{PlacedAccess}
 use Rattle.race_pairs.specs.Warnings.{Placed, placed_in, entry_records}
 use Rattle.race_pairs.specs.Placing.{all_placed}
 use Rattle.race_pairs.proofs.Turns.{rest_of, flat_map_turn}
