@@ -1,5 +1,6 @@
 -- The first of each key has the same first partner as all.
-use Rattle.std.proofs.Common.{◌≡◌, Bool, true, false, cond, ◌&&◌, ◌||◌, not, List, [], ◌∷◌, ◌++◌, Option, None, Some, refl, sym, ap, ◌∙◌}
+use Rattle.std.proofs.Common.{◌≡◌, Bool, true, false, cond, ◌&&◌, ◌||◌, not, List, [], ◌∷◌, ◌++◌, Option, None, Some}
+use Rattle.std.proofs.Common.{refl, sym, ap, ◌∙◌}
 use Rattle.std.specs.Option.{option_or}
 use Rattle.std.specs.Bool.{nat_eq}
 use Rattle.std.specs.List.{find, list_any}
@@ -10,7 +11,7 @@ use Rattle.access_paths.specs.Order.{path_key}
 use Rattle.access_paths.specs.Same.{equal_of_same, same_path-key, same_path-laws}
 use Rattle.access_domain.specs.declared.access.Access.{Access}
 use Rattle.access_domain.specs.Records.{same_key, same_flag, same_touch, is_write}
-use Rattle.race_pairs.specs.Warnings.{Placed, conflicts}
+use Rattle.race_pairs.specs.Warnings.{MethodRecord, conflicts}
 use Rattle.race_pairs.specs.Firsts.{Groups, group_at, with_first, AddsFirst, partner_in, FindsPartners}
 use Rattle.race_pairs.proofs.WarningPairs.{both_pass}
 
@@ -33,7 +34,8 @@ seen_by_key a b c same =
     let kinds = same_flag-equal (is_write b.kind) (is_write c.kind) one.1 in
     let locks = same_flag-equal b.locked c.locked two.1 in
     let mains = same_flag-equal b.main c.main three.1 in
-    (λ i. same_path a.path (paths i) && not (is_formal a.path.root) && (is_write a.kind || kinds i) && not (a.locked && locks i) && not (a.main && mains i))
+    (λ i. same_path a.path (paths i) && not (is_formal a.path.root)
+    && (is_write a.kind || kinds i) && not (a.locked && locks i) && not (a.main && mains i))
 
 and_false : (b : Bool) → (b && false) ≡ false
 and_false true = refl
@@ -44,51 +46,79 @@ option_or-none None = refl
 option_or-none (Some x) = refl
 
 -- where one passes, what is found is no other for what stands behind
-found_already : {X : Type 0} (kept test : X → Bool) (xs : List X) (o : Option X) → ((x : X) → kept x ≡ true → test x ≡ true) → list_any kept xs ≡ true → option_or (find test xs) o ≡ find test xs
+found_already : {X : Type 0} (kept test : X → Bool) (xs : List X) (o : Option X) →
+    ((x : X) → kept x ≡ true → test x ≡ true) → list_any kept xs ≡ true →
+    option_or (find test xs) o ≡ find test xs
 found_already kept test [] o passes any = cc
 found_already {X} kept test (x ∷ xs) o passes any =
-    elim (test x) as (λ b. test x ≡ b → option_or (cond b (Some x) (find test xs)) o ≡ cond b (Some x) (find test xs)) [
+    let later : Option X = find test xs in
+    elim (test x) as (λ b. test x ≡ b → option_or (cond b (Some x) later) o ≡ cond b (Some x) later) [
       | true ↦ λ e. refl
       | false ↦ λ e.
-          elim (kept x) as (λ k. kept x ≡ k → (k || list_any kept xs) ≡ true → option_or (find test xs) o ≡ find test xs) [
+          elim (kept x) as (λ k. kept x ≡ k → (k || list_any kept xs) ≡ true → option_or later o ≡ later) [
             | true ↦ λ f g. let wrong : false ≡ true = sym e ∙ passes x f in cc
             | false ↦ λ f g. found_already kept test xs o passes g
           ] refl any
     ] refl
 
+-- what a record and one more behind others give
+one_more : (first : Access) (records : List MethodRecord) (added : MethodRecord) (o : Option MethodRecord) →
+    o ≡ partner_in first records →
+    partner_in first (records ++ added ∷ []) ≡ option_or o (partner_in first (added ∷ []))
+one_more first records added o same =
+    find-append (λ (partner : MethodRecord). conflicts first partner.access) records (added ∷ [])
+    ∙ ap (λ p. option_or p (partner_in first (added ∷ []))) (sym same)
+
 -- a record that goes to the group
-grown : (first : Access) (group records : List Placed) (placed : Placed) → partner_in first group ≡ partner_in first records → partner_in first (with_first group placed) ≡ partner_in first (records ++ placed ∷ [])
-grown first group records placed same =
-    let test : Placed → Bool = λ partner. conflicts first partner.access in
-    let kept : Placed → Bool = λ other. same_key other.access placed.access in
-    let last : Option Placed = find test (placed ∷ []) in
-    let all : find test (records ++ placed ∷ []) ≡ option_or (find test group) last = find-append test records (placed ∷ []) ∙ ap (λ o. option_or o last) (sym same) in
-    elim (list_any kept group) as (λ b. list_any kept group ≡ b → find test (cond b group (group ++ placed ∷ [])) ≡ find test (records ++ placed ∷ [])) [
-      | false ↦ λ e. find-append test group (placed ∷ []) ∙ sym all
+grown : (first : Access) (group records : List MethodRecord) (added : MethodRecord) →
+    partner_in first group ≡ partner_in first records →
+    partner_in first (with_first group added) ≡ partner_in first (records ++ added ∷ [])
+grown first group records added same =
+    let test : MethodRecord → Bool = λ partner. conflicts first partner.access in
+    let kept : MethodRecord → Bool = λ other. same_key other.access added.access in
+    let here = partner_in first group in
+    let all = one_more first records added here same in
+    let passes : test added ≡ true → (other : MethodRecord) → kept other ≡ true → test other ≡ true =
+    λ t other k. seen_by_key first other.access added.access k ∙ t
+    in
+    elim (list_any kept group)
+    as (λ b. list_any kept group ≡ b →
+    partner_in first (cond b group (group ++ added ∷ [])) ≡ partner_in first (records ++ added ∷ [])) [
+      | false ↦ λ e. one_more first group added here refl ∙ sym all
       | true ↦ λ e.
-          elim (test placed) as (λ b. test placed ≡ b → find test group ≡ option_or (find test group) (cond b (Some placed) None)) [
-            | true ↦ λ t. sym (found_already kept test group (Some placed) (λ other k. seen_by_key first other.access placed.access k ∙ t) e)
-            | false ↦ λ t. sym (option_or-none (find test group))
+          elim (test added) as (λ b. test added ≡ b → here ≡ option_or here (cond b (Some added) None)) [
+            | true ↦ λ t. sym (found_already kept test group (Some added) (passes t) e)
+            | false ↦ λ t. sym (option_or-none here)
           ] refl ∙ sym all
     ] refl
 
 -- a record of another path is no partner
-left : (first : Access) (group records : List Placed) (placed : Placed) → same_path first.path placed.access.path ≡ false → partner_in first group ≡ partner_in first records → partner_in first group ≡ partner_in first (records ++ placed ∷ [])
-left first group records placed other same =
-    let test : Placed → Bool = λ partner. conflicts first partner.access in
-    let none : find test (placed ∷ []) ≡ None = ap (λ b. cond (b && not (is_formal first.path.root) && (is_write first.kind || is_write placed.access.kind) && not (first.locked && placed.access.locked) && not (first.main && placed.access.main)) (Some placed) None) other in
-    same ∙ sym (option_or-none (find test records)) ∙ ap (option_or (find test records)) (sym none) ∙ sym (find-append test records (placed ∷ []))
-
-pub adds_a_first : (old new : Groups) (records : List Placed) (placed : Placed) → AddsFirst old new placed → FindsPartners old records → FindsPartners new (records ++ placed ∷ [])
-adds_a_first old new records placed adds finds first key is =
-    let here = path_key placed.access.path in
-    let had : List Placed = group_at old key.items in
-    let same = finds first key is in
-    let paths : pointwise nat_eq here key.items ≡ same_path first.path placed.access.path =
-    ap (pointwise nat_eq here) is ∙ sym (same_path-key placed.access.path first.path) ∙ same_path-laws.symm placed.access.path first.path
+left : (first : Access) (group records : List MethodRecord) (added : MethodRecord) →
+    same_path first.path added.access.path ≡ false → partner_in first group ≡ partner_in first records →
+    partner_in first group ≡ partner_in first (records ++ added ∷ [])
+left first group records added other same =
+    let given : Bool → Bool = λ b. b && not (is_formal first.path.root)
+    && (is_write first.kind || is_write added.access.kind) && not (first.locked && added.access.locked)
+    && not (first.main && added.access.main)
     in
-    elim (pointwise nat_eq here key.items)
-    as (λ b. pointwise nat_eq here key.items ≡ b → group_at new key.items ≡ cond b (with_first had placed) had → partner_in first (group_at new key.items) ≡ partner_in first (records ++ placed ∷ [])) [
-      | true ↦ λ e now. ap (partner_in first) now ∙ grown first had records placed same
-      | false ↦ λ e now. ap (partner_in first) now ∙ left first had records placed (sym paths ∙ e) same
+    let here = partner_in first group in
+    let none : partner_in first (added ∷ []) ≡ None = ap (λ b. cond (given b) (Some added) None) other in
+    sym (option_or-none here) ∙ ap (option_or here) (sym none) ∙ sym (one_more first records added here same)
+
+pub adds_a_first : (old new : Groups) (records : List MethodRecord) (added : MethodRecord) →
+    AddsFirst old new added → FindsPartners old records → FindsPartners new (records ++ added ∷ [])
+adds_a_first old new records added adds finds first key is =
+    let path = added.access.path in
+    let had : List MethodRecord = group_at old key.items in
+    let same = finds first key is in
+    let paths : pointwise nat_eq (path_key path) key.items ≡ same_path first.path path =
+    ap (pointwise nat_eq (path_key path)) is
+    ∙ sym (same_path-key path first.path) ∙ same_path-laws.symm path first.path
+    in
+    elim (pointwise nat_eq (path_key path) key.items)
+    as (λ b. pointwise nat_eq (path_key path) key.items ≡ b →
+    group_at new key.items ≡ cond b (with_first had added) had →
+    partner_in first (group_at new key.items) ≡ partner_in first (records ++ added ∷ [])) [
+      | true ↦ λ e now. ap (partner_in first) now ∙ grown first had records added same
+      | false ↦ λ e now. ap (partner_in first) now ∙ left first had records added (sym paths ∙ e) same
     ] refl (adds key)

@@ -1,5 +1,5 @@
 -- No public contract rests on this: how the search for partners keeps records, the first of each key by their paths.
-use Rattle.std.specs.Prelude.{◌≡◌, ℕ, nat_eq, List, [], ◌∷◌, ◌++◌, Option, Vec, if◌then◌else◌}
+use Rattle.std.specs.Prelude.{◌≡◌, ℕ, Bool, nat_eq, List, [], ◌∷◌, ◌++◌, Option, Vec, if◌then◌else◌}
 use Rattle.std.specs.Option.{option_map_or}
 use Rattle.std.specs.Global.{Global}
 use Rattle.std.specs.List.{find, list_any}
@@ -9,33 +9,43 @@ use Rattle.std.specs.BTreeMap.{BTreeMap, get_by}
 use Rattle.access_domain.specs.declared.access.Access.{Access}
 use Rattle.access_domain.specs.Records.{same_key}
 use Rattle.access_paths.specs.Order.{path_key}
-use Rattle.race_pairs.specs.declared.placed.PlacedAccess.{PlacedAccess}
-use Rattle.race_pairs.specs.Warnings.{Placed, conflicts}
-use Rattle.race_pairs.specs.Placing.{all_placed}
+use Rattle.race_pairs.specs.declared.method_access.MethodAccess.{MethodAccess}
+use Rattle.race_pairs.specs.Warnings.{MethodRecord, conflicts}
+use Rattle.race_pairs.specs.MethodRecords.{all_records}
 
 -- a map from the numbers of a path to records
 abbrev pub Groups : Type 0
-Groups = BTreeMap (Vec ℕ Global) (Vec PlacedAccess Global)
+Groups = BTreeMap (Vec ℕ Global) (Vec MethodAccess Global)
+
+abbrev pub kept_at : Groups → List ℕ → Option (Vec MethodAccess Global)
+kept_at groups numbers = get_by (λ key. slice_cmp nat_cmp numbers key.items) groups
 
 -- the records kept at these numbers
-abbrev pub group_at : Groups → List ℕ → List Placed
-group_at groups numbers = option_map_or (λ group. all_placed group.items) (get_by (λ key. slice_cmp nat_cmp numbers key.items) groups) []
+abbrev pub group_at : Groups → List ℕ → List MethodRecord
+group_at groups numbers = option_map_or (λ group. all_records group.items) (kept_at groups numbers) []
+
+-- whether one of the records has the key of this one
+abbrev pub has_key : List MethodRecord → Access → Bool
+has_key group access = list_any (λ first. same_key first.access access) group
 
 -- the records, and this one at the end unless there is one of its key
-abbrev pub with_first : List Placed → Placed → List Placed
-with_first group placed = if list_any (λ first. same_key first.access placed.access) group then group else group ++ placed ∷ []
+abbrev pub with_first : List MethodRecord → MethodRecord → List MethodRecord
+with_first group added = if has_key group added.access then group else group ++ added ∷ []
 
 -- the record went to the group of its path
-abbrev pub AddsFirst : Groups → Groups → Placed → Type 0
-AddsFirst old new placed =
-    (key : Vec ℕ Global) → group_at new key.items ≡ (
-    if pointwise nat_eq (path_key placed.access.path) key.items then with_first (group_at old key.items) placed else group_at old key.items)
+abbrev pub AddsFirst : Groups → Groups → MethodRecord → Type 0
+AddsFirst old new added =
+    (key : Vec ℕ Global) →
+    let had : List MethodRecord = group_at old key.items in
+    let is_there : Bool = pointwise nat_eq (path_key added.access.path) key.items in
+    group_at new key.items ≡ (if is_there then with_first had added else had)
 
 -- the first of these records that conflicts with this one
-abbrev pub partner_in : Access → List Placed → Option Placed
+abbrev pub partner_in : Access → List MethodRecord → Option MethodRecord
 partner_in first records = find (λ partner. conflicts first partner.access) records
 
 -- in the group of its path each record finds the same partner as among these
-abbrev pub FindsPartners : Groups → List Placed → Type 0
+abbrev pub FindsPartners : Groups → List MethodRecord → Type 0
 FindsPartners groups records =
-    (first : Access) (key : Vec ℕ Global) → key.items ≡ path_key first.path → partner_in first (group_at groups key.items) ≡ partner_in first records
+    (first : Access) (key : Vec ℕ Global) → key.items ≡ path_key first.path →
+    partner_in first (group_at groups key.items) ≡ partner_in first records

@@ -5,11 +5,9 @@
 #![tactic(auto)]
 
 pub mod laws;
+mod method_access;
 mod pairing;
 mod partners;
-mod placed;
-#[cfg(test)]
-mod tests;
 mod warning;
 
 pub use pairing::warnings;

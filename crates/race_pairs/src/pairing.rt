@@ -4,12 +4,13 @@ ghost use Rattle.std.specs.Arc.{arc_value};
 ghost use Rattle.core_code.specs.Core.{method_of};
 ghost use Rattle.core_code.specs.Program.{core};
 ghost use Rattle.access_domain.specs.Outcomes.{AreSums};
-ghost use Rattle.race_pairs.specs.Warnings.{records_held, placed_in, is_entry_of, records_in, warnings_among, warnings};
-ghost use Rattle.race_pairs.specs.Placing.{placed_of, all_placed};
+ghost use Rattle.race_pairs.specs.Warnings.{records_held, numbered_records, is_entry_of, records_in};
+ghost use Rattle.race_pairs.specs.Warnings.{warnings_among, warnings};
+ghost use Rattle.race_pairs.specs.MethodRecords.{record_of, all_records};
 
 use crate::Warning;
+use crate::method_access::MethodAccess;
 use crate::partners::{firsts_of, partner_of};
-use crate::placed::PlacedAccess;
 use access_domain::{Access, Outcome, Outcomes};
 use core_code::{MethodCore, Program};
 use racer_base::{ClassId, Memory, MethodId};
@@ -21,9 +22,9 @@ fn push_warnings(
     alloc: Global,
     found: &mut Vec<Warning>,
     class: ClassId,
-    records: &[PlacedAccess],
+    records: &[MethodAccess],
 ) -> Result<(), Memory>
-    ensures { OnOk result (found.new.items ≡ found.old.items ++ warnings_among class (all_placed records.now)) }
+    ensures { OnOk result (found.new.items ≡ found.old.items ++ warnings_among class (all_records records.now)) }
 {
     let firsts = firsts_of(alloc, records)?;
     for first in records {
@@ -54,7 +55,7 @@ fn records_held(outcome: &Option<Arc<Outcome>>) -> &[Access]
     }
 }
 
-/// The same number, where it has a place in what warnings are made of.
+/// The same number, where it is one that warnings can hold.
 fn in_32_bits(n: usize) -> Result<u32, Memory>
     ensures { MatchResult result (λ number. number ≡ n) (λ _. 2 ^ 32 ≤ n) }
 {
@@ -70,15 +71,16 @@ fn is_entry_of(class: ClassId, method: &MethodCore) -> bool
 
 /// Puts the records of a method behind those that there are.
 fn push_records<'a>(
-    records: &mut Vec<PlacedAccess<'a>>,
+    records: &mut Vec<MethodAccess<'a>>,
     method: MethodId,
     accesses: &'a [Access],
 ) -> Result<(), Memory>
-    ensures { OnOk result (all_placed records.new.items ≡ all_placed records.old.items ++ placed_in method accesses.now) }
+    ensures { OnOk result (
+        all_records records.new.items ≡ all_records records.old.items ++ numbered_records method accesses.now) }
 {
     for (index, access) in accesses.iter().enumerate() {
         let index = in_32_bits(index)?;
-        records.push(PlacedAccess {
+        records.push(MethodAccess {
             method,
             index,
             access,
@@ -93,9 +95,9 @@ fn records_in<'a>(
     program: &Program,
     outcomes: &'a Outcomes,
     class: ClassId,
-) -> Result<Vec<PlacedAccess<'a>>, Memory>
+) -> Result<Vec<MethodAccess<'a>>, Memory>
     requires { AreSums (core program.now) outcomes.now.items }
-    ensures { IfOk result (λ records. all_placed records.items ≡ records_in (core program.now) class) }
+    ensures { IfOk result (λ records. all_records records.items ≡ records_in (core program.now) class) }
 {
     let mut records = Vec::new(alloc);
     for (number, method) in program.methods().iter().enumerate() {

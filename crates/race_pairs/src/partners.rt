@@ -4,14 +4,12 @@
 //! first record of each kind and flags: at most eight, in order. Groups are found by the numbers of their path, in an
 //! ordered map: the time is near linear on every input.
 ghost use Rattle.std.specs.Prelude.{◌≡◌, List, IfOk, OnOk, option_map};
-ghost use Rattle.std.specs.List.{list_any};
-ghost use Rattle.access_domain.specs.Records.{same_key};
 ghost use Rattle.access_paths.specs.Order.{root_key, path_key};
-ghost use Rattle.race_pairs.specs.Warnings.{Placed, conflicts};
-ghost use Rattle.race_pairs.specs.Placing.{placed_of, all_placed};
-ghost use Rattle.race_pairs.specs.Firsts.{with_first, AddsFirst, FindsPartners, partner_in};
+ghost use Rattle.race_pairs.specs.Warnings.{MethodRecord, conflicts};
+ghost use Rattle.race_pairs.specs.MethodRecords.{record_of, all_records};
+ghost use Rattle.race_pairs.specs.Firsts.{has_key, with_first, AddsFirst, FindsPartners, partner_in};
 
-use crate::placed::PlacedAccess;
+use crate::method_access::MethodAccess;
 use access_domain::Access;
 use access_paths::{Path, Root};
 use racer_base::{Memory, Touch};
@@ -19,7 +17,7 @@ use std::alloc::Global;
 use std::collections::BTreeMap;
 
 /// By the numbers of a path, the first record of each kind and flags there.
-pub type Firsts<'a> = BTreeMap<Vec<u32>, Vec<PlacedAccess<'a>>>;
+pub type Firsts<'a> = BTreeMap<Vec<u32>, Vec<MethodAccess<'a>>>;
 
 /// Whether two threads that make these accesses may meet in them.
 fn conflicts(a: &Access, b: &Access) -> bool
@@ -56,8 +54,8 @@ fn path_key(alloc: Global, path: &Path) -> Result<Vec<u32>, Memory>
 }
 
 /// Whether one of these records has the path, kind and flags of this one.
-fn has_key(group: &[PlacedAccess], access: &Access) -> bool
-    ensures { result ≡ list_any (λ first. same_key first.access access.now) (all_placed group.now) }
+fn has_key(group: &[MethodAccess], access: &Access) -> bool
+    ensures { result ≡ has_key (all_records group.now) access.now }
 {
     for first in group {
         if first.access.has_key_of(access) {
@@ -68,11 +66,12 @@ fn has_key(group: &[PlacedAccess], access: &Access) -> bool
 }
 
 /// Puts a record behind those of its path, unless there is one of its kind and flags.
-fn add_first<'a>(group: &mut Vec<PlacedAccess<'a>>, placed: PlacedAccess<'a>) -> Result<(), Memory>
-    ensures { OnOk result (all_placed group.new.items ≡ with_first (all_placed group.old.items) (placed_of placed.entry)) }
+fn add_first<'a>(group: &mut Vec<MethodAccess<'a>>, added: MethodAccess<'a>) -> Result<(), Memory>
+    ensures { OnOk result (
+        all_records group.new.items ≡ with_first (all_records group.old.items) (record_of added.entry)) }
 {
-    if !has_key(group.as_slice(), placed.access) {
-        group.push(placed)?;
+    if !has_key(group.as_slice(), added.access) {
+        group.push(added)?;
     }
     Ok(())
 }
@@ -81,33 +80,33 @@ fn add_first<'a>(group: &mut Vec<PlacedAccess<'a>>, placed: PlacedAccess<'a>) ->
 fn add_record<'a>(
     alloc: Global,
     firsts: &mut Firsts<'a>,
-    placed: PlacedAccess<'a>,
+    added: MethodAccess<'a>,
 ) -> Result<(), Memory>
-    ensures { OnOk result (AddsFirst firsts.old firsts.new (placed_of placed.entry)) }
+    ensures { OnOk result (AddsFirst firsts.old firsts.new (record_of added.entry)) }
 {
-    let key = path_key(alloc, &placed.access.path)?;
+    let key = path_key(alloc, &added.access.path)?;
     if let Some(group) = firsts.get_mut(&key) {
-        return add_first(group, placed);
+        return add_first(group, added);
     }
-    let group = vec![in alloc; placed]?;
+    let group = vec![in alloc; added]?;
     firsts.insert(key, group)?;
     Ok(())
 }
 
 /// The groups of these records.
-pub fn firsts_of<'a>(alloc: Global, records: &[PlacedAccess<'a>]) -> Result<Firsts<'a>, Memory>
-    ensures { IfOk result (λ firsts. FindsPartners firsts (all_placed records.now)) }
+pub fn firsts_of<'a>(alloc: Global, records: &[MethodAccess<'a>]) -> Result<Firsts<'a>, Memory>
+    ensures { IfOk result (λ firsts. FindsPartners firsts (all_records records.now)) }
 {
     let mut firsts = BTreeMap::new(alloc);
-    for placed in records {
-        add_record(alloc, &mut firsts, *placed)?;
+    for added in records {
+        add_record(alloc, &mut firsts, *added)?;
     }
     Ok(firsts)
 }
 
 /// The first of these records that conflicts with this one.
-fn first_partner<'a>(first: &Access, records: &[PlacedAccess<'a>]) -> Option<PlacedAccess<'a>>
-    ensures { option_map placed_of result ≡ partner_in first.now (all_placed records.now) }
+fn first_partner<'a>(first: &Access, records: &[MethodAccess<'a>]) -> Option<MethodAccess<'a>>
+    ensures { option_map record_of result ≡ partner_in first.now (all_records records.now) }
 {
     for partner in records {
         if conflicts(first, partner.access) {
@@ -122,9 +121,9 @@ pub fn partner_of<'a>(
     alloc: Global,
     first: &Access,
     firsts: &Firsts<'a>,
-) -> Result<Option<PlacedAccess<'a>>, Memory>
-    ensures { IfOk result (λ partner.
-        (records : List Placed) → FindsPartners firsts.now records → option_map placed_of partner ≡ partner_in first.now records) }
+) -> Result<Option<MethodAccess<'a>>, Memory>
+    ensures { IfOk result (λ partner. (records : List MethodRecord) → FindsPartners firsts.now records →
+        option_map record_of partner ≡ partner_in first.now records) }
 {
     let key = path_key(alloc, &first.path)?;
     match firsts.get(&key) {

@@ -1,16 +1,25 @@
-use Rattle.std.proofs.Common.{◌≡◌, ◌+◌, [], ◌∷◌, ◌++◌, take, sym, ap, subst, ◌∙◌, arith}
+use Rattle.std.proofs.Common.{◌≡◌, ◌+◌, List, [], ◌∷◌, ◌++◌, take, sym, ap, subst, ◌∙◌, arith}
 use Rattle.std.proofs.lemmas.List.{map-append, take_more}
-use Rattle.race_pairs.specs.declared.placed.PlacedAccess.{PlacedAccess}
-use Rattle.race_pairs.specs.Placing.{placed_of, all_placed}
+use Rattle.race_pairs.specs.declared.method_access.MethodAccess.{MethodAccess}
+use Rattle.race_pairs.specs.Warnings.{MethodRecord}
+use Rattle.race_pairs.specs.MethodRecords.{record_of, all_records}
 use Rattle.race_pairs.specs.Firsts.{FindsPartners}
 use Rattle.race_pairs.proofs.SamePartner.{adds_a_first}
 use Rattle.race_pairs.proofs.partners.firsts_of.Goals as goal
 
-pub loop-placed-preserved : goal.loop-placed-preserved
-loop-placed-preserved c =
+pub loop-added-preserved : goal.loop-added-preserved
+loop-added-preserved c =
     let records = c.args.records.now in
-    let index = c.loop-placed.placed-index in
-    let placed : PlacedAccess = c.placed-item.result in
-    let more : take (index + 1) records ≡ take index records ++ placed ∷ [] = take_more records index placed (omega arith) ∙ ap (λ (p : PlacedAccess). take index records ++ p ∷ []) (sym c.placed-item.is) in
-    let seen : all_placed (take (index + 1) records) ≡ all_placed (take index records) ++ placed_of placed ∷ [] = ap all_placed more ∙ map-append placed_of (take index records) (placed ∷ []) in
-    subst (FindsPartners c.add_record.new.firsts) (sym seen) (adds_a_first c.loop-placed.firsts c.add_record.new.firsts (all_placed (take index records)) (placed_of placed) c.in_ok-add_record.ensures c.loop-placed.invariant)
+    let index = c.loop-added.added-index in
+    let new = c.add_record.new.firsts in
+    let added : MethodAccess = c.added-item.result in
+    let before : List MethodRecord = all_records (take index records) in
+    let more : take (index + 1) records ≡ take index records ++ added ∷ [] =
+    take_more records index added (omega arith)
+    ∙ ap (λ (a : MethodAccess). take index records ++ a ∷ []) (sym c.added-item.is)
+    in
+    let seen : all_records (take (index + 1) records) ≡ before ++ record_of added ∷ [] =
+    ap all_records more ∙ map-append record_of (take index records) (added ∷ [])
+    in
+    subst (FindsPartners new) (sym seen)
+    (adds_a_first c.loop-added.firsts new before (record_of added) c.in_ok-add_record.ensures c.loop-added.invariant)
