@@ -1,2 +1,3 @@
 pub mod Different
 pub mod Firsts
+pub mod RecordOrigins

@@ -1,4 +1,4 @@
--- The flow of code, by cases on its tree.
+-- A contract of a public call rests on this: the flow of code, by cases on its tree.
 use Rattle.std.specs.Prelude.{ℕ, zero, suc, ◌+◌, Bool, true, ◌||◌, List, [], ◌++◌, Option, None, Some, length}
 use Rattle.access_paths.specs.declared.path.Path.{Path}
 use Rattle.owner_domain.specs.declared.value.Value.{Value}
@@ -56,13 +56,15 @@ chosen left right =
       large = left.large || right.large;
     }
 
--- the state before a loop's body and the paths that joins have lost, after so many rounds: each joins the state with that at the body's end
+-- the state before a loop's body and the paths that joins have lost, after so many rounds: each joins the state with
+-- that at the body's end
 abbrev pub rounds : (State → Effects) → ℕ → State → State × List Path
 rounds body zero s = (s, [])
 rounds body (suc n) s =
     elim (body s).next [
       | None ↦ rounds body n s
-      | Some end ↦ ((rounds body n (joined_state s end)).0, lost_state s end ++ (rounds body n (joined_state s end)).1)
+      | Some end ↦
+          ((rounds body n (joined_state s end)).0, lost_state s end ++ (rounds body n (joined_state s end)).1)
     ]
 
 -- what the body gives under the last state, and the paths lost in all rounds
@@ -76,7 +78,7 @@ repeated last body =
       large = (body last.0).large;
     }
 
--- as many rounds as there are variables and stack places, and one more
+-- as many rounds as there are variables and slots of the stack, and one more
 abbrev pub looped : (State → Effects) → State → Effects
 looped body s = repeated (rounds body (length s.vars + length s.stack + 1) s) body
 

@@ -1,5 +1,5 @@
--- What a flow needs of the program, and of the methods that are called.
-use Rattle.std.specs.Prelude.{Bool, true, false, [], Option, None, Some, slice_index_or}
+-- A contract of a public call rests on this: what a flow needs of the program, and of the methods that are called.
+use Rattle.std.specs.Prelude.{Bool, true, false, [], None, Some, slice_index_or}
 use Rattle.racer_base.specs.declared.ids.ClassId.{ClassId}
 use Rattle.racer_base.specs.declared.ids.FieldId.{FieldId}
 use Rattle.racer_base.specs.declared.ids.MethodId.{MethodId}
@@ -8,24 +8,21 @@ use Rattle.racer_base.specs.declared.ids.Kind.TheVariants.{Plain, Declared, Othe
 use Rattle.core_code.specs.declared.parts.FieldCore.{FieldCore}
 use Rattle.core_code.specs.Core.{Core}
 use Rattle.core_code.specs.Calls.{method_at}
-use Rattle.access_domain.specs.declared.summary.Outcome.{Outcome}
+use Rattle.access_domain.specs.Findings.{Table}
 
 abbrev pub is_plain : Kind → Bool
 is_plain Plain = true
 is_plain (Declared c) = false
 is_plain Other = false
 
--- what is known of the methods: none of those that are not analysed
-abbrev pub Table : Type 0
-Table = MethodId → Option Outcome
-
--- the fields and the methods of the program, what is known of the methods, and whether the code runs on the main thread
+-- the fields and the methods of the program, what is known of the methods, and whether the code runs on the main
+-- thread
 pub record Given : Type 0 where
   pub class_of : FieldId → ClassId
   pub is_recorded : FieldId → Bool
   pub is_plain_field : FieldId → Bool
   pub is_static : MethodId → Bool
-  pub outcome_of : Table
+  pub known_of : Table
   pub main : Bool
 
 -- stands where a number names no field
@@ -46,6 +43,6 @@ given_of core table main =
       is_recorded = λ f. (field_at core f).recorded;
       is_plain_field = λ f. is_plain (field_at core f).kind;
       is_static = is_static_method core;
-      outcome_of = table;
+      known_of = table;
       main = main;
     }

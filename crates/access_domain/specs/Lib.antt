@@ -1,4 +1,6 @@
+-- A contract of a public call rests on this: the list of files.
 pub mod Records
+pub mod Findings
 pub mod Given
 pub mod Substitution
 pub mod Operations
@@ -6,3 +8,4 @@ pub mod Flow
 pub mod Summaries
 pub mod Rows
 pub mod Outcomes
+pub mod Origins

@@ -1,13 +1,15 @@
--- What one operation does: the variables and the stack after it, its records and its wobbly paths.
-use Rattle.std.specs.Prelude.{ℕ, Bool, true, false, List, [], ◌∷◌, ◌++◌, Option, None, Some, take, drop, reverse, slice_index_or, slice_set, if◌then◌else◌}
-use Rattle.std.specs.FinSet as set
+-- A contract of a public call rests on this: what one operation does, that is the variables and the stack after it, its
+-- records and its wobbly paths.
+use Rattle.std.specs.Prelude.{ℕ, Bool, true, false, List, [], ◌∷◌, ◌++◌, Option, None, Some, take, drop, reverse}
+use Rattle.std.specs.Prelude.{slice_index_or, slice_set, if◌then◌else◌}
 use Rattle.racer_base.specs.declared.ids.FieldId.{FieldId}
 use Rattle.racer_base.specs.declared.ids.MethodId.{MethodId}
 use Rattle.racer_base.specs.declared.ids.SiteId.{SiteId}
 use Rattle.racer_base.specs.declared.ids.Touch.{Touch}
 use Rattle.racer_base.specs.declared.ids.Touch.TheVariants.{Read, Write}
 use Rattle.core_code.specs.declared.code.Op.{Op as CoreOp}
-use Rattle.core_code.specs.declared.code.Op.TheVariants.{Push, PushClass, PushPrim, PushNull, New, Dup, Drop, Get, Put, Set, Prim, Outside, Call, Unread, Ret}
+use Rattle.core_code.specs.declared.code.Op.TheVariants.{Push, PushClass, PushPrim, PushNull, New, Dup, Drop, Get, Put}
+use Rattle.core_code.specs.declared.code.Op.TheVariants.{Set, Prim, Outside, Call, Unread, Ret}
 use Rattle.access_paths.specs.declared.path.Root.TheVariants.{Class}
 use Rattle.access_paths.specs.declared.path.Path.{Path}
 use Rattle.access_paths.specs.Paths.{alone}
@@ -16,13 +18,12 @@ use Rattle.owner_domain.specs.declared.value.Value.TheVariants.{Owned, Named, Un
 use Rattle.owner_domain.specs.declared.value.State.{State}
 use Rattle.owner_domain.specs.Values.{names_of, field_value}
 use Rattle.access_domain.specs.declared.access.Access.{Access}
-use Rattle.access_domain.specs.declared.summary.Summary.{Summary}
-use Rattle.access_domain.specs.declared.summary.Outcome.{Outcome}
-use Rattle.access_domain.specs.declared.summary.Outcome.TheVariants.{Summary as Whole, Large}
+use Rattle.access_domain.specs.Findings.{Findings, Known, Large, Whole}
 use Rattle.access_domain.specs.Given.{Given}
-use Rattle.access_domain.specs.Substitution.{touched, substituted}
+use Rattle.access_domain.specs.Substitution.{touched, actuals_from, substituted}
 
--- what a flow gives: the state at its end or none, its records in order, its wobbly paths, the join of the returned values, and whether it reached a call of a large method
+-- what a flow gives: the state at its end or none, its records in order, its wobbly paths, the join of the returned
+-- values, and whether it reached a call of a large method
 pub record Effects : Type 0 where
   pub next : Option State
   pub records : List Access
@@ -31,11 +32,11 @@ pub record Effects : Type 0 where
   pub large : Bool
 
 -- the stack's top stands first
-abbrev pub place_of : State → ℕ → Value
-place_of s n = slice_index_or s.stack n Unnamed
+abbrev pub slot_of : State → ℕ → Value
+slot_of s n = slice_index_or s.stack n Unnamed
 
 abbrev pub top : State → Value
-top s = place_of s 0
+top s = slot_of s 0
 
 abbrev pub pushed : State → Value → State
 pushed s v = record { vars = s.vars; stack = v ∷ s.stack }
@@ -55,7 +56,10 @@ goes_on s = record { next = Some s; records = []; wobbly = []; result = None; la
 abbrev pub record_of : Given → Touch → Bool → SiteId → Value → FieldId → List Access
 record_of g kind locked site base f =
     if g.is_recorded f
-    then (elim (touched g base f) [ None ↦ [] | Some p ↦ record { path = p; kind = kind; locked = locked; main = g.main; site = site; below = None } ∷ [] ])
+    then (elim (touched g base f) [
+      | None ↦ []
+      | Some p ↦ record { path = p; kind = kind; locked = locked; main = g.main; site = site; below = None } ∷ []
+    ])
     else []
 
 -- what a read of field f of a value gives: nothing is known of a plain value
@@ -71,24 +75,25 @@ abbrev pub unread : State → ℕ → Effects
 unread s n = goes_on (replaced s n Unnamed)
 
 -- the values that a call passes, in order
-abbrev pub actuals_of : State → ℕ → List Value
-actuals_of s n = reverse (take n s.stack)
+abbrev pub passed_from : State → ℕ → List Value
+passed_from s n = reverse (take n s.stack)
 
--- a call that adds this summary, in the caller's values
-abbrev pub summary_effects : Summary → State → ℕ → Effects
-summary_effects called s n =
+-- a call that adds what is found of the callee, in the caller's values
+abbrev pub found_effects : Findings → State → ℕ → Effects
+found_effects found s n =
     record {
-      next = Some (replaced s n called.result);
-      records = called.accesses;
-      wobbly = set.items called.wobbly;
+      next = Some (replaced s n found.result);
+      records = found.records;
+      wobbly = found.wobbly;
       result = None;
       large = false;
     }
 
-abbrev pub call_effects : Given → Bool → SiteId → MethodId → ℕ → State → Option Outcome → Effects
+abbrev pub call_effects : Given → Bool → SiteId → MethodId → ℕ → State → Option Known → Effects
 call_effects g locked site m n s None = unread s n
 call_effects g locked site m n s (Some Large) = record (unread s n) { large = true }
-call_effects g locked site m n s (Some (Whole called)) = summary_effects (substituted g m called (actuals_of s n) locked site) s n
+call_effects g locked site m n s (Some (Whole found)) =
+    found_effects (substituted g (actuals_from (g.is_static m) (passed_from s n)) found locked site) s n
 
 abbrev pub op_effects : Given → Bool → SiteId → CoreOp → State → Effects
 op_effects g locked site (Push v) s = goes_on (pushed s (slice_index_or s.vars v.0 Unnamed))
@@ -98,15 +103,18 @@ op_effects g locked site PushNull s = goes_on (pushed s Owned)
 op_effects g locked site (New c) s = goes_on (pushed s Owned)
 op_effects g locked site Dup s = goes_on (pushed s (top s))
 op_effects g locked site Drop s = goes_on (popped s 1)
-op_effects g locked site (Get f) s = record (goes_on (replaced s 1 (read_value g (top s) f))) { records = record_of g Read locked site (top s) f }
+op_effects g locked site (Get f) s =
+    record (goes_on (replaced s 1 (read_value g (top s) f))) { records = record_of g Read locked site (top s) f }
 op_effects g locked site (Put f) s =
     record (goes_on (replaced s 2 (top s))) {
-      records = record_of g Write locked site (place_of s 1) f;
-      wobbly = stored_paths (place_of s 1) f (top s);
+      records = record_of g Write locked site (slot_of s 1) f;
+      wobbly = stored_paths (slot_of s 1) f (top s);
     }
-op_effects g locked site (Set v) s = record (goes_on (record { vars = slice_set s.vars v.0 (top s); stack = s.stack })) { wobbly = names_of (top s) }
+op_effects g locked site (Set v) s =
+    record (goes_on (record { vars = slice_set s.vars v.0 (top s); stack = s.stack })) { wobbly = names_of (top s) }
 op_effects g locked site (Prim n) s = goes_on (replaced s n Unnamed)
 op_effects g locked site (Outside n) s = goes_on (replaced s n Unnamed)
-op_effects g locked site (Call m n) s = call_effects g locked site m n s (g.outcome_of m)
+op_effects g locked site (Call m n) s = call_effects g locked site m n s (g.known_of m)
 op_effects g locked site (Unread m n) s = unread s n
-op_effects g locked site Ret s = record { next = None; records = []; wobbly = []; result = Some (top s); large = false }
+op_effects g locked site Ret s =
+    record { next = None; records = []; wobbly = []; result = Some (top s); large = false }

@@ -1,4 +1,4 @@
--- Access records: when two have one key, and the first of each.
+-- A contract of a public call rests on this: when two access records have one key, and the first of each.
 use Rattle.std.specs.Prelude.{◌≡◌, ◌≤◌, length, Bool, true, false, ◌&&◌, not, List, [], ◌∷◌, filter}
 use Rattle.racer_base.specs.declared.ids.Touch.{Touch}
 use Rattle.racer_base.specs.declared.ids.Touch.TheVariants.{Read, Write}
@@ -20,7 +20,8 @@ same_touch a b = same_flag (is_write a) (is_write b)
 
 -- whether two records have the same path, kind and flags
 abbrev pub same_key : Access → Access → Bool
-same_key a b = same_path a.path b.path && same_touch a.kind b.kind && same_flag a.locked b.locked && same_flag a.main b.main
+same_key a b =
+    same_path a.path b.path && same_touch a.kind b.kind && same_flag a.locked b.locked && same_flag a.main b.main
 
 -- the first of those that are the same, in order
 abbrev pub firsts : {X : Type 0} → (X → X → Bool) → List X → List X

@@ -1,4 +1,4 @@
--- Small programs, lowered by hand, and what the definitions give for them.
+-- No public contract rests on this: small programs, lowered by hand, on which the definitions are tried.
 use Rattle.std.specs.Prelude.{ℕ, Bool, true, false, List, [], ◌∷◌, None, Some}
 use Rattle.racer_base.specs.declared.ids.ClassId.{ClassId}
 use Rattle.racer_base.specs.declared.ids.FieldId.{FieldId}

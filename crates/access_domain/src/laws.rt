@@ -1,32 +1,43 @@
 //! Laws of the analysis, and its values on small programs.
-ghost use Rattle.std.specs.Prelude.{◌≡◌, ℕ, true, false, [], ◌∷◌, ◌++◌, Some, None, option_map, List};
+ghost use Rattle.std.specs.Prelude.{◌≡◌, ℕ, Bool, true, false, [], ◌∷◌, ◌++◌, Some, option_map, List, Contains};
+ghost use Rattle.std.specs.List.{list_any};
 ghost use Rattle.std.specs.FinSet as set;
+ghost use Rattle.racer_base.specs.declared.ids.MethodId.{MethodId};
 ghost use Rattle.racer_base.specs.declared.ids.Touch.TheVariants.{Read, Write};
+ghost use Rattle.access_paths.specs.declared.path.Path.{Path};
 ghost use Rattle.access_paths.specs.declared.path.Root.TheVariants.{Formal};
 ghost use Rattle.access_paths.specs.Paths.{alone, some_path};
-ghost use Rattle.owner_domain.specs.declared.value.Value.TheVariants.{Owned, Named, Unnamed};
-ghost use Rattle.core_code.specs.Pair.{pair};
-ghost use Rattle.access_domain.specs.declared.access.Access.{Access};
-ghost use Rattle.access_domain.specs.declared.summary.Summary.{Summary};
-ghost use Rattle.access_domain.specs.declared.summary.Outcome.TheVariants.{Summary as Whole};
-ghost use Rattle.access_domain.specs.Summaries.{sum, sums};
-ghost use Rattle.access_domain.specs.Summaries.{effects_of};
-ghost use Rattle.access_domain.specs.Records.{different_paths, first_of_keys, same_key};
-ghost use Rattle.std.specs.List.{list_any};
-ghost use Rattle.access_domain.specs.Operations.{Effects};
-ghost use Rattle.access_paths.specs.declared.path.Path.{Path};
 ghost use Rattle.access_paths.specs.Order.{path_cmp};
+ghost use Rattle.owner_domain.specs.declared.value.Value.TheVariants.{Named, Unnamed};
+ghost use Rattle.owner_domain.specs.declared.value.State.{State};
+ghost use Rattle.core_code.specs.Calls.{method_at};
+ghost use Rattle.core_code.specs.Core.{Core, Method};
+ghost use Rattle.core_code.specs.Pair.{pair};
+ghost use Rattle.core_code.specs.Tree.{Tree};
+ghost use Rattle.access_domain.specs.declared.access.Access.{Access};
+ghost use Rattle.access_domain.specs.declared.summary.Outcome.TheVariants.{Summary as Held};
+ghost use Rattle.access_domain.specs.Findings.{Findings, Whole};
+ghost use Rattle.access_domain.specs.Flow.{flow};
+ghost use Rattle.access_domain.specs.Given.{Given, given_of};
+ghost use Rattle.access_domain.specs.Operations.{Effects};
+ghost use Rattle.access_domain.specs.Origins.{HasOrigin};
+ghost use Rattle.access_domain.specs.Records.{different_paths, first_of_keys, same_key};
+ghost use Rattle.access_domain.specs.Summaries.{outcome_of, known_of, effects_of};
 ghost use Rattle.access_domain.specs.Rows.{mix, join, field, method, class, this_path, access, access_below};
 
 /// A write, and two writes under a lock.
 pub fn pair_row()
-    ensures new { sum pair (method 0) ≡ Some (Whole (record { accesses = []; wobbly = set.from_list []; result = Named (this_path []) })) }
-    ensures put { sum pair (method 1) ≡ Some (Whole (record {
+    ensures new { outcome_of pair (method 0) ≡ Some (Held (record {
+      accesses = [];
+      wobbly = set.from_list [];
+      result = Named (this_path []);
+    })) }
+    ensures put { outcome_of pair (method 1) ≡ Some (Held (record {
       accesses = access Write (this_path (field 0 ∷ [])) false 2 ∷ [];
       wobbly = set.from_list (this_path (field 0 ∷ []) ∷ []);
       result = Unnamed;
     })) }
-    ensures both { sum pair (method 2) ≡ Some (Whole (record {
+    ensures both { outcome_of pair (method 2) ≡ Some (Held (record {
       accesses = access Write (this_path (field 0 ∷ [])) true 3 ∷ access Write (this_path (field 1 ∷ [])) true 7 ∷ [];
       wobbly = set.from_list (this_path (field 0 ∷ []) ∷ this_path (field 1 ∷ []) ∷ []);
       result = Unnamed;
@@ -35,8 +46,9 @@ pub fn pair_row()
 
 /// A join loses both names: the first parameter is set on one side alone.
 pub fn pick_row()
-    ensures { sum mix (method 0) ≡ Some (Whole (record {
-      accesses = access Read (this_path (field 4 ∷ [])) false 1 ∷ access Write (some_path (class 0) (field 0)) false 8 ∷ [];
+    ensures { outcome_of mix (method 0) ≡ Some (Held (record {
+      accesses =
+          access Read (this_path (field 4 ∷ [])) false 1 ∷ access Write (some_path (class 0) (field 0)) false 8 ∷ [];
       wobbly = set.from_list (alone (Formal 1) ∷ alone (Formal 0) ∷ []);
       result = Unnamed;
     })) }
@@ -54,13 +66,28 @@ pub fn run_row()
         ∷ []) }
 {}
 
-/// Substitution is not inlining: the two sides of a choice have two names in the callee, though the caller passes one path twice.
+/// The caller's wobbly paths: those of its callee in its own names, and that of its own store.
+pub fn wobbly_row()
+    ensures { option_map (λ (e : Effects). different_paths e.wobbly) (effects_of mix (method 1)) ≡ Some (
+        this_path (field 3 ∷ []) ∷ this_path (field 2 ∷ []) ∷ this_path (field 2 ∷ field 0 ∷ field 1 ∷ []) ∷ []) }
+{}
+
+/// Substitution is not inlining: the two sides of a choice have two names in the callee, though the caller passes one path
+/// twice. So each name is lost there, and both are that path here.
 pub fn join_row()
-    ensures { option_map (λ (e : Effects). first_of_keys e.records) (effects_of join (method 1)) ≡ Some (
+    ensures records { option_map (λ (e : Effects). first_of_keys e.records) (effects_of join (method 1)) ≡ Some (
         access Read (this_path (field 1 ∷ [])) false 2
         ∷ access_below Read (this_path (field 2 ∷ [])) 5 0
         ∷ access_below Write (some_path (class 0) (field 0)) 5 1
         ∷ []) }
+    ensures lost { known_of join (method 0) ≡ Some (Whole (record {
+      records =
+          access Read (this_path (field 2 ∷ [])) false 1 ∷ access Write (some_path (class 0) (field 0)) false 9 ∷ [];
+      wobbly = alone (Formal 0) ∷ alone (Formal 1) ∷ [];
+      result = Unnamed;
+    })) }
+    ensures wobbly { option_map (λ (e : Effects). different_paths e.wobbly) (effects_of join (method 1)) ≡
+        Some (this_path (field 1 ∷ []) ∷ []) }
 {}
 
 /// The set of a list of paths is that of its different ones.
@@ -70,6 +97,18 @@ pub fn different_paths_suffice()
 
 /// A record that is put at the end is among the firsts of each key exactly where no earlier one has its key.
 pub fn later_records_of_a_key_fall_away()
-    ensures new { (rs : List Access) (a : Access) → list_any (λ r. same_key r a) rs ≡ false → first_of_keys (rs ++ a ∷ []) ≡ first_of_keys rs ++ a ∷ [] }
-    ensures old { (rs : List Access) (a : Access) → list_any (λ r. same_key r a) rs ≡ true → first_of_keys (rs ++ a ∷ []) ≡ first_of_keys rs }
+    ensures new { (rs : List Access) (a : Access) → list_any (λ r. same_key r a) rs ≡ false →
+        first_of_keys (rs ++ a ∷ []) ≡ first_of_keys rs ++ a ∷ [] }
+    ensures old { (rs : List Access) (a : Access) → list_any (λ r. same_key r a) rs ≡ true →
+        first_of_keys (rs ++ a ∷ []) ≡ first_of_keys rs }
+{}
+
+/// Each record is that of a Get or a Put at its site, or of a call at its site: then it is one of the callee's, by its index
+/// there, with its path put into the caller's values.
+pub fn records_have_origins()
+    ensures code { (g : Given) (code : Tree) (locked : Bool) (s : State) (a : Access) →
+        Contains (flow g code locked s).records a → HasOrigin g code a }
+    ensures method { (core : Core) (m : MethodId) (method : Method) (found : Findings) (a : Access) →
+        method_at core m ≡ Some method → known_of core m ≡ Some (Whole found) → Contains found.records a →
+        HasOrigin (given_of core (known_of core) method.main) method.code a }
 {}

@@ -6,11 +6,13 @@
 //! # The definitions
 //!
 //! - `specs/Records.antt`: keys, and the first record of each.
+//! - `specs/Findings.antt`: what is known of a method, in lists (`Known`), and the same as an `Outcome`.
 //! - `specs/Given.antt`: what a flow needs of a program (`Given`), and `given_of` a program's parts.
-//! - `specs/Substitution.antt`: a callee's summary in its caller's values.
+//! - `specs/Substitution.antt`: what is found of a callee, in its caller's values.
 //! - `specs/Operations.antt`: what one operation does.
 //! - `specs/Flow.antt`: the flow of a piece of code, by cases on its tree.
-//! - `specs/Summaries.antt`: the outcome of a method, `sum`, and those of all, by rank.
+//! - `specs/Origins.antt`: where a record of a method comes from.
+//! - `specs/Summaries.antt`: what is known of a method by rank, its outcome (`outcome_of`), and those of all.
 #![tactic(auto)]
 
 mod access;
@@ -19,6 +21,3 @@ mod summary;
 
 pub use access::{Access, Accesses};
 pub use summary::{Outcome, Outcomes, Summary};
-
-#[cfg(test)]
-mod tests;

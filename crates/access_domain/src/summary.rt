@@ -21,5 +21,5 @@ pub enum Outcome {
     Large,
 }
 
-/// One place per method, `None` for those that are not analysed.
+/// One for each method, `None` for those that are not analysed.
 pub type Outcomes = Vec<Option<Arc<Outcome>>>;

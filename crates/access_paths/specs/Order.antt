@@ -1,4 +1,4 @@
--- An order of paths, in which sets of paths are kept.
+-- A contract of a public call rests on this: an order of paths, in which sets of paths are kept.
 use Rattle.std.specs.Prelude.{ℕ, List, [], ◌∷◌, ◌++◌, map}
 use Rattle.std.specs.Ordering.{nat_cmp}
 use Rattle.std.specs.declared.cmp.Ordering.{Ordering}

@@ -1,5 +1,6 @@
--- Paths: when two are the same, prefixes, and extension by a field.
-use Rattle.std.specs.Prelude.{ℕ, Bool, true, false, ◌&&◌, List, [], ◌∷◌, ◌++◌, Option, None, Some, length, take, nat_eq, nat_lt, if◌then◌else◌}
+-- A contract of a public call rests on this: when two paths are the same, prefixes, and extension by a field.
+use Rattle.std.specs.Prelude.{ℕ, Bool, true, false, ◌&&◌, List, [], ◌∷◌, ◌++◌, Option, None, Some, length, take}
+use Rattle.std.specs.Prelude.{nat_eq, nat_lt, if◌then◌else◌}
 use Rattle.std.specs.Option.{option_and_then}
 use Rattle.std.specs.Cmp.Lexicographic.{pointwise}
 use Rattle.racer_base.specs.declared.ids.ClassId.{ClassId}
@@ -42,14 +43,26 @@ front n p = record { root = p.root; fields = take n p.fields }
 abbrev pub is_prefix : Path → Path → Bool
 is_prefix p q = same_path p (front (length p.fields) q)
 
--- `p.f`, which exists where p has fewer than sixteen fields
+-- `p.f`, which exists where p has fewer fields than the limit
 abbrev pub extended : Path → FieldId → Option Path
-extended p f = if nat_lt (length p.fields) MAX_PATH_FIELDS then Some (record { root = p.root; fields = p.fields ++ f ∷ [] }) else None
+extended p f =
+    if nat_lt (length p.fields) MAX_PATH_FIELDS then Some (record { root = p.root; fields = p.fields ++ f ∷ [] }) else None
 
 -- the same by these fields in turn
 abbrev pub extended_along : Path → List FieldId → Option Path
 extended_along p [] = Some p
 extended_along p (f ∷ fs) = option_and_then (λ q. extended_along q fs) (extended p f)
+
+-- all fields but the last, and the last
+abbrev pub front_of : List FieldId → List FieldId
+front_of [] = []
+front_of (f ∷ []) = []
+front_of (f ∷ g ∷ fs) = f ∷ front_of (g ∷ fs)
+
+abbrev pub last_of : List FieldId → Option FieldId
+last_of [] = None
+last_of (f ∷ []) = Some f
+last_of (f ∷ g ∷ fs) = last_of (g ∷ fs)
 
 abbrev pub is_some_root : Root → Bool
 is_some_root This = false

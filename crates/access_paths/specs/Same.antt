@@ -1,4 +1,5 @@
--- Paths are the same exactly where they are equal, and exactly where the order ties them.
+-- A contract of a public call rests on this: the laws of `==` at paths, which are the same exactly where they are equal,
+-- and exactly where the order ties them.
 use Rattle.std.proofs.Common.{◌≡◌, ℕ, true, ◌&&◌, List, [], ◌∷◌, ◌++◌, map, nat_eq, refl, sym, ap, ◌∙◌}
 use Rattle.std.specs.Ordering.{eq_by_cmp}
 use Rattle.std.specs.Cmp.{IsTotalOrder, IsPartialEquivalence}

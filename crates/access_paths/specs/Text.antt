@@ -1,4 +1,4 @@
--- The text of a path, for given names of the classes and fields.
+-- A contract of a public call rests on this: the text of a path, for given names of the classes and fields.
 use Rattle.std.specs.Prelude.{ℕ, Bool, true, ◌&&◌, List, [], ◌∷◌, ◌++◌, codes, nat_lt, slice_index_or}
 use Rattle.std.specs.List.{list_all}
 use Rattle.std.specs.Fmt.{decimal}

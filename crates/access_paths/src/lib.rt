@@ -10,6 +10,3 @@ mod text;
 
 pub use path::{Path, Root};
 pub use text::path_text;
-
-#[cfg(test)]
-mod tests;

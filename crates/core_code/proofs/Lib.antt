@@ -1,1 +1,4 @@
 pub mod Sites
+pub mod ByRank
+pub mod Membership
+pub mod InRange

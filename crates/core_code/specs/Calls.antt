@@ -1,9 +1,11 @@
--- Which methods a method's code calls, and ranks.
-use Rattle.std.specs.Prelude.{ℕ, zero, suc, max, List, [], ◌∷◌, ◌++◌, Option, None, Some, map, length, slice_get}
+-- A contract of a public call rests on this: which methods a method's code calls, ranks, and tables by rank.
+use Rattle.std.specs.Prelude.{ℕ, zero, suc, max, List, [], ◌∷◌, Option, None, Some, map, length, slice_get, nat_eq}
+use Rattle.std.specs.Prelude.{if◌then◌else◌}
+use Rattle.std.specs.List.{flat_map}
 use Rattle.racer_base.specs.declared.ids.MethodId.{MethodId}
 use Rattle.core_code.specs.declared.code.Op.{Op as CoreOp}
 use Rattle.core_code.specs.declared.code.Op.TheVariants.{Call}
-use Rattle.core_code.specs.Tree.{Tree, Step, Nothing, Then, Either, Again, Held}
+use Rattle.core_code.specs.Tree.{Tree, Operation, steps_of}
 use Rattle.core_code.specs.Core.{Core, Method}
 
 abbrev pub called_by : CoreOp → List MethodId
@@ -12,12 +14,7 @@ called_by _ = []
 
 -- the methods that are called, in reading order; those that are not analysed are left out
 abbrev pub calls_in : Tree → List MethodId
-calls_in (Step site place op) = called_by op
-calls_in Nothing = []
-calls_in (Then first rest) = calls_in first ++ calls_in rest
-calls_in (Either left right) = calls_in left ++ calls_in right
-calls_in (Again body) = calls_in body
-calls_in (Held place body) = calls_in body
+calls_in code = flat_map (λ (o : Operation). called_by o.op) (steps_of code)
 
 abbrev pub method_at : Core → MethodId → Option Method
 method_at core m = slice_get core.methods m.0
@@ -38,3 +35,14 @@ chain_within (suc n) core m = suc (greatest (map (chain_within n core) (calls_of
 -- method to itself, none has more methods than there are, and each callee's rank is smaller.
 abbrev pub rank_of : Core → MethodId → ℕ
 rank_of core m = chain_within (length core.methods) core m
+
+-- What is known of the methods of ranks below n, where `step` makes what is known of a method from a table of those
+-- that it calls: each rank adds its own methods.
+abbrev pub known_below : {X : Type 0} → X → ((MethodId → X) → MethodId → X) → Core → ℕ → MethodId → X
+known_below nothing step core zero m = nothing
+known_below nothing step core (suc n) m =
+    if nat_eq (rank_of core m) n then step (known_below nothing step core n) m else known_below nothing step core n m
+
+-- the table that is closed by rank: what is known of each method, from what is known of those of smaller ranks
+abbrev pub closed_by_rank : {X : Type 0} → X → ((MethodId → X) → MethodId → X) → Core → MethodId → X
+closed_by_rank nothing step core m = step (known_below nothing step core (rank_of core m)) m

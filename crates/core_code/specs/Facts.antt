@@ -1,5 +1,6 @@
--- What holds of every program.
-use Rattle.std.specs.Prelude.{ℕ, suc, ◌+◌, ◌-◌, Bool, true, false, ◌&&◌, ◌||◌, not, List, [], ◌∷◌, ◌++◌, Option, None, Some, length, is_some, is_none, nat_eq, nat_lt, nat_le, if◌then◌else◌, slice_get}
+-- A contract of a public call rests on this: what holds of every program.
+use Rattle.std.specs.Prelude.{ℕ, suc, ◌+◌, ◌-◌, Bool, true, false, ◌&&◌, ◌||◌, not, List, [], ◌∷◌, Option, None, Some}
+use Rattle.std.specs.Prelude.{length, map, is_some, is_none, nat_eq, nat_lt, nat_le, if◌then◌else◌, slice_get}
 use Rattle.std.specs.List.{list_all}
 use Rattle.racer_base.specs.declared.ids.ClassId.{ClassId}
 use Rattle.racer_base.specs.declared.ids.FieldId.{FieldId}
@@ -9,10 +10,11 @@ use Rattle.racer_base.specs.declared.ids.Kind.{Kind}
 use Rattle.racer_base.specs.declared.ids.Kind.TheVariants.{Plain, Declared, Other}
 use Rattle.racer_base.specs.declared.ids.Place.{Place}
 use Rattle.core_code.specs.declared.code.Op.{Op as CoreOp}
-use Rattle.core_code.specs.declared.code.Op.TheVariants.{Push, PushClass, PushPrim, PushNull, New, Dup, Drop, Get, Put, Set, Prim, Outside, Call, Unread, Ret}
+use Rattle.core_code.specs.declared.code.Op.TheVariants.{Push, PushClass, PushPrim, PushNull, New, Dup, Drop, Get, Put}
+use Rattle.core_code.specs.declared.code.Op.TheVariants.{Set, Prim, Outside, Call, Unread, Ret}
 use Rattle.core_code.specs.declared.parts.ClassCore.{ClassCore}
 use Rattle.core_code.specs.declared.parts.FieldCore.{FieldCore}
-use Rattle.core_code.specs.Tree.{Tree, Step, Nothing, Then, Either, Again, Held}
+use Rattle.core_code.specs.Tree.{Tree, Step, Nothing, Then, Either, Again, Held, Operation, steps_of, locks_of}
 use Rattle.core_code.specs.Core.{Core, Method}
 
 -- All numbers are in range: each names a file, class, field, method or variable that there is.
@@ -52,13 +54,13 @@ is_op core variables (Prim n) = true
 is_op core variables (Outside n) = true
 is_op core variables Ret = true
 
+abbrev pub is_operation : Core → ℕ → Operation → Bool
+is_operation core variables o = is_place core o.place && is_op core variables o.op
+
+-- code of a method with so many variables
 abbrev pub is_code : Core → ℕ → Tree → Bool
-is_code core variables (Step site place op) = is_place core place && is_op core variables op
-is_code core variables Nothing = true
-is_code core variables (Then first rest) = is_code core variables first && is_code core variables rest
-is_code core variables (Either left right) = is_code core variables left && is_code core variables right
-is_code core variables (Again body) = is_code core variables body
-is_code core variables (Held place body) = is_place core place && is_code core variables body
+is_code core variables code =
+    list_all (is_operation core variables) (steps_of code) && list_all (is_place core) (locks_of code)
 
 abbrev pub is_class_in_range : Core → ClassCore → Bool
 is_class_in_range core c = is_place core c.place
@@ -80,12 +82,7 @@ are_numbers_in_range core =
 
 -- the sites of the operations in reading order
 abbrev pub sites_of : Tree → List SiteId
-sites_of (Step site place op) = site ∷ []
-sites_of Nothing = []
-sites_of (Then first rest) = sites_of first ++ sites_of rest
-sites_of (Either left right) = sites_of left ++ sites_of right
-sites_of (Again body) = sites_of body
-sites_of (Held place body) = sites_of body
+sites_of code = map (λ (o : Operation). o.site) (steps_of code)
 
 -- whether the numbers go up by one from this one on
 abbrev pub counts_from : ℕ → List SiteId → Bool

@@ -1,4 +1,4 @@
--- A small program, lowered by hand, on which the definitions are tried:
+-- No public contract rests on this: a small program, lowered by hand, on which the definitions are tried:
 --     class Pair {
 --       int a;
 --       int b;
@@ -93,6 +93,11 @@ method_both =
           ∷ step 5 (at 5 8) this ∷ step 6 (at 5 8) PushPrim ∷ step 7 (at 5 56) (put_at 1) ∷ step 8 (at 5 8) Drop ∷ []))
           ∷ step 9 (at 5 8) PushPrim ∷ step 10 (at 5 8) Ret ∷ []);
     }
+
+-- the first method with a lock that stands in another file
+abbrev pub lock_elsewhere : Method
+lock_elsewhere =
+    record method_new { code = Held (record { file = record { 0 = 1 }; line = 1; column = 1 }) (step 0 (at 1 7) this) }
 
 abbrev pub pair : Core
 pair =

@@ -1,4 +1,4 @@
--- What is seen of a `Program`.
+-- A contract of a public call rests on this: what is seen of a `Program`.
 use Rattle.std.specs.Prelude.{ℕ, List, map}
 use Rattle.racer_base.specs.declared.ids.Place.{Place}
 use Rattle.core_code.specs.declared.parts.ClassCore.{ClassCore}

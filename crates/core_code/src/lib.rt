@@ -17,6 +17,3 @@ mod program;
 pub use code::{Code, Op, Reason};
 pub use parts::{ClassCore, FieldCore, MethodCore, Parts};
 pub use program::Program;
-
-#[cfg(test)]
-mod tests;

@@ -1,8 +1,8 @@
--- Values, and what is left of two where two ways meet.
-use Rattle.std.specs.Prelude.{Bool, true, false, List, [], ◌∷◌, ◌++◌, Option, None, Some, if◌then◌else◌}
+-- A contract of a public call rests on this: values, and what is left of two where two ways meet.
+use Rattle.std.specs.Prelude.{Bool, true, false, not, List, [], ◌∷◌, ◌++◌, Option, None, Some, if◌then◌else◌}
 use Rattle.racer_base.specs.declared.ids.FieldId.{FieldId}
 use Rattle.access_paths.specs.declared.path.Path.{Path}
-use Rattle.access_paths.specs.Paths.{same_path, extended}
+use Rattle.access_paths.specs.Paths.{same_path, extended, is_some_root}
 use Rattle.owner_domain.specs.declared.value.Value.{Value}
 use Rattle.owner_domain.specs.declared.value.Value.TheVariants.{Owned, Named, Unnamed}
 use Rattle.owner_domain.specs.declared.value.State.{State}
@@ -12,6 +12,12 @@ abbrev pub names_of : Value → List Path
 names_of (Named p) = p ∷ []
 names_of Owned = []
 names_of Unnamed = []
+
+-- whether a value has no path, or one that begins at something known and not at some object of a class
+abbrev pub has_known_root : Value → Bool
+has_known_root (Named p) = not (is_some_root p.root)
+has_known_root Owned = true
+has_known_root Unnamed = true
 
 -- what a path names that exists; a path that would be too long names nothing
 abbrev pub named_or_unnamed : Option Path → Value
@@ -42,7 +48,7 @@ joined a b = if same_value a b then a else Unnamed
 abbrev pub lost : Value → Value → List Path
 lost a b = if same_value a b then [] else names_of a ++ names_of b
 
--- lists of values place by place
+-- lists of values slot by slot
 abbrev pub joined_values : List Value → List Value → List Value
 joined_values (a ∷ rest) (b ∷ others) = joined a b ∷ joined_values rest others
 joined_values _ _ = []
@@ -51,7 +57,7 @@ abbrev pub lost_values : List Value → List Value → List Path
 lost_values (a ∷ rest) (b ∷ others) = lost a b ++ lost_values rest others
 lost_values _ _ = []
 
--- states place by place
+-- states slot by slot
 abbrev pub joined_state : State → State → State
 joined_state s t = record { vars = joined_values s.vars t.vars; stack = joined_values s.stack t.stack }
 

@@ -8,7 +8,7 @@ use racer_base::{Items, Memory};
 use std::alloc::Global;
 
 /// The state where two ways meet, and the paths that are lost there: those that two different values name, in
-/// order of places.
+/// order of slots.
 pub fn join(alloc: Global, a: &State, b: &State) -> Result<(State, Vec<Path>), Memory>
     requires vars { length a.now.vars ≡ length b.now.vars }
     requires stack { length a.now.stack ≡ length b.now.stack }
@@ -36,8 +36,8 @@ fn join_values(
     ensures lost { OnOk result (names.new.items ≡ names.old.items ++ lost_values a.now b.now) }
 {
     let mut values = Vec::new(alloc);
-    for (place, left) in a.iter().enumerate() {
-        let value = join_value(alloc, left, &b[place], names)?;
+    for (slot, left) in a.iter().enumerate() {
+        let value = join_value(alloc, left, &b[slot], names)?;
         values.push(value)?;
     }
     Ok(values)

@@ -10,6 +10,3 @@ mod value;
 
 pub use joining::join;
 pub use value::{State, Value};
-
-#[cfg(test)]
-mod tests;

@@ -17,9 +17,9 @@ use Rattle.race_pairs.specs.Warnings.{records_held, records_of, numbered_records
 abbrev number : ℕ → MethodId
 number i = record { 0 = i }
 
-length-sums_from : (core : Core) (i n : ℕ) → length (sums_from core i n) ≡ n
-length-sums_from core i zero = refl
-length-sums_from core i (suc n) = ap suc (length-sums_from core (suc i) n)
+length-outcomes_from : (core : Core) (i n : ℕ) → length (outcomes_from core i n) ≡ n
+length-outcomes_from core i zero = refl
+length-outcomes_from core i (suc n) = ap suc (length-outcomes_from core (suc i) n)
 
 get_or-sums_from : (core : Core) (i n k : ℕ) (d : Option Outcome) → k < n → get_or (sums_from core i n) k d ≡ sum core (number (i + k))
 get_or-sums_from core i zero k d within = absurd (omega arith)
@@ -31,16 +31,16 @@ get_or-sums_from core i (suc n) (suc k) d within =
 -- there is an outcome for each method
 pub one_for_each : (core : Core) (outcomes : List (Option (Arc Outcome Global))) → AreSums core outcomes → length outcomes ≡ length core.methods
 one_for_each core outcomes are =
-    sym (length-map outcomes (option_map arc_value)) ∙ ap length are ∙ length-sums_from core 0 (length core.methods)
+    sym (length-map outcomes (option_map arc_value)) ∙ ap length are ∙ length-outcomes_from core 0 (length core.methods)
 
 -- what is read there is the method's outcome
-pub outcome_at : (core : Core) (outcomes : List (Option (Arc Outcome Global))) (m : ℕ) (o : Option (Arc Outcome Global)) → AreSums core outcomes → m < length core.methods → o ≡ get_or outcomes m o → option_map arc_value o ≡ sum core (number m)
+pub outcome_at : (core : Core) (outcomes : List (Option (Arc Outcome Global))) (m : ℕ) (o : Option (Arc Outcome Global)) → AreOutcomes core outcomes → m < length core.methods → o ≡ get_or outcomes m o → option_map arc_value o ≡ outcome_of core (number m)
 outcome_at core outcomes m o are within is =
     ap (option_map arc_value) is
     ∙ sym (get_or-map (option_map arc_value) outcomes m o)
     ∙ ap (λ known. get_or known m (option_map arc_value o)) are
-    ∙ get_or-sums_from core 0 (length core.methods) m (option_map arc_value o) within
-    ∙ ap (λ j. sum core (number j)) (zero-add m)
+    ∙ get_or-outcomes_from core 0 (length core.methods) m (option_map arc_value o) within
+    ∙ ap (λ j. outcome_of core (number j)) (zero-add m)
 
 -- the records of an entry, whose outcome is read at its number
 pub entry_adds : (core : Core) (c : ClassId) (m : ℕ) (method : Method) (id : MethodId) (o : Option (Arc Outcome Global)) → is_entry_of c method ≡ true → id.0 ≡ m → option_map arc_value o ≡ sum core (number m) → numbered_records id (records_held (option_map arc_value o)) ≡ entry_records core c (m, method)

@@ -1,4 +1,3 @@
-pub mod Membership
 pub mod WarningPairs
 pub mod OneWarning
 pub mod Turns

@@ -11,7 +11,7 @@ use Rattle.access_domain.specs.declared.access.Access.{Access}
 use Rattle.race_pairs.specs.declared.warning.Warning.{Warning}
 use Rattle.race_pairs.specs.Warnings.{MethodRecord, conflicts, records_of, record_at, numbered_records, is_entry_of, entry_records, records_in, warning_of, warning_among, warnings_among, class_warnings, warnings}
 use Rattle.race_pairs.specs.Pairs.{IsCheckedClass, IsRecord, IsPair, is_warning_of}
-use Rattle.race_pairs.proofs.Membership.{In, in_filter_map, in_map, in_enumerate_from, enumerate_from_has, flat_map_has, map_has, find_has}
+use Rattle.core_code.proofs.Membership.{In, in_filter_map, in_map, in_enumerate_from, enumerate_from_has, flat_map_has, map_has, find_has}
 use Rattle.race_pairs.proofs.WarningPairs.{both_pass, listed_warning}
 
 and_false : (b : Bool) → (b && false) ≡ false

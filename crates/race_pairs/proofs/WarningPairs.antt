@@ -9,7 +9,7 @@ use Rattle.core_code.specs.declared.parts.ClassCore.{ClassCore}
 use Rattle.race_pairs.specs.declared.warning.Warning.{Warning}
 use Rattle.race_pairs.specs.Warnings.{MethodRecord, conflicts, records_of, record_at, numbered_records, is_entry_of, entry_records, records_in, warning_of, warning_among, warnings_among, class_warnings, warnings}
 use Rattle.race_pairs.specs.Pairs.{IsRecord, IsPair}
-use Rattle.race_pairs.proofs.Membership.{In, in_from_Contains, in_flat_map, in_filter_map, in_map, in_enumerate_from, find_gives}
+use Rattle.core_code.proofs.Membership.{In, in_from_Contains, in_flat_map, in_filter_map, in_map, in_enumerate_from, find_gives}
 
 -- both parts of a test that passes
 pub both_pass : (a b : Bool) → (a && b) ≡ true → (a ≡ true) × (b ≡ true)

@@ -10,7 +10,7 @@ use Rattle.core_code.specs.declared.parts.ClassCore.{ClassCore}
 use Rattle.access_domain.specs.declared.access.Access.{Access}
 use Rattle.access_domain.specs.declared.summary.Outcome.{Outcome}
 use Rattle.access_domain.specs.Records.{is_write}
-use Rattle.access_domain.specs.Summaries.{sum, accesses_of}
+use Rattle.access_domain.specs.Summaries.{outcome_of, accesses_of}
 use Rattle.race_pairs.specs.declared.warning.Warning.{Warning}
 
 -- Two records conflict when their paths are equal with root `this`, a class or `some c`, at least one writes, not both
@@ -33,7 +33,7 @@ records_held (Some outcome) = accesses_of outcome
 
 -- the records of the outcome of a method
 abbrev pub records_of : Core → MethodId → List Access
-records_of core m = records_held (sum core m)
+records_of core m = records_held (outcome_of core m)
 
 abbrev pub record_at : MethodId → ℕ × Access → MethodRecord
 record_at m e = record { method = m; index = e.0; access = e.1 }

@@ -117,7 +117,7 @@ pub fn warnings(
     program: &Program,
     outcomes: &Outcomes,
 ) -> Result<Vec<Warning>, Memory>
-    requires { AreSums (core program.now) outcomes.now.items }
+    requires { AreOutcomes (core program.now) outcomes.now.items }
     ensures { IfOk result (λ found. found.items ≡ warnings (core program.now)) }
 {
     let mut found = Vec::new(alloc);

@@ -7,7 +7,11 @@ use Rattle.core_code.specs.declared.parts.ClassCore.{ClassCore}
 use Rattle.core_code.specs.declared.parts.FieldCore.{FieldCore}
 use Rattle.core_code.specs.Core.{Core, Method}
 use Rattle.racer_cli.specs.Lowering.{class_lowered, field_lowered, method_lowered, making_method, fields_from, methods_from}
-use Rattle.racer_cli.specs.LoweringSteps.{class_added, classes_added}
+use Rattle.racer_cli.specs.LoweringSteps.{class_added}
+
+abbrev pub classes_added : Core → List Class → Core
+classes_added core [] = core
+classes_added core (class ∷ others) = classes_added (class_added core class) others
 
 -- what is there, and then classes with their members
 abbrev pub followed : Core → List Class → Core

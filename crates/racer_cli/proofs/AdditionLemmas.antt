@@ -12,7 +12,7 @@ use Rattle.std.proofs.lemmas.Bool.{false≢true}
 use Rattle.access_domain.specs.declared.access.Access.{Access}
 use Rattle.access_domain.specs.Records.{is_write, same_flag, same_touch, same_key, first_of_keys, different_paths}
 use Rattle.access_domain.proofs.Different.{from_list-different}
-use Rattle.racer_cli.specs.Additions.{key_added, keys_added, paths_added}
+use Rattle.racer_cli.proofs.Additions.{key_added, keys_added, paths_added}
 
 or-false : (a : Bool) → (a || false) ≡ a
 or-false true = refl

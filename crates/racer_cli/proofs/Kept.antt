@@ -13,7 +13,8 @@ use Rattle.wobbly_paths.specs.declared.wobbly.Adding.TheVariants.{Added, Present
 use Rattle.wobbly_paths.specs.Sets.{IsAnswer}
 use Rattle.access_domain.specs.declared.access.Access.{Access}
 use Rattle.access_domain.specs.Records.{same_key, first_of_keys, different_paths}
-use Rattle.racer_cli.specs.Additions.{key_added, keys_added, paths_added}
+use Rattle.access_domain.proofs.Different.{from_list-different}
+use Rattle.racer_cli.proofs.Additions.{key_added, keys_added, paths_added}
 use Rattle.racer_cli.specs.Walks.{unless_many}
 use Rattle.racer_cli.proofs.AdditionLemmas.{keys_added-longer, keys_added-nil, paths_added-longer, paths_added-empty, len-from_list}
 
@@ -64,15 +65,16 @@ added_path kept new x Present a is = a.1 ∙ sym (paths-present kept x a.0)
 added_path kept new x Full a is = elim is [ inl e ↦ cc | inr e ↦ cc ]
 added_path kept new x Memory a is = elim is [ inl e ↦ cc | inr e ↦ cc ]
 
-pub all_paths : (kept : PathSet) (all left : List Path) → paths_added kept left ≡ paths_added set.empty all → left ≡ [] → set.len kept ≤ MAX_SUMMARY_KEYS → Some kept ≡ unless_many (length (different_paths all)) (set.from_list all)
+pub all_paths : (kept : PathSet) (all left : List Path) → paths_added kept left ≡ paths_added set.empty all → left ≡ [] → set.len kept ≤ MAX_SUMMARY_KEYS → Some kept ≡ unless_many (length (different_paths all)) (set.from_list (different_paths all))
 all_paths kept all left e none fits =
     let same : kept ≡ set.from_list all = ap (paths_added kept) (sym none) ∙ e ∙ paths_added-empty all in
     sym (unless_few (set.len kept) kept fits) ∙ ap (λ (s : PathSet). unless_many (set.len s) s) same ∙ ap (λ (n : ℕ). unless_many n (set.from_list all)) (len-from_list all)
+    ∙ ap (unless_many (length (different_paths all))) (sym (from_list-different all))
 
-pub too_many_paths : (kept : PathSet) (all left rest : List Path) (x : Path) → paths_added kept left ≡ paths_added set.empty all → left ≡ x ∷ rest → set.contains kept x ≡ false → set.len kept ≡ MAX_SUMMARY_KEYS → None ≡ unless_many (length (different_paths all)) (set.from_list {R = path_cmp} all)
+pub too_many_paths : (kept : PathSet) (all left rest : List Path) (x : Path) → paths_added kept left ≡ paths_added set.empty all → left ≡ x ∷ rest → set.contains kept x ≡ false → set.len kept ≡ MAX_SUMMARY_KEYS → None ≡ unless_many (length (different_paths all)) (set.from_list {R = path_cmp} (different_paths all))
 too_many_paths kept all left rest x e more new full =
     let same : paths_added (set.insert kept x) rest ≡ set.from_list all = ap (paths_added kept) (sym more) ∙ e ∙ paths_added-empty all in
     let long : set.len (set.insert kept x) ≤ set.len (paths_added (set.insert kept x) rest) = paths_added-longer (set.insert kept x) rest in
     let one : set.len (set.insert kept x) ≡ set.len kept + 1 = set.len-insert path_cmp-total kept x ∙ ap (λ (b : Bool). cond b (set.len kept) (set.len kept + 1)) new in
     let counts : set.len (paths_added (set.insert kept x) rest) ≡ length (different_paths all) = ap set.len same ∙ len-from_list all in
-    sym (unless_more (length (different_paths all)) (set.from_list {R = path_cmp} all) (omega arith))
+    sym (unless_more (length (different_paths all)) (set.from_list {R = path_cmp} (different_paths all)) (omega arith))

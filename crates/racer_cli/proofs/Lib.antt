@@ -12,7 +12,8 @@ pub mod LoweredNumbers
 mod SourceLemmas
 pub mod ReportOutcomes
 mod OneStatus
+pub mod Additions
 pub mod AdditionLemmas
-pub mod ShortPrograms
+pub mod FirstPrograms
 pub mod Kept
 pub mod Summed

@@ -2,7 +2,7 @@
 use Rattle.std.proofs.Common.{◌≡◌, ℕ, suc, ◌+◌, Bool, true, false, ◌||◌, not, List, [], ◌∷◌, Option, None, Some, map, refl, ap, sym, ◌∙◌, zero-add, add-zero, arith}
 use Rattle.std.proofs.lemmas.List.Folds.{list_all-append}
 use Rattle.std.specs.List.{list_all, slice_get}
-use Rattle.java_parser.specs.Tree as short
+use Rattle.java_parser.specs.Tree as grammar
 use Rattle.java_parser.specs.Tree.{Class}
 use Rattle.core_code.specs.declared.parts.ClassCore.{ClassCore}
 use Rattle.core_code.specs.Core.{Core}
@@ -14,7 +14,7 @@ checked_may_be : (b : Bool) → (not b || b) ≡ true
 checked_may_be true = refl
 checked_may_be false = refl
 
-declared_may_be : (core : Core) (c f : ℕ) (class : Class) (methods : List short.Method) → slice_get core.classes c ≡ Some (class_lowered class) → list_all (may_be_entry core) (map (method_lowered c f class) methods) ≡ true
+declared_may_be : (core : Core) (c f : ℕ) (class : Class) (methods : List grammar.Method) → slice_get core.classes c ≡ Some (class_lowered class) → list_all (may_be_entry core) (map (method_lowered c f class) methods) ≡ true
 declared_may_be core c f class [] h = refl
 declared_may_be core c f class (m ∷ methods) h =
     let found : is_checked_in core (record { 0 = c }) ≡ is_checked class = ap (λ (o : Option ClassCore). elim o as (λ (x : Option ClassCore). Bool) [ None ↦ false | Some k ↦ k.checked ]) h in

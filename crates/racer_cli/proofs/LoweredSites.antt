@@ -4,10 +4,13 @@ use Rattle.std.proofs.lemmas.Bool.{eq-eqb}
 use Rattle.std.proofs.lemmas.List.Folds.{list_all-append}
 use Rattle.std.specs.List.{list_all}
 use Rattle.racer_base.specs.declared.ids.SiteId.{SiteId}
-use Rattle.java_parser.specs.Tree as short
+use Rattle.java_parser.specs.Tree as grammar
 use Rattle.java_parser.specs.Tree.{Set, Sync, Statements, no_statement, statement_then, Class}
+use Rattle.core_code.specs.declared.code.Op.TheVariants.{PushPrim, Ret}
+use Rattle.core_code.specs.Tree.{Tree, Nothing, Then, Held}
+use Rattle.core_code.proofs.Sites.{sites_of-then}
 use Rattle.core_code.specs.Facts.{sites_of, counts_from, is_in_order, are_sites_in_order}
-use Rattle.racer_cli.specs.Lowering.{Around, lowered, all_lowered, body_lowered, size_of, size_of_all, method_lowered, making_method, methods_from, program_of}
+use Rattle.racer_cli.specs.Lowering.{Around, step, lowered, all_lowered, body_lowered, size_of, size_of_all, method_lowered, making_method, methods_from, program_of}
 use Rattle.racer_cli.proofs.BoolParts.{both}
 
 abbrev at : ℕ → SiteId
@@ -17,7 +20,7 @@ one_more : (n m : ℕ) (rest : List SiteId) → m ≡ n → counts_from n (at m 
 one_more n m rest h = ap (λ (b : Bool). b && counts_from (suc n) rest) (eq-eqb m n h)
 
 mutual
-  sites-lowered : (around : Around) (s : short.Statement) (n : ℕ) (rest : List SiteId) → counts_from n (sites_of (lowered around s n) ++ rest) ≡ counts_from (n + size_of s) rest
+  sites-lowered : (around : Around) (s : grammar.Statement) (n : ℕ) (rest : List SiteId) → counts_from n (sites_of (lowered around s n) ++ rest) ≡ counts_from (n + size_of s) rest
   sites-lowered around (Set field place) n rest =
       one_more n n (at (n + 1) ∷ (at (n + 2) ∷ (at (n + 3) ∷ rest))) refl
       ∙ one_more (suc n) (n + 1) (at (n + 2) ∷ (at (n + 3) ∷ rest)) (omega arith)
@@ -26,7 +29,9 @@ mutual
       ∙ ap (λ (k : ℕ). counts_from k rest) (omega arith)
   sites-lowered around (Sync place body) n rest =
       let inside : List SiteId = sites_of (all_lowered around body (n + 1)) in
-      one_more n n (inside ++ [] ++ rest) refl
+      let held : Tree = Held place (all_lowered around body (n + 1)) in
+      one_more n n (sites_of (Then held Nothing) ++ rest) refl
+      ∙ ap (λ (sites : List SiteId). counts_from (suc n) (sites ++ rest)) (sites_of-then held Nothing)
       ∙ ap (λ (sites : List SiteId). counts_from (suc n) sites) (append_assoc inside [] rest)
       ∙ ap (λ (k : ℕ). counts_from k (inside ++ rest)) (sym (add-one n))
       ∙ sites-all_lowered around body (n + 1) rest
@@ -36,7 +41,8 @@ mutual
   sites-all_lowered around no_statement n rest = ap (λ (k : ℕ). counts_from k rest) (sym (add-zero n))
   sites-all_lowered around (statement_then first others) n rest =
       let after : List SiteId = sites_of (all_lowered around others (n + size_of first)) in
-      ap (λ (sites : List SiteId). counts_from n sites) (append_assoc (sites_of (lowered around first n)) after rest)
+      ap (λ (sites : List SiteId). counts_from n (sites ++ rest)) (sites_of-then (lowered around first n) (all_lowered around others (n + size_of first)))
+      ∙ ap (λ (sites : List SiteId). counts_from n sites) (append_assoc (sites_of (lowered around first n)) after rest)
       ∙ sites-lowered around first n (after ++ rest)
       ∙ sites-all_lowered around others (n + size_of first) rest
       ∙ ap (λ (k : ℕ). counts_from k rest) (add_assoc n (size_of first) (size_of_all others))
@@ -44,11 +50,13 @@ mutual
 sites-body_lowered : (around : Around) (body : Statements) → counts_from 0 (sites_of (body_lowered around body)) ≡ true
 sites-body_lowered around body =
     let size : ℕ = size_of_all body in
-    sites-all_lowered around body 0 (at size ∷ (at (size + 1) ∷ []))
+    let last : Tree = Then (step size around.place PushPrim) (Then (step (size + 1) around.place Ret) Nothing) in
+    ap (λ (sites : List SiteId). counts_from 0 sites) (sites_of-then (all_lowered around body 0) last)
+    ∙ sites-all_lowered around body 0 (at size ∷ (at (size + 1) ∷ []))
     ∙ one_more (0 + size) size (at (size + 1) ∷ []) (omega arith)
     ∙ one_more (suc (0 + size)) (size + 1) [] (omega arith)
 
-declared_in_order : (c f : ℕ) (class : Class) (methods : List short.Method) → list_all is_in_order (map (method_lowered c f class) methods) ≡ true
+declared_in_order : (c f : ℕ) (class : Class) (methods : List grammar.Method) → list_all is_in_order (map (method_lowered c f class) methods) ≡ true
 declared_in_order c f class [] = refl
 declared_in_order c f class (m ∷ methods) =
     both _ (list_all is_in_order (map (method_lowered c f class) methods)) (sites-body_lowered (record { place = m.place; fields = class.fields; first = f }) m.body) (declared_in_order c f class methods)

@@ -2,7 +2,7 @@
 use Rattle.std.proofs.Common.{◌≡◌, ℕ, suc, ◌+◌, true, List, [], ◌∷◌, Option, None, Some, map, refl, ap, ◌∙◌, is_some}
 use Rattle.std.proofs.lemmas.List.Folds.{list_all-append}
 use Rattle.std.specs.List.{list_all}
-use Rattle.java_parser.specs.Tree as short
+use Rattle.java_parser.specs.Tree as grammar
 use Rattle.java_parser.specs.Tree.{Set, Sync, Statements, no_statement, statement_then, Class}
 use Rattle.core_code.specs.declared.code.Op.TheVariants.{PushPrim, Ret}
 use Rattle.core_code.specs.Tree.{Tree, Nothing, Then}
@@ -11,7 +11,7 @@ use Rattle.racer_cli.specs.Lowering.{Around, lowered, all_lowered, body_lowered,
 use Rattle.racer_cli.proofs.BoolParts.{both}
 
 mutual
-  height-lowered : (around : Around) (s : short.Statement) (n : ℕ) → height_after (lowered around s n) 0 ≡ Some 0
+  height-lowered : (around : Around) (s : grammar.Statement) (n : ℕ) → height_after (lowered around s n) 0 ≡ Some 0
   height-lowered around (Set field place) n = refl
   height-lowered around (Sync place body) n = rw (height-all_lowered around body (n + 1)) refl
 
@@ -29,7 +29,7 @@ height-body_lowered around body =
     let size : ℕ = size_of_all body in
     ap (then_after (Then (step size around.place PushPrim) (Then (step (size + 1) around.place Ret) Nothing))) (height-all_lowered around body 0)
 
-declared_enough : (c f : ℕ) (class : Class) (methods : List short.Method) → list_all is_stack_enough (map (method_lowered c f class) methods) ≡ true
+declared_enough : (c f : ℕ) (class : Class) (methods : List grammar.Method) → list_all is_stack_enough (map (method_lowered c f class) methods) ≡ true
 declared_enough c f class [] = refl
 declared_enough c f class (m ∷ methods) =
     both _ (list_all is_stack_enough (map (method_lowered c f class) methods)) (ap (is_some {T = ℕ}) (height-body_lowered (record { place = m.place; fields = class.fields; first = f }) m.body)) (declared_enough c f class methods)

@@ -1,4 +1,4 @@
--- Whether the places that classes of the short grammar keep are all in one file.
+-- Whether the places that classes of the first grammar keep are all in one file.
 use Rattle.std.specs.Prelude.{ℕ, Bool, true, ◌&&◌, List, nat_eq}
 use Rattle.std.specs.List.{list_all}
 use Rattle.racer_base.specs.declared.ids.Place.{Place}

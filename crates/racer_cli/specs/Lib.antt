@@ -2,9 +2,7 @@ pub mod Number
 pub mod Words
 pub mod Lowering
 pub mod Report
-pub mod Short
-pub mod Additions
-pub mod Roots
+pub mod FirstCode
 pub mod Walks
 pub mod InFile
 pub mod LoweringSteps

@@ -1,10 +1,10 @@
--- The lowering of the short grammar's classes to core code, a row a form (JLS 8.4, 8.8.9, 14.19, 15.26).
+-- The lowering of the first grammar's classes to core code, a row a form (JLS 8.4, 8.8.9, 14.19, 15.26).
 use Rattle.std.specs.Prelude.{ℕ, suc, ◌+◌, Bool, true, false, ◌||◌, List, [], ◌∷◌, ◌++◌, None, codes, length, map, if◌then◌else◌, nat_eq}
 use Rattle.std.specs.List.{list_any}
 use Rattle.std.specs.Cmp.Lexicographic.{pointwise}
 use Rattle.racer_base.specs.declared.ids.Kind.TheVariants.{Plain, Declared}
 use Rattle.racer_base.specs.declared.ids.Place.{Place}
-use Rattle.java_parser.specs.Tree as short
+use Rattle.java_parser.specs.Tree as grammar
 use Rattle.java_parser.specs.Tree.{Set, Sync, no_statement, statement_then, Class}
 use Rattle.core_code.specs.declared.code.Op.{Op as CoreOp}
 use Rattle.core_code.specs.declared.code.Op.TheVariants.{Push, PushPrim, Put, Drop, Ret}
@@ -38,29 +38,29 @@ put_field around field = Put (record { 0 = around.first + index_of around.fields
 
 abbrev mutual
   -- how many operations a statement has
-  pub size_of : short.Statement → ℕ
+  pub size_of : grammar.Statement → ℕ
   size_of (Set field place) = 4
   size_of (Sync place body) = suc (size_of_all body)
 
-  pub size_of_all : short.Statements → ℕ
+  pub size_of_all : grammar.Statements → ℕ
   size_of_all no_statement = 0
   size_of_all (statement_then first others) = size_of first + size_of_all others
 
 abbrev mutual
   -- this.f = 1;                  Push(0), PushPrim, Put(f), Drop
   -- synchronized (this) { .. }   Push(0), Sync(block)
-  pub lowered : Around → short.Statement → ℕ → Tree
+  pub lowered : Around → grammar.Statement → ℕ → Tree
   lowered around (Set field place) n =
       Then (step n around.place push_this) (Then (step (n + 1) around.place PushPrim) (Then (step (n + 2) place (put_field around field)) (Then (step (n + 3) around.place Drop) Nothing)))
   lowered around (Sync place body) n = Then (step n around.place push_this) (Then (Held place (all_lowered around body (n + 1))) Nothing)
 
   -- statements one after another, their sites from n on
-  pub all_lowered : Around → short.Statements → ℕ → Tree
+  pub all_lowered : Around → grammar.Statements → ℕ → Tree
   all_lowered around no_statement n = Nothing
   all_lowered around (statement_then first others) n = Then (lowered around first n) (all_lowered around others (n + size_of first))
 
 -- { .. }, and at its end what `return` is in a `void` method: PushPrim, Ret
-abbrev pub body_lowered : Around → short.Statements → Tree
+abbrev pub body_lowered : Around → grammar.Statements → Tree
 body_lowered around body = Then (all_lowered around body 0) (Then (step (size_of_all body) around.place PushPrim) (Then (step (size_of_all body + 1) around.place Ret) Nothing))
 
 -- the end of a constructor: Push(0), Ret
@@ -69,17 +69,17 @@ making_lowered place = Then (step 0 place push_this) (Then (step 1 place Ret) No
 
 abbrev mutual
   -- whether the word `synchronized` stands in a statement
-  pub has_sync : short.Statement → Bool
+  pub has_sync : grammar.Statement → Bool
   has_sync (Set field place) = false
   has_sync (Sync place body) = true
 
-  pub any_has_sync : short.Statements → Bool
+  pub any_has_sync : grammar.Statements → Bool
   any_has_sync no_statement = false
   any_has_sync (statement_then first others) = has_sync first || any_has_sync others
 
 -- a class is checked where `@ThreadSafe` stands before it, or the word `synchronized` in one of its methods
 abbrev pub is_checked : Class → Bool
-is_checked class = class.thread_safe || list_any (λ (m : short.Method). any_has_sync m.body) class.methods
+is_checked class = class.thread_safe || list_any (λ (m : grammar.Method). any_has_sync m.body) class.methods
 
 abbrev pub class_lowered : Class → ClassCore
 class_lowered class = record { name = class.name; place = class.place; checked = is_checked class }
@@ -89,7 +89,7 @@ abbrev pub field_lowered : ℕ → List ℕ → FieldCore
 field_lowered c name = record { class = record { 0 = c }; name = name; kind = Plain; is_static = false; recorded = true }
 
 -- a method of class c, whose variables are `this` alone; it is an entry where its class is checked
-abbrev pub method_lowered : ℕ → ℕ → Class → short.Method → Method
+abbrev pub method_lowered : ℕ → ℕ → Class → grammar.Method → Method
 method_lowered c first class method =
     record {
       class = record { 0 = c };

@@ -1,6 +1,6 @@
 -- A small class, and code laid out flat.
 use Rattle.std.specs.Prelude.{false, List, [], ◌∷◌, ◌++◌, codes, map}
-use Rattle.java_parser.specs.Tree as short
+use Rattle.java_parser.specs.Tree as grammar
 use Rattle.java_parser.specs.Tree.{Set, Sync, pack, Class}
 use Rattle.core_code.specs.Tree.{Tree, Step, Nothing, Then, Either, Again, Held, in_sequence}
 use Rattle.core_code.specs.Core.{Core, Method}
@@ -12,10 +12,10 @@ use Rattle.core_code.specs.Pair.{at}
 --   void put() { this.a = 1; }
 --   void both() { synchronized (this) { this.a = 2; this.b = 3; } }
 -- }
-abbrev pub method_put : short.Method
+abbrev pub method_put : grammar.Method
 method_put = record { name = codes "put"; place = at 4 8; body = pack (Set (codes "a") (at 4 21) ∷ []) }
 
-abbrev pub method_both : short.Method
+abbrev pub method_both : grammar.Method
 method_both = record { name = codes "both"; place = at 5 8; body = pack (Sync (at 5 17) (pack (Set (codes "a") (at 5 44) ∷ Set (codes "b") (at 5 56) ∷ [])) ∷ []) }
 
 abbrev pub class_pair : Class

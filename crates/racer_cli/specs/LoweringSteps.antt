@@ -1,5 +1,6 @@
--- The lowering, as the code goes about it: what a statement stands in, and a class put to the program so far.
-use Rattle.std.specs.Prelude.{List, [], ◌∷◌, ◌++◌, length, map}
+-- No public contract rests on this: what a statement stands in as the code has it, and a class put to the program so
+-- far.
+use Rattle.std.specs.Prelude.{[], ◌∷◌, ◌++◌, length, map}
 use Rattle.java_parser.specs.Tree.{Class}
 use Rattle.core_code.specs.Core.{Core}
 use Rattle.racer_cli.specs.declared.lowering.Surroundings.{Surroundings}
@@ -17,7 +18,3 @@ class_added core class =
       fields = core.fields ++ map (field_lowered c) class.fields;
       methods = core.methods ++ making_method c class ∷ map (method_lowered c (length core.fields) class) class.methods;
     }
-
-abbrev pub classes_added : Core → List Class → Core
-classes_added core [] = core
-classes_added core (class ∷ others) = classes_added (class_added core class) others

@@ -17,7 +17,7 @@ use Rattle.access_paths.specs.Text.{name_at, path_text}
 use Rattle.access_domain.specs.declared.access.Access.{Access}
 use Rattle.access_domain.specs.declared.summary.Outcome.{Outcome}
 use Rattle.access_domain.specs.declared.summary.Outcome.TheVariants.{Summary as Whole, Large}
-use Rattle.access_domain.specs.Summaries.{sum}
+use Rattle.access_domain.specs.Summaries.{outcome_of}
 use Rattle.race_pairs.specs.declared.warning.Warning.{Warning}
 use Rattle.race_pairs.specs.Warnings.{records_of, warnings}
 
@@ -98,7 +98,7 @@ reason_line core method (Some reason) =
 
 -- the same of a method with its number
 abbrev pub not_analysed_line : Core → ℕ × Method → List ℕ
-not_analysed_line core e = reason_line core e.1 (reason_from e.1.status (sum core (record { 0 = e.0 })))
+not_analysed_line core e = reason_line core e.1 (reason_from e.1.status (outcome_of core (record { 0 = e.0 })))
 
 --  at PLACE, of a site
 abbrev pub at_line : Core → Tree → SiteId → List ℕ

@@ -1,5 +1,6 @@
--- What is kept while the code of a method is gone through, and what is left to do.
-use Rattle.std.specs.Prelude.{◌≡◌, ℕ, Bool, false, List, [], ◌++◌, Option, None, Some, nat_lt, Result, Ok, Err, if◌then◌else◌}
+-- No public contract rests on this: what is kept while the code of a method is gone through, and what is left to do.
+use Rattle.std.specs.Prelude.{◌≡◌, ℕ, Bool, false, List, [], ◌++◌, Option, None, Some, nat_lt, Result, Ok, Err}
+use Rattle.std.specs.Prelude.{if◌then◌else◌}
 use Rattle.racer_base.specs.declared.limits.TheConstants.{MAX_SUMMARY_KEYS}
 use Rattle.racer_base.specs.declared.out_of_memory.Memory.{Memory}
 use Rattle.access_paths.specs.declared.path.Path.{Path}
@@ -8,7 +9,8 @@ use Rattle.owner_domain.specs.declared.value.State.{State}
 use Rattle.core_code.specs.Program.{core}
 use Rattle.core_code.specs.Tree.{Tree}
 use Rattle.access_domain.specs.declared.access.Access.{Access}
-use Rattle.access_domain.specs.Given.{Given, Table, given_of}
+use Rattle.access_domain.specs.Findings.{Table}
+use Rattle.access_domain.specs.Given.{Given, given_of}
 use Rattle.access_domain.specs.Operations.{Effects, goes_on}
 use Rattle.access_domain.specs.Flow.{flow}
 use Rattle.racer_cli.specs.declared.analysis.Frame.{Frame}
@@ -16,7 +18,7 @@ use Rattle.racer_cli.specs.declared.analysis.Walk.{Walk}
 use Rattle.racer_cli.specs.declared.analysis.Flowed.{Flowed}
 use Rattle.racer_cli.specs.declared.analysis.Flowed.TheVariants.{GoesOn, Returned}
 
--- short code calls no method, so that nothing need be known of any
+-- code of the first grammar calls no method, so that nothing need be known of any
 abbrev pub unknown : Table
 unknown m = None
 
@@ -33,7 +35,8 @@ flow_here frame code locked walk = flow (given frame) code locked (state frame w
 
 -- these records and wobbly paths, and a return of this value at the end
 abbrev pub gathered : List Access → List Path → Value → Effects
-gathered records wobbly value = record { next = None; records = records; wobbly = wobbly; result = Some value; large = false }
+gathered records wobbly value =
+    record { next = None; records = records; wobbly = wobbly; result = Some value; large = false }
 
 -- the whole effects are those gathered between two walks, and then those that are left
 pub record IsLeft (whole left : Effects) (old now : Walk) : Type 0 where

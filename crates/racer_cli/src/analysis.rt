@@ -1,4 +1,4 @@
-//! The analysis of short code: stores without choices, loops and calls.
+//! The analysis of code of the first grammar: stores without choices, loops and calls.
 ghost use Rattle.std.specs.Prelude.{◌≡◌, ℕ, List, ◌++◌, None, Some, IfOk, OnOk, IsTrue, if◌then◌else◌, is_none, length, map, option_map};
 ghost use Rattle.std.specs.Arc.{arc_value};
 ghost use Rattle.std.specs.FinSet as set;
@@ -13,12 +13,13 @@ ghost use Rattle.access_domain.specs.Given.{field_at};
 ghost use Rattle.access_domain.specs.Substitution.{touched};
 ghost use Rattle.access_domain.specs.Operations.{op_effects, record_of, goes_on};
 ghost use Rattle.access_domain.specs.Records.{first_of_keys, different_paths};
-ghost use Rattle.access_domain.specs.Summaries.{parameter_value, passed_values, start_of, outcome_from, outcome_given};
-ghost use Rattle.access_domain.specs.Outcomes.{AreSums};
+ghost use Rattle.access_domain.specs.Findings.{outcome_from};
+ghost use Rattle.access_domain.specs.Summaries.{parameter_value, passed_values, start_of, known_from, known_given};
+ghost use Rattle.access_domain.specs.Outcomes.{AreOutcomes};
 ghost use Rattle.java_parser.specs.Tree.{Class};
 ghost use Rattle.racer_cli.specs.Lowering.{program_of};
-ghost use Rattle.racer_cli.specs.Short.{is_short, is_short_op, is_short_program};
-ghost use Rattle.racer_cli.specs.Roots.{has_known_root};
+ghost use Rattle.racer_cli.specs.FirstCode.{is_first_code, is_first_op, is_first_program};
+ghost use Rattle.owner_domain.specs.Values.{has_known_root};
 ghost use Rattle.racer_cli.specs.Walks.{unknown, given, state, flow_here, IsLeft, IsFlow, gathered, unless_many};
 
 use crate::operands::{Stack, Variables};
@@ -137,7 +138,8 @@ fn record_write(
     records: &mut Vec<Access>,
 ) -> Result<(), Memory>
     requires { IsTrue (has_known_root base.now) }
-    ensures { OnOk result (records.new.items ≡ records.old.items ++ record_of (given frame.now) Write locked site base.now f) }
+    ensures { OnOk result (
+        records.new.items ≡ records.old.items ++ record_of (given frame.now) Write locked site base.now f) }
 {
     if !field(frame.program, f).1 {
         return Ok(());
@@ -175,7 +177,9 @@ fn put(
     f: FieldId,
     walk: &mut Walk,
 ) -> Result<(), Memory>
-    ensures { OnOk result (IsLeft (op_effects (given frame.now) locked site (Put f) (state frame.now walk.old)) (goes_on (state frame.now walk.new)) walk.old walk.new) }
+    ensures { OnOk result (IsLeft
+        (op_effects (given frame.now) locked site (Put f) (state frame.now walk.old))
+        (goes_on (state frame.now walk.new)) walk.old walk.new) }
 {
     let value = walk.stack.pop();
     let base = walk.stack.pop();
@@ -194,8 +198,9 @@ fn step(
     op: Op,
     walk: &mut Walk,
 ) -> Result<Flowed, Memory>
-    requires { IsTrue (is_short_op op) }
-    ensures { IsFlow frame.now (op_effects (given frame.now) locked site op (state frame.now walk.old)) walk.old walk.new result }
+    requires { IsTrue (is_first_op op) }
+    ensures { IsFlow frame.now
+        (op_effects (given frame.now) locked site op (state frame.now walk.old)) walk.old walk.new result }
 {
     match op {
         Op::Push(variable) => {
@@ -229,7 +234,7 @@ fn go(
     code: &Code,
     walk: &mut Walk,
 ) -> Result<Flowed, Memory>
-    requires { IsTrue (is_short (tree_of code.now)) }
+    requires { IsTrue (is_first_code (tree_of code.now)) }
     ensures { IsFlow frame.now (flow_here frame.now (tree_of code.now) locked walk.old) walk.old walk.new result }
 {
     match code {
@@ -252,8 +257,9 @@ fn go_through(
     parts: &[Code],
     walk: &mut Walk,
 ) -> Result<Flowed, Memory>
-    requires { IsTrue (is_short (in_sequence (map tree_of parts.now))) }
-    ensures { IsFlow frame.now (flow_here frame.now (in_sequence (map tree_of parts.now)) locked walk.old) walk.old walk.new result }
+    requires { IsTrue (is_first_code (in_sequence (map tree_of parts.now))) }
+    ensures { IsFlow frame.now
+        (flow_here frame.now (in_sequence (map tree_of parts.now)) locked walk.old) walk.old walk.new result }
 {
     for part in parts {
         if let Flowed::Returned(value) = go(alloc, frame, locked, part, walk)? {
@@ -294,7 +300,7 @@ fn start(alloc: Global, method: &MethodCore) -> Result<Variables, Memory>
     ensures { IfOk result (λ values. values ≡ (start_of (method_of method.now)).vars) }
 {
     let mut values = passed(alloc, method)?;
-    for _place in values.len()..method.variables.len() {
+    for _local in values.len()..method.variables.len() {
         values.push(Value::Owned)?;
     }
     Ok(values)
@@ -302,7 +308,8 @@ fn start(alloc: Global, method: &MethodCore) -> Result<Variables, Memory>
 
 /// The first record of each key, unless there are too many.
 fn keep_records(alloc: Global, records: Vec<Access>) -> Result<Option<Accesses>, Memory>
-    ensures { IfOk result (λ found. found ≡ unless_many (length (first_of_keys records.items)) (first_of_keys records.items)) }
+    ensures { IfOk result (λ found.
+        found ≡ unless_many (length (first_of_keys records.items)) (first_of_keys records.items)) }
 {
     let mut kept = Accesses::new(alloc);
     for record in records {
@@ -317,7 +324,8 @@ fn keep_records(alloc: Global, records: Vec<Access>) -> Result<Option<Accesses>,
 
 /// The set of these paths, unless there are too many.
 fn keep_paths(alloc: Global, paths: Vec<Path>) -> Result<Option<Wobbly>, Memory>
-    ensures { IfOk result (λ found. found ≡ unless_many (length (different_paths paths.items)) (set.from_list paths.items)) }
+    ensures { IfOk result (λ found.
+        found ≡ unless_many (length (different_paths paths.items)) (set.from_list (different_paths paths.items))) }
 {
     let mut kept = Wobbly::new(alloc);
     for path in paths {
@@ -337,7 +345,7 @@ fn summed(
     paths: Vec<Path>,
     value: Value,
 ) -> Result<Outcome, Memory>
-    ensures { IfOk result (λ outcome. outcome ≡ outcome_from (gathered records.items paths.items value)) }
+    ensures { IfOk result (λ outcome. outcome ≡ outcome_from (known_from (gathered records.items paths.items value))) }
 {
     let Some(accesses) = keep_records(alloc, records)? else {
         return Ok(Outcome::Large);
@@ -352,10 +360,11 @@ fn summed(
     }))
 }
 
-/// The outcome of a method of short code.
+/// The outcome of a method of code of the first grammar.
 fn outcome(alloc: Global, program: &Program, method: &MethodCore) -> Result<Outcome, Memory>
-    requires { IsTrue (is_short (tree_of method.now.code)) }
-    ensures { IfOk result (λ found. found ≡ outcome_given (core program.now) unknown (method_of method.now)) }
+    requires { IsTrue (is_first_code (tree_of method.now.code)) }
+    ensures { IfOk result (λ found.
+        found ≡ outcome_from (known_given (core program.now) unknown (method_of method.now))) }
 {
     let frame = Frame {
         program,
@@ -373,14 +382,17 @@ fn outcome(alloc: Global, program: &Program, method: &MethodCore) -> Result<Outc
     }
 }
 
-/// What is known of a method of short code, nothing where it is not analysed.
+/// What is known of a method of code of the first grammar, nothing where it is not analysed.
 fn known(
     alloc: Global,
     program: &Program,
     method: &MethodCore,
 ) -> Result<Option<Arc<Outcome>>, Memory>
-    requires { IsTrue (is_short (tree_of method.now.code)) }
-    ensures { IfOk result (λ found. option_map arc_value found ≡ (if is_none method.now.status then Some (outcome_given (core program.now) unknown (method_of method.now)) else None)) }
+    requires { IsTrue (is_first_code (tree_of method.now.code)) }
+    ensures { IfOk result (λ found. option_map arc_value found ≡ (
+        if is_none method.now.status
+        then Some (outcome_from (known_given (core program.now) unknown (method_of method.now)))
+        else None)) }
 {
     if method.status.is_some() {
         return Ok(None);
@@ -391,8 +403,8 @@ fn known(
 
 /// The outcomes of the methods of a program whose code is short, none for those that are not analysed.
 pub fn outcomes(alloc: Global, program: &Program) -> Result<Outcomes, Memory>
-    requires { IsTrue (is_short_program (core program.now)) }
-    ensures { IfOk result (λ found. AreSums (core program.now) found.items) }
+    requires { IsTrue (is_first_program (core program.now)) }
+    ensures { IfOk result (λ found. AreOutcomes (core program.now) found.items) }
 {
     let mut outcomes = Vec::new(alloc);
     for method in program.methods() {
@@ -403,6 +415,6 @@ pub fn outcomes(alloc: Global, program: &Program) -> Result<Outcomes, Memory>
 }
 
 /// The code that the lowering makes is short.
-pub fn lowered_code_is_short()
-    ensures { (file : List ℕ) (classes : List Class) → IsTrue (is_short_program (program_of file classes)) }
+pub fn lowering_gives_first_code()
+    ensures { (file : List ℕ) (classes : List Class) → IsTrue (is_first_program (program_of file classes)) }
 {}

@@ -1,9 +1,9 @@
-//! The lowering of the short grammar's classes to core code.
+//! The lowering of the first grammar's classes to core code.
 ghost use Rattle.std.specs.Prelude.{◌≡◌, ◌+◌, ◌++◌, [], ◌∷◌, map, IfOk, OnOk, IsTrue};
 ghost use Rattle.racer_base.specs.declared.ids.Kind.TheVariants.{Declared};
 ghost use Rattle.java_parser.specs.Tree.{pack, Set};
 ghost use Rattle.java_parser.specs.View.{statement_of, class_of, classes_of};
-ghost use Rattle.java_parser.specs.View as short;
+ghost use Rattle.java_parser.specs.View as grammar;
 ghost use Rattle.java_parser.specs.Conditions.{is_allowed};
 ghost use Rattle.core_code.specs.Tree.{tree_of};
 ghost use Rattle.core_code.specs.Core as core;
@@ -178,7 +178,7 @@ fn lower_method(
     method: &FirstMethod,
 ) -> Result<MethodCore, Memory>
     requires { checked ≡ low.is_checked (class_of class.now) }
-    ensures { IfOk result (λ made. core.method_of made ≡ low.method_lowered id.0 first (class_of class.now) (short.method_of method.now)) }
+    ensures { IfOk result (λ made. core.method_of made ≡ low.method_lowered id.0 first (class_of class.now) (grammar.method_of method.now)) }
 {
     let around = Surroundings {
         place: method.place,

@@ -1,7 +1,7 @@
 //! The values of a method's variables, and those on its operand stack.
 ghost use Rattle.std.specs.Prelude.{◌≡◌, [], ◌∷◌, ◌++◌, IfOk, OnOk, IsTrue, length, drop, slice_index_or};
 ghost use Rattle.owner_domain.specs.declared.value.Value.TheVariants.{Unnamed};
-ghost use Rattle.racer_cli.specs.Roots.{has_known_root};
+ghost use Rattle.owner_domain.specs.Values.{has_known_root};
 
 use owner_domain::Value;
 use racer_base::{Memory, VarId};
@@ -18,7 +18,7 @@ impl Model for Variables {
     ghost use Rattle.std.specs.Prelude.{List, IsTrue};
     ghost use Rattle.std.specs.List.{list_all};
     ghost use Rattle.owner_domain.specs.declared.value.Value.{Value as OneValue};
-    ghost use Rattle.racer_cli.specs.Roots.{has_known_root};
+    ghost use Rattle.owner_domain.specs.Values.{has_known_root};
 
     ghost Value = { List OneValue };
 
@@ -75,7 +75,7 @@ impl Model for Stack {
     ghost use Rattle.std.specs.Prelude.{List, IsTrue, reverse};
     ghost use Rattle.std.specs.List.{list_all};
     ghost use Rattle.owner_domain.specs.declared.value.Value.{Value as OneValue};
-    ghost use Rattle.racer_cli.specs.Roots.{has_known_root};
+    ghost use Rattle.owner_domain.specs.Values.{has_known_root};
 
     ghost Value = { List OneValue };
 

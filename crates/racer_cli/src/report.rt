@@ -6,8 +6,8 @@ ghost use Rattle.core_code.specs.Core.{method_of};
 ghost use Rattle.core_code.specs.Program.{core};
 ghost use Rattle.core_code.specs.Tree.{tree_of};
 ghost use Rattle.access_paths.specs.Text as paths;
-ghost use Rattle.access_domain.specs.Outcomes.{AreSums};
-ghost use Rattle.access_domain.specs.Summaries.{sum};
+ghost use Rattle.access_domain.specs.Outcomes.{AreOutcomes};
+ghost use Rattle.access_domain.specs.Summaries.{outcome_of};
 ghost use Rattle.race_pairs.specs.Warnings as pairs;
 ghost use Rattle.racer_cli.specs.Report as said;
 
@@ -201,8 +201,8 @@ fn outcome_of<'a>(
     outcomes: &'a [Option<Arc<Outcome>>],
     number: usize,
 ) -> Option<&'a Outcome>
-    requires { AreSums (core program.now) outcomes.now }
-    ensures { option_copied result ≡ sum (core program.now) (record { 0 = number }) }
+    requires { AreOutcomes (core program.now) outcomes.now }
+    ensures { option_copied result ≡ outcome_of (core program.now) (record { 0 = number }) }
 {
     match outcomes.get(number)? {
         None => None,
@@ -216,7 +216,7 @@ fn records_of<'a>(
     outcomes: &'a [Option<Arc<Outcome>>],
     method: MethodId,
 ) -> &'a [Access]
-    requires { AreSums (core program.now) outcomes.now }
+    requires { AreOutcomes (core program.now) outcomes.now }
     ensures { result.now ≡ pairs.records_of (core program.now) method }
 {
     match outcome_of(program, outcomes, method.0 as usize) {
@@ -233,7 +233,7 @@ fn side(
     number: MethodId,
     index: u32,
 ) -> Result<String, Memory>
-    requires { AreSums (core program.now) outcomes.now }
+    requires { AreOutcomes (core program.now) outcomes.now }
     ensures { IfOk result (λ text. string_bytes text ≡ said.side (core program.now) number index) }
 {
     let Some(method) = program.methods().get(number.0 as usize) else {
@@ -251,7 +251,7 @@ fn warning_lines(
     outcomes: &[Option<Arc<Outcome>>],
     warning: Warning,
 ) -> Result<String, Memory>
-    requires { AreSums (core program.now) outcomes.now }
+    requires { AreOutcomes (core program.now) outcomes.now }
     ensures { IfOk result (λ text. string_bytes text ≡ said.warning_lines (core program.now) warning) }
 {
     let first = side(alloc, program, outcomes, warning.entry, warning.access)?;
@@ -272,7 +272,7 @@ fn push_warnings(
     found: &[Warning],
     text: &mut String,
 ) -> Result<(), Memory>
-    requires { AreSums (core program.now) outcomes.now }
+    requires { AreOutcomes (core program.now) outcomes.now }
     ensures { OnOk result (string_bytes text.new ≡ string_bytes text.old ++ flat_map (said.warning_lines (core program.now)) found.now) }
 {
     for warning in found {
@@ -288,8 +288,8 @@ fn reason_from(
     number: usize,
     status: Option<Reason>,
 ) -> Option<&'static str>
-    requires { AreSums (core program.now) outcomes.now }
-    ensures { option_copied result ≡ said.reason_from status (sum (core program.now) (record { 0 = number })) }
+    requires { AreOutcomes (core program.now) outcomes.now }
+    ensures { option_copied result ≡ said.reason_from status (outcome_of (core program.now) (record { 0 = number })) }
 {
     if let Some(reason) = status {
         return Some(reason_text(reason));
@@ -322,7 +322,7 @@ fn not_analysed_line(
     number: usize,
     method: &MethodCore,
 ) -> Result<String, Memory>
-    requires { AreSums (core program.now) outcomes.now }
+    requires { AreOutcomes (core program.now) outcomes.now }
     ensures { IfOk result (λ text. string_bytes text ≡ said.not_analysed_line (core program.now) (number, method_of method.now)) }
 {
     match reason_from(program, outcomes, number, method.status) {
@@ -337,7 +337,7 @@ fn push_not_analysed(
     outcomes: &[Option<Arc<Outcome>>],
     text: &mut String,
 ) -> Result<(), Memory>
-    requires { AreSums (core program.now) outcomes.now }
+    requires { AreOutcomes (core program.now) outcomes.now }
     ensures { OnOk result (string_bytes text.new ≡ string_bytes text.old ++ flat_map (said.not_analysed_line (core program.now)) (enumerate_from 0 (core program.now).methods)) }
 {
     let methods = program.methods();
@@ -386,7 +386,7 @@ pub fn report(
     outcomes: &[Option<Arc<Outcome>>],
     found: &[Warning],
 ) -> Result<String, Memory>
-    requires outcomes { AreSums (core program.now) outcomes.now }
+    requires outcomes { AreOutcomes (core program.now) outcomes.now }
     requires found { found.now ≡ pairs.warnings (core program.now) }
     ensures { IfOk result (λ text. string_bytes text ≡ said.report_text (core program.now)) }
 {

@@ -5,7 +5,7 @@ ghost use Rattle.racer_base.specs.Outside.{last_count};
 ghost use Rattle.racer_base.specs.Causes.{IsCause as IsFolderCause};
 ghost use Rattle.core_code.specs.Program.{core};
 ghost use Rattle.racer_cli.specs.Words.{request_of};
-ghost use Rattle.racer_cli.specs.Short.{is_short_program};
+ghost use Rattle.racer_cli.specs.FirstCode.{is_first_program};
 ghost use Rattle.racer_cli.specs.Source.{AreCounted, IsOneSource, IsSourceFile, Accepted, count_of, no_program, refusal_line, source_names, Source};
 ghost use Rattle.racer_cli.specs.Said.{said_from, Says};
 ghost use Rattle.racer_cli.specs.Counted.{count_told};
@@ -42,7 +42,7 @@ fn refused(alloc: Global, name: &str) -> Result<Said, Memory>
 
 /// The report on a program.
 fn reported(alloc: Global, program: &Program) -> Result<Said, Memory>
-    requires { IsTrue (is_short_program (core program.now)) }
+    requires { IsTrue (is_first_program (core program.now)) }
     ensures status { IfOk result (λ said. is_said said.status ≡ true) }
     ensures said { IfOk result (λ said. said ≡ said_from (Accepted (core program.now))) }
 {
@@ -63,7 +63,7 @@ fn reported(alloc: Global, program: &Program) -> Result<Said, Memory>
 /// The program of no source.
 fn nothing(alloc: Global) -> Program
     ensures program { core result ≡ no_program }
-    ensures short { IsTrue (is_short_program (core result)) }
+    ensures first_code { IsTrue (is_first_program (core result)) }
 {
     Program::of(Parts {
         files: Items::new(alloc),

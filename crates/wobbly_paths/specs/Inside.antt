@@ -1,4 +1,4 @@
--- What a set of paths is kept as.
+-- A contract of a public call rests on this: what a set of paths is kept as.
 use Rattle.std.specs.Prelude.{◌≡◌, ◌≤◌, List, length}
 use Rattle.std.specs.FinSet as set
 use Rattle.racer_base.specs.declared.limits.TheConstants.{MAX_SUMMARY_KEYS}

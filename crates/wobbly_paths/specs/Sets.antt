@@ -1,4 +1,4 @@
--- What the calls on a set of paths say.
+-- A contract of a public call rests on this: what the calls on a set of paths say.
 use Rattle.std.specs.Prelude.{◌≡◌, ℕ, ◌<◌, Bool, true, false, length}
 use Rattle.std.specs.FinSet as set
 use Rattle.racer_base.specs.declared.limits.TheConstants.{MAX_SUMMARY_KEYS}

@@ -7,6 +7,3 @@
 mod wobbly;
 
 pub use wobbly::{Adding, Wobbly};
-
-#[cfg(test)]
-mod tests;

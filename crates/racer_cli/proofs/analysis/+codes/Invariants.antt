@@ -1,6 +1,6 @@
 use Rattle.std.proofs.Common.{◌≡◌, true, map, drop}
 use Rattle.core_code.specs.Tree.{tree_of, in_sequence}
-use Rattle.racer_cli.specs.Short.{is_short}
+use Rattle.racer_cli.specs.FirstCode.{is_first_code}
 use Rattle.racer_cli.specs.Walks.{flow_here, IsLeft}
 use Rattle.racer_cli.proofs.analysis.+codes.Given as goal
 
@@ -10,6 +10,6 @@ invariant-go_through-loop-part l =
     let whole = in_sequence (map tree_of l.parts) in
     let rest = in_sequence (map tree_of (drop l.part-index l.parts)) in
     record {
-      short : is_short rest ≡ true;
+      first_code : is_first_code rest ≡ true;
       left : IsLeft (flow_here l.frame whole l.locked l.fn.walk) (flow_here l.frame rest l.locked l.walk) l.fn.walk l.walk;
     }

@@ -1,7 +1,7 @@
 use Rattle.std.proofs.Common.{length, sym, ap, ◌∙◌, arith}
 use Rattle.std.specs.Vec.Iter.{into_iter_items}
 use Rattle.access_paths.specs.Order.{PathSet}
-use Rattle.racer_cli.specs.Additions.{paths_added}
+use Rattle.racer_cli.proofs.Additions.{paths_added}
 use Rattle.racer_cli.proofs.Kept.{nothing_left, added_path, all_paths, too_many_paths}
 use Rattle.racer_cli.proofs.analysis.keep_paths.Goals as goal
 

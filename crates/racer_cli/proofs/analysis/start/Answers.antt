@@ -8,11 +8,11 @@ replicate_turn before n i x within =
     let one : suc (n - (i + 1)) ≡ n - i = omega arith in
     append_assoc before (x ∷ []) (replicate (n - (i + 1)) x) ∙ ap (λ (k : ℕ). before ++ replicate k x) one
 
-pub loop-place-preserved : goal.loop-place-preserved
-loop-place-preserved c =
+pub loop-local-preserved : goal.loop-local-preserved
+loop-local-preserved c =
     let n = length c.args.method.now.variables in
-    let i = c.loop-place._place in
-    let within : i < n = omega (arith, c.loop-place-test.true, c.len-place-end.ensures) in
+    let i = c.loop-local._local in
+    let within : i < n = omega (arith, c.loop-local-test.true, c.len-local-end.ensures) in
     ap (λ (values : List Value). values ++ replicate (n - (i + 1)) Owned) c.in_ok-push.ensures
-    ∙ replicate_turn c.loop-place.values n i Owned within
-    ∙ c.loop-place.invariant
+    ∙ replicate_turn c.loop-local.values n i Owned within
+    ∙ c.loop-local.invariant

@@ -1,7 +1,7 @@
 use Rattle.std.proofs.Common.{◌≡◌, ℕ, List, refl, ◌++◌, [], ◌∷◌, ap, ◌∙◌}
 use Rattle.java_parser.specs.View.{classes_of}
 use Rattle.core_code.specs.Core.{Core, core_of}
-use Rattle.racer_cli.specs.LoweringSteps.{classes_added}
+use Rattle.racer_cli.proofs.Added.{classes_added}
 use Rattle.racer_cli.proofs.Added.{classes_added-followed}
 use Rattle.racer_cli.proofs.lowering.lower_parts.Goals as goal
 

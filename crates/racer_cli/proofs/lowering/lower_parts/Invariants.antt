@@ -2,7 +2,7 @@ use Rattle.std.proofs.Common.{◌≡◌, map, drop}
 use Rattle.java_parser.specs.View.{class_of, classes_of}
 use Rattle.core_code.specs.Core.{core_of}
 use Rattle.racer_cli.specs.Lowering.{program_of}
-use Rattle.racer_cli.specs.LoweringSteps.{classes_added}
+use Rattle.racer_cli.proofs.Added.{classes_added}
 use Rattle.racer_cli.proofs.lowering.lower_parts.Given as goal
 
 abbrev pub invariant-loop-class : goal.invariant-loop-class

@@ -5,10 +5,10 @@ use Rattle.java_parser.specs.declared.first.FirstClass.{FirstClass}
 use Rattle.java_parser.specs.View.{classes_of}
 use Rattle.core_code.specs.Core.{Core}
 use Rattle.racer_cli.specs.InFile.{are_in_file}
-use Rattle.racer_cli.specs.Short.{is_short_program}
+use Rattle.racer_cli.specs.FirstCode.{is_first_program}
 use Rattle.racer_cli.proofs.Placed.{placed_by_tokens}
 use Rattle.racer_cli.proofs.SourceLemmas.{tokens_in_first}
-use Rattle.racer_cli.proofs.ShortPrograms.{program_of-short}
+use Rattle.racer_cli.proofs.FirstPrograms.{program_of-first_code}
 use Rattle.racer_cli.proofs.source.source_program.Goals as goal
 
 pub lower_first-requires-clause-placed : goal.lower_first-requires-clause-placed
@@ -17,5 +17,5 @@ lower_first-requires-clause-placed c =
     let placed = placed_by_tokens c.in_ok-lexed.lexed.tokens (classes_of c.in-Ok.classes.items) c.in-Ok.ensures.file all in
     subst (λ (classes : List FirstClass). are_in_file 0 (classes_of classes) ≡ true) (sym c.as_slice.ensures.value) placed
 
-pub returns-in-Ok-clause-short : goal.returns-in-Ok-clause-short
-returns-in-Ok-clause-short c = subst (λ (program : Core). is_short_program program ≡ true) (sym c.in_ok-lower_first-in-Ok.ensures) (program_of-short c.args.name.now (classes_of c.as_slice.result.now))
+pub returns-in-Ok-clause-first_code : goal.returns-in-Ok-clause-first_code
+returns-in-Ok-clause-first_code c = subst (λ (program : Core). is_first_program program ≡ true) (sym c.in_ok-lower_first-in-Ok.ensures) (program_of-first_code c.args.name.now (classes_of c.as_slice.result.now))

@@ -12,7 +12,7 @@ in_from_Contains [] y k within is = absurd (omega arith)
 in_from_Contains (x ∷ xs) y zero within is = inl is
 in_from_Contains (x ∷ xs) y (suc k) within is = inr (in_from_Contains xs y k (omega arith) is)
 
-in_append : {X : Type 0} (xs ys : List X) (y : X) → In (xs ++ ys) y → In xs y ⊎ In ys y
+pub in_append : {X : Type 0} (xs ys : List X) (y : X) → In (xs ++ ys) y → In xs y ⊎ In ys y
 in_append [] ys y h = inr h
 in_append (x ∷ xs) ys y h = ⊎_elim (λ e. inl (inl e)) (λ r. ⊎_elim (λ a. inl (inr a)) (λ b. inr b) (in_append xs ys y r)) h
 

@@ -1,0 +1,49 @@
+-- No public contract rests on this: where a record of a method comes from.
+use Rattle.std.specs.Prelude.{◌≡◌, ℕ, ◌⊎◌, Option, None, Some, Contains, slice_get}
+use Rattle.racer_base.specs.declared.ids.MethodId.{MethodId}
+use Rattle.racer_base.specs.declared.ids.Touch.{Touch}
+use Rattle.racer_base.specs.declared.ids.Touch.TheVariants.{Read, Write}
+use Rattle.core_code.specs.declared.code.Op.{Op as CoreOp}
+use Rattle.core_code.specs.declared.code.Op.TheVariants.{Get, Put, Call}
+use Rattle.core_code.specs.Tree.{Tree, Operation, steps_of}
+use Rattle.access_domain.specs.declared.access.Access.{Access}
+use Rattle.access_domain.specs.Findings.{Findings, Whole}
+use Rattle.access_domain.specs.Given.{Given}
+use Rattle.access_domain.specs.Substitution.{Actuals, substituted_path}
+
+-- how an operation touches a field itself
+abbrev pub touch_of : CoreOp → Option Touch
+touch_of (Get f) = Some Read
+touch_of (Put f) = Some Write
+touch_of _ = None
+
+-- the record is that of an operation of the code, a Get or a Put at the record's site
+pub record IsOwn (code : Tree) (access : Access) : Type 0 where
+  pub operation : Operation
+  pub stands : Contains (steps_of code) operation
+  pub site : operation.site ≡ access.site
+  pub touches : touch_of operation.op ≡ Some access.kind
+  pub below : access.below ≡ None
+
+-- the record is one of a callee, by its index there, with its path put into the caller's values; a call of the code stands
+-- at the record's site
+pub record IsOfCallee (g : Given) (code : Tree) (access : Access) : Type 0 where
+  pub operation : Operation
+  pub stands : Contains (steps_of code) operation
+  pub site : operation.site ≡ access.site
+  pub callee : MethodId
+  pub count : ℕ
+  pub calls : operation.op ≡ Call callee count
+  pub found : Findings
+  pub known : g.known_of callee ≡ Some (Whole found)
+  pub index : ℕ
+  pub below : access.below ≡ Some index
+  pub inner : Access
+  pub has : slice_get found.records index ≡ Some inner
+  pub kind : access.kind ≡ inner.kind
+  pub actuals : Actuals
+  pub path : substituted_path g actuals inner.path ≡ Some access.path
+
+-- a record of code is its own, or one of a callee
+abbrev pub HasOrigin : Given → Tree → Access → Type 0
+HasOrigin g code access = IsOwn code access ⊎ IsOfCallee g code access
