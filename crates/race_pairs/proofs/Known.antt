@@ -10,8 +10,8 @@ use Rattle.racer_base.specs.declared.ids.ClassId.{ClassId}
 use Rattle.racer_base.specs.declared.ids.MethodId.{MethodId}
 use Rattle.core_code.specs.Core.{Core, Method}
 use Rattle.access_domain.specs.declared.summary.Outcome.{Outcome}
-use Rattle.access_domain.specs.Outcomes.{AreSums}
-use Rattle.access_domain.specs.Summaries.{sum, sums_from}
+use Rattle.access_domain.specs.Outcomes.{AreOutcomes}
+use Rattle.access_domain.specs.Summaries.{outcome_of, outcomes_from}
 use Rattle.race_pairs.specs.Warnings.{records_held, records_of, numbered_records, is_entry_of, entry_records}
 
 abbrev number : ℕ → MethodId
@@ -21,15 +21,15 @@ length-outcomes_from : (core : Core) (i n : ℕ) → length (outcomes_from core 
 length-outcomes_from core i zero = refl
 length-outcomes_from core i (suc n) = ap suc (length-outcomes_from core (suc i) n)
 
-get_or-sums_from : (core : Core) (i n k : ℕ) (d : Option Outcome) → k < n → get_or (sums_from core i n) k d ≡ sum core (number (i + k))
-get_or-sums_from core i zero k d within = absurd (omega arith)
-get_or-sums_from core i (suc n) zero d within = ap (λ j. sum core (number j)) (sym (add-zero i))
-get_or-sums_from core i (suc n) (suc k) d within =
+get_or-outcomes_from : (core : Core) (i n k : ℕ) (d : Option Outcome) → k < n → get_or (outcomes_from core i n) k d ≡ outcome_of core (number (i + k))
+get_or-outcomes_from core i zero k d within = absurd (omega arith)
+get_or-outcomes_from core i (suc n) zero d within = ap (λ j. outcome_of core (number j)) (sym (add-zero i))
+get_or-outcomes_from core i (suc n) (suc k) d within =
     let moved : suc i + k ≡ i + suc k = omega arith in
-    get_or-sums_from core (suc i) n k d (omega arith) ∙ ap (λ j. sum core (number j)) moved
+    get_or-outcomes_from core (suc i) n k d (omega arith) ∙ ap (λ j. outcome_of core (number j)) moved
 
 -- there is an outcome for each method
-pub one_for_each : (core : Core) (outcomes : List (Option (Arc Outcome Global))) → AreSums core outcomes → length outcomes ≡ length core.methods
+pub one_for_each : (core : Core) (outcomes : List (Option (Arc Outcome Global))) → AreOutcomes core outcomes → length outcomes ≡ length core.methods
 one_for_each core outcomes are =
     sym (length-map outcomes (option_map arc_value)) ∙ ap length are ∙ length-outcomes_from core 0 (length core.methods)
 
@@ -43,7 +43,7 @@ outcome_at core outcomes m o are within is =
     ∙ ap (λ j. outcome_of core (number j)) (zero-add m)
 
 -- the records of an entry, whose outcome is read at its number
-pub entry_adds : (core : Core) (c : ClassId) (m : ℕ) (method : Method) (id : MethodId) (o : Option (Arc Outcome Global)) → is_entry_of c method ≡ true → id.0 ≡ m → option_map arc_value o ≡ sum core (number m) → numbered_records id (records_held (option_map arc_value o)) ≡ entry_records core c (m, method)
+pub entry_adds : (core : Core) (c : ClassId) (m : ℕ) (method : Method) (id : MethodId) (o : Option (Arc Outcome Global)) → is_entry_of c method ≡ true → id.0 ≡ m → option_map arc_value o ≡ outcome_of core (number m) → numbered_records id (records_held (option_map arc_value o)) ≡ entry_records core c (m, method)
 entry_adds core c m method id o entry is known =
     let test : entry_records core c (m, method) ≡ numbered_records (number m) (records_of core (number m)) = ap (λ b. cond b (numbered_records (number m) (records_of core (number m))) []) entry in
     (λ i. numbered_records (number (is i)) (records_held (known i))) ∙ sym test

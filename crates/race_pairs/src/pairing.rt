@@ -3,7 +3,7 @@ ghost use Rattle.std.specs.Prelude.{◌≡◌, ◌++◌, ◌^◌, ◌≤◌, IfO
 ghost use Rattle.std.specs.Arc.{arc_value};
 ghost use Rattle.core_code.specs.Core.{method_of};
 ghost use Rattle.core_code.specs.Program.{core};
-ghost use Rattle.access_domain.specs.Outcomes.{AreSums};
+ghost use Rattle.access_domain.specs.Outcomes.{AreOutcomes};
 ghost use Rattle.race_pairs.specs.Warnings.{records_held, numbered_records, is_entry_of, records_in};
 ghost use Rattle.race_pairs.specs.Warnings.{warnings_among, warnings};
 ghost use Rattle.race_pairs.specs.MethodRecords.{record_of, all_records};
@@ -96,7 +96,7 @@ fn records_in<'a>(
     outcomes: &'a Outcomes,
     class: ClassId,
 ) -> Result<Vec<MethodAccess<'a>>, Memory>
-    requires { AreSums (core program.now) outcomes.now.items }
+    requires { AreOutcomes (core program.now) outcomes.now.items }
     ensures { IfOk result (λ records. all_records records.items ≡ records_in (core program.now) class) }
 {
     let mut records = Vec::new(alloc);
