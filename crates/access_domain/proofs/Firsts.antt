@@ -1,5 +1,6 @@
 -- The firsts of a list with one more element.
-use Rattle.std.proofs.Common.{◌≡◌, ◌+◌, ◌<◌, Bool, true, false, cond, not, ◌||◌, List, [], ◌∷◌, ◌++◌, length, filter, refl, sym, ap, ◌∙◌, arith, length-append}
+use Rattle.std.proofs.Common.{◌≡◌, ◌+◌, ◌<◌, Bool, true, false, cond, not, ◌||◌, List, [], ◌∷◌, ◌++◌, length, filter}
+use Rattle.std.proofs.Common.{refl, sym, ap, ◌∙◌, arith, length-append}
 use Rattle.std.specs.List.{list_any}
 use Rattle.racer_base.specs.declared.limits.TheConstants.{MAX_SUMMARY_KEYS}
 use Rattle.access_domain.specs.declared.access.Access.{Access}
@@ -21,16 +22,19 @@ append_nil : {X : Type 0} (xs : List X) → (xs ++ []) ≡ xs
 append_nil [] = refl
 append_nil (x ∷ xs) = ap (λ ys. x ∷ ys) (append_nil xs)
 
-filter_push : {X : Type 0} (p : X → Bool) (xs : List X) (y : X) → filter p (xs ++ y ∷ []) ≡ filter p xs ++ cond (p y) (y ∷ []) []
+filter_push : {X : Type 0} (p : X → Bool) (xs : List X) (y : X) →
+    filter p (xs ++ y ∷ []) ≡ filter p xs ++ cond (p y) (y ∷ []) []
 filter_push p [] y = refl
 filter_push {X} p (x ∷ xs) y =
-    elim (p x) as (λ b. cond b (x ∷ filter p (xs ++ y ∷ [])) (filter p (xs ++ y ∷ [])) ≡ cond b (x ∷ filter p xs) (filter p xs) ++ cond (p y) (y ∷ []) []) [
+    elim (p x) as (λ b. cond b (x ∷ filter p (xs ++ y ∷ [])) (filter p (xs ++ y ∷ [])) ≡
+    cond b (x ∷ filter p xs) (filter p xs) ++ cond (p y) (y ∷ []) []) [
       | true ↦ ap (λ zs. x ∷ zs) (filter_push p xs y)
       | false ↦ filter_push p xs y
     ]
 
 -- the last one is among the firsts where no earlier one is the same
-pub firsts-new : {X : Type 0} (same : X → X → Bool) (xs : List X) (y : X) → list_any (λ x. same x y) xs ≡ false → firsts same (xs ++ y ∷ []) ≡ firsts same xs ++ y ∷ []
+pub firsts-new : {X : Type 0} (same : X → X → Bool) (xs : List X) (y : X) → list_any (λ x. same x y) xs ≡ false →
+    firsts same (xs ++ y ∷ []) ≡ firsts same xs ++ y ∷ []
 firsts-new same [] y none = refl
 firsts-new {X} same (x ∷ xs) y none =
     let here : same x y ≡ false = first_false (same x y) (list_any (λ z. same z y) xs) none in
@@ -39,7 +43,9 @@ firsts-new {X} same (x ∷ xs) y none =
     ∙ ap (λ zs. x ∷ zs) (filter_push (λ z. not (same x z)) (firsts same xs) y)
     ∙ ap (λ b. x ∷ (filter (λ z. not (same x z)) (firsts same xs) ++ cond (not b) (y ∷ []) [])) here
 
-pub IsWithin-push : (records : List Access) (access : Access) → IsWithin records → list_any (λ r. same_key r access) records ≡ false → length records < MAX_SUMMARY_KEYS → IsWithin (records ++ access ∷ [])
+pub IsWithin-push : (records : List Access) (access : Access) → IsWithin records →
+    list_any (λ r. same_key r access) records ≡ false → length records < MAX_SUMMARY_KEYS →
+    IsWithin (records ++ access ∷ [])
 IsWithin-push records access w new room =
     let long : length (records ++ access ∷ []) ≡ length records + 1 = length-append records (access ∷ []) in
     record {
@@ -51,10 +57,12 @@ pub IsWithin-none : IsWithin []
 IsWithin-none = record { firsts = refl; limit = omega arith }
 
 -- one that is the same as an earlier one is not among the firsts
-pub firsts-old : {X : Type 0} (same : X → X → Bool) (xs : List X) (y : X) → list_any (λ x. same x y) xs ≡ true → firsts same (xs ++ y ∷ []) ≡ firsts same xs
+pub firsts-old : {X : Type 0} (same : X → X → Bool) (xs : List X) (y : X) → list_any (λ x. same x y) xs ≡ true →
+    firsts same (xs ++ y ∷ []) ≡ firsts same xs
 firsts-old same [] y one = cc
 firsts-old {X} same (x ∷ xs) y one =
-    elim (list_any (λ z. same z y) xs) as (λ b. list_any (λ z. same z y) xs ≡ b → (same x y || b) ≡ true → firsts same (x ∷ (xs ++ y ∷ [])) ≡ firsts same (x ∷ xs)) [
+    elim (list_any (λ z. same z y) xs) as (λ b. list_any (λ z. same z y) xs ≡ b → (same x y || b) ≡ true →
+    firsts same (x ∷ (xs ++ y ∷ [])) ≡ firsts same (x ∷ xs)) [
       | true ↦ λ e h. ap (λ zs. x ∷ filter (λ z. not (same x z)) zs) (firsts-old same xs y e)
       | false ↦ λ e h.
           let here : same x y ≡ true = sym (or_false (same x y)) ∙ h in

@@ -1,6 +1,8 @@
 -- Where a record of a method comes from.
-use Rattle.std.proofs.Common.{◌≡◌, ℕ, zero, suc, ◌+◌, ◌<◌, Bool, true, false, cond, not, ◌||◌, ◌⊎◌, inl, inr, ⊎_elim, List, [], ◌∷◌}
-use Rattle.std.proofs.Common.{◌++◌, length, filter, Option, None, Some, slice_get, is_none, refl, sym, ap, subst, ◌∙◌, arith}
+use Rattle.std.proofs.Common.{◌≡◌, ℕ, zero, suc, ◌+◌, ◌<◌, Bool, true, false, cond, not, ◌||◌, ◌⊎◌, inl, inr, ⊎_elim}
+use Rattle.std.proofs.Common.{List, [], ◌∷◌}
+use Rattle.std.proofs.Common.{◌++◌, length, filter, Option, None, Some, slice_get, is_none, refl, sym, ap, subst, ◌∙◌}
+use Rattle.std.proofs.Common.{arith}
 use Rattle.std.proofs.Common.{zero-add}
 use Rattle.std.specs.List.{Contains, enumerate_from, flat_map}
 use Rattle.std.specs.Option.{option_and_then}
@@ -26,10 +28,13 @@ use Rattle.access_domain.specs.declared.access.Access.{Access}
 use Rattle.access_domain.specs.Records.{firsts, first_of_keys, same_key}
 use Rattle.access_domain.specs.Findings.{Findings, Known, Large, Whole, Table}
 use Rattle.access_domain.specs.Given.{Given, given_of}
-use Rattle.access_domain.specs.Substitution.{Actuals, touched, actuals_from, substituted_path, substituted_record, substituted}
-use Rattle.access_domain.specs.Operations.{Effects, record_of, passed_from, slot_of, top, popped, call_effects, op_effects}
+use Rattle.access_domain.specs.Substitution.{Actuals, touched, actuals_from, substituted_path, substituted_record}
+use Rattle.access_domain.specs.Substitution.{substituted}
+use Rattle.access_domain.specs.Operations.{Effects, record_of, passed_from, slot_of, top, popped, call_effects}
+use Rattle.access_domain.specs.Operations.{op_effects}
 use Rattle.access_domain.specs.Flow.{both, after, rounds, flow}
-use Rattle.access_domain.specs.Summaries.{start_of, findings_from, is_large, known_from, effects_given, known_at, known_of}
+use Rattle.access_domain.specs.Summaries.{start_of, findings_from, is_large, known_from, effects_given, known_at}
+use Rattle.access_domain.specs.Summaries.{known_of}
 use Rattle.access_domain.specs.Summaries.{known_given, known_of_callees}
 use Rattle.access_domain.specs.Origins.{touch_of, IsOwn, IsOfCallee, HasOrigin}
 
@@ -63,7 +68,11 @@ made : (g : Given) (kind : Touch) (locked : Bool) (site : SiteId) (o : Option Pa
 made g kind locked site None a h = absurd h
 made g kind locked site (Some p) a h =
     ⊎_elim
-    (λ e. record { site = ap (λ (r : Access). r.site) e; kind = ap (λ (r : Access). Some r.kind) e; below = ap (λ (r : Access). r.below) (sym e) })
+    (λ e. record {
+      site = ap (λ (r : Access). r.site) e;
+      kind = ap (λ (r : Access). Some r.kind) e;
+      below = ap (λ (r : Access). r.below) (sym e);
+    })
     (λ r. absurd r) h
 
 made_record : (g : Given) (kind : Touch) (locked : Bool) (site : SiteId) (base : Value) (f : FieldId) (a : Access) →
@@ -130,11 +139,14 @@ own g site place op kind a touches m =
       below = m.below;
     })
 
-of_callee : (g : Given) (site : SiteId) (place : Place) (m : MethodId) (n : ℕ) (found : Findings) (actuals : Actuals) (locked : Bool) (a : Access) →
-    g.known_of m ≡ Some (Whole found) → In (substituted g actuals found locked site).records a → HasOrigin g (Step site place (Call m n)) a
+of_callee : (g : Given) (site : SiteId) (place : Place) (m : MethodId) (n : ℕ) (found : Findings) (actuals : Actuals)
+    (locked : Bool) (a : Access) →
+    g.known_of m ≡ Some (Whole found) → In (substituted g actuals found locked site).records a →
+    HasOrigin g (Step site place (Call m n)) a
 of_callee g site place m n found actuals locked a known h =
     let all : List Access = flat_map (substituted_record g actuals locked site) (enumerate_from 0 found.records) in
-    let one = in_flat_map (substituted_record g actuals locked site) (enumerate_from 0 found.records) a (in_firsts same_key all a h) in
+    let one = in_flat_map (substituted_record g actuals locked site) (enumerate_from 0 found.records) a
+    (in_firsts same_key all a h) in
     let b : Brought g actuals site one.0 a = brought g actuals locked site one.0 a one.2 in
     let number = in_enumerate_from 0 found.records one.0 one.1 in
     let index : number.0 ≡ one.0.0 = sym (zero-add number.0) ∙ sym number.1 in
@@ -156,7 +168,8 @@ of_callee g site place m n found actuals locked a known h =
       path = b.path;
     })
 
-called : (g : Given) (locked : Bool) (site : SiteId) (place : Place) (m : MethodId) (n : ℕ) (s : State) (a : Access) (o : Option Known) →
+called : (g : Given) (locked : Bool) (site : SiteId) (place : Place) (m : MethodId) (n : ℕ) (s : State) (a : Access)
+    (o : Option Known) →
     g.known_of m ≡ o → In (call_effects g locked site m n s o).records a → HasOrigin g (Step site place (Call m n)) a
 called g locked site place m n s a None known h = absurd h
 called g locked site place m n s a (Some Large) known h = absurd h
@@ -165,8 +178,10 @@ called g locked site place m n s a (Some (Whole found)) known h =
 
 op_origin : (g : Given) (locked : Bool) (site : SiteId) (place : Place) (op : CoreOp) (s : State) (a : Access) →
     In (op_effects g locked site op s).records a → HasOrigin g (Step site place op) a
-op_origin g locked site place (Get f) s a h = own g site place (Get f) Read a refl (made_record g Read locked site (top s) f a h)
-op_origin g locked site place (Put f) s a h = own g site place (Put f) Write a refl (made_record g Write locked site (slot_of s 1) f a h)
+op_origin g locked site place (Get f) s a h =
+    own g site place (Get f) Read a refl (made_record g Read locked site (top s) f a h)
+op_origin g locked site place (Put f) s a h =
+    own g site place (Put f) Write a refl (made_record g Write locked site (slot_of s 1) f a h)
 op_origin g locked site place (Call m n) s a h = called g locked site place m n s a (g.known_of m) refl h
 op_origin g locked site place (Push v) s a h = absurd h
 op_origin g locked site place (PushClass c) s a h = absurd h
@@ -184,7 +199,8 @@ op_origin g locked site place Ret s a h = absurd h
 -- ---- code
 
 -- what a part has the whole has
-lifted : (g : Given) (part whole : Tree) (a : Access) → ((o : Operation) → Contains (steps_of part) o → Contains (steps_of whole) o) →
+lifted : (g : Given) (part whole : Tree) (a : Access) →
+    ((o : Operation) → Contains (steps_of part) o → Contains (steps_of whole) o) →
     HasOrigin g part a → HasOrigin g whole a
 lifted g part whole a has h =
     ⊎_elim
@@ -225,32 +241,41 @@ either_part first rest a h =
       | Some s ↦ λ there. ⊎_elim (λ l. inl l) (λ r. inr (s, r)) (in_append first.records (rest s).records a there)
     ] h
 
-origin_in : (g : Given) (code : Tree) (locked : Bool) (s : State) (a : Access) → In (flow g code locked s).records a → HasOrigin g code a
+origin_in : (g : Given) (code : Tree) (locked : Bool) (s : State) (a : Access) → In (flow g code locked s).records a →
+    HasOrigin g code a
 origin_in g (Step site place op) locked s a h = op_origin g locked site place op s a h
 origin_in g Nothing locked s a h = absurd h
 origin_in g (Then first rest) locked s a h =
     ⊎_elim
-    (λ l. lifted g first (Then first rest) a (λ o. Contains-append_left (steps_of first) (steps_of rest) o) (origin_in g first locked s a l))
-    (λ r. lifted g rest (Then first rest) a (λ o. Contains-append_right (steps_of first) (steps_of rest) o) (origin_in g rest locked r.0 a r.1))
+    (λ l. lifted g first (Then first rest) a (λ o.
+    Contains-append_left (steps_of first) (steps_of rest) o) (origin_in g first locked s a l))
+    (λ r. lifted g rest (Then first rest) a (λ o.
+    Contains-append_right (steps_of first) (steps_of rest) o) (origin_in g rest locked r.0 a r.1))
     (either_part (flow g first locked s) (flow g rest locked) a h)
 origin_in g (Either left right) locked s a h =
     ⊎_elim
-    (λ l. lifted g left (Either left right) a (λ o. Contains-append_left (steps_of left) (steps_of right) o) (origin_in g left locked s a l))
-    (λ r. lifted g right (Either left right) a (λ o. Contains-append_right (steps_of left) (steps_of right) o) (origin_in g right locked s a r))
+    (λ l. lifted g left (Either left right) a (λ o.
+    Contains-append_left (steps_of left) (steps_of right) o) (origin_in g left locked s a l))
+    (λ r. lifted g right (Either left right) a (λ o.
+    Contains-append_right (steps_of left) (steps_of right) o) (origin_in g right locked s a r))
     (in_append (flow g left locked s).records (flow g right locked s).records a h)
 origin_in g (Again body) locked s a h =
     lifted g body (Again body) a (λ o there. there)
     (origin_in g body locked (rounds (flow g body locked) (length s.vars + length s.stack + 1) s).0 a h)
-origin_in g (Held place body) locked s a h = lifted g body (Held place body) a (λ o there. there) (origin_in g body true (popped s 1) a h)
+origin_in g (Held place body) locked s a h =
+    lifted g body (Held place body) a (λ o there. there) (origin_in g body true (popped s 1) a h)
 
 -- each record of a flow is an operation's own, or one of a callee
-pub origin : (g : Given) (code : Tree) (locked : Bool) (s : State) (a : Access) → Contains (flow g code locked s).records a → HasOrigin g code a
-origin g code locked s a h = origin_in g code locked s a (in_from_Contains (flow g code locked s).records a h.0 h.1 h.2)
+pub origin : (g : Given) (code : Tree) (locked : Bool) (s : State) (a : Access) →
+    Contains (flow g code locked s).records a → HasOrigin g code a
+origin g code locked s a h = origin_in g code locked s a
+    (in_from_Contains (flow g code locked s).records a h.0 h.1 h.2)
 
 -- ---- methods
 
 -- from what is known of methods of smaller ranks to what is known of all
-closed : (core : Core) (m : MethodId) (main : Bool) (code : Tree) (a : Access) → HasOrigin (given_of core (known_of_callees core m) main) code a →
+closed : (core : Core) (m : MethodId) (main : Bool) (code : Tree) (a : Access) →
+    HasOrigin (given_of core (known_of_callees core m) main) code a →
     HasOrigin (given_of core (known_of core) main) code a
 closed core m main code a h =
     ⊎_elim
@@ -288,17 +313,21 @@ known_there : (core : Core) (m : MethodId) (method : Method) (found : Findings) 
 known_there core m method found there known =
     let table : Table = known_of_callees core m in
     analysed (is_none method.status) (known_given core table method) found
-    (sym (ap (λ (o : Option Method). option_and_then (λ of. cond (is_none of.status) (Some (known_given core table of)) None) o) there) ∙ known)
+    (sym (ap (λ (o : Option Method). option_and_then (λ of.
+    cond (is_none of.status) (Some (known_given core table of)) None) o) there) ∙ known)
 
 -- each record that is known of a method is an operation's own, or one of a callee
-pub origin_of_method : (core : Core) (m : MethodId) (method : Method) (found : Findings) (a : Access) → method_at core m ≡ Some method →
+pub origin_of_method : (core : Core) (m : MethodId) (method : Method) (found : Findings) (a : Access) →
+    method_at core m ≡ Some method →
     known_of core m ≡ Some (Whole found) → Contains found.records a →
     HasOrigin (given_of core (known_of core) method.main) method.code a
 origin_of_method core m method found a there known h =
     let table : Table = known_of_callees core m in
     let e : Effects = effects_given core table method in
-    let made : findings_from e ≡ found = whole_of (is_large e) (findings_from e) found (known_there core m method found there known) in
+    let made : findings_from e ≡ found = whole_of (is_large e) (findings_from e) found
+    (known_there core m method found there known) in
     let P : Findings → Type 0 = λ f. In f.records a in
     let kept : In (first_of_keys e.records) a = subst P (sym made) (in_from_Contains found.records a h.0 h.1 h.2) in
     closed core m method.main method.code a
-    (origin_in (given_of core table method.main) method.code false (start_of method) a (in_firsts same_key e.records a kept))
+    (origin_in (given_of core table method.main) method.code false (start_of method) a
+    (in_firsts same_key e.records a kept))

@@ -1,5 +1,5 @@
--- A contract of a public call rests on this: what one operation does, that is the variables and the stack after it, its
--- records and its wobbly paths.
+-- A contract of a public call rests on this: what one operation does, that is the variables and the stack after it,
+-- its records and its wobbly paths.
 use Rattle.std.specs.Prelude.{ℕ, Bool, true, false, List, [], ◌∷◌, ◌++◌, Option, None, Some, take, drop, reverse}
 use Rattle.std.specs.Prelude.{slice_index_or, slice_set, if◌then◌else◌}
 use Rattle.racer_base.specs.declared.ids.FieldId.{FieldId}

@@ -25,8 +25,8 @@ pub record IsOwn (code : Tree) (access : Access) : Type 0 where
   pub touches : touch_of operation.op ≡ Some access.kind
   pub below : access.below ≡ None
 
--- the record is one of a callee, by its index there, with its path put into the caller's values; a call of the code stands
--- at the record's site
+-- the record is one of a callee, by its index there, with its path put into the caller's values; a call of the code
+-- stands at the record's site
 pub record IsOfCallee (g : Given) (code : Tree) (access : Access) : Type 0 where
   pub operation : Operation
   pub stands : Contains (steps_of code) operation

@@ -36,11 +36,13 @@ var n = record { 0 = n }
 
 -- an access that a method makes itself
 abbrev pub access : Touch → Path → Bool → ℕ → Access
-access kind path locked site = record { path = path; kind = kind; locked = locked; main = false; site = record { 0 = site }; below = None }
+access kind path locked site =
+    record { path = path; kind = kind; locked = locked; main = false; site = record { 0 = site }; below = None }
 
 -- an access that the record of this index of a callee makes, at a call
 abbrev pub access_below : Touch → Path → ℕ → ℕ → Access
-access_below kind path site index = record { path = path; kind = kind; locked = false; main = false; site = record { 0 = site }; below = Some index }
+access_below kind path site index =
+    record { path = path; kind = kind; locked = false; main = false; site = record { 0 = site }; below = Some index }
 
 abbrev step : ℕ → CoreOp → Tree
 step site op = Step (record { 0 = site }) (at 1 1) op
@@ -79,14 +81,17 @@ pick_code =
     in_sequence
     (step 0 (Push (var 0)) ∷ step 1 (Get (field 4)) ∷ step 2 Drop
     ∷ Either (in_sequence (step 3 (Push (var 2)) ∷ step 4 (Set (var 1)) ∷ step 5 Drop ∷ [])) Nothing
-    ∷ step 6 (Push (var 1)) ∷ step 7 (Push (var 2)) ∷ step 8 (Put (field 0)) ∷ step 9 Drop ∷ step 10 PushPrim ∷ step 11 Ret ∷ [])
+    ∷ step 6 (Push (var 1)) ∷ step 7 (Push (var 2)) ∷ step 8 (Put (field 0)) ∷ step 9 Drop
+    ∷ step 10 PushPrim ∷ step 11 Ret ∷ [])
 
 abbrev run_code : Tree
 run_code =
     in_sequence
-    (step 0 (Push (var 0)) ∷ step 1 (Push (var 0)) ∷ step 2 (Get (field 2)) ∷ step 3 (Push (var 0)) ∷ step 4 (Get (field 3))
+    (step 0 (Push (var 0)) ∷ step 1 (Push (var 0)) ∷ step 2 (Get (field 2))
+    ∷ step 3 (Push (var 0)) ∷ step 4 (Get (field 3))
     ∷ step 5 (Call (method 0) 3) ∷ step 6 Drop
-    ∷ step 7 (Push (var 0)) ∷ step 8 (Get (field 2)) ∷ step 9 (Get (field 0)) ∷ step 10 PushPrim ∷ step 11 (Put (field 1)) ∷ step 12 Drop
+    ∷ step 7 (Push (var 0)) ∷ step 8 (Get (field 2)) ∷ step 9 (Get (field 0))
+    ∷ step 10 PushPrim ∷ step 11 (Put (field 1)) ∷ step 12 Drop
     ∷ step 13 PushPrim ∷ step 14 Ret ∷ [])
 
 abbrev pub mix : Core
@@ -95,7 +100,9 @@ mix =
       files = [] ∷ [];
       skipped = [];
       classes = class_of false ∷ class_of true ∷ [];
-      fields = field_of 0 (Declared (class 0)) ∷ field_of 0 Plain ∷ field_of 1 (Declared (class 0)) ∷ field_of 1 (Declared (class 0)) ∷ field_of 1 Plain ∷ [];
+      fields =
+          field_of 0 (Declared (class 0)) ∷ field_of 0 Plain
+          ∷ field_of 1 (Declared (class 0)) ∷ field_of 1 (Declared (class 0)) ∷ field_of 1 Plain ∷ [];
       methods = method_of 1 (Declared (class 0) ∷ Declared (class 0) ∷ []) pick_code ∷ method_of 1 [] run_code ∷ [];
     }
 
@@ -111,17 +118,20 @@ f_code =
     in_sequence
     (step 0 (Push (var 0)) ∷ step 1 (Get (field 2)) ∷ step 2 Drop
     ∷ Either (step 3 (Push (var 1))) (step 4 (Push (var 2)))
-    ∷ step 5 (Set (var 3)) ∷ step 6 Drop ∷ step 7 (Push (var 3)) ∷ step 8 PushPrim ∷ step 9 (Put (field 0)) ∷ step 10 Drop
+    ∷ step 5 (Set (var 3)) ∷ step 6 Drop
+    ∷ step 7 (Push (var 3)) ∷ step 8 PushPrim ∷ step 9 (Put (field 0)) ∷ step 10 Drop
     ∷ step 11 PushPrim ∷ step 12 Ret ∷ [])
 
 abbrev go_code : Tree
 go_code =
     in_sequence
-    (step 0 (Push (var 0)) ∷ step 1 (Push (var 0)) ∷ step 2 (Get (field 1)) ∷ step 3 (Push (var 0)) ∷ step 4 (Get (field 1))
+    (step 0 (Push (var 0)) ∷ step 1 (Push (var 0)) ∷ step 2 (Get (field 1))
+    ∷ step 3 (Push (var 0)) ∷ step 4 (Get (field 1))
     ∷ step 5 (Call (method 0) 3) ∷ step 6 Drop ∷ step 7 PushPrim ∷ step 8 Ret ∷ [])
 
 abbrev with_local : Method → Method
-with_local m = record m { variables = Declared (class 1) ∷ Declared (class 0) ∷ Declared (class 0) ∷ Declared (class 0) ∷ [] }
+with_local m =
+    record m { variables = Declared (class 1) ∷ Declared (class 0) ∷ Declared (class 0) ∷ Declared (class 0) ∷ [] }
 
 abbrev pub join : Core
 join =
@@ -130,5 +140,7 @@ join =
       skipped = [];
       classes = class_of false ∷ class_of true ∷ [];
       fields = field_of 0 Plain ∷ field_of 1 (Declared (class 0)) ∷ field_of 1 Plain ∷ [];
-      methods = with_local (method_of 1 (Declared (class 0) ∷ Declared (class 0) ∷ []) f_code) ∷ method_of 1 [] go_code ∷ [];
+      methods =
+          with_local (method_of 1 (Declared (class 0) ∷ Declared (class 0) ∷ []) f_code)
+          ∷ method_of 1 [] go_code ∷ [];
     }

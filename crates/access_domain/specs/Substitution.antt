@@ -15,8 +15,8 @@ use Rattle.access_domain.specs.Records.{first_of_keys, different_paths}
 use Rattle.access_domain.specs.Findings.{Findings}
 use Rattle.access_domain.specs.Given.{Given}
 
--- the path of field f of a value, `some c . f` where it has no name or its path would be too long, and none of an owned
--- value
+-- the path of field f of a value, `some c . f` where it has no name or its path would be too long, and none of an
+-- owned value
 abbrev pub touched : Given → Value → FieldId → Option Path
 touched g Owned f = None
 touched g Unnamed f = Some (some_path (g.class_of f) f)

@@ -75,7 +75,8 @@ impl Accesses {
 
     /// Adds a record, unless there is one of its key. Unless the answer is `Added`, the records are as before.
     pub fn add(&mut self, access: Access) -> Adding
-        ensures cases { IsAnswer (list_any (λ r. same_key r access) self.old) (length self.old) self.old self.new (self.old ++ access ∷ []) result }
+        ensures cases { IsAnswer (list_any (λ r. same_key r access) self.old) (length self.old) self.old self.new
+            (self.old ++ access ∷ []) result }
         ensures firsts { first_of_keys self.new ≡ self.new }
         ensures limit { length self.new ≤ MAX_SUMMARY_KEYS }
     {

@@ -1,5 +1,6 @@
 //! Laws of the analysis, and its values on small programs.
-ghost use Rattle.std.specs.Prelude.{◌≡◌, ℕ, Bool, true, false, [], ◌∷◌, ◌++◌, Some, option_map, List, Contains};
+ghost use Rattle.std.specs.Prelude.{◌≡◌, ℕ, Bool, true, false, [], ◌∷◌, ◌++◌, ◌<◌, ◌≤◌, None, Some, option_map, List};
+ghost use Rattle.std.specs.Prelude.{Contains};
 ghost use Rattle.std.specs.List.{list_any};
 ghost use Rattle.std.specs.FinSet as set;
 ghost use Rattle.racer_base.specs.declared.ids.MethodId.{MethodId};
@@ -10,7 +11,7 @@ ghost use Rattle.access_paths.specs.Paths.{alone, some_path};
 ghost use Rattle.access_paths.specs.Order.{path_cmp};
 ghost use Rattle.owner_domain.specs.declared.value.Value.TheVariants.{Named, Unnamed};
 ghost use Rattle.owner_domain.specs.declared.value.State.{State};
-ghost use Rattle.core_code.specs.Calls.{method_at};
+ghost use Rattle.core_code.specs.Calls.{method_at, rank_of};
 ghost use Rattle.core_code.specs.Core.{Core, Method};
 ghost use Rattle.core_code.specs.Pair.{pair};
 ghost use Rattle.core_code.specs.Tree.{Tree};
@@ -22,7 +23,7 @@ ghost use Rattle.access_domain.specs.Given.{Given, given_of};
 ghost use Rattle.access_domain.specs.Operations.{Effects};
 ghost use Rattle.access_domain.specs.Origins.{HasOrigin};
 ghost use Rattle.access_domain.specs.Records.{different_paths, first_of_keys, same_key};
-ghost use Rattle.access_domain.specs.Summaries.{outcome_of, known_of, effects_of};
+ghost use Rattle.access_domain.specs.Summaries.{outcome_of, known_of, known_of_callees, effects_of};
 ghost use Rattle.access_domain.specs.Rows.{mix, join, field, method, class, this_path, access, access_below};
 
 /// A write, and two writes under a lock.
@@ -72,8 +73,8 @@ pub fn wobbly_row()
         this_path (field 3 ∷ []) ∷ this_path (field 2 ∷ []) ∷ this_path (field 2 ∷ field 0 ∷ field 1 ∷ []) ∷ []) }
 {}
 
-/// Substitution is not inlining: the two sides of a choice have two names in the callee, though the caller passes one path
-/// twice. So each name is lost there, and both are that path here.
+/// Substitution is not inlining: the two sides of a choice have two names in the callee, though the caller passes one
+/// path twice. So each name is lost there, and both are that path here.
 pub fn join_row()
     ensures records { option_map (λ (e : Effects). first_of_keys e.records) (effects_of join (method 1)) ≡ Some (
         access Read (this_path (field 1 ∷ [])) false 2
@@ -90,6 +91,14 @@ pub fn join_row()
         Some (this_path (field 1 ∷ []) ∷ []) }
 {}
 
+/// What the flow of a method is given of a method of a smaller rank is what is known of that; of any other, nothing.
+pub fn callees_are_known()
+    ensures smaller { (core : Core) (m n : MethodId) → rank_of core n < rank_of core m →
+        known_of_callees core m n ≡ known_of core n }
+    ensures other { (core : Core) (m n : MethodId) → rank_of core m ≤ rank_of core n →
+        known_of_callees core m n ≡ None }
+{}
+
 /// The set of a list of paths is that of its different ones.
 pub fn different_paths_suffice()
     ensures { (paths : List Path) → set.from_list {R = path_cmp} (different_paths paths) ≡ set.from_list paths }
@@ -103,8 +112,8 @@ pub fn later_records_of_a_key_fall_away()
         first_of_keys (rs ++ a ∷ []) ≡ first_of_keys rs }
 {}
 
-/// Each record is that of a Get or a Put at its site, or of a call at its site: then it is one of the callee's, by its index
-/// there, with its path put into the caller's values.
+/// Each record is that of a Get or a Put at its site, or of a call at its site: then it is one of the callee's, by its
+/// index there, with its path put into the caller's values.
 pub fn records_have_origins()
     ensures code { (g : Given) (code : Tree) (locked : Bool) (s : State) (a : Access) →
         Contains (flow g code locked s).records a → HasOrigin g code a }

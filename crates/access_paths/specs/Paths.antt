@@ -46,7 +46,9 @@ is_prefix p q = same_path p (front (length p.fields) q)
 -- `p.f`, which exists where p has fewer fields than the limit
 abbrev pub extended : Path → FieldId → Option Path
 extended p f =
-    if nat_lt (length p.fields) MAX_PATH_FIELDS then Some (record { root = p.root; fields = p.fields ++ f ∷ [] }) else None
+    if nat_lt (length p.fields) MAX_PATH_FIELDS
+    then Some (record { root = p.root; fields = p.fields ++ f ∷ [] })
+    else None
 
 -- the same by these fields in turn
 abbrev pub extended_along : Path → List FieldId → Option Path

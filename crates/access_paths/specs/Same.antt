@@ -1,5 +1,5 @@
--- A contract of a public call rests on this: the laws of `==` at paths, which are the same exactly where they are equal,
--- and exactly where the order ties them.
+-- A contract of a public call rests on this: the laws of `==` at paths, which are the same exactly where they are
+-- equal, and exactly where the order ties them.
 use Rattle.std.proofs.Common.{◌≡◌, ℕ, true, ◌&&◌, List, [], ◌∷◌, ◌++◌, map, nat_eq, refl, sym, ap, ◌∙◌}
 use Rattle.std.specs.Ordering.{eq_by_cmp}
 use Rattle.std.specs.Cmp.{IsTotalOrder, IsPartialEquivalence}
@@ -30,7 +30,8 @@ fields_of_numbers (f ∷ fs) (g ∷ gs) e =
 abbrev made : Root → List FieldId → Path
 made root fields = record { root = root; fields = fields }
 
-numbers_tell : (r s : Root) (fs gs : List FieldId) → root_key r ++ map number fs ≡ root_key s ++ map number gs → made r fs ≡ made s gs
+numbers_tell : (r s : Root) (fs gs : List FieldId) → root_key r ++ map number fs ≡ root_key s ++ map number gs →
+    made r fs ≡ made s gs
 numbers_tell This This fs gs e = ap (made This) (fields_of_numbers fs gs cc)
 numbers_tell (Class c) (Class d) fs gs e =
     let heads : c.0 ≡ d.0 = cc in
@@ -49,7 +50,8 @@ numbers_tell _ _ fs gs e = cc
 pub path_of_key : (p q : Path) → path_key p ≡ path_key q → p ≡ q
 path_of_key p q e = numbers_tell p.root q.root p.fields q.fields e
 
-same_by_parts : (r s : Root) (fs gs : List FieldId) → (same_root r s && same_fields fs gs) ≡ pointwise nat_eq (root_key r ++ map number fs) (root_key s ++ map number gs)
+same_by_parts : (r s : Root) (fs gs : List FieldId) →
+    (same_root r s && same_fields fs gs) ≡ pointwise nat_eq (root_key r ++ map number fs) (root_key s ++ map number gs)
 same_by_parts This This fs gs = sym (pointwise-map number nat_eq fs gs)
 same_by_parts (Class c) (Class d) fs gs = ap (λ b. nat_eq c.0 d.0 && b) (sym (pointwise-map number nat_eq fs gs))
 same_by_parts (Formal c) (Formal d) fs gs = ap (λ b. nat_eq c d && b) (sym (pointwise-map number nat_eq fs gs))
@@ -72,7 +74,8 @@ path_cmp-total =
     }
 
 pub path_cmp-IsAntisymmetric : IsAntisymmetric path_cmp
-path_cmp-IsAntisymmetric p q e = path_of_key p q (slice_cmp-IsAntisymmetric nat_cmp-IsAntisymmetric (path_key p) (path_key q) e)
+path_cmp-IsAntisymmetric p q e = path_of_key p q
+    (slice_cmp-IsAntisymmetric nat_cmp-IsAntisymmetric (path_key p) (path_key q) e)
 
 -- what is the same is equal
 pub equal_of_same : (p q : Path) → same_path p q ≡ true → p ≡ q

@@ -1,5 +1,6 @@
 //! Laws of paths.
-ghost use Rattle.std.specs.Prelude.{◌≡◌, ℕ, Bool, true, false, [], ◌∷◌, ◌++◌, ◌&&◌, ◌+◌, ◌<◌, ◌↔◌, length, Some, None, IsTrue, List, Option, codes};
+ghost use Rattle.std.specs.Prelude.{◌≡◌, ℕ, Bool, true, false, [], ◌∷◌, ◌++◌, ◌&&◌, ◌+◌, ◌<◌, ◌↔◌, length, Some};
+ghost use Rattle.std.specs.Prelude.{None, IsTrue, List, Option, codes};
 ghost use Rattle.std.specs.Option.{option_and_then};
 ghost use Rattle.std.specs.Ordering.{eq_by_cmp};
 ghost use Rattle.std.specs.Cmp.{IsTotalOrder};
@@ -21,13 +22,17 @@ pub fn same_is_equal()
 
 /// To extend a path along two lists of fields is to extend it along the first and then the second.
 pub fn extension_composes()
-    ensures { (p : Path) (fs gs : List FieldId) → extended_along p (fs ++ gs) ≡ option_and_then (λ q. extended_along q gs) (extended_along p fs) }
+    ensures { (p : Path) (fs gs : List FieldId) →
+        extended_along p (fs ++ gs) ≡ option_and_then (λ q. extended_along q gs) (extended_along p fs) }
 {}
 
 /// The texts of paths with each form of root.
 pub fn texts_of_roots()
-    ensures this { path_text (codes "P" ∷ []) (codes "f" ∷ codes "g" ∷ []) (record { root = This; fields = record { 0 = 1 } ∷ record { 0 = 0 } ∷ [] }) ≡ codes "this.g.f" }
-    ensures class { path_text (codes "P" ∷ []) (codes "f" ∷ []) (record { root = Class (record { 0 = 0 }); fields = record { 0 = 0 } ∷ [] }) ≡ codes "P.f" }
+    ensures this { path_text (codes "P" ∷ []) (codes "f" ∷ codes "g" ∷ [])
+        (record { root = This; fields = record { 0 = 1 } ∷ record { 0 = 0 } ∷ [] }) ≡ codes "this.g.f" }
+    ensures class { path_text (codes "P" ∷ []) (codes "f" ∷ [])
+        (record { root = Class (record { 0 = 0 }); fields = record { 0 = 0 } ∷ [] }) ≡ codes "P.f" }
     ensures formal { path_text [] [] (alone (Formal 7)) ≡ codes "#7" }
-    ensures unnamed { path_text (codes "P" ∷ []) (codes "f" ∷ []) (record { root = SomeOf (record { 0 = 0 }); fields = record { 0 = 0 } ∷ [] }) ≡ codes "some P.f" }
+    ensures unnamed { path_text (codes "P" ∷ []) (codes "f" ∷ [])
+        (record { root = SomeOf (record { 0 = 0 }); fields = record { 0 = 0 } ∷ [] }) ≡ codes "some P.f" }
 {}

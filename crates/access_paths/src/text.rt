@@ -9,7 +9,8 @@ use std::alloc::Global;
 /// The text of a path: `this`, a class's name, `#i` or `some C`, and `.f` for each field.
 pub fn path_text<N: Names>(alloc: Global, path: &Path, names: &N) -> Result<String, Memory>
     requires { IsTrue (is_named (length (N.class_names names.now)) (length (N.field_names names.now)) path.now) }
-    ensures { IfOk result (λ text. string_bytes text ≡ path_text (N.class_names names.now) (N.field_names names.now) path.now) }
+    ensures { IfOk result (λ text. string_bytes text ≡
+        path_text (N.class_names names.now) (N.field_names names.now) path.now) }
 {
     let mut text = root_text(alloc, path.root, names)?;
     for field in path.fields.as_slice() {

@@ -1,6 +1,14 @@
-//! The tests of the analysis: programs, paths, values, records, warnings. They stand here, over public calls alone, since
-//! a crate with tests is proved twice. There is no code.
+//! The tests of the analysis: programs, paths, values, records, warnings. They stand here, over public calls alone,
+//! since a crate with tests is proved twice. There is no code.
 #![tactic(auto)]
 
+#[cfg(test)]
+mod paths;
+#[cfg(test)]
+mod programs;
+#[cfg(test)]
+mod records;
+#[cfg(test)]
+mod values;
 #[cfg(test)]
 mod warnings;

@@ -1,5 +1,7 @@
 -- Members of lists that are made of lists.
-use Rattle.std.proofs.Common.{◌≡◌, ℕ, zero, suc, ◌+◌, ◌<◌, Bool, true, false, cond, ◌⊎◌, inl, inr, ⊎_elim, List, [], ◌∷◌, ◌++◌, Option, None, Some, map, length, slice_index_or, slice_get, refl, sym, ap, subst, ◌∙◌, arith}
+use Rattle.std.proofs.Common.{◌≡◌, ℕ, zero, suc, ◌+◌, ◌<◌, Bool, true, false, cond, ◌⊎◌, inl, inr, ⊎_elim, List, []}
+use Rattle.std.proofs.Common.{◌∷◌, ◌++◌, Option, None, Some, map, length, slice_index_or, slice_get, refl, sym, ap}
+use Rattle.std.proofs.Common.{subst, ◌∙◌, arith}
 use Rattle.std.specs.List.{enumerate_from, flat_map, filter_map, cons_option, find}
 
 -- an element of a list
@@ -14,7 +16,8 @@ in_from_Contains (x ∷ xs) y (suc k) within is = inr (in_from_Contains xs y k (
 
 pub in_append : {X : Type 0} (xs ys : List X) (y : X) → In (xs ++ ys) y → In xs y ⊎ In ys y
 in_append [] ys y h = inr h
-in_append (x ∷ xs) ys y h = ⊎_elim (λ e. inl (inl e)) (λ r. ⊎_elim (λ a. inl (inr a)) (λ b. inr b) (in_append xs ys y r)) h
+in_append (x ∷ xs) ys y h = ⊎_elim (λ e. inl (inl e)) (λ r.
+    ⊎_elim (λ a. inl (inr a)) (λ b. inr b) (in_append xs ys y r)) h
 
 in_left : {X : Type 0} (xs ys : List X) (y : X) → In xs y → In (xs ++ ys) y
 in_left (x ∷ xs) ys y h = ⊎_elim (λ e. inl e) (λ r. inr (in_left xs ys y r)) h
@@ -24,7 +27,8 @@ in_right : {X : Type 0} (xs ys : List X) (y : X) → In ys y → In (xs ++ ys) y
 in_right [] ys y h = h
 in_right (x ∷ xs) ys y h = inr (in_right xs ys y h)
 
-pub in_flat_map : {X Y : Type 0} (f : X → List Y) (xs : List X) (y : Y) → In (flat_map f xs) y → (x : X) × In xs x × In (f x) y
+pub in_flat_map : {X Y : Type 0} (f : X → List Y) (xs : List X) (y : Y) → In (flat_map f xs) y →
+    (x : X) × In xs x × In (f x) y
 in_flat_map f [] y h = absurd h
 in_flat_map f (x ∷ xs) y h =
     ⊎_elim
@@ -32,7 +36,8 @@ in_flat_map f (x ∷ xs) y h =
     (λ b. let r = in_flat_map f xs y b in (r.0, inr r.1, r.2))
     (in_append (f x) (flat_map f xs) y h)
 
-pub flat_map_has : {X Y : Type 0} (f : X → List Y) (xs : List X) (x : X) (y : Y) → In xs x → In (f x) y → In (flat_map f xs) y
+pub flat_map_has : {X Y : Type 0} (f : X → List Y) (xs : List X) (x : X) (y : Y) → In xs x → In (f x) y →
+    In (flat_map f xs) y
 flat_map_has f [] x y h one = absurd h
 flat_map_has f (z ∷ xs) x y h one =
     ⊎_elim
@@ -40,10 +45,12 @@ flat_map_has f (z ∷ xs) x y h one =
     (λ r. in_right (f z) (flat_map f xs) y (flat_map_has f xs x y r one))
     h
 
-pub in_filter_map : {X Y : Type 0} (h : X → Option Y) (xs : List X) (y : Y) → In (filter_map h xs) y → (x : X) × In xs x × (h x ≡ Some y)
+pub in_filter_map : {X Y : Type 0} (h : X → Option Y) (xs : List X) (y : Y) → In (filter_map h xs) y →
+    (x : X) × In xs x × (h x ≡ Some y)
 in_filter_map h [] y given = absurd given
 in_filter_map {X} {Y} h (x ∷ xs) y given =
-    let later : In (filter_map h xs) y → (z : X) × In (x ∷ xs) z × (h z ≡ Some y) = λ g. let r = in_filter_map h xs y g in (r.0, inr r.1, r.2) in
+    let later : In (filter_map h xs) y → (z : X) × In (x ∷ xs) z × (h z ≡ Some y) = λ g. let r =
+    in_filter_map h xs y g in (r.0, inr r.1, r.2) in
     elim (h x) as (λ o. h x ≡ o → In (cons_option o (filter_map h xs)) y → (z : X) × In (x ∷ xs) z × (h z ≡ Some y)) [
       | None ↦ λ e g. later g
       | Some v ↦ λ e g. ⊎_elim (λ is. (x, inl refl, e ∙ ap Some is)) later g
@@ -58,7 +65,8 @@ map_has f [] x h = absurd h
 map_has f (z ∷ xs) x h = ⊎_elim (λ e. inl (ap f e)) (λ r. inr (map_has f xs x r)) h
 
 -- what is found is there, and passes
-pub find_gives : {X : Type 0} (test : X → Bool) (xs : List X) (y : X) → find test xs ≡ Some y → In xs y × (test y ≡ true)
+pub find_gives : {X : Type 0} (test : X → Bool) (xs : List X) (y : X) → find test xs ≡ Some y →
+    In xs y × (test y ≡ true)
 find_gives test [] y h = cc
 find_gives test (x ∷ xs) y h =
     elim (test x) as (λ b. test x ≡ b → cond b (Some x) (find test xs) ≡ Some y → In (x ∷ xs) y × (test y ≡ true)) [
@@ -67,12 +75,14 @@ find_gives test (x ∷ xs) y h =
     ] refl h
 
 -- where one passes, one is found
-pub find_has : {X : Type 0} (test : X → Bool) (xs : List X) (y : X) → In xs y → test y ≡ true → (z : X) × (find test xs ≡ Some z)
+pub find_has : {X : Type 0} (test : X → Bool) (xs : List X) (y : X) → In xs y → test y ≡ true →
+    (z : X) × (find test xs ≡ Some z)
 find_has test [] y h passes = absurd h
 find_has {X} test (x ∷ xs) y h passes =
     elim (test x) as (λ b. test x ≡ b → (z : X) × (cond b (Some x) (find test xs) ≡ Some z)) [
       | true ↦ λ e. (x, refl)
-      | false ↦ λ e. ⊎_elim (λ is. absurd (let wrong : false ≡ true = sym e ∙ ap test is ∙ passes in cc)) (λ r. find_has test xs y r passes) h
+      | false ↦ λ e. ⊎_elim (λ is. absurd (let wrong : false ≡ true = sym e ∙ ap test is ∙ passes in cc)) (λ r.
+          find_has test xs y r passes) h
     ] refl
 
 -- a numbered element is the one at its number
@@ -84,7 +94,8 @@ in_enumerate_from n (x ∷ xs) e h =
     (λ r. let s = in_enumerate_from (n + 1) xs e r in (suc s.0, let moved : e.0 ≡ n + 1 + s.0 = s.1 in omega arith, s.2))
     h
 
-pub enumerate_from_has : {X : Type 0} (n : ℕ) (xs : List X) (k : ℕ) (x : X) → slice_get xs k ≡ Some x → In (enumerate_from n xs) (n + k, x)
+pub enumerate_from_has : {X : Type 0} (n : ℕ) (xs : List X) (k : ℕ) (x : X) → slice_get xs k ≡ Some x →
+    In (enumerate_from n xs) (n + k, x)
 enumerate_from_has n [] k x h = cc
 enumerate_from_has n (y ∷ xs) zero x h =
     let same : y ≡ x = cc in

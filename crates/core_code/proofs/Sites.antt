@@ -1,5 +1,6 @@
 -- Sites that go on where others end, and sites as indices of operations.
-use Rattle.std.proofs.Common.{◌≡◌, ℕ, zero, suc, ◌+◌, Bool, true, false, cond, ◌&&◌, List, [], ◌∷◌, ◌++◌, length, map, nat_eq}
+use Rattle.std.proofs.Common.{◌≡◌, ℕ, zero, suc, ◌+◌, Bool, true, false, cond, ◌&&◌, List, [], ◌∷◌, ◌++◌, length, map}
+use Rattle.std.proofs.Common.{nat_eq}
 use Rattle.std.proofs.Common.{Some, slice_get, refl, ap, sym, ◌∙◌, add-zero, zero-add, arith}
 use Rattle.std.proofs.Math.Bool.{and_assoc}
 use Rattle.std.proofs.lemmas.List.{map-append}
@@ -45,27 +46,33 @@ abbrev sites : List Operation → List SiteId
 sites ops = map (λ (o : Operation). o.site) ops
 
 -- operations whose sites count from n on: the one at n + k is that of index k
-find_site : (n : ℕ) (ops : List Operation) (k : ℕ) → counts_from n (sites ops) ≡ true → find (site_is (n + k)) ops ≡ slice_get ops k
+find_site : (n : ℕ) (ops : List Operation) (k : ℕ) → counts_from n (sites ops) ≡ true →
+    find (site_is (n + k)) ops ≡ slice_get ops k
 find_site n [] k h = refl
 find_site n (o ∷ ops) zero h =
     let here : nat_eq o.site.0 n ≡ true = left_true (nat_eq o.site.0 n) (counts_from (suc n) (sites ops)) h in
     ap (λ b. cond b (Some o) (find (site_is (n + 0)) ops)) (ap (nat_eq o.site.0) (add-zero n) ∙ here)
 find_site n (o ∷ ops) (suc k) h =
-    let here : o.site.0 ≡ n = eqb-true o.site.0 n (left_true (nat_eq o.site.0 n) (counts_from (suc n) (sites ops)) h) in
-    let later : counts_from (suc n) (sites ops) ≡ true = right_true (nat_eq o.site.0 n) (counts_from (suc n) (sites ops)) h in
-    let other : nat_eq o.site.0 (n + suc k) ≡ false = ne_eqb o.site.0 (n + suc k) (λ (e : o.site.0 ≡ n + suc k). omega arith) in
+    let here : o.site.0 ≡ n = eqb-true o.site.0 n
+    (left_true (nat_eq o.site.0 n) (counts_from (suc n) (sites ops)) h) in
+    let later : counts_from (suc n) (sites ops) ≡ true =
+    right_true (nat_eq o.site.0 n) (counts_from (suc n) (sites ops)) h in
+    let other : nat_eq o.site.0 (n + suc k) ≡ false =
+    ne_eqb o.site.0 (n + suc k) (λ (e : o.site.0 ≡ n + suc k). omega arith) in
     let shift : n + suc k ≡ suc n + k = omega arith in
     ap (λ b. cond b (Some o) (find (site_is (n + suc k)) ops)) other
     ∙ ap (λ j. find (site_is j) ops) shift
     ∙ find_site (suc n) ops k later
 
 -- where the sites of code are 0, 1 and so on, a site is the index of its operation
-pub op_at-index : (code : Tree) (site : SiteId) → counts_from 0 (sites_of code) ≡ true → op_at code site ≡ slice_get (steps_of code) site.0
+pub op_at-index : (code : Tree) (site : SiteId) → counts_from 0 (sites_of code) ≡ true →
+    op_at code site ≡ slice_get (steps_of code) site.0
 op_at-index code site h =
     ap (λ (n : ℕ). find (site_is n) (steps_of code)) (sym (zero-add site.0)) ∙ find_site 0 (steps_of code) site.0 h
 
 -- and each operation is found at its site
-pub op_at-contains : (code : Tree) (o : Operation) → counts_from 0 (sites_of code) ≡ true → Contains (steps_of code) o →
+pub op_at-contains : (code : Tree) (o : Operation) → counts_from 0 (sites_of code) ≡ true →
+    Contains (steps_of code) o →
     op_at code o.site ≡ Some o
 op_at-contains code o h there =
     let ops : List Operation = steps_of code in

@@ -1,5 +1,5 @@
--- A contract of a public call rests on this: what is seen of a program, lists of files, skipped places, classes, fields
--- and methods, code being plain trees.
+-- A contract of a public call rests on this: what is seen of a program, lists of files, skipped places, classes,
+-- fields and methods, code being plain trees.
 use Rattle.std.specs.Prelude.{ℕ, Bool, List, Option, map}
 use Rattle.racer_base.specs.declared.ids.ClassId.{ClassId}
 use Rattle.racer_base.specs.declared.ids.Kind.{Kind}

@@ -108,3 +108,7 @@ pair =
       fields = field_a ∷ field_b ∷ [];
       methods = method_new ∷ method_put ∷ method_both ∷ [];
     }
+
+-- the same with this method alone
+abbrev pub with_method : Method → Core
+with_method m = record pair { methods = m ∷ [] }

@@ -1,4 +1,5 @@
--- A contract of a public call rests on this: core code as a plain tree, its operations, and whether it can end normally.
+-- A contract of a public call rests on this: core code as a plain tree, its operations, and whether it can end
+-- normally.
 use Rattle.std.specs.Prelude.{List, [], ◌∷◌, ◌++◌, Bool, true, false, ◌&&◌, ◌||◌, not, Option, nat_eq}
 use Rattle.std.specs.List.{find}
 use Rattle.racer_base.specs.declared.ids.Place.{Place}

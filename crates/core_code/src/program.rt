@@ -1,7 +1,8 @@
 //! A program, whose type keeps what holds of its parts.
 ghost use Rattle.std.specs.Prelude.{IsTrue};
 ghost use Rattle.core_code.specs.Core.{core_of};
-ghost use Rattle.core_code.specs.Facts.{are_numbers_in_range, are_sites_in_order, are_entries_analysed, are_stacks_enough};
+ghost use Rattle.core_code.specs.Facts.{are_numbers_in_range, are_sites_in_order, are_entries_analysed};
+ghost use Rattle.core_code.specs.Facts.{are_stacks_enough};
 
 use crate::{ClassCore, FieldCore, MethodCore, Parts};
 use racer_base::{ClassId, FieldId, Names, Place, Text};
@@ -20,7 +21,8 @@ impl Program {
     ghost use Rattle.std.specs.Prelude.{◌≡◌, map, IsTrue};
     ghost use Rattle.core_code.specs.Core.{core_of, method_of};
     ghost use Rattle.core_code.specs.Program.{core, files, skipped, classes, fields, methods};
-    ghost use Rattle.core_code.specs.Facts.{are_numbers_in_range, are_sites_in_order, are_entries_analysed, are_stacks_enough};
+    ghost use Rattle.core_code.specs.Facts.{are_numbers_in_range, are_sites_in_order, are_entries_analysed};
+    ghost use Rattle.core_code.specs.Facts.{are_stacks_enough};
 
     /// Makes a program of its parts, without taking memory.
     pub fn of(parts: Parts) -> Program

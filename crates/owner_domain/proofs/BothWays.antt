@@ -7,7 +7,8 @@ use Rattle.owner_domain.specs.declared.value.Value.{Value}
 use Rattle.owner_domain.specs.declared.value.Value.TheVariants.{Unnamed}
 use Rattle.owner_domain.specs.declared.value.State.{State}
 use Rattle.owner_domain.specs.SameValue.{equal_of_same_value, same_value-laws}
-use Rattle.owner_domain.specs.Values.{names_of, same_value, joined, lost, joined_values, lost_values, joined_state, lost_state}
+use Rattle.owner_domain.specs.Values.{names_of, same_value, joined, lost, joined_values, lost_values, joined_state}
+use Rattle.owner_domain.specs.Values.{lost_state}
 
 pub joined-turned : (a b : Value) → joined a b ≡ joined b a
 joined-turned a b =
@@ -20,19 +21,24 @@ joined-turned a b =
           sym (ap (λ t. cond t b Unnamed) turned)
     ] refl
 
-count_append : (test : Path → Bool) (xs ys : List Path) → count_by test (xs ++ ys) ≡ count_by test xs + count_by test ys
+count_append : (test : Path → Bool) (xs ys : List Path) →
+    count_by test (xs ++ ys) ≡ count_by test xs + count_by test ys
 count_append test xs ys = sum_by-append (λ x. cond (test x) 1 0) xs ys
 
-count_lost : (test : Path → Bool) (a b : Value) (t : Bool) → count_by test (cond t [] (names_of a ++ names_of b)) ≡ count_by test (cond t [] (names_of b ++ names_of a))
+count_lost : (test : Path → Bool) (a b : Value) (t : Bool) →
+    count_by test (cond t [] (names_of a ++ names_of b)) ≡ count_by test (cond t [] (names_of b ++ names_of a))
 count_lost test a b true = refl
 count_lost test a b false =
-    let one : count_by test (names_of a ++ names_of b) ≡ count_by test (names_of a) + count_by test (names_of b) = count_append test (names_of a) (names_of b) in
-    let other : count_by test (names_of b ++ names_of a) ≡ count_by test (names_of b) + count_by test (names_of a) = count_append test (names_of b) (names_of a) in
+    let one : count_by test (names_of a ++ names_of b) ≡ count_by test (names_of a) + count_by test (names_of b) =
+    count_append test (names_of a) (names_of b) in
+    let other : count_by test (names_of b ++ names_of a) ≡ count_by test (names_of b) + count_by test (names_of a) =
+    count_append test (names_of b) (names_of a) in
     omega arith
 
 lost-turned : (test : Path → Bool) (a b : Value) → count_by test (lost a b) ≡ count_by test (lost b a)
 lost-turned test a b =
-    count_lost test a b (same_value a b) ∙ ap (λ t. count_by test (cond t [] (names_of b ++ names_of a))) (same_value-laws.symm a b)
+    count_lost test a b (same_value a b) ∙ ap (λ t.
+    count_by test (cond t [] (names_of b ++ names_of a))) (same_value-laws.symm a b)
 
 joined_values-turned : (xs ys : List Value) → joined_values xs ys ≡ joined_values ys xs
 joined_values-turned [] [] = refl
@@ -40,7 +46,8 @@ joined_values-turned [] (y ∷ ys) = refl
 joined_values-turned (x ∷ xs) [] = refl
 joined_values-turned (x ∷ xs) (y ∷ ys) = λ i. joined-turned x y i ∷ joined_values-turned xs ys i
 
-lost_values-turned : (test : Path → Bool) (xs ys : List Value) → count_by test (lost_values xs ys) ≡ count_by test (lost_values ys xs)
+lost_values-turned : (test : Path → Bool) (xs ys : List Value) →
+    count_by test (lost_values xs ys) ≡ count_by test (lost_values ys xs)
 lost_values-turned test [] [] = refl
 lost_values-turned test [] (y ∷ ys) = refl
 lost_values-turned test (x ∷ xs) [] = refl
@@ -50,9 +57,13 @@ lost_values-turned test (x ∷ xs) (y ∷ ys) =
     ∙ sym (count_append test (lost y x) (lost_values ys xs))
 
 pub joined_state-turned : (s t : State) → joined_state s t ≡ joined_state t s
-joined_state-turned s t = λ i. record { vars = joined_values-turned s.vars t.vars i; stack = joined_values-turned s.stack t.stack i }
+joined_state-turned s t = λ i. record {
+  vars = joined_values-turned s.vars t.vars i;
+  stack = joined_values-turned s.stack t.stack i;
+}
 
-pub lost_state-turned : (s t : State) (test : Path → Bool) → count_by test (lost_state s t) ≡ count_by test (lost_state t s)
+pub lost_state-turned : (s t : State) (test : Path → Bool) →
+    count_by test (lost_state s t) ≡ count_by test (lost_state t s)
 lost_state-turned s t test =
     count_append test (lost_values s.vars t.vars) (lost_values s.stack t.stack)
     ∙ (λ i. lost_values-turned test s.vars t.vars i + lost_values-turned test s.stack t.stack i)

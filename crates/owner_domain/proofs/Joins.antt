@@ -5,7 +5,8 @@ use Rattle.owner_domain.specs.declared.value.Value.{Value}
 use Rattle.owner_domain.specs.declared.value.Value.TheVariants.{Unnamed}
 use Rattle.owner_domain.specs.declared.value.State.{State}
 use Rattle.owner_domain.specs.SameValue.{same_value-itself}
-use Rattle.owner_domain.specs.Values.{names_of, field_value, along, joined, lost, joined_values, lost_values, joined_state, lost_state}
+use Rattle.owner_domain.specs.Values.{names_of, field_value, along, joined, lost, joined_values, lost_values}
+use Rattle.owner_domain.specs.Values.{joined_state, lost_state}
 
 pub joined-itself : (a : Value) → joined a a ≡ a
 joined-itself a = ap (λ b. cond b a Unnamed) (same_value-itself a)

@@ -1,4 +1,5 @@
--- A contract of a public call rests on this: the laws of `==` at values, which are the same exactly where they are equal.
+-- A contract of a public call rests on this: the laws of `==` at values, which are the same exactly where they are
+-- equal.
 use Rattle.std.proofs.Common.{◌≡◌, true, refl, sym, ap, ◌∙◌}
 use Rattle.std.specs.Cmp.{IsPartialEquivalence}
 use Rattle.access_paths.specs.Same.{equal_of_same, same_path-itself, same_path-laws}

@@ -1,6 +1,7 @@
 //! The join of two states.
 ghost use Rattle.std.specs.Prelude.{◌≡◌, ◌++◌, IfOk, OnOk, length};
-ghost use Rattle.owner_domain.specs.Values.{names_of, joined, lost, joined_values, lost_values, joined_state, lost_state};
+ghost use Rattle.owner_domain.specs.Values.{names_of, joined, lost, joined_values, lost_values, joined_state};
+ghost use Rattle.owner_domain.specs.Values.{lost_state};
 
 use crate::{State, Value};
 use access_paths::Path;

@@ -21,7 +21,8 @@ pub fn equal_states_join()
 /// A join is the same both ways, but for the order of the lost paths.
 pub fn joins_both_ways()
     ensures joined { (s t : State) → joined_state s t ≡ joined_state t s }
-    ensures lost { (s t : State) (test : Path → Bool) → count_by test (lost_state s t) ≡ count_by test (lost_state t s) }
+    ensures lost { (s t : State) (test : Path → Bool) →
+        count_by test (lost_state s t) ≡ count_by test (lost_state t s) }
 {}
 
 /// Two different values join to `Unnamed`, and each name among them is lost.

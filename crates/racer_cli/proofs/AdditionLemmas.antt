@@ -1,5 +1,6 @@
 -- What is added one after another is the first of each, and never gets less.
-use Rattle.std.proofs.Common.{◌≡◌, ℕ, ◌+◌, ◌≤◌, Bool, true, false, not, ◌&&◌, ◌||◌, cond, List, [], ◌∷◌, ◌++◌, length, filter, refl, sym, ap, ◌∙◌, arith, append_assoc, length-append, add-one}
+use Rattle.std.proofs.Common.{◌≡◌, ℕ, ◌+◌, ◌≤◌, Bool, true, false, not, ◌&&◌, ◌||◌, cond, List, [], ◌∷◌, ◌++◌, length}
+use Rattle.std.proofs.Common.{filter, refl, sym, ap, ◌∙◌, arith, append_assoc, length-append, add-one}
 use Rattle.std.proofs.lemmas.List.{append-nil}
 use Rattle.std.specs.List.{list_any}
 use Rattle.std.specs.FinSet as set
@@ -25,7 +26,8 @@ swap false b c = refl
 
 -- ---- never less
 
-one_key_longer : (old : List Access) (b : Bool) (access : Access) → length old ≤ length (cond b old (old ++ access ∷ []))
+one_key_longer : (old : List Access) (b : Bool) (access : Access) →
+    length old ≤ length (cond b old (old ++ access ∷ []))
 one_key_longer old true access = omega arith
 one_key_longer old false access = omega (arith, length-append old (access ∷ []))
 
@@ -43,7 +45,12 @@ is_new old access = not (list_any (λ earlier. same_key earlier access) old)
 
 any-push : (p : Access → Bool) (old : List Access) (x : Access) → list_any p (old ++ x ∷ []) ≡ (list_any p old || p x)
 any-push p [] x = elim (p x) as (λ b. (b || false) ≡ b) [ true ↦ refl | false ↦ refl ]
-any-push p (y ∷ old) x = ap (λ b. p y || b) (any-push p old x) ∙ (elim (p y) as (λ b. (b || (list_any p old || p x)) ≡ ((b || list_any p old) || p x)) [ true ↦ refl | false ↦ refl ])
+any-push p (y ∷ old) x = ap (λ b. p y || b) (any-push p old x)
+    ∙ (elim (p y) as (λ b. (b || (list_any p old || p x)) ≡ ((b || list_any p old) || p x)) [
+      | true ↦ refl
+      | false ↦
+          refl
+    ])
 
 not-or : (a b : Bool) → not (a || b) ≡ (not a && not b)
 not-or true b = refl
@@ -60,20 +67,24 @@ and-true false = refl
 filter-filter : {X : Type 0} (p q : X → Bool) (xs : List X) → filter p (filter q xs) ≡ filter (λ x. p x && q x) xs
 filter-filter p q [] = refl
 filter-filter p q (x ∷ xs) =
-    elim (q x) as (λ b. filter p (cond b (x ∷ filter q xs) (filter q xs)) ≡ cond (p x && b) (x ∷ filter (λ x. p x && q x) xs) (filter (λ x. p x && q x) xs)) [
-      | true ↦ elim (p x) as (λ a. cond a (x ∷ filter p (filter q xs)) (filter p (filter q xs)) ≡ cond (a && true) (x ∷ filter (λ x. p x && q x) xs) (filter (λ x. p x && q x) xs)) [
-        | true ↦ ap (λ rest. x ∷ rest) (filter-filter p q xs)
-        | false ↦ filter-filter p q xs
-      ]
-      | false ↦ elim (p x) as (λ a. filter p (filter q xs) ≡ cond (a && false) (x ∷ filter (λ x. p x && q x) xs) (filter (λ x. p x && q x) xs)) [
-        | true ↦ filter-filter p q xs
-        | false ↦ filter-filter p q xs
-      ]
+    elim (q x) as (λ b. filter p (cond b (x ∷ filter q xs) (filter q xs)) ≡
+    cond (p x && b) (x ∷ filter (λ x. p x && q x) xs) (filter (λ x. p x && q x) xs)) [
+      | true ↦ elim (p x) as (λ a. cond a (x ∷ filter p (filter q xs)) (filter p (filter q xs)) ≡
+          cond (a && true) (x ∷ filter (λ x. p x && q x) xs) (filter (λ x. p x && q x) xs)) [
+            | true ↦ ap (λ rest. x ∷ rest) (filter-filter p q xs)
+            | false ↦ filter-filter p q xs
+          ]
+      | false ↦ elim (p x) as (λ a. filter p (filter q xs) ≡
+          cond (a && false) (x ∷ filter (λ x. p x && q x) xs) (filter (λ x. p x && q x) xs)) [
+            | true ↦ filter-filter p q xs
+            | false ↦ filter-filter p q xs
+          ]
     ]
 
 filter-alike : {X : Type 0} (p q : X → Bool) (xs : List X) → ((x : X) → p x ≡ q x) → filter p xs ≡ filter q xs
 filter-alike p q [] h = refl
-filter-alike p q (x ∷ xs) h = ap (λ b. cond b (x ∷ filter p xs) (filter p xs)) (h x) ∙ ap (λ rest. cond (q x) (x ∷ rest) rest) (filter-alike p q xs h)
+filter-alike p q (x ∷ xs) h = ap (λ b. cond b (x ∷ filter p xs) (filter p xs)) (h x)
+    ∙ ap (λ rest. cond (q x) (x ∷ rest) rest) (filter-alike p q xs h)
 
 filter-all : {X : Type 0} (xs : List X) → filter (λ _. true) xs ≡ xs
 filter-all [] = refl
@@ -105,20 +116,26 @@ alike_keys x y e h =
     let touch = equal_flags (is_write x.kind) (is_write y.kind) (right_of paths touches two) in
     let lock = equal_flags x.locked y.locked (right_of (paths && touches) locks three) in
     let main = equal_flags x.main y.main (right_of (paths && touches && locks) mains h) in
-    ap (λ (p : Path). same_path e.path p && same_touch e.kind x.kind && same_flag e.locked x.locked && same_flag e.main x.main) path
-    ∙ ap (λ (w : Bool). same_path e.path y.path && same_flag (is_write e.kind) w && same_flag e.locked x.locked && same_flag e.main x.main) touch
-    ∙ ap (λ (l : Bool). same_path e.path y.path && same_touch e.kind y.kind && same_flag e.locked l && same_flag e.main x.main) lock
-    ∙ ap (λ (m : Bool). same_path e.path y.path && same_touch e.kind y.kind && same_flag e.locked y.locked && same_flag e.main m) main
+    ap (λ (p : Path). same_path e.path p && same_touch e.kind x.kind && same_flag e.locked x.locked &&
+    same_flag e.main x.main) path
+    ∙ ap (λ (w : Bool). same_path e.path y.path && same_flag (is_write e.kind) w && same_flag e.locked x.locked &&
+    same_flag e.main x.main) touch
+    ∙ ap (λ (l : Bool). same_path e.path y.path && same_touch e.kind y.kind && same_flag e.locked l &&
+    same_flag e.main x.main) lock
+    ∙ ap (λ (m : Bool). same_path e.path y.path && same_touch e.kind y.kind && same_flag e.locked y.locked &&
+    same_flag e.main m) main
 
 any_alike : (p q : Access → Bool) (xs : List Access) → ((e : Access) → p e ≡ q e) → list_any p xs ≡ list_any q xs
 any_alike p q [] h = refl
 any_alike p q (x ∷ xs) h = ap (λ b. b || list_any p xs) (h x) ∙ ap (λ b. q x || b) (any_alike p q xs h)
 
-covered : (old : List Access) (x y : Access) → same_key x y ≡ true → list_any (λ e. same_key e x) old ≡ list_any (λ e. same_key e y) old
+covered : (old : List Access) (x y : Access) → same_key x y ≡ true →
+    list_any (λ e. same_key e x) old ≡ list_any (λ e. same_key e y) old
 covered old x y h = any_alike (λ e. same_key e x) (λ e. same_key e y) old (λ e. alike_keys x y e h)
 
 -- where x is covered already, its own key tells nothing new
-old_tells : (old : List Access) (x y : Access) → list_any (λ e. same_key e x) old ≡ true → (is_new old y && not (same_key x y)) ≡ is_new old y
+old_tells : (old : List Access) (x y : Access) → list_any (λ e. same_key e x) old ≡ true →
+    (is_new old y && not (same_key x y)) ≡ is_new old y
 old_tells old x y h =
     elim (same_key x y) as (λ b. same_key x y ≡ b → (is_new old y && not b) ≡ is_new old y) [
       | true ↦ λ e. and-false (is_new old y) ∙ sym (ap not (sym (covered old x y e) ∙ h))
@@ -127,22 +144,29 @@ old_tells old x y h =
 
 -- where x is added, what is new behind it is of another key too
 new_tells : (old : List Access) (x y : Access) → is_new (old ++ x ∷ []) y ≡ (is_new old y && not (same_key x y))
-new_tells old x y = ap not (any-push (λ e. same_key e y) old x) ∙ not-or (list_any (λ e. same_key e y) old) (same_key x y)
+new_tells old x y = ap not (any-push (λ e. same_key e y) old x)
+    ∙ not-or (list_any (λ e. same_key e y) old) (same_key x y)
 
 pub keys_added-firsts : (old xs : List Access) → keys_added old xs ≡ old ++ filter (is_new old) (first_of_keys xs)
 keys_added-firsts old [] = sym (append-nil old)
 keys_added-firsts old (x ∷ xs) =
     let later = filter (λ y. not (same_key x y)) (first_of_keys xs) in
-    elim (list_any (λ e. same_key e x) old) as (λ b. list_any (λ e. same_key e x) old ≡ b → keys_added (cond b old (old ++ x ∷ [])) xs ≡ old ++ cond (not b) (x ∷ filter (is_new old) later) (filter (is_new old) later)) [
+    elim (list_any (λ e. same_key e x) old) as (λ b. list_any (λ e. same_key e x) old ≡ b →
+    keys_added (cond b old (old ++ x ∷ [])) xs ≡ old ++
+    cond (not b) (x ∷ filter (is_new old) later) (filter (is_new old) later)) [
       | true ↦ λ h.
           keys_added-firsts old xs
           ∙ ap (λ rest. old ++ rest)
-          (sym (filter-filter (is_new old) (λ y. not (same_key x y)) (first_of_keys xs) ∙ filter-alike (λ y. is_new old y && not (same_key x y)) (is_new old) (first_of_keys xs) (λ y. old_tells old x y h)))
+          (sym (filter-filter (is_new old) (λ y. not (same_key x y)) (first_of_keys xs)
+          ∙ filter-alike (λ y. is_new old y && not (same_key x y)) (is_new old) (first_of_keys xs) (λ y.
+          old_tells old x y h)))
       | false ↦ λ h.
           keys_added-firsts (old ++ x ∷ []) xs
           ∙ append_assoc old (x ∷ []) _
           ∙ ap (λ rest. old ++ (x ∷ rest))
-          (filter-alike (is_new (old ++ x ∷ [])) (λ y. is_new old y && not (same_key x y)) (first_of_keys xs) (new_tells old x) ∙ sym (filter-filter (is_new old) (λ y. not (same_key x y)) (first_of_keys xs)))
+          (filter-alike (is_new (old ++ x ∷ [])) (λ y.
+          is_new old y && not (same_key x y)) (first_of_keys xs) (new_tells old x)
+          ∙ sym (filter-filter (is_new old) (λ y. not (same_key x y)) (first_of_keys xs)))
     ] refl
 
 -- added to nothing, the records are the first of each key
@@ -151,7 +175,8 @@ keys_added-nil xs = keys_added-firsts [] xs ∙ filter-all (first_of_keys xs)
 
 -- ---- the set of paths
 
-contains_added : (old : PathSet) (xs : List Path) (q : Path) → set.contains (paths_added old xs) q ≡ (set.contains old q || list_any (eq_by_cmp path_cmp q) xs)
+contains_added : (old : PathSet) (xs : List Path) (q : Path) →
+    set.contains (paths_added old xs) q ≡ (set.contains old q || list_any (eq_by_cmp path_cmp q) xs)
 contains_added old [] q = sym (or-false (set.contains old q))
 contains_added old (x ∷ xs) q =
     contains_added (set.insert old x) xs q
@@ -162,7 +187,9 @@ contains_added old (x ∷ xs) q =
 pub paths_added-empty : (xs : List Path) → paths_added set.empty xs ≡ set.from_list xs
 paths_added-empty xs =
     set.same_set path_cmp-total path_cmp-IsAntisymmetric _ _
-    (λ q. contains_added set.empty xs q ∙ ap (λ b. b || list_any (eq_by_cmp path_cmp q) xs) (set.contains-empty path_cmp q) ∙ sym (set.contains-from_list path_cmp-total xs q))
+    (λ q. contains_added set.empty xs q ∙ ap (λ b.
+    b || list_any (eq_by_cmp path_cmp q) xs) (set.contains-empty path_cmp q)
+    ∙ sym (set.contains-from_list path_cmp-total xs q))
 
 longer : (b : Bool) (n m : ℕ) → m ≡ cond b n (n + 1) → n ≤ m
 longer true n m e = omega arith
@@ -180,32 +207,50 @@ paths_added-longer old (x ∷ xs) =
 
 -- ---- as many paths as there are different ones
 
-none_same : (x : Path) (p : Path → Bool) (ys : List Path) → list_any (eq_by_cmp path_cmp x) (filter (λ y. p y && not (same_path x y)) ys) ≡ false
+none_same : (x : Path) (p : Path → Bool) (ys : List Path) →
+    list_any (eq_by_cmp path_cmp x) (filter (λ y. p y && not (same_path x y)) ys) ≡ false
 none_same x p [] = refl
 none_same x p (y ∷ ys) =
-    elim (same_path x y) as (λ b. same_path x y ≡ b → list_any (eq_by_cmp path_cmp x) (cond (p y && not b) (y ∷ filter (λ y. p y && not (same_path x y)) ys) (filter (λ y. p y && not (same_path x y)) ys)) ≡ false) [
-      | true ↦ λ e. ap (λ b. list_any (eq_by_cmp path_cmp x) (cond b (y ∷ filter (λ y. p y && not (same_path x y)) ys) (filter (λ y. p y && not (same_path x y)) ys))) (and-false (p y)) ∙ none_same x p ys
-      | false ↦ λ e. elim (p y) as (λ b. list_any (eq_by_cmp path_cmp x) (cond (b && true) (y ∷ filter (λ y. p y && not (same_path x y)) ys) (filter (λ y. p y && not (same_path x y)) ys)) ≡ false) [
-        | true ↦ ap (λ b. b || list_any (eq_by_cmp path_cmp x) (filter (λ y. p y && not (same_path x y)) ys)) (tied x y ∙ e) ∙ none_same x p ys
-        | false ↦ none_same x p ys
-      ]
+    elim (same_path x y) as (λ b. same_path x y ≡ b →
+    list_any (eq_by_cmp path_cmp x) (cond (p y && not b) (y ∷ filter (λ y. p y && not (same_path x y)) ys)
+    (filter (λ y. p y && not (same_path x y)) ys)) ≡ false) [
+      | true ↦ λ e. ap (λ b. list_any (eq_by_cmp path_cmp x)
+          (cond b (y ∷ filter (λ y. p y && not (same_path x y)) ys) (filter (λ y. p y && not (same_path x y)) ys)))
+          (and-false (p y)) ∙ none_same x p ys
+      | false ↦ λ e. elim (p y) as (λ b. list_any (eq_by_cmp path_cmp x)
+          (cond (b && true) (y ∷ filter (λ y. p y && not (same_path x y)) ys)
+          (filter (λ y. p y && not (same_path x y)) ys)) ≡ false) [
+            | true ↦ ap (λ b. b || list_any (eq_by_cmp path_cmp x) (filter (λ y. p y && not (same_path x y)) ys))
+                (tied x y ∙ e) ∙ none_same x p ys
+            | false ↦ none_same x p ys
+          ]
     ] refl
 
-len-passing : (p : Path → Bool) (xs : List Path) → set.len (set.from_list {R = path_cmp} (filter p (different_paths xs))) ≡ length (filter p (different_paths xs))
+len-passing : (p : Path → Bool) (xs : List Path) →
+    set.len (set.from_list {R = path_cmp} (filter p (different_paths xs))) ≡ length (filter p (different_paths xs))
 len-passing p [] = set.len-empty path_cmp
 len-passing p (x ∷ xs) =
     let others = filter (λ y. p y && not (same_path x y)) (different_paths xs) in
-    let joined : filter p (filter (λ y. not (same_path x y)) (different_paths xs)) ≡ others = filter-filter p (λ y. not (same_path x y)) (different_paths xs) in
-    let fewer : set.len (set.from_list {R = path_cmp} others) ≡ length others = len-passing (λ y. p y && not (same_path x y)) xs in
-    let absent : set.contains (set.from_list {R = path_cmp} others) x ≡ false = set.contains-from_list path_cmp-total others x ∙ none_same x p (different_paths xs) in
-    elim (p x) as (λ b. set.len (set.from_list {R = path_cmp} (cond b (x ∷ filter p (filter (λ y. not (same_path x y)) (different_paths xs))) (filter p (filter (λ y. not (same_path x y)) (different_paths xs))))) ≡ length (cond b (x ∷ filter p (filter (λ y. not (same_path x y)) (different_paths xs))) (filter p (filter (λ y. not (same_path x y)) (different_paths xs))))) [
+    let joined : filter p (filter (λ y. not (same_path x y)) (different_paths xs)) ≡ others =
+    filter-filter p (λ y. not (same_path x y)) (different_paths xs) in
+    let fewer : set.len (set.from_list {R = path_cmp} others) ≡ length others =
+    len-passing (λ y. p y && not (same_path x y)) xs in
+    let absent : set.contains (set.from_list {R = path_cmp} others) x ≡ false =
+    set.contains-from_list path_cmp-total others x ∙ none_same x p (different_paths xs) in
+    elim (p x) as (λ b. set.len (set.from_list {R =
+    path_cmp} (cond b (x ∷ filter p (filter (λ y. not (same_path x y)) (different_paths xs)))
+    (filter p (filter (λ y. not (same_path x y)) (different_paths xs))))) ≡
+    length (cond b (x ∷ filter p (filter (λ y. not (same_path x y)) (different_paths xs)))
+    (filter p (filter (λ y. not (same_path x y)) (different_paths xs))))) [
       | true ↦
           ap (λ (ys : List Path). set.len (set.insert (set.from_list {R = path_cmp} ys) x)) joined
           ∙ set.len-insert path_cmp-total (set.from_list {R = path_cmp} others) x
-          ∙ ap (λ b. cond b (set.len (set.from_list {R = path_cmp} others)) (set.len (set.from_list {R = path_cmp} others) + 1)) absent
+          ∙ ap (λ b. cond b (set.len (set.from_list {R = path_cmp} others))
+          (set.len (set.from_list {R = path_cmp} others) + 1)) absent
           ∙ ap (λ n. n + 1) (fewer ∙ ap length (sym joined))
           ∙ add-one _
-      | false ↦ ap (λ (ys : List Path). set.len (set.from_list {R = path_cmp} ys)) joined ∙ fewer ∙ ap length (sym joined)
+      | false ↦ ap (λ (ys : List Path). set.len (set.from_list {R = path_cmp} ys)) joined ∙ fewer
+          ∙ ap length (sym joined)
     ]
 
 -- the set of paths has as many as there are different ones

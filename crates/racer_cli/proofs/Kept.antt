@@ -1,5 +1,6 @@
 -- What is kept of what is added in turn: all of it, or nothing where there is too much.
-use Rattle.std.proofs.Common.{◌≡◌, ℕ, ◌+◌, ◌<◌, ◌≤◌, Bool, true, false, ◌||◌, cond, List, [], ◌∷◌, ◌++◌, length, None, Some, refl, sym, ap, ◌∙◌, arith, length-append, ◌⊎◌, inl, inr}
+use Rattle.std.proofs.Common.{◌≡◌, ℕ, ◌+◌, ◌<◌, ◌≤◌, Bool, true, false, ◌||◌, cond, List, [], ◌∷◌, ◌++◌, length, None}
+use Rattle.std.proofs.Common.{Some, refl, sym, ap, ◌∙◌, arith, length-append, ◌⊎◌, inl, inr}
 use Rattle.std.proofs.lemmas.Bool.{le-ltb, lt-ltb}
 use Rattle.std.specs.List.{list_any}
 use Rattle.std.specs.FinSet as set
@@ -16,7 +17,8 @@ use Rattle.access_domain.specs.Records.{same_key, first_of_keys, different_paths
 use Rattle.access_domain.proofs.Different.{from_list-different}
 use Rattle.racer_cli.proofs.Additions.{key_added, keys_added, paths_added}
 use Rattle.racer_cli.specs.Walks.{unless_many}
-use Rattle.racer_cli.proofs.AdditionLemmas.{keys_added-longer, keys_added-nil, paths_added-longer, paths_added-empty, len-from_list}
+use Rattle.racer_cli.proofs.AdditionLemmas.{keys_added-longer, keys_added-nil, paths_added-longer, paths_added-empty}
+use Rattle.racer_cli.proofs.AdditionLemmas.{len-from_list}
 
 pub nothing_left : {X : Type 0} (xs : List X) (n : ℕ) → n ≡ length xs → n ≡ 0 → xs ≡ []
 nothing_left [] n e z = refl
@@ -30,23 +32,30 @@ unless_more n x more = ap (λ (b : Bool). cond b None (Some x)) (lt-ltb MAX_SUMM
 
 -- ---- records
 
-pub all_records : (kept all left : List Access) → keys_added kept left ≡ keys_added [] all → left ≡ [] → length kept ≤ MAX_SUMMARY_KEYS → Some kept ≡ unless_many (length (first_of_keys all)) (first_of_keys all)
+pub all_records : (kept all left : List Access) → keys_added kept left ≡ keys_added [] all → left ≡ [] →
+    length kept ≤ MAX_SUMMARY_KEYS → Some kept ≡ unless_many (length (first_of_keys all)) (first_of_keys all)
 all_records kept all left e none fits =
     let same : kept ≡ first_of_keys all = ap (keys_added kept) (sym none) ∙ e ∙ keys_added-nil all in
     sym (unless_few (length kept) kept fits) ∙ ap (λ (xs : List Access). unless_many (length xs) xs) same
 
-pub too_many_records : (kept all left rest : List Access) (x : Access) → keys_added kept left ≡ keys_added [] all → left ≡ x ∷ rest → list_any (λ r. same_key r x) kept ≡ false → length kept ≡ MAX_SUMMARY_KEYS → None ≡ unless_many (length (first_of_keys all)) (first_of_keys all)
+pub too_many_records : (kept all left rest : List Access) (x : Access) → keys_added kept left ≡ keys_added [] all →
+    left ≡ x ∷ rest → list_any (λ r. same_key r x) kept ≡ false → length kept ≡ MAX_SUMMARY_KEYS →
+    None ≡ unless_many (length (first_of_keys all)) (first_of_keys all)
 too_many_records kept all left rest x e more new full =
     let grown : key_added kept x ≡ kept ++ x ∷ [] = ap (λ (b : Bool). cond b kept (kept ++ x ∷ [])) new in
-    let same : keys_added (kept ++ x ∷ []) rest ≡ first_of_keys all = ap (λ (k : List Access). keys_added k rest) (sym grown) ∙ ap (keys_added kept) (sym more) ∙ e ∙ keys_added-nil all in
-    let long : length (kept ++ x ∷ []) ≤ length (keys_added (kept ++ x ∷ []) rest) = keys_added-longer (kept ++ x ∷ []) rest in
+    let same : keys_added (kept ++ x ∷ []) rest ≡ first_of_keys all =
+    ap (λ (k : List Access). keys_added k rest) (sym grown) ∙ ap (keys_added kept) (sym more) ∙ e
+    ∙ keys_added-nil all in
+    let long : length (kept ++ x ∷ []) ≤ length (keys_added (kept ++ x ∷ []) rest) =
+    keys_added-longer (kept ++ x ∷ []) rest in
     let one : length (kept ++ x ∷ []) ≡ length kept + 1 = length-append kept (x ∷ []) in
     let counts : length (keys_added (kept ++ x ∷ []) rest) ≡ length (first_of_keys all) = ap length same in
     sym (unless_more (length (first_of_keys all)) (first_of_keys all) (omega arith))
 
 -- ---- paths
 
-covered : (kept : PathSet) (x q : Path) → set.contains kept x ≡ true → (b : Bool) → eq_by_cmp path_cmp q x ≡ b → (b || set.contains kept q) ≡ set.contains kept q
+covered : (kept : PathSet) (x q : Path) → set.contains kept x ≡ true → (b : Bool) → eq_by_cmp path_cmp q x ≡ b →
+    (b || set.contains kept q) ≡ set.contains kept q
 covered kept x q there true e =
     let same : q ≡ x = equal_of_same q x (sym (tied q x) ∙ e) in
     sym there ∙ ap (set.contains kept) (sym same)
@@ -58,23 +67,34 @@ paths-present kept x there =
     set.same_set path_cmp-total path_cmp-IsAntisymmetric _ _
     (λ q. set.contains-insert path_cmp-total kept x q ∙ covered kept x q there (eq_by_cmp path_cmp q x) refl)
 
-pub added_path : (kept new : PathSet) (x : Path) (answer : Adding) → IsAnswer (set.contains kept x) (set.len kept) kept new (set.insert kept x) answer
+pub added_path : (kept new : PathSet) (x : Path) (answer : Adding) →
+    IsAnswer (set.contains kept x) (set.len kept) kept new (set.insert kept x) answer
     → (answer ≡ Added) ⊎ (answer ≡ Present) → new ≡ set.insert kept x
 added_path kept new x Added a is = a.2
 added_path kept new x Present a is = a.1 ∙ sym (paths-present kept x a.0)
 added_path kept new x Full a is = elim is [ inl e ↦ cc | inr e ↦ cc ]
 added_path kept new x Memory a is = elim is [ inl e ↦ cc | inr e ↦ cc ]
 
-pub all_paths : (kept : PathSet) (all left : List Path) → paths_added kept left ≡ paths_added set.empty all → left ≡ [] → set.len kept ≤ MAX_SUMMARY_KEYS → Some kept ≡ unless_many (length (different_paths all)) (set.from_list (different_paths all))
+pub all_paths : (kept : PathSet) (all left : List Path) → paths_added kept left ≡ paths_added set.empty all →
+    left ≡ [] → set.len kept ≤ MAX_SUMMARY_KEYS →
+    Some kept ≡ unless_many (length (different_paths all)) (set.from_list (different_paths all))
 all_paths kept all left e none fits =
     let same : kept ≡ set.from_list all = ap (paths_added kept) (sym none) ∙ e ∙ paths_added-empty all in
-    sym (unless_few (set.len kept) kept fits) ∙ ap (λ (s : PathSet). unless_many (set.len s) s) same ∙ ap (λ (n : ℕ). unless_many n (set.from_list all)) (len-from_list all)
+    sym (unless_few (set.len kept) kept fits) ∙ ap (λ (s : PathSet). unless_many (set.len s) s) same
+    ∙ ap (λ (n : ℕ). unless_many n (set.from_list all)) (len-from_list all)
     ∙ ap (unless_many (length (different_paths all))) (sym (from_list-different all))
 
-pub too_many_paths : (kept : PathSet) (all left rest : List Path) (x : Path) → paths_added kept left ≡ paths_added set.empty all → left ≡ x ∷ rest → set.contains kept x ≡ false → set.len kept ≡ MAX_SUMMARY_KEYS → None ≡ unless_many (length (different_paths all)) (set.from_list {R = path_cmp} (different_paths all))
+pub too_many_paths : (kept : PathSet) (all left rest : List Path) (x : Path) →
+    paths_added kept left ≡ paths_added set.empty all → left ≡ x ∷ rest → set.contains kept x ≡ false →
+    set.len kept ≡ MAX_SUMMARY_KEYS → None ≡
+    unless_many (length (different_paths all)) (set.from_list {R = path_cmp} (different_paths all))
 too_many_paths kept all left rest x e more new full =
-    let same : paths_added (set.insert kept x) rest ≡ set.from_list all = ap (paths_added kept) (sym more) ∙ e ∙ paths_added-empty all in
-    let long : set.len (set.insert kept x) ≤ set.len (paths_added (set.insert kept x) rest) = paths_added-longer (set.insert kept x) rest in
-    let one : set.len (set.insert kept x) ≡ set.len kept + 1 = set.len-insert path_cmp-total kept x ∙ ap (λ (b : Bool). cond b (set.len kept) (set.len kept + 1)) new in
-    let counts : set.len (paths_added (set.insert kept x) rest) ≡ length (different_paths all) = ap set.len same ∙ len-from_list all in
+    let same : paths_added (set.insert kept x) rest ≡ set.from_list all = ap (paths_added kept) (sym more) ∙ e
+    ∙ paths_added-empty all in
+    let long : set.len (set.insert kept x) ≤ set.len (paths_added (set.insert kept x) rest) =
+    paths_added-longer (set.insert kept x) rest in
+    let one : set.len (set.insert kept x) ≡ set.len kept + 1 = set.len-insert path_cmp-total kept x
+    ∙ ap (λ (b : Bool). cond b (set.len kept) (set.len kept + 1)) new in
+    let counts : set.len (paths_added (set.insert kept x) rest) ≡ length (different_paths all) = ap set.len same
+    ∙ len-from_list all in
     sym (unless_more (length (different_paths all)) (set.from_list {R = path_cmp} (different_paths all)) (omega arith))

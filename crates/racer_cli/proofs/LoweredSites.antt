@@ -1,5 +1,6 @@
 -- The sites of lowered code are in order.
-use Rattle.std.proofs.Common.{◌≡◌, ℕ, suc, ◌+◌, Bool, true, ◌&&◌, List, [], ◌∷◌, ◌++◌, map, refl, ap, sym, ◌∙◌, add-zero, add_assoc, add-one, append_assoc, arith}
+use Rattle.std.proofs.Common.{◌≡◌, ℕ, suc, ◌+◌, Bool, true, ◌&&◌, List, [], ◌∷◌, ◌++◌, map, refl, ap, sym, ◌∙◌}
+use Rattle.std.proofs.Common.{add-zero, add_assoc, add-one, append_assoc, arith}
 use Rattle.std.proofs.lemmas.Bool.{eq-eqb}
 use Rattle.std.proofs.lemmas.List.Folds.{list_all-append}
 use Rattle.std.specs.List.{list_all}
@@ -10,7 +11,8 @@ use Rattle.core_code.specs.declared.code.Op.TheVariants.{PushPrim, Ret}
 use Rattle.core_code.specs.Tree.{Tree, Nothing, Then, Held}
 use Rattle.core_code.proofs.Sites.{sites_of-then}
 use Rattle.core_code.specs.Facts.{sites_of, counts_from, is_in_order, are_sites_in_order}
-use Rattle.racer_cli.specs.Lowering.{Around, step, lowered, all_lowered, body_lowered, size_of, size_of_all, method_lowered, making_method, methods_from, program_of}
+use Rattle.racer_cli.specs.Lowering.{Around, step, lowered, all_lowered, body_lowered, size_of, size_of_all}
+use Rattle.racer_cli.specs.Lowering.{method_lowered, making_method, methods_from, program_of}
 use Rattle.racer_cli.proofs.BoolParts.{both}
 
 abbrev at : ℕ → SiteId
@@ -20,7 +22,8 @@ one_more : (n m : ℕ) (rest : List SiteId) → m ≡ n → counts_from n (at m 
 one_more n m rest h = ap (λ (b : Bool). b && counts_from (suc n) rest) (eq-eqb m n h)
 
 mutual
-  sites-lowered : (around : Around) (s : grammar.Statement) (n : ℕ) (rest : List SiteId) → counts_from n (sites_of (lowered around s n) ++ rest) ≡ counts_from (n + size_of s) rest
+  sites-lowered : (around : Around) (s : grammar.Statement) (n : ℕ) (rest : List SiteId) →
+      counts_from n (sites_of (lowered around s n) ++ rest) ≡ counts_from (n + size_of s) rest
   sites-lowered around (Set field place) n rest =
       one_more n n (at (n + 1) ∷ (at (n + 2) ∷ (at (n + 3) ∷ rest))) refl
       ∙ one_more (suc n) (n + 1) (at (n + 2) ∷ (at (n + 3) ∷ rest)) (omega arith)
@@ -37,11 +40,13 @@ mutual
       ∙ sites-all_lowered around body (n + 1) rest
       ∙ ap (λ (k : ℕ). counts_from k rest) (omega arith)
 
-  sites-all_lowered : (around : Around) (ss : Statements) (n : ℕ) (rest : List SiteId) → counts_from n (sites_of (all_lowered around ss n) ++ rest) ≡ counts_from (n + size_of_all ss) rest
+  sites-all_lowered : (around : Around) (ss : Statements) (n : ℕ) (rest : List SiteId) →
+      counts_from n (sites_of (all_lowered around ss n) ++ rest) ≡ counts_from (n + size_of_all ss) rest
   sites-all_lowered around no_statement n rest = ap (λ (k : ℕ). counts_from k rest) (sym (add-zero n))
   sites-all_lowered around (statement_then first others) n rest =
       let after : List SiteId = sites_of (all_lowered around others (n + size_of first)) in
-      ap (λ (sites : List SiteId). counts_from n (sites ++ rest)) (sites_of-then (lowered around first n) (all_lowered around others (n + size_of first)))
+      ap (λ (sites : List SiteId). counts_from n (sites ++ rest))
+      (sites_of-then (lowered around first n) (all_lowered around others (n + size_of first)))
       ∙ ap (λ (sites : List SiteId). counts_from n sites) (append_assoc (sites_of (lowered around first n)) after rest)
       ∙ sites-lowered around first n (after ++ rest)
       ∙ sites-all_lowered around others (n + size_of first) rest
@@ -56,15 +61,19 @@ sites-body_lowered around body =
     ∙ one_more (0 + size) size (at (size + 1) ∷ []) (omega arith)
     ∙ one_more (suc (0 + size)) (size + 1) [] (omega arith)
 
-declared_in_order : (c f : ℕ) (class : Class) (methods : List grammar.Method) → list_all is_in_order (map (method_lowered c f class) methods) ≡ true
+declared_in_order : (c f : ℕ) (class : Class) (methods : List grammar.Method) →
+    list_all is_in_order (map (method_lowered c f class) methods) ≡ true
 declared_in_order c f class [] = refl
 declared_in_order c f class (m ∷ methods) =
-    both _ (list_all is_in_order (map (method_lowered c f class) methods)) (sites-body_lowered (record { place = m.place; fields = class.fields; first = f }) m.body) (declared_in_order c f class methods)
+    both _ (list_all is_in_order (map (method_lowered c f class) methods))
+    (sites-body_lowered (record { place = m.place; fields = class.fields; first = f }) m.body)
+    (declared_in_order c f class methods)
 
 methods_in_order : (c f : ℕ) (classes : List Class) → list_all is_in_order (methods_from c f classes) ≡ true
 methods_in_order c f [] = refl
 methods_in_order c f (class ∷ others) =
-    list_all-append is_in_order (making_method c class ∷ map (method_lowered c f class) class.methods) (methods_from (suc c) _ others)
+    list_all-append is_in_order (making_method c class ∷ map (method_lowered c f class) class.methods)
+    (methods_from (suc c) _ others)
     ∙ both _ _ (declared_in_order c f class class.methods) (methods_in_order (suc c) _ others)
 
 pub sites_in_order : (file : List ℕ) (classes : List Class) → are_sites_in_order (program_of file classes) ≡ true

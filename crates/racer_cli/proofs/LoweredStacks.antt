@@ -7,7 +7,8 @@ use Rattle.java_parser.specs.Tree.{Set, Sync, Statements, no_statement, statemen
 use Rattle.core_code.specs.declared.code.Op.TheVariants.{PushPrim, Ret}
 use Rattle.core_code.specs.Tree.{Tree, Nothing, Then}
 use Rattle.core_code.specs.Facts.{height_after, is_stack_enough, are_stacks_enough}
-use Rattle.racer_cli.specs.Lowering.{Around, lowered, all_lowered, body_lowered, size_of, size_of_all, step, method_lowered, making_method, methods_from, program_of}
+use Rattle.racer_cli.specs.Lowering.{Around, lowered, all_lowered, body_lowered, size_of, size_of_all, step}
+use Rattle.racer_cli.specs.Lowering.{method_lowered, making_method, methods_from, program_of}
 use Rattle.racer_cli.proofs.BoolParts.{both}
 
 mutual
@@ -27,17 +28,22 @@ then_after rest h = elim h as (λ (x : Option ℕ). Option ℕ) [ None ↦ None 
 height-body_lowered : (around : Around) (body : Statements) → height_after (body_lowered around body) 0 ≡ Some 0
 height-body_lowered around body =
     let size : ℕ = size_of_all body in
-    ap (then_after (Then (step size around.place PushPrim) (Then (step (size + 1) around.place Ret) Nothing))) (height-all_lowered around body 0)
+    ap (then_after (Then (step size around.place PushPrim) (Then (step (size + 1) around.place Ret) Nothing)))
+    (height-all_lowered around body 0)
 
-declared_enough : (c f : ℕ) (class : Class) (methods : List grammar.Method) → list_all is_stack_enough (map (method_lowered c f class) methods) ≡ true
+declared_enough : (c f : ℕ) (class : Class) (methods : List grammar.Method) →
+    list_all is_stack_enough (map (method_lowered c f class) methods) ≡ true
 declared_enough c f class [] = refl
 declared_enough c f class (m ∷ methods) =
-    both _ (list_all is_stack_enough (map (method_lowered c f class) methods)) (ap (is_some {T = ℕ}) (height-body_lowered (record { place = m.place; fields = class.fields; first = f }) m.body)) (declared_enough c f class methods)
+    both _ (list_all is_stack_enough (map (method_lowered c f class) methods))
+    (ap (is_some {T = ℕ}) (height-body_lowered (record { place = m.place; fields = class.fields; first = f })
+    m.body)) (declared_enough c f class methods)
 
 methods_enough : (c f : ℕ) (classes : List Class) → list_all is_stack_enough (methods_from c f classes) ≡ true
 methods_enough c f [] = refl
 methods_enough c f (class ∷ others) =
-    list_all-append is_stack_enough (making_method c class ∷ map (method_lowered c f class) class.methods) (methods_from (suc c) _ others)
+    list_all-append is_stack_enough (making_method c class ∷ map (method_lowered c f class) class.methods)
+    (methods_from (suc c) _ others)
     ∙ both _ _ (declared_enough c f class class.methods) (methods_enough (suc c) _ others)
 
 pub stacks_enough : (file : List ℕ) (classes : List Class) → are_stacks_enough (program_of file classes) ≡ true

@@ -7,7 +7,8 @@ abbrev pub before : List Tree → Tree → Tree
 before [] rest = rest
 before (part ∷ parts) rest = Then part (before parts rest)
 
-pub before-more : (parts : List Tree) (part rest : Tree) → before (parts ++ part ∷ []) rest ≡ before parts (Then part rest)
+pub before-more : (parts : List Tree) (part rest : Tree) →
+    before (parts ++ part ∷ []) rest ≡ before parts (Then part rest)
 before-more [] part rest = refl
 before-more (p ∷ parts) part rest = ap (λ t. Then p t) (before-more parts part rest)
 

@@ -1,4 +1,4 @@
--- Whether the places that classes of the first grammar keep are all in one file.
+-- No public contract rests on this: whether the places that classes of the first grammar keep are all in one file.
 use Rattle.std.specs.Prelude.{ℕ, Bool, true, ◌&&◌, List, nat_eq}
 use Rattle.std.specs.List.{list_all}
 use Rattle.racer_base.specs.declared.ids.Place.{Place}
@@ -15,7 +15,8 @@ abbrev mutual
 
   pub are_statements_in_file : ℕ → Statements → Bool
   are_statements_in_file file no_statement = true
-  are_statements_in_file file (statement_then first others) = is_statement_in_file file first && are_statements_in_file file others
+  are_statements_in_file file (statement_then first others) =
+      is_statement_in_file file first && are_statements_in_file file others
 
 abbrev pub is_method_in_file : ℕ → Method → Bool
 is_method_in_file file method = is_in_file file method.place && are_statements_in_file file method.body

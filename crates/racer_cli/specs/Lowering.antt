@@ -1,5 +1,7 @@
--- The lowering of the first grammar's classes to core code, a row a form (JLS 8.4, 8.8.9, 14.19, 15.26).
-use Rattle.std.specs.Prelude.{ℕ, suc, ◌+◌, Bool, true, false, ◌||◌, List, [], ◌∷◌, ◌++◌, None, codes, length, map, if◌then◌else◌, nat_eq}
+-- A contract of a public call rests on this: the lowering of the first grammar's classes to core code, a row a form
+-- (JLS 8.4, 8.8.9, 14.19, 15.26).
+use Rattle.std.specs.Prelude.{ℕ, suc, ◌+◌, Bool, true, false, ◌||◌, List, [], ◌∷◌, ◌++◌, None, codes, length, map}
+use Rattle.std.specs.Prelude.{if◌then◌else◌, nat_eq}
 use Rattle.std.specs.List.{list_any}
 use Rattle.std.specs.Cmp.Lexicographic.{pointwise}
 use Rattle.racer_base.specs.declared.ids.Kind.TheVariants.{Plain, Declared}
@@ -51,17 +53,25 @@ abbrev mutual
   -- synchronized (this) { .. }   Push(0), Sync(block)
   pub lowered : Around → grammar.Statement → ℕ → Tree
   lowered around (Set field place) n =
-      Then (step n around.place push_this) (Then (step (n + 1) around.place PushPrim) (Then (step (n + 2) place (put_field around field)) (Then (step (n + 3) around.place Drop) Nothing)))
-  lowered around (Sync place body) n = Then (step n around.place push_this) (Then (Held place (all_lowered around body (n + 1))) Nothing)
+      Then (step n around.place push_this)
+      (Then (step (n + 1) around.place PushPrim)
+      (Then (step (n + 2) place (put_field around field))
+      (Then (step (n + 3) around.place Drop) Nothing)))
+  lowered around (Sync place body) n =
+      Then (step n around.place push_this) (Then (Held place (all_lowered around body (n + 1))) Nothing)
 
   -- statements one after another, their sites from n on
   pub all_lowered : Around → grammar.Statements → ℕ → Tree
   all_lowered around no_statement n = Nothing
-  all_lowered around (statement_then first others) n = Then (lowered around first n) (all_lowered around others (n + size_of first))
+  all_lowered around (statement_then first others) n =
+      Then (lowered around first n) (all_lowered around others (n + size_of first))
 
 -- { .. }, and at its end what `return` is in a `void` method: PushPrim, Ret
 abbrev pub body_lowered : Around → grammar.Statements → Tree
-body_lowered around body = Then (all_lowered around body 0) (Then (step (size_of_all body) around.place PushPrim) (Then (step (size_of_all body + 1) around.place Ret) Nothing))
+body_lowered around body =
+    Then (all_lowered around body 0)
+    (Then (step (size_of_all body) around.place PushPrim)
+    (Then (step (size_of_all body + 1) around.place Ret) Nothing))
 
 -- the end of a constructor: Push(0), Ret
 abbrev pub making_lowered : Place → Tree
@@ -86,7 +96,8 @@ class_lowered class = record { name = class.name; place = class.place; checked =
 
 -- a field of type `int` of class c
 abbrev pub field_lowered : ℕ → List ℕ → FieldCore
-field_lowered c name = record { class = record { 0 = c }; name = name; kind = Plain; is_static = false; recorded = true }
+field_lowered c name =
+    record { class = record { 0 = c }; name = name; kind = Plain; is_static = false; recorded = true }
 
 -- a method of class c, whose variables are `this` alone; it is an entry where its class is checked
 abbrev pub method_lowered : ℕ → ℕ → Class → grammar.Method → Method
@@ -131,7 +142,8 @@ fields_from c (class ∷ others) = map (field_lowered c) class.fields ++ fields_
 abbrev pub methods_from : ℕ → ℕ → List Class → List Method
 methods_from c f [] = []
 methods_from c f (class ∷ others) =
-    (making_method c class ∷ map (method_lowered c f class) class.methods) ++ methods_from (suc c) (f + length class.fields) others
+    (making_method c class ∷ map (method_lowered c f class) class.methods)
+    ++ methods_from (suc c) (f + length class.fields) others
 
 -- the program of a file of this name with these classes
 abbrev pub program_of : List ℕ → List Class → Core

@@ -1,4 +1,4 @@
--- A small class, and code laid out flat.
+-- No public contract rests on this: a small class, and code laid out flat.
 use Rattle.std.specs.Prelude.{false, List, [], ◌∷◌, ◌++◌, codes, map}
 use Rattle.java_parser.specs.Tree as grammar
 use Rattle.java_parser.specs.Tree.{Set, Sync, pack, Class}
@@ -16,7 +16,12 @@ abbrev pub method_put : grammar.Method
 method_put = record { name = codes "put"; place = at 4 8; body = pack (Set (codes "a") (at 4 21) ∷ []) }
 
 abbrev pub method_both : grammar.Method
-method_both = record { name = codes "both"; place = at 5 8; body = pack (Sync (at 5 17) (pack (Set (codes "a") (at 5 44) ∷ Set (codes "b") (at 5 56) ∷ [])) ∷ []) }
+method_both =
+    record {
+      name = codes "both";
+      place = at 5 8;
+      body = pack (Sync (at 5 17) (pack (Set (codes "a") (at 5 44) ∷ Set (codes "b") (at 5 56) ∷ [])) ∷ []);
+    }
 
 abbrev pub class_pair : Class
 class_pair =

@@ -16,5 +16,6 @@ class_added core class =
     record core {
       classes = core.classes ++ class_lowered class ∷ [];
       fields = core.fields ++ map (field_lowered c) class.fields;
-      methods = core.methods ++ making_method c class ∷ map (method_lowered c (length core.fields) class) class.methods;
+      methods =
+          core.methods ++ making_method c class ∷ map (method_lowered c (length core.fields) class) class.methods;
     }

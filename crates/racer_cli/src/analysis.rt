@@ -1,5 +1,6 @@
 //! The analysis of code of the first grammar: stores without choices, loops and calls.
-ghost use Rattle.std.specs.Prelude.{◌≡◌, ℕ, List, ◌++◌, None, Some, IfOk, OnOk, IsTrue, if◌then◌else◌, is_none, length, map, option_map};
+ghost use Rattle.std.specs.Prelude.{◌≡◌, ℕ, List, ◌++◌, None, Some, IfOk, OnOk, IsTrue, if◌then◌else◌, is_none};
+ghost use Rattle.std.specs.Prelude.{length, map, option_map};
 ghost use Rattle.std.specs.Arc.{arc_value};
 ghost use Rattle.std.specs.FinSet as set;
 ghost use Rattle.racer_base.specs.declared.ids.Touch.TheVariants.{Write};

@@ -76,7 +76,8 @@ fn lower_set(
     place: Place,
     site: u32,
 ) -> Result<Piece, Memory>
-    ensures code { IfOk result (λ piece. tree_of piece.code ≡ low.lowered (around_of around.now) (Set field.now place) site) }
+    ensures code { IfOk result (λ piece. tree_of piece.code ≡
+        low.lowered (around_of around.now) (Set field.now place) site) }
     ensures next { IfOk result (λ piece. piece.next ≡ site + 4) }
 {
     let next = site.checked_add(4).ok_or(Memory)?;
@@ -101,7 +102,8 @@ fn lower_statement(
     statement: &FirstStatement,
     site: u32,
 ) -> Result<Piece, Memory>
-    ensures code { IfOk result (λ piece. tree_of piece.code ≡ low.lowered (around_of around.now) (statement_of statement.now) site) }
+    ensures code { IfOk result (λ piece. tree_of piece.code ≡
+        low.lowered (around_of around.now) (statement_of statement.now) site) }
     ensures next { IfOk result (λ piece. piece.next ≡ site + low.size_of (statement_of statement.now)) }
 {
     match statement {
@@ -129,8 +131,10 @@ fn lower_statements(
     statements: &[FirstStatement],
     site: u32,
 ) -> Result<Piece, Memory>
-    ensures code { IfOk result (λ piece. tree_of piece.code ≡ low.all_lowered (around_of around.now) (pack (map statement_of statements.now)) site) }
-    ensures next { IfOk result (λ piece. piece.next ≡ site + low.size_of_all (pack (map statement_of statements.now))) }
+    ensures code { IfOk result (λ piece. tree_of piece.code ≡
+        low.all_lowered (around_of around.now) (pack (map statement_of statements.now)) site) }
+    ensures next { IfOk result (λ piece.
+        piece.next ≡ site + low.size_of_all (pack (map statement_of statements.now))) }
 {
     let mut parts = Vec::new(alloc);
     let mut next = site;
@@ -147,7 +151,8 @@ fn lower_statements(
 
 /// The body of a method, and the return at its end.
 fn lower_body(alloc: Global, around: &Surroundings, body: &[FirstStatement]) -> Result<Code, Memory>
-    ensures { IfOk result (λ code. tree_of code ≡ low.body_lowered (around_of around.now) (pack (map statement_of body.now))) }
+    ensures { IfOk result (λ code. tree_of code ≡
+        low.body_lowered (around_of around.now) (pack (map statement_of body.now))) }
 {
     let block = lower_statements(alloc, around, body, 0)?;
     let last = block.next.checked_add(1).ok_or(Memory)?;
@@ -178,7 +183,8 @@ fn lower_method(
     method: &FirstMethod,
 ) -> Result<MethodCore, Memory>
     requires { checked ≡ low.is_checked (class_of class.now) }
-    ensures { IfOk result (λ made. core.method_of made ≡ low.method_lowered id.0 first (class_of class.now) (grammar.method_of method.now)) }
+    ensures { IfOk result (λ made. core.method_of made ≡
+        low.method_lowered id.0 first (class_of class.now) (grammar.method_of method.now)) }
 {
     let around = Surroundings {
         place: method.place,
@@ -281,7 +287,8 @@ fn push_methods(
     methods: &mut Items<MethodCore>,
 ) -> Result<(), Memory>
     requires { checked ≡ low.is_checked (class_of class.now) }
-    ensures { OnOk result (map core.method_of methods.new ≡ map core.method_of methods.old ++ map (low.method_lowered id.0 first (class_of class.now)) (class_of class.now).methods) }
+    ensures { OnOk result (map core.method_of methods.new ≡ map core.method_of methods.old ++
+        map (low.method_lowered id.0 first (class_of class.now)) (class_of class.now).methods) }
 {
     for method in class.methods.as_slice() {
         methods.push(lower_method(alloc, class, id, first, checked, method)?)?;

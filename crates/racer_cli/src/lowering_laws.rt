@@ -24,5 +24,6 @@ pub fn checked_rows()
 
 /// Classes that tokens of one file spell keep places of that file.
 pub fn placed_by_tokens()
-    ensures { (tokens : List Token) (classes : List Class) → IsFile tokens classes → All (λ (t : Token). t.place.file.0 ≡ 0) tokens → IsTrue (are_in_file 0 classes) }
+    ensures { (tokens : List Token) (classes : List Class) → IsFile tokens classes →
+        All (λ (t : Token). t.place.file.0 ≡ 0) tokens → IsTrue (are_in_file 0 classes) }
 {}

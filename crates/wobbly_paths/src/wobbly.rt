@@ -56,7 +56,8 @@ impl Wobbly {
 
     /// Adds a path. Unless the answer is `Added`, the set is as before.
     pub fn add(&mut self, path: Path) -> Adding
-        ensures cases { IsAnswer (set.contains self.old path) (set.len self.old) self.old self.new (set.insert self.old path) result }
+        ensures cases { IsAnswer (set.contains self.old path) (set.len self.old) self.old self.new
+            (set.insert self.old path) result }
         ensures limit { set.len self.new ≤ MAX_SUMMARY_KEYS }
     {
         if self.has(&path) {
@@ -74,7 +75,8 @@ impl Wobbly {
     /// The number of fields of the shortest proper prefix of a path, the root alone included, that is in the set.
     pub fn unstable_prefix(&self, path: &Path) -> Option<u32>
         requires { length path.now.fields ≤ MAX_PATH_FIELDS }
-        ensures { MatchOption result (HasNoPrefix self.now path.now (length path.now.fields)) (IsShortestPrefix self.now path.now) }
+        ensures { MatchOption result (HasNoPrefix self.now path.now (length path.now.fields))
+            (IsShortestPrefix self.now path.now) }
     {
         for fields in 0..path.fields.len() {
             if self.has_front(path, fields) {

@@ -11,5 +11,6 @@ invariant-go_through-loop-part l =
     let rest = in_sequence (map tree_of (drop l.part-index l.parts)) in
     record {
       first_code : is_first_code rest ≡ true;
-      left : IsLeft (flow_here l.frame whole l.locked l.fn.walk) (flow_here l.frame rest l.locked l.walk) l.fn.walk l.walk;
+      left : IsLeft (flow_here l.frame whole l.locked l.fn.walk) (flow_here l.frame rest l.locked l.walk) l.fn.walk
+          l.walk;
     }

@@ -13,7 +13,8 @@ loop-path-preserved c =
     let counts = ap length steps.0 in
     record {
       all =
-          ap (λ (s : PathSet). paths_added s rest) (added_path at.kept c.add.new.self c.in-Some.path c.add.result c.add.ensures.cases c.in-Added.is)
+          ap (λ (s : PathSet). paths_added s rest)
+          (added_path at.kept c.add.new.self c.in-Some.path c.add.result c.add.ensures.cases c.in-Added.is)
           ∙ ap (paths_added at.kept) (sym steps.0)
           ∙ at.invariant.all;
       count = omega (arith, counts, steps.1, at.invariant.count);
@@ -24,10 +25,12 @@ pub returns-in-Full : goal.returns-in-Full
 returns-in-Full c =
     let at = c.loop-path in
     let cases = c.in-Full.ensures.cases in
-    too_many_paths at.kept c.args.paths.items (into_iter_items at.path-iterator) (into_iter_items c.next.new.self) c.in-Some.path at.invariant.all c.in-Some.ensures.steps.0 cases.0 cases.1
+    too_many_paths at.kept c.args.paths.items (into_iter_items at.path-iterator) (into_iter_items c.next.new.self)
+    c.in-Some.path at.invariant.all c.in-Some.ensures.steps.0 cases.0 cases.1
 
 pub returns : goal.returns
 returns c =
     let at = c.loop-path in
     let left = into_iter_items at.path-iterator in
-    all_paths at.kept c.args.paths.items left at.invariant.all (nothing_left left _ at.invariant.count c.in-None.ensures.steps.0) at.invariant.limit
+    all_paths at.kept c.args.paths.items left at.invariant.all
+    (nothing_left left _ at.invariant.count c.in-None.ensures.steps.0) at.invariant.limit

@@ -1,4 +1,5 @@
-use Rattle.std.proofs.Common.{◌≡◌, ◌+◌, ◌++◌, ◌&&◌, Bool, true, List, Option, map, length, drop, get_or, sym, ap, ◌∙◌, option_map}
+use Rattle.std.proofs.Common.{◌≡◌, ◌+◌, ◌++◌, ◌&&◌, Bool, true, List, Option, map, length, drop, get_or, sym, ap, ◌∙◌}
+use Rattle.std.proofs.Common.{option_map}
 use Rattle.std.proofs.lemmas.List.{map_push, at_drop_more}
 use Rattle.std.specs.List.{list_all}
 use Rattle.std.specs.Arc.{arc_value}
@@ -27,16 +28,22 @@ loop-method-preserved c =
     let program = core c.args.program.now in
     let rest = are_first_code (drop (i + 1) ms) in
     let item : MethodCore = get_or ms i m in
-    let split : (is_first_code (method_of item).code && rest) ≡ true = sym (at_drop_more are_first_code ms i m c.loop-method-test.true) ∙ at.first_code in
-    let this : is_first_code (method_of m).code ≡ true = ap (λ (x : MethodCore). is_first_code (method_of x).code) c.method-item.is ∙ first_part (is_first_code (method_of item).code) rest split in
+    let split : (is_first_code (method_of item).code && rest) ≡ true =
+    sym (at_drop_more are_first_code ms i m c.loop-method-test.true) ∙ at.first_code in
+    let this : is_first_code (method_of m).code ≡ true =
+    ap (λ (x : MethodCore). is_first_code (method_of x).code) c.method-item.is
+    ∙ first_part (is_first_code (method_of item).code) rest split in
     let outs = c.loop-method.outcomes.items in
     let found = c.in_ok-known.known in
     record {
       first_code = last_part (is_first_code (method_of item).code) rest split;
       all = at.all;
       outcomes =
-          ap (λ (xs : List (Option (Arc Outcome Global))). outcomes_held xs ++ outcomes_from program (i + 1) (length (drop (i + 1) ms))) c.in_ok-push.ensures.items
-          ∙ ap (λ (xs : List (Option Outcome)). xs ++ outcomes_from program (i + 1) (length (drop (i + 1) ms))) (map_push (option_map arc_value) outs found)
-          ∙ sym (outcomes_turn program ms i m (outcomes_held outs) (option_map arc_value found) at.all c.loop-method-test.true c.method-item.is this c.in_ok-known.ensures)
+          ap (λ (xs : List (Option (Arc Outcome Global))).
+          outcomes_held xs ++ outcomes_from program (i + 1) (length (drop (i + 1) ms))) c.in_ok-push.ensures.items
+          ∙ ap (λ (xs : List (Option Outcome)). xs ++ outcomes_from program (i + 1) (length (drop (i + 1) ms)))
+          (map_push (option_map arc_value) outs found)
+          ∙ sym (outcomes_turn program ms i m (outcomes_held outs) (option_map arc_value found) at.all
+          c.loop-method-test.true c.method-item.is this c.in_ok-known.ensures)
           ∙ at.outcomes;
     }

@@ -13,5 +13,6 @@ invariant-loop-method l =
     record {
       first_code : list_all (λ (m : Method). is_first_code m.code) (map method_of left) ≡ true;
       all : map method_of l.method-items ≡ methods l.program;
-      outcomes : outcomes_held l.outcomes.items ++ outcomes_from (core l.program) l.method-index (length left) ≡ outcomes_of (core l.program);
+      outcomes : outcomes_held l.outcomes.items ++ outcomes_from (core l.program) l.method-index (length left) ≡
+          outcomes_of (core l.program);
     }

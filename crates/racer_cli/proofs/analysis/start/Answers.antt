@@ -1,9 +1,11 @@
-use Rattle.std.proofs.Common.{◌≡◌, ℕ, suc, ◌+◌, ◌-◌, ◌<◌, List, [], ◌∷◌, ◌++◌, length, replicate, ap, ◌∙◌, append_assoc, arith}
+use Rattle.std.proofs.Common.{◌≡◌, ℕ, suc, ◌+◌, ◌-◌, ◌<◌, List, [], ◌∷◌, ◌++◌, length, replicate, ap, ◌∙◌}
+use Rattle.std.proofs.Common.{append_assoc, arith}
 use Rattle.owner_domain.specs.declared.value.Value.{Value}
 use Rattle.owner_domain.specs.declared.value.Value.TheVariants.{Owned}
 use Rattle.racer_cli.proofs.analysis.start.Goals as goal
 
-replicate_turn : {X : Type 0} (before : List X) (n i : ℕ) (x : X) → i < n → (before ++ x ∷ []) ++ replicate (n - (i + 1)) x ≡ before ++ replicate (n - i) x
+replicate_turn : {X : Type 0} (before : List X) (n i : ℕ) (x : X) → i < n →
+    (before ++ x ∷ []) ++ replicate (n - (i + 1)) x ≡ before ++ replicate (n - i) x
 replicate_turn before n i x within =
     let one : suc (n - (i + 1)) ≡ n - i = omega arith in
     append_assoc before (x ∷ []) (replicate (n - (i + 1)) x) ∙ ap (λ (k : ℕ). before ++ replicate k x) one

@@ -25,10 +25,18 @@ lower_statements-loop-statement-preserved t c =
     record {
       code =
           c.loop-statement.invariant.code
-          ∙ lowered_turn all i s c.loop-statement-test.true c.statement-item.is around (map tree_of parts) (tree_of piece.code) c.loop-statement.next piece.next c.in_ok-piece.ensures.code c.in_ok-piece.ensures.next
+          ∙ lowered_turn all i s c.loop-statement-test.true c.statement-item.is around (map tree_of parts)
+          (tree_of piece.code) c.loop-statement.next piece.next c.in_ok-piece.ensures.code
+          c.in_ok-piece.ensures.next
           ∙ ap (λ (ts : List Tree). before ts left) (sym {A = List Tree} (map_push tree_of parts piece.code))
-          ∙ ap (λ (codes : List Code). before (map tree_of codes) left) (sym {A = List Code} c.in_ok-push.ensures.items);
-      next = omega (arith, c.loop-statement.invariant.next, size_turn all i s c.loop-statement-test.true c.statement-item.is, c.in_ok-piece.ensures.next);
+          ∙ ap (λ (codes : List Code). before (map tree_of codes) left)
+          (sym {A = List Code} c.in_ok-push.ensures.items);
+      next = omega (
+        arith,
+        c.loop-statement.invariant.next,
+        size_turn all i s c.loop-statement-test.true c.statement-item.is,
+        c.in_ok-piece.ensures.next,
+      );
     }
 
 pub lower_statements-returns-clause-code : goal.lower_statements-returns-clause-code
@@ -38,5 +46,7 @@ lower_statements-returns-clause-code t c =
     whole
     ∙ sym
     (c.loop-statement.invariant.code
-    ∙ at_drop_all (λ (xs : List FirstStatement). before parts (all_lowered (around_of c.args.around.now) (pack (map statement_of xs)) c.loop-statement.next)) c.args.statements.now c.loop-statement.statement-index c.loop-statement-test.false
+    ∙ at_drop_all (λ (xs : List FirstStatement).
+    before parts (all_lowered (around_of c.args.around.now) (pack (map statement_of xs)) c.loop-statement.next))
+    c.args.statements.now c.loop-statement.statement-index c.loop-statement-test.false
     ∙ before-nothing parts)

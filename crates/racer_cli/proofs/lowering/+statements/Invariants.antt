@@ -13,6 +13,7 @@ invariant-lower_statements-loop-statement l =
     let whole = pack (map statement_of l.statements) in
     let left = pack (map statement_of (drop l.statement-index l.statements)) in
     record {
-      code : all_lowered (around_of l.around) whole l.site ≡ before (map tree_of l.parts.items) (all_lowered (around_of l.around) left l.next);
+      code : all_lowered (around_of l.around) whole l.site ≡
+          before (map tree_of l.parts.items) (all_lowered (around_of l.around) left l.next);
       next : l.site + size_of_all whole ≡ l.next + size_of_all left;
     }

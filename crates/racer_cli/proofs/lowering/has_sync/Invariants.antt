@@ -6,4 +6,5 @@ use Rattle.racer_cli.proofs.lowering.has_sync.Given as goal
 
 -- no statement so far has the word
 abbrev pub invariant-loop-statement : goal.invariant-loop-statement
-invariant-loop-statement l = any_has_sync (pack (map statement_of l.body)) ≡ any_has_sync (pack (map statement_of (drop l.statement-index l.body)))
+invariant-loop-statement l = any_has_sync (pack (map statement_of l.body)) ≡
+    any_has_sync (pack (map statement_of (drop l.statement-index l.body)))

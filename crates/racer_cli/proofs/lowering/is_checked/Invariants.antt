@@ -7,4 +7,5 @@ use Rattle.racer_cli.proofs.lowering.is_checked.Given as goal
 
 -- no method so far has the word
 abbrev pub invariant-loop-method : goal.invariant-loop-method
-invariant-loop-method l = is_checked (class_of l.class) ≡ list_any (λ (m : Method). any_has_sync m.body) (map method_of (drop l.method-index l.class.methods))
+invariant-loop-method l = is_checked (class_of l.class) ≡
+    list_any (λ (m : Method). any_has_sync m.body) (map method_of (drop l.method-index l.class.methods))

@@ -11,7 +11,8 @@ use Rattle.racer_cli.proofs.lowering.lower_first.Goals as goal
 pub of-requires-clause-numbers_in_range : goal.of-requires-clause-numbers_in_range
 of-requires-clause-numbers_in_range c =
     let P : Core → Type 0 = λ core. are_numbers_in_range core ≡ true in
-    subst P (sym c.in_ok-lower_parts.ensures) (numbers_in_range c.args.file.now (classes_of c.args.classes.now) c.requires.allowed c.requires.placed)
+    subst P (sym c.in_ok-lower_parts.ensures)
+    (numbers_in_range c.args.file.now (classes_of c.args.classes.now) c.requires.allowed c.requires.placed)
 
 pub of-requires-clause-sites_in_order : goal.of-requires-clause-sites_in_order
 of-requires-clause-sites_in_order c =

@@ -10,6 +10,15 @@ loop-class-init c =
     let classes = classes_of c.args.classes.now in
     let file = c.args.file.now in
     let empty : Core = record { files = file ∷ []; skipped = []; classes = []; fields = []; methods = [] } in
-    let files : c.push.new.self ≡ file ∷ [] = c.in_ok-push.ensures.ok ∙ ap (λ (fs : List (List ℕ)). fs ++ c.in_ok-from_str.field-0 ∷ []) c.new-files.ensures ∙ ap (λ (f : List ℕ). f ∷ []) c.in_ok-from_str.ensures in
-    let nothing_yet : core_of (record { files = c.push.new.self; skipped = c.new.result; classes = c.new-2.result; fields = c.new-3.result; methods = c.new-4.result }) ≡ empty = rw (files, c.new.ensures, c.new-2.ensures, c.new-3.ensures, c.new-4.ensures) refl in
+    let files : c.push.new.self ≡ file ∷ [] = c.in_ok-push.ensures.ok
+    ∙ ap (λ (fs : List (List ℕ)). fs ++ c.in_ok-from_str.field-0 ∷ []) c.new-files.ensures
+    ∙ ap (λ (f : List ℕ). f ∷ []) c.in_ok-from_str.ensures in
+    let nothing_yet : core_of (record {
+      files = c.push.new.self;
+      skipped = c.new.result;
+      classes = c.new-2.result;
+      fields = c.new-3.result;
+      methods = c.new-4.result;
+    }) ≡ empty =
+    rw (files, c.new.ensures, c.new-2.ensures, c.new-3.ensures, c.new-4.ensures) refl in
     ap (λ (core : Core). classes_added core classes) nothing_yet ∙ classes_added-followed empty classes

@@ -6,4 +6,5 @@ use Rattle.racer_cli.proofs.Added.{classes_added}
 use Rattle.racer_cli.proofs.lowering.lower_parts.Given as goal
 
 abbrev pub invariant-loop-class : goal.invariant-loop-class
-invariant-loop-class l = classes_added (core_of l.parts) (map class_of (drop l.class-index l.classes)) ≡ program_of l.file (classes_of l.classes)
+invariant-loop-class l = classes_added (core_of l.parts) (map class_of (drop l.class-index l.classes)) ≡
+    program_of l.file (classes_of l.classes)

@@ -8,4 +8,5 @@ use Rattle.racer_cli.proofs.lowering.push_methods.Given as goal
 abbrev pub invariant-loop-method : goal.invariant-loop-method
 invariant-loop-method l =
     let made = method_lowered l.id.0 l.first (class_of l.class) in
-    map method_of l.methods ++ map made (map grammar.method_of (drop l.method-index l.class.methods)) ≡ map method_of l.fn.methods ++ map made (class_of l.class).methods
+    map method_of l.methods ++ map made (map grammar.method_of (drop l.method-index l.class.methods)) ≡
+    map method_of l.fn.methods ++ map made (class_of l.class).methods

@@ -1,0 +1,65 @@
+//! A program of one class with one field.
+ghost use Rattle.std.specs.Prelude.{◌≡◌, true, false, IfOk};
+
+use core_code::{ClassCore, FieldCore, Parts, Program};
+use racer_base::{ClassId, FieldId, FileId, Items, Kind, Names, Place, Text};
+use std::alloc::Global;
+use std::test::Fail;
+
+const HERE: Place = Place {
+    file: FileId(0),
+    line: 1,
+    column: 7,
+};
+
+fn class(alloc: Global, name: &str) -> Result<ClassCore, Fail>
+    ensures { IfOk result (λ made. made ≡ record { name = name.now; place = HERE; checked = true }) }
+{
+    Ok(ClassCore {
+        name: Text::from_str(alloc, name)?,
+        place: HERE,
+        checked: true,
+    })
+}
+
+fn field(alloc: Global, name: &str) -> Result<FieldCore, Fail>
+    ensures { IfOk result (λ made. made ≡ record {
+      class = record { 0 = 0 };
+      name = name.now;
+      kind = Kind.Plain;
+      is_static = false;
+      recorded = true;
+    }) }
+{
+    Ok(FieldCore {
+        class: ClassId(0),
+        name: Text::from_str(alloc, name)?,
+        kind: Kind::Plain,
+        is_static: false,
+        recorded: true,
+    })
+}
+
+#[test]
+fn makes_a_program(rt: HostRuntime) -> Result<(), Fail> {
+    let alloc = rt.alloc();
+    let mut files = Items::new(alloc);
+    files.push(Text::from_str(alloc, "Pair.java")?)?;
+    let mut classes = Items::new(alloc);
+    classes.push(class(alloc, "Pair")?)?;
+    let mut fields = Items::new(alloc);
+    fields.push(field(alloc, "a")?)?;
+    let program = Program::of(Parts {
+        files,
+        skipped: Items::new(alloc),
+        classes,
+        fields,
+        methods: Items::new(alloc),
+    });
+    assert_eq!(rt; program.files().len(), 1);
+    assert_eq!(rt; program.skipped().len(), 0);
+    assert_eq!(rt; program.methods().len(), 0);
+    assert_eq!(rt; program.class_name(ClassId(0)), "Pair");
+    assert_eq!(rt; program.field_name(FieldId(0)), "a");
+    Ok(())
+}
