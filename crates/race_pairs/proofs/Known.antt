@@ -12,7 +12,7 @@ use Rattle.core_code.specs.Core.{Core, Method}
 use Rattle.access_domain.specs.declared.summary.Outcome.{Outcome}
 use Rattle.access_domain.specs.Outcomes.{AreOutcomes}
 use Rattle.access_domain.specs.Summaries.{outcome_of, outcomes_from}
-use Rattle.race_pairs.specs.Warnings.{records_held, records_of, placed_in, is_entry_of, entry_records}
+use Rattle.race_pairs.specs.Warnings.{records_held, records_of, numbered_records, is_entry_of, entry_records}
 
 abbrev number : ℕ → MethodId
 number i = record { 0 = i }
@@ -25,10 +25,10 @@ get_or-outcomes_from : (core : Core) (i n k : ℕ) (d : Option Outcome) → k < 
 get_or-outcomes_from core i zero k d within = absurd (omega arith)
 get_or-outcomes_from core i (suc n) zero d within = ap (λ j. outcome_of core (number j)) (sym (add-zero i))
 get_or-outcomes_from core i (suc n) (suc k) d within =
-    let place : suc i + k ≡ i + suc k = omega arith in
-    get_or-outcomes_from core (suc i) n k d (omega arith) ∙ ap (λ j. outcome_of core (number j)) place
+    let moved : suc i + k ≡ i + suc k = omega arith in
+    get_or-outcomes_from core (suc i) n k d (omega arith) ∙ ap (λ j. outcome_of core (number j)) moved
 
--- there is a place for each method
+-- there is an outcome for each method
 pub one_for_each : (core : Core) (outcomes : List (Option (Arc Outcome Global))) → AreOutcomes core outcomes → length outcomes ≡ length core.methods
 one_for_each core outcomes are =
     sym (length-map outcomes (option_map arc_value)) ∙ ap length are ∙ length-outcomes_from core 0 (length core.methods)
@@ -42,12 +42,12 @@ outcome_at core outcomes m o are within is =
     ∙ get_or-outcomes_from core 0 (length core.methods) m (option_map arc_value o) within
     ∙ ap (λ j. outcome_of core (number j)) (zero-add m)
 
--- the records of an entry, whose outcome is read at its place
-pub entry_adds : (core : Core) (c : ClassId) (m : ℕ) (method : Method) (id : MethodId) (o : Option (Arc Outcome Global)) → is_entry_of c method ≡ true → id.0 ≡ m → option_map arc_value o ≡ outcome_of core (number m) → placed_in id (records_held (option_map arc_value o)) ≡ entry_records core c (m, method)
+-- the records of an entry, whose outcome is read at its number
+pub entry_adds : (core : Core) (c : ClassId) (m : ℕ) (method : Method) (id : MethodId) (o : Option (Arc Outcome Global)) → is_entry_of c method ≡ true → id.0 ≡ m → option_map arc_value o ≡ outcome_of core (number m) → numbered_records id (records_held (option_map arc_value o)) ≡ entry_records core c (m, method)
 entry_adds core c m method id o entry is known =
-    let test : entry_records core c (m, method) ≡ placed_in (number m) (records_of core (number m)) = ap (λ b. cond b (placed_in (number m) (records_of core (number m))) []) entry in
-    (λ i. placed_in (number (is i)) (records_held (known i))) ∙ sym test
+    let test : entry_records core c (m, method) ≡ numbered_records (number m) (records_of core (number m)) = ap (λ b. cond b (numbered_records (number m) (records_of core (number m))) []) entry in
+    (λ i. numbered_records (number (is i)) (records_held (known i))) ∙ sym test
 
 -- another method has none
 pub other_adds : (core : Core) (c : ClassId) (m : ℕ) (method : Method) → is_entry_of c method ≡ false → [] ≡ entry_records core c (m, method)
-other_adds core c m method other = sym (ap (λ b. cond b (placed_in (number m) (records_of core (number m))) []) other)
+other_adds core c m method other = sym (ap (λ b. cond b (numbered_records (number m) (records_of core (number m))) []) other)

@@ -9,7 +9,7 @@ use Rattle.core_code.specs.Core.{Core, Method}
 use Rattle.core_code.specs.declared.parts.ClassCore.{ClassCore}
 use Rattle.access_domain.specs.declared.access.Access.{Access}
 use Rattle.race_pairs.specs.declared.warning.Warning.{Warning}
-use Rattle.race_pairs.specs.Warnings.{Placed, conflicts, records_of, placed_at, placed_in, is_entry_of, entry_records, records_in, warning_of, warning_among, warnings_among, class_warnings, warnings}
+use Rattle.race_pairs.specs.Warnings.{MethodRecord, conflicts, records_of, record_at, numbered_records, is_entry_of, entry_records, records_in, warning_of, warning_among, warnings_among, class_warnings, warnings}
 use Rattle.race_pairs.specs.Pairs.{IsCheckedClass, IsRecord, IsPair, is_warning_of}
 use Rattle.core_code.proofs.Membership.{In, in_filter_map, in_map, in_enumerate_from, enumerate_from_has, flat_map_has, map_has, find_has}
 use Rattle.race_pairs.proofs.WarningPairs.{both_pass, listed_warning}
@@ -46,17 +46,17 @@ none_of_lists p f (x ∷ xs) none =
     let both : count_by p (f x ++ flat_map f xs) ≡ count_by p (f x) + count_by p (flat_map f xs) = count_append p (f x) (flat_map f xs) in
     omega arith
 
--- where all that are counted come from one place, they are those of that place
+-- where all that are counted come from one element, they are those of that element
 only_there : {X Y : Type 0} (p : Y → Bool) (f : ℕ × X → List Y) (n : ℕ) (xs : List X) (k : ℕ) (x : X) → slice_get xs k ≡ Some x → ((e : ℕ × X) → In (enumerate_from n xs) e → (e.0 ≡ n + k → ⊥) → count_by p (f e) ≡ 0) → count_by p (flat_map f (enumerate_from n xs)) ≡ count_by p (f (n + k, x))
 only_there p f n [] k x is others = cc
 only_there {X} {Y} p f n (y ∷ xs) zero x is others =
     let same : y ≡ x = cc in
     let later : count_by p (flat_map f (enumerate_from (n + 1) xs)) ≡ 0 =
-    none_of_lists p f (enumerate_from (n + 1) xs) (λ e h. others e (inr h) (λ wrong. let place = in_enumerate_from (n + 1) xs e h in let at : e.0 ≡ n + 1 + place.0 = place.1 in absurd (omega arith)))
+    none_of_lists p f (enumerate_from (n + 1) xs) (λ e h. others e (inr h) (λ wrong. let moved = in_enumerate_from (n + 1) xs e h in let at : e.0 ≡ n + 1 + moved.0 = moved.1 in absurd (omega arith)))
     in
     let both : count_by p (f (n, y) ++ flat_map f (enumerate_from (n + 1) xs)) ≡ count_by p (f (n, y)) + count_by p (flat_map f (enumerate_from (n + 1) xs)) = count_append p (f (n, y)) (flat_map f (enumerate_from (n + 1) xs)) in
-    let place : n ≡ n + 0 = omega arith in
-    let there : count_by p (f (n, y)) ≡ count_by p (f (n + 0, x)) = λ i. count_by p (f (place i, same i)) in
+    let moved : n ≡ n + 0 = omega arith in
+    let there : count_by p (f (n, y)) ≡ count_by p (f (n + 0, x)) = λ i. count_by p (f (moved i, same i)) in
     omega arith
 only_there {X} {Y} p f n (y ∷ xs) (suc k) x is others =
     let here : count_by p (f (n, y)) ≡ 0 = others (n, y) (inl refl) (λ wrong. absurd (omega arith)) in
@@ -96,7 +96,7 @@ nat_eq-itself : (n : ℕ) → nat_eq n n ≡ true
 nat_eq-itself n = eq-eqb n n refl
 
 -- whether a record is the one of this method and index
-abbrev is_record : MethodId → ℕ → Placed → Bool
+abbrev is_record : MethodId → ℕ → MethodRecord → Bool
 is_record m i p = nat_eq p.method.0 m.0 && nat_eq p.index i
 
 entry_test : (core : Core) (c : ClassId) (m : MethodId) (i : ℕ) (a : Access) (r : IsRecord core c m i a) → is_entry_of c r.method ≡ true
@@ -104,18 +104,18 @@ entry_test core c m i a r =
     ap (λ b. b && nat_eq r.method.class.0 c.0) r.entry ∙ ap (λ (d : ClassId). nat_eq d.0 c.0) r.class ∙ nat_eq-itself c.0
 
 -- a record of an entry is listed
-record_listed : (core : Core) (c : ClassId) (m : MethodId) (i : ℕ) (a : Access) → IsRecord core c m i a → In (records_in core c) (placed_at m (i, a))
+record_listed : (core : Core) (c : ClassId) (m : MethodId) (i : ℕ) (a : Access) → IsRecord core c m i a → In (records_in core c) (record_at m (i, a))
 record_listed core c m i a r =
     let there : In (enumerate_from 0 core.methods) (m.0, r.method) = subst (λ (n : ℕ). In (enumerate_from 0 core.methods) (n, r.method)) (zero-add m.0) (enumerate_from_has 0 core.methods m.0 r.method r.is) in
     let index : In (enumerate_from 0 (records_of core m)) (i, a) = subst (λ (n : ℕ). In (enumerate_from 0 (records_of core m)) (n, a)) (zero-add i) (enumerate_from_has 0 (records_of core m) i a r.has) in
-    let placed : In (placed_in m (records_of core m)) (placed_at m (i, a)) = map_has (placed_at m) (enumerate_from 0 (records_of core m)) (i, a) index in
-    let listed : In (entry_records core c (m.0, r.method)) (placed_at m (i, a)) =
-    subst (λ (b : Bool). In (cond b (placed_in m (records_of core m)) []) (placed_at m (i, a))) (sym (entry_test core c m i a r)) placed
+    let added : In (numbered_records m (records_of core m)) (record_at m (i, a)) = map_has (record_at m) (enumerate_from 0 (records_of core m)) (i, a) index in
+    let listed : In (entry_records core c (m.0, r.method)) (record_at m (i, a)) =
+    subst (λ (b : Bool). In (cond b (numbered_records m (records_of core m)) []) (record_at m (i, a))) (sym (entry_test core c m i a r)) added
     in
-    flat_map_has (entry_records core c) (enumerate_from 0 core.methods) (m.0, r.method) (placed_at m (i, a)) there listed
+    flat_map_has (entry_records core c) (enumerate_from 0 core.methods) (m.0, r.method) (record_at m (i, a)) there listed
 
 -- the warning that a record has is its own
-own_warning : (c : ClassId) (records : List Placed) (m : MethodId) (i : ℕ) (r : Placed) (w : Warning) → warning_among c records r ≡ Some w → is_warning_of m i w ≡ is_record m i r
+own_warning : (c : ClassId) (records : List MethodRecord) (m : MethodId) (i : ℕ) (r : MethodRecord) (w : Warning) → warning_among c records r ≡ Some w → is_warning_of m i w ≡ is_record m i r
 own_warning c records m i r w =
     elim (find (λ partner. conflicts r.access partner.access) records) as (λ o. option_map (warning_of c r) o ≡ Some w → is_warning_of m i w ≡ is_record m i r) [
       | None ↦ λ e. cc
@@ -123,11 +123,11 @@ own_warning c records m i r w =
     ]
 
 -- the records of an entry are of its number
-of_its_method : (core : Core) (c : ClassId) (e : ℕ × Method) (p : Placed) → In (entry_records core c e) p → p.method.0 ≡ e.0
+of_its_method : (core : Core) (c : ClassId) (e : ℕ × Method) (p : MethodRecord) → In (entry_records core c e) p → p.method.0 ≡ e.0
 of_its_method core c e p =
     let number : MethodId = record { 0 = e.0 } in
-    elim (is_entry_of c e.1) as (λ b. In (cond b (placed_in number (records_of core number)) []) p → p.method.0 ≡ e.0) [
-      | true ↦ λ h. let from = in_map (placed_at number) (enumerate_from 0 (records_of core number)) p h in ap (λ (q : Placed). q.method.0) (sym from.2)
+    elim (is_entry_of c e.1) as (λ b. In (cond b (numbered_records number (records_of core number)) []) p → p.method.0 ≡ e.0) [
+      | true ↦ λ h. let from = in_map (record_at number) (enumerate_from 0 (records_of core number)) p h in ap (λ (q : MethodRecord). q.method.0) (sym from.2)
       | false ↦ λ h. absurd h
     ]
 
@@ -146,19 +146,19 @@ of_its_class core e w =
     ]
 
 -- one of the records of a method counts
-one_of_method : (core : Core) (c : ClassId) (m : MethodId) (i : ℕ) (a : Access) (has : Placed → Bool) → IsRecord core c m i a → has (placed_at m (i, a)) ≡ true → ((p : Placed) → is_record m i p ≡ false → has p ≡ false) → count_by has (placed_in m (records_of core m)) ≡ 1
+one_of_method : (core : Core) (c : ClassId) (m : MethodId) (i : ℕ) (a : Access) (has : MethodRecord → Bool) → IsRecord core c m i a → has (record_at m (i, a)) ≡ true → ((p : MethodRecord) → is_record m i p ≡ false → has p ≡ false) → count_by has (numbered_records m (records_of core m)) ≡ 1
 one_of_method core c m i a has r there others =
-    ap (count_by has) (map_as_lists (placed_at m) (enumerate_from 0 (records_of core m)))
-    ∙ only_there has (λ e. placed_at m e ∷ []) 0 (records_of core m) i a r.has
+    ap (count_by has) (map_as_lists (record_at m) (enumerate_from 0 (records_of core m)))
+    ∙ only_there has (λ e. record_at m e ∷ []) 0 (records_of core m) i a r.has
     (λ e h other.
     let index : nat_eq e.0 i ≡ false = nat_eq-other e.0 i (λ is. other (is ∙ sym (zero-add i))) in
-    let no : is_record m i (placed_at m e) ≡ false = (λ k. nat_eq m.0 m.0 && index k) ∙ and_false (nat_eq m.0 m.0) in
-    count_one has (placed_at m e) false (others (placed_at m e) no))
-    ∙ ap (λ (n : ℕ). count_by has (placed_at m (n, a) ∷ [])) (zero-add i)
-    ∙ count_one has (placed_at m (i, a)) true there
+    let no : is_record m i (record_at m e) ≡ false = (λ k. nat_eq m.0 m.0 && index k) ∙ and_false (nat_eq m.0 m.0) in
+    count_one has (record_at m e) false (others (record_at m e) no))
+    ∙ ap (λ (n : ℕ). count_by has (record_at m (n, a) ∷ [])) (zero-add i)
+    ∙ count_one has (record_at m (i, a)) true there
 
 -- one of the records of a class counts
-one_of_class : (core : Core) (c : ClassId) (m : MethodId) (i : ℕ) (a : Access) (has : Placed → Bool) → IsRecord core c m i a → has (placed_at m (i, a)) ≡ true → ((p : Placed) → is_record m i p ≡ false → has p ≡ false) → count_by has (records_in core c) ≡ 1
+one_of_class : (core : Core) (c : ClassId) (m : MethodId) (i : ℕ) (a : Access) (has : MethodRecord → Bool) → IsRecord core c m i a → has (record_at m (i, a)) ≡ true → ((p : MethodRecord) → is_record m i p ≡ false → has p ≡ false) → count_by has (records_in core c) ≡ 1
 one_of_class core c m i a has r there others =
     only_there has (entry_records core c) 0 core.methods m.0 r.method r.is
     (λ e h other.
@@ -167,13 +167,13 @@ one_of_class core c m i a has r there others =
     let method : nat_eq p.method.0 m.0 ≡ false = nat_eq-other p.method.0 m.0 (λ is. other (sym (of_its_method core c e p listed) ∙ is ∙ sym (zero-add m.0))) in
     others p (ap (λ b. b && nat_eq p.index i) method)))
     ∙ ap (λ (n : ℕ). count_by has (entry_records core c (n, r.method))) (zero-add m.0)
-    ∙ ap (λ b. count_by has (cond b (placed_in m (records_of core m)) [])) (entry_test core c m i a r)
+    ∙ ap (λ b. count_by has (cond b (numbered_records m (records_of core m)) [])) (entry_test core c m i a r)
     ∙ one_of_method core c m i a has r there others
 
-has_warning : (core : Core) (c : ClassId) (m n : MethodId) (i j : ℕ) (a b : Access) → IsRecord core c n j b → conflicts a b ≡ true → is_some (warning_among c (records_in core c) (placed_at m (i, a))) ≡ true
+has_warning : (core : Core) (c : ClassId) (m n : MethodId) (i j : ℕ) (a b : Access) → IsRecord core c n j b → conflicts a b ≡ true → is_some (warning_among c (records_in core c) (record_at m (i, a))) ≡ true
 has_warning core c m n i j a b r conflict =
-    let found = find_has (λ (partner : Placed). conflicts a partner.access) (records_in core c) (placed_at n (j, b)) (record_listed core c n j b r) conflict in
-    ap (λ o. is_some (option_map (warning_of c (placed_at m (i, a))) o)) found.1
+    let found = find_has (λ (partner : MethodRecord). conflicts a partner.access) (records_in core c) (record_at n (j, b)) (record_listed core c n j b r) conflict in
+    ap (λ o. is_some (option_map (warning_of c (record_at m (i, a))) o)) found.1
 
 one_warning_in_class : (core : Core) (c : ClassId) (m n : MethodId) (i j : ℕ) (a b : Access) → IsRecord core c m i a → IsRecord core c n j b → conflicts a b ≡ true → count_by (is_warning_of m i) (warnings_among c (records_in core c)) ≡ 1
 one_warning_in_class core c m n i j a b r s conflict =

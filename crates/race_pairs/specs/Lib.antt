@@ -1,3 +1,4 @@
 pub mod Warnings
 pub mod Pairs
-pub mod Placing
+pub mod MethodRecords
+pub mod Firsts

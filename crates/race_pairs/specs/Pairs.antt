@@ -1,4 +1,4 @@
--- What the list of warnings has, in words of records and classes alone.
+-- A contract of a public call rests on this: what the list of warnings has, in words of records and classes alone.
 use Rattle.std.specs.Prelude.{◌≡◌, ℕ, Bool, true, ◌&&◌, Some, slice_get, nat_eq}
 use Rattle.racer_base.specs.declared.ids.ClassId.{ClassId}
 use Rattle.racer_base.specs.declared.ids.MethodId.{MethodId}

@@ -1,5 +1,6 @@
--- Which records conflict, and the list of warnings (JLS 17.4.1).
-use Rattle.std.specs.Prelude.{ℕ, Bool, ◌&&◌, ◌||◌, not, List, [], Option, None, Some, map, option_map, nat_eq, if◌then◌else◌}
+-- A contract of a public call rests on this: which records conflict, and the list of warnings (JLS 17.4.1).
+use Rattle.std.specs.Prelude.{ℕ, Bool, ◌&&◌, ◌||◌, not, nat_eq, if◌then◌else◌}
+use Rattle.std.specs.Prelude.{List, [], Option, None, Some, map, option_map}
 use Rattle.std.specs.List.{enumerate_from, flat_map, filter_map, find}
 use Rattle.racer_base.specs.declared.ids.ClassId.{ClassId}
 use Rattle.racer_base.specs.declared.ids.MethodId.{MethodId}
@@ -12,14 +13,15 @@ use Rattle.access_domain.specs.Records.{is_write}
 use Rattle.access_domain.specs.Summaries.{outcome_of, accesses_of}
 use Rattle.race_pairs.specs.declared.warning.Warning.{Warning}
 
--- Two records conflict when their paths are equal with root `this`, a class or `some c`, at least one writes, not both are locked, and not both are on the main thread.
+-- Two records conflict when their paths are equal with root `this`, a class or `some c`, at least one writes, not both
+-- are locked, and not both are on the main thread.
 abbrev pub conflicts : Access → Access → Bool
 conflicts a b =
-    same_path a.path b.path && not (is_formal a.path.root) && (is_write a.kind || is_write b.kind) && not (a.locked && b.locked)
-    && not (a.main && b.main)
+    same_path a.path b.path && not (is_formal a.path.root)
+    && (is_write a.kind || is_write b.kind) && not (a.locked && b.locked) && not (a.main && b.main)
 
 -- a record with its method and its index among the method's records
-pub record Placed : Type 0 where
+pub record MethodRecord : Type 0 where
   pub method : MethodId
   pub index : ℕ
   pub access : Access
@@ -33,37 +35,48 @@ records_held (Some outcome) = accesses_of outcome
 abbrev pub records_of : Core → MethodId → List Access
 records_of core m = records_held (outcome_of core m)
 
-abbrev pub placed_at : MethodId → ℕ × Access → Placed
-placed_at m e = record { method = m; index = e.0; access = e.1 }
+abbrev pub record_at : MethodId → ℕ × Access → MethodRecord
+record_at m e = record { method = m; index = e.0; access = e.1 }
 
-abbrev pub placed_in : MethodId → List Access → List Placed
-placed_in m accesses = map (placed_at m) (enumerate_from 0 accesses)
+abbrev pub numbered_records : MethodId → List Access → List MethodRecord
+numbered_records m accesses = map (record_at m) (enumerate_from 0 accesses)
 
 abbrev pub is_entry_of : ClassId → Method → Bool
 is_entry_of c method = method.entry && nat_eq method.class.0 c.0
 
 -- the records of a method, with its number, where it is an entry of class c
-abbrev pub entry_records : Core → ClassId → ℕ × Method → List Placed
-entry_records core c e = if is_entry_of c e.1 then placed_in (record { 0 = e.0 }) (records_of core (record { 0 = e.0 })) else []
+abbrev pub entry_records : Core → ClassId → ℕ × Method → List MethodRecord
+entry_records core c e =
+    let m : MethodId = record { 0 = e.0 } in
+    if is_entry_of c e.1 then numbered_records m (records_of core m) else []
 
 -- the records of the entries of class c, in order of entries and records
-abbrev pub records_in : Core → ClassId → List Placed
+abbrev pub records_in : Core → ClassId → List MethodRecord
 records_in core c = flat_map (entry_records core c) (enumerate_from 0 core.methods)
 
-abbrev pub warning_of : ClassId → Placed → Placed → Warning
+abbrev pub warning_of : ClassId → MethodRecord → MethodRecord → Warning
 warning_of c first partner =
-    record { class = c; entry = first.method; access = first.index; partner = partner.method; partner_access = partner.index }
+    record {
+      class = c;
+      entry = first.method;
+      access = first.index;
+      partner = partner.method;
+      partner_access = partner.index;
+    }
 
 -- the warning of a record: with the first of these that conflicts with it
-abbrev pub warning_among : ClassId → List Placed → Placed → Option Warning
-warning_among c records first = option_map (warning_of c first) (find (λ partner. conflicts first.access partner.access) records)
+abbrev pub warning_among : ClassId → List MethodRecord → MethodRecord → Option Warning
+warning_among c records first =
+    option_map (warning_of c first) (find (λ partner. conflicts first.access partner.access) records)
 
-abbrev pub warnings_among : ClassId → List Placed → List Warning
+abbrev pub warnings_among : ClassId → List MethodRecord → List Warning
 warnings_among c records = filter_map (warning_among c records) records
 
 -- the warnings of a class, with its number, where it is checked
 abbrev pub class_warnings : Core → ℕ × ClassCore → List Warning
-class_warnings core e = if e.1.checked then warnings_among (record { 0 = e.0 }) (records_in core (record { 0 = e.0 })) else []
+class_warnings core e =
+    let c : ClassId = record { 0 = e.0 } in
+    if e.1.checked then warnings_among c (records_in core c) else []
 
 abbrev pub warnings : Core → List Warning
 warnings core = flat_map (class_warnings core) (enumerate_from 0 core.classes)

@@ -9,11 +9,14 @@ ghost use Rattle.race_pairs.specs.declared.warning.Warning.{Warning};
 ghost use Rattle.race_pairs.specs.Warnings.{warnings, conflicts};
 ghost use Rattle.race_pairs.specs.Pairs.{IsPair, IsRecord, IsCheckedClass, is_warning_of};
 
-/// An unlocked write conflicts with itself, and a locked write of the same field with it. Two locked writes do not conflict.
+/// An unlocked write conflicts with itself, and a locked write of the same field with it. Two locked writes do not
+/// conflict.
 pub fn pair_row()
     ensures { warnings pair ≡
-        record { class = record { 0 = 0 }; entry = record { 0 = 1 }; access = 0; partner = record { 0 = 1 }; partner_access = 0 }
-        ∷ record { class = record { 0 = 0 }; entry = record { 0 = 2 }; access = 0; partner = record { 0 = 1 }; partner_access = 0 }
+        let put : MethodId = record { 0 = 1 } in
+        let both : MethodId = record { 0 = 2 } in
+        record { class = record { 0 = 0 }; entry = put; access = 0; partner = put; partner_access = 0 }
+        ∷ record { class = record { 0 = 0 }; entry = both; access = 0; partner = put; partner_access = 0 }
         ∷ [] }
 {}
 
@@ -24,6 +27,7 @@ pub fn each_warning_is_a_pair()
 
 /// Each record of an entry of a checked class that has a conflict has exactly one warning.
 pub fn each_conflict_has_one_warning()
-    ensures { (core : Core) (c : ClassId) (m n : MethodId) (i j : ℕ) (a b : Access) → IsCheckedClass core c → IsRecord core c m i a →
-        IsRecord core c n j b → conflicts a b ≡ true → count_by (is_warning_of m i) (warnings core) ≡ 1 }
+    ensures { (core : Core) (c : ClassId) (m n : MethodId) (i j : ℕ) (a b : Access) →
+        IsCheckedClass core c → IsRecord core c m i a → IsRecord core c n j b → conflicts a b ≡ true →
+        count_by (is_warning_of m i) (warnings core) ≡ 1 }
 {}

@@ -5,9 +5,9 @@
 #![tactic(auto)]
 
 pub mod laws;
+mod method_access;
 mod pairing;
-#[cfg(test)]
-mod tests;
+mod partners;
 mod warning;
 
 pub use pairing::warnings;

@@ -1,63 +1,35 @@
 //! The list of warnings of a program.
 ghost use Rattle.std.specs.Prelude.{◌≡◌, ◌++◌, ◌^◌, ◌≤◌, IfOk, OnOk, MatchResult, option_map};
-ghost use Rattle.std.specs.List.{find};
 ghost use Rattle.std.specs.Arc.{arc_value};
 ghost use Rattle.core_code.specs.Core.{method_of};
 ghost use Rattle.core_code.specs.Program.{core};
 ghost use Rattle.access_domain.specs.Outcomes.{AreOutcomes};
-ghost use Rattle.race_pairs.specs.Warnings.{conflicts, records_held, placed_in, is_entry_of, records_in, warnings_among, warnings};
-ghost use Rattle.race_pairs.specs.Placing.{placed_of, all_placed};
+ghost use Rattle.race_pairs.specs.Warnings.{records_held, numbered_records, is_entry_of, records_in};
+ghost use Rattle.race_pairs.specs.Warnings.{warnings_among, warnings};
+ghost use Rattle.race_pairs.specs.MethodRecords.{record_of, all_records};
 
 use crate::Warning;
+use crate::method_access::MethodAccess;
+use crate::partners::{firsts_of, partner_of};
 use access_domain::{Access, Outcome, Outcomes};
-use access_paths::Root;
 use core_code::{MethodCore, Program};
-use racer_base::{ClassId, Memory, MethodId, Touch};
+use racer_base::{ClassId, Memory, MethodId};
 use std::alloc::Global;
 use std::sync::Arc;
 
-/// A record with its method and its index among the method's records.
-#[derive(Clone, Copy)]
-struct PlacedAccess<'a> {
-    method: MethodId,
-    index: u32,
-    access: &'a Access,
-}
-
-/// Whether two threads that make these accesses may meet in them.
-fn conflicts(a: &Access, b: &Access) -> bool
-    ensures { result ≡ conflicts a.now b.now }
-{
-    a.path == b.path
-        && !matches!(a.path.root, Root::Formal(_))
-        && (a.kind == Touch::Write || b.kind == Touch::Write)
-        && !(a.locked && b.locked)
-        && !(a.main && b.main)
-}
-
-/// The first of these records that conflicts with this one.
-fn first_partner<'a>(first: &Access, records: &[PlacedAccess<'a>]) -> Option<PlacedAccess<'a>>
-    ensures { option_map placed_of result
-        ≡ find (λ partner. conflicts first.now partner.access) (all_placed records.now) }
-{
-    for partner in records {
-        if conflicts(first, partner.access) {
-            return Some(*partner);
-        }
-    }
-    None
-}
-
 /// Puts the warnings of a class behind those that there are; these are the records of its entries.
 fn push_warnings(
+    alloc: Global,
     found: &mut Vec<Warning>,
     class: ClassId,
-    records: &[PlacedAccess],
+    records: &[MethodAccess],
 ) -> Result<(), Memory>
-    ensures { OnOk result (found.new.items ≡ found.old.items ++ warnings_among class (all_placed records.now)) }
+    ensures { OnOk result (found.new.items ≡ found.old.items ++ warnings_among class (all_records records.now)) }
 {
+    let firsts = firsts_of(alloc, records)?;
     for first in records {
-        if let Some(partner) = first_partner(first.access, records) {
+        let partner = partner_of(alloc, first.access, &firsts)?;
+        if let Some(partner) = partner {
             found.push(Warning {
                 class,
                 entry: first.method,
@@ -83,7 +55,7 @@ fn records_held(outcome: &Option<Arc<Outcome>>) -> &[Access]
     }
 }
 
-/// The same number, where it has a place in what warnings are made of.
+/// The same number, where it is one that warnings can hold.
 fn in_32_bits(n: usize) -> Result<u32, Memory>
     ensures { MatchResult result (λ number. number ≡ n) (λ _. 2 ^ 32 ≤ n) }
 {
@@ -99,15 +71,16 @@ fn is_entry_of(class: ClassId, method: &MethodCore) -> bool
 
 /// Puts the records of a method behind those that there are.
 fn push_records<'a>(
-    records: &mut Vec<PlacedAccess<'a>>,
+    records: &mut Vec<MethodAccess<'a>>,
     method: MethodId,
     accesses: &'a [Access],
 ) -> Result<(), Memory>
-    ensures { OnOk result (all_placed records.new.items ≡ all_placed records.old.items ++ placed_in method accesses.now) }
+    ensures { OnOk result (
+        all_records records.new.items ≡ all_records records.old.items ++ numbered_records method accesses.now) }
 {
     for (index, access) in accesses.iter().enumerate() {
         let index = in_32_bits(index)?;
-        records.push(PlacedAccess {
+        records.push(MethodAccess {
             method,
             index,
             access,
@@ -122,9 +95,9 @@ fn records_in<'a>(
     program: &Program,
     outcomes: &'a Outcomes,
     class: ClassId,
-) -> Result<Vec<PlacedAccess<'a>>, Memory>
+) -> Result<Vec<MethodAccess<'a>>, Memory>
     requires { AreOutcomes (core program.now) outcomes.now.items }
-    ensures { IfOk result (λ records. all_placed records.items ≡ records_in (core program.now) class) }
+    ensures { IfOk result (λ records. all_records records.items ≡ records_in (core program.now) class) }
 {
     let mut records = Vec::new(alloc);
     for (number, method) in program.methods().iter().enumerate() {
@@ -152,7 +125,7 @@ pub fn warnings(
         if class.checked {
             let id = ClassId(in_32_bits(number)?);
             let records = records_in(alloc, program, outcomes, id)?;
-            push_warnings(&mut found, id, records.as_slice())?;
+            push_warnings(alloc, &mut found, id, records.as_slice())?;
         }
     }
     Ok(found)

@@ -17,3 +17,4 @@ pub mod AdditionLemmas
 pub mod FirstPrograms
 pub mod Kept
 pub mod Summed
+pub mod PlaceTables

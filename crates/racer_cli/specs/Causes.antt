@@ -1,9 +1,12 @@
--- Why a run ends with a status.
-use Rattle.std.specs.Prelude.{◌≡◌, ◌⊎◌, ℕ, Bool, true, false, ◌<◌, List, Option, None, Some, length, take, IfSome}
+-- A contract of a public call rests on this: why a run ends with a status.
+use Rattle.std.specs.Prelude.{◌≡◌, ◌⊎◌, ℕ, Bool, true, false, ◌<◌, ◌≤◌, IfSome}
+use Rattle.std.specs.Prelude.{List, Option, None, Some, String, length, map, take, string_bytes}
+use Rattle.std.specs.Global.{Global}
 use Rattle.racer_base.specs.Outside.{Told, Files, taken_and}
 use Rattle.racer_cli.specs.declared.said.Said.{Said}
 use Rattle.racer_cli.specs.declared.status.Status.{Status}
-use Rattle.racer_cli.specs.declared.status.Status.TheVariants.{Clean, Warned, Usage, FolderFault, SinkFault, Refused, Memory, NoRace, NotAWitness}
+use Rattle.racer_cli.specs.declared.status.Status.TheVariants.{Clean, Warned, Usage, FolderFault, SinkFault, Refused}
+use Rattle.racer_cli.specs.declared.status.Status.TheVariants.{Memory, NoRace, NotAWitness}
 use Rattle.racer_cli.specs.Words.{Request, request_of}
 use Rattle.racer_cli.specs.Said.{usage_text, fault_text, Says}
 
@@ -14,12 +17,26 @@ pub record Asked : Type 0 where
   pub before : ℕ
   pub after : ℕ
 
+-- the words, and a folder before and after the call, as folders of its kind tell and count
+abbrev pub asked_of : {F : Type 0} → (F → Option Told) → (F → ℕ) → List (String Global) → F → F → Asked
+asked_of told faults words old new =
+    record { words = map string_bytes words; told = told old; before = faults old; after = faults new }
+
+-- the words ask for a report on the folder that tells itself so
+abbrev pub AsksFor : List (String Global) → Told → Type 0
+AsksFor words told = request_of (map string_bytes words) ≡ Some (record { folder = told.name })
+
 -- What can be seen of its sink: the counts of faults, and the bytes taken where it tells them.
 pub record Wrote : Type 0 where
   pub before : ℕ
   pub after : ℕ
   pub taken_before : Option (List ℕ)
   pub taken_after : Option (List ℕ)
+
+-- a sink before and after the call, as sinks of its kind count and tell
+abbrev pub wrote_of : {S : Type 0} → (S → ℕ) → (S → Option (List ℕ)) → S → S → Wrote
+wrote_of faults taken old new =
+    record { before = faults old; after = faults new; taken_before = taken old; taken_after = taken new }
 
 -- the whole text was written
 pub record IsWhole (wrote : Wrote) (text : List ℕ) : Type 0 where
@@ -79,6 +96,10 @@ IsDue Refused asked text = IsSaid Refused asked text
 IsDue Memory asked text = ⊥
 IsDue NoRace asked text = IsSaid NoRace asked text
 IsDue NotAWitness asked text = IsSaid NotAWitness asked text
+
+-- each text that may be due is at most so long
+abbrev pub IsRoomFor : ℕ → Asked → Type 0
+IsRoomFor room asked = (status : Status) (text : List ℕ) → IsDue status asked text → length text ≤ room
 
 -- the text that is due was written whole
 pub record IsAnswer (status : Status) (asked : Asked) (wrote : Wrote) : Type 0 where

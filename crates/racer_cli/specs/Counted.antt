@@ -1,4 +1,4 @@
--- How many sources there are, as the code tells it.
+-- No public contract rests on this: how many sources there are, as the code tells it.
 use Rattle.racer_cli.specs.declared.sources.Counted.{Counted}
 use Rattle.racer_cli.specs.declared.sources.Counted.TheVariants as counted
 use Rattle.racer_cli.specs.Source.{Count, Nothing, One, More}

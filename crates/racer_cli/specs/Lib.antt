@@ -11,3 +11,5 @@ pub mod Source
 pub mod Counted
 pub mod Said
 pub mod Causes
+pub mod FolderCalls
+pub mod Places

@@ -1,5 +1,7 @@
--- The text of a report, without marks: a text over a program, the outcomes of its methods and its warnings.
-use Rattle.std.specs.Prelude.{ℕ, List, [], ◌++◌, Option, None, Some, codes, length, map, nat_eq, if◌then◌else◌, slice_get}
+-- A contract of a public call rests on this: the text of a report, without marks, over a program, the outcomes of its
+-- methods and its warnings.
+use Rattle.std.specs.Prelude.{ℕ, List, [], ◌++◌, Option, None, Some, codes, length, map, option_map, slice_get}
+use Rattle.std.specs.Prelude.{if◌then◌else◌}
 use Rattle.std.specs.List.{flat_map, enumerate_from}
 use Rattle.std.specs.Fmt.{decimal}
 use Rattle.racer_base.specs.declared.ids.MethodId.{MethodId}
@@ -11,7 +13,7 @@ use Rattle.core_code.specs.declared.code.Reason.{Reason}
 use Rattle.core_code.specs.declared.code.Reason.TheVariants.{Overload, Outside, Parameters, Locals, Recursive}
 use Rattle.core_code.specs.declared.parts.ClassCore.{ClassCore}
 use Rattle.core_code.specs.declared.parts.FieldCore.{FieldCore}
-use Rattle.core_code.specs.Tree.{Tree, Step, Nothing, Then, Either, Again, Held}
+use Rattle.core_code.specs.Tree.{Tree, Operation, op_at}
 use Rattle.core_code.specs.Core.{Core, Method}
 use Rattle.access_paths.specs.Text.{name_at, path_text}
 use Rattle.access_domain.specs.declared.access.Access.{Access}
@@ -34,11 +36,14 @@ field_names core = map (λ (f : FieldCore). f.name) core.fields
 
 -- FILE:LINE:COLUMN
 abbrev pub place_text : Core → Place → List ℕ
-place_text core place = name_at core.files place.file.0 ++ codes ":" ++ decimal place.line ++ codes ":" ++ decimal place.column
+place_text core place =
+    name_at core.files place.file.0 ++ codes ":" ++ decimal place.line ++ codes ":" ++ decimal place.column
 
 -- CLASS.NAME/PARAMETERS
 abbrev pub method_text : Core → Method → List ℕ
-method_text core method = name_at (class_names core) method.class.0 ++ codes "." ++ method.name ++ codes "/" ++ decimal (length method.parameters)
+method_text core method =
+    let class = name_at (class_names core) method.class.0 in
+    class ++ codes "." ++ method.name ++ codes "/" ++ decimal (length method.parameters)
 
 abbrev pub touch_text : Touch → List ℕ
 touch_text Read = codes "read"
@@ -59,25 +64,19 @@ reason_text Recursive = codes "recursive"
 
 -- ---- the place of a site
 
-abbrev pub first_place : Option Place → Option Place → Option Place
-first_place None other = other
-first_place (Some place) other = Some place
-
 -- the place of the operation that has this site, where the code has one
-abbrev pub place_in : Tree → SiteId → Option Place
-place_in (Step site place op) wanted = if nat_eq site.0 wanted.0 then Some place else None
-place_in Nothing wanted = None
-place_in (Then first rest) wanted = first_place (place_in first wanted) (place_in rest wanted)
-place_in (Either left right) wanted = first_place (place_in left wanted) (place_in right wanted)
-place_in (Again body) wanted = place_in body wanted
-place_in (Held place body) wanted = place_in body wanted
+abbrev pub place_at : Tree → SiteId → Option Place
+place_at code site = option_map (λ (o : Operation). o.place) (op_at code site)
 
 -- ---- lines
 
 -- files N classes N methods N
 abbrev pub counts_line : Core → List ℕ
 counts_line core =
-    line (codes "files " ++ decimal (length core.files) ++ codes " classes " ++ decimal (length core.classes) ++ codes " methods " ++ decimal (length core.methods))
+    line (
+    codes "files " ++ decimal (length core.files) ++ codes " classes " ++ decimal (length core.classes)
+    ++ codes " methods " ++ decimal (length core.methods)
+    )
 
 -- skipped PLACE
 abbrev pub skipped_line : Core → Place → List ℕ
@@ -94,26 +93,35 @@ reason_from None (Some (Whole summary)) = None
 abbrev pub reason_line : Core → Method → Option (List ℕ) → List ℕ
 reason_line core method None = []
 reason_line core method (Some reason) =
-    line (codes "not analysed " ++ method_text core method ++ codes " " ++ place_text core method.place ++ codes " " ++ reason)
+    line (
+    codes "not analysed " ++ method_text core method ++ codes " " ++ place_text core method.place ++ codes " " ++ reason
+    )
 
 -- the same of a method with its number
 abbrev pub not_analysed_line : Core → ℕ × Method → List ℕ
 not_analysed_line core e = reason_line core e.1 (reason_from e.1.status (outcome_of core (record { 0 = e.0 })))
 
---  at PLACE, of a site
-abbrev pub at_line : Core → Tree → SiteId → List ℕ
-at_line core code site = elim (place_in code site) [ None ↦ [] | Some place ↦ line (codes " at " ++ place_text core place) ]
+--  at PLACE, where there is one
+abbrev pub at_line : Core → Option Place → List ℕ
+at_line core None = []
+at_line core (Some place) = line (codes " at " ++ place_text core place)
 
 -- METHOD RECORD, and below it the place of the record's site
 abbrev pub side_of_record : Core → Method → Access → List ℕ
-side_of_record core method access = line (method_text core method ++ codes " " ++ record_text core access) ++ at_line core method.code access.site
+side_of_record core method access =
+    line (method_text core method ++ codes " " ++ record_text core access)
+    ++ at_line core (place_at method.code access.site)
 
 -- the same of a method's record by its index
 abbrev pub side : Core → MethodId → ℕ → List ℕ
 side core m index =
     elim (slice_get core.methods m.0) [
       | None ↦ []
-      | Some method ↦ elim (slice_get (records_of core m) index) [ None ↦ [] | Some access ↦ side_of_record core method access ]
+      | Some method ↦
+          elim (slice_get (records_of core m) index) [
+            | None ↦ []
+            | Some access ↦ side_of_record core method access
+          ]
     ]
 
 -- warning METHOD RECORD
@@ -121,7 +129,8 @@ side core m index =
 --  with METHOD RECORD
 --  at PLACE
 abbrev pub warning_lines : Core → Warning → List ℕ
-warning_lines core w = codes "warning " ++ side core w.entry w.access ++ codes " with " ++ side core w.partner w.partner_access
+warning_lines core w =
+    codes "warning " ++ side core w.entry w.access ++ codes " with " ++ side core w.partner w.partner_access
 
 -- warnings N confirmed N
 abbrev pub last_line : List Warning → List ℕ

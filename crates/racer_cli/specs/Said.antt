@@ -1,4 +1,4 @@
--- What a run has to say, and the status that goes with it.
+-- A contract of a public call rests on this: what a run has to say, and the status that goes with it.
 use Rattle.std.specs.Prelude.{◌≡◌, ℕ, List, [], ◌∷◌, codes}
 use Rattle.racer_base.specs.Outside.{Files}
 use Rattle.race_pairs.specs.declared.warning.Warning.{Warning}

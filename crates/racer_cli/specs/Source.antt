@@ -1,5 +1,6 @@
--- What the sources of a folder are.
-use Rattle.std.specs.Prelude.{◌≡◌, ℕ, ◌≤◌, Bool, List, [], ◌∷◌, ◌++◌, Option, None, Some, codes, filter, length, nat_eq}
+-- A contract of a public call rests on this: what the sources of a folder are.
+use Rattle.std.specs.Prelude.{◌≡◌, ℕ, ◌≤◌, Bool, codes, nat_eq}
+use Rattle.std.specs.Prelude.{List, [], ◌∷◌, ◌++◌, Option, None, Some, filter, length}
 use Rattle.std.specs.List.{ends_with}
 use Rattle.std.specs.FinMap.{get, keys}
 use Rattle.racer_base.specs.Outside.{Files}
@@ -35,8 +36,10 @@ pub record AreClassesOf (bytes : List ℕ) (classes : List Class) : Type 0 where
 
 -- a source of this name and these bytes is the program of its classes; it is refused where it has none
 abbrev pub IsOneSource : List ℕ → List ℕ → Source → Type 0
-IsOneSource name bytes (Accepted program) = (classes : List Class) × AreClassesOf bytes classes × (program ≡ program_of name classes)
-IsOneSource name bytes (Refusal text) = (text ≡ refusal_line name) × ((classes : List Class) → AreClassesOf bytes classes → ⊥)
+IsOneSource name bytes (Accepted program) =
+    (classes : List Class) × AreClassesOf bytes classes × (program ≡ program_of name classes)
+IsOneSource name bytes (Refusal text) =
+    (text ≡ refusal_line name) × ((classes : List Class) → AreClassesOf bytes classes → ⊥)
 
 -- the same of a file of a folder
 pub record IsSourceFile (files : Files) (name : List ℕ) (source : Source) : Type 0 where

@@ -1,4 +1,4 @@
--- What the words of a command line ask for.
+-- A contract of a public call rests on this: what the words of a command line ask for.
 use Rattle.std.specs.Prelude.{ℕ, Bool, false, not, List, [], ◌∷◌, Option, None, Some, nat_eq, if◌then◌else◌}
 
 -- a report on the folder of this name

@@ -6,6 +6,7 @@ mod laws;
 mod lowering;
 mod lowering_laws;
 mod operands;
+mod places;
 mod report;
 mod report_laws;
 mod request;
@@ -39,13 +40,13 @@ fn main(rt: HostRuntime) -> io::Result<ExitCode> {
     let words = match words(&rt) {
         Ok(words) => words,
         Err(error) if error.kind() == ErrorKind::OutOfMemory => {
-            return Ok(ExitCode::from(Status::Memory.number()));
+            return Ok(Status::Memory.exit_code());
         }
         // A word is no UTF-8: as no words at all, it asks for nothing.
         Err(_) => Vec::new(rt.alloc()),
     };
     let Ok(shared) = rt.clone() else {
-        return Ok(ExitCode::from(Status::Memory.number()));
+        return Ok(Status::Memory.exit_code());
     };
     let mut folder = DirFolder::new(shared);
     let mut sink = StdSink::new(&rt);
@@ -57,5 +58,5 @@ fn main(rt: HostRuntime) -> io::Result<ExitCode> {
         &mut sink,
         &OpenGate,
     );
-    Ok(ExitCode::from(status.number()))
+    Ok(status.exit_code())
 }

@@ -4,18 +4,19 @@ ghost use Rattle.std.specs.List.{flat_map, enumerate_from};
 ghost use Rattle.std.specs.Option.{option_copied};
 ghost use Rattle.core_code.specs.Core.{method_of};
 ghost use Rattle.core_code.specs.Program.{core};
-ghost use Rattle.core_code.specs.Tree.{tree_of};
 ghost use Rattle.access_paths.specs.Text as paths;
 ghost use Rattle.access_domain.specs.Outcomes.{AreOutcomes};
 ghost use Rattle.access_domain.specs.Summaries.{outcome_of};
 ghost use Rattle.race_pairs.specs.Warnings as pairs;
 ghost use Rattle.racer_cli.specs.Report as said;
+ghost use Rattle.racer_cli.specs.Places.{ArePlaces};
 
+use crate::places::{place_at, places};
 use access_domain::{Access, Outcome};
 use access_paths::{Path, Root};
-use core_code::{Code, MethodCore, Program, Reason};
+use core_code::{MethodCore, Program, Reason};
 use race_pairs::Warning;
-use racer_base::{ClassId, FieldId, Memory, MethodId, Place, SiteId, Text, Touch};
+use racer_base::{ClassId, FieldId, Memory, MethodId, Place, Text, Touch};
 use std::alloc::Global;
 use std::sync::Arc;
 
@@ -84,7 +85,8 @@ fn root_text(alloc: Global, program: &Program, root: Root) -> Result<String, Mem
 
 /// A root and `.f` for each field.
 fn path_text(alloc: Global, program: &Program, path: &Path) -> Result<String, Memory>
-    ensures { IfOk result (λ text. string_bytes text ≡ paths.path_text (said.class_names (core program.now)) (said.field_names (core program.now)) path.now) }
+    ensures { IfOk result (λ text. string_bytes text
+        ≡ paths.path_text (said.class_names (core program.now)) (said.field_names (core program.now)) path.now) }
 {
     let mut text = root_text(alloc, program, path.root)?;
     for field in path.fields.as_slice() {
@@ -138,40 +140,11 @@ fn reason_text(reason: Reason) -> &'static str
     }
 }
 
-/// The place of the operation that has this site, where the code has one.
-fn place_in(code: &Code, wanted: SiteId) -> Option<Place>
-    ensures { result ≡ said.place_in (tree_of code.now) wanted }
+/// ` at PLACE`, nothing where there is none.
+fn at_line(alloc: Global, program: &Program, place: Option<Place>) -> Result<String, Memory>
+    ensures { IfOk result (λ text. string_bytes text ≡ said.at_line (core program.now) place) }
 {
-    match code {
-        Code::Op(site, place, _) => {
-            if site.0 == wanted.0 {
-                Some(*place)
-            } else {
-                None
-            }
-        }
-        Code::Seq(parts) => {
-            for part in parts.as_slice() {
-                if let Some(place) = place_in(part, wanted) {
-                    return Some(place);
-                }
-            }
-            None
-        }
-        Code::Choice(left, right) => match place_in(left, wanted) {
-            Some(place) => Some(place),
-            None => place_in(right, wanted),
-        },
-        Code::Loop(body) => place_in(body, wanted),
-        Code::Sync(_, body) => place_in(body, wanted),
-    }
-}
-
-/// ` at PLACE` of a site, nothing where the code hasn't it.
-fn at_line(alloc: Global, program: &Program, code: &Code, site: SiteId) -> Result<String, Memory>
-    ensures { IfOk result (λ text. string_bytes text ≡ said.at_line (core program.now) (tree_of code.now) site) }
-{
-    match place_in(code, site) {
+    match place {
         None => Ok(String::new(alloc)),
         Some(place) => {
             let place = place_text(alloc, program, place)?;
@@ -186,12 +159,15 @@ fn side_of_record(
     program: &Program,
     method: &MethodCore,
     access: &Access,
+    place: Option<Place>,
 ) -> Result<String, Memory>
-    ensures { IfOk result (λ text. string_bytes text ≡ said.side_of_record (core program.now) (method_of method.now) access.now) }
+    requires { place ≡ said.place_at (method_of method.now).code access.now.site }
+    ensures { IfOk result (λ text.
+        string_bytes text ≡ said.side_of_record (core program.now) (method_of method.now) access.now) }
 {
     let name = method_text(alloc, program, method)?;
     let record = record_text(alloc, program, access)?;
-    let at = at_line(alloc, program, &method.code, access.site)?;
+    let at = at_line(alloc, program, place)?;
     Ok(format!(in alloc; "{name} {record}\n{at}")?)
 }
 
@@ -230,10 +206,12 @@ fn side(
     alloc: Global,
     program: &Program,
     outcomes: &[Option<Arc<Outcome>>],
+    places: &[Vec<Place>],
     number: MethodId,
     index: u32,
 ) -> Result<String, Memory>
-    requires { AreOutcomes (core program.now) outcomes.now }
+    requires outcomes { AreOutcomes (core program.now) outcomes.now }
+    requires places { ArePlaces (core program.now) places.now }
     ensures { IfOk result (λ text. string_bytes text ≡ said.side (core program.now) number index) }
 {
     let Some(method) = program.methods().get(number.0 as usize) else {
@@ -241,7 +219,10 @@ fn side(
     };
     match records_of(program, outcomes, number).get(index as usize) {
         None => Ok(String::new(alloc)),
-        Some(access) => side_of_record(alloc, program, method, access),
+        Some(access) => {
+            let place = place_at(program, places, number, access.site);
+            side_of_record(alloc, program, method, access, place)
+        }
     }
 }
 
@@ -249,16 +230,26 @@ fn warning_lines(
     alloc: Global,
     program: &Program,
     outcomes: &[Option<Arc<Outcome>>],
+    places: &[Vec<Place>],
     warning: Warning,
 ) -> Result<String, Memory>
-    requires { AreOutcomes (core program.now) outcomes.now }
+    requires outcomes { AreOutcomes (core program.now) outcomes.now }
+    requires places { ArePlaces (core program.now) places.now }
     ensures { IfOk result (λ text. string_bytes text ≡ said.warning_lines (core program.now) warning) }
 {
-    let first = side(alloc, program, outcomes, warning.entry, warning.access)?;
+    let first = side(
+        alloc,
+        program,
+        outcomes,
+        places,
+        warning.entry,
+        warning.access,
+    )?;
     let partner = side(
         alloc,
         program,
         outcomes,
+        places,
         warning.partner,
         warning.partner_access,
     )?;
@@ -273,10 +264,16 @@ fn push_warnings(
     text: &mut String,
 ) -> Result<(), Memory>
     requires { AreOutcomes (core program.now) outcomes.now }
-    ensures { OnOk result (string_bytes text.new ≡ string_bytes text.old ++ flat_map (said.warning_lines (core program.now)) found.now) }
+    ensures { OnOk result (string_bytes text.new
+        ≡ string_bytes text.old ++ flat_map (said.warning_lines (core program.now)) found.now) }
 {
+    if found.is_empty() {
+        return Ok(());
+    }
+    let places = places(alloc, program)?;
     for warning in found {
-        text.push_str(warning_lines(alloc, program, outcomes, *warning)?.as_str())?;
+        let lines = warning_lines(alloc, program, outcomes, places.as_slice(), *warning)?;
+        text.push_str(lines.as_str())?;
     }
     Ok(())
 }
@@ -307,7 +304,8 @@ fn reason_line(
     method: &MethodCore,
     reason: &str,
 ) -> Result<String, Memory>
-    ensures { IfOk result (λ text. string_bytes text ≡ said.reason_line (core program.now) (method_of method.now) (Some reason.now)) }
+    ensures { IfOk result (λ text.
+        string_bytes text ≡ said.reason_line (core program.now) (method_of method.now) (Some reason.now)) }
 {
     let name = method_text(alloc, program, method)?;
     let place = place_text(alloc, program, method.place)?;
@@ -323,7 +321,8 @@ fn not_analysed_line(
     method: &MethodCore,
 ) -> Result<String, Memory>
     requires { AreOutcomes (core program.now) outcomes.now }
-    ensures { IfOk result (λ text. string_bytes text ≡ said.not_analysed_line (core program.now) (number, method_of method.now)) }
+    ensures { IfOk result (λ text.
+        string_bytes text ≡ said.not_analysed_line (core program.now) (number, method_of method.now)) }
 {
     match reason_from(program, outcomes, number, method.status) {
         None => Ok(String::new(alloc)),
@@ -338,7 +337,8 @@ fn push_not_analysed(
     text: &mut String,
 ) -> Result<(), Memory>
     requires { AreOutcomes (core program.now) outcomes.now }
-    ensures { OnOk result (string_bytes text.new ≡ string_bytes text.old ++ flat_map (said.not_analysed_line (core program.now)) (enumerate_from 0 (core program.now).methods)) }
+    ensures { OnOk result (string_bytes text.new ≡ string_bytes text.old
+        ++ flat_map (said.not_analysed_line (core program.now)) (enumerate_from 0 (core program.now).methods)) }
 {
     let methods = program.methods();
     for (number, method) in methods.iter().enumerate() {
@@ -355,7 +355,8 @@ fn skipped_line(alloc: Global, program: &Program, place: Place) -> Result<String
 }
 
 fn push_skipped(alloc: Global, program: &Program, text: &mut String) -> Result<(), Memory>
-    ensures { OnOk result (string_bytes text.new ≡ string_bytes text.old ++ flat_map (said.skipped_line (core program.now)) (core program.now).skipped) }
+    ensures { OnOk result (string_bytes text.new
+        ≡ string_bytes text.old ++ flat_map (said.skipped_line (core program.now)) (core program.now).skipped) }
 {
     for place in program.skipped() {
         text.push_str(skipped_line(alloc, program, *place)?.as_str())?;

@@ -1,9 +1,7 @@
 //! The call that the program makes.
-ghost use Rattle.std.specs.Prelude.{◌≡◌, ◌≢◌, ◌⊎◌, ℕ, List, length, Some, ◌<◌, ◌≤◌, map, string_bytes, IfSome};
+ghost use Rattle.std.specs.Prelude.{◌≢◌, ◌<◌, IfSome};
 ghost use Rattle.racer_base.specs.Outside.{last_count};
-ghost use Rattle.racer_cli.specs.Words.{request_of};
-ghost use Rattle.racer_cli.specs.declared.status.Status.{Status};
-ghost use Rattle.racer_cli.specs.Causes.{IsDue, IsCause, IsComplete};
+ghost use Rattle.racer_cli.specs.Causes.{asked_of, wrote_of, AsksFor, IsRoomFor, IsCause, IsComplete};
 
 use crate::said::what_to_say;
 use crate::status::Status;
@@ -30,19 +28,20 @@ pub fn run<R: Threads + Wait + Sync, F: Folder, S: Sink, G: Gate + Sync>(
 
     // Each status has its cause.
     ensures cause { IsCause result
-        (record { words = map string_bytes words.now; told = F.told folder.old; before = F.faults folder.old; after = F.faults folder.new })
-        (record { before = S.faults sink.old; after = S.faults sink.new; taken_before = S.taken sink.old; taken_after = S.taken sink.new }) }
+        (asked_of F.told F.faults words.now folder.old folder.new)
+        (wrote_of S.faults S.taken sink.old sink.new) }
 
     // Where no count rose, a folder that tells itself and is asked for is answered whole, or memory was refused.
     ensures complete { IsComplete result
-        (record { words = map string_bytes words.now; told = F.told folder.old; before = F.faults folder.old; after = F.faults folder.new })
-        (record { before = S.faults sink.old; after = S.faults sink.new; taken_before = S.taken sink.old; taken_after = S.taken sink.new }) }
+        (asked_of F.told F.faults words.now folder.old folder.new)
+        (wrote_of S.faults S.taken sink.old sink.new) }
 
     // A steady folder that is asked for has no fault.
-    ensures steady { F.steady folder.old → IfSome (F.told folder.old) (λ told. request_of (map string_bytes words.now) ≡ Some (record { folder = told.name }) → result ≢ Status.FolderFault) }
+    ensures steady { F.steady folder.old →
+        IfSome (F.told folder.old) (λ told. AsksFor words.now told → result ≢ Status.FolderFault) }
 
     // A sink with room for whatever text may be due has no fault.
-    ensures room { ((status : Status) (text : List ℕ) → IsDue status (record { words = map string_bytes words.now; told = F.told folder.old; before = F.faults folder.old; after = F.faults folder.new }) text → length text ≤ S.room sink.old) → result ≢ Status.SinkFault }
+    ensures room { IsRoomFor (S.room sink.old) (asked_of F.told F.faults words.now folder.old folder.new) → result ≢ Status.SinkFault }
 {
     match what_to_say(alloc, words, folder) {
         Err(_) => Status::Memory,

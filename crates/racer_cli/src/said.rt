@@ -1,15 +1,15 @@
 //! What a run has to say.
-ghost use Rattle.std.specs.Prelude.{◌≡◌, ◌≢◌, ◌<◌, Some, IfErr, IfOk, IfSome, IsTrue, MatchResult, OnOk, map, string_bytes, true};
+ghost use Rattle.std.specs.Prelude.{◌≡◌, ◌≢◌, ◌<◌, IfOk, IfSome, IsTrue, OnOk, true};
 ghost use Rattle.std.specs.FinMap as finite;
 ghost use Rattle.racer_base.specs.Outside.{last_count};
-ghost use Rattle.racer_base.specs.Causes.{IsCause as IsFolderCause};
 ghost use Rattle.core_code.specs.Program.{core};
-ghost use Rattle.racer_cli.specs.Words.{request_of};
 ghost use Rattle.racer_cli.specs.FirstCode.{is_first_program};
-ghost use Rattle.racer_cli.specs.Source.{AreCounted, IsOneSource, IsSourceFile, Accepted, count_of, no_program, refusal_line, source_names, Source};
+ghost use Rattle.racer_cli.specs.Source.{IsOneSource, Accepted, count_of, no_program, refusal_line};
+ghost use Rattle.racer_cli.specs.Source.{source_names, Source};
 ghost use Rattle.racer_cli.specs.Said.{said_from, Says};
 ghost use Rattle.racer_cli.specs.Counted.{count_told};
-ghost use Rattle.racer_cli.specs.Causes.{IsDue, is_said};
+ghost use Rattle.racer_cli.specs.Causes.{asked_of, AsksFor, IsDue, is_said};
+ghost use Rattle.racer_cli.specs.FolderCalls.{CountsFaults, FailsByMemory, IsSaidOfFile, IsSaidOfCount};
 
 use crate::analysis::outcomes;
 use crate::report::report;
@@ -77,7 +77,8 @@ fn nothing(alloc: Global) -> Program
 /// What is said of a source of this name and these bytes.
 fn said_of_source(alloc: Global, name: &str, bytes: &[u8]) -> Result<Said, Memory>
     ensures status { IfOk result (λ said. is_said said.status ≡ true) }
-    ensures said { IfOk result (λ said. (source : Source) × IsOneSource name.now bytes.now source × (said ≡ said_from source)) }
+    ensures said { IfOk result (λ said.
+        (source : Source) × IsOneSource name.now bytes.now source × (said ≡ said_from source)) }
 {
     match source_program(alloc, name, bytes)? {
         Some(program) => reported(alloc, &program),
@@ -88,9 +89,10 @@ fn said_of_source(alloc: Global, name: &str, bytes: &[u8]) -> Result<Said, Memor
 /// What is said of the one source of this name.
 fn one_source<F: Folder>(alloc: Global, folder: &mut F, name: &str) -> Result<Said, FolderFault>
     ensures status { IfOk result (λ said. is_said said.status ≡ true) }
-    ensures count { MatchResult result (λ _. F.faults folder.new ≡ F.faults folder.old) (λ fault. IsFolderCause fault (F.faults folder.old) (F.faults folder.new)) }
-    ensures said { IfOk result (λ said. IfSome (F.told folder.old) (λ told. (source : Source) × IsSourceFile told.files name.now source × (said ≡ said_from source))) }
-    ensures steady { F.steady folder.old → IfSome (F.told folder.old) (λ told. IfSome (finite.get told.files name.now) (λ _. IfErr result (λ fault. fault ≡ FolderFault.Memory))) }
+    ensures count { CountsFaults result (F.faults folder.old) (F.faults folder.new) }
+    ensures said { IfOk result (IsSaidOfFile (F.told folder.old) name.now) }
+    ensures steady { F.steady folder.old → IfSome (F.told folder.old) (λ told.
+        IfSome (finite.get told.files name.now) (λ _. FailsByMemory result)) }
 {
     let bytes = folder.read(alloc, name, MAX_FILE_BYTES + 1)?;
     Ok(said_of_source(alloc, name, bytes.as_slice())?)
@@ -98,10 +100,11 @@ fn one_source<F: Folder>(alloc: Global, folder: &mut F, name: &str) -> Result<Sa
 
 /// What is said of so many sources.
 fn judged<F: Folder>(alloc: Global, folder: &mut F, counted: Counted) -> Result<Said, FolderFault>
-    ensures count { MatchResult result (λ _. F.faults folder.new ≡ F.faults folder.old) (λ fault. IsFolderCause fault (F.faults folder.old) (F.faults folder.new)) }
+    ensures count { CountsFaults result (F.faults folder.old) (F.faults folder.new) }
     ensures status { IfOk result (λ said. is_said said.status ≡ true) }
-    ensures said { IfOk result (λ said. IfSome (F.told folder.old) (λ told. (source : Source) × AreCounted told.files (count_told counted.entry) source × (said ≡ said_from source))) }
-    ensures steady { F.steady folder.old → IfSome (F.told folder.old) (λ told. count_told counted.entry ≡ count_of (source_names told.files) → IfErr result (λ fault. fault ≡ FolderFault.Memory)) }
+    ensures said { IfOk result (IsSaidOfCount (F.told folder.old) (count_told counted.entry)) }
+    ensures steady { F.steady folder.old → IfSome (F.told folder.old) (λ told.
+        count_told counted.entry ≡ count_of (source_names told.files) → FailsByMemory result) }
 {
     match counted {
         Counted::Nothing => Ok(reported(alloc, &nothing(alloc))?),
@@ -113,10 +116,12 @@ fn judged<F: Folder>(alloc: Global, folder: &mut F, counted: Counted) -> Result<
 /// What is said of the folder of this name.
 fn answered<F: Folder>(alloc: Global, folder: &mut F, name: &str) -> Result<Said, FolderFault>
     ensures status { IfOk result (λ said. is_said said.status ≡ true) }
-    ensures count { MatchResult result (λ _. F.faults folder.new ≡ F.faults folder.old) (λ fault. IsFolderCause fault (F.faults folder.old) (F.faults folder.new)) }
+    ensures count { CountsFaults result (F.faults folder.old) (F.faults folder.new) }
     ensures entered { OnOk result (IfSome (F.told folder.old) (λ told. name.now ≡ told.name)) }
-    ensures said { IfOk result (λ said. IfSome (F.told folder.old) (λ told. Says (record { folder = name.now }) told.files said)) }
-    ensures steady { F.steady folder.old → IfSome (F.told folder.old) (λ told. name.now ≡ told.name → IfErr result (λ fault. fault ≡ FolderFault.Memory)) }
+    ensures said { IfOk result (λ said.
+        IfSome (F.told folder.old) (λ told. Says (record { folder = name.now }) told.files said)) }
+    ensures steady { F.steady folder.old →
+        IfSome (F.told folder.old) (λ told. name.now ≡ told.name → FailsByMemory result) }
 {
     let names = sources(alloc, folder, name)?;
     judged(alloc, folder, count(names.as_slice()))
@@ -129,8 +134,10 @@ pub fn what_to_say<F: Folder>(
     folder: &mut F,
 ) -> Result<Said, Memory>
     requires { F.faults folder.old < last_count }
-    ensures due { IfOk result (λ said. IsDue said.status (record { words = map string_bytes words.now; told = F.told folder.old; before = F.faults folder.old; after = F.faults folder.new }) said.text) }
-    ensures steady { F.steady folder.old → IfSome (F.told folder.old) (λ told. request_of (map string_bytes words.now) ≡ Some (record { folder = told.name }) → IfOk result (λ said. said.status ≢ Status.FolderFault)) }
+    ensures due { IfOk result (λ said.
+        IsDue said.status (asked_of F.told F.faults words.now folder.old folder.new) said.text) }
+    ensures steady { F.steady folder.old → IfSome (F.told folder.old) (λ told.
+        AsksFor words.now told → IfOk result (λ said. said.status ≢ Status.FolderFault)) }
 {
     let Some(name) = requested_folder(words) else {
         return Ok(Said {

@@ -1,8 +1,8 @@
 //! The sources of a folder.
-ghost use Rattle.std.specs.Prelude.{◌≡◌, filter, map, string_bytes, IfOk, IfErr, IfSome, OnOk, MatchResult};
-ghost use Rattle.racer_base.specs.Causes.{IsCause as IsFolderCause};
+ghost use Rattle.std.specs.Prelude.{◌≡◌, filter, map, string_bytes, IfOk, IfSome, OnOk};
 ghost use Rattle.racer_cli.specs.Source.{is_java, source_names, count_of};
 ghost use Rattle.racer_cli.specs.Counted.{count_told};
+ghost use Rattle.racer_cli.specs.FolderCalls.{CountsFaults, FailsByMemory};
 
 use racer_base::{Folder, FolderFault};
 use std::alloc::Global;
@@ -48,11 +48,13 @@ pub fn sources<F: Folder>(
     folder: &mut F,
     name: &str,
 ) -> Result<Vec<String>, FolderFault>
-    ensures count { MatchResult result (λ _. F.faults folder.new ≡ F.faults folder.old) (λ fault. IsFolderCause fault (F.faults folder.old) (F.faults folder.new)) }
+    ensures count { CountsFaults result (F.faults folder.old) (F.faults folder.new) }
     ensures told { F.told folder.new ≡ F.told folder.old }
     ensures entered { OnOk result (IfSome (F.told folder.old) (λ told. name.now ≡ told.name)) }
-    ensures names { IfOk result (λ names. IfSome (F.told folder.old) (λ told. map string_bytes names.items ≡ source_names told.files)) }
-    ensures steady { F.steady folder.old → IfSome (F.told folder.old) (λ told. name.now ≡ told.name → IfErr result (λ fault. fault ≡ FolderFault.Memory)) }
+    ensures names { IfOk result (λ names.
+        IfSome (F.told folder.old) (λ told. map string_bytes names.items ≡ source_names told.files)) }
+    ensures steady { F.steady folder.old →
+        IfSome (F.told folder.old) (λ told. name.now ≡ told.name → FailsByMemory result) }
     ensures stays { F.steady folder.old → F.steady folder.new }
 {
     folder.enter(alloc, name)?;

@@ -1,6 +1,9 @@
 //! How a run ends.
 ghost use Rattle.std.specs.Prelude.{◌≡◌};
+ghost use Rattle.std.specs.Process.{exit_status};
 ghost use Rattle.racer_cli.specs.Number.{number_of};
+
+use std::process::ExitCode;
 
 /// How a run ended.
 #[derive(Clone, Copy, Debug, PartialEq, Eq)]
@@ -26,8 +29,15 @@ pub enum Status {
 }
 
 impl Status {
-    /// The program's exit status.
-    pub fn number(self) -> u8
+    /// What the program ends with.
+    pub fn exit_code(self) -> ExitCode
+        ensures { exit_status result ≡ number_of self }
+    {
+        ExitCode::from(self.number())
+    }
+
+    /// The number of the exit status.
+    fn number(self) -> u8
         ensures { result ≡ number_of self }
     {
         match self {

@@ -10,7 +10,8 @@ pub fn write_all<S: Sink>(sink: &mut S, text: &[u8]) -> Result<(), Failed>
     requires { S.faults sink.old < last_count }
     ensures whole { OnOk result (S.taken sink.new ≡ taken_and (S.taken sink.old) text.now) }
     ensures no_fault { OnOk result (S.faults sink.new ≡ S.faults sink.old) }
-    ensures front { OnErr result ((many : ℕ) × (many < length text.now) × (S.taken sink.new ≡ taken_and (S.taken sink.old) (take many text.now))) }
+    ensures front { OnErr result ((many : ℕ) × (many < length text.now)
+        × (S.taken sink.new ≡ taken_and (S.taken sink.old) (take many text.now))) }
     ensures fault { OnErr result (S.faults sink.old < S.faults sink.new) }
     ensures room { length text.now ≤ S.room sink.old → IsOk result }
 {

@@ -2,10 +2,10 @@ use Rattle.std.proofs.Common.{◌≡◌, ◌+◌, List, [], ◌∷◌, ◌++◌,
 use Rattle.std.specs.List.{filter_map}
 use Rattle.std.specs.declared.vec.Vec.{Vec}
 use Rattle.std.specs.Global.{Global}
-use Rattle.race_pairs.specs.declared.pairing.PlacedAccess.{PlacedAccess}
+use Rattle.race_pairs.specs.declared.method_access.MethodAccess.{MethodAccess}
 use Rattle.race_pairs.specs.declared.warning.Warning.{Warning}
 use Rattle.race_pairs.specs.Warnings.{warning_of, warning_among}
-use Rattle.race_pairs.specs.Placing.{placed_of, all_placed}
+use Rattle.race_pairs.specs.MethodRecords.{record_of, all_records}
 use Rattle.race_pairs.proofs.Turns.{rest_of, filter_map_adds, filter_map_leaves}
 use Rattle.race_pairs.proofs.pairing.push_warnings.Goals as goal
 use Rattle.race_pairs.proofs.pairing.push_warnings.Goals.{in-Some+in_ok-push, in_default}
@@ -13,23 +13,34 @@ use Rattle.race_pairs.proofs.pairing.push_warnings.Goals.{in-Some+in_ok-push, in
 pub loop-first-preserved : goal.loop-first-preserved
 loop-first-preserved c =
     let records = c.args.records.now in
-    let first : PlacedAccess = c.first-item.result in
-    let rest : List PlacedAccess = drop (c.loop-first.first-index + 1) records in
-    let made = warning_among c.args.class (all_placed records) in
-    let left : drop c.loop-first.first-index records ≡ first ∷ rest = rest_of records c.loop-first.first-index first (omega arith) c.first-item.is in
-    let before = ap (λ ys. c.loop-first.found.items ++ filter_map made (all_placed ys)) (sym left) ∙ c.loop-first.invariant in
-    elim c.match-first_partner.branch [
+    let first : MethodAccess = c.first-item.result in
+    let rest : List MethodAccess = drop (c.loop-first.first-index + 1) records in
+    let made = warning_among c.args.class (all_records records) in
+    let left : drop c.loop-first.first-index records ≡ first ∷ rest =
+    rest_of records c.loop-first.first-index first (omega arith) c.first-item.is
+    in
+    let had : List Warning = c.loop-first.found.items in
+    let before = ap (λ ys. had ++ filter_map made (all_records ys)) (sym left) ∙ c.loop-first.invariant in
+    let given = option_map (warning_of c.args.class (record_of first)) in
+    let finds = c.in_ok-partner.ensures (all_records records) c.in_ok-firsts.ensures in
+    elim c.match-partner.branch [
       | in-Some+in_ok-push w ↦
-          let warning : Warning = warning_of c.args.class (placed_of first) (placed_of w.in-Some.partner) in
-          let gives : made (placed_of first) ≡ Some warning = ap (option_map (warning_of c.args.class (placed_of first))) (sym w.in-Some.ensures) in
-          let items : c.match-first_partner.found.items ≡ c.loop-first.found.items ++ warning ∷ [] = ap (λ (v : Vec Warning Global). v.items) w.found-is ∙ w.in_ok-push.ensures.items in
-          ap (λ found. found ++ filter_map made (all_placed rest)) items
-          ∙ filter_map_adds made c.loop-first.found.items (placed_of first) warning (all_placed rest) gives
+          let warning : Warning = warning_of c.args.class (record_of first) (record_of w.in-Some.partner) in
+          let gives : made (record_of first) ≡ Some warning =
+          ap given (sym finds ∙ ap (option_map record_of) w.in-Some.is)
+          in
+          let items : c.match-partner.found.items ≡ had ++ warning ∷ [] =
+          ap (λ (v : Vec Warning Global). v.items) w.found-is ∙ w.in_ok-push.ensures.items
+          in
+          ap (λ found. found ++ filter_map made (all_records rest)) items
+          ∙ filter_map_adds made had (record_of first) warning (all_records rest) gives
           ∙ before
       | in_default w ↦
-          let gives : made (placed_of first) ≡ None = ap (option_map (warning_of c.args.class (placed_of first))) (sym w.in_default.ensures) in
-          let items : c.match-first_partner.found.items ≡ c.loop-first.found.items = ap (λ (v : Vec Warning Global). v.items) w.found-is in
-          ap (λ found. found ++ filter_map made (all_placed rest)) items
-          ∙ filter_map_leaves made c.loop-first.found.items (placed_of first) (all_placed rest) gives
+          let gives : made (record_of first) ≡ None =
+          ap given (sym finds ∙ ap (option_map record_of) w.in_default.is)
+          in
+          let items : c.match-partner.found.items ≡ had = ap (λ (v : Vec Warning Global). v.items) w.found-is in
+          ap (λ found. found ++ filter_map made (all_records rest)) items
+          ∙ filter_map_leaves made had (record_of first) (all_records rest) gives
           ∙ before
     ]

@@ -7,9 +7,9 @@ use Rattle.racer_base.specs.declared.ids.MethodId.{MethodId}
 use Rattle.core_code.specs.Core.{Method, method_of}
 use Rattle.core_code.specs.Program.{core}
 use Rattle.core_code.specs.declared.parts.MethodCore.{MethodCore}
-use Rattle.race_pairs.specs.declared.pairing.PlacedAccess.{PlacedAccess}
-use Rattle.race_pairs.specs.Warnings.{Placed, placed_in, entry_records}
-use Rattle.race_pairs.specs.Placing.{all_placed}
+use Rattle.race_pairs.specs.declared.method_access.MethodAccess.{MethodAccess}
+use Rattle.race_pairs.specs.Warnings.{MethodRecord, numbered_records, entry_records}
+use Rattle.race_pairs.specs.MethodRecords.{all_records}
 use Rattle.race_pairs.proofs.Turns.{rest_of, flat_map_turn}
 use Rattle.race_pairs.proofs.Known.{one_for_each, outcome_at, entry_adds, other_adds}
 use Rattle.race_pairs.proofs.pairing.records_in.Goals as goal
@@ -28,7 +28,7 @@ loop-number-preserved c =
     let methods = c.methods-method-items.result.now in
     let method : MethodCore = c.method-item.result in
     let number : ℕ = c.loop-number.number in
-    let had : List Placed = all_placed c.loop-number.records.items in
+    let had : List MethodRecord = all_records c.loop-number.records.items in
     let rest : List (ℕ × Method) = enumerate_from (number + 1) (map method_of (drop (number + 1) methods)) in
     let made = entry_records program c.args.class in
     let left : drop number methods ≡ method ∷ drop (number + 1) methods = rest_of methods number method (omega arith) c.method-item.is in
@@ -43,15 +43,15 @@ loop-number-preserved c =
           let within : number < length program.methods = omega arith in
           let known = outcome_at program c.args.outcomes.now.items number w.index.result.now c.requires within w.index.ensures in
           let adds = entry_adds program c.args.class number (method_of method) id w.index.result.now entry is known in
-          let accesses = ap (placed_in id) w.records_held-accesses.ensures in
-          let here : List Placed = placed_in id w.records_held-accesses.result.now in
-          let records : all_placed c.if-is_entry_of.records.items ≡ had ++ here = ap (λ (v : Vec PlacedAccess Global). all_placed v.items) w.records-is ∙ w.in_ok-push_records.ensures in
+          let accesses = ap (numbered_records id) w.records_held-accesses.ensures in
+          let here : List MethodRecord = numbered_records id w.records_held-accesses.result.now in
+          let records : all_records c.if-is_entry_of.records.items ≡ had ++ here = ap (λ (v : Vec MethodAccess Global). all_records v.items) w.records-is ∙ w.in_ok-push_records.ensures in
           ap (λ records. records ++ flat_map made rest) records
           ∙ flat_map_turn made had here (number, method_of method) rest (accesses ∙ adds)
           ∙ before
       | else-is_entry_of w ↦
           let other = sym c.is_entry_of.ensures ∙ w.if-is_entry_of.false in
-          let records : all_placed c.if-is_entry_of.records.items ≡ had = ap (λ (v : Vec PlacedAccess Global). all_placed v.items) w.records-is in
+          let records : all_records c.if-is_entry_of.records.items ≡ had = ap (λ (v : Vec MethodAccess Global). all_records v.items) w.records-is in
           ap (λ records. records ++ flat_map made rest) (records ∙ sym (append-nil had))
           ∙ flat_map_turn made had [] (number, method_of method) rest (other_adds program c.args.class number (method_of method) other)
           ∙ before
