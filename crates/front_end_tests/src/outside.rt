@@ -195,7 +195,10 @@ fn list_and_text(rt: HostRuntime) -> Result<(), Fail> {
     for bytes in ["", "racer", "sixteen bytes ..", "seventeen bytes .."] {
         let text = Text::from_str(rt.alloc(), bytes)?;
         assert_eq!(rt; text.clone()?.as_str(), bytes);
-        assert!(rt; text == Text::from(String::from_str(rt.alloc(), bytes)?));
+        let made = Text::from(String::from_str(rt.alloc(), bytes)?);
+        assert!(rt; text == made);
+        assert_eq!(rt; text.into_string(rt.alloc())?.as_str(), bytes);
+        assert_eq!(rt; made.into_string(rt.alloc())?.as_str(), bytes);
     }
     Ok(())
 }

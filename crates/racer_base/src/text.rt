@@ -1,5 +1,5 @@
 //! A text for public fields.
-ghost use Rattle.std.specs.Prelude.{◌≡◌, IfOk};
+ghost use Rattle.std.specs.Prelude.{◌≡◌, IfOk, string_bytes};
 
 use crate::Memory;
 use arrayvec::ArrayString;
@@ -48,6 +48,16 @@ impl Text {
         match &self.inner {
             Inner::Short(text) => text.as_str(),
             Inner::Long(text) => text.as_str(),
+        }
+    }
+
+    /// Its bytes as a `String`. A text that was made of a `String` gives that one back, without taking memory.
+    pub fn into_string(self, alloc: Global) -> Result<String, Memory>
+        ensures { IfOk result (λ made. string_bytes made ≡ self) }
+    {
+        match self.inner {
+            Inner::Long(text) => Ok(text),
+            inner => Ok(String::from_str(alloc, Text { inner }.as_str())?),
         }
     }
 }
