@@ -3,6 +3,8 @@
 #![tactic(auto)]
 
 #[cfg(test)]
+mod first_grammar;
+#[cfg(test)]
 mod outside;
 #[cfg(test)]
 mod tokens;

@@ -3,7 +3,8 @@ use Rattle.std.proofs.Common.{◌≡◌, ℕ, suc, ◌+◌, ◌-◌, ◌≤◌, 
 use Rattle.java_lexer.specs.declared.token.Token.{Token}
 use Rattle.java_parser.specs.declared.first.FirstFault.{FirstFault}
 use Rattle.java_parser.specs.declared.first.FirstFault.TheVariants.{NotBuilt, Memory}
-use Rattle.java_parser.specs.Reading.{◌>>=◌, starts, several, with_front}
+use Rattle.java_parser.specs.Reading.{◌>>=◌, starts, several}
+use Rattle.java_parser.proofs.Fronts.{with_front}
 use Rattle.java_parser.specs.Answer.{Fails}
 
 regroup : {A : Type 0} (front : List A) (x : A) (read : Option (List A × List Token)) → with_front front (read >>= λ y. Some (x ∷ y.0, y.1)) ≡ with_front (front ++ x ∷ []) read

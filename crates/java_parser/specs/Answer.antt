@@ -1,4 +1,4 @@
--- What a function of the code answers, beside the function on lists.
+-- No public contract rests on this: what a function of the code answers, beside the function on lists.
 use Rattle.std.specs.Prelude.{◌≡◌, Option, Some, None, Result, Ok, Err}
 use Rattle.java_parser.specs.declared.first.FirstFault.{FirstFault}
 use Rattle.java_parser.specs.declared.first.FirstFault.TheVariants.{NotBuilt, Memory}

@@ -1,4 +1,4 @@
--- What else holds of the classes of the short grammar.
+-- A contract of a public call rests on this: `parse_first`. What else holds of the classes of the first grammar.
 use Rattle.std.specs.Prelude.{ℕ, suc, ◌+◌, Bool, true, not, ◌&&◌, List, [], ◌∷◌, length, map, max, nat_le}
 use Rattle.std.specs.List.{list_all}
 use Rattle.racer_base.specs.declared.limits.TheConstants.{MAX_CLASSES, MAX_METHODS}
@@ -52,7 +52,8 @@ is_allowed_method fields method = all_set_only fields method.body
 
 abbrev pub is_allowed_class : Class → Bool
 is_allowed_class class =
-    nat_le (length class.fields) MAX_FIRST_FIELDS && all_differ class.fields && all_differ (method_names class.methods) && list_all (is_allowed_method class.fields) class.methods
+    nat_le (length class.fields) MAX_FIRST_FIELDS && all_differ class.fields
+    && all_differ (method_names class.methods) && list_all (is_allowed_method class.fields) class.methods
 
 -- the methods of all classes, and one more for each: the making of an object
 abbrev pub count_of_methods : List Class → ℕ
@@ -62,4 +63,5 @@ count_of_methods (class ∷ others) = suc (length class.methods) + count_of_meth
 -- what is asked of names and of counts
 abbrev pub is_allowed : List Class → Bool
 is_allowed classes =
-    nat_le (length classes) MAX_CLASSES && nat_le (count_of_methods classes) MAX_METHODS && all_differ (class_names classes) && list_all is_allowed_class classes
+    nat_le (length classes) MAX_CLASSES && nat_le (count_of_methods classes) MAX_METHODS
+    && all_differ (class_names classes) && list_all is_allowed_class classes

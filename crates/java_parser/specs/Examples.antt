@@ -1,4 +1,4 @@
--- Small classes, written out.
+-- A contract of a public call rests on this: the laws `spelled_rows` and `allowed_rows`. Small classes, written out.
 use Rattle.std.specs.Prelude.{ℕ, zero, suc, Bool, List, [], ◌∷◌, ◌++◌, codes}
 use Rattle.racer_base.specs.declared.ids.Place.{Place}
 use Rattle.java_parser.specs.Tree.{Statement, Set, Sync, Statements, no_statement, statement_then, Class}

@@ -1,4 +1,4 @@
--- A file of the short grammar: which classes its tokens are.
+-- A contract of a public call rests on this: `parse_first`. A file of the first grammar: which classes its tokens are.
 use Rattle.std.specs.Prelude.{List, IsTrue}
 use Rattle.java_lexer.specs.declared.token.Token.{Token}
 use Rattle.java_parser.specs.Tree.{Class}

@@ -1,4 +1,4 @@
--- Places aside.
+-- A contract of a public call rests on this: the law `one_reading`. Classes and parts, places aside.
 use Rattle.std.specs.Prelude.{List, map}
 use Rattle.racer_base.specs.declared.ids.Place.{Place}
 use Rattle.java_parser.specs.Tree.{Statement, Set, Sync, Statements, no_statement, statement_then, Method, Class}
@@ -15,13 +15,20 @@ abbrev mutual
 
   pub unplaced_statements : Statements → Statements
   unplaced_statements no_statement = no_statement
-  unplaced_statements (statement_then first others) = statement_then (unplaced_statement first) (unplaced_statements others)
+  unplaced_statements (statement_then first others) =
+      statement_then (unplaced_statement first) (unplaced_statements others)
 
 abbrev pub unplaced_method : Method → Method
 unplaced_method m = record { name = m.name; place = nowhere; body = unplaced_statements m.body }
 
 abbrev pub unplaced_class : Class → Class
-unplaced_class c = record { name = c.name; place = nowhere; thread_safe = c.thread_safe; fields = c.fields; methods = map unplaced_method c.methods }
+unplaced_class c = record {
+  name = c.name;
+  place = nowhere;
+  thread_safe = c.thread_safe;
+  fields = c.fields;
+  methods = map unplaced_method c.methods;
+}
 
 -- the classes, wherever they stand
 abbrev pub unplaced : List Class → List Class

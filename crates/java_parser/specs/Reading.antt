@@ -1,5 +1,5 @@
--- Reading from left to right: the function that the code computes.
-use Rattle.std.specs.Prelude.{ℕ, zero, suc, Bool, true, false, not, ◌&&◌, ◌||◌, List, [], ◌∷◌, ◌++◌, length, Option, None, Some, codes, bytes_eq, if◌then◌else◌}
+-- No public contract rests on this: reading from left to right, the function that the code computes.
+use Rattle.std.specs.Prelude.{ℕ, zero, suc, Bool, true, false, not, ◌&&◌, ◌||◌, List, [], ◌∷◌, length, Option, None, Some, codes, bytes_eq, if◌then◌else◌}
 use Rattle.java_lexer.specs.declared.token.Token.{Token}
 use Rattle.java_lexer.specs.declared.token.TokenKind.{TokenKind}
 use Rattle.java_lexer.specs.declared.token.TokenKind.TheVariants.{Keyword, Name, Number, Sign}
@@ -65,7 +65,8 @@ taken test (t ∷ ts) = if test t then Some (t, ts) else None
 
 -- ---- one item after another, at most n, while one begins
 
-unfoldable pub several : {A : Type 0} → (Token → Bool) → (List Token → Option (A × List Token)) → ℕ → List Token → Option (List A × List Token)
+unfoldable pub several : {A : Type 0} → (Token → Bool) → (List Token → Option (A × List Token))
+    → ℕ → List Token → Option (List A × List Token)
 several begins read zero ts = Some ([], ts)
 several begins read (suc n) ts = if starts begins ts then (do
   x ← read ts
@@ -87,7 +88,8 @@ write_at ts = do
   d ← after (is_sign (codes ";")) c
   Some (Set f.0.text f.0.place, d)
 
-abbrev pub locked_with : (List Token → Option (List Statement × List Token)) → List Token → Option (Statement × List Token)
+abbrev pub locked_with : (List Token → Option (List Statement × List Token))
+    → List Token → Option (Statement × List Token)
 locked_with block ts = do
   w ← taken (is_keyword (codes "synchronized")) ts
   a ← after (is_sign (codes "(")) w.1
@@ -96,7 +98,8 @@ locked_with block ts = do
   body ← block c
   Some (Sync w.0.place (pack body.0), body.1)
 
-abbrev pub statement_with : (List Token → Option (List Statement × List Token)) → List Token → Option (Statement × List Token)
+abbrev pub statement_with : (List Token → Option (List Statement × List Token))
+    → List Token → Option (Statement × List Token)
 statement_with block ts = match_option (after (is_keyword (codes "this")) ts) (locked_with block ts) write_at
 
 -- a block inside which fewer than n `synchronized` blocks stand inside one another
@@ -157,7 +160,3 @@ classes_at n ts = several (λ _. true) (class_at n) (length ts) ts
 -- the classes of all of the tokens
 unfoldable pub whole_at : ℕ → List Token → Option (List Class)
 whole_at n ts = classes_at n ts >>= λ x. (if starts (λ _. true) x.1 then None else Some x.0)
-
--- what was read before, and what is still read
-abbrev pub with_front : {A : Type 0} → List A → Option (List A × List Token) → Option (List A × List Token)
-with_front front read = read >>= λ x. Some (front ++ x.0, x.1)

@@ -1,4 +1,5 @@
--- The short grammar, from classes to tokens: what a class settles of each of its tokens.
+-- A contract of a public call rests on this: `parse_first`. The first grammar, from classes to tokens: what a class
+-- settles of each of its tokens.
 use Rattle.std.specs.Prelude.{◌≡◌, ℕ, Bool, true, false, List, [], ◌∷◌, length, ◌==◌, not, ◌&&◌, codes, IsTrue}
 use Rattle.std.specs.List.{list_all}
 use Rattle.racer_base.specs.Name.{is_digit}
@@ -46,9 +47,12 @@ abbrev mutual
   -- synchronized ( this ) { Statement* }
   pub statement_onto : Statement → List Part → List Part
   statement_onto (Set field place) rest =
-      keyword (codes "this") ∷ (sign (codes ".") ∷ (Located Name field place ∷ (sign (codes "=") ∷ (Digits ∷ (sign (codes ";") ∷ rest)))))
+      keyword (codes "this") ∷ (sign (codes ".") ∷ (Located Name field place
+      ∷ (sign (codes "=") ∷ (Digits ∷ (sign (codes ";") ∷ rest)))))
   statement_onto (Sync place body) rest =
-      Located Keyword (codes "synchronized") place ∷ (sign (codes "(") ∷ (keyword (codes "this") ∷ (sign (codes ")") ∷ (sign (codes "{") ∷ statements_onto body (sign (codes "}") ∷ rest)))))
+      Located Keyword (codes "synchronized") place
+      ∷ (sign (codes "(") ∷ (keyword (codes "this") ∷ (sign (codes ")")
+      ∷ (sign (codes "{") ∷ statements_onto body (sign (codes "}") ∷ rest)))))
 
   pub statements_onto : Statements → List Part → List Part
   statements_onto no_statement rest = rest
@@ -65,7 +69,8 @@ field_onto field rest = keyword (codes "int") ∷ (Written Name field ∷ (sign 
 -- void Name ( ) { Statement* }
 abbrev pub method_onto : Method → List Part → List Part
 method_onto method rest =
-    keyword (codes "void") ∷ (Located Name method.name method.place ∷ (sign (codes "(") ∷ (sign (codes ")") ∷ block_onto method.body rest)))
+    keyword (codes "void") ∷ (Located Name method.name method.place
+    ∷ (sign (codes "(") ∷ (sign (codes ")") ∷ block_onto method.body rest)))
 
 -- each in order, and then the rest
 abbrev pub each_onto : {A : Type 0} → (A → List Part → List Part) → List A → List Part → List Part
@@ -80,7 +85,9 @@ mark_onto false rest = rest
 -- class Name { Field* Method* }
 abbrev pub class_onto : Class → List Part → List Part
 class_onto class rest =
-    mark_onto class.thread_safe (keyword (codes "class") ∷ (Located Name class.name class.place ∷ (sign (codes "{") ∷ each_onto field_onto class.fields (each_onto method_onto class.methods (sign (codes "}") ∷ rest)))))
+    mark_onto class.thread_safe (keyword (codes "class") ∷ (Located Name class.name class.place
+    ∷ (sign (codes "{") ∷ each_onto field_onto class.fields (each_onto method_onto class.methods
+    (sign (codes "}") ∷ rest)))))
 
 -- Class*
 abbrev pub spell : List Class → List Part

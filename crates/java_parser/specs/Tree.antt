@@ -1,4 +1,5 @@
--- The classes of the short grammar without memory, with the places of their names.
+-- A contract of a public call rests on this: `parse_first`. The classes of the first grammar without memory, with the
+-- places of their names.
 use Rattle.std.specs.Prelude.{ℕ, Bool, List, [], ◌∷◌}
 use Rattle.racer_base.specs.declared.ids.Place.{Place}
 

@@ -1,4 +1,4 @@
--- The classes of the code, without memory.
+-- A contract of a public call rests on this: `parse_first`. The classes of the code, without memory.
 use Rattle.std.specs.Prelude.{List, map}
 use Rattle.java_parser.specs.declared.first.FirstClass.{FirstClass}
 use Rattle.java_parser.specs.declared.first.FirstMethod.{FirstMethod}
@@ -19,7 +19,13 @@ abbrev pub method_of : FirstMethod → Method
 method_of m = record { name = m.name; place = m.place; body = pack (map statement_of m.body.items) }
 
 abbrev pub class_of : FirstClass → Class
-class_of c = record { name = c.name; place = c.place; thread_safe = c.thread_safe; fields = c.fields; methods = map method_of c.methods }
+class_of c = record {
+  name = c.name;
+  place = c.place;
+  thread_safe = c.thread_safe;
+  fields = c.fields;
+  methods = map method_of c.methods;
+}
 
 abbrev pub classes_of : List FirstClass → List Class
 classes_of = map class_of

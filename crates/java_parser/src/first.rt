@@ -1,4 +1,4 @@
-//! The classes of the short grammar: fields of type `int`, and methods without parameters that write
+//! The classes of the first grammar: fields of type `int`, and methods without parameters that write
 //! digits to fields of `this`, with or without its monitor.
 use racer_base::{Items, Memory, Place, Text};
 use std::alloc::{AllocError, AllocFailed};
@@ -46,7 +46,7 @@ pub enum FirstStatement {
 /// Why there are no classes.
 #[derive(Clone, Copy, Debug, PartialEq, Eq)]
 pub enum FirstFault {
-    /// The tokens are no file of the short grammar, or break one of its further conditions.
+    /// The tokens are no file of the first grammar, or break one of its further conditions.
     NotBuilt,
     /// Memory was refused.
     Memory,

@@ -1,16 +1,25 @@
 //! Laws of the definitions.
 ghost use Rattle.std.specs.Prelude.{◌≡◌, List, [], ◌∷◌, map, true, false, codes};
 ghost use Rattle.java_lexer.specs.declared.token.Token.{Token};
+ghost use Rattle.java_parser.specs.declared.first.TheConstants.{MAX_FIRST_FIELDS, MAX_FIRST_NESTING};
 ghost use Rattle.java_parser.specs.Tree.{Class};
 ghost use Rattle.java_parser.specs.Spelling.{spell, AreParts};
 ghost use Rattle.java_parser.specs.Places.{unplaced, unplaced_part};
 ghost use Rattle.java_parser.specs.Conditions.{is_shallow, is_allowed};
 ghost use Rattle.java_parser.specs.Examples.{line_of, around, nested, set_x, set_y};
 
+/// The numbers of the first grammar.
+pub fn first_limits()
+    ensures fields { MAX_FIRST_FIELDS ≡ 512 }
+    ensures nesting { MAX_FIRST_NESTING ≡ 16 }
+{}
+
 /// Small classes and their texts.
 pub fn spelled_rows()
-    ensures write { line_of (spell (around false set_x ∷ [])) ≡ codes "class A { int x ; void f ( ) { this . x = 1 ; } } " }
-    ensures locked { line_of (spell (around true (nested 1) ∷ [])) ≡ codes "@ ThreadSafe class A { int x ; void f ( ) { synchronized ( this ) { this . x = 1 ; } } } " }
+    ensures write { line_of (spell (around false set_x ∷ []))
+        ≡ codes "class A { int x ; void f ( ) { this . x = 1 ; } } " }
+    ensures locked { line_of (spell (around true (nested 1) ∷ []))
+        ≡ codes "@ ThreadSafe class A { int x ; void f ( ) { synchronized ( this ) { this . x = 1 ; } } } " }
 {}
 
 /// What the further conditions allow of small classes.

@@ -68,7 +68,8 @@ pub fn begins_method(tokens: &[Token]) -> bool
 
 /// The tokens behind this keyword, if it is in front.
 pub fn after_keyword<'a>(tokens: &'a [Token], text: &str) -> Option<&'a [Token]>
-    ensures { MatchOption result (after (is_keyword text.now) tokens.now ≡ None) (λ rest. after (is_keyword text.now) tokens.now ≡ Some rest.now) }
+    ensures { MatchOption result (after (is_keyword text.now) tokens.now ≡ None)
+        (λ rest. after (is_keyword text.now) tokens.now ≡ Some rest.now) }
 {
     match tokens {
         [token, rest @ ..] if is_keyword(token, text) => Some(rest),
@@ -78,7 +79,8 @@ pub fn after_keyword<'a>(tokens: &'a [Token], text: &str) -> Option<&'a [Token]>
 
 /// The tokens behind this sign, if it is in front.
 pub fn after_sign<'a>(tokens: &'a [Token], text: &str) -> Option<&'a [Token]>
-    ensures { MatchOption result (after (is_sign text.now) tokens.now ≡ None) (λ rest. after (is_sign text.now) tokens.now ≡ Some rest.now) }
+    ensures { MatchOption result (after (is_sign text.now) tokens.now ≡ None)
+        (λ rest. after (is_sign text.now) tokens.now ≡ Some rest.now) }
 {
     match tokens {
         [token, rest @ ..] if is_sign(token, text) => Some(rest),

@@ -66,7 +66,8 @@ pub fn methods(
     tokens: &[Token],
 ) -> Result<(Items<FirstMethod>, &[Token]), FirstFault>
     requires { suc limit < 2 ^ 32 }
-    ensures { Gives (λ x. (map method_of x.0, x.1.now)) result (several begins_method (method_at limit) (length tokens.now) tokens.now) }
+    ensures { Gives (λ x. (map method_of x.0, x.1.now)) result
+        (several begins_method (method_at limit) (length tokens.now) tokens.now) }
 {
     let mut found = Items::new(alloc);
     let mut rest = tokens;

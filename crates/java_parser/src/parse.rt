@@ -1,4 +1,4 @@
-//! All of the tokens as a file of the short grammar.
+//! All of the tokens as a file of the first grammar.
 ghost use Rattle.std.specs.Prelude.{◌≡◌, List, IfOk, IsErrOf, length};
 ghost use Rattle.java_parser.specs.declared.first.FirstFault.TheVariants.{NotBuilt};
 ghost use Rattle.java_parser.specs.Tree.{Class};
@@ -25,13 +25,14 @@ fn whole(alloc: Global, tokens: &[Token]) -> Result<Vec<FirstClass>, FirstFault>
     Ok(found)
 }
 
-/// The classes of a file of the short grammar, with the places of their names.
+/// The classes of a file of the first grammar, with the places of their names.
 pub fn parse_first(alloc: Global, lexed: &Lexed) -> Result<Vec<FirstClass>, FirstFault>
     // What is given is what the tokens spell, and nothing forbids it.
     ensures file { IfOk result (λ v. IsFile lexed.now.tokens (classes_of v.items)) }
 
     // It is the only such file.
-    ensures only { IfOk result (λ v. (others : List Class) → IsFile lexed.now.tokens others → others ≡ classes_of v.items) }
+    ensures only { IfOk result (λ v. (others : List Class)
+        → IsFile lexed.now.tokens others → others ≡ classes_of v.items) }
 
     // `NotBuilt` comes only where there is none.
     ensures none { IsErrOf result NotBuilt → (others : List Class) → IsFile lexed.now.tokens others → ⊥ }

@@ -73,7 +73,8 @@ fn statements(
     limit: u32,
     tokens: &[Token],
 ) -> Result<(Vec<FirstStatement>, &[Token]), FirstFault>
-    ensures { Gives (λ x. (map statement_of x.0.items, x.1.now)) result (several begins_statement (statement_with (block_at limit)) (length tokens.now) tokens.now) }
+    ensures { Gives (λ x. (map statement_of x.0.items, x.1.now)) result
+        (several begins_statement (statement_with (block_at limit)) (length tokens.now) tokens.now) }
 {
     let mut found = Vec::new(alloc);
     let mut rest = tokens;

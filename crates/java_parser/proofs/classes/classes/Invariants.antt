@@ -1,5 +1,6 @@
 use Rattle.std.proofs.Common.{◌≡◌, ◌-◌, length, true}
-use Rattle.java_parser.specs.Reading.{several, class_at, with_front}
+use Rattle.java_parser.specs.Reading.{several, class_at}
+use Rattle.java_parser.proofs.Fronts.{with_front}
 use Rattle.java_parser.specs.View.{classes_of}
 use Rattle.java_parser.proofs.classes.classes.Given as goal
 

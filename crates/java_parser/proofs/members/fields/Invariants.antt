@@ -1,5 +1,6 @@
 use Rattle.std.proofs.Common.{◌≡◌, ◌-◌, length}
-use Rattle.java_parser.specs.Reading.{several, begins_field, field_at, with_front}
+use Rattle.java_parser.specs.Reading.{several, begins_field, field_at}
+use Rattle.java_parser.proofs.Fronts.{with_front}
 use Rattle.java_parser.proofs.members.fields.Given as goal
 
 abbrev pub invariant-loop : goal.invariant-loop

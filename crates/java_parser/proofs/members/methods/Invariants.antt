@@ -1,5 +1,6 @@
 use Rattle.std.proofs.Common.{◌≡◌, ◌-◌, length, map}
-use Rattle.java_parser.specs.Reading.{several, begins_method, method_at, with_front}
+use Rattle.java_parser.specs.Reading.{several, begins_method, method_at}
+use Rattle.java_parser.proofs.Fronts.{with_front}
 use Rattle.java_parser.specs.View.{method_of}
 use Rattle.java_parser.proofs.members.methods.Given as goal
 

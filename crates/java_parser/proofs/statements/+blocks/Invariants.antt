@@ -1,5 +1,6 @@
 use Rattle.std.proofs.Common.{◌≡◌, ◌+◌, ◌*◌, ◌-◌, length, map}
-use Rattle.java_parser.specs.Reading.{several, begins_statement, statement_with, block_at, with_front}
+use Rattle.java_parser.specs.Reading.{several, begins_statement, statement_with, block_at}
+use Rattle.java_parser.proofs.Fronts.{with_front}
 use Rattle.java_parser.specs.View.{statement_of}
 use Rattle.java_parser.proofs.statements.+blocks.Given as goal
 

@@ -1,5 +1,6 @@
-use crate::{FirstClass, FirstStatement, parse_first};
+//! Files of the first grammar, and others, with values worked out by hand.
 use java_lexer::lex_first;
+use java_parser::{FirstClass, FirstStatement, parse_first};
 use racer_base::{FileId, Place};
 use std::alloc::{AllocError, Global};
 use std::test::Fail;
@@ -59,8 +60,13 @@ fn read(alloc: Global, text: &str) -> Result<String, Fail> {
     Ok(line)
 }
 
-const PAIR: &str =
-    "class Pair {\n  int a;\n  int b;\n  void put() { this.a = 1; }\n  void both() { synchronized (this) { this.a = 2; this.b = 3; } }\n}\n";
+const PAIR: &str = "class Pair {
+  int a;
+  int b;
+  void put() { this.a = 1; }
+  void both() { synchronized (this) { this.a = 2; this.b = 3; } }
+}
+";
 
 /// Files, and what they are.
 const FILES: [(&str, &str); 12] = [
@@ -147,16 +153,11 @@ const OTHERS: [&str; 40] = [
 ];
 
 #[test]
-fn files_are_read(rt: HostRuntime) -> Result<(), Fail> {
+fn files(rt: HostRuntime) -> Result<(), Fail> {
     for (text, want) in FILES {
         let line = read(rt.alloc(), text)?;
         assert_eq!(rt; line.as_str(), want, "in {text}");
     }
-    Ok(())
-}
-
-#[test]
-fn others_are_not_built(rt: HostRuntime) -> Result<(), Fail> {
     for text in OTHERS {
         let line = read(rt.alloc(), text)?;
         assert_eq!(rt; line.as_str(), "NotBuilt", "in {text}");
@@ -164,11 +165,11 @@ fn others_are_not_built(rt: HostRuntime) -> Result<(), Fail> {
     Ok(())
 }
 
-/// A class with so many fields, and a method with so many blocks inside one another.
-fn large_class(alloc: Global, fields: usize, blocks: usize) -> Result<String, AllocError> {
+/// Whether a class is read that has so many fields, and a method with so many blocks inside one another.
+fn is_read(alloc: Global, fields: usize, blocks: usize) -> Result<bool, Fail> {
     let mut text = String::from_str(alloc, "class A { ")?;
     for i in 0..fields {
-        write!(&mut text, "int f{i};\n")?;
+        write!(&mut text, "int f{i}; ")?;
     }
     text.push_str("void f() { ")?;
     for _ in 0..blocks {
@@ -178,60 +179,14 @@ fn large_class(alloc: Global, fields: usize, blocks: usize) -> Result<String, Al
         text.push_str("} ")?;
     }
     text.push_str("} }")?;
-    Ok(text)
-}
-
-/// So many classes, the first of which has so many methods.
-fn many_classes(alloc: Global, classes: usize, methods: usize) -> Result<String, AllocError> {
-    let mut text = String::from_str(alloc, "class A { ")?;
-    for i in 0..methods {
-        write!(&mut text, "void m{i}() {{ }}\n")?;
-    }
-    text.push_str("} ")?;
-    for i in 1..classes {
-        write!(&mut text, "class C{i} {{ }}\n")?;
-    }
-    Ok(text)
-}
-
-/// Whether the file is one of the short grammar.
-fn is_built(alloc: Global, text: &str) -> Result<bool, Fail> {
-    Ok(read(alloc, text)?.as_str() != "NotBuilt")
+    Ok(read(alloc, text.as_str())?.as_str() != "NotBuilt")
 }
 
 #[test]
-fn sizes_are_reached_and_not_passed(rt: HostRuntime) -> Result<(), Fail> {
-    for (fields, blocks, want) in [
-        (512, 16, true),
-        (513, 16, false),
-        (512, 17, false),
-        (0, 0, true),
-    ] {
-        let text = large_class(rt.alloc(), fields, blocks)?;
-        assert_eq!(rt;
-            is_built(rt.alloc(), text.as_str())?,
-            want,
-            "{fields} fields, {blocks} blocks"
-        );
-    }
-    Ok(())
-}
-
-#[test]
-fn counts_are_reached_and_not_passed(rt: HostRuntime) -> Result<(), Fail> {
-    for (classes, methods, want) in [
-        (2_048, 2_048, true),
-        (2_048, 2_049, false),
-        (2_049, 0, false),
-        (1, 4_095, true),
-        (1, 4_096, false),
-    ] {
-        let text = many_classes(rt.alloc(), classes, methods)?;
-        assert_eq!(rt;
-            is_built(rt.alloc(), text.as_str())?,
-            want,
-            "{classes} classes, {methods} methods"
-        );
+fn sizes(rt: HostRuntime) -> Result<(), Fail> {
+    for (fields, blocks, want) in [(512, 16, true), (513, 16, false), (512, 17, false)] {
+        let answer = is_read(rt.alloc(), fields, blocks)?;
+        assert_eq!(rt; answer, want, "{fields} fields, {blocks} blocks");
     }
     Ok(())
 }
