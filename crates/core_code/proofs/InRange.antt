@@ -4,7 +4,7 @@ use Rattle.std.proofs.lemmas.List.Folds.{list_all-append}
 use Rattle.std.specs.List.{list_all}
 use Rattle.racer_base.specs.declared.ids.Place.{Place}
 use Rattle.core_code.specs.Core.{Core}
-use Rattle.core_code.specs.Tree.{Tree, Nothing, Then, Held, steps_of, locks_of}
+use Rattle.core_code.specs.Tree.{Tree, Then, Held, steps_of, locks_of}
 use Rattle.core_code.specs.Facts.{is_place, is_operation, is_code}
 
 left_true : (a b : Bool) → (a && b) ≡ true → a ≡ true
