@@ -1,7 +1,7 @@
 -- Where a record of a method comes from.
-use Rattle.std.proofs.Common.{◌≡◌, ℕ, zero, suc, ◌+◌, ◌<◌, Bool, true, false, cond, not, ◌||◌, ◌⊎◌, inl, inr, ⊎_elim}
+use Rattle.std.proofs.Common.{◌≡◌, ℕ, ◌+◌, Bool, true, false, cond, not, ◌||◌, ◌⊎◌, inl, inr, ⊎_elim}
 use Rattle.std.proofs.Common.{List, [], ◌∷◌}
-use Rattle.std.proofs.Common.{◌++◌, length, filter, Option, None, Some, slice_get, is_none, refl, sym, ap, subst, ◌∙◌}
+use Rattle.std.proofs.Common.{length, filter, Option, None, Some, slice_get, is_none, refl, sym, ap, subst, ◌∙◌}
 use Rattle.std.proofs.Common.{arith}
 use Rattle.std.proofs.Common.{zero-add}
 use Rattle.std.specs.List.{Contains, enumerate_from, flat_map}
@@ -33,7 +33,7 @@ use Rattle.access_domain.specs.Substitution.{substituted}
 use Rattle.access_domain.specs.Operations.{Effects, record_of, passed_from, slot_of, top, popped, call_effects}
 use Rattle.access_domain.specs.Operations.{op_effects}
 use Rattle.access_domain.specs.Flow.{both, after, rounds, flow}
-use Rattle.access_domain.specs.Summaries.{start_of, findings_from, is_large, known_from, effects_given, known_at}
+use Rattle.access_domain.specs.Summaries.{start_of, findings_from, is_large, effects_given, known_at}
 use Rattle.access_domain.specs.Summaries.{known_of}
 use Rattle.access_domain.specs.Summaries.{known_given, known_of_callees}
 use Rattle.access_domain.specs.Origins.{touch_of, IsOwn, IsOfCallee, HasOrigin}

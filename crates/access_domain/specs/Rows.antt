@@ -8,13 +8,13 @@ use Rattle.racer_base.specs.declared.ids.Kind.{Kind}
 use Rattle.racer_base.specs.declared.ids.Kind.TheVariants.{Plain, Declared}
 use Rattle.racer_base.specs.declared.ids.Touch.{Touch}
 use Rattle.core_code.specs.declared.code.Op.{Op as CoreOp}
-use Rattle.core_code.specs.declared.code.Op.TheVariants.{Push, PushPrim, Drop, Get, Put, Set, Call, Ret}
+use Rattle.core_code.specs.declared.code.Op.TheVariants.{Push, PushPrim, New, Drop, Get, Put, Set, Outside, Call, Ret}
 use Rattle.core_code.specs.declared.parts.ClassCore.{ClassCore}
 use Rattle.core_code.specs.declared.parts.FieldCore.{FieldCore}
 use Rattle.core_code.specs.Tree.{Tree, Step, Nothing, Either, in_sequence}
 use Rattle.core_code.specs.Core.{Core, Method}
 use Rattle.core_code.specs.Pair.{at}
-use Rattle.access_paths.specs.declared.path.Root.TheVariants.{This}
+use Rattle.access_paths.specs.declared.path.Root.TheVariants.{This, Formal}
 use Rattle.access_paths.specs.declared.path.Path.{Path}
 use Rattle.access_domain.specs.declared.access.Access.{Access}
 
@@ -143,4 +143,42 @@ join =
       methods =
           with_local (method_of 1 (Declared (class 0) ∷ Declared (class 0) ∷ []) f_code)
           ∷ method_of 1 [] go_code ∷ [];
+    }
+
+-- the path of these fields from the first parameter on
+abbrev pub formal_path : List FieldId → Path
+formal_path fields = record { root = Formal 0; fields = fields }
+
+--     class P { int v; }
+--     @ThreadSafe class Static {
+--       P a;
+--       static void set(P p) { p.v = 1; }
+--       void go() { set(this.a); set(new P()); set(Unseen.make()); }
+--     }
+-- The fields v and a are 0 and 1; set is method 0, and go is 1. The class Unseen is not there.
+abbrev set_code : Tree
+set_code =
+    in_sequence
+    (step 0 (Push (var 0)) ∷ step 1 PushPrim ∷ step 2 (Put (field 0)) ∷ step 3 Drop ∷ step 4 PushPrim ∷ step 5 Ret ∷
+    [])
+
+abbrev three_calls : Tree
+three_calls =
+    in_sequence
+    (step 0 (Push (var 0)) ∷ step 1 (Get (field 1)) ∷ step 2 (Call (method 0) 1) ∷ step 3 Drop
+    ∷ step 4 (New (class 0)) ∷ step 5 (Call (method 0) 1) ∷ step 6 Drop
+    ∷ step 7 (Outside 0) ∷ step 8 (Call (method 0) 1) ∷ step 9 Drop ∷ step 10 PushPrim ∷ step 11 Ret ∷ [])
+
+abbrev set_method : Method
+set_method =
+    record (method_of 1 (Declared (class 0) ∷ []) set_code) { is_static = true; variables = Declared (class 0) ∷ [] }
+
+abbrev pub statics : Core
+statics =
+    record {
+      files = [] ∷ [];
+      skipped = [];
+      classes = class_of false ∷ class_of true ∷ [];
+      fields = field_of 0 Plain ∷ field_of 1 (Declared (class 0)) ∷ [];
+      methods = set_method ∷ method_of 1 [] three_calls ∷ [];
     }

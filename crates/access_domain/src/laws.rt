@@ -24,7 +24,8 @@ ghost use Rattle.access_domain.specs.Operations.{Effects};
 ghost use Rattle.access_domain.specs.Origins.{HasOrigin};
 ghost use Rattle.access_domain.specs.Records.{different_paths, first_of_keys, same_key};
 ghost use Rattle.access_domain.specs.Summaries.{outcome_of, known_of, known_of_callees, effects_of};
-ghost use Rattle.access_domain.specs.Rows.{mix, join, field, method, class, this_path, access, access_below};
+ghost use Rattle.access_domain.specs.Rows.{mix, join, statics, field, method, class, this_path, formal_path};
+ghost use Rattle.access_domain.specs.Rows.{access, access_below};
 
 /// A write, and two writes under a lock.
 pub fn pair_row()
@@ -89,6 +90,26 @@ pub fn join_row()
     })) }
     ensures wobbly { option_map (λ (e : Effects). different_paths e.wobbly) (effects_of join (method 1)) ≡
         Some (this_path (field 1 ∷ []) ∷ []) }
+{}
+
+/// A static callee's first actual is that of parameter 0. A record and a wobbly path of a named actual get its name,
+/// those
+/// of an owned one fall away, and a record of an unknown one is that of some object.
+pub fn static_row()
+    ensures set { known_of statics (method 0) ≡ Some (Whole (record {
+      records = access Write (formal_path (field 0 ∷ [])) false 2 ∷ [];
+      wobbly = formal_path (field 0 ∷ []) ∷ [];
+      result = Unnamed;
+    })) }
+    ensures go { known_of statics (method 1) ≡ Some (Whole (record {
+      records =
+          access Read (this_path (field 1 ∷ [])) false 1
+          ∷ access_below Write (this_path (field 1 ∷ field 0 ∷ [])) 2 0
+          ∷ access_below Write (some_path (class 0) (field 0)) 8 0
+          ∷ [];
+      wobbly = this_path (field 1 ∷ field 0 ∷ []) ∷ [];
+      result = Unnamed;
+    })) }
 {}
 
 /// What the flow of a method is given of a method of a smaller rank is what is known of that; of any other, nothing.

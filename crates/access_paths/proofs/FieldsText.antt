@@ -19,12 +19,6 @@ pub more_named : (n : ℕ) (fs : List FieldId) (k : ℕ) (d : FieldId) → k < l
 more_named n fs k d h named = later (nat_lt (slice_index_or fs k d).0 n) (are_named_fields n (drop (k + 1) fs))
     (ap (are_named_fields n) (sym (left_of fs k d h)) ∙ named)
 
-pub this_named : (n : ℕ) (fs : List FieldId) (k : ℕ) (d : FieldId) → k < length fs →
-    are_named_fields n (drop k fs) ≡ true → nat_lt (slice_index_or fs k d).0 n ≡ true
-this_named n fs k d h named =
-    elim (nat_lt (slice_index_or fs k d).0 n) as (λ b. (b && are_named_fields n (drop (k + 1) fs)) ≡ true →
-    b ≡ true) [ true ↦ λ e. refl | false ↦ λ e. cc ] (ap (are_named_fields n) (sym (left_of fs k d h)) ∙ named)
-
 -- what a dot and the name of the field there make of the text
 pub more_text : (names : List (List ℕ)) (fs : List FieldId) (k : ℕ) (d : FieldId) (name text all : List ℕ) →
     k < length fs → slice_get names (slice_index_or fs k d).0 ≡ Some name →

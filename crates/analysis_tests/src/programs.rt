@@ -1,5 +1,5 @@
 //! A program of one class with one field.
-ghost use Rattle.std.specs.Prelude.{◌≡◌, true, false, IfOk};
+ghost use Rattle.std.specs.Prelude.{◌≡◌, true, false, IfOk, [], ◌∷◌};
 
 use core_code::{ClassCore, FieldCore, Parts, Program};
 use racer_base::{ClassId, FieldId, FileId, Items, Kind, Names, Place, Text};
@@ -12,43 +12,52 @@ const HERE: Place = Place {
     column: 7,
 };
 
-fn class(alloc: Global, name: &str) -> Result<ClassCore, Fail>
-    ensures { IfOk result (λ made. made ≡ record { name = name.now; place = HERE; checked = true }) }
+fn files(alloc: Global, name: &str) -> Result<Items<Text>, Fail>
+    ensures { IfOk result (λ made. made ≡ name.now ∷ []) }
 {
-    Ok(ClassCore {
+    let mut files = Items::new(alloc);
+    files.push(Text::from_str(alloc, name)?)?;
+    Ok(files)
+}
+
+fn classes(alloc: Global, name: &str) -> Result<Items<ClassCore>, Fail>
+    ensures { IfOk result (λ made. made ≡ record { name = name.now; place = HERE; checked = true } ∷ []) }
+{
+    let mut classes = Items::new(alloc);
+    classes.push(ClassCore {
         name: Text::from_str(alloc, name)?,
         place: HERE,
         checked: true,
-    })
+    })?;
+    Ok(classes)
 }
 
-fn field(alloc: Global, name: &str) -> Result<FieldCore, Fail>
+fn fields(alloc: Global, name: &str) -> Result<Items<FieldCore>, Fail>
     ensures { IfOk result (λ made. made ≡ record {
       class = record { 0 = 0 };
       name = name.now;
       kind = Kind.Plain;
       is_static = false;
       recorded = true;
-    }) }
+    } ∷ []) }
 {
-    Ok(FieldCore {
+    let mut fields = Items::new(alloc);
+    fields.push(FieldCore {
         class: ClassId(0),
         name: Text::from_str(alloc, name)?,
         kind: Kind::Plain,
         is_static: false,
         recorded: true,
-    })
+    })?;
+    Ok(fields)
 }
 
 #[test]
 fn makes_a_program(rt: HostRuntime) -> Result<(), Fail> {
     let alloc = rt.alloc();
-    let mut files = Items::new(alloc);
-    files.push(Text::from_str(alloc, "Pair.java")?)?;
-    let mut classes = Items::new(alloc);
-    classes.push(class(alloc, "Pair")?)?;
-    let mut fields = Items::new(alloc);
-    fields.push(field(alloc, "a")?)?;
+    let files = files(alloc, "Pair.java")?;
+    let classes = classes(alloc, "Pair")?;
+    let fields = fields(alloc, "a")?;
     let program = Program::of(Parts {
         files,
         skipped: Items::new(alloc),

@@ -44,12 +44,20 @@ fn state(rt: &HostRuntime, letter: char) -> Result<State, Fail>
     })
 }
 
+/// How many paths the join of two values loses, if it makes the third.
+fn lost(rt: &HostRuntime, left: char, right: char, joined: char) -> Result<Option<usize>, Fail> {
+    let (made, names) = join(rt.alloc(), &state(rt, left)?, &state(rt, right)?)?;
+    if made.vars.as_slice() == [value(rt, joined)].as_slice() {
+        Ok(Some(names.len()))
+    } else {
+        Ok(None)
+    }
+}
+
 #[test]
 fn joins_of_kinds(rt: HostRuntime) -> Result<(), Fail> {
-    for (left, right, joined, lost) in JOINS.iter() {
-        let (made, names) = join(rt.alloc(), &state(&rt, *left)?, &state(&rt, *right)?)?;
-        assert!(rt; made.vars.as_slice() == [value(&rt, *joined)].as_slice());
-        assert_eq!(rt; names.len(), *lost);
+    for (left, right, joined, paths) in JOINS.iter() {
+        assert_eq!(rt; lost(&rt, *left, *right, *joined)?, Some(*paths));
     }
     Ok(())
 }

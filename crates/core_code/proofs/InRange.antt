@@ -1,26 +1,16 @@
 -- The numbers of code are in range where those of its parts are.
-use Rattle.std.proofs.Common.{◌≡◌, ℕ, Bool, true, false, ◌&&◌, List, ◌++◌, refl, ap, ◌∙◌}
+use Rattle.std.proofs.Common.{◌≡◌, ℕ, Bool, true, ◌&&◌, List, ◌++◌, ◌∙◌}
 use Rattle.std.proofs.lemmas.List.Folds.{list_all-append}
 use Rattle.std.specs.List.{list_all}
 use Rattle.racer_base.specs.declared.ids.Place.{Place}
 use Rattle.core_code.specs.Core.{Core}
-use Rattle.core_code.specs.Tree.{Tree, Nothing, Then, Held, steps_of, locks_of}
+use Rattle.core_code.specs.Tree.{Tree, Then, Held, steps_of, locks_of}
+use Rattle.core_code.proofs.BoolParts.{both, first_part, last_part}
 use Rattle.core_code.specs.Facts.{is_place, is_operation, is_code}
-
-left_true : (a b : Bool) → (a && b) ≡ true → a ≡ true
-left_true true b h = refl
-left_true false b h = cc
-
-right_true : (a b : Bool) → (a && b) ≡ true → b ≡ true
-right_true true b h = h
-right_true false b h = cc
-
-both_true : (a b : Bool) → a ≡ true → b ≡ true → (a && b) ≡ true
-both_true a b p q = ap (λ (x : Bool). x && b) p ∙ q
 
 both_lists : {X : Type 0} (test : X → Bool) (xs ys : List X) → list_all test xs ≡ true → list_all test ys ≡ true →
     list_all test (xs ++ ys) ≡ true
-both_lists test xs ys p q = list_all-append test xs ys ∙ both_true (list_all test xs) (list_all test ys) p q
+both_lists test xs ys p q = list_all-append test xs ys ∙ both (list_all test xs) (list_all test ys) p q
 
 module _ (core : Core) (variables : ℕ) where
   abbrev steps_fit : Tree → Bool
@@ -32,17 +22,17 @@ module _ (core : Core) (variables : ℕ) where
   pub then_in_range : (first rest : Tree) → is_code core variables first ≡ true → is_code core variables rest ≡ true →
       is_code core variables (Then first rest) ≡ true
   then_in_range first rest one others =
-      both_true (steps_fit (Then first rest)) (locks_fit (Then first rest))
+      both (steps_fit (Then first rest)) (locks_fit (Then first rest))
       (both_lists (is_operation core variables) (steps_of first) (steps_of rest)
-      (left_true (steps_fit first) (locks_fit first) one)
-      (left_true (steps_fit rest) (locks_fit rest) others))
+      (first_part (steps_fit first) (locks_fit first) one)
+      (first_part (steps_fit rest) (locks_fit rest) others))
       (both_lists (is_place core) (locks_of first) (locks_of rest)
-      (right_true (steps_fit first) (locks_fit first) one)
-      (right_true (steps_fit rest) (locks_fit rest) others))
+      (last_part (steps_fit first) (locks_fit first) one)
+      (last_part (steps_fit rest) (locks_fit rest) others))
 
   pub held_in_range : (place : Place) (body : Tree) → is_place core place ≡ true → is_code core variables body ≡ true →
       is_code core variables (Held place body) ≡ true
   held_in_range place body here inside =
-      both_true (steps_fit body) (is_place core place && locks_fit body)
-      (left_true (steps_fit body) (locks_fit body) inside)
-      (both_true (is_place core place) (locks_fit body) here (right_true (steps_fit body) (locks_fit body) inside))
+      both (steps_fit body) (is_place core place && locks_fit body)
+      (first_part (steps_fit body) (locks_fit body) inside)
+      (both (is_place core place) (locks_fit body) here (last_part (steps_fit body) (locks_fit body) inside))

@@ -1,3 +1,4 @@
+pub mod BoolParts
 pub mod Sites
 pub mod ByRank
 pub mod Membership

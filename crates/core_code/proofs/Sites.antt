@@ -10,6 +10,7 @@ use borrow.Author.Tests.{eqb-true}
 use Rattle.std.proofs.lemmas.Bool.{ne_eqb}
 use Rattle.racer_base.specs.declared.ids.SiteId.{SiteId}
 use Rattle.core_code.specs.Tree.{Tree, Then, Operation, steps_of, op_at}
+use Rattle.core_code.proofs.BoolParts.{first_part, last_part}
 use Rattle.core_code.specs.Facts.{sites_of, counts_from}
 use Rattle.core_code.proofs.Membership.{find_gives}
 
@@ -31,14 +32,6 @@ sites_go_on n first rest a b =
 pub sites_of-then : (first rest : Tree) → sites_of (Then first rest) ≡ sites_of first ++ sites_of rest
 sites_of-then first rest = map-append (λ (o : Operation). o.site) (steps_of first) (steps_of rest)
 
-left_true : (a b : Bool) → (a && b) ≡ true → a ≡ true
-left_true true b h = refl
-left_true false b h = cc
-
-right_true : (a b : Bool) → (a && b) ≡ true → b ≡ true
-right_true true b h = h
-right_true false b h = cc
-
 abbrev site_is : ℕ → Operation → Bool
 site_is n o = nat_eq o.site.0 n
 
@@ -50,13 +43,13 @@ find_site : (n : ℕ) (ops : List Operation) (k : ℕ) → counts_from n (sites 
     find (site_is (n + k)) ops ≡ slice_get ops k
 find_site n [] k h = refl
 find_site n (o ∷ ops) zero h =
-    let here : nat_eq o.site.0 n ≡ true = left_true (nat_eq o.site.0 n) (counts_from (suc n) (sites ops)) h in
+    let here : nat_eq o.site.0 n ≡ true = first_part (nat_eq o.site.0 n) (counts_from (suc n) (sites ops)) h in
     ap (λ b. cond b (Some o) (find (site_is (n + 0)) ops)) (ap (nat_eq o.site.0) (add-zero n) ∙ here)
 find_site n (o ∷ ops) (suc k) h =
     let here : o.site.0 ≡ n = eqb-true o.site.0 n
-    (left_true (nat_eq o.site.0 n) (counts_from (suc n) (sites ops)) h) in
+    (first_part (nat_eq o.site.0 n) (counts_from (suc n) (sites ops)) h) in
     let later : counts_from (suc n) (sites ops) ≡ true =
-    right_true (nat_eq o.site.0 n) (counts_from (suc n) (sites ops)) h in
+    last_part (nat_eq o.site.0 n) (counts_from (suc n) (sites ops)) h in
     let other : nat_eq o.site.0 (n + suc k) ≡ false =
     ne_eqb o.site.0 (n + suc k) (λ (e : o.site.0 ≡ n + suc k). omega arith) in
     let shift : n + suc k ≡ suc n + k = omega arith in
