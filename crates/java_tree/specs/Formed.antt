@@ -1,7 +1,6 @@
 -- A contract of a public call rests on this: the formed trees, those that stand for a method of this subset of
 -- Java. Each condition on a level, and each one that is no level, stands with its form; so two formed trees never
--- have
--- one spelling.
+-- have one spelling.
 use Rattle.std.specs.Prelude.{◌≡◌, ℕ, zero, suc, ◌≤◌, Bool, true, false, not, ◌&&◌, List, [], ◌∷◌, Option, Some}
 use Rattle.std.specs.Prelude.{None, IsTrue, codes}
 use Rattle.racer_base.specs.Name.{is_listed}
@@ -327,5 +326,5 @@ FormedThrown t = FormedTy t × IsTrue (is_named t)
 
 abbrev pub FormedMethod : Method → Type 0
 FormedMethod m =
-    Each FormedModifier m.modifiers × FormedResult m.result × Each FormedParameter m.parameters × Each FormedThrown
-    m.throws × FormedStmts m.body
+    Each FormedModifier m.modifiers × FormedResult m.result × Each FormedParameter m.parameters
+    × Each FormedThrown m.throws × FormedStmts m.body

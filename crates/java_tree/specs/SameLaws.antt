@@ -1,6 +1,6 @@
 -- No public contract rests on this: a test that decides whether two views are equal is an equivalence, as the laws
 -- of `==` ask.
-use Rattle.std.proofs.Common.{◌≡◌, Bool, true, false, refl, sym, ◌∙◌, ap, subst, ◌↔◌, IsTrue}
+use Rattle.std.proofs.Common.{◌≡◌, Bool, true, false, refl, sym, ap, subst}
 use Rattle.std.specs.Cmp.{IsPartialEquivalence, IsEquivalence, partial_equiv_from_equiv}
 
 same_bools : (s t : Bool) → (s ≡ true → t ≡ true) → (t ≡ true → s ≡ true) → s ≡ t
@@ -8,7 +8,7 @@ same_bools true t to from = sym (to refl)
 same_bools false true to from = from refl
 same_bools false false to from = refl
 
-same_from_equal : {B : Type 0} (same : B → B → Bool) → ((x : B) → same x x ≡ true) → (x y : B) → x ≡ y
+pub same_from_equal : {B : Type 0} (same : B → B → Bool) → ((x : B) → same x x ≡ true) → (x y : B) → x ≡ y
     → same x y ≡ true
 same_from_equal same same_self x y e = subst (λ z. same x z ≡ true) e (same_self x)
 
@@ -26,11 +26,3 @@ module _ {A B : Type 0} (view : A → B) (same : B → B → Bool) (is : (x y : 
 
   pub partial_equivalence : IsPartialEquivalence (λ a b. same (view a) (view b))
   partial_equivalence = partial_equiv_from_equiv equivalence
-
-  -- an answer of the test, for contracts
-  pub decides : (a b : A) (r : Bool) → r ≡ same (view a) (view b) → IsTrue r ↔ (view a ≡ view b)
-  decides a b r e = (
-    λ h. is (view a) (view b) (sym e ∙ h),
-    λ p. e ∙ same_from_equal same same_self (view a) (view b)
-        p,
-  )

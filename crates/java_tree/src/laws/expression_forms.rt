@@ -1,5 +1,5 @@
 //! For each form of types and expressions a tree that is formed and, but of `this` and a name, one or more that are
-//! not.
+//! not formed.
 ghost use Rattle.std.specs.Prelude.{[], ◌∷◌, codes, true, false};
 ghost use Rattle.java_lexer.specs.declared.token.TokenKind.TheVariants as kind;
 ghost use Rattle.java_tree.specs.Trees.{Typed, Plain, Named, no_part, part_then, Bare, Generic, Angled};

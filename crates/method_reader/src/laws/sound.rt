@@ -99,8 +99,8 @@ pub fn read_statements()
         → after_keyword (codes "else") rest ≡ None }
 {}
 
-/// What is read as a method is formed, of at most this nesting, and spells the tokens; where none is read there is
-/// none.
+/// What is read as a method is formed, of at most this nesting, and spells the tokens; where none is read, there
+/// is none.
 pub fn read_methods()
     ensures formed { (n : ℕ) (ts : List Spelled) (m : Method) → method_at method_readers n ts ≡ Some m
         → FormedMethod m }

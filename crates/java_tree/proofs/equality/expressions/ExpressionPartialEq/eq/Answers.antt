@@ -1,7 +1,7 @@
 use Rattle.java_tree.specs.Sameness.{same_expr}
 use Rattle.java_tree.specs.View.{expr_of}
 use Rattle.java_tree.specs.SameTrees.{expr_is, expr_refl}
-use Rattle.java_tree.specs.SameLaws.{decides}
+use Rattle.java_tree.proofs.SameAnswers.{decides}
 use Rattle.java_tree.proofs.equality.expressions.ExpressionPartialEq.eq.Goals as goal
 
 pub returns-clause-places_aside : goal.returns-clause-places_aside

@@ -1,7 +1,7 @@
 use Rattle.java_tree.specs.Sameness.{same_method}
 use Rattle.java_tree.specs.View.{method_of}
 use Rattle.java_tree.specs.SameMethods.{method_is, method_refl}
-use Rattle.java_tree.specs.SameLaws.{decides}
+use Rattle.java_tree.proofs.SameAnswers.{decides}
 use Rattle.java_tree.proofs.equality.methods.MethodTreePartialEq.eq.Goals as goal
 
 pub returns-clause-places_aside : goal.returns-clause-places_aside

@@ -1,7 +1,7 @@
 use Rattle.java_tree.specs.Sameness.{same_stmt}
 use Rattle.java_tree.specs.View.{stmt_of}
 use Rattle.java_tree.specs.SameMethods.{stmt_is, stmt_refl}
-use Rattle.java_tree.specs.SameLaws.{decides}
+use Rattle.java_tree.proofs.SameAnswers.{decides}
 use Rattle.java_tree.proofs.equality.statements.StatementPartialEq.eq.Goals as goal
 
 pub returns-clause-places_aside : goal.returns-clause-places_aside

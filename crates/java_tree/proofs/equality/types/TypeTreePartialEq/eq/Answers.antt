@@ -1,7 +1,7 @@
 use Rattle.java_tree.specs.Sameness.{same_ty}
 use Rattle.java_tree.specs.View.{ty_of}
 use Rattle.java_tree.specs.SameTrees.{ty_is, ty_refl}
-use Rattle.java_tree.specs.SameLaws.{decides}
+use Rattle.java_tree.proofs.SameAnswers.{decides}
 use Rattle.java_tree.proofs.equality.types.TypeTreePartialEq.eq.Goals as goal
 
 pub returns-clause-places_aside : goal.returns-clause-places_aside
