@@ -1,5 +1,6 @@
 -- The place of a site, read from the table of its method.
-use Rattle.std.proofs.Common.{◌≡◌, ℕ, zero, suc, Bool, true, List, [], ◌∷◌, Some, Vec, option_map, slice_get, sym, ap, ◌∙◌}
+use Rattle.std.proofs.Common.{◌≡◌, ℕ, zero, suc, Bool, true, List, [], ◌∷◌, Some, Vec, option_map, slice_get}
+use Rattle.std.proofs.Common.{sym, ap, ◌∙◌}
 use Rattle.std.specs.Global.{Global}
 use Rattle.std.specs.List.{list_all}
 use Rattle.std.proofs.lemmas.Option.{slice_get-map}
@@ -14,8 +15,8 @@ use Rattle.racer_cli.specs.Places.{places_of, ArePlaces}
 use Rattle.racer_cli.proofs.BoolParts.{first_part, last_part}
 
 -- what holds of all holds of one
-all_at : {X : Type 0} (test : X → Bool) (xs : List X) (k : ℕ) (x : X) → list_all test xs ≡ true → slice_get xs k ≡ Some x →
-    test x ≡ true
+all_at : {X : Type 0} (test : X → Bool) (xs : List X) (k : ℕ) (x : X) →
+    list_all test xs ≡ true → slice_get xs k ≡ Some x → test x ≡ true
 all_at test [] k x all is = cc
 all_at test (y ∷ ys) zero x all is =
     let same : y ≡ x = cc in
@@ -24,7 +25,8 @@ all_at test (y ∷ ys) (suc k) x all is = all_at test ys k x (last_part (test y)
 
 -- the table of a method
 pub table_at : (core : Core) (tables : List (Vec Place Global)) (k : ℕ) (m : Method) (table : Vec Place Global) →
-    ArePlaces core tables → slice_get core.methods k ≡ Some m → slice_get tables k ≡ Some table → table.items ≡ places_of m.code
+    ArePlaces core tables → slice_get core.methods k ≡ Some m → slice_get tables k ≡ Some table →
+    table.items ≡ places_of m.code
 table_at core tables k m table are is held =
     let items : Vec Place Global → List Place = λ t. t.items in
     let places : Method → List Place = λ n. places_of n.code in

@@ -73,10 +73,10 @@ place_at code site = option_map (λ (o : Operation). o.place) (op_at code site)
 -- files N classes N methods N
 abbrev pub counts_line : Core → List ℕ
 counts_line core =
-    line (
-    codes "files " ++ decimal (length core.files) ++ codes " classes " ++ decimal (length core.classes)
-    ++ codes " methods " ++ decimal (length core.methods)
-    )
+    let files = decimal (length core.files) in
+    let classes = decimal (length core.classes) in
+    let methods = decimal (length core.methods) in
+    line (codes "files " ++ files ++ codes " classes " ++ classes ++ codes " methods " ++ methods)
 
 -- skipped PLACE
 abbrev pub skipped_line : Core → Place → List ℕ
@@ -93,9 +93,8 @@ reason_from None (Some (Whole summary)) = None
 abbrev pub reason_line : Core → Method → Option (List ℕ) → List ℕ
 reason_line core method None = []
 reason_line core method (Some reason) =
-    line (
-    codes "not analysed " ++ method_text core method ++ codes " " ++ place_text core method.place ++ codes " " ++ reason
-    )
+    let place = place_text core method.place in
+    line (codes "not analysed " ++ method_text core method ++ codes " " ++ place ++ codes " " ++ reason)
 
 -- the same of a method with its number
 abbrev pub not_analysed_line : Core → ℕ × Method → List ℕ

@@ -41,7 +41,8 @@ pub fn run<R: Threads + Wait + Sync, F: Folder, S: Sink, G: Gate + Sync>(
         IfSome (F.told folder.old) (λ told. AsksFor words.now told → result ≢ Status.FolderFault) }
 
     // A sink with room for whatever text may be due has no fault.
-    ensures room { IsRoomFor (S.room sink.old) (asked_of F.told F.faults words.now folder.old folder.new) → result ≢ Status.SinkFault }
+    ensures room { IsRoomFor (S.room sink.old) (asked_of F.told F.faults words.now folder.old folder.new) →
+        result ≢ Status.SinkFault }
 {
     match what_to_say(alloc, words, folder) {
         Err(_) => Status::Memory,

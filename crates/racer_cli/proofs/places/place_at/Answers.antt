@@ -15,6 +15,7 @@ returns c = λ m is.
     let found : c.copied.result ≡ slice_get table.items c.args.site.0 =
     grind (arith, common_steps, gets, c.get-2.ensures.lookup, c.copied.ensures, c.deref.ensures.value)
     in
+    let own = table_at program c.args.tables.now c.args.method.0 m table c.requires is held in
     found
-    ∙ ap (λ places. slice_get places c.args.site.0) (table_at program c.args.tables.now c.args.method.0 m table c.requires is held)
+    ∙ ap (λ places. slice_get places c.args.site.0) own
     ∙ place_there program c.args.method.0 m c.args.site c.args.program.now.sites_in_order is
