@@ -1,4 +1,4 @@
--- No public contract rests on this: where a record of a method comes from.
+-- A contract of a public call rests on this: the law `records_have_origins`. Where a record of a method comes from.
 use Rattle.std.specs.Prelude.{◌≡◌, ℕ, ◌⊎◌, Option, None, Some, Contains, slice_get}
 use Rattle.racer_base.specs.declared.ids.MethodId.{MethodId}
 use Rattle.racer_base.specs.declared.ids.Touch.{Touch}

@@ -1,5 +1,6 @@
 -- The piece in front of a text, where its first byte leaves one kind.
-use Rattle.std.proofs.Common.{◌≡◌, ℕ, zero, suc, ◌+◌, ◌≤◌, Bool, true, false, cond, List, [], ◌∷◌, length, take, Some, None, refl, arith, one-add, subst}
+use Rattle.std.proofs.Common.{◌≡◌, ℕ, zero, suc, ◌+◌, ◌≤◌, Bool, true, false, cond, List, [], ◌∷◌, length, take, Some}
+use Rattle.std.proofs.Common.{None, refl, arith, one-add, subst}
 use Rattle.std.specs.Prelude.{IsSome}
 use Rattle.std.specs.List.{prefix_len, list_all}
 use Rattle.std.proofs.lemmas.List.{length-take-le}

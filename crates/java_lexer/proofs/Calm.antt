@@ -1,5 +1,6 @@
 -- The piece in front of a text that begins with white space, a letter or a digit.
-use Rattle.std.proofs.Common.{◌≡◌, ℕ, suc, ◌+◌, ◌≤◌, ◌<◌, Bool, true, false, not, cond, ◌&&◌, List, [], ◌∷◌, length, take, Some, None, refl, sym, ◌∙◌, arith, one-add}
+use Rattle.std.proofs.Common.{◌≡◌, ℕ, suc, ◌+◌, ◌≤◌, ◌<◌, Bool, true, false, not, cond, ◌&&◌, List, [], ◌∷◌, length}
+use Rattle.std.proofs.Common.{take, Some, None, refl, sym, ◌∙◌, arith, one-add}
 use Rattle.std.specs.Prelude.{nat_eq, ◌==◌}
 use Rattle.std.specs.List.{prefix_len, list_all}
 use Rattle.racer_base.specs.Name.{is_letter, is_digit, is_word_byte, is_listed}

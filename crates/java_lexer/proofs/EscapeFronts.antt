@@ -1,7 +1,9 @@
 -- What begins an escape.
-use Rattle.std.proofs.Common.{◌≡◌, ℕ, zero, suc, ◌≤◌, ◌<◌, Bool, true, false, cond, ◌&&◌, ◌||◌, List, [], ◌∷◌, length, take, inl, inr, refl, sym, ap, ◌∙◌, arith, eqb-true, length-take}
+use Rattle.std.proofs.Common.{◌≡◌, ℕ, zero, suc, ◌≤◌, ◌<◌, Bool, true, false, cond, ◌&&◌, ◌||◌, List, [], ◌∷◌, length}
+use Rattle.std.proofs.Common.{take, inl, inr, refl, sym, ap, ◌∙◌, arith, eqb-true, length-take}
 use Rattle.std.specs.Prelude.{nat_le, ◌==◌}
-use Rattle.java_lexer.specs.Literals.{is_simple, is_simple_escape, is_octal, is_octal_escape, is_allowed_unit, behind_u_run, is_unicode_escape, is_escape}
+use Rattle.java_lexer.specs.Literals.{is_simple, is_simple_escape, is_octal, is_octal_escape, is_allowed_unit}
+use Rattle.java_lexer.specs.Literals.{behind_u_run, is_unicode_escape, is_escape}
 use Rattle.java_lexer.specs.Fronts.{some_front}
 use Rattle.java_lexer.specs.Scanning.{begins_escape}
 use Rattle.java_lexer.proofs.Bytes.{and_left, and_right}

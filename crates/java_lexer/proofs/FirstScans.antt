@@ -1,5 +1,6 @@
 -- The piece in front of a text in the first grammar, by its first byte.
-use Rattle.std.proofs.Common.{◌≡◌, ℕ, ◌+◌, Bool, true, false, cond, List, [], ◌∷◌, take, drop, Some, None, refl, sym, one-add, take-append-drop}
+use Rattle.std.proofs.Common.{◌≡◌, ℕ, ◌+◌, Bool, true, false, cond, List, [], ◌∷◌, take, drop, Some, None, refl, sym}
+use Rattle.std.proofs.Common.{one-add, take-append-drop}
 use Rattle.std.specs.List.{prefix_len, list_all}
 use Rattle.racer_base.specs.Name.{is_letter, is_digit, is_word_byte}
 use Rattle.java_lexer.specs.declared.piece.PieceKind.{PieceKind}

@@ -1,10 +1,12 @@
 -- The longest front of a text that is a piece, and the pieces behind it.
-use Rattle.std.proofs.Common.{◌≡◌, ℕ, zero, suc, ◌-◌, ◌≤◌, ◌<◌, List, [], ◌∷◌, length, take, drop, Option, Some, None, inl, inr, refl, sym, ap, ◌∙◌, arith, length-drop}
+use Rattle.std.proofs.Common.{◌≡◌, ℕ, zero, suc, ◌-◌, ◌≤◌, ◌<◌, List, [], ◌∷◌, length, take, drop, Option, Some, None}
+use Rattle.std.proofs.Common.{inl, inr, refl, sym, ap, ◌∙◌, arith, length-drop}
 use Rattle.std.specs.Prelude.{IsSome}
 use Rattle.std.proofs.lemmas.List.{length-take-le}
 use Rattle.java_lexer.specs.declared.piece.PieceKind.{PieceKind}
 use Rattle.java_lexer.specs.declared.piece.LexicalFault.{LexicalFault}
-use Rattle.java_lexer.specs.Divisions.{Lexis, Piece, front_piece, piece_or, longest_piece, unless_fault, next_piece, and_then, pieces_upto, pieces}
+use Rattle.java_lexer.specs.Divisions.{Lexis, Piece, front_piece, piece_or, longest_piece, unless_fault, next_piece}
+use Rattle.java_lexer.specs.Divisions.{and_then, pieces_upto, pieces}
 use Rattle.java_lexer.specs.Scanning.{IsFront}
 use Rattle.std.proofs.lemmas.Bool.{false≢true}
 use Rattle.java_lexer.proofs.Bytes.{or_less}

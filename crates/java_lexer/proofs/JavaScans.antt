@@ -1,5 +1,7 @@
 -- The piece in front of a text, or the fault that is named there, by its first bytes.
-use Rattle.std.proofs.Common.{◌≡◌, ℕ, zero, suc, ◌+◌, ◌-◌, ◌≤◌, ◌<◌, Bool, true, false, not, cond, ◌&&◌, ◌||◌, List, [], ◌∷◌, ◌++◌, length, take, drop, Some, None, inl, inr, refl, sym, ap, ◌∙◌, subst, arith, one-add, eqb-true, take-append-drop}
+use Rattle.std.proofs.Common.{◌≡◌, ℕ, zero, suc, ◌+◌, ◌-◌, ◌≤◌, ◌<◌, Bool, true, false, not, cond, ◌&&◌, ◌||◌, List, []}
+use Rattle.std.proofs.Common.{◌∷◌, ◌++◌, length, take, drop, Some, None, inl, inr, refl, sym, ap, ◌∙◌, subst, arith}
+use Rattle.std.proofs.Common.{one-add, eqb-true, take-append-drop}
 use Rattle.std.specs.Prelude.{IsSome, codes, filter, nat_eq, ◌==◌}
 use Rattle.std.specs.List.{prefix_len, list_all, starts_with}
 use Rattle.std.specs.Cmp.Lexicographic.{bytes_decides}
@@ -15,7 +17,8 @@ use Rattle.java_lexer.specs.declared.token.TokenKind.TheVariants.{Number, Charac
 use Rattle.java_lexer.specs.Kinds.{is_white}
 use Rattle.java_lexer.specs.Comments.{is_inline, is_line_comment, is_block_comment, is_comment, ends_closed}
 use Rattle.java_lexer.specs.Numbers.{begins_with_digit, begins_number, begins_hex, is_next, go_on}
-use Rattle.java_lexer.specs.Literals.{ends_quoted, is_quoted, between_quotes, is_one_character, is_character, escapes_hold, is_text}
+use Rattle.java_lexer.specs.Literals.{ends_quoted, is_quoted, between_quotes, is_one_character, is_character}
+use Rattle.java_lexer.specs.Literals.{escapes_hold, is_text}
 use Rattle.java_lexer.specs.Signs.{signs, is_sign}
 use Rattle.java_lexer.specs.Fronts.{some_front}
 use Rattle.java_lexer.specs.Scanning.{signs_with, begins_with, first_len, closed_len, quoted_len, number_len}

@@ -1,9 +1,12 @@
 -- A text has one division, and it is that of the function.
-use Rattle.std.proofs.Common.{◌≡◌, ℕ, zero, suc, ◌≤◌, ◌<◌, List, [], ◌∷◌, ◌++◌, length, take, drop, Option, Some, None, refl, sym, ap, ◌∙◌, subst, arith, le_antisymm, append_assoc, length-append, length-drop, take-append-drop}
+use Rattle.std.proofs.Common.{◌≡◌, ℕ, zero, suc, ◌≤◌, ◌<◌, List, [], ◌∷◌, ◌++◌, length, take, drop, Option, Some, None}
+use Rattle.std.proofs.Common.{refl, sym, ap, ◌∙◌, subst, arith, le_antisymm, append_assoc, length-append, length-drop}
+use Rattle.std.proofs.Common.{take-append-drop}
 use Rattle.std.specs.Prelude.{IsSome}
 use Rattle.std.proofs.lemmas.List.{take_at, drop_at, drop-drop}
 use Rattle.java_lexer.specs.declared.piece.PieceKind.{PieceKind}
-use Rattle.java_lexer.specs.Divisions.{Lexis, Piece, IsFirst, Divides, IsStuck, IsDivision, front_piece, next_piece, and_then, pieces_upto, pieces, joined, undivided}
+use Rattle.java_lexer.specs.Divisions.{Lexis, Piece, IsFirst, Divides, IsStuck, IsDivision, front_piece, next_piece}
+use Rattle.java_lexer.specs.Divisions.{and_then, pieces_upto, pieces, joined, undivided}
 use Rattle.java_lexer.proofs.Fronts.{some_of, first_is, found_front, pieces_nil}
 
 -- ---- at most one

@@ -1,5 +1,6 @@
 -- The longest run of bytes that pass a test.
-use Rattle.std.proofs.Common.{◌≡◌, ℕ, zero, suc, ◌+◌, ◌≤◌, Bool, true, false, cond, List, [], ◌∷◌, length, take, refl, arith, one-add}
+use Rattle.std.proofs.Common.{◌≡◌, ℕ, zero, suc, ◌+◌, ◌≤◌, Bool, true, false, cond, List, [], ◌∷◌, length, take, refl}
+use Rattle.std.proofs.Common.{arith, one-add}
 use Rattle.std.specs.List.{prefix_len, list_all}
 use Rattle.java_lexer.proofs.Bytes.{and_left, and_right}
 

@@ -1,5 +1,6 @@
 -- Fronts of a text that pass a test.
-use Rattle.std.proofs.Common.{◌≡◌, ℕ, zero, suc, ◌≤◌, ◌<◌, Bool, true, false, ◌||◌, List, length, take, inl, inr, ◌⊎◌, refl, arith}
+use Rattle.std.proofs.Common.{◌≡◌, ℕ, zero, suc, ◌≤◌, ◌<◌, Bool, true, false, ◌||◌, List, length, take, inl, inr, ◌⊎◌}
+use Rattle.std.proofs.Common.{refl, arith}
 use Rattle.std.proofs.lemmas.Bool.{false≢true}
 use Rattle.java_lexer.specs.Fronts.{some_upto, some_front}
 use Rattle.java_lexer.proofs.Bytes.{or_less}

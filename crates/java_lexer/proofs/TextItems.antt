@@ -1,5 +1,7 @@
 -- A text literal is plain bytes and escapes between quotes.
-use Rattle.std.proofs.Common.{◌≡◌, ◌≢◌, ◌↔◌, ℕ, zero, suc, ◌-◌, ◌≤◌, ◌<◌, Bool, true, false, cond, ◌&&◌, ◌||◌, not, List, [], ◌∷◌, ◌++◌, length, take, drop, inl, inr, refl, sym, ap, ◌∙◌, subst, arith, All, IsTrue, eqb-true, append_assoc, length-append, length-drop, take_at, take-append-drop}
+use Rattle.std.proofs.Common.{◌≡◌, ◌≢◌, ◌↔◌, ℕ, zero, suc, ◌-◌, ◌≤◌, ◌<◌, Bool, true, false, cond, ◌&&◌, ◌||◌, not}
+use Rattle.std.proofs.Common.{List, [], ◌∷◌, ◌++◌, length, take, drop, inl, inr, refl, sym, ap, ◌∙◌, subst, arith, All}
+use Rattle.std.proofs.Common.{IsTrue, eqb-true, append_assoc, length-append, length-drop, take_at, take-append-drop}
 use Rattle.std.specs.Prelude.{◌==◌}
 use Rattle.std.specs.List.{concat, list_all}
 use Rattle.std.proofs.lemmas.Bool.{false≢true}
@@ -7,7 +9,9 @@ use Rattle.std.proofs.lemmas.Bool.Decides.{nat_tests}
 use Rattle.std.proofs.lemmas.List.Elements.{All-head, All-tail, All-cons}
 use Rattle.java_lexer.specs.Kinds.{is_nothing}
 use Rattle.java_lexer.specs.Comments.{is_line_end, is_inline}
-use Rattle.java_lexer.specs.Literals.{is_simple, is_simple_escape, is_octal, is_octal_escape, is_hex, is_allowed_unit, behind_u_run, is_unicode_escape, is_escape, ends_quoted, ends_behind_one, is_quoted, between_quotes, escapes_hold, hold_behind_one, is_text}
+use Rattle.java_lexer.specs.Literals.{is_simple, is_simple_escape, is_octal, is_octal_escape, is_hex, is_allowed_unit}
+use Rattle.java_lexer.specs.Literals.{behind_u_run, is_unicode_escape, is_escape, ends_quoted, ends_behind_one}
+use Rattle.java_lexer.specs.Literals.{is_quoted, between_quotes, escapes_hold, hold_behind_one, is_text}
 use Rattle.java_lexer.specs.Items.{is_plain, IsTextItem, TextOfItems}
 use Rattle.java_lexer.specs.Fronts.{some_front}
 use Rattle.java_lexer.proofs.Bytes.{and_left, and_right, never_both}

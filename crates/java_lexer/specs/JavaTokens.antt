@@ -1,6 +1,7 @@
 -- A contract of a public call rests on this: `lex`. What is read of a file in a profile of Java SE 8: its tokens (JLS
 -- 3.5) with their places (JLS 3.4), or a fault.
-use Rattle.std.specs.Prelude.{◌≡◌, ℕ, Bool, true, false, List, [], ◌∷◌, Option, Some, None, Result, Ok, Err, codes, if◌then◌else◌}
+use Rattle.std.specs.Prelude.{◌≡◌, ℕ, Bool, true, false, List, [], ◌∷◌, Option, Some, None, Result, Ok, Err, codes}
+use Rattle.std.specs.Prelude.{if◌then◌else◌}
 use Rattle.std.specs.Str.{is_utf8}
 use Rattle.std.specs.Str.Lossy.{utf8_valid_len}
 use Rattle.racer_base.specs.declared.ids.FileId.{FileId}

@@ -1,6 +1,7 @@
 -- No public contract rests on this: what the code computes of the front of a text, and tables by the first byte. What a
 -- text is read as is said without any of it.
-use Rattle.std.specs.Prelude.{◌≡◌, ℕ, suc, ◌<◌, ◌≤◌, Bool, false, ◌&&◌, ◌||◌, List, [], ◌∷◌, length, take, filter, Option, Some, None, Result, Ok, Err, nat_eq, ◌==◌, if◌then◌else◌}
+use Rattle.std.specs.Prelude.{◌≡◌, ℕ, suc, ◌<◌, ◌≤◌, Bool, false, ◌&&◌, ◌||◌, List, [], ◌∷◌, length, take, filter}
+use Rattle.std.specs.Prelude.{Option, Some, None, Result, Ok, Err, nat_eq, ◌==◌, if◌then◌else◌}
 use Rattle.std.specs.Str.{byte}
 use Rattle.std.specs.List.{starts_with}
 use Rattle.racer_base.specs.Name.{keywords}

@@ -2,7 +2,9 @@
 ghost use Rattle.std.specs.Prelude.{◌≡◌, ◌<◌, ◌≤◌, [], ◌∷◌, length, take, true, nat_eq};
 ghost use Rattle.std.specs.List.{list_all, list_any};
 ghost use Rattle.std.specs.Str.{byte};
-ghost use Rattle.java_lexer.specs.Literals.{backslash, is_simple, is_simple_escape, is_octal, is_octal_escape, is_hex, hex_digit, hex_value, is_allowed_unit, behind_u_run, is_unicode_escape, is_escape};
+ghost use Rattle.java_lexer.specs.Literals.{backslash, is_simple, is_simple_escape, is_octal, is_octal_escape, is_hex};
+ghost use Rattle.java_lexer.specs.Literals.{hex_digit, hex_value, is_allowed_unit, behind_u_run, is_unicode_escape};
+ghost use Rattle.java_lexer.specs.Literals.{is_escape};
 ghost use Rattle.java_lexer.specs.Fronts.{some_front};
 ghost use Rattle.java_lexer.specs.Scanning.{begins_escape};
 

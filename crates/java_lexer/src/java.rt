@@ -5,7 +5,8 @@ ghost use Rattle.racer_base.specs.Name.{is_listed};
 ghost use Rattle.java_lexer.specs.Signs.{shifts};
 ghost use Rattle.java_lexer.specs.Divisions.{undivided};
 ghost use Rattle.java_lexer.specs.JavaKinds.{java_fault, java_lexis};
-ghost use Rattle.java_lexer.specs.JavaTokens.{angle_tokens, java_tokens_of, fault_answer, divided_answer, lexed_answer, IsFaultOf};
+ghost use Rattle.java_lexer.specs.JavaTokens.{angle_tokens, java_tokens_of, fault_answer, divided_answer, lexed_answer};
+ghost use Rattle.java_lexer.specs.JavaTokens.{IsFaultOf};
 
 use crate::piece::{LexicalFault, PieceKind};
 use crate::scan::next_piece;

@@ -1,7 +1,8 @@
 //! Character and text literals (JLS 3.10.4, 3.10.5).
 ghost use Rattle.std.specs.Prelude.{◌≡◌, ◌<◌, ◌≤◌, IfSome, ◌∷◌, length};
 ghost use Rattle.std.specs.List.{list_all};
-ghost use Rattle.java_lexer.specs.Literals.{double_quote, single_quote, is_continuation, is_one_character, escapes_hold};
+ghost use Rattle.java_lexer.specs.Literals.{double_quote, single_quote, is_continuation, is_one_character};
+ghost use Rattle.java_lexer.specs.Literals.{escapes_hold};
 ghost use Rattle.java_lexer.specs.Scanning.{quoted_len};
 ghost use Rattle.java_lexer.specs.Scanning.{IsScanned};
 ghost use Rattle.java_lexer.specs.JavaKinds.{java_lexis};

@@ -1,16 +1,21 @@
 -- What is spelled is read.
-use Rattle.std.proofs.Common.{◌≡◌, ℕ, zero, suc, ◌≤◌, ◌<◌, Bool, true, false, ◌||◌, List, [], ◌∷◌, length, Option, None, Some, codes, nat_le, refl, sym, ap, subst, arith, leb-true}
+use Rattle.std.proofs.Common.{◌≡◌, ℕ, zero, suc, ◌≤◌, ◌<◌, Bool, true, false, ◌||◌, List, [], ◌∷◌, length, Option, None}
+use Rattle.std.proofs.Common.{Some, codes, nat_le, refl, sym, ap, subst, arith, leb-true}
 use Rattle.std.specs.List.{list_all}
 use Rattle.std.proofs.lemmas.Bool.{le-leb}
 use Rattle.racer_base.specs.declared.ids.Place.{Place}
 use Rattle.java_lexer.specs.declared.token.Token.{Token}
 use Rattle.java_lexer.specs.declared.token.TokenKind.TheVariants.{Keyword, Name}
 use Rattle.java_parser.specs.Tree.{Statement, Set, Sync, Statements, no_statement, statement_then, Method, Class, pack}
-use Rattle.java_parser.specs.Spelling.{Part, Written, Located, IsPart, keyword, sign, statement_onto, block_onto, field_onto, method_onto, each_onto, mark_onto, class_onto, spell}
+use Rattle.java_parser.specs.Spelling.{Part, Written, Located, IsPart, keyword, sign, statement_onto, block_onto}
+use Rattle.java_parser.specs.Spelling.{field_onto, method_onto, each_onto, mark_onto, class_onto, spell}
 use Rattle.java_parser.specs.Conditions.{nesting, nesting_of_all}
-use Rattle.java_parser.specs.Reading.{is_keyword, is_sign, is_any_name, is_this_name, starts, after, several, begins_statement, statement_with, block_at, begins_field, field_at, begins_method, method_at, mark_at, class_at, classes_at, whole_at}
+use Rattle.java_parser.specs.Reading.{is_keyword, is_sign, is_any_name, is_this_name, starts, after, several}
+use Rattle.java_parser.specs.Reading.{begins_statement, statement_with, block_at, begins_field, field_at, begins_method}
+use Rattle.java_parser.specs.Reading.{method_at, mark_at, class_at, classes_at, whole_at}
 use Rattle.java_parser.proofs.Texts.{both}
-use Rattle.java_parser.proofs.FrontTokens.{some_token, Fits, Front, front, stops, not_after, keyword_at, sign_at, digits_at, name_passes, this_name_passes, keyword_passes}
+use Rattle.java_parser.proofs.FrontTokens.{some_token, Fits, Front, front, stops, not_after, keyword_at, sign_at}
+use Rattle.java_parser.proofs.FrontTokens.{digits_at, name_passes, this_name_passes, keyword_passes}
 use Rattle.java_parser.proofs.Sound.{packed, shallow_method, shallow_class}
 
 -- the reader gives this, and the other parts are behind it

@@ -1,10 +1,13 @@
 -- The token in front: a test of it, and the part that it is.
-use Rattle.std.proofs.Common.{◌≡◌, ℕ, ◌<◌, Bool, true, false, not, ◌&&◌, List, [], ◌∷◌, length, None, Some, bytes_eq, refl, arith}
+use Rattle.std.proofs.Common.{◌≡◌, ℕ, ◌<◌, Bool, true, false, not, ◌&&◌, List, [], ◌∷◌, length, None, Some, bytes_eq}
+use Rattle.std.proofs.Common.{refl, arith}
 use Rattle.java_lexer.specs.declared.token.Token.{Token}
 use Rattle.java_lexer.specs.declared.token.TokenKind.TheVariants.{Keyword, Name}
 use Rattle.java_parser.specs.Spelling.{Part, Written, Located, Digits, is_decimal, IsPart, AreParts, keyword, sign}
-use Rattle.java_parser.specs.Reading.{is_keyword_kind, is_name_kind, is_number_kind, is_sign_kind, is_keyword, is_sign, is_any_name, is_this_name, is_digits, starts, after, taken}
-use Rattle.java_parser.proofs.Texts.{both, not_true, bytes_same, same_bytes, keyword_kind, name_kind, number_kind, sign_kind}
+use Rattle.java_parser.specs.Reading.{is_keyword_kind, is_name_kind, is_number_kind, is_sign_kind, is_keyword, is_sign}
+use Rattle.java_parser.specs.Reading.{is_any_name, is_this_name, is_digits, starts, after, taken}
+use Rattle.java_parser.proofs.Texts.{both, not_true, bytes_same, same_bytes, keyword_kind, name_kind, number_kind}
+use Rattle.java_parser.proofs.Texts.{sign_kind}
 
 -- ---- from parts to tests
 

@@ -1,5 +1,6 @@
 -- A loop that reads items while one begins: what it has, and what it still reads.
-use Rattle.std.proofs.Common.{◌≡◌, ℕ, suc, ◌+◌, ◌-◌, ◌≤◌, ◌<◌, Bool, true, false, List, [], ◌∷◌, ◌++◌, Option, Some, None, refl, sym, ap, ◌∙◌, append_assoc, append-nil, arith}
+use Rattle.std.proofs.Common.{◌≡◌, ℕ, suc, ◌+◌, ◌-◌, ◌≤◌, ◌<◌, Bool, true, false, List, [], ◌∷◌, ◌++◌, Option, Some}
+use Rattle.std.proofs.Common.{None, refl, sym, ap, ◌∙◌, append_assoc, append-nil, arith}
 use Rattle.java_lexer.specs.declared.token.Token.{Token}
 use Rattle.java_parser.specs.declared.first.FirstFault.{FirstFault}
 use Rattle.java_parser.specs.declared.first.FirstFault.TheVariants.{NotBuilt, Memory}

@@ -1,13 +1,17 @@
 -- Tokens spell at most one list of classes.
-use Rattle.std.proofs.Common.{◌≡◌, ℕ, ◌≤◌, max, Bool, true, false, List, [], ◌∷◌, map, Some, codes, refl, sym, ap, ◌∙◌, subst, arith}
+use Rattle.std.proofs.Common.{◌≡◌, ℕ, ◌≤◌, max, Bool, true, false, List, [], ◌∷◌, map, Some, codes, refl, sym, ap, ◌∙◌}
+use Rattle.std.proofs.Common.{subst, arith}
 use Rattle.std.specs.List.{list_all}
 use Rattle.std.proofs.lemmas.Bool.{le-leb}
 use Rattle.java_lexer.specs.declared.token.Token.{Token}
 use Rattle.java_lexer.specs.declared.token.TokenKind.TheVariants.{Keyword, Name, Number}
 use Rattle.java_parser.specs.Tree.{Statement, Set, Sync, Statements, no_statement, statement_then, Method, Class}
-use Rattle.java_parser.specs.Spelling.{Part, Written, Located, Digits, AreParts, keyword, sign, statement_onto, statements_onto, field_onto, method_onto, each_onto, mark_onto, class_onto, spell}
+use Rattle.java_parser.specs.Spelling.{Part, Written, Located, Digits, AreParts, keyword, sign, statement_onto}
+use Rattle.java_parser.specs.Spelling.{statements_onto, field_onto, method_onto, each_onto, mark_onto, class_onto}
+use Rattle.java_parser.specs.Spelling.{spell}
 use Rattle.java_parser.specs.Conditions.{nesting_of_all}
-use Rattle.java_parser.specs.Places.{nowhere, unplaced_statement, unplaced_statements, unplaced_method, unplaced_class, unplaced, unplaced_part}
+use Rattle.java_parser.specs.Places.{nowhere, unplaced_statement, unplaced_statements, unplaced_method, unplaced_class}
+use Rattle.java_parser.specs.Places.{unplaced, unplaced_part}
 use Rattle.java_parser.specs.Reading.{whole_at}
 use Rattle.java_parser.proofs.Sound.{shallow_method, shallow_class}
 use Rattle.java_parser.proofs.FoundClasses.{whole_found}

@@ -1,15 +1,22 @@
 -- What is read is spelled by the tokens that were taken.
-use Rattle.std.proofs.Common.{◌≡◌, ℕ, zero, suc, ◌≤◌, Bool, true, false, cond, List, [], ◌∷◌, length, Option, None, Some, codes, nat_le, refl, ap, arith, leb-true}
+use Rattle.std.proofs.Common.{◌≡◌, ℕ, zero, suc, ◌≤◌, Bool, true, false, cond, List, [], ◌∷◌, length, Option, None}
+use Rattle.std.proofs.Common.{Some, codes, nat_le, refl, ap, arith, leb-true}
 use Rattle.std.specs.List.{list_all}
 use Rattle.std.proofs.lemmas.Bool.{le-leb}
 use Rattle.java_lexer.specs.declared.token.Token.{Token}
 use Rattle.java_lexer.specs.declared.token.TokenKind.TheVariants.{Keyword, Name}
 use Rattle.java_parser.specs.Tree.{Statement, Method, Class, pack}
-use Rattle.java_parser.specs.Spelling.{Part, Written, Located, Digits, IsPart, keyword, sign, statement_onto, statements_onto, block_onto, field_onto, method_onto, each_onto, mark_onto, class_onto, spell}
+use Rattle.java_parser.specs.Spelling.{Part, Written, Located, Digits, IsPart, keyword, sign, statement_onto}
+use Rattle.java_parser.specs.Spelling.{statements_onto, block_onto, field_onto, method_onto, each_onto, mark_onto}
+use Rattle.java_parser.specs.Spelling.{class_onto, spell}
 use Rattle.java_parser.specs.Conditions.{nesting, nesting_of_all}
-use Rattle.java_parser.specs.Reading.{◌>>=◌, match_option, is_keyword, is_sign, is_any_name, is_this_name, is_digits, starts, after, taken, several, begins_statement, write_at, locked_with, statement_with, block_at, begins_field, field_at, begins_method, method_at, mark_at, class_at, classes_at, whole_at}
+use Rattle.java_parser.specs.Reading.{◌>>=◌, match_option, is_keyword, is_sign, is_any_name, is_this_name, is_digits}
+use Rattle.java_parser.specs.Reading.{starts, after, taken, several, begins_statement, write_at, locked_with}
+use Rattle.java_parser.specs.Reading.{statement_with, block_at, begins_field, field_at, begins_method, method_at}
+use Rattle.java_parser.specs.Reading.{mark_at, class_at, classes_at, whole_at}
 use Rattle.java_parser.proofs.Texts.{both}
-use Rattle.java_parser.proofs.FrontTokens.{Fits, keyword_is, sign_is, name_is, located_is, located_keyword_is, this_name_is, digits_are}
+use Rattle.java_parser.proofs.FrontTokens.{Fits, keyword_is, sign_is, name_is, located_is, located_keyword_is}
+use Rattle.java_parser.proofs.FrontTokens.{this_name_is, digits_are}
 
 -- if there is a value, P holds of it
 abbrev pub Ensures : {A : Type 0} → (A → Type 0) → Option A → Type 0

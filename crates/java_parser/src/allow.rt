@@ -3,7 +3,8 @@ ghost use Rattle.std.specs.Prelude.{◌≡◌, ℕ, List, map, nat_le, ◌+◌, 
 ghost use Rattle.std.specs.List.{list_all};
 ghost use Rattle.racer_base.specs.Name.{is_listed};
 ghost use Rattle.java_parser.specs.Tree.{pack};
-ghost use Rattle.java_parser.specs.Conditions.{all_differ, method_names, class_names, sets_only, all_set_only, is_allowed_method, is_allowed_class, count_of_methods, is_allowed};
+ghost use Rattle.java_parser.specs.Conditions.{all_differ, method_names, class_names, sets_only, all_set_only};
+ghost use Rattle.java_parser.specs.Conditions.{is_allowed_method, is_allowed_class, count_of_methods, is_allowed};
 ghost use Rattle.java_parser.specs.View.{statement_of, method_of, class_of, classes_of};
 
 use crate::{FirstClass, FirstMethod, FirstStatement, MAX_FIRST_FIELDS};

@@ -2,7 +2,8 @@
 ghost use Rattle.std.specs.Prelude.{◌≡◌, MatchOption, None, Some, option_map};
 ghost use Rattle.std.specs.List.{list_all};
 ghost use Rattle.racer_base.specs.Name.{is_digit};
-ghost use Rattle.java_parser.specs.Reading.{is_keyword, is_sign, is_any_name, is_this_name, is_digits, begins_statement, begins_field, begins_method, starts, after, taken};
+ghost use Rattle.java_parser.specs.Reading.{is_keyword, is_sign, is_any_name, is_this_name, is_digits};
+ghost use Rattle.java_parser.specs.Reading.{begins_statement, begins_field, begins_method, starts, after, taken};
 ghost use Rattle.java_parser.specs.Answer.{Gives};
 
 use crate::FirstFault;

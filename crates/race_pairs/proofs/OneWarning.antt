@@ -1,5 +1,7 @@
 -- Each record that has a conflict has exactly one warning.
-use Rattle.std.proofs.Common.{◌≡◌, ℕ, zero, suc, ◌+◌, Bool, true, false, cond, ◌&&◌, inl, inr, List, [], ◌∷◌, ◌++◌, Option, None, Some, option_map, is_some, map, slice_get, nat_eq, refl, sym, ap, subst, ◌∙◌, arith, eq-eqb, zero-add}
+use Rattle.std.proofs.Common.{◌≡◌, ℕ, zero, suc, ◌+◌, Bool, true, false, cond, ◌&&◌, inl, inr, List, [], ◌∷◌, ◌++◌}
+use Rattle.std.proofs.Common.{Option, None, Some, option_map, is_some, map, slice_get, nat_eq, refl, sym, ap, subst}
+use Rattle.std.proofs.Common.{◌∙◌, arith, eq-eqb, zero-add}
 use borrow.Author.Tests.{eqb-true}
 use Rattle.std.specs.List.{count_by, enumerate_from, flat_map, filter_map, cons_option, find}
 use Rattle.std.proofs.lemmas.List.Sums.{sum_by-append}
@@ -9,9 +11,12 @@ use Rattle.core_code.specs.Core.{Core, Method}
 use Rattle.core_code.specs.declared.parts.ClassCore.{ClassCore}
 use Rattle.access_domain.specs.declared.access.Access.{Access}
 use Rattle.race_pairs.specs.declared.warning.Warning.{Warning}
-use Rattle.race_pairs.specs.Warnings.{MethodRecord, conflicts, records_of, record_at, numbered_records, is_entry_of, entry_records, records_in, warning_of, warning_among, warnings_among, class_warnings, warnings}
+use Rattle.race_pairs.specs.Warnings.{MethodRecord, conflicts, records_of, record_at, numbered_records, is_entry_of}
+use Rattle.race_pairs.specs.Warnings.{entry_records, records_in, warning_of, warning_among, warnings_among}
+use Rattle.race_pairs.specs.Warnings.{class_warnings, warnings}
 use Rattle.race_pairs.specs.Pairs.{IsCheckedClass, IsRecord, IsPair, is_warning_of}
-use Rattle.core_code.proofs.Membership.{In, in_filter_map, in_map, in_enumerate_from, enumerate_from_has, flat_map_has, map_has, find_has}
+use Rattle.core_code.proofs.Membership.{In, in_filter_map, in_map, in_enumerate_from, enumerate_from_has, flat_map_has}
+use Rattle.core_code.proofs.Membership.{map_has, find_has}
 use Rattle.race_pairs.proofs.WarningPairs.{both_pass, listed_warning}
 
 and_false : (b : Bool) → (b && false) ≡ false

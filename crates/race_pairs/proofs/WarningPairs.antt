@@ -1,5 +1,6 @@
 -- Each warning is a pair of records that conflict.
-use Rattle.std.proofs.Common.{◌≡◌, ℕ, ◌+◌, Bool, true, false, cond, ◌&&◌, [], None, Some, option_map, slice_get, nat_eq, refl, sym, ap, subst, ◌∙◌, arith}
+use Rattle.std.proofs.Common.{◌≡◌, ℕ, ◌+◌, Bool, true, false, cond, ◌&&◌, [], None, Some, option_map, slice_get, nat_eq}
+use Rattle.std.proofs.Common.{refl, sym, ap, subst, ◌∙◌, arith}
 use borrow.Author.Tests.{eqb-true}
 use Rattle.std.specs.List.{Contains, enumerate_from, find}
 use Rattle.racer_base.specs.declared.ids.ClassId.{ClassId}
@@ -7,9 +8,12 @@ use Rattle.racer_base.specs.declared.ids.MethodId.{MethodId}
 use Rattle.core_code.specs.Core.{Core, Method}
 use Rattle.core_code.specs.declared.parts.ClassCore.{ClassCore}
 use Rattle.race_pairs.specs.declared.warning.Warning.{Warning}
-use Rattle.race_pairs.specs.Warnings.{MethodRecord, conflicts, records_of, record_at, numbered_records, is_entry_of, entry_records, records_in, warning_of, warning_among, warnings_among, class_warnings, warnings}
+use Rattle.race_pairs.specs.Warnings.{MethodRecord, conflicts, records_of, record_at, numbered_records, is_entry_of}
+use Rattle.race_pairs.specs.Warnings.{entry_records, records_in, warning_of, warning_among, warnings_among}
+use Rattle.race_pairs.specs.Warnings.{class_warnings, warnings}
 use Rattle.race_pairs.specs.Pairs.{IsRecord, IsPair}
-use Rattle.core_code.proofs.Membership.{In, in_from_Contains, in_flat_map, in_filter_map, in_map, in_enumerate_from, find_gives}
+use Rattle.core_code.proofs.Membership.{In, in_from_Contains, in_flat_map, in_filter_map, in_map, in_enumerate_from}
+use Rattle.core_code.proofs.Membership.{find_gives}
 
 -- both parts of a test that passes
 pub both_pass : (a b : Bool) → (a && b) ≡ true → (a ≡ true) × (b ≡ true)

@@ -1,5 +1,7 @@
 -- Lemmas on lists of files.
-use Rattle.std.proofs.Common.{◌≡◌, ℕ, zero, suc, ◌+◌, ◌<◌, Bool, true, false, List, [], ◌∷◌, ◌++◌, map, length, get_or, take, drop, refl, sym, ap, subst, ◌∙◌, arith, string_bytes, cond, ◌||◌, String, Vec, Global, Option, Some, None, min}
+use Rattle.std.proofs.Common.{◌≡◌, ℕ, zero, suc, ◌+◌, ◌<◌, Bool, true, false, List, [], ◌∷◌, ◌++◌, map, length, get_or}
+use Rattle.std.proofs.Common.{take, drop, refl, sym, ap, subst, ◌∙◌, arith, string_bytes, cond, ◌||◌, String, Vec}
+use Rattle.std.proofs.Common.{Global, Option, Some, None, min}
 use Rattle.std.proofs.lemmas.List.{at_drop_more, take_min, map_more, length-map}
 use Rattle.std.proofs.Math.ListN.{get_or-map}
 use Rattle.std.proofs.lemmas.Map.Keys.{IsDistinct-from_apart, IsDistinct-push, IsDistinct-tail, apart_from_distinct}

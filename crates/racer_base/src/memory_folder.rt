@@ -1,5 +1,6 @@
 //! A folder in memory.
-ghost use Rattle.std.specs.Prelude.{◌≡◌, ℕ, ◌≤◌, IsTrue, ◌↔◌, map, string_bytes, take, nat_eq, true, Some, IfOk, IfErr, IfSome, OnOk, MatchResult, option_map, vec_len, if◌then◌else◌, Ok, Err};
+ghost use Rattle.std.specs.Prelude.{◌≡◌, ℕ, ◌≤◌, IsTrue, ◌↔◌, map, string_bytes, take, nat_eq, true, Some, IfOk, IfErr};
+ghost use Rattle.std.specs.Prelude.{IfSome, OnOk, MatchResult, option_map, vec_len, if◌then◌else◌, Ok, Err};
 ghost use Rattle.std.specs.List.{IsDistinct, list_any};
 ghost use Rattle.std.specs.Cmp.Lexicographic.{pointwise};
 ghost use Rattle.std.specs.FinMap as finite;
@@ -106,7 +107,8 @@ impl MemoryFolder {
 }
 
 impl Folder for MemoryFolder {
-    ghost use Rattle.racer_base.specs.MemoryFolder.{told_of, meaning_of, faults_of, call_of, failing_of, IsSteady, fails_next, fails_to_enter, fails_to_read, IsOneCall};
+    ghost use Rattle.racer_base.specs.MemoryFolder.{told_of, meaning_of, faults_of, call_of, failing_of, IsSteady};
+    ghost use Rattle.racer_base.specs.MemoryFolder.{fails_next, fails_to_enter, fails_to_read, IsOneCall};
 
     ghost faults = { faults_of };
 

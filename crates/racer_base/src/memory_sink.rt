@@ -1,5 +1,6 @@
 //! A sink in memory.
-ghost use Rattle.std.specs.Prelude.{◌≡◌, ℕ, ◌+◌, ◌≤◌, ◌<◌, [], length, take, vec_capacity, is_err, IfOk, IsOkAnd, OnErr, MatchResult, if◌then◌else◌, Some};
+ghost use Rattle.std.specs.Prelude.{◌≡◌, ℕ, ◌+◌, ◌≤◌, ◌<◌, [], length, take, vec_capacity, is_err, IfOk, IsOkAnd};
+ghost use Rattle.std.specs.Prelude.{OnErr, MatchResult, if◌then◌else◌, Some};
 ghost use Rattle.racer_base.specs.Outside.{IsRise, taken_and};
 
 use crate::failing::Failing;

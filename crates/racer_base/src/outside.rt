@@ -1,5 +1,6 @@
 //! The outside of the analyser, as traits: a folder of files, a sink for text, and a gate.
-ghost use Rattle.std.specs.Prelude.{◌≡◌, ℕ, ◌+◌, ◌<◌, ◌≤◌, List, Option, Some, IfOk, IfErr, OnErr, OnOk, IsOkAnd, MatchResult, take, length, map, string_bytes, IfSome, option_map, vec_len};
+ghost use Rattle.std.specs.Prelude.{◌≡◌, ℕ, ◌+◌, ◌<◌, ◌≤◌, List, Option, Some, IfOk, IfErr, OnErr, OnOk, IsOkAnd};
+ghost use Rattle.std.specs.Prelude.{MatchResult, take, length, map, string_bytes, IfSome, option_map, vec_len};
 ghost use Rattle.std.specs.FinMap as finite;
 ghost use Rattle.racer_base.specs.Outside.{Told, AreNames, IsRise, taken_and};
 ghost use Rattle.racer_base.specs.Causes.{IsCause};

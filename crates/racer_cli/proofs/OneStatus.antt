@@ -1,10 +1,12 @@
 -- Where both sides tell their meanings, a call has one status other than want of memory.
-use Rattle.std.proofs.Common.{◌≡◌, ◌≢◌, ℕ, ◌<◌, Bool, true, false, List, Option, None, Some, refl, sym, ap, subst, ◌∙◌, arith}
+use Rattle.std.proofs.Common.{◌≡◌, ◌≢◌, ℕ, ◌<◌, Bool, true, false, List, Option, None, Some, refl, sym, ap, subst, ◌∙◌}
+use Rattle.std.proofs.Common.{arith}
 use Rattle.std.specs.Option.{IfSome}
 use Rattle.racer_base.specs.Outside.{Told, Files}
 use Rattle.racer_cli.specs.declared.said.Said.{Said}
 use Rattle.racer_cli.specs.declared.status.Status.{Status}
-use Rattle.racer_cli.specs.declared.status.Status.TheVariants.{Clean, Warned, Usage, FolderFault, SinkFault, Refused, Memory, NoRace, NotAWitness}
+use Rattle.racer_cli.specs.declared.status.Status.TheVariants.{Clean, Warned, Usage, FolderFault, SinkFault, Refused}
+use Rattle.racer_cli.specs.declared.status.Status.TheVariants.{Memory, NoRace, NotAWitness}
 use Rattle.racer_cli.specs.Words.{Request}
 use Rattle.racer_cli.specs.Said.{Says, said_from}
 use Rattle.racer_cli.specs.Causes.{Asked, Wrote, IsUsage, IsFault, IsSaid, IsDue, IsAnswer, IsCut, IsCause, is_said}

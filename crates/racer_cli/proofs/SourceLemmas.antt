@@ -1,5 +1,6 @@
 -- What is read of a source, and what it is.
-use Rattle.std.proofs.Common.{◌≡◌, ℕ, ◌+◌, ◌≤◌, Bool, true, false, List, [], ◌∷◌, ◌++◌, Option, None, Some, take, length, filter, cond, ◌||◌, refl, sym, ap, subst, ◌∙◌, arith, length-take}
+use Rattle.std.proofs.Common.{◌≡◌, ℕ, ◌+◌, ◌≤◌, Bool, true, false, List, [], ◌∷◌, ◌++◌, Option, None, Some, take}
+use Rattle.std.proofs.Common.{length, filter, cond, ◌||◌, refl, sym, ap, subst, ◌∙◌, arith, length-take}
 use Rattle.std.proofs.lemmas.List.{take_all}
 use Rattle.std.proofs.lemmas.List.Elements.{All-nil, All-cons}
 use Rattle.std.specs.List.{All, fold, list_any}
@@ -25,7 +26,8 @@ use Rattle.racer_cli.specs.Lowering.{program_of}
 use Rattle.racer_cli.specs.declared.said.Said.{Said}
 use Rattle.racer_cli.specs.Words.{Request}
 use Rattle.racer_cli.specs.Said.{said_from, Says}
-use Rattle.racer_cli.specs.Source.{is_java, Source, Refusal, Accepted, AreClassesOf, IsOneSource, IsSourceFile, Count, Nothing, One, More, count_of, AreCounted, IsSource, source_names}
+use Rattle.racer_cli.specs.Source.{is_java, Source, Refusal, Accepted, AreClassesOf, IsOneSource, IsSourceFile, Count}
+use Rattle.racer_cli.specs.Source.{Nothing, One, More, count_of, AreCounted, IsSource, source_names}
 
 abbrev InFirst : Token → Type 0
 InFirst t = t.place.file.0 ≡ 0

@@ -1,7 +1,10 @@
 use Rattle.std.proofs.Common.{◌≡◌, ◌<◌, false, refl, rules, arith}
 use Rattle.java_lexer.specs.Scanning.{signs_with}
 use Rattle.java_lexer.proofs.Tables.{row}
-use Rattle.java_lexer.proofs.SignGroups.{is_start, is_start_only, group_40, group_41, group_123, group_125, group_91, group_93, group_59, group_44, group_46, group_64, group_58, group_126, group_63, group_61, group_33, group_62, group_60, group_45, group_43, group_42, group_47, group_37, group_38, group_124, group_94}
+use Rattle.java_lexer.proofs.SignGroups.{is_start, is_start_only, group_40, group_41, group_123, group_125, group_91}
+use Rattle.java_lexer.proofs.SignGroups.{group_93, group_59, group_44, group_46, group_64, group_58, group_126}
+use Rattle.java_lexer.proofs.SignGroups.{group_63, group_61, group_33, group_62, group_60, group_45, group_43, group_42}
+use Rattle.java_lexer.proofs.SignGroups.{group_47, group_37, group_38, group_124, group_94}
 use Rattle.java_lexer.proofs.signs.signs_with.Goals as goal
 
 pub slice_bounds-result-end-in_default : goal.slice_bounds-result-end-in_default

@@ -1,7 +1,9 @@
 use Rattle.std.proofs.Common.{◌≡◌, ◌<◌, false, refl, rules, arith}
 use Rattle.java_lexer.specs.Scanning.{keywords_with}
 use Rattle.java_lexer.proofs.Tables.{row}
-use Rattle.java_lexer.proofs.KeywordGroups.{is_keyword_start, is_keyword_start_only, group_97, group_98, group_99, group_100, group_101, group_102, group_103, group_105, group_108, group_110, group_112, group_114, group_115, group_116, group_118, group_119}
+use Rattle.java_lexer.proofs.KeywordGroups.{is_keyword_start, is_keyword_start_only, group_97, group_98, group_99}
+use Rattle.java_lexer.proofs.KeywordGroups.{group_100, group_101, group_102, group_103, group_105, group_108, group_110}
+use Rattle.java_lexer.proofs.KeywordGroups.{group_112, group_114, group_115, group_116, group_118, group_119}
 use Rattle.java_lexer.proofs.words.keywords_with.Goals as goal
 
 pub slice_bounds-result-end-in_default : goal.slice_bounds-result-end-in_default

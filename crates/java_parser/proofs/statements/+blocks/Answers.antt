@@ -5,7 +5,8 @@ use Rattle.java_parser.specs.Reading.{begins_statement, several, starts, stateme
 use Rattle.java_parser.specs.View.{statement_of}
 use Rattle.java_parser.proofs.Loops.{goes_on, fails, stops, runs_out}
 use Rattle.java_parser.proofs.statements.+blocks.Goals as goal
-use Rattle.java_parser.proofs.statements.+blocks.Goals.{statements-else-loop-test, statements-then-loop-test+then-not-begins_statement}
+use Rattle.java_parser.proofs.statements.+blocks.Goals.{statements-else-loop-test}
+use Rattle.java_parser.proofs.statements.+blocks.Goals.{statements-then-loop-test+then-not-begins_statement}
 
 pub statements-returns-in_err-next : goal.statements-returns-in_err-next
 statements-returns-in_err-next t c =

@@ -13,7 +13,8 @@ use Rattle.race_pairs.specs.MethodRecords.{all_records}
 use Rattle.race_pairs.proofs.Turns.{rest_of, flat_map_turn}
 use Rattle.race_pairs.proofs.Known.{one_for_each, outcome_at, entry_adds, other_adds}
 use Rattle.race_pairs.proofs.pairing.records_in.Goals as goal
-use Rattle.race_pairs.proofs.pairing.records_in.Goals.{then-is_entry_of+in_ok-number+in_ok-push_records, else-is_entry_of}
+use Rattle.race_pairs.proofs.pairing.records_in.Goals.{then-is_entry_of+in_ok-number+in_ok-push_records}
+use Rattle.race_pairs.proofs.pairing.records_in.Goals.{else-is_entry_of}
 
 pub index-requires : goal.index-requires
 index-requires c =

@@ -4,7 +4,8 @@ use Rattle.racer_base.specs.Outside.{Told}
 use Rattle.racer_base.specs.declared.outside.FolderFault.TheVariants.{Memory}
 use Rattle.core_code.specs.Core.{Core}
 use Rattle.racer_cli.specs.Said.{said_from}
-use Rattle.racer_cli.specs.Source.{Accepted, Refusal, Count, AreCounted, count_of, no_program, refusal_line, source_names}
+use Rattle.racer_cli.specs.Source.{Accepted, Refusal, Count, AreCounted, count_of, no_program, refusal_line}
+use Rattle.racer_cli.specs.Source.{source_names}
 use Rattle.racer_cli.specs.Counted.{count_told}
 use Rattle.racer_cli.proofs.SourceLemmas.{steady_source, for_each}
 use Rattle.racer_cli.proofs.said.judged.Goals as goal
