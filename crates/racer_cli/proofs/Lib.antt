@@ -1,6 +1,5 @@
 mod Written
 mod SortedNames
-pub mod BoolParts
 pub mod Placed
 pub mod Sequences
 pub mod Turns

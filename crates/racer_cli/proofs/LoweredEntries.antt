@@ -10,7 +10,7 @@ use Rattle.core_code.specs.Core.{Core}
 use Rattle.core_code.specs.Facts.{is_checked as is_checked_in, may_be_entry, are_entries_analysed}
 use Rattle.racer_cli.specs.Lowering.{is_checked, class_lowered, method_lowered, making_method, methods_from}
 use Rattle.racer_cli.specs.Lowering.{program_of}
-use Rattle.racer_cli.proofs.BoolParts.{both}
+use Rattle.core_code.proofs.BoolParts.{both}
 
 checked_may_be : (b : Bool) → (not b || b) ≡ true
 checked_may_be true = refl

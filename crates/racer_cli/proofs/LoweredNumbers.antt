@@ -22,7 +22,7 @@ use Rattle.racer_cli.specs.InFile.{is_in_file, is_statement_in_file, are_stateme
 use Rattle.racer_cli.specs.InFile.{is_class_in_file, are_in_file}
 use Rattle.core_code.proofs.InRange.{then_in_range, held_in_range}
 use Rattle.core_code.specs.declared.code.Op.TheVariants.{PushPrim, Ret}
-use Rattle.racer_cli.proofs.BoolParts.{both, first_part, last_part}
+use Rattle.core_code.proofs.BoolParts.{both, first_part, last_part}
 
 listed_within : (b rest : Bool) (i n : ℕ) → (b || rest) ≡ true → (rest ≡ true → i < n) →
     (if b then 0 else suc i) < suc n

@@ -13,7 +13,7 @@ use Rattle.core_code.proofs.Sites.{sites_of-then}
 use Rattle.core_code.specs.Facts.{sites_of, counts_from, is_in_order, are_sites_in_order}
 use Rattle.racer_cli.specs.Lowering.{Around, step, lowered, all_lowered, body_lowered, size_of, size_of_all}
 use Rattle.racer_cli.specs.Lowering.{method_lowered, making_method, methods_from, program_of}
-use Rattle.racer_cli.proofs.BoolParts.{both}
+use Rattle.core_code.proofs.BoolParts.{both}
 
 abbrev at : ℕ → SiteId
 at n = record { 0 = n }

@@ -9,7 +9,7 @@ use Rattle.core_code.specs.Tree.{Tree, Nothing, Then}
 use Rattle.core_code.specs.Facts.{height_after, is_stack_enough, are_stacks_enough}
 use Rattle.racer_cli.specs.Lowering.{Around, lowered, all_lowered, body_lowered, size_of, size_of_all, step}
 use Rattle.racer_cli.specs.Lowering.{method_lowered, making_method, methods_from, program_of}
-use Rattle.racer_cli.proofs.BoolParts.{both}
+use Rattle.core_code.proofs.BoolParts.{both}
 
 mutual
   height-lowered : (around : Around) (s : grammar.Statement) (n : ℕ) → height_after (lowered around s n) 0 ≡ Some 0

@@ -12,7 +12,7 @@ use Rattle.core_code.specs.Facts.{is_in_order, are_sites_in_order}
 use Rattle.core_code.proofs.Sites.{op_at-index}
 use Rattle.racer_cli.specs.Report.{place_at}
 use Rattle.racer_cli.specs.Places.{places_of, ArePlaces}
-use Rattle.racer_cli.proofs.BoolParts.{first_part, last_part}
+use Rattle.core_code.proofs.BoolParts.{first_part, last_part}
 
 -- what holds of all holds of one
 all_at : {X : Type 0} (test : X → Bool) (xs : List X) (k : ℕ) (x : X) →

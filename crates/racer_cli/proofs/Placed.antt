@@ -12,7 +12,7 @@ use Rattle.java_parser.specs.Spelling.{method_onto, class_onto, mark_onto, each_
 use Rattle.java_parser.specs.Files.{IsFile}
 use Rattle.racer_cli.specs.InFile.{is_in_file, is_statement_in_file, are_statements_in_file, is_method_in_file}
 use Rattle.racer_cli.specs.InFile.{is_class_in_file, are_in_file}
-use Rattle.racer_cli.proofs.BoolParts.{both}
+use Rattle.core_code.proofs.BoolParts.{both}
 
 abbrev InFile : Token → Type 0
 InFile t = t.place.file.0 ≡ 0

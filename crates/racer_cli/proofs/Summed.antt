@@ -24,7 +24,7 @@ use Rattle.access_domain.specs.Summaries.{start_of, known_from, known_given, kno
 use Rattle.access_domain.specs.Summaries.{outcomes_from}
 use Rattle.racer_cli.specs.FirstCode.{is_first_code, is_first_op}
 use Rattle.racer_cli.specs.Walks.{unknown}
-use Rattle.racer_cli.proofs.BoolParts.{first_part, last_part}
+use Rattle.core_code.proofs.BoolParts.{first_part, last_part}
 
 first_op : (core : Core) (table other : Table) (main locked : Bool) (site : SiteId) (op : CoreOp) (s : State)
     → is_first_op op ≡ true → op_effects (given_of core table main) locked site op s ≡

@@ -12,7 +12,7 @@ use Rattle.access_domain.specs.declared.summary.Outcome.{Outcome}
 use Rattle.access_domain.specs.Outcomes.{outcomes_held}
 use Rattle.access_domain.specs.Summaries.{outcomes_from}
 use Rattle.racer_cli.specs.FirstCode.{is_first_code}
-use Rattle.racer_cli.proofs.BoolParts.{first_part, last_part}
+use Rattle.core_code.proofs.BoolParts.{first_part, last_part}
 use Rattle.racer_cli.proofs.Summed.{outcomes_turn}
 use Rattle.racer_cli.proofs.analysis.outcomes.Goals as goal
 
