@@ -402,7 +402,7 @@ fn known(
     Ok(Some(Arc::new(alloc, outcome)?))
 }
 
-/// The outcomes of the methods of a program whose code is short, none for those that are not analysed.
+/// The outcomes of the methods of a program of the first grammar, none for those that are not analysed.
 pub fn outcomes(alloc: Global, program: &Program) -> Result<Outcomes, Memory>
     requires { IsTrue (is_first_program (core program.now)) }
     ensures { IfOk result (λ found. AreOutcomes (core program.now) found.items) }
@@ -415,7 +415,7 @@ pub fn outcomes(alloc: Global, program: &Program) -> Result<Outcomes, Memory>
     Ok(outcomes)
 }
 
-/// The code that the lowering makes is short.
+/// The code that the lowering makes is that of the first grammar.
 pub fn lowering_gives_first_code()
     ensures { (file : List ℕ) (classes : List Class) → IsTrue (is_first_program (program_of file classes)) }
 {}
