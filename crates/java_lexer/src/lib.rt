@@ -14,8 +14,6 @@ mod piece;
 mod scan;
 mod signs;
 mod spot;
-#[cfg(test)]
-mod tests;
 mod token;
 mod words;
 
