@@ -1,0 +1,11 @@
+pub mod Models
+pub mod PlacedTokens
+pub mod BracketTrees
+pub mod Cuts
+pub mod Declarations
+pub mod Members
+pub mod MemberCuts
+pub mod Heads
+pub mod FieldDivisions
+pub mod Units
+pub mod UnitExamples

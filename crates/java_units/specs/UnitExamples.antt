@@ -1,0 +1,126 @@
+-- A contract of a public call rests on this: worked readings, items as a reader writes them, in a line with one space
+-- between two tokens.
+use Rattle.std.specs.Prelude.{ℕ, ◌+◌, List, [], ◌∷◌, ◌++◌, Option, Some, None, Ok, Err, map, length}
+use Rattle.std.specs.Prelude.{replicate, if◌then◌else◌}
+use Rattle.racer_base.specs.declared.ids.Place.{Place}
+use Rattle.java_lexer.specs.declared.token.Token.{Token}
+use Rattle.java_tree.specs.declared.words.Spelled.{Spelled}
+use Rattle.java_tree.specs.Words.{sign}
+use Rattle.java_tree.specs.Examples.{space, between_spaces, token_of}
+use Rattle.java_units.specs.PlacedTokens.{is_opening, is_closing}
+use Rattle.java_units.specs.BracketTrees.{Item, One, Group, Items, no_item, item_then, tokens_of}
+use Rattle.java_units.specs.Cuts.{Piece, Apart, Annotating, first_place, pieces_of}
+use Rattle.java_units.specs.Declarations.{First, Whole, declarations, types_among}
+use Rattle.java_units.specs.Members.{members_of, Form, SkippedForm, MethodForm, FieldForm, form_of}
+use Rattle.java_units.specs.Heads.{parameters_among}
+
+-- ---- tokens
+
+-- the column of the first line of a file
+abbrev pub at : ℕ → Place
+at column = record { file = record { 0 = 0 }; line = 1; column = column }
+
+abbrev pub placed : ℕ → Spelled → Token
+placed column s = record { kind = s.kind; text = s.text; place = at column; glued = s.glued }
+
+-- tokens that stand side by side
+abbrev pub placed_all : ℕ → List Spelled → List Token
+placed_all column [] = []
+placed_all column (s ∷ ss) = placed column s ∷ placed_all (column + length s.text) ss
+
+abbrev pub placed_texts : ℕ → List (List ℕ) → List Token
+placed_texts column [] = []
+placed_texts column (text ∷ texts) = placed_all column (token_of text) ++ placed_texts (column + length text + 1) texts
+
+-- the tokens of a line
+abbrev pub line : List ℕ → List Token
+line text = placed_texts 1 (between_spaces text)
+
+-- the place behind it
+abbrev pub end_of : List ℕ → Place
+end_of text = at (length text + 1)
+
+-- as many signs side by side
+abbrev pub signs : ℕ → List ℕ → List Spelled
+signs n text = replicate n (sign text)
+
+-- their texts with a space between two
+abbrev pub shown : List Token → List ℕ
+shown [] = []
+shown (t ∷ []) = t.text
+shown (t ∷ u ∷ ts) = t.text ++ space ∷ shown (u ∷ ts)
+
+-- ---- items
+
+abbrev pub pack : List Item → Items
+pack [] = no_item
+pack (i ∷ is) = item_then i (pack is)
+
+-- the items of tokens, where these brackets are open, each with what stands before it
+abbrev pub made : List (List Item × Token) → List Item → List Token → List Item
+made [] front [] = front
+made (o ∷ os) front [] = []
+made os front (t ∷ ts) =
+    if is_opening t then made ((front, t) ∷ os) [] ts
+    else (if is_closing t then elim os [ [] ↦ [] | (p ∷ ps) ↦ made ps (p.0 ++ Group p.1 (pack front) t ∷ []) ts ]
+    else made os (front ++ One t ∷ []) ts)
+
+-- the items of a line
+abbrev pub items : List ℕ → List Item
+items text = made [] [] (line text)
+
+abbrev pub shown_items : List Item → List ℕ
+shown_items is = shown (tokens_of is)
+
+abbrev pub shown_piece : Piece → List ℕ
+shown_piece (Apart i) = shown_items (i ∷ [])
+shown_piece (Annotating is) = shown_items is
+
+-- the pieces of a line
+abbrev pub pieces : List ℕ → List (List ℕ)
+pieces text = map shown_piece (pieces_of (items text))
+
+-- ---- files and members
+
+-- the place of what does not fit, or none
+abbrev pub unfit : List ℕ → Option Place
+unfit text =
+    elim (declarations (Whole First) (items text)) [
+      | (Ok ds) ↦ None
+      | (Err rest) ↦ Some (first_place (end_of text) rest)
+    ]
+
+-- the types of a file
+abbrev pub types : List ℕ → List (List ℕ)
+types text =
+    elim (declarations (Whole First) (items text)) [
+      | (Ok ds) ↦ map shown_items (types_among ds)
+      | (Err rest) ↦ []
+    ]
+
+-- the members of a class with this body
+abbrev pub members : List ℕ → List (List ℕ)
+members text = map shown_items (members_of (items text))
+
+-- the form of a member
+abbrev pub form : List ℕ → Form
+form text = form_of (items text)
+
+abbrev pub items_of_pieces : List Piece → List Item
+items_of_pieces [] = []
+items_of_pieces (Apart i ∷ ps) = i ∷ items_of_pieces ps
+items_of_pieces (Annotating is ∷ ps) = is ++ items_of_pieces ps
+
+-- of a method its name, with what stands before it and the number of its parameters
+pub data Shown : Type 0 where
+  NoMethod : Shown
+  Method : (front : List ℕ) → (name : Token) → (parameters : ℕ) → Shown
+
+abbrev pub shown_form : Form → Shown
+shown_form SkippedForm = NoMethod
+shown_form FieldForm = NoMethod
+shown_form (MethodForm front name parameters) =
+    Method (shown_items (items_of_pieces front)) name (parameters_among parameters)
+
+abbrev pub method : List ℕ → Shown
+method text = shown_form (form text)

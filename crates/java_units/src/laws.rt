@@ -1,0 +1,23 @@
+//! Laws of the definitions, as functions with nothing to do.
+mod annotations;
+mod brackets;
+mod classes;
+mod cuts;
+mod declarations;
+mod heads;
+mod members;
+
+pub use annotations::pieces_of_lines;
+pub use brackets::{deep_brackets, unbalanced_brackets};
+pub use classes::{read_classes, skipped_types};
+pub use cuts::{
+    members_are_cut_once, one_division_of_fields, one_tree_of_brackets, types_are_the_declarations,
+};
+pub use declarations::{
+    types_of_units, unfit_annotations, unfit_ends, unfit_orders, unfit_tokens, units,
+};
+pub use heads::{parameters, static_heads, synchronized_members};
+pub use members::{
+    blocks, endless_members, ends_of_members, fields, methods, methods_without_bodies,
+    types_among_members,
+};

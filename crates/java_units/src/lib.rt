@@ -1,0 +1,4 @@
+//! Units and members of Java.
+#![tactic(auto)]
+
+pub mod laws;
