@@ -2,6 +2,7 @@
 -- none.
 use Rattle.std.specs.Prelude.{◌≡◌, ℕ, suc, ◌≤◌, max, not, ◌||◌, List, [], ◌∷◌, length, Option, Some}
 use Rattle.std.specs.Prelude.{None, IsTrue, nat_lt, if◌then◌else◌}
+use Rattle.racer_base.specs.declared.limits.TheConstants.{MAX_BRACKET_NESTING}
 use Rattle.racer_base.specs.declared.ids.Place.{Place}
 use Rattle.java_lexer.specs.declared.token.Token.{Token}
 use Rattle.java_units.specs.PlacedTokens.{is_opening, is_closing, is_pair}
@@ -53,15 +54,11 @@ abbrev mutual
   most_deep no_item = 0
   most_deep (item_then i is) = max (depth i) (most_deep is)
 
--- the most brackets that may be open
-abbrev pub most_open : ℕ
-most_open = 200
-
 -- the tokens are these items
 pub record AreItems (ts : List Token) (all : Items) : Type 0 where
   pub spelled : items_onto all [] ≡ ts
   pub match : AllMatch all
-  pub deep : most_deep all ≤ most_open
+  pub deep : most_deep all ≤ MAX_BRACKET_NESTING
 
 -- ---- files without such a tree
 
@@ -87,5 +84,5 @@ too_deep os [] = None
 too_deep os (t ∷ ts) =
     elim (opened os t) [
       | None ↦ None
-      | (Some more) ↦ if nat_lt most_open (length more) then Some t.place else too_deep more ts
+      | (Some more) ↦ if nat_lt MAX_BRACKET_NESTING (length more) then Some t.place else too_deep more ts
     ]

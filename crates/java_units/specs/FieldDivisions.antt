@@ -10,7 +10,7 @@ use Rattle.java_units.specs.Models.{FieldInit, Absent, Formed, Unread, FieldVari
 use Rattle.java_units.specs.PlacedTokens.{plain_all, is_name}
 use Rattle.java_units.specs.BracketTrees.{Item, One, Group, tokens_of}
 use Rattle.java_units.specs.Cuts.{is_sign}
-use Rattle.java_units.specs.Heads.{most_nested}
+use Rattle.racer_base.specs.declared.limits.TheConstants.{MAX_NESTING}
 
 -- the words of a field (JLS 8.3.1)
 abbrev pub is_field_modifier : List ℕ → Bool
@@ -29,7 +29,7 @@ FormedFieldModifier (Annotated n) = FormedAnnotation n
 -- the tree of what a variable begins with
 pub record IsInit (items : List Item) (i : Init) : Type 0 where
   pub formed : FormedInit i
-  pub nested : init_nesting i ≤ most_nested
+  pub nested : init_nesting i ≤ MAX_NESTING
   pub spelled : init_onto i [] ≡ plain_all (tokens_of items)
 
 -- what stands behind the name: nothing, or an `=` and one or more items
@@ -90,5 +90,5 @@ pub record AreFields (items : List Item) (f : Fields) : Type 0 where
   pub spelled : modifiers_onto f.modifiers (ty_onto f.kind []) ≡ plain_all (tokens_of front)
   pub modifiers_formed : Each FormedFieldModifier f.modifiers
   pub formed : FormedTy f.kind
-  pub nested : ty_nesting f.kind ≤ most_nested
+  pub nested : ty_nesting f.kind ≤ MAX_NESTING
   pub divided : IsDivision variables f.variables

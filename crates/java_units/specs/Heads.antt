@@ -3,6 +3,7 @@
 use Rattle.std.specs.Prelude.{◌≡◌, ℕ, suc, ◌-◌, ◌≤◌, Bool, ◌&&◌, List, [], ◌∷◌, ◌++◌, codes, ◌==◌}
 use Rattle.std.specs.Prelude.{if◌then◌else◌}
 use Rattle.std.specs.List.{list_any}
+use Rattle.racer_base.specs.declared.limits.TheConstants.{MAX_NESTING}
 use Rattle.java_lexer.specs.declared.token.Token.{Token}
 use Rattle.java_tree.specs.declared.words.Spelled.{Spelled}
 use Rattle.java_tree.specs.Trees.{Modifier, Result, NoResult, VoidResult, TypeResult, Method}
@@ -15,16 +16,12 @@ use Rattle.java_units.specs.BracketTrees.{Item, One, Group, tokens_of}
 use Rattle.java_units.specs.Cuts.{Piece, Apart, Annotating, is_apart}
 use Rattle.java_units.specs.Declarations.{is_word}
 
--- the most that a tree may be nested
-abbrev pub most_nested : ℕ
-most_nested = 200
-
 -- ---- methods that have a tree
 
 -- the tree of a method of this class; one without a result is a constructor, whose name is the class's (JLS 8.8)
 pub record IsMethod (class : List ℕ) (ts : List Token) (m : Method) : Type 0 where
   pub formed : FormedMethod m
-  pub nested : method_nesting m ≤ most_nested
+  pub nested : method_nesting m ≤ MAX_NESTING
   pub spelled : spelling m ≡ plain_all ts
   pub constructed : m.result ≡ NoResult → m.name ≡ class
 
@@ -45,7 +42,7 @@ bare_before (Annotating is ∷ ps) = bare_before ps
 -- the last of the tokens spell a type, or are `void`
 abbrev pub EndsInResult : List Token → Type 0
 EndsInResult ts =
-    (front : List Spelled) × (r : Result) × FormedResult r × (result_nesting r ≤ most_nested) × (r ≡ NoResult → ⊥)
+    (front : List Spelled) × (r : Result) × FormedResult r × (result_nesting r ≤ MAX_NESTING) × (r ≡ NoResult → ⊥)
     × (front ++ result_onto r [] ≡ plain_all ts)
 
 -- a constructor: its name is the class's, and neither a type nor `void` stands before it
@@ -57,7 +54,7 @@ pub record IsConstructor (class name : List ℕ) (front : List Piece) : Type 0 w
 pub record IsHead (front : List Piece) (modifiers : List Modifier) (result : Result) : Type 0 where
   pub formed : Each FormedModifier modifiers
   pub result_formed : FormedResult result
-  pub nested : result_nesting result ≤ most_nested
+  pub nested : result_nesting result ≤ MAX_NESTING
   pub spelled : modifiers_onto modifiers (result_onto result []) ≡ plain_all (tokens_before front)
 
 abbrev pub HasHead : List Piece → Result → Type 0
