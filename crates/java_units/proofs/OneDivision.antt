@@ -209,32 +209,32 @@ heads v w vs ws e = record { first = cc; rest = cc }
 pub same_division : (ps qs : List (List Item)) (items : List Item) (vs ws : List FieldVariable) → IsDivided ps items
     → AllZip IsVariable ps vs → Each IsRead vs → IsDivided qs items → AllZip IsVariable qs ws → Each IsRead ws
     → map bare vs ≡ map bare ws → vs ≡ ws
-same_division [] qs items vs ws d z r d2 z2 r2 e = absurd d
-same_division (p ∷ ps) [] items vs ws d z r d2 z2 r2 e = absurd d2
-same_division (p ∷ ps) (q ∷ qs) items [] ws d z r d2 z2 r2 e = absurd z
-same_division (p ∷ ps) (q ∷ qs) items (v ∷ vs) [] d z r d2 z2 r2 e = absurd z2
-same_division (p ∷ []) (q ∷ []) items (v ∷ []) (w ∷ []) d z r d2 z2 r2 e =
+same_division [] qs items vs ws d z r d' z' r' e = absurd d
+same_division (p ∷ ps) [] items vs ws d z r d' z' r' e = absurd d'
+same_division (p ∷ ps) (q ∷ qs) items [] ws d z r d' z' r' e = absurd z
+same_division (p ∷ ps) (q ∷ qs) items (v ∷ vs) [] d z r d' z' r' e = absurd z'
+same_division (p ∷ []) (q ∷ []) items (v ∷ []) (w ∷ []) d z r d' z' r' e =
     let k = heads (bare v) (bare w) [] [] e in
-    let piece : p ≡ q = sym d ∙ d2 in
-    let same = same_variable q v w (subst (λ x. IsVariable x v) piece z.0) z2.0 r.0 r2.0 k.first in
+    let piece : p ≡ q = sym d ∙ d' in
+    let same = same_variable q v w (subst (λ x. IsVariable x v) piece z.0) z'.0 r.0 r'.0 k.first in
     ap (λ x. x ∷ []) same
-same_division (p ∷ []) (q ∷ q2 ∷ qs) items (v ∷ []) (w ∷ []) d z r d2 z2 r2 e = absurd z2.1
-same_division (p ∷ []) (q ∷ qs) items (v ∷ []) (w ∷ x ∷ ws) d z r d2 z2 r2 e =
+same_division (p ∷ []) (q ∷ q' ∷ qs) items (v ∷ []) (w ∷ []) d z r d' z' r' e = absurd z'.1
+same_division (p ∷ []) (q ∷ qs) items (v ∷ []) (w ∷ x ∷ ws) d z r d' z' r' e =
     let k = heads (bare v) (bare w) [] (map bare (x ∷ ws)) e in let no = k.rest in absurd cc
-same_division (p ∷ []) (q ∷ qs) items (v ∷ x ∷ vs) ws d z r d2 z2 r2 e = absurd z.1
-same_division (p ∷ p2 ∷ ps) (q ∷ qs) items (v ∷ []) ws d z r d2 z2 r2 e = absurd z.1
-same_division (p ∷ p2 ∷ ps) (q ∷ qs) items (v ∷ x ∷ vs) (w ∷ []) d z r d2 z2 r2 e =
+same_division (p ∷ []) (q ∷ qs) items (v ∷ x ∷ vs) ws d z r d' z' r' e = absurd z.1
+same_division (p ∷ p' ∷ ps) (q ∷ qs) items (v ∷ []) ws d z r d' z' r' e = absurd z.1
+same_division (p ∷ p' ∷ ps) (q ∷ qs) items (v ∷ x ∷ vs) (w ∷ []) d z r d' z' r' e =
     let k = heads (bare v) (bare w) (map bare (x ∷ vs)) [] e in let no = k.rest in absurd cc
-same_division (p ∷ p2 ∷ ps) (q ∷ []) items (v ∷ x ∷ vs) (w ∷ y ∷ ws) d z r d2 z2 r2 e = absurd z2.1
-same_division (p ∷ p2 ∷ ps) (q ∷ q2 ∷ qs) items (v ∷ x ∷ vs) (w ∷ y ∷ ws) d z r d2 z2 r2 e =
+same_division (p ∷ p' ∷ ps) (q ∷ []) items (v ∷ x ∷ vs) (w ∷ y ∷ ws) d z r d' z' r' e = absurd z'.1
+same_division (p ∷ p' ∷ ps) (q ∷ q' ∷ qs) items (v ∷ x ∷ vs) (w ∷ y ∷ ws) d z r d' z' r' e =
     let k = heads (bare v) (bare w) (map bare (x ∷ vs)) (map bare (y ∷ ws)) e in
-    let found = same_fronts p q (d.0 ∷ d.1) (d2.0 ∷ d2.1) (sym d.2 ∙ d2.2)
-    (same_length p q v w z.0 r.0 z2.0 r2.0 k.first) in
-    let rest : d.1 ≡ d2.1 = tails d.0 d2.0 d.1 d2.1 found.rest in
-    let one = same_variable q v w (subst (λ u. IsVariable u v) found.front z.0) z2.0 r.0 r2.0 k.first in
-    let others = same_division (p2 ∷ ps) (q2 ∷ qs) d2.1 (x ∷ vs) (y ∷ ws) (subst (IsDivided
-    (p2 ∷ ps)) rest d.4) z.1 r.1
-    d2.4 z2.1 r2.1 k.rest in
+    let found = same_fronts p q (d.0 ∷ d.1) (d'.0 ∷ d'.1) (sym d.2 ∙ d'.2)
+    (same_length p q v w z.0 r.0 z'.0 r'.0 k.first) in
+    let rest : d.1 ≡ d'.1 = tails d.0 d'.0 d.1 d'.1 found.rest in
+    let one = same_variable q v w (subst (λ u. IsVariable u v) found.front z.0) z'.0 r.0 r'.0 k.first in
+    let others = same_division (p' ∷ ps) (q' ∷ qs) d'.1 (x ∷ vs) (y ∷ ws) (subst (IsDivided
+    (p' ∷ ps)) rest d.4) z.1 r.1
+    d'.4 z'.1 r'.1 k.rest in
     cc
   where
     tails : (i j : Item) (is js : List Item) → i ∷ is ≡ j ∷ js → is ≡ js
