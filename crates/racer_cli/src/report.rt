@@ -389,7 +389,8 @@ fn push_report(
     text: &mut String,
 ) -> Result<(), Memory>
     requires { AreOutcomes (core program.now) outcomes.now }
-    ensures { OnOk result (string_bytes text.new ≡ string_bytes text.old ++ said.report_below (core program.now) found.now) }
+    ensures { OnOk result (
+        string_bytes text.new ≡ string_bytes text.old ++ said.report_below (core program.now) found.now) }
 {
     text.push_str(counts_line(alloc, program)?.as_str())?;
     push_skipped(alloc, program, text)?;

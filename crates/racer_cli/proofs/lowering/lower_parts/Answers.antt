@@ -1,6 +1,6 @@
-use Rattle.std.proofs.Common.{◌≡◌, ap, ◌∙◌, []}
+use Rattle.std.proofs.Common.{ap, ◌∙◌, []}
 use Rattle.java_parser.specs.View.{classes_of}
-use Rattle.core_code.specs.Core.{Core, core_of}
+use Rattle.core_code.specs.Core.{Core}
 use Rattle.racer_cli.specs.Lowering.{program_of}
 use Rattle.racer_cli.proofs.Added.{classes_added}
 use Rattle.racer_cli.proofs.Added.{classes_added-followed}
