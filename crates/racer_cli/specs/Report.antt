@@ -135,11 +135,14 @@ warning_lines core w =
 abbrev pub last_line : List Warning → List ℕ
 last_line found = line (codes "warnings " ++ decimal (length found) ++ codes " confirmed 0")
 
-abbrev pub report_text : Core → List ℕ
-report_text core =
-    line (codes "racer report 1")
-    ++ counts_line core
+-- what stands below the first line, where these are the warnings
+abbrev pub report_below : Core → List Warning → List ℕ
+report_below core found =
+    counts_line core
     ++ flat_map (skipped_line core) core.skipped
     ++ flat_map (not_analysed_line core) (enumerate_from 0 core.methods)
-    ++ flat_map (warning_lines core) (warnings core)
-    ++ last_line (warnings core)
+    ++ flat_map (warning_lines core) found
+    ++ last_line found
+
+abbrev pub report_text : Core → List ℕ
+report_text core = line (codes "racer report 1") ++ report_below core (warnings core)

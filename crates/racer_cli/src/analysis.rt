@@ -12,7 +12,7 @@ ghost use Rattle.core_code.specs.Program.{core};
 ghost use Rattle.core_code.specs.Tree.{tree_of, in_sequence};
 ghost use Rattle.access_domain.specs.Given.{field_at};
 ghost use Rattle.access_domain.specs.Substitution.{touched};
-ghost use Rattle.access_domain.specs.Operations.{op_effects, record_of, goes_on};
+ghost use Rattle.access_domain.specs.Operations.{op_effects, record_of, goes_on, stored_paths};
 ghost use Rattle.access_domain.specs.Records.{first_of_keys, different_paths};
 ghost use Rattle.access_domain.specs.Findings.{outcome_from};
 ghost use Rattle.access_domain.specs.Summaries.{parameter_value, passed_values, start_of, known_from, known_given};
@@ -169,6 +169,29 @@ fn push_name(value: Value, names: &mut Vec<Path>) -> Result<(), Memory>
     Ok(())
 }
 
+/// Gathers what a store of a value in a field of an object gives.
+fn gather_store(
+    alloc: Global,
+    frame: &Frame,
+    locked: bool,
+    site: SiteId,
+    base: &Value,
+    f: FieldId,
+    value: &Value,
+    walk: &mut Walk,
+) -> Result<(), Memory>
+    requires { IsTrue (has_known_root base.now) }
+    ensures stack { OnOk result (walk.new.stack ≡ walk.old.stack) }
+    ensures records { OnOk result (walk.new.records.items
+        ≡ walk.old.records.items ++ record_of (given frame.now) Write locked site base.now f) }
+    ensures wobbly { OnOk result (
+        walk.new.wobbly.items ≡ walk.old.wobbly.items ++ stored_paths base.now f value.now) }
+{
+    record_write(alloc, frame, locked, site, base, f, &mut walk.records)?;
+    push_name(value_of_field(alloc, base, f)?, &mut walk.wobbly)?;
+    push_name(value.copied(alloc)?, &mut walk.wobbly)
+}
+
 /// Stores the top in a field of the object below it, and leaves it on the stack.
 fn put(
     alloc: Global,
@@ -184,9 +207,7 @@ fn put(
 {
     let value = walk.stack.pop();
     let base = walk.stack.pop();
-    record_write(alloc, frame, locked, site, &base, f, &mut walk.records)?;
-    push_name(value_of_field(alloc, &base, f)?, &mut walk.wobbly)?;
-    push_name(value.copied(alloc)?, &mut walk.wobbly)?;
+    gather_store(alloc, frame, locked, site, &base, f, &value, walk)?;
     walk.stack.push(value)
 }
 

@@ -313,19 +313,26 @@ fn push_class(alloc: Global, class: &FirstClass, parts: &mut Parts) -> Result<()
     push_methods(alloc, class, id, first, checked, &mut parts.methods)
 }
 
-/// A file's name and its classes with their members.
-fn lower_parts(alloc: Global, file: &str, classes: &[FirstClass]) -> Result<Parts, Memory>
-    ensures { IfOk result (λ parts. core.core_of parts ≡ low.program_of file.now (classes_of classes.now)) }
+/// A file's name alone.
+fn file_alone(alloc: Global, file: &str) -> Result<Parts, Memory>
+    ensures { IfOk result (λ parts. core.core_of parts ≡ low.program_of file.now []) }
 {
     let mut files = Items::new(alloc);
     files.push(Text::from_str(alloc, file)?)?;
-    let mut parts = Parts {
+    Ok(Parts {
         files,
         skipped: Items::new(alloc),
         classes: Items::new(alloc),
         fields: Items::new(alloc),
         methods: Items::new(alloc),
-    };
+    })
+}
+
+/// A file's name and its classes with their members.
+fn lower_parts(alloc: Global, file: &str, classes: &[FirstClass]) -> Result<Parts, Memory>
+    ensures { IfOk result (λ parts. core.core_of parts ≡ low.program_of file.now (classes_of classes.now)) }
+{
+    let mut parts = file_alone(alloc, file)?;
     for class in classes {
         push_class(alloc, class, &mut parts)?;
     }

@@ -380,6 +380,26 @@ fn last_line(alloc: Global, found: &[Warning]) -> Result<String, Memory>
     Ok(format!(in alloc; "warnings {count} confirmed 0\n")?)
 }
 
+/// Puts what a report has below its first line at the end.
+fn push_report(
+    alloc: Global,
+    program: &Program,
+    outcomes: &[Option<Arc<Outcome>>],
+    found: &[Warning],
+    text: &mut String,
+) -> Result<(), Memory>
+    requires { AreOutcomes (core program.now) outcomes.now }
+    ensures { OnOk result (
+        string_bytes text.new ≡ string_bytes text.old ++ said.report_below (core program.now) found.now) }
+{
+    text.push_str(counts_line(alloc, program)?.as_str())?;
+    push_skipped(alloc, program, text)?;
+    push_not_analysed(alloc, program, outcomes, text)?;
+    push_warnings(alloc, program, outcomes, found, text)?;
+    text.push_str(last_line(alloc, found)?.as_str())?;
+    Ok(())
+}
+
 /// The report of a program, of the outcomes of its methods and of its warnings.
 pub fn report(
     alloc: Global,
@@ -392,10 +412,6 @@ pub fn report(
     ensures { IfOk result (λ text. string_bytes text ≡ said.report_text (core program.now)) }
 {
     let mut text = String::from_str(alloc, "racer report 1\n")?;
-    text.push_str(counts_line(alloc, program)?.as_str())?;
-    push_skipped(alloc, program, &mut text)?;
-    push_not_analysed(alloc, program, outcomes, &mut text)?;
-    push_warnings(alloc, program, outcomes, found, &mut text)?;
-    text.push_str(last_line(alloc, found)?.as_str())?;
+    push_report(alloc, program, outcomes, found, &mut text)?;
     Ok(text)
 }

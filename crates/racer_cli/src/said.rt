@@ -74,6 +74,14 @@ fn nothing(alloc: Global) -> Program
     })
 }
 
+/// The report on no source.
+fn reported_nothing(alloc: Global) -> Result<Said, Memory>
+    ensures status { IfOk result (λ said. is_said said.status ≡ true) }
+    ensures said { IfOk result (λ said. said ≡ said_from (Accepted no_program)) }
+{
+    reported(alloc, &nothing(alloc))
+}
+
 /// What is said of a source of this name and these bytes.
 fn said_of_source(alloc: Global, name: &str, bytes: &[u8]) -> Result<Said, Memory>
     ensures status { IfOk result (λ said. is_said said.status ≡ true) }
@@ -107,7 +115,7 @@ fn judged<F: Folder>(alloc: Global, folder: &mut F, counted: Counted) -> Result<
         count_told counted.entry ≡ count_of (source_names told.files) → FailsByMemory result) }
 {
     match counted {
-        Counted::Nothing => Ok(reported(alloc, &nothing(alloc))?),
+        Counted::Nothing => Ok(reported_nothing(alloc)?),
         Counted::One(name) => one_source(alloc, folder, name),
         Counted::More(second) => Ok(refused(alloc, second)?),
     }

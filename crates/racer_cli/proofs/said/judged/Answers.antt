@@ -1,22 +1,20 @@
-use Rattle.std.proofs.Common.{◌≡◌, refl, sym, ap, subst, ◌∙◌, IfErr}
+use Rattle.std.proofs.Common.{◌≡◌, refl, sym, ap, subst, IfErr}
 use Rattle.std.specs.Option.{IfSome}
 use Rattle.racer_base.specs.Outside.{Told}
 use Rattle.racer_base.specs.declared.outside.FolderFault.TheVariants.{Memory}
-use Rattle.core_code.specs.Core.{Core}
-use Rattle.racer_cli.specs.Said.{said_from}
 use Rattle.racer_cli.specs.Source.{Accepted, Refusal, Count, AreCounted, count_of, no_program, refusal_line}
 use Rattle.racer_cli.specs.Source.{source_names}
 use Rattle.racer_cli.specs.Counted.{count_told}
 use Rattle.racer_cli.proofs.SourceLemmas.{steady_source, for_each}
 use Rattle.racer_cli.proofs.said.judged.Goals as goal
 
-pub returns-in_ok-reported-in-Nothing-clause-said : goal.returns-in_ok-reported-in-Nothing-clause-said
-returns-in_ok-reported-in-Nothing-clause-said g c =
+pub returns-in_ok-reported_nothing-in-Nothing-clause-said : goal.returns-in_ok-reported_nothing-in-Nothing-clause-said
+returns-in_ok-reported_nothing-in-Nothing-clause-said g c =
     for_each _ (g.F.Folder.told c.args.folder.now)
     (λ t. (
       Accepted no_program,
       subst (λ (count : Count). AreCounted t.files count (Accepted no_program)) (sym (ap count_told c.in-Nothing.is)) refl,
-      c.in_ok-reported-in-Nothing.ensures.said ∙ ap (λ (program : Core). said_from (Accepted program)) c.nothing.ensures.program,
+      c.in_ok-reported_nothing-in-Nothing.ensures.said,
     ))
 
 pub returns-in-One-clause-steady : goal.returns-in-One-clause-steady
