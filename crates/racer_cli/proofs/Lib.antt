@@ -1,6 +1,8 @@
 mod Written
 mod SortedNames
 pub mod Placed
+pub mod NamedTokens
+pub mod Named
 pub mod Sequences
 pub mod Turns
 pub mod Added
@@ -8,6 +10,9 @@ pub mod LoweredSites
 pub mod LoweredStacks
 pub mod LoweredEntries
 pub mod LoweredNumbers
+pub mod LoweredCalls
+pub mod LoweredKinds
+pub mod LoweredNames
 mod SourceLemmas
 pub mod ReportOutcomes
 mod OneStatus

@@ -6,6 +6,7 @@ pub mod Report
 pub mod FirstCode
 pub mod Walks
 pub mod InFile
+pub mod Named
 pub mod LoweringSteps
 pub mod LoweringExamples
 pub mod Source
