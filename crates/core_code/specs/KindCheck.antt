@@ -1,14 +1,12 @@
 -- A contract of a public call rests on this: `Program::of`. The kind check of code, by cases on the tree: the kinds on
 -- the stack before, its top first, and those after, or none where something does not fit (JLS 4.10, 5.2, 15.12.4).
-use Rattle.std.specs.Prelude.{ℕ, Bool, true, false, ◌&&◌, ◌||◌, List, [], ◌∷◌, ◌++◌, Option, None, Some, drop, length}
-use Rattle.std.specs.Prelude.{if◌then◌else◌, is_some, nat_le, reverse, slice_get, map}
+use Rattle.std.specs.Prelude.{ℕ, Bool, true, false, ◌&&◌, ◌||◌, List, [], ◌∷◌, Option, None, Some, drop, length}
+use Rattle.std.specs.Prelude.{if◌then◌else◌, is_some, nat_le, reverse, slice_get}
 use Rattle.std.specs.List.{list_all}
 use Rattle.std.specs.Cmp.Lexicographic.{pointwise}
 use Rattle.racer_base.specs.declared.ids.FieldId.{FieldId}
-use Rattle.racer_base.specs.declared.ids.MethodId.{MethodId}
 use Rattle.racer_base.specs.declared.ids.VarId.{VarId}
 use Rattle.racer_base.specs.declared.ids.Kind.{Kind}
-use Rattle.racer_base.specs.declared.ids.Kind.TheVariants as types
 use Rattle.core_code.specs.declared.code.Op.{Op as CoreOp}
 use Rattle.core_code.specs.declared.code.Op.TheVariants.{Push, PushClass, PushPrim, PushNull, New, Dup, Drop, Get, Put}
 use Rattle.core_code.specs.declared.code.Op.TheVariants.{Set, Prim, Outside, Call, Unread, Ret}
@@ -16,7 +14,7 @@ use Rattle.core_code.specs.declared.parts.FieldCore.{FieldCore}
 use Rattle.core_code.specs.Tree.{Tree, Step, Nothing, Then, Either, Again, Held}
 use Rattle.core_code.specs.Core.{Core, Method}
 use Rattle.core_code.specs.Calls.{method_at, taken_by}
-use Rattle.core_code.specs.Kinds.{StackKind, Plain, Declared, Class, Null, Opaque, kind_of, same_class, same_kind}
+use Rattle.core_code.specs.Kinds.{StackKind, Plain, Declared, Class, Null, Opaque, kind_of, same_kind}
 use Rattle.core_code.specs.Kinds.{joined_stack, fits_class, fits}
 
 -- what is made of a stack, or none

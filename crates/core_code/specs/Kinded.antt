@@ -15,7 +15,7 @@ use Rattle.core_code.specs.declared.parts.FieldCore.{FieldCore}
 use Rattle.core_code.specs.Tree.{Tree, Nothing}
 use Rattle.core_code.specs.Core.{Core, Method}
 use Rattle.core_code.specs.Pair.{at}
-use Rattle.core_code.specs.Kinds.{StackKind, Plain, Declared, Class}
+use Rattle.core_code.specs.Kinds.{StackKind, Declared, Class}
 use Rattle.core_code.specs.KindCheck.{Kinds, kinds_after_op, kinds_after}
 
 abbrev pub a : ClassId
