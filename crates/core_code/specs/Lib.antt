@@ -10,3 +10,7 @@ pub mod KindCheck
 pub mod Names
 pub mod Pair
 pub mod Kinded
+pub mod Recursion
+pub mod Rows
+pub mod Gathered
+pub mod Stamps
