@@ -10,6 +10,7 @@
 #![tactic(auto)]
 
 mod code;
+pub mod kind_laws;
 pub mod laws;
 mod parts;
 mod program;
