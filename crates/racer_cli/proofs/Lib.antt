@@ -11,8 +11,6 @@ pub mod LoweredNumbers
 mod SourceLemmas
 pub mod ReportOutcomes
 mod OneStatus
-pub mod Additions
-pub mod AdditionLemmas
 pub mod FirstPrograms
 pub mod Kept
 pub mod Summed
