@@ -4,9 +4,9 @@ use Rattle.java_lexer.specs.declared.token.Token.{Token}
 use Rattle.java_parser.specs.declared.first.FirstClass.{FirstClass}
 use Rattle.java_parser.specs.View.{classes_of}
 use Rattle.core_code.specs.Core.{Core}
-use Rattle.racer_cli.specs.InFile.{are_in_file}
+use Rattle.core_lowering.specs.InFile.{are_in_file}
 use Rattle.racer_cli.specs.FirstCode.{is_first_program}
-use Rattle.racer_cli.proofs.Placed.{placed_by_tokens}
+use Rattle.core_lowering.proofs.Placed.{placed_by_tokens}
 use Rattle.racer_cli.proofs.SourceLemmas.{tokens_in_first}
 use Rattle.racer_cli.proofs.FirstPrograms.{program_of-first_code}
 use Rattle.racer_cli.proofs.source.source_program.Goals as goal
