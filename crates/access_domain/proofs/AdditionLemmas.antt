@@ -1,6 +1,6 @@
 -- What is added one after another is the first of each, and never gets less.
 use Rattle.std.proofs.Common.{◌≡◌, ℕ, ◌+◌, ◌≤◌, Bool, true, false, not, ◌&&◌, ◌||◌, cond, List, [], ◌∷◌, ◌++◌, length}
-use Rattle.std.proofs.Common.{filter, refl, sym, ap, ◌∙◌, arith, append_assoc, length-append, add-one}
+use Rattle.std.proofs.Common.{◌⊎◌, inl, inr, filter, refl, sym, ap, ◌∙◌, arith, append_assoc, length-append, add-one}
 use Rattle.std.proofs.lemmas.List.{append-nil}
 use Rattle.std.specs.List.{list_any}
 use Rattle.std.specs.FinSet as set
@@ -10,10 +10,13 @@ use Rattle.access_paths.specs.Paths.{same_path}
 use Rattle.access_paths.specs.Same.{equal_of_same, tied, path_cmp-total, path_cmp-IsAntisymmetric}
 use Rattle.std.specs.Ordering.{eq_by_cmp}
 use Rattle.std.proofs.lemmas.Bool.{false≢true}
+use Rattle.wobbly_paths.specs.declared.wobbly.Adding.{Adding}
+use Rattle.wobbly_paths.specs.declared.wobbly.Adding.TheVariants.{Added, Present, Full, Memory}
+use Rattle.wobbly_paths.specs.Sets.{IsAnswer}
 use Rattle.access_domain.specs.declared.access.Access.{Access}
 use Rattle.access_domain.specs.Records.{is_write, same_flag, same_touch, same_key, first_of_keys, different_paths}
 use Rattle.access_domain.proofs.Different.{from_list-different}
-use Rattle.racer_cli.proofs.Additions.{key_added, keys_added, paths_added}
+use Rattle.access_domain.specs.Additions.{key_added, keys_added, paths_added}
 
 or-false : (a : Bool) → (a || false) ≡ a
 or-false true = refl
@@ -43,7 +46,7 @@ keys_added-longer old (x ∷ xs) =
 abbrev is_new : List Access → Access → Bool
 is_new old access = not (list_any (λ earlier. same_key earlier access) old)
 
-any-push : (p : Access → Bool) (old : List Access) (x : Access) → list_any p (old ++ x ∷ []) ≡ (list_any p old || p x)
+pub any-push : (p : Access → Bool) (old : List Access) (x : Access) → list_any p (old ++ x ∷ []) ≡ (list_any p old || p x)
 any-push p [] x = elim (p x) as (λ b. (b || false) ≡ b) [ true ↦ refl | false ↦ refl ]
 any-push p (y ∷ old) x = ap (λ b. p y || b) (any-push p old x)
     ∙ (elim (p y) as (λ b. (b || (list_any p old || p x)) ≡ ((b || list_any p old) || p x)) [
@@ -260,3 +263,60 @@ len-from_list xs =
     ∙ ap (λ (ys : List Path). set.len (set.from_list {R = path_cmp} ys)) (sym (filter-all (different_paths xs)))
     ∙ len-passing (λ _. true) xs
     ∙ ap length (filter-all (different_paths xs))
+
+-- ---- one list and then another
+
+pub keys_added-append : (old xs ys : List Access) → keys_added old (xs ++ ys) ≡ keys_added (keys_added old xs) ys
+keys_added-append old [] ys = refl
+keys_added-append old (x ∷ xs) ys = keys_added-append (key_added old x) xs ys
+
+pub paths_added-append : (old : PathSet) (xs ys : List Path) →
+    paths_added old (xs ++ ys) ≡ paths_added (paths_added old xs) ys
+paths_added-append old [] ys = refl
+paths_added-append old (x ∷ xs) ys = paths_added-append (set.insert old x) xs ys
+
+-- ---- one thing, by the answer to its addition
+
+in_set : (kept : PathSet) (x q : Path) → set.contains kept x ≡ true → (b : Bool) → eq_by_cmp path_cmp q x ≡ b →
+    (b || set.contains kept q) ≡ set.contains kept q
+in_set kept x q there true e =
+    let same : q ≡ x = equal_of_same q x (sym (tied q x) ∙ e) in
+    sym there ∙ ap (set.contains kept) (sym same)
+in_set kept x q there false e = refl
+
+-- what is there is not added
+pub paths-present : (kept : PathSet) (x : Path) → set.contains kept x ≡ true → set.insert kept x ≡ kept
+paths-present kept x there =
+    set.same_set path_cmp-total path_cmp-IsAntisymmetric _ _
+    (λ q. set.contains-insert path_cmp-total kept x q ∙ in_set kept x q there (eq_by_cmp path_cmp q x) refl)
+
+pub added_path : (kept new : PathSet) (x : Path) (answer : Adding) →
+    IsAnswer (set.contains kept x) (set.len kept) kept new (set.insert kept x) answer
+    → (answer ≡ Added) ⊎ (answer ≡ Present) → new ≡ set.insert kept x
+added_path kept new x Added a is = a.2
+added_path kept new x Present a is = a.1 ∙ sym (paths-present kept x a.0)
+added_path kept new x Full a is = elim is [ inl e ↦ cc | inr e ↦ cc ]
+added_path kept new x Memory a is = elim is [ inl e ↦ cc | inr e ↦ cc ]
+
+pub added_key : (kept new : List Access) (x : Access) (answer : Adding) →
+    IsAnswer (list_any (λ r. same_key r x) kept) (length kept) kept new (kept ++ x ∷ []) answer
+    → (answer ≡ Added) ⊎ (answer ≡ Present) → new ≡ key_added kept x
+added_key kept new x Added a is = a.2 ∙ ap (λ (b : Bool). cond b kept (kept ++ x ∷ [])) (sym a.0)
+added_key kept new x Present a is = a.1 ∙ ap (λ (b : Bool). cond b kept (kept ++ x ∷ [])) (sym a.0)
+added_key kept new x Full a is = elim is [ inl e ↦ cc | inr e ↦ cc ]
+added_key kept new x Memory a is = elim is [ inl e ↦ cc | inr e ↦ cc ]
+
+one_more : (b : Bool) (kept : List Access) (x : Access) → length (cond b kept (kept ++ x ∷ [])) ≤ length kept + 1
+one_more true kept x = omega arith
+one_more false kept x = omega (arith, length-append kept (x ∷ []))
+
+pub key_added-count : (kept : List Access) (x : Access) → length (key_added kept x) ≤ length kept + 1
+key_added-count kept x = one_more (list_any (λ earlier. same_key earlier x) kept) kept x
+
+one_path_more : (b : Bool) (n m : ℕ) → m ≡ cond b n (n + 1) → m ≤ n + 1
+one_path_more true n m e = omega arith
+one_path_more false n m e = omega arith
+
+pub path_added-count : (kept : PathSet) (x : Path) → set.len (set.insert kept x) ≤ set.len kept + 1
+path_added-count kept x =
+    one_path_more (set.contains kept x) (set.len kept) _ (set.len-insert path_cmp-total kept x)
