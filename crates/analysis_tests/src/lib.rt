@@ -1,13 +1,17 @@
-//! The tests of the analysis: programs, paths, values, records, substitution, warnings. They stand here, over public calls alone,
-//! since a crate with tests is proved twice. There is no code.
+//! The tests of the analysis: graphs of calls, programs, paths, values, records, substitution, warnings. They stand
+//! here, over public calls alone, since a crate with tests is proved twice. There is no code.
 #![tactic(auto)]
 
+#[cfg(test)]
+mod graphs;
 #[cfg(test)]
 mod paths;
 #[cfg(test)]
 mod programs;
 #[cfg(test)]
 mod records;
+#[cfg(test)]
+mod recursion;
 #[cfg(test)]
 mod substitution;
 #[cfg(test)]

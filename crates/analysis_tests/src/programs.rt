@@ -1,5 +1,6 @@
 //! A program of one class with one field.
-ghost use Rattle.std.specs.Prelude.{◌≡◌, true, false, IfOk, [], ◌∷◌};
+ghost use Rattle.std.specs.Prelude.{◌≡◌, true, false, IfOk, [], ◌∷◌, length};
+ghost use Rattle.core_code.specs.Program.{class_names, field_names};
 
 use core_code::{ClassCore, FieldCore, Parts, Program};
 use racer_base::{ClassId, FieldId, FileId, Items, Kind, Names, Place, Text};
@@ -53,7 +54,10 @@ fn fields(alloc: Global, name: &str) -> Result<Items<FieldCore>, Fail>
 }
 
 /// A program of a class with a field of a primitive type, and no method.
-pub fn one_field(alloc: Global) -> Result<Program, Fail> {
+pub fn one_field(alloc: Global) -> Result<Program, Fail>
+    ensures classes { IfOk result (λ made. length (class_names made) ≡ 1) }
+    ensures fields { IfOk result (λ made. length (field_names made) ≡ 1) }
+{
     let files = files(alloc, "Pair.java")?;
     let classes = classes(alloc, "Pair")?;
     let fields = fields(alloc, "a")?;
