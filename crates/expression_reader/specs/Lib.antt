@@ -1,0 +1,4 @@
+pub mod LeadView
+pub mod TurnView
+pub mod GoingOn
+pub mod ClassFollows

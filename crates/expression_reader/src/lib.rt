@@ -1,0 +1,6 @@
+//! Expressions of Java, read from their tokens.
+#![tactic(auto)]
+
+pub mod reading;
+
+pub use reading::read_initialiser;

@@ -1,0 +1,4 @@
+//! The places that trees keep.
+#![tactic(auto)]
+
+pub mod laws;

@@ -1,0 +1,4 @@
+pub mod ReadLoops
+pub mod PushedNesting
+pub mod MadePartLoop
+pub mod WholeTrees

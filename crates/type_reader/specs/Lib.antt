@@ -1,0 +1,6 @@
+pub mod Tokens
+pub mod ReadAnswer
+pub mod Finishing
+pub mod Endings
+pub mod PointBehind
+pub mod Whole

@@ -1,0 +1,6 @@
+//! Types of Java, read from their tokens.
+#![tactic(auto)]
+
+pub mod reading;
+
+pub use reading::{ReadError, read_type};
