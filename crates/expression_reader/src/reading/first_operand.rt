@@ -1,6 +1,7 @@
 //! Reading an expression with no expression at its left (JLS 15.8, 15.12, 15.15, 15.16).
-ghost use Rattle.std.specs.Prelude.{◌<◌, ◌≤◌, ◌^◌, suc, length, map, IfOk};
+ghost use Rattle.std.specs.Prelude.{◌≡◌, ◌<◌, ◌≤◌, ◌^◌, suc, ◌∷◌, length, map, IfOk};
 ghost use Rattle.java_lexer.specs.declared.token.TokenKind.TheVariants as kind;
+ghost use Rattle.java_tree.specs.KeptPlaces.{kept, place_onto, expr_places};
 ghost use Rattle.java_tree.specs.View.{expr_of};
 ghost use Rattle.method_grammar.specs.TypeReading.{ty_at, made_base_at};
 ghost use Rattle.method_grammar.specs.ExpressionReading.{name_with, parens_with, cast_with, prefix_with, operand_of};
@@ -11,15 +12,15 @@ ghost use Rattle.type_reader.specs.ReadAnswer.{Gives};
 use super::arguments::call_arguments;
 use super::class_names::{class, class_follows};
 use super::creations::creation;
-use type_reader::reading::error::ReadError;
 use super::expressions::read_expression;
 use super::leads::{casts, is_prefix};
-use type_reader::reading::look::{after_sign, ident, name, sign};
 use super::nested::NestedExpression;
 use super::operands::{call, cast_to, literal, paren, prefixed, this, variable};
-use type_reader::reading::types::read_type;
 use java_lexer::{Token, TokenKind};
 use std::alloc::Global;
+use type_reader::reading::error::ReadError;
+use type_reader::reading::look::{after_sign, ident, name, sign};
+use type_reader::reading::types::read_type;
 
 /// An expression with no expression at its left.
 #[cycle(expressions)]
@@ -33,6 +34,7 @@ pub fn operand(
     requires room { suc (suc limit) < 2 ^ 32 }
     ensures gives { Gives (λ x. (expr_of x.0.tree, map spelled x.1.now)) result (operand_with (read_at limit)
         (ty_at limit) (made_base_at limit) (array_at limit) (map spelled tokens.now)) }
+    ensures places { IfOk result (λ x. expr_places x.0.tree (kept x.1.now) ≡ kept tokens.now) }
     ensures small { IfOk result (λ x. x.0.nesting ≤ suc limit) }
     ensures shorter { IfOk result (λ x. length x.1.now ≤ length tokens.now) }
 {
@@ -64,6 +66,8 @@ fn word<'a>(
     requires room { suc (suc limit) < 2 ^ 32 }
     ensures gives { Gives (λ x. (expr_of x.0.tree, map spelled x.1.now)) result (operand_of (read_at limit)
         (ty_at limit) (made_base_at limit) (array_at limit) kind.Keyword token.now.text (map spelled tokens.now)) }
+    ensures places { IfOk result (λ x. expr_places x.0.tree (kept x.1.now) ≡ place_onto kind.Keyword token.now.text
+        token.now.place (kept tokens.now)) }
     ensures small { IfOk result (λ x. x.0.nesting ≤ suc limit) }
     ensures shorter { IfOk result (λ x. length x.1.now ≤ length tokens.now) }
 {
@@ -90,6 +94,7 @@ fn named<'a>(
     requires room { suc (suc limit) < 2 ^ 32 }
     ensures gives { Gives (λ x. (expr_of x.0.tree, map spelled x.1.now)) result (name_with (read_at limit)
         token.now.text (map spelled tokens.now)) }
+    ensures places { IfOk result (λ x. expr_places x.0.tree (kept x.1.now) ≡ token.now.place ∷ kept tokens.now) }
     ensures small { IfOk result (λ x. x.0.nesting ≤ suc limit) }
     ensures shorter { IfOk result (λ x. length x.1.now ≤ length tokens.now) }
 {
@@ -116,6 +121,7 @@ fn signed<'a>(
     requires room { suc (suc limit) < 2 ^ 32 }
     ensures gives { Gives (λ x. (expr_of x.0.tree, map spelled x.1.now)) result (operand_of (read_at limit)
         (ty_at limit) (made_base_at limit) (array_at limit) kind.Sign token.now.text (map spelled tokens.now)) }
+    ensures places { IfOk result (λ x. expr_places x.0.tree (kept x.1.now) ≡ kept tokens.now) }
     ensures small { IfOk result (λ x. x.0.nesting ≤ suc limit) }
     ensures shorter { IfOk result (λ x. length x.1.now ≤ length tokens.now) }
 {
@@ -146,6 +152,7 @@ fn prefix<'a>(
     requires room { suc (suc limit) < 2 ^ 32 }
     ensures gives { Gives (λ x. (expr_of x.0.tree, map spelled x.1.now)) result (prefix_with (read_at limit)
         operator.now (map spelled tokens.now)) }
+    ensures places { IfOk result (λ x. expr_places x.0.tree (kept x.1.now) ≡ kept tokens.now) }
     ensures small { IfOk result (λ x. x.0.nesting ≤ suc limit) }
     ensures shorter { IfOk result (λ x. length x.1.now ≤ length tokens.now) }
 {
@@ -164,6 +171,7 @@ fn cast(
     requires room { suc (suc limit) < 2 ^ 32 }
     ensures gives { Gives (λ x. (expr_of x.0.tree, map spelled x.1.now)) result (cast_with (read_at limit)
         (ty_at limit) (map spelled tokens.now)) }
+    ensures places { IfOk result (λ x. expr_places x.0.tree (kept x.1.now) ≡ kept tokens.now) }
     ensures small { IfOk result (λ x. x.0.nesting ≤ suc limit) }
     ensures shorter { IfOk result (λ x. length x.1.now ≤ length tokens.now) }
 {
@@ -184,6 +192,7 @@ fn parens(
     requires room { suc (suc limit) < 2 ^ 32 }
     ensures gives { Gives (λ x. (expr_of x.0.tree, map spelled x.1.now)) result (parens_with (read_at limit)
         (map spelled tokens.now)) }
+    ensures places { IfOk result (λ x. expr_places x.0.tree (kept x.1.now) ≡ kept tokens.now) }
     ensures small { IfOk result (λ x. x.0.nesting ≤ suc limit) }
     ensures shorter { IfOk result (λ x. length x.1.now ≤ length tokens.now) }
 {
