@@ -9,13 +9,13 @@ ghost use Rattle.type_reader.specs.Finishing.{finished};
 ghost use Rattle.type_reader.specs.Endings.{call_end};
 ghost use Rattle.type_reader.specs.ReadAnswer.{Gives};
 
-use type_reader::reading::error::ReadError;
 use super::expressions::read_expression;
 use super::lists::{call_end, no_arguments};
-use type_reader::reading::look::after_sign;
 use super::nested::{NestedExpression, NestedExpressions};
 use java_lexer::Token;
 use std::alloc::Global;
+use type_reader::reading::error::ReadError;
+use type_reader::reading::look::after_sign;
 
 /// The arguments of a call behind its `(`, and the `)` (JLS 15.12).
 #[cycle(expressions)]

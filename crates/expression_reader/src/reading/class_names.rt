@@ -9,12 +9,12 @@ ghost use Rattle.type_reader.specs.Tokens.{spelled};
 ghost use Rattle.type_reader.specs.Finishing.{finished};
 ghost use Rattle.type_reader.specs.ReadAnswer.{Gives};
 
-use type_reader::reading::error::ReadError;
-use type_reader::reading::look::{after_keyword, is_keyword, is_name, is_sign, name, sign};
 use super::nested::NestedExpression;
 use java_lexer::Token;
 use java_tree::{Expression, Ident};
 use std::alloc::Global;
+use type_reader::reading::error::ReadError;
+use type_reader::reading::look::{after_keyword, is_keyword, is_name, is_sign, name, sign};
 
 /// Whether names, each behind a point, and `. class` are in front.
 #[tactic(auto, unfolding(crate::specs::ClassFollows::class_follows))]

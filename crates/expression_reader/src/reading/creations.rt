@@ -11,18 +11,18 @@ ghost use Rattle.type_reader.specs.Endings.{lengths_end};
 ghost use Rattle.type_reader.specs.ReadAnswer.{Gives};
 
 use super::arguments::call_arguments;
-use type_reader::reading::error::ReadError;
 use super::expressions::read_expression;
 use super::initialisers::read_array;
 use super::lists::{length_behind, lengths_end};
-use type_reader::reading::look::{after_brackets, after_sign, brackets, sign};
-use type_reader::reading::made_types::{has_diamond, made_base};
-use type_reader::reading::nested::NestedBase;
 use super::nested::{NestedExpression, NestedExpressions};
 use super::operands::{array_of_items, element, is_named, object};
 use java_lexer::Token;
 use racer_base::Place;
 use std::alloc::Global;
+use type_reader::reading::error::ReadError;
+use type_reader::reading::look::{after_brackets, after_sign, brackets, sign};
+use type_reader::reading::made_types::{has_diamond, made_base};
+use type_reader::reading::nested::NestedBase;
 
 /// What stands behind a `new` (JLS 15.9, 15.10). The place is that of the `new`.
 #[cycle(expressions)]

@@ -9,16 +9,16 @@ ghost use Rattle.expression_reader.specs.TurnView.{turn_of, IsSmall, IsWithin};
 ghost use Rattle.type_reader.specs.ReadAnswer.{Gives};
 
 use super::arguments::call_arguments;
-use type_reader::reading::error::ReadError;
 use super::first_operand::operand;
 use super::leads::{Lead, lead_at};
 use super::levels::{binary_level, goes_on};
-use type_reader::reading::look::{after_sign, name, sign};
 use super::nested::NestedExpression;
 use super::turned::Turned;
 use super::turns::{assigned, called, chosen, indexed, joined, selected, stepped, tested};
 use java_lexer::Token;
 use std::alloc::Global;
+use type_reader::reading::error::ReadError;
+use type_reader::reading::look::{after_sign, name, sign};
 
 /// An expression of a level of at least `level` and a nesting of at most `limit`.
 #[cycle(expressions)]

@@ -6,14 +6,14 @@ ghost use Rattle.type_reader.specs.Tokens.{spelled};
 ghost use Rattle.type_reader.specs.Endings.{items_end};
 ghost use Rattle.type_reader.specs.ReadAnswer.{Gives};
 
-use type_reader::reading::error::ReadError;
 use super::expressions::read_expression;
 use super::lists::{item_behind, items_end, no_items};
-use type_reader::reading::look::{after_sign, sign};
 use super::nested::{NestedArray, NestedInitialiser};
 use java_lexer::Token;
 use java_tree::Initialiser;
 use std::alloc::Global;
+use type_reader::reading::error::ReadError;
+use type_reader::reading::look::{after_sign, sign};
 
 /// An array initialiser of a nesting of at most `limit` (JLS 10.6).
 #[cycle(expressions)]

@@ -9,15 +9,15 @@ ghost use Rattle.type_reader.specs.Endings.{call_end, lengths_end, length_behind
 ghost use Rattle.type_reader.specs.Endings.{items_end};
 ghost use Rattle.type_reader.specs.ReadAnswer.{Gives};
 
-use type_reader::reading::error::ReadError;
-use type_reader::reading::look::{after_brackets, after_sign, brackets, sign};
-use type_reader::reading::nested::NestedBase;
 use super::nested::{NestedArray, NestedExpression, NestedExpressions};
 use super::operands::element;
 use java_lexer::Token;
 use java_tree::{ArrayTree, Expression, Initialiser};
 use racer_base::Place;
 use std::alloc::Global;
+use type_reader::reading::error::ReadError;
+use type_reader::reading::look::{after_brackets, after_sign, brackets, sign};
+use type_reader::reading::nested::NestedBase;
 
 /// These arguments, and the `)` behind them (JLS 15.12).
 pub fn call_end(

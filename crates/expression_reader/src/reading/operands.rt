@@ -7,15 +7,15 @@ ghost use Rattle.type_reader.specs.Endings.{prefix_end};
 ghost use Rattle.type_reader.specs.Tokens.{spelled};
 ghost use Rattle.type_reader.specs.ReadAnswer.{Gives};
 
-use type_reader::reading::error::ReadError;
 use super::leads::is_step;
 use super::levels::is_variable;
-use type_reader::reading::nested::{NestedBase, NestedType};
 use super::nested::{NestedArray, NestedExpression, NestedExpressions};
 use java_lexer::Token;
 use java_tree::{BaseType, Expression, Ident, TypeTree};
 use racer_base::{Place, Text};
 use std::alloc::Global;
+use type_reader::reading::error::ReadError;
+use type_reader::reading::nested::{NestedBase, NestedType};
 
 /// JLS 15.8.1.
 pub fn literal(alloc: Global, token: &Token) -> Result<NestedExpression, ReadError>

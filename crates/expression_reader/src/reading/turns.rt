@@ -7,14 +7,14 @@ ghost use Rattle.type_reader.specs.Tokens.{spelled};
 ghost use Rattle.expression_reader.specs.TurnView.{turn_of, IsSmall, IsWithin};
 ghost use Rattle.type_reader.specs.ReadAnswer.{Gives};
 
-use type_reader::reading::error::ReadError;
-use type_reader::reading::made_types::read_bare_type;
 use super::nested::{NestedExpression, NestedExpressions};
 use super::turned::Turned;
 use java_lexer::Token;
 use java_tree::{Expression, Ident};
 use racer_base::Text;
 use std::alloc::Global;
+use type_reader::reading::error::ReadError;
+use type_reader::reading::made_types::read_bare_type;
 
 /// A larger expression, if it is not nested too deep.
 fn grown<'a>(

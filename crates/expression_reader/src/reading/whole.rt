@@ -12,11 +12,11 @@ ghost use Rattle.type_reader.specs.Whole.{all_of};
 ghost use Rattle.type_reader.specs.Tokens.{spelled};
 ghost use Rattle.type_reader.specs.ReadAnswer.{Gives};
 
-use type_reader::reading::error::ReadError;
 use super::initialisers;
 use java_lexer::Token;
 use java_tree::{Initialiser, MethodTree, TypeTree};
 use std::alloc::Global;
+use type_reader::reading::error::ReadError;
 
 /// What a variable begins with, where all these tokens are it.
 fn whole_initialiser(alloc: Global, limit: u32, tokens: &[Token]) -> Result<Initialiser, ReadError>
