@@ -2,3 +2,4 @@ pub mod LeadView
 pub mod TurnView
 pub mod GoingOn
 pub mod ClassFollows
+pub mod FirstParenthesis

@@ -6,6 +6,7 @@ ghost use Rattle.java_tree.specs.View.{expr_of};
 ghost use Rattle.method_grammar.specs.TypeReading.{ty_at, made_base_at};
 ghost use Rattle.method_grammar.specs.ExpressionReading.{name_with, parens_with, cast_with, prefix_with, operand_of};
 ghost use Rattle.method_grammar.specs.ExpressionReading.{operand_with, read_at, array_at};
+ghost use Rattle.expression_reader.specs.FirstParenthesis.{lone_parens_with};
 ghost use Rattle.type_reader.specs.Tokens.{spelled};
 ghost use Rattle.type_reader.specs.ReadAnswer.{Gives};
 
@@ -13,7 +14,7 @@ use super::arguments::call_arguments;
 use super::class_names::{class, class_follows};
 use super::creations::creation;
 use super::expressions::read_expression;
-use super::leads::{casts, is_prefix};
+use super::leads::{casts, is_prefix, opens_operand};
 use super::nested::NestedExpression;
 use super::operands::{call, cast_to, literal, paren, prefixed, this, variable};
 use java_lexer::{Token, TokenKind};
@@ -132,10 +133,10 @@ fn signed<'a>(
     if text != "(" {
         return Err(ReadError::Unformed);
     }
-    if casts(tokens) {
-        cast(alloc, limit, tokens)
-    } else {
-        parens(alloc, limit, tokens)
+    match casts(tokens) {
+        Some(true) => cast(alloc, limit, tokens),
+        Some(false) => parens(alloc, limit, tokens),
+        None => nested_parens(alloc, limit, tokens),
     }
 }
 
@@ -199,4 +200,26 @@ fn parens(
     let (part, rest) = read_expression(alloc, limit, 0, tokens)?;
     let rest = sign(rest, ")")?;
     Ok((paren(alloc, part)?, rest))
+}
+
+/// The same with parentheses in them. An operand behind them would make this a cast of no type.
+#[cycle(expressions)]
+fn nested_parens(
+    alloc: Global,
+    limit: u32,
+    tokens: &[Token],
+) -> Result<(NestedExpression, &[Token]), ReadError>
+    requires few { length tokens.now < 2 ^ 32 }
+    requires room { suc (suc limit) < 2 ^ 32 }
+    ensures gives { Gives (λ x. (expr_of x.0.tree, map spelled x.1.now)) result (lone_parens_with (read_at limit)
+        (map spelled tokens.now)) }
+    ensures places { IfOk result (λ x. expr_places x.0.tree (kept x.1.now) ≡ kept tokens.now) }
+    ensures small { IfOk result (λ x. x.0.nesting ≤ suc limit) }
+    ensures shorter { IfOk result (λ x. length x.1.now ≤ length tokens.now) }
+{
+    let (value, rest) = parens(alloc, limit, tokens)?;
+    if opens_operand(rest) {
+        return Err(ReadError::Unformed);
+    }
+    Ok((value, rest))
 }

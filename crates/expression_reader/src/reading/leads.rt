@@ -1,12 +1,13 @@
 //! What the first token does behind an expression, and the choice between a cast and parentheses.
-ghost use Rattle.std.specs.Prelude.{◌≡◌, suc, length, map};
+ghost use Rattle.std.specs.Prelude.{◌≡◌, ◌&&◌, ◌||◌, suc, Some, None, MatchOption, length, map};
 ghost use Rattle.racer_base.specs.Name.{is_listed};
 ghost use Rattle.racer_base.specs.declared.ids.Place.{Place};
 ghost use Rattle.java_lexer.specs.declared.token.TokenKind.TheVariants as kind;
 ghost use Rattle.java_tree.specs.KeptPlaces.{kept, place_onto};
 ghost use Rattle.java_tree.specs.Operators.{is_assignment, is_step, is_prefix, is_signed};
 ghost use Rattle.method_grammar.specs.Leads.{lead_of_angle, lead_of_sign, lead_of_word, lead, one_sign_operators};
-ghost use Rattle.method_grammar.specs.Leads.{opens, opens_operand, opens_signed, behind, is_plain_cast, casts};
+ghost use Rattle.method_grammar.specs.Leads.{opens, opens_operand, opens_signed, is_plain_cast, casts};
+ghost use Rattle.expression_reader.specs.FirstParenthesis.{behind_first};
 ghost use Rattle.type_reader.specs.Tokens.{spelled};
 ghost use Rattle.expression_reader.specs.LeadView.{lead_of, places_behind, IsBelow};
 
@@ -164,7 +165,7 @@ pub fn lead_at(tokens: &[Token]) -> Lead<'_>
 }
 
 /// Whether an operand begins here that goes on with no expression.
-fn opens_operand(tokens: &[Token]) -> bool
+pub fn opens_operand(tokens: &[Token]) -> bool
     ensures { result ≡ opens_operand (map spelled tokens.now) }
 {
     matches!(lead_at(tokens), Lead::Opens)
@@ -182,25 +183,23 @@ fn opens_signed(tokens: &[Token]) -> bool
     }
 }
 
-/// The tokens behind the `)` that closes what was opened before these.
-#[tactic(auto, unfolding(method_grammar::specs::Leads::behind))]
-fn behind(tokens: &[Token]) -> &[Token]
-    ensures { map spelled result.now ≡ behind 0 (map spelled tokens.now) }
+/// The tokens behind the first `)`, where no `(` stands before it.
+#[tactic(auto, unfolding(crate::specs::FirstParenthesis::behind_first))]
+fn behind_first(tokens: &[Token]) -> Option<&[Token]>
+    ensures { MatchOption result (behind_first (map spelled tokens.now) ≡ None) (λ rest. behind_first
+        (map spelled tokens.now) ≡ Some (map spelled rest.now)) }
 {
-    let mut depth: usize = 0;
     let mut rest = tokens;
     while let [first, after @ ..] = rest {
         if is_sign(first, "(") {
-            depth += 1;
-        } else if is_sign(first, ")") {
-            if depth == 0 {
-                return after;
-            }
-            depth -= 1;
+            return None;
+        }
+        if is_sign(first, ")") {
+            return Some(after);
         }
         rest = after;
     }
-    rest
+    None
 }
 
 /// Whether the word of a primitive type and `)` are in front.
@@ -213,12 +212,23 @@ fn is_plain_cast(tokens: &[Token]) -> bool
     }
 }
 
-/// Whether the tokens behind a `(` are those of a cast (JLS 15.16). Looking for the `)` that closes it
-/// passes over them once.
-#[tactic(auto, unfolding(method_grammar::specs::Leads::casts))]
-pub fn casts(tokens: &[Token]) -> bool
-    ensures { result ≡ casts (map spelled tokens.now) }
+/// Whether these are the tokens of a cast, where `rest` stands behind their `)`.
+fn casts_before(tokens: &[Token], rest: &[Token]) -> bool
+    ensures { result ≡ (opens_operand (map spelled rest.now) || (is_plain_cast (map spelled tokens.now)
+        && opens_signed (map spelled rest.now))) }
 {
-    let rest = behind(tokens);
     opens_operand(rest) || (is_plain_cast(tokens) && opens_signed(rest))
+}
+
+/// Whether the tokens behind a `(` are those of a cast (JLS 15.16), where a `)` is the first parenthesis among them.
+/// With a `(` before it they are no type, and only what stands behind the `)` that closes them tells. So nothing is
+/// passed over twice in looking ahead.
+pub fn casts(tokens: &[Token]) -> Option<bool>
+    ensures { MatchOption result (behind_first (map spelled tokens.now) ≡ None) (λ is_cast. casts
+        (map spelled tokens.now) ≡ is_cast) }
+{
+    match behind_first(tokens) {
+        Some(rest) => Some(casts_before(tokens, rest)),
+        None => None,
+    }
 }

@@ -1,11 +1,17 @@
-use Rattle.std.proofs.Common.{◌≡◌, suc, ◌+◌, ◌-◌, ◌++◌, ◌∷◌, [], length, map, sym, ap, ◌∙◌, arith}
+use Rattle.std.proofs.Common.{rules, codes, true, false, ◌≡◌, suc, ◌+◌, ◌-◌, ◌++◌, ◌∷◌, [], length, map, sym, ap}
+use Rattle.std.proofs.Common.{◌∙◌, arith}
 use Rattle.std.proofs.lemmas.Result.{err_from_is_err_and}
 use Rattle.std.proofs.lemmas.List.{map_push}
+use Rattle.std.specs.Prelude.{bytes_eq}
+use Rattle.java_lexer.specs.declared.token.TokenKind.TheVariants as kind
 use Rattle.java_tree.specs.KeptPlaces.{kept, expr_places, init_places}
-use Rattle.java_tree.specs.Operators.{assignment_level}
+use Rattle.java_tree.specs.Operators.{assignment_level, is_prefix}
 use Rattle.java_tree.specs.View.{base_of, expr_of, init_of}
 use Rattle.method_grammar.specs.Taking.{commas}
-use Rattle.method_grammar.specs.ExpressionReading.{read_at, init_at, climb_with, lengths_with, items_with}
+use Rattle.method_grammar.specs.TypeReading.{ty_at, made_base_at}
+use Rattle.method_grammar.specs.ExpressionReading.{operand_of, read_at, array_at, init_at, climb_with, lengths_with}
+use Rattle.method_grammar.specs.ExpressionReading.{items_with}
+use Rattle.expression_reader.proofs.CastChoice.{parens_alone}
 use Rattle.type_reader.specs.Tokens.{spelled}
 use Rattle.type_reader.specs.Finishing.{finished}
 use Rattle.type_reader.specs.Endings.{call_end, lengths_end, items_end}
@@ -39,6 +45,18 @@ expressions::climb-loop-preserved t c =
       small = small;
       shorter = omega (arith, shorter);
     }
+
+-- ---- parentheses
+
+pub first_operand::signed-returns-in-None-clause-gives : goal.first_operand::signed-returns-in-None-clause-gives
+first_operand::signed-returns-in-None-clause-gives t c =
+    let n = c.args.limit in
+    let ts = map spelled c.args.tokens.now in
+    let text = c.args.token.now.text in
+    let no_prefix : is_prefix text ≡ false = search rules in
+    let round : bytes_eq text (codes "(") ≡ true = search rules in
+    ends_give _ c.nested_parens.result (operand_of (read_at n) (ty_at n) (made_base_at n) (array_at n) kind.Sign text
+    ts) _ (parens_alone n text ts no_prefix round c.in-None.ensures) c.nested_parens.ensures.gives
 
 -- ---- arguments
 

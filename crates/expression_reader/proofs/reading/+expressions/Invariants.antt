@@ -100,6 +100,9 @@ decreases-first_operand::cast l = 16 * l.limit + 1
 abbrev pub decreases-first_operand::parens : goal.decreases-first_operand::parens
 decreases-first_operand::parens l = 16 * l.limit + 1
 
+abbrev pub decreases-first_operand::nested_parens : goal.decreases-first_operand::nested_parens
+decreases-first_operand::nested_parens l = 16 * l.limit + 2
+
 abbrev pub decreases-arguments::call_arguments : goal.decreases-arguments::call_arguments
 decreases-arguments::call_arguments l = 16 * l.limit + 3
 
