@@ -1,5 +1,5 @@
--- A contract of a public call rests on this: the places that the tree of a method keeps. It keeps none of what stands in
--- its modifiers and annotations.
+-- A contract of a public call rests on this: the places that the tree of a method keeps, in the order of its tokens. It
+-- keeps none of what stands in its modifiers and annotations.
 use Rattle.std.specs.Prelude.{◌≡◌, ℕ, List, [], ◌∷◌, Option, Some, None, map, if◌then◌else◌}
 use Rattle.racer_base.specs.declared.ids.Place.{Place}
 use Rattle.java_tree.specs.declared.words.Spelled.{Spelled}

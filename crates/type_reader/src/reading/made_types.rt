@@ -56,7 +56,8 @@ fn bare_parts(
     requires first { first.nesting ≡ 0 }
     ensures gives { Gives (λ x. (base_of x.0.tree, map spelled x.1.now)) result (finished named_end
         (part_of first.tree ∷ []) (points bare_part_at (length (map spelled tokens.now)) (map spelled tokens.now))) }
-    ensures places { IfOk result (λ x. base_places x.0.tree ++ kept x.1.now ≡ part_places first.tree ++ kept tokens.now) }
+    ensures places { IfOk result (λ x. base_places x.0.tree ++ kept x.1.now ≡ part_places first.tree
+        ++ kept tokens.now) }
     ensures small { IfOk result (λ x. x.0.nesting ≡ 0) }
     ensures shorter { IfOk result (λ x. length x.1.now ≤ length tokens.now) }
 {

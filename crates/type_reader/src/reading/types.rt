@@ -138,7 +138,8 @@ fn parts(
     ensures gives { Gives (λ x. (base_of x.0.tree, map spelled x.1.now)) result (finished named_end
         (part_of first.tree ∷ []) (points (part_with (ty_at limit)) (length (map spelled tokens.now))
         (map spelled tokens.now))) }
-    ensures places { IfOk result (λ x. base_places x.0.tree ++ kept x.1.now ≡ part_places first.tree ++ kept tokens.now) }
+    ensures places { IfOk result (λ x. base_places x.0.tree ++ kept x.1.now ≡ part_places first.tree
+        ++ kept tokens.now) }
     ensures small { IfOk result (λ x. x.0.nesting ≤ limit) }
     ensures shorter { IfOk result (λ x. length x.1.now ≤ length tokens.now) }
 {
