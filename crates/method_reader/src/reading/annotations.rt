@@ -11,13 +11,13 @@ ghost use Rattle.type_reader.specs.Endings.{as_they_are};
 ghost use Rattle.type_reader.specs.ReadAnswer.{Gives};
 
 use super::brackets::arguments;
-use type_reader::reading::error::ReadError;
-use type_reader::reading::look::{after_sign, name};
 use super::lookahead::after_modifier;
 use java_lexer::Token;
 use java_tree::{AnnotationTree, ModifierTree};
 use racer_base::{Items, Text};
 use std::alloc::Global;
+use type_reader::reading::error::ReadError;
+use type_reader::reading::look::{after_sign, name};
 
 /// This name and others, each behind a point.
 fn more_names(

@@ -8,12 +8,12 @@ ghost use Rattle.type_reader.specs.Finishing.{finished};
 ghost use Rattle.type_reader.specs.Endings.{as_they_are};
 ghost use Rattle.type_reader.specs.ReadAnswer.{Gives};
 
-use type_reader::reading::error::ReadError;
-use type_reader::reading::look::is_sign;
 use java_lexer::Token;
 use java_tree::Spelled;
 use racer_base::Text;
 use std::alloc::Global;
+use type_reader::reading::error::ReadError;
+use type_reader::reading::look::is_sign;
 
 /// A bracket that is open (JLS 3.11).
 #[derive(Clone, Copy)]

@@ -14,17 +14,17 @@ ghost use Rattle.type_reader.specs.Finishing.{finished};
 ghost use Rattle.type_reader.specs.Endings.{as_they_are};
 ghost use Rattle.type_reader.specs.ReadAnswer.{Gives};
 
-use type_reader::reading::error::ReadError;
+use super::locals::variables;
+use super::lookahead::{begins_with, final_at, looks_local, name_and_colon};
 use expression_reader::reading::expressions::read_expression;
 use expression_reader::reading::leads::is_step;
-use super::locals::variables;
-use type_reader::reading::look::{after_sign, ident, sign};
-use super::lookahead::{begins_with, final_at, looks_local, name_and_colon};
-use type_reader::reading::types::read_type;
 use java_lexer::Token;
 use java_tree::{Expression, Ident, StartTree, TypeTree};
 use racer_base::Items;
 use std::alloc::Global;
+use type_reader::reading::error::ReadError;
+use type_reader::reading::look::{after_sign, ident, sign};
+use type_reader::reading::types::read_type;
 
 /// What stands in the parentheses of a `for`.
 #[derive(Drop)]

@@ -10,14 +10,14 @@ ghost use Rattle.method_grammar.specs.JavaReaders.{method_readers};
 ghost use Rattle.type_reader.specs.Tokens.{spelled};
 ghost use Rattle.type_reader.specs.ReadAnswer.{Gives};
 
-use type_reader::reading::error::ReadError;
 use super::heads::{ForHead, expression_until, run};
 use super::locals::locals;
-use type_reader::reading::look::sign;
 use super::lookahead::looks_local;
 use java_lexer::Token;
 use java_tree::{Expression, Statement};
 use std::alloc::Global;
+use type_reader::reading::error::ReadError;
+use type_reader::reading::look::sign;
 
 /// Whether a statement is no declaration.
 pub fn is_body(statement: &Statement) -> bool

@@ -9,15 +9,15 @@ ghost use Rattle.type_reader.specs.Finishing.{finished};
 ghost use Rattle.type_reader.specs.Endings.{as_they_are};
 ghost use Rattle.type_reader.specs.ReadAnswer.{Gives};
 
-use type_reader::reading::error::ReadError;
-use expression_reader::reading::initialisers::read_initialiser;
-use type_reader::reading::look::{after_sign, name};
 use super::lookahead::final_at;
-use type_reader::reading::types::read_type;
+use expression_reader::reading::initialisers::read_initialiser;
 use java_lexer::Token;
 use java_tree::{LocalsTree, TypeTree, VariableTree};
 use racer_base::Items;
 use std::alloc::Global;
+use type_reader::reading::error::ReadError;
+use type_reader::reading::look::{after_sign, name};
+use type_reader::reading::types::read_type;
 
 /// A variable, with what it begins with.
 #[tactic(auto, unfolding(method_grammar::specs::StatementReading::variable_at))]

@@ -9,9 +9,11 @@ ghost use Rattle.method_reader.specs.StatementLeadView.{statement_lead_of, LeadI
 ghost use Rattle.method_grammar.specs.StatementReading.{final_at};
 ghost use Rattle.type_reader.specs.Tokens.{spelled};
 
-use type_reader::reading::look::{after_keyword, after_sign, is_keyword, is_listed, is_plain_word, is_sign};
 use java_lexer::{Token, TokenKind};
 use racer_base::Place;
+use type_reader::reading::look::{
+    after_keyword, after_sign, is_keyword, is_listed, is_plain_word, is_sign,
+};
 
 /// JLS 8.4.3.
 const METHOD_MODIFIERS: [&[u8]; 7] = [

@@ -1,22 +1,22 @@
 //! Reading methods and constructors (JLS 8.4, 8.8).
 ghost use Rattle.std.specs.Prelude.{◌<◌, ◌≤◌, ◌^◌, suc, length, map, IfOk};
 ghost use Rattle.java_tree.specs.View.{modifier_of, result_of, method_of};
-ghost use Rattle.method_grammar.specs.MethodReading.{result_at, named_at, method_from, method_at};
+ghost use Rattle.method_grammar.specs.MethodReading.{result_at, named_at, method_from, method_at, if_ended};
 ghost use Rattle.method_grammar.specs.JavaReaders.{method_readers};
 ghost use Rattle.type_reader.specs.Tokens.{spelled};
 ghost use Rattle.type_reader.specs.ReadAnswer.{Gives};
 
 use super::annotations::modifiers;
-use type_reader::reading::error::ReadError;
-use type_reader::reading::look::{after_keyword, name, sign};
 use super::lookahead::is_constructor;
 use super::parameters::{parameters, throws};
 use super::statements::read_block;
-use type_reader::reading::types::read_type;
 use java_lexer::Token;
 use java_tree::{MethodTree, ModifierTree, ResultTree};
 use racer_base::Items;
 use std::alloc::Global;
+use type_reader::reading::error::ReadError;
+use type_reader::reading::look::{after_keyword, name, sign};
+use type_reader::reading::types::read_type;
 
 /// What a method gives, and nothing before a constructor (JLS 8.4.5).
 #[tactic(auto, unfolding(method_grammar::specs::MethodReading::result_at))]
@@ -88,6 +88,16 @@ fn method_from(
     named(alloc, limit, Items::from(modifiers), given, rest)
 }
 
+/// This method, where no tokens stand behind it.
+fn ended(method: MethodTree, rest: &[Token]) -> Result<MethodTree, ReadError>
+    ensures { Gives method_of result (if_ended (method_of method) (map spelled rest.now)) }
+{
+    if !rest.is_empty() {
+        return Err(ReadError::Unformed);
+    }
+    Ok(method)
+}
+
 /// The method that all these tokens are.
 pub fn read_method(alloc: Global, limit: u32, tokens: &[Token]) -> Result<MethodTree, ReadError>
     requires few { length tokens.now < 2 ^ 32 }
@@ -95,8 +105,5 @@ pub fn read_method(alloc: Global, limit: u32, tokens: &[Token]) -> Result<Method
     ensures { Gives method_of result (method_at method_readers limit (map spelled tokens.now)) }
 {
     let (method, rest) = method_from(alloc, limit, tokens)?;
-    if !rest.is_empty() {
-        return Err(ReadError::Unformed);
-    }
-    Ok(method)
+    ended(method, rest)
 }

@@ -11,14 +11,14 @@ ghost use Rattle.type_reader.specs.Endings.{as_they_are};
 ghost use Rattle.type_reader.specs.ReadAnswer.{Gives};
 
 use super::annotations::annotations;
-use type_reader::reading::error::ReadError;
-use type_reader::reading::look::{after_keyword, after_sign, name};
 use super::lookahead::{begins_with, final_at};
-use type_reader::reading::types::read_type;
 use java_lexer::Token;
 use java_tree::{BaseType, ParameterTree, TypeTree};
 use racer_base::Items;
 use std::alloc::Global;
+use type_reader::reading::error::ReadError;
+use type_reader::reading::look::{after_keyword, after_sign, name};
+use type_reader::reading::types::read_type;
 
 /// A formal parameter (JLS 8.4.1).
 #[tactic(auto, unfolding(method_grammar::specs::MethodReading::parameter_at))]

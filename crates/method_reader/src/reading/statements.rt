@@ -10,15 +10,15 @@ ghost use Rattle.method_grammar.specs.JavaReaders.{method_readers};
 ghost use Rattle.type_reader.specs.Tokens.{spelled};
 ghost use Rattle.type_reader.specs.ReadAnswer.{Gives};
 
-use type_reader::reading::error::ReadError;
 use super::heads::{condition, head};
 use super::lines::{boxed, headed, is_body, returned, simple, with_else, without_else};
-use type_reader::reading::look::{after_keyword, after_sign, sign};
 use super::lookahead::{StatementLead, statement_lead};
 use java_lexer::Token;
 use java_tree::{Expression, Statement};
 use racer_base::Place;
 use std::alloc::Global;
+use type_reader::reading::error::ReadError;
+use type_reader::reading::look::{after_keyword, after_sign, sign};
 
 /// A statement of a nesting of at most `limit`.
 #[cycle(statements)]

@@ -1,22 +1,18 @@
 //! The tree that tokens spell, taking all of them.
-ghost use Rattle.std.specs.Prelude.{◌≡◌, ◌<◌, ◌≤◌, ◌^◌, suc, [], length, map, IfOk, IsErrOf};
+ghost use Rattle.std.specs.Prelude.{◌≡◌, ◌<◌, ◌≤◌, ◌^◌, suc, length, map, IfOk, IsErrOf};
 ghost use Rattle.type_reader.specs.declared.reading.error.ReadError.TheVariants.{Unformed};
-ghost use Rattle.java_tree.specs.Trees.{Ty, Init, Method};
-ghost use Rattle.java_tree.specs.Spelling.{ty_onto, init_onto, spelling};
-ghost use Rattle.java_tree.specs.Formed.{FormedTy, FormedInit, FormedMethod};
-ghost use Rattle.java_tree.specs.Nesting.{ty_nesting, init_nesting, method_nesting};
-ghost use Rattle.java_tree.specs.View.{ty_of, init_of, method_of};
-ghost use Rattle.method_grammar.specs.TypeReading.{ty_at};
-ghost use Rattle.method_grammar.specs.ExpressionReading.{init_at};
-ghost use Rattle.type_reader.specs.Whole.{all_of};
+ghost use Rattle.java_tree.specs.Trees.{Method};
+ghost use Rattle.java_tree.specs.Spelling.{spelling};
+ghost use Rattle.java_tree.specs.Formed.{FormedMethod};
+ghost use Rattle.java_tree.specs.Nesting.{method_nesting};
+ghost use Rattle.java_tree.specs.View.{method_of};
 ghost use Rattle.type_reader.specs.Tokens.{spelled};
-ghost use Rattle.type_reader.specs.ReadAnswer.{Gives};
 
-use type_reader::reading::error::ReadError;
 use super::methods;
 use java_lexer::Token;
-use java_tree::{Initialiser, MethodTree, TypeTree};
+use java_tree::MethodTree;
 use std::alloc::Global;
+use type_reader::reading::error::ReadError;
 
 /// The formed method that these tokens spell, of a nesting within the limit (JLS 8.4, 8.8).
 pub fn read_method(alloc: Global, limit: u32, tokens: &[Token]) -> Result<MethodTree, ReadError>
