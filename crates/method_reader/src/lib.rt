@@ -1,7 +1,7 @@
 //! Methods of Java, read from their tokens.
 #![tactic(auto)]
 
-pub mod laws;
-mod spellings;
+mod reading;
 
-pub use spellings::spell_the_same;
+pub use reading::read_method;
+pub use type_reader::ReadError;
