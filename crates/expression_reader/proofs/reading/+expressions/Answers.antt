@@ -1,4 +1,4 @@
-use Rattle.std.proofs.Common.{rules, codes, true, false, ◌≡◌, suc, ◌+◌, ◌-◌, ◌++◌, ◌∷◌, [], length, map, sym, ap}
+use Rattle.std.proofs.Common.{rules, codes, true, false, ◌≡◌, suc, ◌++◌, ◌∷◌, [], length, map, sym, ap}
 use Rattle.std.proofs.Common.{◌∙◌, arith}
 use Rattle.std.proofs.lemmas.Result.{err_from_is_err_and}
 use Rattle.std.proofs.lemmas.List.{map_push}

@@ -1,4 +1,4 @@
-use Rattle.std.proofs.Common.{map, [], refl, arith}
+use Rattle.std.proofs.Common.{map, [], arith}
 use Rattle.java_tree.specs.Spelling.{init_onto}
 use Rattle.java_tree.specs.Formed.{FormedInit}
 use Rattle.java_tree.specs.Nesting.{init_nesting}
