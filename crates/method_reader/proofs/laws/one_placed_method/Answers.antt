@@ -1,4 +1,4 @@
-use Rattle.std.proofs.Common.{List, [], ◌∷◌, Some, None, sym, ◌∙◌}
+use Rattle.std.proofs.Common.{[], ◌∷◌, Some, None, sym, ◌∙◌}
 use Rattle.java_tree.specs.KeptPlaces.{Places, kept}
 use Rattle.java_tree.specs.MethodPlaces.{Marks, method_marks, AreAt}
 use Rattle.java_tree.specs.View.{method_of}
