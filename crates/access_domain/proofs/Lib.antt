@@ -1,3 +1,6 @@
 pub mod Different
 pub mod Firsts
 pub mod RecordOrigins
+pub mod AdditionLemmas
+pub mod KeyOrder
+pub mod ReachedPaths

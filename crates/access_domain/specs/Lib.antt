@@ -1,7 +1,10 @@
 -- A contract of a public call rests on this: the list of files.
 pub mod Records
+pub mod Keys
+pub mod Additions
 pub mod Findings
 pub mod Given
+pub mod Reached
 pub mod Substitution
 pub mod Operations
 pub mod Flow

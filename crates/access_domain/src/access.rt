@@ -1,13 +1,17 @@
 //! Access records.
-ghost use Rattle.std.specs.Prelude.{◌≡◌, ◌≤◌, ◌<◌, [], ◌∷◌, ◌++◌, ◌==◌, Some, length, slice_get};
+ghost use Rattle.std.specs.Prelude.{◌≡◌, ◌≤◌, ◌<◌, [], ◌∷◌, ◌++◌, ◌==◌, Some, length, slice_get, true};
+ghost use Rattle.std.specs.Prelude.{IfOk, OnOk, OnErr, is_ok, if◌then◌else◌};
+ghost use Rattle.std.specs.BTreeSet.{Updates};
 ghost use Rattle.std.specs.List.{list_any};
 ghost use Rattle.racer_base.specs.declared.limits.TheConstants.{MAX_SUMMARY_KEYS};
-ghost use Rattle.access_domain.specs.Records.{same_key, first_of_keys};
+ghost use Rattle.access_domain.specs.Keys.{key_cmp, key_of};
+ghost use Rattle.access_domain.specs.Records.{is_write, same_key, first_of_keys};
 ghost use Rattle.wobbly_paths.specs.Sets.{IsAnswer};
 
 use access_paths::Path;
-use racer_base::{MAX_SUMMARY_KEYS, SiteId, Touch};
+use racer_base::{MAX_SUMMARY_KEYS, Memory, SiteId, Touch};
 use std::alloc::Global;
+use std::collections::BTreeSet;
 use std::marker::Model;
 use wobbly_paths::Adding;
 
@@ -38,10 +42,22 @@ impl Access {
     }
 }
 
+/// What all records of one key share, in an order.
+#[derive(PartialEq, Eq, PartialOrd, Ord, Drop)]
+struct Key {
+    path: Path,
+    is_write: bool,
+    locked: bool,
+    main: bool,
+}
+
 /// At most 1,024 records in order, no two of one key: path, kind and the two flags.
 #[derive(Drop)]
 pub struct Accesses {
+    alloc: Global,
     items: Vec<Access>,
+    /// The keys of the records.
+    keys: BTreeSet<Key>,
 }
 
 impl Model for Accesses {
@@ -50,11 +66,13 @@ impl Model for Accesses {
 
     ghost Value = { List Access };
 
+    ghost use Rattle.access_domain.specs.Keys.{HasKeysOf};
     ghost use Rattle.access_domain.specs.Records.{IsWithin};
 
     ghost view = { λ accesses. accesses.items.items };
 
-    ghost invariant = { λ accesses. IsWithin accesses.items.items };
+    ghost invariant = { λ accesses.
+        IsWithin accesses.items.items × HasKeysOf accesses.keys.keys accesses.items.items };
 }
 
 impl Accesses {
@@ -62,7 +80,9 @@ impl Accesses {
         ensures { result ≡ [] }
     {
         Accesses {
+            alloc,
             items: Vec::new(alloc),
+            keys: BTreeSet::new(alloc),
         }
     }
 
@@ -80,23 +100,50 @@ impl Accesses {
         ensures firsts { first_of_keys self.new ≡ self.new }
         ensures limit { length self.new ≤ MAX_SUMMARY_KEYS }
     {
-        if self.has_key_of(&access) {
+        let (there, access) = self.look_up(access);
+        if there {
             return Adding::Present;
         }
         if self.items.len() >= MAX_SUMMARY_KEYS {
             return Adding::Full;
         }
-        if self.items.push(access).is_err() {
+        let Ok(key) = key_of(self.alloc, &access) else {
             return Adding::Memory;
-        }
+        };
+        let Ok(()) = put(&mut self.items, &mut self.keys, access, key) else {
+            return Adding::Memory;
+        };
         Adding::Added
     }
 
-    /// Whether there is a record of this one's key.
-    fn has_key_of(&self, access: &Access) -> bool
-        ensures { result ≡ list_any (λ r. same_key r access.now) self.now }
+    /// Whether there is a record of this one's key; and this one.
+    fn look_up(&self, access: Access) -> (bool, Access)
+        ensures there { result.0 ≡ list_any (λ r. same_key r access) self.now }
+        ensures same { result.1 ≡ access }
     {
-        self.items.iter().any(|record| record.has_key_of(access))
+        let key = Key {
+            path: access.path,
+            is_write: writes(access.kind),
+            locked: access.locked,
+            main: access.main,
+        };
+        let there = self.keys.contains(&key);
+        let access = Access {
+            path: key.path,
+            kind: access.kind,
+            locked: access.locked,
+            main: access.main,
+            site: access.site,
+            below: access.below,
+        };
+        (there, access)
+    }
+
+    /// The records, in order.
+    pub fn into_vec(self) -> Vec<Access>
+        ensures { result.items ≡ self }
+    {
+        self.items
     }
 
     /// The record of an index.
@@ -121,4 +168,42 @@ impl Accesses {
     {
         self.items.is_empty()
     }
+}
+
+/// Whether an access writes.
+fn writes(kind: Touch) -> bool
+    ensures { result ≡ is_write kind }
+{
+    matches!(kind, Touch::Write)
+}
+
+/// The key of a record.
+fn key_of(alloc: Global, access: &Access) -> Result<Key, Memory>
+    ensures { IfOk result (λ key. key ≡ key_of access.now) }
+{
+    Ok(Key {
+        path: access.path.copied(alloc)?,
+        is_write: writes(access.kind),
+        locked: access.locked,
+        main: access.main,
+    })
+}
+
+/// Puts a record at the end, and its key among the keys. Where memory is refused, both are as before.
+fn put(
+    items: &mut Vec<Access>,
+    keys: &mut BTreeSet<Key>,
+    access: Access,
+    key: Key,
+) -> Result<(), Memory>
+    ensures items { items.new.items ≡ (if is_ok result then items.old.items ++ access ∷ [] else items.old.items) }
+    ensures added { OnOk result (Updates key_cmp keys.old keys.new key true) }
+    ensures same { OnErr result (keys.new.keys ≡ keys.old.keys) }
+{
+    items.push(access)?;
+    if keys.insert(key).is_err() {
+        items.pop();
+        return Err(Memory);
+    }
+    Ok(())
 }

@@ -8,6 +8,7 @@
 //! - `specs/Records.antt`: keys, and the first record of each.
 //! - `specs/Findings.antt`: what is known of a method, in lists (`Known`), and the same as an `Outcome`.
 //! - `specs/Given.antt`: what a flow needs of a program (`Given`), and `given_of` a program's parts.
+//! - `specs/Reached.antt`: the path of an access, by the value of the field.
 //! - `specs/Substitution.antt`: what is found of a callee, in its caller's values.
 //! - `specs/Operations.antt`: what one operation does.
 //! - `specs/Flow.antt`: the flow of a piece of code, by cases on its tree.
@@ -18,6 +19,8 @@
 mod access;
 pub mod laws;
 mod summary;
+mod touching;
 
 pub use access::{Access, Accesses};
 pub use summary::{Outcome, Outcomes, Summary};
+pub use touching::{Touched, path_reached, touched_field};

@@ -9,12 +9,22 @@ use Rattle.access_paths.specs.declared.path.Root.{Root}
 use Rattle.access_paths.specs.declared.path.Root.TheVariants.{This, Class, Formal, Some as SomeOf}
 use Rattle.access_paths.specs.declared.path.Path.{Path}
 
--- the form of a root and the number in it, 0 where it has none
+-- the number of the form of a root
+abbrev pub root_form : Root → ℕ
+root_form This = 0
+root_form (Class c) = 1
+root_form (Formal i) = 2
+root_form (SomeOf c) = 3
+
+-- the number in a root, 0 where it has none
+abbrev pub root_number : Root → ℕ
+root_number This = 0
+root_number (Class c) = c.0
+root_number (Formal i) = i
+root_number (SomeOf c) = c.0
+
 abbrev pub root_key : Root → List ℕ
-root_key This = 0 ∷ 0 ∷ []
-root_key (Class c) = 1 ∷ c.0 ∷ []
-root_key (Formal i) = 2 ∷ i ∷ []
-root_key (SomeOf c) = 3 ∷ c.0 ∷ []
+root_key root = root_form root ∷ root_number root ∷ []
 
 -- the numbers of a path: of its root, and then of its fields
 abbrev pub path_key : Path → List ℕ

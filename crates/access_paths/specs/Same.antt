@@ -2,7 +2,9 @@
 -- equal, and exactly where the order ties them.
 use Rattle.std.proofs.Common.{◌≡◌, ℕ, true, ◌&&◌, List, [], ◌∷◌, ◌++◌, map, nat_eq, refl, sym, ap, ◌∙◌}
 use Rattle.std.specs.Ordering.{eq_by_cmp}
-use Rattle.std.specs.Cmp.{IsTotalOrder, IsPartialEquivalence}
+use Rattle.std.specs.Cmp.{IsTotalOrder, IsPartialEquivalence, IsEquivalence, IsPartialOrder}
+use Rattle.std.specs.Cmp.{equiv, partial_order_from_agreeing_total}
+use Rattle.std.specs.Ordering.{as_partial_cmp}
 use Rattle.std.specs.Cmp.Lexicographic.{pointwise, same_text, texts_ties, nat_list_cmp_total, nat_list_eq_equiv}
 use Rattle.std.specs.Cmp.Derive.Mapped.{pointwise-map}
 use Rattle.std.specs.FinMap.{IsAntisymmetric, nat_cmp-IsAntisymmetric, slice_cmp-IsAntisymmetric}
@@ -94,3 +96,10 @@ same_path-laws =
       symm = λ p q. same_path-key p q ∙ nat_list_eq_equiv.symm (path_key p) (path_key q) ∙ sym (same_path-key q p);
       trans = λ p q r pq qr. same_of_equal p r (equal_of_same p q pq ∙ equal_of_same q r qr);
     }
+
+pub same_path-equivalence : IsEquivalence same_path
+same_path-equivalence = equiv same_path-laws same_path-itself
+
+pub path_cmp-partial : IsPartialOrder same_path (as_partial_cmp path_cmp)
+path_cmp-partial =
+    partial_order_from_agreeing_total path_cmp path_cmp-total (λ p q. refl) (λ p q. sym (tied p q))

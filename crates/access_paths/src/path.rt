@@ -1,9 +1,11 @@
 //! Paths.
 ghost use Rattle.std.specs.Prelude.{◌≡◌, false, IfOk};
-ghost use Rattle.access_paths.specs.Paths.{extended, is_prefix, is_some_root};
+ghost use Rattle.access_paths.specs.Order.{path_cmp, root_form, root_number};
+ghost use Rattle.access_paths.specs.Paths.{alone, some_path, extended, is_prefix, is_some_root};
 
 use racer_base::{ClassId, FieldId, Items, MAX_PATH_FIELDS, Memory};
 use std::alloc::Global;
+use std::cmp::Ordering;
 
 /// Where a path begins.
 #[derive(Clone, Copy, Debug, PartialEq, Eq)]
@@ -25,6 +27,29 @@ impl Root {
     {
         matches!(self, Root::Some(_))
     }
+
+    /// The number of the form of a root.
+    fn form(self) -> u32
+        ensures { result ≡ root_form self }
+    {
+        match self {
+            Root::This => 0,
+            Root::Class(_) => 1,
+            Root::Formal(_) => 2,
+            Root::Some(_) => 3,
+        }
+    }
+
+    /// The number in a root, 0 where it has none.
+    fn number(self) -> u32
+        ensures { result ≡ root_number self }
+    {
+        match self {
+            Root::This => 0,
+            Root::Class(class) | Root::Some(class) => class.0,
+            Root::Formal(number) => number,
+        }
+    }
 }
 
 /// A root and at most sixteen fields. One whose root is `Some(c)` has exactly one field, declared in c.
@@ -35,6 +60,28 @@ pub struct Path {
 }
 
 impl Path {
+    /// A root without fields.
+    pub fn alone(alloc: Global, root: Root) -> Path
+        ensures { result ≡ alone root }
+    {
+        Path {
+            root,
+            fields: Items::new(alloc),
+        }
+    }
+
+    /// A field of some object of a class.
+    pub fn of_some(alloc: Global, class: ClassId, f: FieldId) -> Result<Path, Memory>
+        ensures { IfOk result (λ path. path ≡ some_path class f) }
+    {
+        let mut fields = Items::new(alloc);
+        fields.push(f)?;
+        Ok(Path {
+            root: Root::Some(class),
+            fields,
+        })
+    }
+
     /// The path with this field at its end, or `None` where it has sixteen fields already.
     pub fn extended(&self, alloc: Global, f: FieldId) -> Result<Option<Path>, Memory>
         requires { is_some_root self.now.root ≡ false }
@@ -81,4 +128,51 @@ impl PartialEq for Path {
     fn eq(&self, other: &Path) -> bool {
         self.root == other.root && self.fields.as_slice() == other.fields.as_slice()
     }
+}
+
+impl Eq for Path {
+    ghost use Rattle.access_paths.specs.Same.{same_path-equivalence};
+
+    ghost laws = { same_path-equivalence };
+}
+
+impl PartialOrd for Path {
+    ghost use Rattle.std.specs.Ordering.{as_partial_cmp};
+    ghost use Rattle.access_paths.specs.Order.{path_cmp};
+    ghost use Rattle.access_paths.specs.Same.{path_cmp-partial};
+
+    ghost partial_cmp = { as_partial_cmp path_cmp };
+
+    ghost laws = { path_cmp-partial };
+
+    fn partial_cmp(&self, other: &Path) -> Option<Ordering> {
+        Some(compare(self, other))
+    }
+}
+
+impl Ord for Path {
+    ghost use Rattle.std.proofs.Common.{refl, sym};
+    ghost use Rattle.access_paths.specs.Order.{path_cmp};
+    ghost use Rattle.access_paths.specs.Same.{path_cmp-total, tied};
+
+    ghost cmp = { path_cmp };
+
+    ghost total = { path_cmp-total };
+
+    ghost matches_partial_cmp = { λ p q. refl };
+
+    ghost matches_eq = { λ p q. sym (tied p q) };
+
+    fn cmp(&self, other: &Path) -> Ordering {
+        compare(self, other)
+    }
+}
+
+/// The order of two paths: of the forms of their roots, of the numbers in these, and of their fields in turn.
+fn compare(p: &Path, q: &Path) -> Ordering
+    ensures { result ≡ path_cmp p.now q.now }
+{
+    let forms = p.root.form().cmp(&q.root.form());
+    let numbers = p.root.number().cmp(&q.root.number());
+    forms.then(numbers.then(p.fields.as_slice().cmp(q.fields.as_slice())))
 }

@@ -1,4 +1,4 @@
-//! The tests of the analysis: programs, paths, values, records, warnings. They stand here, over public calls alone,
+//! The tests of the analysis: programs, paths, values, records, substitution, warnings. They stand here, over public calls alone,
 //! since a crate with tests is proved twice. There is no code.
 #![tactic(auto)]
 
@@ -8,6 +8,8 @@ mod paths;
 mod programs;
 #[cfg(test)]
 mod records;
+#[cfg(test)]
+mod substitution;
 #[cfg(test)]
 mod values;
 #[cfg(test)]

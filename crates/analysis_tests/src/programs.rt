@@ -52,19 +52,23 @@ fn fields(alloc: Global, name: &str) -> Result<Items<FieldCore>, Fail>
     Ok(fields)
 }
 
-#[test]
-fn makes_a_program(rt: HostRuntime) -> Result<(), Fail> {
-    let alloc = rt.alloc();
+/// A program of a class with a field of a primitive type, and no method.
+pub fn one_field(alloc: Global) -> Result<Program, Fail> {
     let files = files(alloc, "Pair.java")?;
     let classes = classes(alloc, "Pair")?;
     let fields = fields(alloc, "a")?;
-    let program = Program::of(Parts {
+    Ok(Program::of(Parts {
         files,
         skipped: Items::new(alloc),
         classes,
         fields,
         methods: Items::new(alloc),
-    });
+    }))
+}
+
+#[test]
+fn makes_a_program(rt: HostRuntime) -> Result<(), Fail> {
+    let program = one_field(rt.alloc())?;
     assert_eq!(rt; program.files().len(), 1);
     assert_eq!(rt; program.skipped().len(), 0);
     assert_eq!(rt; program.methods().len(), 0);

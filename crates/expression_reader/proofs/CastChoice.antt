@@ -5,17 +5,17 @@ use Rattle.std.specs.Prelude.{bytes_eq}
 use Rattle.java_lexer.specs.declared.token.TokenKind.{TokenKind}
 use Rattle.java_lexer.specs.declared.token.TokenKind.TheVariants as kind
 use Rattle.java_tree.specs.declared.words.Spelled.{Spelled}
-use Rattle.java_tree.specs.Words.{sign, sign_glued}
-use Rattle.java_tree.specs.Brackets.{is_sign, is_sign_kind, is_some_and}
-use Rattle.java_tree.specs.Formed.{is_plain_word, FormedExpr}
+use Rattle.java_tree.specs.Words.{sign_glued}
+use Rattle.java_tree.specs.Brackets.{is_sign, is_some_and}
+use Rattle.java_tree.specs.Formed.{is_plain_word}
 use Rattle.java_tree.specs.Operators.{unary_level, is_prefix}
 use Rattle.java_tree.specs.Trees.{Ty, Typed, Base, Plain, Named, Parts, no_part, part_then, Part, Bare, Generic}
 use Rattle.java_tree.specs.Trees.{Arguments, Angled, ArgumentList, no_argument, argument_then, Argument, Exact, Any}
 use Rattle.java_tree.specs.Trees.{Extends, Super, Expr, Cast, Paren}
 use Rattle.java_tree.specs.Spelling.{brackets_onto, ty_onto, base_onto, parts_onto, more_parts_onto, part_onto}
-use Rattle.java_tree.specs.Spelling.{angled_onto, arguments_onto, more_arguments_onto, argument_onto, expr_onto}
+use Rattle.java_tree.specs.Spelling.{angled_onto, arguments_onto, more_arguments_onto, argument_onto}
 use Rattle.method_grammar.specs.Taking.{◌>>=◌, is_keyword_kind, after_sign}
-use Rattle.method_grammar.specs.TypeReading.{after_plain, ty_at, made_base_at}
+use Rattle.method_grammar.specs.TypeReading.{ty_at, made_base_at}
 use Rattle.method_grammar.specs.Leads.{behind, is_plain_cast, opens_operand, opens_signed, casts}
 use Rattle.method_grammar.specs.ExpressionReading.{Reading, cast_with, parens_with, operand_of, read_at, array_at}
 use Rattle.method_grammar.proofs.Behind.{balanced}

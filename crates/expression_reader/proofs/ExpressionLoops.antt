@@ -1,6 +1,6 @@
 -- The loops that read expressions: lengths, items of arrays and turns.
-use Rattle.std.proofs.Common.{◌≡◌, ℕ, zero, suc, ◌+◌, ◌-◌, ◌≤◌, ◌<◌, Bool, true, false, List, [], ◌∷◌, ◌++◌, length}
-use Rattle.std.proofs.Common.{map, codes, Option, Some, None, nat_le, if◌then◌else◌, refl, sym, ap, ◌∙◌}
+use Rattle.std.proofs.Common.{◌≡◌, ℕ, suc, ◌+◌, ◌-◌, ◌≤◌, ◌<◌, Bool, true, false, List, [], ◌∷◌, ◌++◌, length}
+use Rattle.std.proofs.Common.{map, codes, Option, Some, None, refl, sym, ap, ◌∙◌}
 use Rattle.std.proofs.Common.{append_assoc, append-nil, arith}
 use Rattle.java_lexer.specs.declared.token.Token.{Token}
 use Rattle.java_tree.specs.declared.words.Spelled.{Spelled}
@@ -10,7 +10,7 @@ use Rattle.type_reader.specs.declared.reading.error.ReadError.TheVariants.{Memor
 use Rattle.method_grammar.specs.Taking.{◌>>=◌, match_option, after_sign}
 use Rattle.method_grammar.specs.TypeReading.{after_brackets}
 use Rattle.method_grammar.specs.Leads.{Lead, Assigns, Asks, Joins, Tests, Steps, Selects, Indexes, Opens, Ends, lead}
-use Rattle.method_grammar.specs.ExpressionReading.{Reading, Turn, Stop, Next, turn_with, climb_with, lengths_with}
+use Rattle.method_grammar.specs.ExpressionReading.{Reading, Stop, Next, turn_with, climb_with, lengths_with}
 use Rattle.method_grammar.specs.ExpressionReading.{items_with}
 use Rattle.type_reader.specs.Tokens.{spelled}
 use Rattle.type_reader.specs.Finishing.{finished}

@@ -1,5 +1,5 @@
 -- No public contract rests on this: whether an expression goes on with what the first token begins.
-use Rattle.std.specs.Prelude.{ℕ, suc, Bool, true, false, not, ◌&&◌, nat_le}
+use Rattle.std.specs.Prelude.{ℕ, suc, Bool, false, not, ◌&&◌, nat_le}
 use Rattle.java_tree.specs.Trees.{Expr}
 use Rattle.java_tree.specs.Operators.{assignment_level, conditional_level, relational_level, postfix_level}
 use Rattle.java_tree.specs.Operators.{primary_level, binary_level}

@@ -3,3 +3,5 @@ pub mod BracketLoops
 pub mod ForHeads
 pub mod StatementLoops
 pub mod WholeMethods
+pub mod LedMarks
+pub mod LeadingWords

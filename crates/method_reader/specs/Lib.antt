@@ -3,3 +3,5 @@ pub mod HeadReading
 pub mod HeadView
 pub mod AwaitedBrackets
 pub mod ModifierReading
+pub mod LedPlaces
+pub mod PlacedMethods

@@ -1,6 +1,7 @@
 //! Methods of Java, read from their tokens.
 #![tactic(auto)]
 
+pub mod laws;
 mod reading;
 
 pub use reading::read_method;

@@ -1,2 +1,4 @@
 pub mod Joins
 pub mod BothWays
+pub mod Along
+pub mod Shorter

@@ -1,5 +1,5 @@
 //! The join of two states.
-ghost use Rattle.std.specs.Prelude.{◌≡◌, ◌++◌, IfOk, OnOk, length};
+ghost use Rattle.std.specs.Prelude.{◌≡◌, ◌++◌, IfOk, OnOk};
 ghost use Rattle.owner_domain.specs.Values.{names_of, joined, lost, joined_values, lost_values, joined_state};
 ghost use Rattle.owner_domain.specs.Values.{lost_state};
 
@@ -9,10 +9,8 @@ use racer_base::{Items, Memory};
 use std::alloc::Global;
 
 /// The state where two ways meet, and the paths that are lost there: those that two different values name, in
-/// order of slots.
+/// order of slots. What has no partner in the other state is left out.
 pub fn join(alloc: Global, a: &State, b: &State) -> Result<(State, Vec<Path>), Memory>
-    requires vars { length a.now.vars ≡ length b.now.vars }
-    requires stack { length a.now.stack ≡ length b.now.stack }
     ensures state { IfOk result (λ made. made.0 ≡ joined_state a.now b.now) }
     ensures lost { IfOk result (λ made. made.1.items ≡ lost_state a.now b.now) }
 {
@@ -32,13 +30,12 @@ fn join_values(
     b: &[Value],
     names: &mut Vec<Path>,
 ) -> Result<Vec<Value>, Memory>
-    requires { length a.now ≡ length b.now }
     ensures values { IfOk result (λ made. made.items ≡ joined_values a.now b.now) }
     ensures lost { OnOk result (names.new.items ≡ names.old.items ++ lost_values a.now b.now) }
 {
     let mut values = Vec::new(alloc);
-    for (slot, left) in a.iter().enumerate() {
-        let value = join_value(alloc, left, &b[slot], names)?;
+    for slot in 0..a.len().min(b.len()) {
+        let value = join_value(alloc, &a[slot], &b[slot], names)?;
         values.push(value)?;
     }
     Ok(values)

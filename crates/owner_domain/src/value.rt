@@ -1,8 +1,10 @@
 //! Values and states.
 ghost use Rattle.std.specs.Prelude.{◌≡◌, IfOk};
+ghost use Rattle.owner_domain.specs.declared.value.Value.TheVariants.{Named as NamedBy};
+ghost use Rattle.owner_domain.specs.Values.{along};
 
 use access_paths::Path;
-use racer_base::{Items, Memory};
+use racer_base::{FieldId, Items, MAX_PATH_FIELDS, Memory};
 use std::alloc::Global;
 
 /// What is known of a value.
@@ -33,6 +35,37 @@ impl Value {
             Value::Unnamed => Ok(Value::Unnamed),
         }
     }
+
+    /// The value that is reached from this one by these fields in turn.
+    pub fn along(&self, alloc: Global, fields: &[FieldId]) -> Result<Value, Memory>
+        ensures { IfOk result (λ value. value ≡ along self.now fields.now) }
+    {
+        match self {
+            Value::Owned => Ok(Value::Owned),
+            Value::Named(path) => along_path(alloc, path, fields),
+            Value::Unnamed => Ok(Value::Unnamed),
+        }
+    }
+}
+
+/// The value that is reached by these fields in turn from one that is named by this path.
+fn along_path(alloc: Global, path: &Path, fields: &[FieldId]) -> Result<Value, Memory>
+    ensures { IfOk result (λ value. value ≡ along (NamedBy path.now) fields.now) }
+{
+    if fields.is_empty() {
+        return Ok(Value::Named(path.copied(alloc)?));
+    }
+    let room = MAX_PATH_FIELDS.saturating_sub(path.fields.len());
+    if fields.len() > room {
+        return Ok(Value::Unnamed);
+    }
+    let mut longer = Vec::with_capacity(alloc, path.fields.len() + fields.len())?;
+    longer.extend_from_slice(path.fields.as_slice())?;
+    longer.extend_from_slice(fields)?;
+    Ok(Value::Named(Path {
+        root: path.root,
+        fields: Items::from(longer),
+    }))
 }
 
 impl PartialEq for Value {

@@ -4,8 +4,8 @@ use Rattle.std.specs.List.{list_all}
 use Rattle.java_parser.specs.Tree as grammar
 use Rattle.java_parser.specs.Tree.{Set, Sync, no_statement, statement_then, Class}
 use Rattle.core_code.specs.Core.{Method}
-use Rattle.racer_cli.specs.Lowering.{Around, lowered, all_lowered, body_lowered, size_of, method_lowered, methods_from}
-use Rattle.racer_cli.specs.Lowering.{program_of}
+use Rattle.core_lowering.specs.Lowering.{Around, lowered, all_lowered, body_lowered, size_of, method_lowered, methods_from}
+use Rattle.core_lowering.specs.Lowering.{program_of}
 use Rattle.racer_cli.specs.FirstCode.{is_first_code, is_first_program}
 
 mutual

@@ -15,10 +15,10 @@ use Rattle.wobbly_paths.specs.Sets.{IsAnswer}
 use Rattle.access_domain.specs.declared.access.Access.{Access}
 use Rattle.access_domain.specs.Records.{same_key, first_of_keys, different_paths}
 use Rattle.access_domain.proofs.Different.{from_list-different}
-use Rattle.racer_cli.proofs.Additions.{key_added, keys_added, paths_added}
+use Rattle.access_domain.specs.Additions.{key_added, keys_added, paths_added}
 use Rattle.racer_cli.specs.Walks.{unless_many}
-use Rattle.racer_cli.proofs.AdditionLemmas.{keys_added-longer, keys_added-nil, paths_added-longer, paths_added-empty}
-use Rattle.racer_cli.proofs.AdditionLemmas.{len-from_list}
+use Rattle.access_domain.proofs.AdditionLemmas.{keys_added-longer, keys_added-nil, paths_added-longer, paths_added-empty}
+use Rattle.access_domain.proofs.AdditionLemmas.{len-from_list}
 
 pub nothing_left : {X : Type 0} (xs : List X) (n : ℕ) → n ≡ length xs → n ≡ 0 → xs ≡ []
 nothing_left [] n e z = refl
@@ -53,27 +53,6 @@ too_many_records kept all left rest x e more new full =
     sym (unless_more (length (first_of_keys all)) (first_of_keys all) (omega arith))
 
 -- ---- paths
-
-covered : (kept : PathSet) (x q : Path) → set.contains kept x ≡ true → (b : Bool) → eq_by_cmp path_cmp q x ≡ b →
-    (b || set.contains kept q) ≡ set.contains kept q
-covered kept x q there true e =
-    let same : q ≡ x = equal_of_same q x (sym (tied q x) ∙ e) in
-    sym there ∙ ap (set.contains kept) (sym same)
-covered kept x q there false e = refl
-
--- what is there is not added
-pub paths-present : (kept : PathSet) (x : Path) → set.contains kept x ≡ true → set.insert kept x ≡ kept
-paths-present kept x there =
-    set.same_set path_cmp-total path_cmp-IsAntisymmetric _ _
-    (λ q. set.contains-insert path_cmp-total kept x q ∙ covered kept x q there (eq_by_cmp path_cmp q x) refl)
-
-pub added_path : (kept new : PathSet) (x : Path) (answer : Adding) →
-    IsAnswer (set.contains kept x) (set.len kept) kept new (set.insert kept x) answer
-    → (answer ≡ Added) ⊎ (answer ≡ Present) → new ≡ set.insert kept x
-added_path kept new x Added a is = a.2
-added_path kept new x Present a is = a.1 ∙ sym (paths-present kept x a.0)
-added_path kept new x Full a is = elim is [ inl e ↦ cc | inr e ↦ cc ]
-added_path kept new x Memory a is = elim is [ inl e ↦ cc | inr e ↦ cc ]
 
 pub all_paths : (kept : PathSet) (all left : List Path) → paths_added kept left ≡ paths_added set.empty all →
     left ≡ [] → set.len kept ≤ MAX_SUMMARY_KEYS →

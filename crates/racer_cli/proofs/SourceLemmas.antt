@@ -22,7 +22,7 @@ use Rattle.java_lexer.specs.FirstKinds.{first_lexis}
 use Rattle.java_lexer.specs.FirstTokens.{first_tokens_of, first_tokens}
 use Rattle.java_parser.specs.Tree.{Class}
 use Rattle.java_parser.proofs.OneReading.{one_file}
-use Rattle.racer_cli.specs.Lowering.{program_of}
+use Rattle.core_lowering.specs.Lowering.{program_of}
 use Rattle.racer_cli.specs.declared.said.Said.{Said}
 use Rattle.racer_cli.specs.Words.{Request}
 use Rattle.racer_cli.specs.Said.{said_from, Says}

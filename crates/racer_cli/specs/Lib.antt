@@ -1,16 +1,10 @@
 -- A contract of a public call rests on this: the list of files.
 pub mod Number
 pub mod Words
-pub mod Lowering
-pub mod Report
 pub mod FirstCode
 pub mod Walks
-pub mod InFile
-pub mod LoweringSteps
-pub mod LoweringExamples
 pub mod Source
 pub mod Counted
 pub mod Said
 pub mod Causes
 pub mod FolderCalls
-pub mod Places

@@ -8,7 +8,7 @@ use Rattle.racer_cli.specs.declared.status.Status.{Status}
 use Rattle.racer_cli.specs.declared.status.Status.TheVariants.{Clean, Warned, Refused}
 use Rattle.racer_cli.specs.Words.{Request}
 use Rattle.racer_cli.specs.Source.{Source, Refusal, Accepted, IsSource}
-use Rattle.racer_cli.specs.Report.{report_text}
+use Rattle.race_report.specs.Report.{report_text}
 
 abbrev pub usage_text : List ℕ
 usage_text = codes "usage: racer FOLDER\n"

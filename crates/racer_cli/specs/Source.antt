@@ -11,7 +11,7 @@ use Rattle.java_parser.specs.Files.{IsFile}
 use Rattle.core_code.specs.declared.program.Program.{Program}
 use Rattle.core_code.specs.Program.{core}
 use Rattle.core_code.specs.Core.{Core}
-use Rattle.racer_cli.specs.Lowering.{program_of}
+use Rattle.core_lowering.specs.Lowering.{program_of}
 
 -- what the sources are: refused with a line, or a program
 pub data Source : Type 0 where

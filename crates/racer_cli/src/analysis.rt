@@ -18,7 +18,7 @@ ghost use Rattle.access_domain.specs.Findings.{outcome_from};
 ghost use Rattle.access_domain.specs.Summaries.{parameter_value, passed_values, start_of, known_from, known_given};
 ghost use Rattle.access_domain.specs.Outcomes.{AreOutcomes};
 ghost use Rattle.java_parser.specs.Tree.{Class};
-ghost use Rattle.racer_cli.specs.Lowering.{program_of};
+ghost use Rattle.core_lowering.specs.Lowering.{program_of};
 ghost use Rattle.racer_cli.specs.FirstCode.{is_first_code, is_first_op, is_first_program};
 ghost use Rattle.owner_domain.specs.Values.{has_known_root};
 ghost use Rattle.racer_cli.specs.Walks.{unknown, given, state, flow_here, IsLeft, IsFlow, gathered, unless_many};

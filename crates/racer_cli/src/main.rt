@@ -3,12 +3,7 @@
 
 mod analysis;
 mod laws;
-mod lowering;
-mod lowering_laws;
 mod operands;
-mod places;
-mod report;
-mod report_laws;
 mod request;
 mod run;
 mod said;

@@ -12,13 +12,13 @@ ghost use Rattle.racer_cli.specs.Causes.{asked_of, AsksFor, IsDue, is_said};
 ghost use Rattle.racer_cli.specs.FolderCalls.{CountsFaults, FailsByMemory, IsSaidOfFile, IsSaidOfCount};
 
 use crate::analysis::outcomes;
-use crate::report::report;
 use crate::request::requested_folder;
 use crate::source::source_program;
 use crate::sources::{Counted, count, sources};
 use crate::status::Status;
 use core_code::{Parts, Program};
 use race_pairs::warnings;
+use race_report::report;
 use racer_base::{Folder, FolderFault, Items, MAX_FILE_BYTES, Memory, Text};
 use std::alloc::Global;
 

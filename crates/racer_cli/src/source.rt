@@ -4,8 +4,8 @@ ghost use Rattle.core_code.specs.Program.{core};
 ghost use Rattle.racer_cli.specs.FirstCode.{is_first_program};
 ghost use Rattle.racer_cli.specs.Source.{IsOneSource, source_found};
 
-use crate::lowering::lower_first;
 use core_code::Program;
+use core_lowering::lower_first;
 use java_lexer::lex_first;
 use java_parser::{FirstFault, parse_first};
 use racer_base::{FileId, MAX_FILE_BYTES, Memory};

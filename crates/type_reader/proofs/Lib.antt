@@ -2,3 +2,5 @@ pub mod ReadLoops
 pub mod PushedNesting
 pub mod MadePartLoop
 pub mod WholeTrees
+pub mod KeptTokens
+pub mod PutPlaces

@@ -4,3 +4,4 @@ pub mod Finishing
 pub mod Endings
 pub mod PointBehind
 pub mod Whole
+pub mod Placed

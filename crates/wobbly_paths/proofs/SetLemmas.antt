@@ -1,11 +1,12 @@
 -- Sets of paths that are kept as lists.
-use Rattle.std.proofs.Common.{◌≡◌, ℕ, ◌+◌, ◌<◌, ◌≤◌, Bool, true, false, cond, ◌&&◌, List, [], ◌∷◌, ◌++◌, length, min}
+use Rattle.std.proofs.Common.{◌≡◌, ℕ, ◌+◌, ◌<◌, ◌≤◌, Bool, true, false, cond, ◌&&◌, ◌||◌, List, [], ◌∷◌, ◌++◌, length, min}
 use Rattle.std.proofs.Common.{take, nat_eq, refl, sym, ap, ◌∙◌, arith, eq-eqb}
 use borrow.Author.Tests.{eqb-true}
 use Rattle.std.specs.List.{list_any}
 use Rattle.std.specs.Cmp.{both_ways}
 use Rattle.std.specs.FinSet as set
-use Rattle.std.proofs.Common.{length-append, length-take}
+use Rattle.std.specs.Ordering.{eq_by_cmp}
+use Rattle.std.proofs.Common.{length-take}
 use Rattle.racer_base.specs.declared.ids.FieldId.{FieldId}
 use Rattle.racer_base.specs.declared.limits.TheConstants.{MAX_SUMMARY_KEYS}
 use Rattle.access_paths.specs.declared.path.Path.{Path}
@@ -44,19 +45,40 @@ pub list_any-front : (paths : List Path) (q : Path) (n : ℕ) → n ≤ length q
     list_any (λ p. nat_eq (length p.fields) n && is_prefix p q) paths ≡ set.contains (set_of paths) (front n q)
 list_any-front paths q n within = (λ i. list_any (λ p. front_is p q n within i) paths) ∙ list_any-set paths (front n q)
 
--- one more path
-pub set_of-push : (paths : List Path) (q : Path) → set_of (paths ++ q ∷ []) ≡ set.insert (set_of paths) q
-set_of-push paths q = set.from_list_push path_cmp-total path_cmp-IsAntisymmetric paths q
+-- what the ordered set has is in the set
+pub contains-set : (paths : List Path) (q : Path) →
+    list_any (eq_by_cmp path_cmp q) paths ≡ set.contains (set_of paths) q
+contains-set paths q = sym (set.contains-from_list path_cmp-total paths q)
 
-pub IsWithin-push : (paths : List Path) (q : Path) → IsWithin paths → set.contains (set_of paths) q ≡ false →
-    length paths < MAX_SUMMARY_KEYS → IsWithin (paths ++ q ∷ [])
-IsWithin-push paths q w new room =
-    let grown : set.len (set_of (paths ++ q ∷ [])) ≡ cond false (set.len (set_of paths)) (set.len (set_of paths) + 1) =
-    ap set.len (set_of-push paths q) ∙ set.len-insert path_cmp-total (set_of paths) q
-    ∙ ap (λ b. cond b (set.len (set_of paths)) (set.len (set_of paths) + 1)) new
+either : (a b c : Bool) → a ≡ b → cond a true c ≡ (b || c)
+either true b c e = ap (λ d. d || c) e
+either false b c e = ap (λ d. d || c) e
+
+tied_back : (x q : Path) → eq_by_cmp path_cmp x q ≡ eq_by_cmp path_cmp q x
+tied_back x q = tied x q ∙ same_path-laws.symm x q ∙ sym (tied q x)
+
+-- one more path
+pub set_of-added : (old new : List Path) (x : Path) →
+    ((q : Path) → list_any (eq_by_cmp path_cmp q) new ≡
+    cond (eq_by_cmp path_cmp x q) true (list_any (eq_by_cmp path_cmp q) old)) →
+    set_of new ≡ set.insert (set_of old) x
+set_of-added old new x has =
+    set.same_set path_cmp-total path_cmp-IsAntisymmetric _ _
+    (λ q.
+    sym (contains-set new q)
+    ∙ has q
+    ∙ either (eq_by_cmp path_cmp x q) (eq_by_cmp path_cmp q x) (list_any (eq_by_cmp path_cmp q) old) (tied_back x q)
+    ∙ ap (λ b. eq_by_cmp path_cmp q x || b) (contains-set old q)
+    ∙ sym (set.contains-insert path_cmp-total (set_of old) x q))
+
+pub IsWithin-added : (old new : List Path) (x : Path) → IsWithin old → set.contains (set_of old) x ≡ false →
+    set_of new ≡ set.insert (set_of old) x → length new ≡ length old + 1 → length old < MAX_SUMMARY_KEYS → IsWithin new
+IsWithin-added old new x w fresh grown long room =
+    let count : set.len (set_of new) ≡ cond false (set.len (set_of old)) (set.len (set_of old) + 1) =
+    ap set.len grown ∙ set.len-insert path_cmp-total (set_of old) x
+    ∙ ap (λ b. cond b (set.len (set_of old)) (set.len (set_of old) + 1)) fresh
     in
-    let were : set.len (set_of paths) ≡ length paths = w.different in
-    let long : length (paths ++ q ∷ []) ≡ length paths + 1 = length-append paths (q ∷ []) in
+    let were : set.len (set_of old) ≡ length old = w.different in
     record { different = omega arith; limit = omega arith }
 
 pub IsWithin-none : IsWithin []

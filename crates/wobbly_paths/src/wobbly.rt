@@ -9,6 +9,7 @@ ghost use Rattle.wobbly_paths.specs.Sets.{IsAnswer, HasNoPrefix, IsShortestPrefi
 use access_paths::Path;
 use racer_base::{MAX_SUMMARY_KEYS, Memory};
 use std::alloc::Global;
+use std::collections::BTreeSet;
 use std::marker::Model;
 
 /// What became of something that was to be added.
@@ -26,7 +27,7 @@ pub enum Adding {
 /// A set of at most 1,024 paths.
 #[derive(Drop)]
 pub struct Wobbly {
-    paths: Vec<Path>,
+    paths: BTreeSet<Path>,
 }
 
 impl Model for Wobbly {
@@ -40,9 +41,9 @@ impl Model for Wobbly {
 
     ghost use Rattle.wobbly_paths.specs.Inside.{set_of, IsWithin};
 
-    ghost view = { λ wobbly. set_of wobbly.paths.items };
+    ghost view = { λ wobbly. set_of wobbly.paths.keys };
 
-    ghost invariant = { λ wobbly. IsWithin wobbly.paths.items };
+    ghost invariant = { λ wobbly. IsWithin wobbly.paths.keys };
 }
 
 impl Wobbly {
@@ -50,7 +51,7 @@ impl Wobbly {
         ensures { result ≡ set.empty }
     {
         Wobbly {
-            paths: Vec::new(alloc),
+            paths: BTreeSet::new(alloc),
         }
     }
 
@@ -63,13 +64,27 @@ impl Wobbly {
         if self.has(&path) {
             return Adding::Present;
         }
-        if self.paths.len() >= MAX_SUMMARY_KEYS {
+        if self.len() >= MAX_SUMMARY_KEYS {
             return Adding::Full;
         }
-        if self.paths.push(path).is_err() {
+        let Ok(_) = self.paths.insert(path) else {
             return Adding::Memory;
-        }
+        };
         Adding::Added
+    }
+
+    /// Whether a path is in the set.
+    fn has(&self, path: &Path) -> bool
+        ensures { result ≡ set.contains self.now path.now }
+    {
+        self.paths.contains(path)
+    }
+
+    /// How many paths there are.
+    fn len(&self) -> usize
+        ensures { result ≡ set.len self.now }
+    {
+        self.paths.len()
     }
 
     /// The number of fields of the shortest proper prefix of a path, the root alone included, that is in the set.
@@ -86,33 +101,27 @@ impl Wobbly {
         None
     }
 
-    /// Whether a path is in the set.
-    fn has(&self, path: &Path) -> bool
-        ensures { result ≡ set.contains self.now path.now }
-    {
-        self.paths.as_slice().contains(path)
-    }
-
     /// Whether the path of the first so many fields is in the set.
     fn has_front(&self, path: &Path, fields: usize) -> bool
         requires { fields ≤ length path.now.fields }
         ensures { result ≡ set.contains self.now (front fields path.now) }
     {
-        has_front(self.paths.as_slice(), path, fields)
+        has_front(&self.paths, path, fields)
     }
 
     /// The paths of the set, each once, in no stated order.
     pub fn paths(&self, alloc: Global) -> Result<Vec<Path>, Memory>
         ensures all { IfOk result (λ paths. set.from_list paths.items ≡ self.now) }
         ensures each_once { IfOk result (λ paths. vec_len paths ≡ set.len self.now) }
+        ensures limit { IfOk result (λ paths. vec_len paths ≤ MAX_SUMMARY_KEYS) }
     {
-        copies(alloc, self.paths.as_slice())
+        copies(alloc, &self.paths)
     }
 }
 
 /// Whether the path of the first so many fields is among these.
-fn has_front(paths: &[Path], path: &Path, fields: usize) -> bool
-    ensures { result ≡ list_any (λ p. nat_eq (length p.fields) fields && is_prefix p path.now) paths.now }
+fn has_front(paths: &BTreeSet<Path>, path: &Path, fields: usize) -> bool
+    ensures { result ≡ list_any (λ p. nat_eq (length p.fields) fields && is_prefix p path.now) paths.now.keys }
 {
     for prefix in paths {
         if prefix.fields.len() == fields && prefix.is_prefix(path) {
@@ -123,8 +132,8 @@ fn has_front(paths: &[Path], path: &Path, fields: usize) -> bool
 }
 
 /// Paths that are equal to these, in order.
-fn copies(alloc: Global, paths: &[Path]) -> Result<Vec<Path>, Memory>
-    ensures { IfOk result (λ copies. copies.items ≡ paths.now) }
+fn copies(alloc: Global, paths: &BTreeSet<Path>) -> Result<Vec<Path>, Memory>
+    ensures { IfOk result (λ copies. copies.items ≡ paths.now.keys) }
 {
     let mut copies = Vec::new(alloc);
     for path in paths {

@@ -1,5 +1,6 @@
 //! Reading the arguments of a call (JLS 15.12).
-ghost use Rattle.std.specs.Prelude.{◌<◌, ◌≤◌, ◌^◌, suc, [], ◌∷◌, length, map, IfOk};
+ghost use Rattle.std.specs.Prelude.{◌≡◌, ◌<◌, ◌≤◌, ◌^◌, suc, [], ◌∷◌, length, map, IfOk};
+ghost use Rattle.java_tree.specs.KeptPlaces.{kept, each_puts, expr_places};
 ghost use Rattle.java_tree.specs.Operators.{assignment_level};
 ghost use Rattle.java_tree.specs.View.{expr_of};
 ghost use Rattle.method_grammar.specs.Taking.{commas};
@@ -29,6 +30,7 @@ pub fn call_arguments(
     requires room { suc (suc limit) < 2 ^ 32 }
     ensures gives { Gives (λ x. (map expr_of x.0.trees.items, map spelled x.1.now)) result (call_arguments_with
         (read_at limit) (map spelled tokens.now)) }
+    ensures places { IfOk result (λ x. each_puts (map expr_places x.0.trees.items) (kept x.1.now) ≡ kept tokens.now) }
     ensures small { IfOk result (λ x. x.0.nesting ≤ limit) }
     ensures shorter { IfOk result (λ x. length x.1.now ≤ length tokens.now) }
 {
@@ -53,6 +55,8 @@ fn arguments(
     ensures gives { Gives (λ x. (map expr_of x.0.trees.items, map spelled x.1.now)) result (finished call_end
         (expr_of first.tree ∷ []) (commas (read_at limit assignment_level) (length (map spelled tokens.now))
         (map spelled tokens.now))) }
+    ensures places { IfOk result (λ x. each_puts (map expr_places x.0.trees.items) (kept x.1.now) ≡ expr_places
+        first.tree (kept tokens.now)) }
     ensures small { IfOk result (λ x. x.0.nesting ≤ limit) }
     ensures shorter { IfOk result (λ x. length x.1.now ≤ length tokens.now) }
 {

@@ -2,6 +2,7 @@
 ghost use Rattle.std.specs.Prelude.{◌≡◌, ◌≤◌, ℕ, true, false, None, [], ◌∷◌, length, map, IfOk};
 ghost use Rattle.java_lexer.specs.declared.token.TokenKind.TheVariants as kind;
 ghost use Rattle.java_tree.specs.Trees.{Expr, ClassOf};
+ghost use Rattle.java_tree.specs.KeptPlaces.{Places, kept, each_puts, name_places, expr_places};
 ghost use Rattle.java_tree.specs.View.{expr_of, name_of};
 ghost use Rattle.method_grammar.specs.ExpressionReading.{Reading, class_at, name_with};
 ghost use Rattle.expression_reader.specs.ClassFollows.{class_follows, class_end};
@@ -53,6 +54,7 @@ pub fn class_follows(tokens: &[Token]) -> bool
 /// A class of these names.
 fn class_of(names: Vec<Ident>) -> NestedExpression
     ensures gives { expr_of result.tree ≡ ClassOf (map name_of names.items) }
+    ensures places { (rest : Places) → expr_places result.tree rest ≡ each_puts (map name_places names.items) rest }
     ensures small { result.nesting ≡ 1 }
 {
     let tree = Expression::ClassOf(names);
@@ -67,6 +69,7 @@ fn names(
 ) -> Result<(NestedExpression, &[Token]), ReadError>
     ensures gives { Gives (λ x. (expr_of x.0.tree, map spelled x.1.now)) result (finished class_end (first.text ∷ [])
         (class_at true (map spelled tokens.now))) }
+    ensures places { IfOk result (λ x. expr_places x.0.tree (kept x.1.now) ≡ first.place ∷ kept tokens.now) }
     ensures small { IfOk result (λ x. x.0.nesting ≡ 1) }
     ensures shorter { IfOk result (λ x. length x.1.now ≤ length tokens.now) }
 {
@@ -94,6 +97,7 @@ pub fn class(
     requires follows { class_follows true (map spelled tokens.now) ≡ true }
     ensures gives { (read : ℕ → Reading Expr) → Gives (λ x. (expr_of x.0.tree, map spelled x.1.now)) result
         (name_with read name.text (map spelled tokens.now)) }
+    ensures places { IfOk result (λ x. expr_places x.0.tree (kept x.1.now) ≡ name.place ∷ kept tokens.now) }
     ensures small { IfOk result (λ x. x.0.nesting ≡ 1) }
     ensures shorter { IfOk result (λ x. length x.1.now ≤ length tokens.now) }
 {

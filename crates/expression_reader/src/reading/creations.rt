@@ -1,5 +1,6 @@
 //! Reading what stands behind a `new` (JLS 15.9, 15.10).
-ghost use Rattle.std.specs.Prelude.{◌<◌, ◌≤◌, ◌^◌, suc, [], ◌∷◌, length, map, IfOk};
+ghost use Rattle.std.specs.Prelude.{◌≡◌, ◌<◌, ◌≤◌, ◌^◌, suc, [], ◌∷◌, ◌++◌, length, map, IfOk};
+ghost use Rattle.java_tree.specs.KeptPlaces.{kept, base_places, expr_places};
 ghost use Rattle.java_tree.specs.Operators.{assignment_level};
 ghost use Rattle.java_tree.specs.View.{base_of, expr_of};
 ghost use Rattle.method_grammar.specs.TypeReading.{made_base_at};
@@ -37,6 +38,7 @@ pub fn creation(
     requires room { suc (suc limit) < 2 ^ 32 }
     ensures gives { Gives (λ x. (expr_of x.0.tree, map spelled x.1.now)) result (new_with (read_at limit)
         (made_base_at limit) (array_at limit) (map spelled tokens.now)) }
+    ensures places { IfOk result (λ x. expr_places x.0.tree (kept x.1.now) ≡ place ∷ kept tokens.now) }
     ensures small { IfOk result (λ x. x.0.nesting ≤ suc limit) }
     ensures shorter { IfOk result (λ x. length x.1.now ≤ length tokens.now) }
 {
@@ -68,6 +70,8 @@ fn new_object(
     requires base { base.nesting < limit }
     ensures gives { Gives (λ x. (expr_of x.0.tree, map spelled x.1.now)) result (new_object_with (read_at limit)
         (base_of base.tree) (map spelled tokens.now)) }
+    ensures places { IfOk result (λ x. expr_places x.0.tree (kept x.1.now) ≡ place ∷ (base_places base.tree
+        ++ kept tokens.now)) }
     ensures small { IfOk result (λ x. x.0.nesting ≤ suc limit) }
     ensures shorter { IfOk result (λ x. length x.1.now ≤ length tokens.now) }
 {
@@ -93,6 +97,8 @@ fn new_array(
     requires base { base.nesting < limit }
     ensures gives { Gives (λ x. (expr_of x.0.tree, map spelled x.1.now)) result
         (new_array_with (read_at limit assignment_level) (base_of base.tree) (map spelled tokens.now)) }
+    ensures places { IfOk result (λ x. expr_places x.0.tree (kept x.1.now) ≡ place ∷ (base_places base.tree
+        ++ kept tokens.now)) }
     ensures small { IfOk result (λ x. x.0.nesting ≤ suc limit) }
     ensures shorter { IfOk result (λ x. length x.1.now ≤ length tokens.now) }
 {
@@ -119,6 +125,8 @@ fn lengths(
     ensures gives { Gives (λ x. (expr_of x.0.tree, map spelled x.1.now)) result
         (finished (lengths_end (base_of base.tree)) (expr_of first.tree ∷ [])
         (lengths_with (read_at limit assignment_level) (length (map spelled tokens.now)) (map spelled tokens.now))) }
+    ensures places { IfOk result (λ x. expr_places x.0.tree (kept x.1.now) ≡ place ∷ (base_places base.tree
+        ++ expr_places first.tree (kept tokens.now))) }
     ensures small { IfOk result (λ x. x.0.nesting ≤ suc limit) }
     ensures shorter { IfOk result (λ x. length x.1.now ≤ length tokens.now) }
 {
@@ -156,6 +164,8 @@ fn new_items(
     requires more { suc (length tokens.now) < 2 ^ 32 }
     ensures gives { Gives (λ x. (expr_of x.0.tree, map spelled x.1.now)) result (new_items_with (array_at limit)
         (base_of base.tree) (map spelled tokens.now)) }
+    ensures places { IfOk result (λ x. expr_places x.0.tree (kept x.1.now) ≡ place ∷ (base_places base.tree
+        ++ kept tokens.now)) }
     ensures small { IfOk result (λ x. x.0.nesting ≤ suc limit) }
     ensures shorter { IfOk result (λ x. length x.1.now ≤ length tokens.now) }
 {

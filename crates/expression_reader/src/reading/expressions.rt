@@ -1,11 +1,12 @@
 //! Reading expressions (JLS 15): an operand, and turn by turn what goes on from it.
-ghost use Rattle.std.specs.Prelude.{◌<◌, ◌≤◌, ◌^◌, suc, length, map, IfOk};
+ghost use Rattle.std.specs.Prelude.{◌≡◌, ◌<◌, ◌≤◌, ◌^◌, suc, length, map, IfOk};
+ghost use Rattle.java_tree.specs.KeptPlaces.{kept, expr_places};
 ghost use Rattle.java_tree.specs.View.{expr_of};
 ghost use Rattle.method_grammar.specs.ExpressionReading.{assign_with, conditional_with, binary_with, select_with};
 ghost use Rattle.method_grammar.specs.ExpressionReading.{index_with, turn_with, climb_with, read_at};
 ghost use Rattle.method_grammar.specs.Leads.{lead};
 ghost use Rattle.type_reader.specs.Tokens.{spelled};
-ghost use Rattle.expression_reader.specs.TurnView.{turn_of, IsSmall, IsWithin};
+ghost use Rattle.expression_reader.specs.TurnView.{turn_of, places_put, IsSmall, IsWithin};
 ghost use Rattle.type_reader.specs.ReadAnswer.{Gives};
 
 use super::arguments::call_arguments;
@@ -33,6 +34,7 @@ pub fn read_expression(
     requires room { suc (suc limit) < 2 ^ 32 }
     ensures gives { Gives (λ x. (expr_of x.0.tree, map spelled x.1.now)) result (read_at limit level
         (map spelled tokens.now)) }
+    ensures places { IfOk result (λ x. expr_places x.0.tree (kept x.1.now) ≡ kept tokens.now) }
     ensures small { IfOk result (λ x. x.0.nesting ≤ limit) }
     ensures shorter { IfOk result (λ x. length x.1.now ≤ length tokens.now) }
 {
@@ -59,6 +61,7 @@ fn climb(
     requires first { first.nesting ≤ suc limit }
     ensures gives { Gives (λ x. (expr_of x.0.tree, map spelled x.1.now)) result (climb_with (read_at limit) limit
         level (suc limit) (expr_of first.tree) (map spelled tokens.now)) }
+    ensures places { IfOk result (λ x. expr_places x.0.tree (kept x.1.now) ≡ expr_places first.tree (kept tokens.now)) }
     ensures small { IfOk result (λ x. x.0.nesting ≤ suc limit) }
     ensures shorter { IfOk result (λ x. length x.1.now ≤ length tokens.now) }
 {
@@ -91,6 +94,7 @@ fn turn<'a>(
     requires left { left.nesting ≤ suc limit }
     ensures gives { Gives turn_of result (turn_with (read_at limit) limit level (expr_of left.tree)
         (lead (map spelled tokens.now))) }
+    ensures places { IfOk result (λ x. places_put x (kept tokens.now) ≡ expr_places left.tree (kept tokens.now)) }
     ensures small { IfOk result (λ x. IsSmall x (suc limit)) }
     ensures shorter { IfOk result (λ x. IsWithin x (length tokens.now)) }
 {
@@ -125,6 +129,7 @@ fn assign<'a>(
     requires left { left.nesting ≤ suc limit }
     ensures gives { Gives turn_of result (assign_with (read_at limit) limit (expr_of left.tree) operator.now
         (map spelled tokens.now)) }
+    ensures places { IfOk result (λ x. places_put x (kept tokens.now) ≡ expr_places left.tree (kept tokens.now)) }
     ensures small { IfOk result (λ x. IsSmall x (suc limit)) }
     ensures shorter { IfOk result (λ x. IsWithin x (length tokens.now)) }
 {
@@ -146,6 +151,7 @@ fn conditional<'a>(
     requires left { left.nesting ≤ suc limit }
     ensures gives { Gives turn_of result (conditional_with (read_at limit) limit (expr_of left.tree)
         (map spelled tokens.now)) }
+    ensures places { IfOk result (λ x. places_put x (kept tokens.now) ≡ expr_places left.tree (kept tokens.now)) }
     ensures small { IfOk result (λ x. IsSmall x (suc limit)) }
     ensures shorter { IfOk result (λ x. IsWithin x (length tokens.now)) }
 {
@@ -170,6 +176,7 @@ fn binary<'a>(
     requires left { left.nesting ≤ suc limit }
     ensures gives { Gives turn_of result (binary_with (read_at limit) limit (expr_of left.tree) operator.now
         (map spelled tokens.now)) }
+    ensures places { IfOk result (λ x. places_put x (kept tokens.now) ≡ expr_places left.tree (kept tokens.now)) }
     ensures small { IfOk result (λ x. IsSmall x (suc limit)) }
     ensures shorter { IfOk result (λ x. IsWithin x (length tokens.now)) }
 {
@@ -191,6 +198,7 @@ fn select<'a>(
     requires left { left.nesting ≤ suc limit }
     ensures gives { Gives turn_of result (select_with (read_at limit) limit (expr_of left.tree)
         (map spelled tokens.now)) }
+    ensures places { IfOk result (λ x. places_put x (kept tokens.now) ≡ expr_places left.tree (kept tokens.now)) }
     ensures small { IfOk result (λ x. IsSmall x (suc limit)) }
     ensures shorter { IfOk result (λ x. IsWithin x (length tokens.now)) }
 {
@@ -216,6 +224,7 @@ fn index<'a>(
     requires left { left.nesting ≤ suc limit }
     ensures gives { Gives turn_of result (index_with (read_at limit) limit (expr_of left.tree)
         (map spelled tokens.now)) }
+    ensures places { IfOk result (λ x. places_put x (kept tokens.now) ≡ expr_places left.tree (kept tokens.now)) }
     ensures small { IfOk result (λ x. IsSmall x (suc limit)) }
     ensures shorter { IfOk result (λ x. IsWithin x (length tokens.now)) }
 {

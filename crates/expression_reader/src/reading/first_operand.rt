@@ -1,6 +1,7 @@
 //! Reading an expression with no expression at its left (JLS 15.8, 15.12, 15.15, 15.16).
-ghost use Rattle.std.specs.Prelude.{◌<◌, ◌≤◌, ◌^◌, suc, length, map, IfOk};
+ghost use Rattle.std.specs.Prelude.{◌≡◌, ◌<◌, ◌≤◌, ◌^◌, suc, ◌∷◌, length, map, IfOk};
 ghost use Rattle.java_lexer.specs.declared.token.TokenKind.TheVariants as kind;
+ghost use Rattle.java_tree.specs.KeptPlaces.{kept, place_onto, expr_places};
 ghost use Rattle.java_tree.specs.View.{expr_of};
 ghost use Rattle.method_grammar.specs.TypeReading.{ty_at, made_base_at};
 ghost use Rattle.method_grammar.specs.ExpressionReading.{name_with, parens_with, cast_with, prefix_with, operand_of};
@@ -34,6 +35,7 @@ pub fn operand(
     requires room { suc (suc limit) < 2 ^ 32 }
     ensures gives { Gives (λ x. (expr_of x.0.tree, map spelled x.1.now)) result (operand_with (read_at limit)
         (ty_at limit) (made_base_at limit) (array_at limit) (map spelled tokens.now)) }
+    ensures places { IfOk result (λ x. expr_places x.0.tree (kept x.1.now) ≡ kept tokens.now) }
     ensures small { IfOk result (λ x. x.0.nesting ≤ suc limit) }
     ensures shorter { IfOk result (λ x. length x.1.now ≤ length tokens.now) }
 {
@@ -65,6 +67,8 @@ fn word<'a>(
     requires room { suc (suc limit) < 2 ^ 32 }
     ensures gives { Gives (λ x. (expr_of x.0.tree, map spelled x.1.now)) result (operand_of (read_at limit)
         (ty_at limit) (made_base_at limit) (array_at limit) kind.Keyword token.now.text (map spelled tokens.now)) }
+    ensures places { IfOk result (λ x. expr_places x.0.tree (kept x.1.now) ≡ place_onto kind.Keyword token.now.text
+        token.now.place (kept tokens.now)) }
     ensures small { IfOk result (λ x. x.0.nesting ≤ suc limit) }
     ensures shorter { IfOk result (λ x. length x.1.now ≤ length tokens.now) }
 {
@@ -91,6 +95,7 @@ fn named<'a>(
     requires room { suc (suc limit) < 2 ^ 32 }
     ensures gives { Gives (λ x. (expr_of x.0.tree, map spelled x.1.now)) result (name_with (read_at limit)
         token.now.text (map spelled tokens.now)) }
+    ensures places { IfOk result (λ x. expr_places x.0.tree (kept x.1.now) ≡ token.now.place ∷ kept tokens.now) }
     ensures small { IfOk result (λ x. x.0.nesting ≤ suc limit) }
     ensures shorter { IfOk result (λ x. length x.1.now ≤ length tokens.now) }
 {
@@ -117,6 +122,7 @@ fn signed<'a>(
     requires room { suc (suc limit) < 2 ^ 32 }
     ensures gives { Gives (λ x. (expr_of x.0.tree, map spelled x.1.now)) result (operand_of (read_at limit)
         (ty_at limit) (made_base_at limit) (array_at limit) kind.Sign token.now.text (map spelled tokens.now)) }
+    ensures places { IfOk result (λ x. expr_places x.0.tree (kept x.1.now) ≡ kept tokens.now) }
     ensures small { IfOk result (λ x. x.0.nesting ≤ suc limit) }
     ensures shorter { IfOk result (λ x. length x.1.now ≤ length tokens.now) }
 {
@@ -147,6 +153,7 @@ fn prefix<'a>(
     requires room { suc (suc limit) < 2 ^ 32 }
     ensures gives { Gives (λ x. (expr_of x.0.tree, map spelled x.1.now)) result (prefix_with (read_at limit)
         operator.now (map spelled tokens.now)) }
+    ensures places { IfOk result (λ x. expr_places x.0.tree (kept x.1.now) ≡ kept tokens.now) }
     ensures small { IfOk result (λ x. x.0.nesting ≤ suc limit) }
     ensures shorter { IfOk result (λ x. length x.1.now ≤ length tokens.now) }
 {
@@ -165,6 +172,7 @@ fn cast(
     requires room { suc (suc limit) < 2 ^ 32 }
     ensures gives { Gives (λ x. (expr_of x.0.tree, map spelled x.1.now)) result (cast_with (read_at limit)
         (ty_at limit) (map spelled tokens.now)) }
+    ensures places { IfOk result (λ x. expr_places x.0.tree (kept x.1.now) ≡ kept tokens.now) }
     ensures small { IfOk result (λ x. x.0.nesting ≤ suc limit) }
     ensures shorter { IfOk result (λ x. length x.1.now ≤ length tokens.now) }
 {
@@ -185,6 +193,7 @@ fn parens(
     requires room { suc (suc limit) < 2 ^ 32 }
     ensures gives { Gives (λ x. (expr_of x.0.tree, map spelled x.1.now)) result (parens_with (read_at limit)
         (map spelled tokens.now)) }
+    ensures places { IfOk result (λ x. expr_places x.0.tree (kept x.1.now) ≡ kept tokens.now) }
     ensures small { IfOk result (λ x. x.0.nesting ≤ suc limit) }
     ensures shorter { IfOk result (λ x. length x.1.now ≤ length tokens.now) }
 {
@@ -204,6 +213,7 @@ fn nested_parens(
     requires room { suc (suc limit) < 2 ^ 32 }
     ensures gives { Gives (λ x. (expr_of x.0.tree, map spelled x.1.now)) result (lone_parens_with (read_at limit)
         (map spelled tokens.now)) }
+    ensures places { IfOk result (λ x. expr_places x.0.tree (kept x.1.now) ≡ kept tokens.now) }
     ensures small { IfOk result (λ x. x.0.nesting ≤ suc limit) }
     ensures shorter { IfOk result (λ x. length x.1.now ≤ length tokens.now) }
 {

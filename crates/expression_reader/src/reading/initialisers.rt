@@ -1,5 +1,6 @@
 //! Reading array initialisers (JLS 10.6) and what a variable begins with (JLS 8.3).
-ghost use Rattle.std.specs.Prelude.{◌<◌, ◌≤◌, ◌^◌, suc, [], ◌∷◌, length, map, IfOk};
+ghost use Rattle.std.specs.Prelude.{◌≡◌, ◌<◌, ◌≤◌, ◌^◌, suc, [], ◌∷◌, length, map, IfOk};
+ghost use Rattle.java_tree.specs.KeptPlaces.{kept, init_places, array_places};
 ghost use Rattle.java_tree.specs.View.{init_of, array_of};
 ghost use Rattle.method_grammar.specs.ExpressionReading.{items_with, braces_with, array_at, init_at};
 ghost use Rattle.type_reader.specs.Tokens.{spelled};
@@ -27,6 +28,7 @@ pub fn read_array(
     requires room { suc (suc limit) < 2 ^ 32 }
     ensures gives { Gives (λ x. (array_of x.0.tree, map spelled x.1.now)) result
         (array_at limit (map spelled tokens.now)) }
+    ensures places { IfOk result (λ x. array_places x.0.tree (kept x.1.now) ≡ kept tokens.now) }
     ensures small { IfOk result (λ x. x.0.nesting ≤ limit) }
     ensures shorter { IfOk result (λ x. length x.1.now ≤ length tokens.now) }
 {
@@ -44,6 +46,7 @@ fn braces(alloc: Global, limit: u32, tokens: &[Token]) -> Result<(NestedArray, &
     requires room { suc (suc limit) < 2 ^ 32 }
     ensures gives { Gives (λ x. (array_of x.0.tree, map spelled x.1.now)) result (braces_with (init_at limit)
         (map spelled tokens.now)) }
+    ensures places { IfOk result (λ x. array_places x.0.tree (kept x.1.now) ≡ kept tokens.now) }
     ensures small { IfOk result (λ x. x.0.nesting ≤ suc limit) }
     ensures shorter { IfOk result (λ x. length x.1.now ≤ length tokens.now) }
 {
@@ -68,6 +71,8 @@ fn items(
     requires first { first.nesting ≤ limit }
     ensures gives { Gives (λ x. (array_of x.0.tree, map spelled x.1.now)) result (items_end (init_of first.tree ∷ [])
         (items_with (init_at limit) (length (map spelled tokens.now)) (map spelled tokens.now))) }
+    ensures places { IfOk result (λ x. array_places x.0.tree (kept x.1.now) ≡ init_places first.tree
+        (kept tokens.now)) }
     ensures small { IfOk result (λ x. x.0.nesting ≤ suc limit) }
     ensures shorter { IfOk result (λ x. length x.1.now ≤ length tokens.now) }
 {
@@ -98,6 +103,7 @@ pub fn read_initialiser(
     requires room { suc (suc limit) < 2 ^ 32 }
     ensures gives { Gives (λ x. (init_of x.0.tree, map spelled x.1.now)) result
         (init_at limit (map spelled tokens.now)) }
+    ensures places { IfOk result (λ x. init_places x.0.tree (kept x.1.now) ≡ kept tokens.now) }
     ensures small { IfOk result (λ x. x.0.nesting ≤ limit) }
     ensures shorter { IfOk result (λ x. length x.1.now ≤ length tokens.now) }
 {

@@ -1,13 +1,15 @@
 //! What the first token does behind an expression, and the choice between a cast and parentheses.
 ghost use Rattle.std.specs.Prelude.{◌≡◌, ◌&&◌, ◌||◌, suc, Some, None, MatchOption, length, map};
 ghost use Rattle.racer_base.specs.Name.{is_listed};
+ghost use Rattle.racer_base.specs.declared.ids.Place.{Place};
 ghost use Rattle.java_lexer.specs.declared.token.TokenKind.TheVariants as kind;
+ghost use Rattle.java_tree.specs.KeptPlaces.{kept, place_onto};
 ghost use Rattle.java_tree.specs.Operators.{is_assignment, is_step, is_prefix, is_signed};
 ghost use Rattle.method_grammar.specs.Leads.{lead_of_angle, lead_of_sign, lead_of_word, lead, one_sign_operators};
 ghost use Rattle.method_grammar.specs.Leads.{opens, opens_operand, opens_signed, is_plain_cast, casts};
 ghost use Rattle.expression_reader.specs.FirstParenthesis.{behind_first};
 ghost use Rattle.type_reader.specs.Tokens.{spelled};
-ghost use Rattle.expression_reader.specs.LeadView.{lead_of, IsBelow};
+ghost use Rattle.expression_reader.specs.LeadView.{lead_of, places_behind, IsBelow};
 
 use java_lexer::{Token, TokenKind};
 use type_reader::reading::look::{after_glued, after_plain, after_sign, is_listed, is_sign};
@@ -89,6 +91,7 @@ fn opens(text: &str) -> bool
 /// Behind a `>`: the shifts have one or two glued `>` there (JLS 15.19).
 fn lead_of_angle(tokens: &[Token]) -> Lead<'_>
     ensures gives { lead_of result ≡ lead_of_angle (map spelled tokens.now) }
+    ensures places { places_behind result (kept tokens.now) ≡ kept tokens.now }
     ensures shorter { IsBelow result (suc (length tokens.now)) }
 {
     let Some(rest) = after_glued(tokens) else {
@@ -102,6 +105,7 @@ fn lead_of_angle(tokens: &[Token]) -> Lead<'_>
 
 fn lead_of_sign<'a>(text: &'a str, tokens: &'a [Token]) -> Lead<'a>
     ensures gives { lead_of result ≡ lead_of_sign text.now (map spelled tokens.now) }
+    ensures places { places_behind result (kept tokens.now) ≡ kept tokens.now }
     ensures shorter { IsBelow result (suc (length tokens.now)) }
 {
     if is_assignment(text) {
@@ -127,6 +131,8 @@ fn lead_of_sign<'a>(text: &'a str, tokens: &'a [Token]) -> Lead<'a>
 
 fn lead_of_keyword<'a>(text: &'a str, tokens: &'a [Token]) -> Lead<'a>
     ensures gives { lead_of result ≡ lead_of_word kind.Keyword text.now (map spelled tokens.now) }
+    ensures places { (here : Place) → places_behind result (place_onto kind.Keyword text.now here (kept tokens.now))
+        ≡ place_onto kind.Keyword text.now here (kept tokens.now) }
     ensures shorter { IsBelow result (suc (length tokens.now)) }
 {
     if text == "instanceof" {
@@ -142,6 +148,7 @@ fn lead_of_keyword<'a>(text: &'a str, tokens: &'a [Token]) -> Lead<'a>
 #[tactic(auto, unfolding(method_grammar::specs::Leads::lead))]
 pub fn lead_at(tokens: &[Token]) -> Lead<'_>
     ensures gives { lead_of result ≡ lead (map spelled tokens.now) }
+    ensures places { places_behind result (kept tokens.now) ≡ kept tokens.now }
     ensures shorter { IsBelow result (length tokens.now) }
 {
     match tokens {

@@ -1,10 +1,11 @@
 //! Larger expressions, made of what was read before and behind an operator, a point or a bracket.
-ghost use Rattle.std.specs.Prelude.{◌≡◌, ◌<◌, ◌≤◌, ◌^◌, suc, length, map, IfOk};
+ghost use Rattle.std.specs.Prelude.{◌≡◌, ◌<◌, ◌≤◌, ◌^◌, suc, ◌∷◌, length, map, IfOk};
 ghost use Rattle.java_tree.specs.Trees.{Assign, Conditional, Binary, Postfix, Field, Index, CallOn, pack_exprs};
+ghost use Rattle.java_tree.specs.KeptPlaces.{kept, each_puts, expr_places};
 ghost use Rattle.java_tree.specs.View.{expr_of};
 ghost use Rattle.method_grammar.specs.ExpressionReading.{grown, instance_with};
 ghost use Rattle.type_reader.specs.Tokens.{spelled};
-ghost use Rattle.expression_reader.specs.TurnView.{turn_of, IsSmall, IsWithin};
+ghost use Rattle.expression_reader.specs.TurnView.{turn_of, places_put, IsSmall, IsWithin};
 ghost use Rattle.type_reader.specs.ReadAnswer.{Gives};
 
 use super::nested::{NestedExpression, NestedExpressions};
@@ -24,6 +25,7 @@ fn grown<'a>(
 ) -> Result<Turned<'a>, ReadError>
     requires room { suc (suc limit) < 2 ^ 32 }
     ensures gives { Gives turn_of result (grown limit (expr_of tree.tree) (map spelled tokens.now)) }
+    ensures places { IfOk result (λ x. places_put x (kept tokens.now) ≡ expr_places tree.tree (kept tokens.now)) }
     ensures small { IfOk result (λ x. IsSmall x (suc limit)) }
     ensures shorter { IfOk result (λ x. IsWithin x (length tokens.now)) }
 {
@@ -48,6 +50,8 @@ pub fn assigned<'a>(
     requires right { right.nesting ≤ limit }
     ensures gives { Gives turn_of result (grown limit (Assign (expr_of left.tree) operator.now (expr_of right.tree))
         (map spelled tokens.now)) }
+    ensures places { IfOk result (λ x. places_put x (kept tokens.now) ≡ expr_places left.tree (expr_places right.tree
+        (kept tokens.now))) }
     ensures small { IfOk result (λ x. IsSmall x (suc limit)) }
     ensures shorter { IfOk result (λ x. IsWithin x (length tokens.now)) }
 {
@@ -73,6 +77,8 @@ pub fn chosen<'a>(
     requires other { other.nesting ≤ limit }
     ensures gives { Gives turn_of result (grown limit (Conditional (expr_of condition.tree) (expr_of then.tree)
         (expr_of other.tree)) (map spelled tokens.now)) }
+    ensures places { IfOk result (λ x. places_put x (kept tokens.now) ≡ expr_places condition.tree
+        (expr_places then.tree (expr_places other.tree (kept tokens.now)))) }
     ensures small { IfOk result (λ x. IsSmall x (suc limit)) }
     ensures shorter { IfOk result (λ x. IsWithin x (length tokens.now)) }
 {
@@ -97,6 +103,8 @@ pub fn joined<'a>(
     requires right { right.nesting ≤ limit }
     ensures gives { Gives turn_of result (grown limit (Binary (expr_of left.tree) operator.now (expr_of right.tree))
         (map spelled tokens.now)) }
+    ensures places { IfOk result (λ x. places_put x (kept tokens.now) ≡ expr_places left.tree (expr_places right.tree
+        (kept tokens.now))) }
     ensures small { IfOk result (λ x. IsSmall x (suc limit)) }
     ensures shorter { IfOk result (λ x. IsWithin x (length tokens.now)) }
 {
@@ -119,6 +127,7 @@ pub fn tested<'a>(
     requires room { suc (suc limit) < 2 ^ 32 }
     requires left { left.nesting ≤ suc limit }
     ensures gives { Gives turn_of result (instance_with limit (expr_of left.tree) (map spelled tokens.now)) }
+    ensures places { IfOk result (λ x. places_put x (kept tokens.now) ≡ expr_places left.tree (kept tokens.now)) }
     ensures small { IfOk result (λ x. IsSmall x (suc limit)) }
     ensures shorter { IfOk result (λ x. IsWithin x (length tokens.now)) }
 {
@@ -140,6 +149,7 @@ pub fn stepped<'a>(
     requires left { left.nesting ≤ suc limit }
     ensures gives { Gives turn_of result (grown limit (Postfix (expr_of left.tree) operator.now)
         (map spelled tokens.now)) }
+    ensures places { IfOk result (λ x. places_put x (kept tokens.now) ≡ expr_places left.tree (kept tokens.now)) }
     ensures small { IfOk result (λ x. IsSmall x (suc limit)) }
     ensures shorter { IfOk result (λ x. IsWithin x (length tokens.now)) }
 {
@@ -160,6 +170,8 @@ pub fn selected<'a>(
     requires room { suc (suc limit) < 2 ^ 32 }
     requires left { left.nesting ≤ suc limit }
     ensures gives { Gives turn_of result (grown limit (Field (expr_of left.tree) name.text) (map spelled tokens.now)) }
+    ensures places { IfOk result (λ x. places_put x (kept tokens.now) ≡ expr_places left.tree (name.place
+        ∷ kept tokens.now)) }
     ensures small { IfOk result (λ x. IsSmall x (suc limit)) }
     ensures shorter { IfOk result (λ x. IsWithin x (length tokens.now)) }
 {
@@ -182,6 +194,8 @@ pub fn called<'a>(
     requires all { all.nesting ≤ limit }
     ensures gives { Gives turn_of result (grown limit (CallOn (expr_of left.tree) name.text
         (pack_exprs (map expr_of all.trees.items))) (map spelled tokens.now)) }
+    ensures places { IfOk result (λ x. places_put x (kept tokens.now) ≡ expr_places left.tree (name.place
+        ∷ each_puts (map expr_places all.trees.items) (kept tokens.now))) }
     ensures small { IfOk result (λ x. IsSmall x (suc limit)) }
     ensures shorter { IfOk result (λ x. IsWithin x (length tokens.now)) }
 {
@@ -204,6 +218,8 @@ pub fn indexed<'a>(
     requires index { index.nesting ≤ limit }
     ensures gives { Gives turn_of result (grown limit (Index (expr_of left.tree) (expr_of index.tree))
         (map spelled tokens.now)) }
+    ensures places { IfOk result (λ x. places_put x (kept tokens.now) ≡ expr_places left.tree (expr_places index.tree
+        (kept tokens.now))) }
     ensures small { IfOk result (λ x. IsSmall x (suc limit)) }
     ensures shorter { IfOk result (λ x. IsWithin x (length tokens.now)) }
 {

@@ -1,5 +1,8 @@
 //! Reading annotations and modifiers (JLS 8.4.3, 9.7).
 ghost use Rattle.std.specs.Prelude.{◌<◌, ◌≤◌, [], ◌∷◌, length, map, option_map, IfOk, IfSome};
+ghost use Rattle.java_tree.specs.KeptPlaces.{Places, kept};
+ghost use Rattle.java_tree.specs.MethodPlaces.{no_name, annotation_marks, modifier_marks, each_marks};
+ghost use Rattle.method_reader.specs.LedPlaces.{Leads};
 ghost use Rattle.java_tree.specs.View.{annotation_of, modifier_of};
 ghost use Rattle.method_grammar.specs.Taking.{after_name};
 ghost use Rattle.method_grammar.specs.TypeReading.{points};
@@ -27,6 +30,8 @@ fn more_names(
 ) -> Result<(Vec<Text>, &[Token]), ReadError>
     ensures gives { Gives (λ x. (x.0.items, map spelled x.1.now)) result (finished as_they_are (first ∷ [])
         (points after_name (length (map spelled tokens.now)) (map spelled tokens.now))) }
+    ensures places { IfOk result (λ x. (start : Places) → Leads (no_name first) start (kept tokens.now)
+        → Leads (each_marks no_name x.0.items) start (kept x.1.now)) }
     ensures shorter { IfOk result (λ x. length x.1.now ≤ length tokens.now) }
 {
     let mut items = Vec::new(alloc);
@@ -48,6 +53,7 @@ fn more_names(
 fn annotation(alloc: Global, tokens: &[Token]) -> Result<(AnnotationTree, &[Token]), ReadError>
     ensures gives { Gives (λ x. (annotation_of x.0, map spelled x.1.now)) result
         (annotation_at (map spelled tokens.now)) }
+    ensures places { IfOk result (λ x. Leads (annotation_marks x.0) (kept tokens.now) (kept x.1.now)) }
     ensures shorter { IfOk result (λ x. length x.1.now < length tokens.now) }
 {
     let (first, rest) = name(alloc, tokens)?;
@@ -66,6 +72,7 @@ pub fn annotations(
 ) -> Result<(Vec<AnnotationTree>, &[Token]), ReadError>
     ensures gives { Gives (λ x. (map annotation_of x.0.items, map spelled x.1.now)) result (annotations_at limit
         (map spelled tokens.now)) }
+    ensures places { IfOk result (λ x. Leads (each_marks annotation_marks x.0.items) (kept tokens.now) (kept x.1.now)) }
     ensures shorter { IfOk result (λ x. length x.1.now ≤ length tokens.now) }
 {
     let mut items = Vec::new(alloc);
@@ -85,6 +92,8 @@ pub fn annotations(
 fn modifier(alloc: Global, tokens: &[Token]) -> Result<Option<(ModifierTree, &[Token])>, ReadError>
     ensures gives { Gives (option_map (λ x. (modifier_of x.0, map spelled x.1.now))) result
         (modifier_at (map spelled tokens.now)) }
+    ensures places { IfOk result (λ o. IfSome o (λ x. Leads (modifier_marks x.0) (kept tokens.now)
+        (kept x.1.now))) }
     ensures shorter { IfOk result (λ o. IfSome o (λ x. length x.1.now < length tokens.now)) }
 {
     if let Some(after) = after_sign(tokens, "@") {
@@ -105,6 +114,7 @@ pub fn modifiers(
 ) -> Result<(Vec<ModifierTree>, &[Token]), ReadError>
     ensures gives { Gives (λ x. (map modifier_of x.0.items, map spelled x.1.now)) result
         (modifiers_at (length (map spelled tokens.now)) (map spelled tokens.now)) }
+    ensures places { IfOk result (λ x. Leads (each_marks modifier_marks x.0.items) (kept tokens.now) (kept x.1.now)) }
     ensures shorter { IfOk result (λ x. length x.1.now ≤ length tokens.now) }
 {
     let mut items = Vec::new(alloc);

@@ -1,6 +1,9 @@
 //! Reading balanced tokens, as they stand in an annotation (JLS 9.7).
 ghost use Rattle.std.specs.Prelude.{◌≡◌, ◌<◌, ◌≤◌, [], ◌∷◌, List, ℕ, Some, codes, length, map, IfOk};
 ghost use Rattle.java_tree.specs.Brackets.{awaited_behind};
+ghost use Rattle.java_tree.specs.KeptPlaces.{Places, kept};
+ghost use Rattle.java_tree.specs.MethodPlaces.{no_place, each_marks};
+ghost use Rattle.method_reader.specs.LedPlaces.{Leads};
 ghost use Rattle.method_grammar.specs.MethodReading.{closed_at, arguments_at};
 ghost use Rattle.method_reader.specs.AwaitedBrackets.{closing, awaited_onto, stepped, first_at};
 ghost use Rattle.type_reader.specs.Tokens.{spelled};
@@ -99,6 +102,7 @@ fn copied(alloc: Global, token: &Token) -> Result<Spelled, ReadError>
 /// The token in front, which there has to be, and those behind it.
 fn token(tokens: &[Token]) -> Result<(&Token, &[Token]), ReadError>
     ensures gives { Gives (λ x. (spelled x.0.now, map spelled x.1.now)) result (first_at (map spelled tokens.now)) }
+    ensures places { IfOk result (λ x. x.0.now ∷ x.1.now ≡ tokens.now) }
     ensures shorter { IfOk result (λ x. length x.1.now < length tokens.now) }
 {
     match tokens {
@@ -115,6 +119,8 @@ fn closed(
 ) -> Result<(Vec<Spelled>, &[Token]), ReadError>
     ensures gives { Gives (λ x. (x.0.items, map spelled x.1.now)) result (finished as_they_are (first ∷ [])
         (closed_at (codes ")" ∷ []) (map spelled tokens.now))) }
+    ensures places { IfOk result (λ x. (start : Places) → Leads (no_place first) start (kept tokens.now)
+        → Leads (each_marks no_place x.0.items) start (kept x.1.now)) }
     ensures shorter { IfOk result (λ x. length x.1.now ≤ length tokens.now) }
 {
     let mut open = Vec::new(alloc);
@@ -135,6 +141,7 @@ fn closed(
 /// One pair of parentheses with balanced tokens in it, where it stands.
 pub fn arguments(alloc: Global, tokens: &[Token]) -> Result<(Vec<Spelled>, &[Token]), ReadError>
     ensures gives { Gives (λ x. (x.0.items, map spelled x.1.now)) result (arguments_at (map spelled tokens.now)) }
+    ensures places { IfOk result (λ x. Leads (each_marks no_place x.0.items) (kept tokens.now) (kept x.1.now)) }
     ensures shorter { IfOk result (λ x. length x.1.now ≤ length tokens.now) }
 {
     match tokens {

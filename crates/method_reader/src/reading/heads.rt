@@ -1,13 +1,15 @@
 //! Reading what stands in the parentheses of statements, and expressions that statements run (JLS 14.8, 14.9,
 //! 14.12, 14.14).
+ghost use Rattle.std.specs.Prelude.{◌++◌};
 ghost use Rattle.std.specs.Prelude.{◌≡◌, ◌<◌, ◌≤◌, ◌^◌, suc, [], ◌∷◌, length, map, option_map, IfOk};
+ghost use Rattle.java_tree.specs.KeptPlaces.{kept, maybe_puts, each_puts, ty_places, expr_places, start_places};
 ghost use Rattle.java_tree.specs.Formed.{is_run};
 ghost use Rattle.java_tree.specs.View.{ty_of, expr_of, start_of};
 ghost use Rattle.method_grammar.specs.Taking.{commas};
 ghost use Rattle.method_grammar.specs.StatementReading.{condition_at, expr_until, run_at, runs_until};
 ghost use Rattle.method_reader.specs.HeadReading.{counted_head_at, each_head_at, declared_head_at, typed_head_at};
 ghost use Rattle.method_reader.specs.HeadReading.{run_head_at, head_at};
-ghost use Rattle.method_reader.specs.HeadView.{head_of};
+ghost use Rattle.method_reader.specs.HeadView.{head_of, head_places};
 ghost use Rattle.method_grammar.specs.JavaReaders.{method_readers};
 ghost use Rattle.type_reader.specs.Tokens.{spelled};
 ghost use Rattle.type_reader.specs.Finishing.{finished};
@@ -60,6 +62,7 @@ pub fn condition(
     requires room { suc (suc limit) < 2 ^ 32 }
     ensures gives { Gives (λ x. (expr_of x.0, map spelled x.1.now)) result (condition_at method_readers limit
         (map spelled tokens.now)) }
+    ensures places { IfOk result (λ x. expr_places x.0 (kept x.1.now) ≡ kept tokens.now) }
     ensures shorter { IfOk result (λ x. length x.1.now < length tokens.now) }
 {
     let rest = sign(tokens, "(")?;
@@ -79,6 +82,7 @@ pub fn expression_until<'a>(
     requires room { suc (suc limit) < 2 ^ 32 }
     ensures gives { Gives (λ x. (option_map expr_of x.0, map spelled x.1.now)) result (expr_until method_readers limit
         end.now (map spelled tokens.now)) }
+    ensures places { IfOk result (λ x. maybe_puts (option_map expr_places x.0) (kept x.1.now) ≡ kept tokens.now) }
     ensures shorter { IfOk result (λ x. length x.1.now ≤ length tokens.now) }
 {
     if begins_with(tokens, end) {
@@ -94,6 +98,7 @@ pub fn run(alloc: Global, limit: u32, tokens: &[Token]) -> Result<(Expression, &
     requires room { suc (suc limit) < 2 ^ 32 }
     ensures gives { Gives (λ x. (expr_of x.0, map spelled x.1.now)) result (run_at method_readers limit
         (map spelled tokens.now)) }
+    ensures places { IfOk result (λ x. expr_places x.0 (kept x.1.now) ≡ kept tokens.now) }
     ensures shorter { IfOk result (λ x. length x.1.now ≤ length tokens.now) }
 {
     let (run, rest) = read_expression(alloc, limit, 0, tokens)?;
@@ -115,6 +120,8 @@ fn more_runs(
     ensures gives { Gives (λ x. (map expr_of x.0.items, map spelled x.1.now)) result (finished as_they_are
         (expr_of first ∷ []) (commas (run_at method_readers limit) (length (map spelled tokens.now))
         (map spelled tokens.now))) }
+    ensures places { IfOk result (λ x. each_puts (map expr_places x.0.items) (kept x.1.now) ≡ expr_places first
+        (kept tokens.now)) }
     ensures shorter { IfOk result (λ x. length x.1.now ≤ length tokens.now) }
 {
     let mut items = Vec::new(alloc);
@@ -142,6 +149,7 @@ fn runs_until<'a>(
     requires room { suc (suc limit) < 2 ^ 32 }
     ensures gives { Gives (λ x. (map expr_of x.0.items, map spelled x.1.now)) result (runs_until method_readers limit
         end.now (map spelled tokens.now)) }
+    ensures places { IfOk result (λ x. each_puts (map expr_places x.0.items) (kept x.1.now) ≡ kept tokens.now) }
     ensures shorter { IfOk result (λ x. length x.1.now ≤ length tokens.now) }
 {
     if begins_with(tokens, end) {
@@ -163,6 +171,7 @@ fn counted(
     requires room { suc (suc limit) < 2 ^ 32 }
     ensures gives { Gives (λ x. (head_of x.0, map spelled x.1.now)) result (counted_head_at method_readers limit
         (start_of start) (map spelled tokens.now)) }
+    ensures places { IfOk result (λ x. head_places x.0 (kept x.1.now) ≡ start_places start (kept tokens.now)) }
     ensures shorter { IfOk result (λ x. length x.1.now ≤ length tokens.now) }
 {
     let rest = sign(tokens, ";")?;
@@ -187,6 +196,8 @@ fn each(
     requires room { suc (suc limit) < 2 ^ 32 }
     ensures gives { Gives (λ x. (head_of x.0, map spelled x.1.now)) result (each_head_at method_readers limit is_final
         (ty_of kind) name.text (map spelled tokens.now)) }
+    ensures places { IfOk result (λ x. head_places x.0 (kept x.1.now) ≡ ty_places kind ++ (name.place
+        ∷ kept tokens.now)) }
     ensures shorter { IfOk result (λ x. length x.1.now ≤ length tokens.now) }
 {
     let (all, rest) = read_expression(alloc, limit, 0, tokens)?;
@@ -206,6 +217,7 @@ fn declared(
     requires room { suc (suc limit) < 2 ^ 32 }
     ensures gives { Gives (λ x. (head_of x.0, map spelled x.1.now)) result (declared_head_at method_readers limit
         is_final (ty_of kind) (map spelled tokens.now)) }
+    ensures places { IfOk result (λ x. head_places x.0 (kept x.1.now) ≡ ty_places kind ++ kept tokens.now) }
     ensures shorter { IfOk result (λ x. length x.1.now ≤ length tokens.now) }
 {
     if let Some((word, rest)) = name_and_colon(tokens) {
@@ -223,6 +235,7 @@ fn typed(alloc: Global, limit: u32, tokens: &[Token]) -> Result<(ForHead, &[Toke
     requires room { suc (suc limit) < 2 ^ 32 }
     ensures gives { Gives (λ x. (head_of x.0, map spelled x.1.now)) result (typed_head_at method_readers limit
         (map spelled tokens.now)) }
+    ensures places { IfOk result (λ x. head_places x.0 (kept x.1.now) ≡ kept tokens.now) }
     ensures shorter { IfOk result (λ x. length x.1.now ≤ length tokens.now) }
 {
     let (is_final, rest) = final_at(tokens);
@@ -237,6 +250,7 @@ fn untyped(alloc: Global, limit: u32, tokens: &[Token]) -> Result<(ForHead, &[To
     requires room { suc (suc limit) < 2 ^ 32 }
     ensures gives { Gives (λ x. (head_of x.0, map spelled x.1.now)) result (run_head_at method_readers limit
         (map spelled tokens.now)) }
+    ensures places { IfOk result (λ x. head_places x.0 (kept x.1.now) ≡ kept tokens.now) }
     ensures shorter { IfOk result (λ x. length x.1.now ≤ length tokens.now) }
 {
     let (runs, rest) = runs_until(alloc, limit, ";", tokens)?;
@@ -251,6 +265,7 @@ pub fn head(alloc: Global, limit: u32, tokens: &[Token]) -> Result<(ForHead, &[T
     requires room { suc (suc limit) < 2 ^ 32 }
     ensures gives { Gives (λ x. (head_of x.0, map spelled x.1.now)) result (head_at method_readers limit
         (map spelled tokens.now)) }
+    ensures places { IfOk result (λ x. head_places x.0 (kept x.1.now) ≡ kept tokens.now) }
     ensures shorter { IfOk result (λ x. length x.1.now ≤ length tokens.now) }
 {
     let rest = sign(tokens, "(")?;

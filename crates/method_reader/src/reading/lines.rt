@@ -1,11 +1,12 @@
 //! Reading statements without statements in them (JLS 14.4, 14.8, 14.17), and building those with statements.
 ghost use Rattle.std.specs.Prelude.{◌≡◌, ◌<◌, ◌≤◌, ◌^◌, suc, Some, length, map, IfOk};
 ghost use Rattle.java_tree.specs.Trees.{If, IfElse};
+ghost use Rattle.java_tree.specs.KeptPlaces.{Places, kept, expr_places, stmt_places};
 ghost use Rattle.java_tree.specs.Formed.{is_body};
 ghost use Rattle.java_tree.specs.View.{expr_of, stmt_of};
 ghost use Rattle.method_grammar.specs.StatementReading.{return_at, local_at, run_line_at, simple_at};
 ghost use Rattle.method_reader.specs.HeadReading.{for_of};
-ghost use Rattle.method_reader.specs.HeadView.{head_of};
+ghost use Rattle.method_reader.specs.HeadView.{head_of, head_places};
 ghost use Rattle.method_grammar.specs.JavaReaders.{method_readers};
 ghost use Rattle.type_reader.specs.Tokens.{spelled};
 ghost use Rattle.type_reader.specs.ReadAnswer.{Gives};
@@ -37,6 +38,7 @@ pub fn returned(
     requires room { suc (suc limit) < 2 ^ 32 }
     ensures gives { Gives (λ x. (stmt_of x.0, map spelled x.1.now)) result (return_at method_readers limit
         (map spelled tokens.now)) }
+    ensures places { IfOk result (λ x. stmt_places x.0 (kept x.1.now) ≡ kept tokens.now) }
     ensures shorter { IfOk result (λ x. length x.1.now ≤ length tokens.now) }
 {
     let (value, rest) = expression_until(alloc, limit, ";", tokens)?;
@@ -55,6 +57,7 @@ fn local_line(
     requires room { suc (suc limit) < 2 ^ 32 }
     ensures gives { Gives (λ x. (stmt_of x.0, map spelled x.1.now)) result (local_at method_readers limit
         (map spelled tokens.now)) }
+    ensures places { IfOk result (λ x. stmt_places x.0 (kept x.1.now) ≡ kept tokens.now) }
     ensures shorter { IfOk result (λ x. length x.1.now ≤ length tokens.now) }
 {
     let (locals, rest) = locals(alloc, limit, tokens)?;
@@ -69,6 +72,7 @@ fn run_line(alloc: Global, limit: u32, tokens: &[Token]) -> Result<(Statement, &
     requires room { suc (suc limit) < 2 ^ 32 }
     ensures gives { Gives (λ x. (stmt_of x.0, map spelled x.1.now)) result (run_line_at method_readers limit
         (map spelled tokens.now)) }
+    ensures places { IfOk result (λ x. stmt_places x.0 (kept x.1.now) ≡ kept tokens.now) }
     ensures shorter { IfOk result (λ x. length x.1.now ≤ length tokens.now) }
 {
     let (run, rest) = run(alloc, limit, tokens)?;
@@ -86,6 +90,7 @@ pub fn simple(
     requires room { suc (suc limit) < 2 ^ 32 }
     ensures gives { Gives (λ x. (stmt_of x.0, map spelled x.1.now)) result (simple_at method_readers limit
         (map spelled tokens.now)) }
+    ensures places { IfOk result (λ x. stmt_places x.0 (kept x.1.now) ≡ kept tokens.now) }
     ensures shorter { IfOk result (λ x. length x.1.now ≤ length tokens.now) }
 {
     if looks_local(tokens) {
@@ -97,28 +102,33 @@ pub fn simple(
 
 /// The same in memory of its own.
 pub fn boxed(alloc: Global, statement: Statement) -> Result<Box<Statement>, ReadError>
-    ensures { Gives (λ b. stmt_of b.value) result (Some (stmt_of statement)) }
+    ensures gives { Gives (λ b. stmt_of b.value) result (Some (stmt_of statement)) }
+    ensures places { IfOk result (λ b. (rest : Places) → stmt_places b.value rest ≡ stmt_places statement rest) }
 {
     Ok(Box::new(alloc, statement)?)
 }
 
 /// An `if` without `else` (JLS 14.9.1).
 pub fn without_else(condition: Expression, then: Box<Statement>) -> Statement
-    ensures { stmt_of result ≡ If (expr_of condition) (stmt_of then.value) }
+    ensures gives { stmt_of result ≡ If (expr_of condition) (stmt_of then.value) }
+    ensures places { (rest : Places) → stmt_places result rest ≡ expr_places condition (stmt_places then.value rest) }
 {
     Statement::If(condition, then, None)
 }
 
 /// An `if` with `else` (JLS 14.9.2).
 pub fn with_else(condition: Expression, then: Box<Statement>, other: Box<Statement>) -> Statement
-    ensures { stmt_of result ≡ IfElse (expr_of condition) (stmt_of then.value) (stmt_of other.value) }
+    ensures gives { stmt_of result ≡ IfElse (expr_of condition) (stmt_of then.value) (stmt_of other.value) }
+    ensures places { (rest : Places) → stmt_places result rest ≡ expr_places condition (stmt_places then.value
+        (stmt_places other.value rest)) }
 {
     Statement::If(condition, then, Some(other))
 }
 
 /// The `for` of this head and body (JLS 14.14).
 pub fn headed(head: ForHead, body: Box<Statement>) -> Statement
-    ensures { stmt_of result ≡ for_of (head_of head) (stmt_of body.value) }
+    ensures gives { stmt_of result ≡ for_of (head_of head) (stmt_of body.value) }
+    ensures places { (rest : Places) → stmt_places result rest ≡ head_places head (stmt_places body.value rest) }
 {
     match head {
         ForHead::Counted(start, condition, updates) => {

@@ -1,5 +1,7 @@
 //! Reading declarations of local variables (JLS 14.4).
+ghost use Rattle.std.specs.Prelude.{◌≡◌, ◌++◌};
 ghost use Rattle.std.specs.Prelude.{◌<◌, ◌≤◌, ◌^◌, suc, [], ◌∷◌, length, map, IfOk};
+ghost use Rattle.java_tree.specs.KeptPlaces.{kept, each_puts, ty_places, variable_places, locals_places};
 ghost use Rattle.java_tree.specs.View.{ty_of, variable_of, locals_of};
 ghost use Rattle.method_grammar.specs.Taking.{commas};
 ghost use Rattle.method_grammar.specs.StatementReading.{variable_at, variables_at, locals_at};
@@ -30,6 +32,7 @@ fn variable(
     requires room { suc (suc limit) < 2 ^ 32 }
     ensures gives { Gives (λ x. (variable_of x.0, map spelled x.1.now)) result (variable_at method_readers limit
         (map spelled tokens.now)) }
+    ensures places { IfOk result (λ x. variable_places x.0 (kept x.1.now) ≡ kept tokens.now) }
     ensures shorter { IfOk result (λ x. length x.1.now < length tokens.now) }
 {
     let (name, rest) = name(alloc, tokens)?;
@@ -54,6 +57,8 @@ fn more_variables(
     ensures gives { Gives (λ x. (map variable_of x.0.items, map spelled x.1.now)) result (finished as_they_are
         (variable_of first ∷ []) (commas (variable_at method_readers limit) (length (map spelled tokens.now))
         (map spelled tokens.now))) }
+    ensures places { IfOk result (λ x. each_puts (map variable_places x.0.items) (kept x.1.now) ≡ variable_places first
+        (kept tokens.now)) }
     ensures shorter { IfOk result (λ x. length x.1.now ≤ length tokens.now) }
 {
     let mut items = Vec::new(alloc);
@@ -83,6 +88,7 @@ pub fn variables(
     requires room { suc (suc limit) < 2 ^ 32 }
     ensures gives { Gives (λ x. (locals_of x.0, map spelled x.1.now)) result (variables_at method_readers limit
         is_final (ty_of kind) (map spelled tokens.now)) }
+    ensures places { IfOk result (λ x. locals_places x.0 (kept x.1.now) ≡ ty_places kind ++ kept tokens.now) }
     ensures shorter { IfOk result (λ x. length x.1.now < length tokens.now) }
 {
     let (first, rest) = variable(alloc, limit, tokens)?;
@@ -107,6 +113,7 @@ pub fn locals(
     requires room { suc (suc limit) < 2 ^ 32 }
     ensures gives { Gives (λ x. (locals_of x.0, map spelled x.1.now)) result (locals_at method_readers limit
         (map spelled tokens.now)) }
+    ensures places { IfOk result (λ x. locals_places x.0 (kept x.1.now) ≡ kept tokens.now) }
     ensures shorter { IfOk result (λ x. length x.1.now < length tokens.now) }
 {
     let (is_final, rest) = final_at(tokens);

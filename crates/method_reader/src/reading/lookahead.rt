@@ -1,11 +1,14 @@
 //! Choices by the first tokens of a statement or a member.
+ghost use Rattle.std.specs.Prelude.{◌∷◌};
 ghost use Rattle.std.specs.Prelude.{◌≡◌, ◌<◌, ◌≤◌, ◌&&◌, ◌||◌, true, codes, Some, None, MatchOption, IfSome};
 ghost use Rattle.std.specs.Prelude.{length, map};
+ghost use Rattle.java_lexer.specs.declared.token.TokenKind.TheVariants as kind;
 ghost use Rattle.java_tree.specs.Formed.{is_method_modifier};
+ghost use Rattle.java_tree.specs.KeptPlaces.{kept, place_onto};
 ghost use Rattle.java_tree.specs.Brackets.{is_sign};
 ghost use Rattle.method_grammar.specs.Lookahead.{begins_with, is_word_name, is_plain_type, goes_local, looks_local};
 ghost use Rattle.method_grammar.specs.Lookahead.{name_and_colon, statement_lead, is_constructor, after_modifier};
-ghost use Rattle.method_reader.specs.StatementLeadView.{statement_lead_of, LeadIsBelow};
+ghost use Rattle.method_reader.specs.StatementLeadView.{statement_lead_of, places_from, LeadIsBelow};
 ghost use Rattle.method_grammar.specs.StatementReading.{final_at};
 ghost use Rattle.type_reader.specs.Tokens.{spelled};
 
@@ -110,6 +113,7 @@ pub fn looks_local(tokens: &[Token]) -> bool
 pub fn name_and_colon(tokens: &[Token]) -> Option<(&Token, &[Token])>
     ensures gives { MatchOption result (name_and_colon (map spelled tokens.now) ≡ None) (λ x. name_and_colon
         (map spelled tokens.now) ≡ Some (x.0.now.text, map spelled x.1.now)) }
+    ensures places { IfSome result (λ x. x.0.now.place ∷ kept x.1.now ≡ kept tokens.now) }
     ensures shorter { IfSome result (λ x. length x.1.now < length tokens.now) }
 {
     match tokens {
@@ -121,6 +125,7 @@ pub fn name_and_colon(tokens: &[Token]) -> Option<(&Token, &[Token])>
 /// Whether `final` stands in front, and the tokens behind it.
 pub fn final_at(tokens: &[Token]) -> (bool, &[Token])
     ensures gives { (result.0, map spelled result.1.now) ≡ final_at (map spelled tokens.now) }
+    ensures places { kept result.1.now ≡ kept tokens.now }
     ensures shorter { length result.1.now ≤ length tokens.now }
 {
     match after_keyword(tokens, "final") {
@@ -132,6 +137,7 @@ pub fn final_at(tokens: &[Token]) -> (bool, &[Token])
 /// What a statement begins with.
 pub fn statement_lead(tokens: &[Token]) -> StatementLead<'_>
     ensures gives { statement_lead_of result ≡ statement_lead (map spelled tokens.now) }
+    ensures places { places_from result (kept tokens.now) ≡ kept tokens.now }
     ensures shorter { LeadIsBelow result (length tokens.now) }
 {
     let [token, rest @ ..] = tokens else {
@@ -176,6 +182,8 @@ fn is_method_modifier(text: &[u8]) -> bool
 pub fn after_modifier(tokens: &[Token]) -> Option<(&Token, &[Token])>
     ensures gives { MatchOption result (after_modifier (map spelled tokens.now) ≡ None) (λ x. after_modifier
         (map spelled tokens.now) ≡ Some (x.0.now.text, map spelled x.1.now)) }
+    ensures places { IfSome result (λ x. place_onto kind.Keyword x.0.now.text x.0.now.place (kept x.1.now)
+        ≡ kept tokens.now) }
     ensures shorter { IfSome result (λ x. length x.1.now < length tokens.now) }
 {
     match tokens {

@@ -1,5 +1,10 @@
 //! Reading methods and constructors (JLS 8.4, 8.8).
+ghost use Rattle.std.specs.Prelude.{◌≡◌, ◌++◌, []};
 ghost use Rattle.std.specs.Prelude.{◌<◌, ◌≤◌, ◌^◌, suc, length, map, IfOk};
+ghost use Rattle.java_tree.specs.KeptPlaces.{Places, kept};
+ghost use Rattle.java_tree.specs.MethodPlaces.{some_onto, modifier_marks, each_marks, result_places, method_marks};
+ghost use Rattle.java_tree.specs.MethodPlaces.{AreAt};
+ghost use Rattle.method_reader.specs.LedPlaces.{Leads};
 ghost use Rattle.java_tree.specs.View.{modifier_of, result_of, method_of};
 ghost use Rattle.method_grammar.specs.MethodReading.{result_at, named_at, method_from, method_at, if_ended};
 ghost use Rattle.method_grammar.specs.JavaReaders.{method_readers};
@@ -28,6 +33,7 @@ fn result_tree(
     requires { length tokens.now < 2 ^ 32 }
     ensures gives { Gives (λ x. (result_of x.0, map spelled x.1.now)) result (result_at method_readers limit
         (map spelled tokens.now)) }
+    ensures places { IfOk result (λ x. result_places x.0 ++ kept x.1.now ≡ kept tokens.now) }
     ensures shorter { IfOk result (λ x. length x.1.now ≤ length tokens.now) }
 {
     if is_constructor(tokens) {
@@ -51,8 +57,11 @@ fn named(
 ) -> Result<(MethodTree, &[Token]), ReadError>
     requires few { length tokens.now < 2 ^ 32 }
     requires room { suc (suc limit) < 2 ^ 32 }
-    ensures { Gives (λ x. (method_of x.0, map spelled x.1.now)) result (named_at method_readers limit (map modifier_of
-        modifiers) (result_of given) (map spelled tokens.now)) }
+    ensures gives { Gives (λ x. (method_of x.0, map spelled x.1.now)) result (named_at method_readers limit
+        (map modifier_of modifiers) (result_of given) (map spelled tokens.now)) }
+    ensures places { IfOk result (λ x. (start : Places) → Leads (λ rest. each_marks modifier_marks modifiers
+        (some_onto (result_places given) rest)) start (kept tokens.now) → x.1.now ≡ []
+        → AreAt (method_marks x.0) start) }
 {
     let (name, rest) = name(alloc, tokens)?;
     let rest = sign(rest, "(")?;
@@ -80,8 +89,9 @@ fn method_from(
 ) -> Result<(MethodTree, &[Token]), ReadError>
     requires few { length tokens.now < 2 ^ 32 }
     requires room { suc (suc limit) < 2 ^ 32 }
-    ensures { Gives (λ x. (method_of x.0, map spelled x.1.now)) result (method_from method_readers limit
+    ensures gives { Gives (λ x. (method_of x.0, map spelled x.1.now)) result (method_from method_readers limit
         (map spelled tokens.now)) }
+    ensures places { IfOk result (λ x. x.1.now ≡ [] → AreAt (method_marks x.0) (kept tokens.now)) }
 {
     let (modifiers, rest) = modifiers(alloc, tokens)?;
     let (given, rest) = result_tree(alloc, limit, rest)?;
@@ -90,7 +100,9 @@ fn method_from(
 
 /// This method, where no tokens stand behind it.
 fn ended(method: MethodTree, rest: &[Token]) -> Result<MethodTree, ReadError>
-    ensures { Gives method_of result (if_ended (method_of method) (map spelled rest.now)) }
+    ensures gives { Gives method_of result (if_ended (method_of method) (map spelled rest.now)) }
+    ensures same { IfOk result (λ tree. tree ≡ method) }
+    ensures whole { IfOk result (λ _. rest.now ≡ []) }
 {
     if !rest.is_empty() {
         return Err(ReadError::Unformed);
@@ -102,7 +114,8 @@ fn ended(method: MethodTree, rest: &[Token]) -> Result<MethodTree, ReadError>
 pub fn read_method(alloc: Global, limit: u32, tokens: &[Token]) -> Result<MethodTree, ReadError>
     requires few { length tokens.now < 2 ^ 32 }
     requires room { suc (suc limit) < 2 ^ 32 }
-    ensures { Gives method_of result (method_at method_readers limit (map spelled tokens.now)) }
+    ensures gives { Gives method_of result (method_at method_readers limit (map spelled tokens.now)) }
+    ensures places { IfOk result (λ tree. AreAt (method_marks tree) (kept tokens.now)) }
 {
     let (method, rest) = method_from(alloc, limit, tokens)?;
     ended(method, rest)

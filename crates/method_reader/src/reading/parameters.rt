@@ -1,6 +1,10 @@
 //! Reading the parameters of a method, and the types behind its `throws` (JLS 8.4.1, 8.4.6).
+ghost use Rattle.std.specs.Prelude.{◌++◌};
 ghost use Rattle.std.specs.Prelude.{◌≡◌, ◌<◌, ◌≤◌, ◌^◌, [], ◌∷◌, length, map, IfOk};
 ghost use Rattle.java_tree.specs.Formed.{is_named};
+ghost use Rattle.java_tree.specs.KeptPlaces.{Places, kept, all_places, ty_places};
+ghost use Rattle.java_tree.specs.MethodPlaces.{each_marks, parameter_marks};
+ghost use Rattle.method_reader.specs.LedPlaces.{Leads};
 ghost use Rattle.java_tree.specs.View.{ty_of, parameter_of};
 ghost use Rattle.method_grammar.specs.Taking.{commas};
 ghost use Rattle.method_grammar.specs.MethodReading.{parameter_at, parameters_at, thrown_at, throws_at};
@@ -30,6 +34,7 @@ fn parameter(
     requires { length tokens.now < 2 ^ 32 }
     ensures gives { Gives (λ x. (parameter_of x.0, map spelled x.1.now)) result (parameter_at method_readers limit
         (map spelled tokens.now)) }
+    ensures places { IfOk result (λ x. Leads (parameter_marks x.0) (kept tokens.now) (kept x.1.now)) }
     ensures shorter { IfOk result (λ x. length x.1.now ≤ length tokens.now) }
 {
     let (is_final, rest) = final_at(tokens);
@@ -57,6 +62,8 @@ fn more_parameters(
     ensures gives { Gives (λ x. (map parameter_of x.0.items, map spelled x.1.now)) result (finished as_they_are
         (parameter_of first ∷ []) (commas (parameter_at method_readers limit) (length (map spelled tokens.now))
         (map spelled tokens.now))) }
+    ensures places { IfOk result (λ x. (start : Places) → Leads (parameter_marks first) start (kept tokens.now)
+        → Leads (each_marks parameter_marks x.0.items) start (kept x.1.now)) }
     ensures shorter { IfOk result (λ x. length x.1.now ≤ length tokens.now) }
 {
     let mut items = Vec::new(alloc);
@@ -82,6 +89,7 @@ pub fn parameters(
     requires { length tokens.now < 2 ^ 32 }
     ensures gives { Gives (λ x. (map parameter_of x.0.items, map spelled x.1.now)) result
         (parameters_at method_readers limit (map spelled tokens.now)) }
+    ensures places { IfOk result (λ x. Leads (each_marks parameter_marks x.0.items) (kept tokens.now) (kept x.1.now)) }
     ensures shorter { IfOk result (λ x. length x.1.now ≤ length tokens.now) }
 {
     if begins_with(tokens, ")") {
@@ -105,6 +113,7 @@ fn thrown(alloc: Global, limit: u32, tokens: &[Token]) -> Result<(TypeTree, &[To
     requires { length tokens.now < 2 ^ 32 }
     ensures gives { Gives (λ x. (ty_of x.0, map spelled x.1.now)) result (thrown_at method_readers limit
         (map spelled tokens.now)) }
+    ensures places { IfOk result (λ x. ty_places x.0 ++ kept x.1.now ≡ kept tokens.now) }
     ensures shorter { IfOk result (λ x. length x.1.now ≤ length tokens.now) }
 {
     let (kind, rest) = read_type(alloc, limit, tokens)?;
@@ -124,6 +133,8 @@ fn more_thrown(
     requires { length tokens.now < 2 ^ 32 }
     ensures gives { Gives (λ x. (map ty_of x.0.items, map spelled x.1.now)) result (finished as_they_are (ty_of first
         ∷ []) (commas (thrown_at method_readers limit) (length (map spelled tokens.now)) (map spelled tokens.now))) }
+    ensures places { IfOk result (λ x. all_places (map ty_places x.0.items) ++ kept x.1.now ≡ ty_places first
+        ++ kept tokens.now) }
     ensures shorter { IfOk result (λ x. length x.1.now ≤ length tokens.now) }
 {
     let mut items = Vec::new(alloc);
@@ -150,6 +161,7 @@ pub fn throws(
     requires { length tokens.now < 2 ^ 32 }
     ensures gives { Gives (λ x. (map ty_of x.0.items, map spelled x.1.now)) result (throws_at method_readers limit
         (map spelled tokens.now)) }
+    ensures places { IfOk result (λ x. all_places (map ty_places x.0.items) ++ kept x.1.now ≡ kept tokens.now) }
     ensures shorter { IfOk result (λ x. length x.1.now ≤ length tokens.now) }
 {
     let Some(after) = after_keyword(tokens, "throws") else {

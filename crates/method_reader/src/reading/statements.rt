@@ -1,5 +1,7 @@
 //! Reading statements (JLS 14).
+ghost use Rattle.std.specs.Prelude.{◌≡◌, ◌∷◌};
 ghost use Rattle.std.specs.Prelude.{◌<◌, ◌≤◌, ◌^◌, suc, length, map, IfOk};
+ghost use Rattle.java_tree.specs.KeptPlaces.{kept, each_puts, expr_places, stmt_places};
 ghost use Rattle.java_tree.specs.Trees.{pack_stmts};
 ghost use Rattle.java_tree.specs.View.{expr_of, stmt_of};
 ghost use Rattle.method_grammar.specs.Lookahead.{statement_lead};
@@ -32,6 +34,7 @@ pub fn read_statement(
     requires room { suc (suc limit) < 2 ^ 32 }
     ensures gives { Gives (λ x. (stmt_of x.0, map spelled x.1.now)) result (stmt_at method_readers limit
         (map spelled tokens.now)) }
+    ensures places { IfOk result (λ x. stmt_places x.0 (kept x.1.now) ≡ kept tokens.now) }
     ensures shorter { IfOk result (λ x. length x.1.now ≤ length tokens.now) }
 {
     if limit == 0 {
@@ -48,6 +51,7 @@ fn by_lead(alloc: Global, limit: u32, tokens: &[Token]) -> Result<(Statement, &[
     ensures gives { Gives (λ x. (stmt_of x.0, map spelled x.1.now)) result (by_lead method_readers
         (stmt_at method_readers limit) (block_at method_readers limit) limit (statement_lead (map spelled tokens.now))
         (map spelled tokens.now)) }
+    ensures places { IfOk result (λ x. stmt_places x.0 (kept x.1.now) ≡ kept tokens.now) }
     ensures shorter { IfOk result (λ x. length x.1.now ≤ length tokens.now) }
 {
     match statement_lead(tokens) {
@@ -76,6 +80,7 @@ fn body(
     requires room { suc (suc limit) < 2 ^ 32 }
     ensures gives { Gives (λ x. (stmt_of x.0.value, map spelled x.1.now)) result (body_at method_readers
         (stmt_at method_readers limit) (map spelled tokens.now)) }
+    ensures places { IfOk result (λ x. stmt_places x.0.value (kept x.1.now) ≡ kept tokens.now) }
     ensures shorter { IfOk result (λ x. length x.1.now ≤ length tokens.now) }
 {
     let (statement, rest) = read_statement(alloc, limit, tokens)?;
@@ -97,6 +102,7 @@ fn braces(
     requires room { suc (suc limit) < 2 ^ 32 }
     ensures gives { Gives (λ x. (pack_stmts (map stmt_of x.0.items), map spelled x.1.now)) result
         (braces_at method_readers (stmt_at method_readers limit) (map spelled tokens.now)) }
+    ensures places { IfOk result (λ x. each_puts (map stmt_places x.0.items) (kept x.1.now) ≡ kept tokens.now) }
     ensures shorter { IfOk result (λ x. length x.1.now ≤ length tokens.now) }
 {
     let mut items = Vec::new(alloc);
@@ -124,6 +130,7 @@ pub fn read_block(
     requires room { suc (suc limit) < 2 ^ 32 }
     ensures gives { Gives (λ x. (pack_stmts (map stmt_of x.0.items), map spelled x.1.now)) result
         (block_at method_readers limit (map spelled tokens.now)) }
+    ensures places { IfOk result (λ x. each_puts (map stmt_places x.0.items) (kept x.1.now) ≡ kept tokens.now) }
     ensures shorter { IfOk result (λ x. length x.1.now ≤ length tokens.now) }
 {
     if limit == 0 {
@@ -145,6 +152,7 @@ fn if_statement(
     requires room { suc (suc limit) < 2 ^ 32 }
     ensures gives { Gives (λ x. (stmt_of x.0, map spelled x.1.now)) result (if_at method_readers
         (stmt_at method_readers limit) limit (map spelled tokens.now)) }
+    ensures places { IfOk result (λ x. stmt_places x.0 (kept x.1.now) ≡ kept tokens.now) }
     ensures shorter { IfOk result (λ x. length x.1.now ≤ length tokens.now) }
 {
     let (condition, rest) = condition(alloc, limit, tokens)?;
@@ -166,6 +174,8 @@ fn otherwise(
     requires room { suc (suc limit) < 2 ^ 32 }
     ensures gives { Gives (λ x. (stmt_of x.0, map spelled x.1.now)) result (else_at method_readers
         (stmt_at method_readers limit) (expr_of condition) (stmt_of then.value) (map spelled tokens.now)) }
+    ensures places { IfOk result (λ x. stmt_places x.0 (kept x.1.now) ≡ expr_places condition (stmt_places then.value
+        (kept tokens.now))) }
     ensures shorter { IfOk result (λ x. length x.1.now ≤ length tokens.now) }
 {
     let Some(after) = after_keyword(tokens, "else") else {
@@ -187,6 +197,7 @@ fn while_statement(
     requires room { suc (suc limit) < 2 ^ 32 }
     ensures gives { Gives (λ x. (stmt_of x.0, map spelled x.1.now)) result (while_at method_readers
         (stmt_at method_readers limit) limit (map spelled tokens.now)) }
+    ensures places { IfOk result (λ x. stmt_places x.0 (kept x.1.now) ≡ kept tokens.now) }
     ensures shorter { IfOk result (λ x. length x.1.now ≤ length tokens.now) }
 {
     let (condition, rest) = condition(alloc, limit, tokens)?;
@@ -205,6 +216,7 @@ fn for_statement(
     requires room { suc (suc limit) < 2 ^ 32 }
     ensures gives { Gives (λ x. (stmt_of x.0, map spelled x.1.now)) result (headed_at method_readers
         (stmt_at method_readers limit) limit (map spelled tokens.now)) }
+    ensures places { IfOk result (λ x. stmt_places x.0 (kept x.1.now) ≡ kept tokens.now) }
     ensures shorter { IfOk result (λ x. length x.1.now ≤ length tokens.now) }
 {
     let (head, rest) = head(alloc, limit, tokens)?;
@@ -225,6 +237,7 @@ fn synchronized(
     requires room { suc (suc limit) < 2 ^ 32 }
     ensures gives { Gives (λ x. (stmt_of x.0, map spelled x.1.now)) result (sync_at method_readers
         (block_at method_readers limit) limit (map spelled tokens.now)) }
+    ensures places { IfOk result (λ x. stmt_places x.0 (kept x.1.now) ≡ place ∷ kept tokens.now) }
     ensures shorter { IfOk result (λ x. length x.1.now ≤ length tokens.now) }
 {
     let (lock, rest) = condition(alloc, limit, tokens)?;

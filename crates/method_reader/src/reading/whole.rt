@@ -5,6 +5,8 @@ ghost use Rattle.java_tree.specs.Trees.{Method};
 ghost use Rattle.java_tree.specs.Spelling.{spelling};
 ghost use Rattle.java_tree.specs.Formed.{FormedMethod};
 ghost use Rattle.java_tree.specs.Nesting.{method_nesting};
+ghost use Rattle.java_tree.specs.KeptPlaces.{kept};
+ghost use Rattle.java_tree.specs.MethodPlaces.{method_marks, AreAt};
 ghost use Rattle.java_tree.specs.View.{method_of};
 ghost use Rattle.type_reader.specs.Tokens.{spelled};
 
@@ -20,6 +22,7 @@ pub fn read_method(alloc: Global, limit: u32, tokens: &[Token]) -> Result<Method
     requires room { suc (suc limit) < 2 ^ 32 }
     ensures formed { IfOk result (λ tree. FormedMethod (method_of tree)) }
     ensures spelled { IfOk result (λ tree. spelling (method_of tree) ≡ map spelled tokens.now) }
+    ensures places { IfOk result (λ tree. AreAt (method_marks tree) (kept tokens.now)) }
     ensures small { IfOk result (λ tree. method_nesting (method_of tree) ≤ limit) }
     ensures only { IfOk result (λ tree. (other : Method) → FormedMethod other
         → spelling other ≡ map spelled tokens.now → other ≡ method_of tree) }

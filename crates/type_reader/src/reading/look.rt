@@ -1,6 +1,9 @@
 //! The tokens in front.
-ghost use Rattle.std.specs.Prelude.{◌≡◌, ◌<◌, ◌≤◌, ◌^◌, not, ◌&&◌, Some, None, MatchOption, IfSome, IfOk, length, map};
+ghost use Rattle.std.specs.Prelude.{◌≡◌, ◌<◌, ◌≤◌, ◌^◌, not, ◌&&◌, Some, None, ◌∷◌, MatchOption, IfSome, IfOk};
+ghost use Rattle.std.specs.Prelude.{length, map, drop, if◌then◌else◌};
 ghost use Rattle.racer_base.specs.Name.{is_listed};
+ghost use Rattle.java_lexer.specs.declared.token.TokenKind.TheVariants as kind;
+ghost use Rattle.java_tree.specs.KeptPlaces.{is_kept, kept};
 ghost use Rattle.java_tree.specs.Brackets.{is_sign};
 ghost use Rattle.java_tree.specs.Formed.{is_plain_word};
 ghost use Rattle.method_grammar.specs.Taking.{is_keyword, is_name_kind, after_sign, after_keyword, after_name};
@@ -63,6 +66,7 @@ pub fn is_name(token: &Token) -> bool
 pub fn after_sign<'a>(tokens: &'a [Token], text: &str) -> Option<&'a [Token]>
     ensures gives { MatchOption result (after_sign text.now (map spelled tokens.now) ≡ None) (λ rest. after_sign
         text.now (map spelled tokens.now) ≡ Some (map spelled rest.now)) }
+    ensures places { IfSome result (λ rest. kept rest.now ≡ kept tokens.now) }
     ensures shorter { IfSome result (λ rest. length rest.now < length tokens.now) }
 {
     match tokens {
@@ -75,6 +79,8 @@ pub fn after_sign<'a>(tokens: &'a [Token], text: &str) -> Option<&'a [Token]>
 pub fn after_keyword<'a>(tokens: &'a [Token], text: &str) -> Option<&'a [Token]>
     ensures gives { MatchOption result (after_keyword text.now (map spelled tokens.now) ≡ None) (λ rest. after_keyword
         text.now (map spelled tokens.now) ≡ Some (map spelled rest.now)) }
+    ensures places { IfSome result (λ rest. kept rest.now ≡ (if is_kept kind.Keyword text.now then drop 1
+        (kept tokens.now) else kept tokens.now)) }
     ensures shorter { IfSome result (λ rest. length rest.now < length tokens.now) }
 {
     match tokens {
@@ -87,6 +93,7 @@ pub fn after_keyword<'a>(tokens: &'a [Token], text: &str) -> Option<&'a [Token]>
 pub fn after_glued(tokens: &[Token]) -> Option<&[Token]>
     ensures gives { MatchOption result (after_glued (map spelled tokens.now) ≡ None) (λ rest. after_glued
         (map spelled tokens.now) ≡ Some (map spelled rest.now)) }
+    ensures places { IfSome result (λ rest. kept rest.now ≡ kept tokens.now) }
     ensures shorter { IfSome result (λ rest. length rest.now < length tokens.now) }
 {
     match tokens {
@@ -101,6 +108,7 @@ pub fn after_glued(tokens: &[Token]) -> Option<&[Token]>
 pub fn after_angle(tokens: &[Token]) -> Option<(bool, &[Token])>
     ensures gives { MatchOption result (after_angle (map spelled tokens.now) ≡ None) (λ x. after_angle
         (map spelled tokens.now) ≡ Some (x.0, map spelled x.1.now)) }
+    ensures places { IfSome result (λ x. kept x.1.now ≡ kept tokens.now) }
     ensures shorter { IfSome result (λ x. length x.1.now < length tokens.now) }
 {
     match tokens {
@@ -113,6 +121,7 @@ pub fn after_angle(tokens: &[Token]) -> Option<(bool, &[Token])>
 /// The tokens behind this sign, which has to be in front.
 pub fn sign<'a>(tokens: &'a [Token], text: &str) -> Result<&'a [Token], ReadError>
     ensures gives { Gives (λ rest. map spelled rest.now) result (after_sign text.now (map spelled tokens.now)) }
+    ensures places { IfOk result (λ rest. kept rest.now ≡ kept tokens.now) }
     ensures shorter { IfOk result (λ rest. length rest.now < length tokens.now) }
 {
     after_sign(tokens, text).ok_or(ReadError::Unformed)
@@ -121,6 +130,7 @@ pub fn sign<'a>(tokens: &'a [Token], text: &str) -> Result<&'a [Token], ReadErro
 /// The same of a `>` that closes type arguments.
 pub fn angle(tokens: &[Token]) -> Result<(bool, &[Token]), ReadError>
     ensures gives { Gives (λ x. (x.0, map spelled x.1.now)) result (after_angle (map spelled tokens.now)) }
+    ensures places { IfOk result (λ x. kept x.1.now ≡ kept tokens.now) }
     ensures shorter { IfOk result (λ x. length x.1.now < length tokens.now) }
 {
     after_angle(tokens).ok_or(ReadError::Unformed)
@@ -129,6 +139,7 @@ pub fn angle(tokens: &[Token]) -> Result<(bool, &[Token]), ReadError>
 /// A name with its place, which has to be in front, and the tokens behind it.
 pub fn name(alloc: Global, tokens: &[Token]) -> Result<(Ident, &[Token]), ReadError>
     ensures gives { Gives (λ x. (x.0.text, map spelled x.1.now)) result (after_name (map spelled tokens.now)) }
+    ensures places { IfOk result (λ x. x.0.place ∷ kept x.1.now ≡ kept tokens.now) }
     ensures shorter { IfOk result (λ x. length x.1.now < length tokens.now) }
 {
     match tokens {
@@ -143,7 +154,8 @@ pub fn name(alloc: Global, tokens: &[Token]) -> Result<(Ident, &[Token]), ReadEr
 
 /// The name that a token is, with its place.
 pub fn ident(alloc: Global, token: &Token) -> Result<Ident, ReadError>
-    ensures { Gives (λ x. x.text) result (Some token.now.text) }
+    ensures gives { Gives (λ x. x.text) result (Some token.now.text) }
+    ensures places { IfOk result (λ x. x.place ≡ token.now.place) }
 {
     let text = Text::from_str(alloc, token.text.as_str())?;
     let place = token.place;
@@ -154,6 +166,7 @@ pub fn ident(alloc: Global, token: &Token) -> Result<Ident, ReadError>
 pub fn after_plain(tokens: &[Token]) -> Option<(&Token, &[Token])>
     ensures gives { MatchOption result (after_plain (map spelled tokens.now) ≡ None) (λ x. after_plain
         (map spelled tokens.now) ≡ Some (x.0.now.text, map spelled x.1.now)) }
+    ensures places { IfSome result (λ x. kept x.1.now ≡ kept tokens.now) }
     ensures shorter { IfSome result (λ x. length x.1.now < length tokens.now) }
 {
     match tokens {
@@ -169,6 +182,7 @@ pub fn after_plain(tokens: &[Token]) -> Option<(&Token, &[Token])>
 pub fn after_brackets(tokens: &[Token]) -> Option<&[Token]>
     ensures gives { MatchOption result (after_brackets (map spelled tokens.now) ≡ None) (λ rest. after_brackets
         (map spelled tokens.now) ≡ Some (map spelled rest.now)) }
+    ensures places { IfSome result (λ rest. kept rest.now ≡ kept tokens.now) }
     ensures shorter { IfSome result (λ rest. length rest.now < length tokens.now) }
 {
     after_sign(after_sign(tokens, "[")?, "]")
@@ -180,6 +194,7 @@ pub fn brackets(tokens: &[Token]) -> (u32, &[Token])
     requires { length tokens.now < 2 ^ 32 }
     ensures gives { (result.0, map spelled result.1.now) ≡ brackets_at (length (map spelled tokens.now))
         (map spelled tokens.now) }
+    ensures places { kept result.1.now ≡ kept tokens.now }
     ensures shorter { length result.1.now ≤ length tokens.now }
     ensures few { result.0 ≤ length tokens.now }
 {

@@ -1,6 +1,7 @@
 //! Reading types without type arguments (JLS 15.20.2), and what stands behind `new` (JLS 15.9, 15.10).
 ghost use Rattle.std.specs.Prelude.{◌≡◌, ◌<◌, ◌≤◌, ◌^◌, suc, Some, None, [], ◌∷◌, length, map, IfOk, IfSome};
-ghost use Rattle.std.specs.Prelude.{MatchOption};
+ghost use Rattle.std.specs.Prelude.{◌++◌, MatchOption};
+ghost use Rattle.java_tree.specs.KeptPlaces.{kept, ty_places, base_places, part_places};
 ghost use Rattle.java_tree.specs.Nesting.{parts_nesting};
 ghost use Rattle.java_tree.specs.Trees.{Bare, Generic, Angled, no_argument, pack_parts};
 ghost use Rattle.java_tree.specs.View.{ty_of, base_of, part_of};
@@ -24,6 +25,7 @@ use std::alloc::Global;
 /// A name as a part.
 fn bare(name: Ident) -> NestedPart
     ensures gives { part_of result.tree ≡ Bare name.text }
+    ensures places { part_places result.tree ≡ name.place ∷ [] }
     ensures small { result.nesting ≡ 0 }
 {
     let tree = TypePart {
@@ -36,6 +38,7 @@ fn bare(name: Ident) -> NestedPart
 fn bare_part(alloc: Global, tokens: &[Token]) -> Result<(NestedPart, &[Token]), ReadError>
     ensures gives { Gives (λ x. (part_of x.0.tree, map spelled x.1.now)) result
         (bare_part_at (map spelled tokens.now)) }
+    ensures places { IfOk result (λ x. part_places x.0.tree ++ kept x.1.now ≡ kept tokens.now) }
     ensures small { IfOk result (λ x. x.0.nesting ≡ 0) }
     ensures shorter { IfOk result (λ x. length x.1.now < length tokens.now) }
 {
@@ -53,6 +56,8 @@ fn bare_parts(
     requires first { first.nesting ≡ 0 }
     ensures gives { Gives (λ x. (base_of x.0.tree, map spelled x.1.now)) result (finished named_end
         (part_of first.tree ∷ []) (points bare_part_at (length (map spelled tokens.now)) (map spelled tokens.now))) }
+    ensures places { IfOk result (λ x. base_places x.0.tree ++ kept x.1.now ≡ part_places first.tree
+        ++ kept tokens.now) }
     ensures small { IfOk result (λ x. x.0.nesting ≡ 0) }
     ensures shorter { IfOk result (λ x. length x.1.now ≤ length tokens.now) }
 {
@@ -75,6 +80,7 @@ fn bare_base(alloc: Global, tokens: &[Token]) -> Result<(NestedBase, &[Token]), 
     requires { length tokens.now < 2 ^ 32 }
     ensures gives { Gives (λ x. (base_of x.0.tree, map spelled x.1.now)) result (base_with bare_part_at
         (map spelled tokens.now)) }
+    ensures places { IfOk result (λ x. base_places x.0.tree ++ kept x.1.now ≡ kept tokens.now) }
     ensures small { IfOk result (λ x. x.0.nesting ≡ 0) }
     ensures shorter { IfOk result (λ x. length x.1.now < length tokens.now) }
 {
@@ -90,6 +96,7 @@ fn bare_base(alloc: Global, tokens: &[Token]) -> Result<(NestedBase, &[Token]), 
 pub fn read_bare_type(alloc: Global, tokens: &[Token]) -> Result<(NestedType, &[Token]), ReadError>
     requires { length tokens.now < 2 ^ 32 }
     ensures gives { Gives (λ x. (ty_of x.0.tree, map spelled x.1.now)) result (bare_ty_at (map spelled tokens.now)) }
+    ensures places { IfOk result (λ x. ty_places x.0.tree ++ kept x.1.now ≡ kept tokens.now) }
     ensures small { IfOk result (λ x. x.0.nesting ≡ 1) }
     ensures shorter { IfOk result (λ x. length x.1.now < length tokens.now) }
 {
@@ -134,6 +141,7 @@ fn have_diamond(parts: &[TypePart]) -> bool
 fn point_behind<'a>(part: &TypePart, tokens: &'a [Token]) -> Option<&'a [Token]>
     ensures gives { MatchOption result (point_behind (part_of part.now) (map spelled tokens.now) ≡ None)
         (λ rest. point_behind (part_of part.now) (map spelled tokens.now) ≡ Some (map spelled rest.now)) }
+    ensures places { IfSome result (λ rest. kept rest.now ≡ kept tokens.now) }
     ensures shorter { IfSome result (λ rest. length rest.now < length tokens.now) }
 {
     if is_diamond(part) {
@@ -145,6 +153,7 @@ fn point_behind<'a>(part: &TypePart, tokens: &'a [Token]) -> Option<&'a [Token]>
 /// This name with `< >`.
 fn diamond(alloc: Global, name: Ident, glued: bool) -> NestedPart
     ensures gives { part_of result.tree ≡ Generic name.text (Angled no_argument glued) }
+    ensures places { part_places result.tree ≡ name.place ∷ [] }
     ensures small { result.nesting ≡ 0 }
 {
     let arguments = TypeArguments {
@@ -168,6 +177,7 @@ fn made_part(
     requires { length tokens.now < 2 ^ 32 }
     ensures gives { Gives (λ x. (part_of x.0.tree, map spelled x.1.now)) result (made_part_with (ty_at limit)
         (map spelled tokens.now)) }
+    ensures places { IfOk result (λ x. part_places x.0.tree ++ kept x.1.now ≡ kept tokens.now) }
     ensures small { IfOk result (λ x. x.0.nesting ≤ limit) }
     ensures shorter { IfOk result (λ x. length x.1.now < length tokens.now) }
 {
@@ -196,6 +206,7 @@ fn made_parts(
     requires { length tokens.now < 2 ^ 32 }
     ensures gives { Gives (λ x. (base_of x.0.tree, map spelled x.1.now)) result (finished named_end []
         (made_parts_with (ty_at limit) (length (map spelled tokens.now)) (map spelled tokens.now))) }
+    ensures places { IfOk result (λ x. base_places x.0.tree ++ kept x.1.now ≡ kept tokens.now) }
     ensures small { IfOk result (λ x. x.0.nesting ≤ limit) }
     ensures shorter { IfOk result (λ x. length x.1.now < length tokens.now) }
 {
@@ -225,6 +236,7 @@ pub fn made_base(
     requires { length tokens.now < 2 ^ 32 }
     ensures gives { Gives (λ x. (base_of x.0.tree, map spelled x.1.now)) result (made_base_at limit
         (map spelled tokens.now)) }
+    ensures places { IfOk result (λ x. base_places x.0.tree ++ kept x.1.now ≡ kept tokens.now) }
     ensures small { IfOk result (λ x. x.0.nesting < limit) }
     ensures shorter { IfOk result (λ x. length x.1.now < length tokens.now) }
 {

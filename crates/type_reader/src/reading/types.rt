@@ -1,5 +1,7 @@
 //! Reading types (JLS 4).
-ghost use Rattle.std.specs.Prelude.{◌≡◌, ◌<◌, ◌≤◌, ◌^◌, suc, Some, [], ◌∷◌, length, map, IfOk};
+ghost use Rattle.std.specs.Prelude.{◌≡◌, ◌<◌, ◌≤◌, ◌^◌, suc, Some, [], ◌∷◌, ◌++◌, length, map, IfOk};
+ghost use Rattle.java_tree.specs.KeptPlaces.{kept, all_places, ty_places, base_places, part_places, angled_places};
+ghost use Rattle.java_tree.specs.KeptPlaces.{argument_places};
 ghost use Rattle.java_tree.specs.Nesting.{base_nesting, parts_nesting, arguments_nesting};
 ghost use Rattle.java_tree.specs.Trees.{Plain, Named, pack_parts, pack_arguments};
 ghost use Rattle.java_tree.specs.View.{ty_of, base_of, part_of, angled_of, argument_of};
@@ -22,6 +24,7 @@ use std::alloc::Global;
 /// This primitive type (JLS 4.2).
 pub fn plain(alloc: Global, word: &Token) -> Result<NestedBase, ReadError>
     ensures gives { Gives (λ x. base_of x.tree) result (Some (Plain word.now.text)) }
+    ensures places { IfOk result (λ x. base_places x.tree ≡ []) }
     ensures small { IfOk result (λ x. x.nesting ≡ 0) }
 {
     let tree = BaseType::Plain(Text::from_str(alloc, word.text.as_str())?);
@@ -36,6 +39,7 @@ pub fn arrayed(base: NestedBase, tokens: &[Token]) -> (NestedType, &[Token])
       base_of base.tree,
       map spelled tokens.now,
     ) }
+    ensures places { ty_places result.0.tree ++ kept result.1.now ≡ base_places base.tree ++ kept tokens.now }
     ensures small { result.0.nesting ≡ suc base.nesting }
     ensures shorter { length result.1.now ≤ length tokens.now }
 {
@@ -55,6 +59,7 @@ pub fn named(parts: Vec<TypePart>, nesting: u32, tokens: &[Token]) -> (NestedBas
       map part_of parts.items,
       map spelled tokens.now,
     ) }
+    ensures places { base_places result.0.tree ≡ all_places (map part_places parts.items) }
     ensures small { result.0.nesting ≡ nesting }
     ensures same { result.1.now ≡ tokens.now }
 {
@@ -71,6 +76,8 @@ fn closed(
     requires measured { nesting ≡ arguments_nesting (pack_arguments (map argument_of items.items)) }
     ensures gives { Gives (λ x. (angled_of x.0.tree, map spelled x.1.now)) result
         (angled_end (map argument_of items.items, map spelled tokens.now)) }
+    ensures places { IfOk result (λ x. angled_places x.0.tree ++ kept x.1.now ≡ all_places (map argument_places
+        items.items) ++ kept tokens.now) }
     ensures small { IfOk result (λ x. x.0.nesting ≡ nesting) }
     ensures shorter { IfOk result (λ x. length x.1.now ≤ length tokens.now) }
 {
@@ -89,6 +96,7 @@ pub fn read_type(
 ) -> Result<(NestedType, &[Token]), ReadError>
     requires { length tokens.now < 2 ^ 32 }
     ensures gives { Gives (λ x. (ty_of x.0.tree, map spelled x.1.now)) result (ty_at limit (map spelled tokens.now)) }
+    ensures places { IfOk result (λ x. ty_places x.0.tree ++ kept x.1.now ≡ kept tokens.now) }
     ensures small { IfOk result (λ x. x.0.nesting ≤ limit) }
     ensures shorter { IfOk result (λ x. length x.1.now < length tokens.now) }
 {
@@ -106,6 +114,7 @@ fn base(alloc: Global, limit: u32, tokens: &[Token]) -> Result<(NestedBase, &[To
     requires { length tokens.now < 2 ^ 32 }
     ensures gives { Gives (λ x. (base_of x.0.tree, map spelled x.1.now)) result (base_with (part_with (ty_at limit))
         (map spelled tokens.now)) }
+    ensures places { IfOk result (λ x. base_places x.0.tree ++ kept x.1.now ≡ kept tokens.now) }
     ensures small { IfOk result (λ x. x.0.nesting ≤ limit) }
     ensures shorter { IfOk result (λ x. length x.1.now < length tokens.now) }
 {
@@ -129,6 +138,8 @@ fn parts(
     ensures gives { Gives (λ x. (base_of x.0.tree, map spelled x.1.now)) result (finished named_end
         (part_of first.tree ∷ []) (points (part_with (ty_at limit)) (length (map spelled tokens.now))
         (map spelled tokens.now))) }
+    ensures places { IfOk result (λ x. base_places x.0.tree ++ kept x.1.now ≡ part_places first.tree
+        ++ kept tokens.now) }
     ensures small { IfOk result (λ x. x.0.nesting ≤ limit) }
     ensures shorter { IfOk result (λ x. length x.1.now ≤ length tokens.now) }
 {
@@ -155,6 +166,7 @@ fn part(alloc: Global, limit: u32, tokens: &[Token]) -> Result<(NestedPart, &[To
     requires { length tokens.now < 2 ^ 32 }
     ensures gives { Gives (λ x. (part_of x.0.tree, map spelled x.1.now)) result (part_with (ty_at limit)
         (map spelled tokens.now)) }
+    ensures places { IfOk result (λ x. part_places x.0.tree ++ kept x.1.now ≡ kept tokens.now) }
     ensures small { IfOk result (λ x. x.0.nesting ≤ limit) }
     ensures shorter { IfOk result (λ x. length x.1.now < length tokens.now) }
 {
@@ -186,6 +198,7 @@ pub fn angled(
     requires { length tokens.now < 2 ^ 32 }
     ensures gives { Gives (λ x. (angled_of x.0.tree, map spelled x.1.now)) result (angled_with (ty_at limit)
         (map spelled tokens.now)) }
+    ensures places { IfOk result (λ x. angled_places x.0.tree ++ kept x.1.now ≡ kept tokens.now) }
     ensures small { IfOk result (λ x. x.0.nesting ≤ limit) }
     ensures shorter { IfOk result (λ x. length x.1.now < length tokens.now) }
 {
@@ -206,6 +219,8 @@ fn arguments(
     ensures gives { Gives (λ x. (angled_of x.0.tree, map spelled x.1.now)) result (finished angled_end
         (argument_of first.tree ∷ []) (commas (argument_with (ty_at limit)) (length (map spelled tokens.now))
         (map spelled tokens.now))) }
+    ensures places { IfOk result (λ x. angled_places x.0.tree ++ kept x.1.now ≡ argument_places first.tree
+        ++ kept tokens.now) }
     ensures small { IfOk result (λ x. x.0.nesting ≤ limit) }
     ensures shorter { IfOk result (λ x. length x.1.now ≤ length tokens.now) }
 {
@@ -235,6 +250,7 @@ fn argument(
     requires { length tokens.now < 2 ^ 32 }
     ensures gives { Gives (λ x. (argument_of x.0.tree, map spelled x.1.now)) result (argument_with (ty_at limit)
         (map spelled tokens.now)) }
+    ensures places { IfOk result (λ x. argument_places x.0.tree ++ kept x.1.now ≡ kept tokens.now) }
     ensures small { IfOk result (λ x. x.0.nesting ≤ limit) }
     ensures shorter { IfOk result (λ x. length x.1.now < length tokens.now) }
 {
@@ -257,6 +273,7 @@ fn wildcard(
     requires { length tokens.now < 2 ^ 32 }
     ensures gives { Gives (λ x. (argument_of x.0.tree, map spelled x.1.now)) result (wildcard_with (ty_at limit)
         (map spelled tokens.now)) }
+    ensures places { IfOk result (λ x. argument_places x.0.tree ++ kept x.1.now ≡ kept tokens.now) }
     ensures small { IfOk result (λ x. x.0.nesting ≤ limit) }
     ensures shorter { IfOk result (λ x. length x.1.now ≤ length tokens.now) }
 {

@@ -5,6 +5,7 @@ ghost use Rattle.java_tree.specs.Trees.{Ty, Init, Method};
 ghost use Rattle.java_tree.specs.Spelling.{ty_onto, init_onto, spelling};
 ghost use Rattle.java_tree.specs.Formed.{FormedTy, FormedInit, FormedMethod};
 ghost use Rattle.java_tree.specs.Nesting.{ty_nesting, init_nesting, method_nesting};
+ghost use Rattle.java_tree.specs.KeptPlaces.{kept, ty_places};
 ghost use Rattle.java_tree.specs.View.{ty_of, init_of, method_of};
 ghost use Rattle.method_grammar.specs.TypeReading.{ty_at};
 ghost use Rattle.method_grammar.specs.ExpressionReading.{init_at};
@@ -21,7 +22,8 @@ use std::alloc::Global;
 /// The type that all these tokens are.
 fn whole_type(alloc: Global, limit: u32, tokens: &[Token]) -> Result<TypeTree, ReadError>
     requires { length tokens.now < 2 ^ 32 }
-    ensures { Gives ty_of result (all_of (ty_at limit (map spelled tokens.now))) }
+    ensures gives { Gives ty_of result (all_of (ty_at limit (map spelled tokens.now))) }
+    ensures places { IfOk result (λ tree. ty_places tree ≡ kept tokens.now) }
 {
     let (kind, rest) = types::read_type(alloc, limit, tokens)?;
     if !rest.is_empty() {
@@ -35,6 +37,7 @@ pub fn read_type(alloc: Global, limit: u32, tokens: &[Token]) -> Result<TypeTree
     requires { length tokens.now < 2 ^ 32 }
     ensures formed { IfOk result (λ tree. FormedTy (ty_of tree)) }
     ensures spelled { IfOk result (λ tree. ty_onto (ty_of tree) [] ≡ map spelled tokens.now) }
+    ensures places { IfOk result (λ tree. ty_places tree ≡ kept tokens.now) }
     ensures small { IfOk result (λ tree. ty_nesting (ty_of tree) ≤ limit) }
     ensures only { IfOk result (λ tree. (other : Ty) → FormedTy other → ty_onto other [] ≡ map spelled tokens.now
         → other ≡ ty_of tree) }

@@ -1,8 +1,10 @@
-use Rattle.std.proofs.Common.{rules, codes, true, false, ◌≡◌, suc, ◌+◌, ◌-◌, ◌++◌, ◌∷◌, [], length, map, sym, ◌∙◌, arith}
+use Rattle.std.proofs.Common.{rules, codes, true, false, ◌≡◌, suc, ◌++◌, ◌∷◌, [], length, map, sym, ap}
+use Rattle.std.proofs.Common.{◌∙◌, arith}
 use Rattle.std.proofs.lemmas.Result.{err_from_is_err_and}
 use Rattle.std.proofs.lemmas.List.{map_push}
 use Rattle.std.specs.Prelude.{bytes_eq}
 use Rattle.java_lexer.specs.declared.token.TokenKind.TheVariants as kind
+use Rattle.java_tree.specs.KeptPlaces.{kept, expr_places, init_places}
 use Rattle.java_tree.specs.Operators.{assignment_level, is_prefix}
 use Rattle.java_tree.specs.View.{base_of, expr_of, init_of}
 use Rattle.method_grammar.specs.Taking.{commas}
@@ -13,6 +15,7 @@ use Rattle.expression_reader.proofs.CastChoice.{parens_alone}
 use Rattle.type_reader.specs.Tokens.{spelled}
 use Rattle.type_reader.specs.Finishing.{finished}
 use Rattle.type_reader.specs.Endings.{call_end, lengths_end, items_end}
+use Rattle.type_reader.proofs.PutPlaces.{one_put}
 use Rattle.type_reader.proofs.PushedNesting.{exprs_nesting_push, inits_nesting_push}
 use Rattle.type_reader.proofs.ReadLoops.{comma_goes_on, comma_fails, comma_ends, comma_runs_out, ends_give}
 use Rattle.expression_reader.proofs.ExpressionLoops.{length_goes_on, length_fails, length_unclosed, length_ends}
@@ -32,11 +35,13 @@ expressions::climb-loop-preserved t c =
     let gives = rw c.in-Next.is at c.in_ok-whole.ensures.gives in
     let small = rw c.in-Next.is at c.in_ok-whole.ensures.small in
     let shorter = rw c.in-Next.is at c.in_ok-whole.ensures.shorter in
+    let places = rw c.in-Next.is at c.in_ok-whole.ensures.places in
     record {
       gives = climbs_on (read_at n) n c.args.level c.loop.counter (expr_of c.loop.tree.tree)
           (expr_of c.in-Next.larger.tree) (map spelled c.loop.rest.now) (map spelled c.in-Next.after.now)
           (climb_with (read_at n) n c.args.level (suc n) (expr_of c.args.first.tree) (map spelled c.args.tokens.now))
           (omega arith) gives c.loop.invariant.gives;
+      places = places ∙ c.loop.invariant.places;
       small = small;
       shorter = omega (arith, shorter);
     }
@@ -80,6 +85,9 @@ arguments::arguments-loop-preserved t c =
           (map expr_of c.loop.trees.items) (expr_of n) (map spelled c.loop.rest.now) (map spelled c.in-Some.after.now)
           (map spelled c.in_ok-next.after.now) c.loop-test.true c.in-Some.ensures.gives c.in_ok-next.ensures.gives
           c.loop.invariant.gives);
+      places = rw c.in_ok-push-2.ensures.items (one_put expr_places c.loop.trees.items n (kept c.loop.rest.now)
+          (kept c.in_ok-next.after.now) _ (c.in_ok-next.ensures.places ∙ c.in-Some.ensures.places)
+          c.loop.invariant.places);
       small = omega (arith, c.in_ok-next.ensures.small, c.max-nesting.ensures);
       measured = rw e (omega (
         arith,
@@ -149,6 +157,9 @@ creations::lengths-loop-preserved t c =
           (map spelled c.loop.rest.now) (expr_of n) (map spelled c.in-Some.inside.now)
           (map spelled c.in_ok-next.behind.now) (map spelled c.in_ok-behind.behind.now) c.loop-test.true
           c.in-Some.ensures.gives c.in_ok-next.ensures.gives c.in_ok-behind.ensures.gives c.loop.invariant.gives);
+      places = rw c.in_ok-push-2.ensures.items (one_put expr_places c.loop.trees.items n (kept c.loop.rest.now)
+          (kept c.in_ok-behind.behind.now) _ (ap (expr_places n) c.in_ok-behind.ensures.places
+          ∙ (c.in_ok-next.ensures.places ∙ c.in-Some.ensures.places)) c.loop.invariant.places);
       small = omega (arith, c.in_ok-next.ensures.small, c.max-nesting.ensures);
       measured = rw e (omega (
         arith,
@@ -210,6 +221,9 @@ initialisers::items-loop-preserved t c =
           (map spelled c.loop.rest.now) (init_of n) (map spelled c.in-Some.after.now)
           (map spelled c.in_ok-next.after.now) c.loop-test.true c.in-Some.ensures.gives c.in_ok-next.ensures.gives
           c.loop.invariant.gives);
+      places = rw c.in_ok-push-2.ensures.items (one_put init_places c.loop.items.items n (kept c.loop.rest.now)
+          (kept c.in_ok-next.after.now) _ (c.in_ok-next.ensures.places ∙ c.in-Some.ensures.places)
+          c.loop.invariant.places);
       small = omega (arith, c.in_ok-next.ensures.small, c.max-nesting.ensures);
       measured = rw e (omega (
         arith,

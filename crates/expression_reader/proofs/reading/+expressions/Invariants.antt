@@ -1,4 +1,5 @@
 use Rattle.std.proofs.Common.{◌≡◌, suc, [], ◌∷◌, ◌+◌, ◌*◌, ◌-◌, ◌≤◌, length, map}
+use Rattle.java_tree.specs.KeptPlaces.{kept, each_puts, expr_places, init_places}
 use Rattle.java_tree.specs.Operators.{assignment_level}
 use Rattle.java_tree.specs.Nesting.{exprs_nesting, inits_nesting}
 use Rattle.java_tree.specs.Trees.{pack_exprs, pack_inits}
@@ -15,6 +16,7 @@ invariant-expressions::climb-loop l = record {
   gives : climb_with (read_at l.limit) l.limit l.level (suc l.limit - l.counter) (expr_of l.tree.tree)
       (map spelled l.rest) ≡ climb_with (read_at l.limit) l.limit l.level (suc l.limit) (expr_of l.fn.first.tree)
       (map spelled l.tokens);
+  places : expr_places l.tree.tree (kept l.rest) ≡ expr_places l.fn.first.tree (kept l.tokens);
   small : l.tree.nesting ≤ suc l.limit;
   shorter : length l.rest ≤ length l.tokens;
 }
@@ -24,6 +26,7 @@ invariant-arguments::arguments-loop l = record {
   gives : finished call_end (map expr_of l.trees.items) (commas (read_at l.limit assignment_level)
       (length (map spelled l.tokens) - l.counter) (map spelled l.rest)) ≡ finished call_end (expr_of l.fn.first.tree
       ∷ []) (commas (read_at l.limit assignment_level) (length (map spelled l.tokens)) (map spelled l.tokens));
+  places : each_puts (map expr_places l.trees.items) (kept l.rest) ≡ expr_places l.fn.first.tree (kept l.tokens);
   small : l.nesting ≤ l.limit;
   measured : l.nesting ≡ exprs_nesting (pack_exprs (map expr_of l.trees.items));
   shorter : length l.rest ≤ length l.tokens;
@@ -35,6 +38,7 @@ invariant-creations::lengths-loop l = record {
       (lengths_with (read_at l.limit assignment_level) (length (map spelled l.tokens) - l.counter)
       (map spelled l.rest)) ≡ finished (lengths_end (base_of l.base.tree)) (expr_of l.fn.first.tree ∷ [])
       (lengths_with (read_at l.limit assignment_level) (length (map spelled l.tokens)) (map spelled l.tokens));
+  places : each_puts (map expr_places l.trees.items) (kept l.rest) ≡ expr_places l.fn.first.tree (kept l.tokens);
   small : l.nesting ≤ l.limit;
   measured : l.nesting ≡ exprs_nesting (pack_exprs (map expr_of l.trees.items));
   shorter : length l.rest ≤ length l.tokens;
@@ -45,6 +49,7 @@ invariant-initialisers::items-loop l = record {
   gives : items_end (map init_of l.items.items) (items_with (init_at l.limit) (length (map spelled l.tokens)
       - l.counter) (map spelled l.rest)) ≡ items_end (init_of l.fn.first.tree ∷ []) (items_with (init_at l.limit)
       (length (map spelled l.tokens)) (map spelled l.tokens));
+  places : each_puts (map init_places l.items.items) (kept l.rest) ≡ init_places l.fn.first.tree (kept l.tokens);
   small : l.nesting ≤ l.limit;
   measured : l.nesting ≡ inits_nesting (pack_inits (map init_of l.items.items));
   shorter : length l.rest ≤ length l.tokens;

@@ -1,8 +1,9 @@
 use Rattle.std.proofs.Common.{length, sym, ap, ◌∙◌, arith}
 use Rattle.std.specs.Vec.Iter.{into_iter_items}
 use Rattle.access_paths.specs.Order.{PathSet}
-use Rattle.racer_cli.proofs.Additions.{paths_added}
-use Rattle.racer_cli.proofs.Kept.{nothing_left, added_path, all_paths, too_many_paths}
+use Rattle.access_domain.specs.Additions.{paths_added}
+use Rattle.access_domain.proofs.AdditionLemmas.{added_path}
+use Rattle.racer_cli.proofs.Kept.{nothing_left, all_paths, too_many_paths}
 use Rattle.racer_cli.proofs.analysis.keep_paths.Goals as goal
 
 pub loop-path-preserved : goal.loop-path-preserved

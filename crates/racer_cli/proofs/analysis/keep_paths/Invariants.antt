@@ -2,7 +2,7 @@ use Rattle.std.proofs.Common.{◌≡◌, ◌≤◌, length}
 use Rattle.std.specs.FinSet as set
 use Rattle.std.specs.Vec.Iter.{into_iter_items, into_iter_len}
 use Rattle.racer_base.specs.declared.limits.TheConstants.{MAX_SUMMARY_KEYS}
-use Rattle.racer_cli.proofs.Additions.{paths_added}
+use Rattle.access_domain.specs.Additions.{paths_added}
 use Rattle.racer_cli.proofs.analysis.keep_paths.Given as goal
 
 abbrev pub invariant-loop-path : goal.invariant-loop-path

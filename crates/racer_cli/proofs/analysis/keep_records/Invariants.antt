@@ -1,7 +1,7 @@
 use Rattle.std.proofs.Common.{◌≡◌, ◌≤◌, [], length}
 use Rattle.std.specs.Vec.Iter.{into_iter_items, into_iter_len}
 use Rattle.racer_base.specs.declared.limits.TheConstants.{MAX_SUMMARY_KEYS}
-use Rattle.racer_cli.proofs.Additions.{keys_added}
+use Rattle.access_domain.specs.Additions.{keys_added}
 use Rattle.racer_cli.proofs.analysis.keep_records.Given as goal
 
 abbrev pub invariant-loop-record : goal.invariant-loop-record

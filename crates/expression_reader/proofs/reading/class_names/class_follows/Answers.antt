@@ -1,4 +1,4 @@
-use Rattle.std.proofs.Common.{◌≡◌, false, true, map, sym, ◌∙◌}
+use Rattle.std.proofs.Common.{true, map, sym, ◌∙◌}
 use Rattle.type_reader.specs.Tokens.{spelled}
 use Rattle.expression_reader.proofs.ClassFacts.{follows_none}
 use Rattle.expression_reader.proofs.reading.class_names.class_follows.Goals as goal

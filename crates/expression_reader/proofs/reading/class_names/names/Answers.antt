@@ -1,11 +1,13 @@
-use Rattle.std.proofs.Common.{◌≡◌, ◌++◌, ◌∷◌, ◌≤◌, [], true, length, map, sym, ◌∙◌, arith}
+use Rattle.std.proofs.Common.{◌≡◌, ◌++◌, ◌∷◌, [], true, map, ◌∙◌, arith}
 use Rattle.std.proofs.lemmas.Result.{err_from_is_err_and}
 use Rattle.std.proofs.lemmas.List.{map_push}
+use Rattle.java_tree.specs.KeptPlaces.{kept, name_places}
 use Rattle.java_tree.specs.View.{name_of}
 use Rattle.method_grammar.specs.ExpressionReading.{class_at}
 use Rattle.expression_reader.specs.ClassFollows.{class_end}
 use Rattle.type_reader.specs.Tokens.{spelled}
 use Rattle.type_reader.specs.Finishing.{finished}
+use Rattle.type_reader.proofs.PutPlaces.{one_put}
 use Rattle.expression_reader.proofs.ClassFacts.{class_unpointed, class_goes_on, class_ends, class_fails, class_runs_out}
 use Rattle.expression_reader.proofs.reading.class_names.names.Goals as goal
 
@@ -19,6 +21,9 @@ loop-preserved c =
       gives = rw e (class_goes_on total (map name_of c.loop.names.items) (map spelled c.loop.rest.now) n.text
           (map spelled c.in_ok-after.after.now) (map spelled c.in_ok-next.behind.now) c.in_ok-after.ensures.gives
           c.in_default.ensures.gives c.in_ok-next.ensures.gives c.loop.invariant.gives);
+      places = rw c.in_ok-push-2.ensures.items (one_put name_places c.loop.names.items n (kept c.loop.rest.now)
+          (kept c.in_ok-next.behind.now) _ (c.in_ok-next.ensures.places ∙ c.in_ok-after.ensures.places)
+          c.loop.invariant.places);
       within = omega (arith, c.in_ok-after.ensures.shorter, c.in_ok-next.ensures.shorter);
     }
 

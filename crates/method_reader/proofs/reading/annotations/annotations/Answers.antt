@@ -1,6 +1,9 @@
 use Rattle.std.proofs.Common.{◌≡◌, ◌++◌, ◌∷◌, [], map, arith}
 use Rattle.std.proofs.lemmas.Result.{err_from_is_err_and}
 use Rattle.std.proofs.lemmas.List.{map_push}
+use Rattle.java_tree.specs.KeptPlaces.{kept}
+use Rattle.java_tree.specs.MethodPlaces.{annotation_marks}
+use Rattle.method_reader.proofs.LedMarks.{one_led, from_equal}
 use Rattle.java_tree.specs.View.{annotation_of}
 use Rattle.method_grammar.specs.MethodReading.{annotations_at}
 use Rattle.type_reader.specs.Tokens.{spelled}
@@ -33,6 +36,9 @@ loop-preserved c =
           (annotation_of n) (map spelled c.loop.rest.now) (map spelled c.in-Some.after.now)
           (map spelled c.in_ok-next.after.now) c.loop-test.true c.in-Some.ensures.gives c.in_ok-next.ensures.gives
           c.loop.invariant.gives);
+      places = rw c.in_ok-push.ensures.items (one_led annotation_marks c.loop.items.items n _ (kept c.loop.rest.now)
+          (kept c.in_ok-next.after.now) c.loop.invariant.places (from_equal (annotation_marks n) _ _ _
+          c.in-Some.ensures.places c.in_ok-next.ensures.places));
       shorter = omega (arith, c.in-Some.ensures.shorter, c.in_ok-next.ensures.shorter);
     }
 

@@ -1,6 +1,9 @@
 use Rattle.std.proofs.Common.{◌≡◌, ◌++◌, ◌∷◌, [], length, map, arith}
 use Rattle.std.proofs.lemmas.Result.{err_from_is_err_and}
 use Rattle.std.proofs.lemmas.List.{map_push}
+use Rattle.java_tree.specs.KeptPlaces.{kept}
+use Rattle.java_tree.specs.MethodPlaces.{modifier_marks}
+use Rattle.method_reader.proofs.LedMarks.{one_led}
 use Rattle.java_tree.specs.View.{modifier_of}
 use Rattle.method_grammar.specs.MethodReading.{modifiers_at}
 use Rattle.type_reader.specs.Tokens.{spelled}
@@ -32,6 +35,8 @@ loop-preserved c =
       gives = rw e (modifier_goes_on total c.args.tokens.now c.loop.counter (map modifier_of c.loop.items.items)
           (modifier_of n) (map spelled c.loop.rest.now) (map spelled c.in-Some.after.now) c.loop-test.true
           (rw c.in-Some.is at c.in_ok-next.ensures.gives) c.loop.invariant.gives);
+      places = rw c.in_ok-push.ensures.items (one_led modifier_marks c.loop.items.items n _ (kept c.loop.rest.now)
+          (kept c.in-Some.after.now) c.loop.invariant.places (rw c.in-Some.is at c.in_ok-next.ensures.places));
       shorter = omega (arith, rw c.in-Some.is at c.in_ok-next.ensures.shorter);
     }
 

@@ -1,5 +1,8 @@
-use Rattle.std.proofs.Common.{◌∷◌, [], length, map, arith}
+use Rattle.std.proofs.Common.{◌∙◌, ◌∷◌, [], length, map, arith}
 use Rattle.std.proofs.lemmas.Result.{err_from_is_err_and}
+use Rattle.java_tree.specs.KeptPlaces.{kept}
+use Rattle.java_tree.specs.MethodPlaces.{no_name}
+use Rattle.method_reader.proofs.LedMarks.{one_led, name_led}
 use Rattle.method_grammar.specs.Taking.{after_name}
 use Rattle.method_grammar.specs.TypeReading.{points}
 use Rattle.type_reader.specs.Tokens.{spelled}
@@ -34,6 +37,9 @@ loop-preserved c =
           c.loop.counter c.loop.items.items n (map spelled c.loop.rest.now) (map spelled c.in-Some.after.now)
           (map spelled c.in_ok-next.after.now) c.loop-test.true c.in-Some.ensures.gives c.in_ok-next.ensures.gives
           c.loop.invariant.gives);
+      places = rw c.in_ok-push-2.ensures.items (λ start first. one_led no_name c.loop.items.items n start
+          (kept c.loop.rest.now) (kept c.in_ok-next.after.now) (c.loop.invariant.places start first)
+          (name_led n c.in_ok-next.next.place _ _ (c.in_ok-next.ensures.places ∙ c.in-Some.ensures.places)));
       shorter = omega (arith, c.in-Some.ensures.shorter, c.in_ok-next.ensures.shorter);
     }
 

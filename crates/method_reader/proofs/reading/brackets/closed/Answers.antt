@@ -1,6 +1,9 @@
 use Rattle.std.proofs.Common.{◌≡◌, ℕ, List, [], ◌∷◌, codes, length, map, sym, ap, ◌∙◌, arith}
 use Rattle.std.proofs.lemmas.List.{nil_from_length}
 use Rattle.std.proofs.lemmas.Result.{err_from_is_err_and}
+use Rattle.java_tree.specs.KeptPlaces.{kept}
+use Rattle.java_tree.specs.MethodPlaces.{no_place}
+use Rattle.method_reader.proofs.LedMarks.{one_led, token_led}
 use Rattle.method_grammar.specs.MethodReading.{closed_at}
 use Rattle.method_reader.specs.AwaitedBrackets.{closing, awaited_onto}
 use Rattle.type_reader.specs.Tokens.{spelled}
@@ -56,6 +59,10 @@ loop-inner-preserved c =
           (awaited_onto c.pass.new.outer.items []) (spelled c.in_ok-next.next.now) c.in_ok-copy.copy
           (map spelled c.loop-inner.rest.now) (map spelled c.in_ok-next.after.now) c.in_ok-next.ensures.gives
           c.in_ok-pass.ensures c.in_ok-copy.ensures so_far);
+      places = rw c.in_ok-push-3.ensures.items (λ start first. one_led no_place front c.in_ok-copy.copy start
+          (kept c.loop-inner.rest.now) (kept c.in_ok-next.after.now) (c.loop-inner.invariant.places start first)
+          (token_led c.in_ok-next.next.now c.in_ok-next.after.now c.loop-inner.rest.now c.in_ok-copy.copy
+          c.in_ok-next.ensures.places c.in_ok-copy.ensures));
       shorter = omega (arith, c.in_ok-next.ensures.shorter);
     }
 

@@ -1,6 +1,8 @@
-use Rattle.std.proofs.Common.{◌≡◌, ◌++◌, ◌∷◌, [], length, map, arith}
+use Rattle.std.proofs.Common.{◌∙◌, ◌≡◌, ◌++◌, ◌∷◌, [], length, map, arith}
 use Rattle.std.proofs.lemmas.Result.{err_from_is_err_and}
 use Rattle.std.proofs.lemmas.List.{map_push}
+use Rattle.java_tree.specs.KeptPlaces.{kept, variable_places}
+use Rattle.type_reader.proofs.PutPlaces.{one_put}
 use Rattle.java_tree.specs.View.{variable_of}
 use Rattle.method_grammar.specs.Taking.{commas}
 use Rattle.method_grammar.specs.StatementReading.{variable_at}
@@ -37,6 +39,9 @@ loop-preserved c =
           c.loop.items.items) (variable_of n) (map spelled c.loop.rest.now) (map spelled c.in-Some.after.now)
           (map spelled c.in_ok-next.after.now) c.loop-test.true c.in-Some.ensures.gives c.in_ok-next.ensures.gives
           c.loop.invariant.gives);
+      places = rw c.in_ok-push-2.ensures.items (one_put variable_places c.loop.items.items n (kept c.loop.rest.now)
+          (kept c.in_ok-next.after.now) _ (c.in_ok-next.ensures.places ∙ c.in-Some.ensures.places)
+          c.loop.invariant.places);
       shorter = omega (arith, c.in-Some.ensures.shorter, c.in_ok-next.ensures.shorter);
     }
 

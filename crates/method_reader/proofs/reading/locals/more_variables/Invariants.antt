@@ -1,4 +1,5 @@
 use Rattle.std.proofs.Common.{◌≡◌, ◌-◌, ◌≤◌, [], ◌∷◌, length, map}
+use Rattle.java_tree.specs.KeptPlaces.{kept, each_puts, variable_places}
 use Rattle.java_tree.specs.View.{variable_of}
 use Rattle.method_grammar.specs.Taking.{commas}
 use Rattle.method_grammar.specs.StatementReading.{variable_at}
@@ -13,5 +14,6 @@ invariant-loop l = record {
   gives : finished as_they_are (map variable_of l.items.items) (commas (variable_at method_readers l.limit)
       (length (map spelled l.tokens) - l.counter) (map spelled l.rest)) ≡ finished as_they_are (variable_of l.fn.first
       ∷ []) (commas (variable_at method_readers l.limit) (length (map spelled l.tokens)) (map spelled l.tokens));
+  places : each_puts (map variable_places l.items.items) (kept l.rest) ≡ variable_places l.fn.first (kept l.tokens);
   shorter : length l.rest ≤ length l.tokens;
 }

@@ -1,6 +1,9 @@
 use Rattle.std.proofs.Common.{◌≡◌, ◌++◌, ◌∷◌, [], length, map, arith}
 use Rattle.std.proofs.lemmas.Result.{err_from_is_err_and}
 use Rattle.std.proofs.lemmas.List.{map_push}
+use Rattle.java_tree.specs.KeptPlaces.{kept}
+use Rattle.java_tree.specs.MethodPlaces.{parameter_marks}
+use Rattle.method_reader.proofs.LedMarks.{one_led, from_equal}
 use Rattle.java_tree.specs.View.{parameter_of}
 use Rattle.method_grammar.specs.Taking.{commas}
 use Rattle.method_grammar.specs.MethodReading.{parameter_at}
@@ -37,6 +40,9 @@ loop-preserved c =
           c.loop.items.items) (parameter_of n) (map spelled c.loop.rest.now) (map spelled c.in-Some.after.now)
           (map spelled c.in_ok-next.after.now) c.loop-test.true c.in-Some.ensures.gives c.in_ok-next.ensures.gives
           c.loop.invariant.gives);
+      places = rw c.in_ok-push-2.ensures.items (λ start first. one_led parameter_marks c.loop.items.items n start
+          (kept c.loop.rest.now) (kept c.in_ok-next.after.now) (c.loop.invariant.places start first)
+          (from_equal (parameter_marks n) _ _ _ c.in-Some.ensures.places c.in_ok-next.ensures.places));
       shorter = omega (arith, c.in-Some.ensures.shorter, c.in_ok-next.ensures.shorter);
     }
 

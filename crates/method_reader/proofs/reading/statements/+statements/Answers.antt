@@ -1,6 +1,8 @@
 use Rattle.std.proofs.Common.{◌≡◌, ℕ, suc, ◌-◌, ◌++◌, ◌∷◌, [], map, sym, ap, ◌∙◌, arith}
 use Rattle.std.proofs.lemmas.Result.{err_from_is_err_and}
 use Rattle.std.proofs.lemmas.List.{map_push}
+use Rattle.java_tree.specs.KeptPlaces.{kept, stmt_places}
+use Rattle.type_reader.proofs.PutPlaces.{one_put}
 use Rattle.java_tree.specs.View.{stmt_of}
 use Rattle.method_grammar.specs.StatementReading.{braces_at, by_lead, stmt_at, block_at}
 use Rattle.method_grammar.specs.Lookahead.{StatementLead, statement_lead}
@@ -40,6 +42,8 @@ braces-loop-preserved t c =
           (map spelled c.args.tokens.now)) c.args.tokens.now c.loop.counter (map stmt_of c.loop.items.items)
           (stmt_of n) (map spelled c.loop.rest.now) (map spelled c.in_ok-next.after.now) c.loop-test.true
           c.in_default.ensures.gives c.in_ok-next.ensures.gives c.loop.invariant.gives);
+      places = rw c.in_ok-push.ensures.items (one_put stmt_places c.loop.items.items n (kept c.loop.rest.now)
+          (kept c.in_ok-next.after.now) _ c.in_ok-next.ensures.places c.loop.invariant.places);
       shorter = omega (arith, c.in_ok-next.ensures.shorter);
     }
 

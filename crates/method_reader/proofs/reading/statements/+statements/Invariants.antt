@@ -1,4 +1,5 @@
 use Rattle.std.proofs.Common.{◌≡◌, ◌+◌, ◌*◌, ◌-◌, ◌≤◌, length, map}
+use Rattle.java_tree.specs.KeptPlaces.{kept, each_puts, stmt_places}
 use Rattle.java_tree.specs.View.{stmt_of}
 use Rattle.method_grammar.specs.StatementReading.{stmts_at, braces_at, stmt_at}
 use Rattle.method_grammar.specs.JavaReaders.{method_readers}
@@ -12,6 +13,7 @@ invariant-braces-loop l = record {
   gives : finished block_end (map stmt_of l.items.items) (stmts_at method_readers (stmt_at method_readers l.limit)
       (length (map spelled l.tokens) - l.counter) (map spelled l.rest)) ≡ braces_at method_readers
       (stmt_at method_readers l.limit) (map spelled l.tokens);
+  places : each_puts (map stmt_places l.items.items) (kept l.rest) ≡ kept l.tokens;
   shorter : length l.rest ≤ length l.tokens;
 }
 

@@ -1,4 +1,4 @@
-use Rattle.std.proofs.Common.{arith, length, map}
+use Rattle.std.proofs.Common.{◌∙◌, arith, length, map}
 use Rattle.method_grammar.specs.TypeReading.{brackets_at}
 use Rattle.type_reader.specs.Tokens.{spelled}
 use Rattle.type_reader.proofs.ReadLoops.{bracket_goes_on, bracket_ends}
@@ -15,5 +15,6 @@ loop-preserved c = record {
   gives = bracket_goes_on (brackets_at (length (map spelled c.args.tokens.now)) (map spelled c.args.tokens.now))
       c.args.tokens.now c.loop.count c.loop.counter (map spelled c.loop.rest.now) (map spelled c.in-Some.after.now)
       c.loop-test.true c.in-Some.ensures.gives c.loop.invariant.gives;
+  places = c.in-Some.ensures.places ∙ c.loop.invariant.places;
   within = omega (arith, c.in-Some.ensures.shorter);
 }

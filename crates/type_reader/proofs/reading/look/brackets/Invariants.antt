@@ -1,4 +1,5 @@
 use Rattle.std.proofs.Common.{◌≡◌, ◌+◌, ◌-◌, ◌≤◌, length, map}
+use Rattle.java_tree.specs.KeptPlaces.{kept}
 use Rattle.method_grammar.specs.TypeReading.{brackets_at}
 use Rattle.type_reader.specs.Tokens.{spelled}
 use Rattle.type_reader.proofs.reading.look.brackets.Given as goal
@@ -8,5 +9,6 @@ invariant-loop l =
     let left = brackets_at (length (map spelled l.tokens) - l.counter) (map spelled l.rest) in
     record {
       gives : (l.count + left.0, left.1) ≡ brackets_at (length (map spelled l.tokens)) (map spelled l.tokens);
+      places : kept l.rest ≡ kept l.tokens;
       within : l.count + length l.rest ≤ length l.tokens;
     }

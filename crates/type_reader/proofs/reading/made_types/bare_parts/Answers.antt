@@ -2,10 +2,12 @@ use Rattle.std.proofs.Common.{◌≡◌, ◌++◌, ◌∷◌, [], length, map, s
 use Rattle.std.proofs.lemmas.Result.{err_from_is_err_and}
 use Rattle.std.proofs.lemmas.List.{map_push}
 use Rattle.java_tree.specs.View.{part_of}
+use Rattle.java_tree.specs.KeptPlaces.{kept, part_places}
 use Rattle.method_grammar.specs.TypeReading.{points, bare_part_at}
 use Rattle.type_reader.specs.Tokens.{spelled}
 use Rattle.type_reader.specs.Finishing.{finished}
 use Rattle.type_reader.specs.Endings.{named_end}
+use Rattle.type_reader.proofs.PutPlaces.{one_more}
 use Rattle.type_reader.proofs.PushedNesting.{parts_nesting_push}
 use Rattle.type_reader.proofs.ReadLoops.{point_goes_on, point_fails, point_ends, point_runs_out}
 use Rattle.type_reader.proofs.reading.made_types.bare_parts.Goals as goal
@@ -43,6 +45,9 @@ loop-preserved c =
           (map part_of c.loop.parts.items) (part_of n) (map spelled c.loop.rest.now) (map spelled c.in-Some.after.now)
           (map spelled c.in_ok-next.after.now) c.loop-test.true c.in-Some.ensures.gives c.in_ok-next.ensures.gives
           c.loop.invariant.gives);
+      places = rw c.in_ok-push-2.ensures.items (one_more part_places c.loop.parts.items n (kept c.loop.rest.now)
+          (kept c.in_ok-next.after.now) _ (c.in_ok-next.ensures.places ∙ c.in-Some.ensures.places)
+          c.loop.invariant.places);
       measured = rw e (omega (
         arith,
         c.loop.invariant.measured,

@@ -1,13 +1,13 @@
-use Rattle.std.proofs.Common.{◌≡◌, ◌++◌, ◌∷◌, [], length, map, max, sym, ◌∙◌, arith}
+use Rattle.std.proofs.Common.{◌≡◌, ◌++◌, ◌∷◌, [], length, map, ap, ◌∙◌, arith}
 use Rattle.std.proofs.lemmas.Result.{err_from_is_err_and}
 use Rattle.std.proofs.lemmas.List.{map_push}
-use Rattle.java_tree.specs.Trees.{pack_parts}
-use Rattle.java_tree.specs.Nesting.{parts_nesting}
 use Rattle.java_tree.specs.View.{part_of}
+use Rattle.java_tree.specs.KeptPlaces.{Places, kept, part_places}
 use Rattle.method_grammar.specs.TypeReading.{made_parts_with, ty_at}
 use Rattle.type_reader.specs.Tokens.{spelled}
 use Rattle.type_reader.specs.Finishing.{finished}
 use Rattle.type_reader.specs.Endings.{named_end}
+use Rattle.type_reader.proofs.PutPlaces.{one_more}
 use Rattle.type_reader.proofs.PushedNesting.{parts_nesting_push}
 use Rattle.type_reader.proofs.MadePartLoop.{made_goes_on, made_ends, made_fails, made_runs_out}
 use Rattle.type_reader.proofs.reading.made_types.made_parts.Goals as goal
@@ -48,6 +48,12 @@ returns-in_default-clause-gives c =
     (map spelled c.in_ok-next.behind.now) c.loop-test.true c.in_ok-next.ensures.gives c.in_default.ensures.gives
     c.loop.invariant.gives))
 
+pub returns-in_default-clause-places : goal.returns-in_default-clause-places
+returns-in_default-clause-places c =
+    rw (c.named.ensures.places, c.named.ensures.same, c.in_ok-push.ensures.items) (one_more part_places
+    c.loop.parts.items c.in_ok-next.next.tree (kept c.loop.rest.now) (kept c.in_ok-next.behind.now) _
+    c.in_ok-next.ensures.places c.loop.invariant.places)
+
 pub loop-preserved : goal.loop-preserved
 loop-preserved c =
     let n = c.in_ok-next.next.tree in
@@ -60,6 +66,9 @@ loop-preserved c =
           (map part_of c.loop.parts.items) (part_of n) (map spelled c.loop.rest.now)
           (map spelled c.in_ok-next.behind.now) (map spelled c.in-Some.after.now) c.loop-test.true
           c.in_ok-next.ensures.gives c.in-Some.ensures.gives c.loop.invariant.gives);
+      places = rw c.in_ok-push.ensures.items (one_more part_places c.loop.parts.items n (kept c.loop.rest.now)
+          (kept c.in-Some.after.now) _ (ap (λ (ps : Places). part_places n ++ ps) c.in-Some.ensures.places
+          ∙ c.in_ok-next.ensures.places) c.loop.invariant.places);
       small = omega (arith, c.in_ok-next.ensures.small, c.max-nesting.ensures);
       measured = rw e (omega (
         arith,

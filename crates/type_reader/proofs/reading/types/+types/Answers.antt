@@ -1,12 +1,14 @@
 use Rattle.std.proofs.Common.{◌≡◌, ◌++◌, ◌∷◌, [], length, map, sym, ◌∙◌, arith}
 use Rattle.std.proofs.lemmas.Result.{err_from_is_err_and}
 use Rattle.std.proofs.lemmas.List.{map_push}
-use Rattle.java_tree.specs.View.{base_of, part_of, angled_of, argument_of}
+use Rattle.java_tree.specs.View.{part_of, argument_of}
+use Rattle.java_tree.specs.KeptPlaces.{kept, part_places, argument_places}
 use Rattle.method_grammar.specs.Taking.{commas}
 use Rattle.method_grammar.specs.TypeReading.{points, part_with, argument_with, ty_at}
 use Rattle.type_reader.specs.Tokens.{spelled}
 use Rattle.type_reader.specs.Finishing.{finished}
 use Rattle.type_reader.specs.Endings.{named_end, angled_end}
+use Rattle.type_reader.proofs.PutPlaces.{one_more}
 use Rattle.type_reader.proofs.PushedNesting.{parts_nesting_push, arguments_nesting_push}
 use Rattle.type_reader.proofs.ReadLoops.{comma_goes_on, comma_fails, comma_ends, comma_runs_out, point_goes_on}
 use Rattle.type_reader.proofs.ReadLoops.{point_fails, point_ends, point_runs_out, ends_give}
@@ -41,6 +43,9 @@ arguments-loop-preserved t c =
           c.loop.items.items) (argument_of n) (map spelled c.loop.rest.now) (map spelled c.in-Some.after.now)
           (map spelled c.in_ok-next.after.now) c.loop-test.true c.in-Some.ensures.gives c.in_ok-next.ensures.gives
           c.loop.invariant.gives);
+      places = rw c.in_ok-push-2.ensures.items (one_more argument_places c.loop.items.items n (kept c.loop.rest.now)
+          (kept c.in_ok-next.after.now) _ (c.in_ok-next.ensures.places ∙ c.in-Some.ensures.places)
+          c.loop.invariant.places);
       small = omega (arith, c.in_ok-next.ensures.small, c.max-nesting.ensures);
       measured = rw e (omega (
         arith,
@@ -104,6 +109,9 @@ parts-loop-preserved t c =
           (map part_of c.loop.parts.items) (part_of n) (map spelled c.loop.rest.now) (map spelled c.in-Some.after.now)
           (map spelled c.in_ok-next.after.now) c.loop-test.true c.in-Some.ensures.gives c.in_ok-next.ensures.gives
           c.loop.invariant.gives);
+      places = rw c.in_ok-push-2.ensures.items (one_more part_places c.loop.parts.items n (kept c.loop.rest.now)
+          (kept c.in_ok-next.after.now) _ (c.in_ok-next.ensures.places ∙ c.in-Some.ensures.places)
+          c.loop.invariant.places);
       small = omega (arith, c.in_ok-next.ensures.small, c.max-nesting.ensures);
       measured = rw e (omega (
         arith,

@@ -1,4 +1,5 @@
-use Rattle.std.proofs.Common.{◌≡◌, ◌+◌, ◌*◌, ◌-◌, ◌≤◌, [], ◌∷◌, length, map}
+use Rattle.std.proofs.Common.{◌≡◌, ◌++◌, ◌+◌, ◌*◌, ◌-◌, ◌≤◌, [], ◌∷◌, length, map}
+use Rattle.java_tree.specs.KeptPlaces.{kept, all_places, part_places, argument_places}
 use Rattle.java_tree.specs.Nesting.{parts_nesting, arguments_nesting}
 use Rattle.java_tree.specs.Trees.{pack_parts, pack_arguments}
 use Rattle.java_tree.specs.View.{part_of, argument_of}
@@ -14,6 +15,7 @@ invariant-parts-loop l = record {
   gives : finished named_end (map part_of l.parts.items) (points (part_with (ty_at l.limit))
       (length (map spelled l.tokens) - l.counter) (map spelled l.rest)) ≡ finished named_end (part_of l.fn.first.tree
       ∷ []) (points (part_with (ty_at l.limit)) (length (map spelled l.tokens)) (map spelled l.tokens));
+  places : all_places (map part_places l.parts.items) ++ kept l.rest ≡ part_places l.fn.first.tree ++ kept l.tokens;
   small : l.nesting ≤ l.limit;
   measured : l.nesting ≡ parts_nesting (pack_parts (map part_of l.parts.items));
   shorter : length l.rest ≤ length l.tokens;
@@ -25,6 +27,8 @@ invariant-arguments-loop l = record {
       (length (map spelled l.tokens) - l.counter) (map spelled l.rest)) ≡ finished angled_end
       (argument_of l.fn.first.tree ∷ []) (commas (argument_with (ty_at l.limit)) (length (map spelled l.tokens))
       (map spelled l.tokens));
+  places : all_places (map argument_places l.items.items) ++ kept l.rest ≡ argument_places l.fn.first.tree
+      ++ kept l.tokens;
   small : l.nesting ≤ l.limit;
   measured : l.nesting ≡ arguments_nesting (pack_arguments (map argument_of l.items.items));
   shorter : length l.rest ≤ length l.tokens;

@@ -1,41 +1,41 @@
-use Rattle.std.proofs.Common.{◌≡◌, ◌<◌, ◌≤◌, false, cond, [], ◌∷◌, ◌++◌, length, sym, ap, subst, ◌∙◌, arith}
+use Rattle.std.proofs.Common.{◌≡◌, ◌+◌, ◌<◌, ◌≤◌, Bool, false, not, cond, List, length, sym, ap, ◌∙◌, arith}
 use Rattle.std.specs.FinSet as set
 use Rattle.racer_base.specs.declared.limits.TheConstants.{MAX_SUMMARY_KEYS}
+use Rattle.access_paths.specs.declared.path.Path.{Path}
 use Rattle.access_paths.specs.Order.{PathSet}
 use Rattle.wobbly_paths.specs.Inside.{set_of, IsWithin}
-use Rattle.wobbly_paths.proofs.SetLemmas.{set_of-push, IsWithin-push}
+use Rattle.wobbly_paths.proofs.SetLemmas.{contains-set, set_of-added, IsWithin-added}
 use Rattle.wobbly_paths.proofs.wobbly.Wobbly.add.Goals as goal
 
 pub invariant_of-self-2 : goal.invariant_of-self-2
 invariant_of-self-2 c =
-    let grown = c.push.ensures.items ∙ ap (λ b.
-    cond b (c.self.inside.paths.items ++ c.args.path ∷ []) c.self.inside.paths.items)
-    c.if-is_err.ensures.negation in
-    let not_there : set.contains c.args.self.now c.args.path ≡ false = cc in
-    let new : set.contains (set_of c.self.inside.paths.items) c.args.path ≡ false =
-    ap (λ (paths : PathSet). set.contains paths c.args.path) c.self.view_is ∙ not_there in
-    let room : length c.self.inside.paths.items < MAX_SUMMARY_KEYS = omega arith in
-    subst IsWithin (sym grown) (IsWithin-push c.self.inside.paths.items c.args.path c.self.invariant new room)
+    let old : List Path = c.self.inside.paths.keys in
+    let new : List Path = c.insert.new.self.keys in
+    let fresh : set.contains (set_of old) c.args.path ≡ false =
+    ap (λ (paths : PathSet). set.contains paths c.args.path) c.self.view_is ∙ sym c.has.ensures ∙ c.if-has.false in
+    let grown : set_of new ≡ set.insert (set_of old) c.args.path =
+    set_of-added old new c.args.path c.in-Ok.ensures.updates.0 in
+    let long : length new ≡ length old + 1 =
+    c.in-Ok.ensures.len
+    ∙ ap (λ (b : Bool). length old + cond b 1 0)
+    (c.in-Ok.ensures.added ∙ ap not (contains-set old c.args.path ∙ fresh)) in
+    let were : set.len (set_of old) ≡ length old = c.self.invariant.different in
+    let count : set.len (set_of old) ≡ set.len c.args.self.now = ap set.len c.self.view_is in
+    IsWithin-added old new c.args.path c.self.invariant fresh grown long (omega arith)
 
 pub returns-clause-cases : goal.returns-clause-cases
 returns-clause-cases c =
-    let grown = c.push.ensures.items ∙ ap (λ b.
-    cond b (c.self.inside.paths.items ++ c.args.path ∷ []) c.self.inside.paths.items)
-    c.if-is_err.ensures.negation in
-    let not_there : set.contains c.args.self.now c.args.path ≡ false = cc in
-    let different : set.len (set_of c.self.inside.paths.items) ≡ length c.self.inside.paths.items =
-    c.self.invariant.different in
-    let count : set.len c.args.self.now ≡ length c.self.inside.paths.items = ap set.len (sym c.self.view_is)
-    ∙ different in (
-      not_there,
+    let old : List Path = c.self.inside.paths.keys in
+    let grown : set_of c.insert.new.self.keys ≡ set.insert (set_of old) c.args.path =
+    set_of-added old c.insert.new.self.keys c.args.path c.in-Ok.ensures.updates.0 in (
+      sym c.has.ensures ∙ c.if-has.false,
       omega arith,
-      ap set_of grown ∙ set_of-push c.self.inside.paths.items c.args.path
-          ∙ ap (λ (paths : PathSet). set.insert paths c.args.path) c.self.view_is,
+      grown ∙ ap (λ (paths : PathSet). set.insert paths c.args.path) c.self.view_is,
     )
 
 pub returns-clause-limit : goal.returns-clause-limit
 returns-clause-limit c =
-    let within : IsWithin c.push.new.self.items = invariant_of-self-2 c in
-    let different : set.len (set_of c.push.new.self.items) ≡ length c.push.new.self.items = within.different in
-    let limit : length c.push.new.self.items ≤ MAX_SUMMARY_KEYS = within.limit in
+    let within : IsWithin c.insert.new.self.keys = invariant_of-self-2 c in
+    let different : set.len (set_of c.insert.new.self.keys) ≡ length c.insert.new.self.keys = within.different in
+    let limit : length c.insert.new.self.keys ≤ MAX_SUMMARY_KEYS = within.limit in
     omega arith

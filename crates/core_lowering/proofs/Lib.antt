@@ -1,0 +1,13 @@
+pub mod Placed
+pub mod NamedTokens
+pub mod Named
+pub mod Sequences
+pub mod Turns
+pub mod Added
+pub mod LoweredSites
+pub mod LoweredStacks
+pub mod LoweredEntries
+pub mod LoweredNumbers
+pub mod LoweredCalls
+pub mod LoweredKinds
+pub mod LoweredNames

@@ -1,0 +1,2 @@
+pub mod ReportOutcomes
+pub mod PlaceTables

@@ -1,4 +1,0 @@
-//! The places that trees keep.
-#![tactic(auto)]
-
-pub mod laws;
