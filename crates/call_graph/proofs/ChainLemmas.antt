@@ -16,7 +16,8 @@ module _ (rows : List (List MethodId)) where
   chain-append a (x ∷ xs) b ys c first others = (first.0, chain-append x xs b ys c first.1 others)
 
   -- a call, and what it leads to
-  pub call_then : (m n k : MethodId) → Calls rows m n → Leads rows n k → (between : List MethodId) × IsChain rows m between k
+  pub call_then : (m n k : MethodId) → Calls rows m n → Leads rows n k →
+      (between : List MethodId) × IsChain rows m between k
   call_then m n k call leads =
       ⊎_elim
       (λ (e : n ≡ k). ([], subst (λ (x : MethodId). Calls rows m x) e call))
@@ -24,11 +25,13 @@ module _ (rows : List (List MethodId)) where
       leads
 
   -- what leads to a method, and a call of it
-  pub then_call : (m n k : MethodId) → Leads rows m n → Calls rows n k → (between : List MethodId) × IsChain rows m between k
+  pub then_call : (m n k : MethodId) → Leads rows m n → Calls rows n k →
+      (between : List MethodId) × IsChain rows m between k
   then_call m n k leads call =
       ⊎_elim
       (λ (e : m ≡ n). ([], subst (λ (x : MethodId). Calls rows x k) (sym e) call))
-      (λ (r : (between : List MethodId) × IsChain rows m between n). (r.0 ++ n ∷ [], chain-append m r.0 n [] k r.1 call))
+      (λ (r : (between : List MethodId) × IsChain rows m between n).
+      (r.0 ++ n ∷ [], chain-append m r.0 n [] k r.1 call))
       leads
 
   pub leads_on : (m n k : MethodId) → Leads rows m n → Leads rows n k → Leads rows m k
@@ -38,7 +41,8 @@ module _ (rows : List (List MethodId)) where
       (λ (r : (between : List MethodId) × IsChain rows m between n).
       ⊎_elim
       (λ (e : n ≡ k). inr (r.0, subst (λ (x : MethodId). IsChain rows m r.0 x) e r.1))
-      (λ (s : (between : List MethodId) × IsChain rows n between k). inr (r.0 ++ n ∷ s.0, chain-append m r.0 n s.0 k r.1 s.1))
+      (λ (s : (between : List MethodId) × IsChain rows n between k).
+      inr (r.0 ++ n ∷ s.0, chain-append m r.0 n s.0 k r.1 s.1))
       others)
       first
 

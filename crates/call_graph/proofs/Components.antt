@@ -1,6 +1,7 @@
 -- Tables that are shown tell which methods lie on a cycle: those that call one of their own component.
 use Rattle.std.proofs.Common.{◌≡◌, ℕ, zero, suc, ◌-◌, ◌<◌, ◌≤◌, Bool, true, false, ◌||◌, ◌⊎◌, inl, inr, List, []}
-use Rattle.std.proofs.Common.{◌∷◌, Option, None, Some, length, refl, sym, ap, ◌∙◌, subst, arith, slice_get, nat_eq, nat_lt}
+use Rattle.std.proofs.Common.{◌∷◌, Option, None, Some, length, refl, sym, ap, ◌∙◌, subst, arith, slice_get, nat_eq}
+use Rattle.std.proofs.Common.{nat_lt}
 use Rattle.std.proofs.Common.{nat_le}
 use borrow.Author.Tests.{eqb-true, ltb-true}
 use Rattle.std.proofs.lemmas.Bool.{cases_lt, eq-eqb, leb-true}
@@ -55,7 +56,8 @@ module _ (rows : List (List MethodId)) (t : Tables) (as_many : length t.componen
   no_greater : (m n : MethodId) → Calls rows m n → component_of t n ≤ component_of t m
   no_greater m n call =
       let within : m.0 < length rows = caller_in_range rows m n call in
-      leb-true (component_of t n) (component_of t m) (each (λ (k : MethodId). nat_le (component_of t k) (component_of t m))
+      leb-true (component_of t n) (component_of t m)
+      (each (λ (k : MethodId). nat_le (component_of t k) (component_of t m))
       (row_of rows m) n
       (last_part (nat_lt 0 (component_of t m)) (never_rises rows t m) (first_part _ (leads_to_root rows t m)
       (first_part _ (is_led_to rows t m) (at m within)))) call)
@@ -89,7 +91,8 @@ module _ (rows : List (List MethodId)) (t : Tables) (as_many : length t.componen
   nearer_by : (numbers : List ℕ) (m n : MethodId) → is_nearer t numbers m n ≡ true → Nearer numbers m n
   nearer_by numbers m n h =
       record {
-        same = eqb-true (component_of t n) (component_of t m) (first_part (nat_eq (component_of t n) (component_of t m)) _ h);
+        same = eqb-true (component_of t n) (component_of t m)
+            (first_part (nat_eq (component_of t n) (component_of t m)) _ h);
         less = ltb-true (number_of numbers n) (number_of numbers m)
             (last_part (nat_eq (component_of t n) (component_of t m)) _ h);
       }
@@ -170,7 +173,8 @@ module _ (rows : List (List MethodId)) (t : Tables) (as_many : length t.componen
   pub tell_cycles : (flags : List Bool) → length flags ≡ length rows → AreStays rows t (length rows) flags →
       TellCycles rows flags
   tell_cycles flags length_is are m =
-      elim (cases_lt m.0 (length rows)) as (λ _. (flag_of flags m ≡ true → IsOnCycle rows m) × (IsOnCycle rows m → flag_of flags m ≡ true)) [
+      elim (cases_lt m.0 (length rows)) as (λ _. (flag_of flags m ≡ true → IsOnCycle rows m)
+      × (IsOnCycle rows m → flag_of flags m ≡ true)) [
         | inl low ↦ (
           (λ (h : flag_of flags m ≡ true). stays_cycle m low (sym (are m.0 low) ∙ h)),
           (λ (c : IsOnCycle rows m). are m.0 low ∙ cycle_stays m c),

@@ -1,4 +1,5 @@
--- A contract of a public call rests on this: `falling_numbers`, and `call_rows` of core_code. Numbers that fall along calls.
+-- A contract of a public call rests on this: `falling_numbers`, and `call_rows` of core_code. Numbers that fall
+-- along calls.
 use Rattle.std.specs.Prelude.{◌≡◌, ℕ, ◌<◌, Bool, true, List, slice_index_or, nat_lt}
 use Rattle.std.specs.List.{list_all}
 use Rattle.racer_base.specs.declared.ids.MethodId.{MethodId}

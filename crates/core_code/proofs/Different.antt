@@ -1,5 +1,6 @@
 -- The different methods of a list, one after another.
-use Rattle.std.proofs.Common.{◌≡◌, ℕ, ◌<◌, ◌≤◌, Bool, true, false, cond, ◌&&◌, ◌||◌, not, List, [], ◌∷◌, ◌++◌, filter, nat_eq}
+use Rattle.std.proofs.Common.{◌≡◌, ℕ, ◌<◌, ◌≤◌, Bool, true, false, cond, ◌&&◌, ◌||◌, not, List, [], ◌∷◌, ◌++◌, filter}
+use Rattle.std.proofs.Common.{nat_eq}
 use Rattle.std.proofs.Common.{length, refl, sym, ap, ◌∙◌, arith, inl, inr, append_assoc, set, get_or-set_same}
 use Rattle.std.proofs.Common.{get_or-set_other, subst}
 use borrow.Author.Tests.{eqb-true}
@@ -93,7 +94,8 @@ tell_known stamps stamp row m within there told =
             let most : stamp_of stamps n ≤ stamp = told.most n in omega arith
       ];
       members = λ n. elim (cases_eq n m) as (λ _. nat_eq (stamp_of (set stamps m stamp) n) stamp ≡ is_member row n) [
-        | inl same ↦ eq-eqb (stamp_of (set stamps m stamp) n) stamp (at_own n same) ∙ sym there ∙ ap (is_member row) (sym same)
+        | inl same ↦
+            eq-eqb (stamp_of (set stamps m stamp) n) stamp (at_own n same) ∙ sym there ∙ ap (is_member row) (sym same)
         | inr other ↦ ap (λ (k : ℕ). nat_eq k stamp) (get_or-set_other stamps m n stamp 0 other) ∙ told.members n
       ];
     }
@@ -109,14 +111,16 @@ tell_new stamps stamp row m within told =
       most = λ n. elim (cases_eq n m.0) [
         | inl same ↦ let is : stamp_of (set stamps m.0 stamp) n ≡ stamp = at_own n same in omega arith
         | inr other ↦
-            let is : stamp_of (set stamps m.0 stamp) n ≡ stamp_of stamps n = get_or-set_other stamps m.0 n stamp 0 other in
+            let is : stamp_of (set stamps m.0 stamp) n ≡ stamp_of stamps n =
+            get_or-set_other stamps m.0 n stamp 0 other in
             let most : stamp_of stamps n ≤ stamp = told.most n in omega arith
       ];
       members = λ n. elim (cases_eq n m.0) as (λ _. nat_eq (stamp_of (set stamps m.0 stamp) n) stamp ≡
           is_member (row ++ m ∷ []) n) [
             | inl same ↦
                 eq-eqb (stamp_of (set stamps m.0 stamp) n) stamp (at_own n same)
-                ∙ sym (is_member-push row m n ∙ ap (λ (b : Bool). is_member row n || (b || false)) (eq-eqb m.0 n (sym same))
+                ∙ sym (is_member-push row m n ∙ ap (λ (b : Bool). is_member row n || (b || false))
+                (eq-eqb m.0 n (sym same))
                 ∙ or_true (is_member row n))
             | inr other ↦
                 ap (λ (k : ℕ). nat_eq k stamp) (get_or-set_other stamps m.0 n stamp 0 other)

@@ -48,8 +48,10 @@ all_rows_are (m ∷ ms) =
     ∙ ap (λ (rows : List (List MethodId)). all_calls_in (tree_of m.code) ∷ rows) (all_rows_are ms)
 
 pub rows_are : (methods : List MethodCore) →
-    map different (callee_rows false methods) ≡ map (λ (m : Method). different (calls_in m.code)) (map method_of methods)
+    map different (callee_rows false methods) ≡ map (λ (m : Method). different (calls_in m.code))
+    (map method_of methods)
 rows_are [] = refl
 rows_are (m ∷ ms) =
-    ap (λ (row : List MethodId). different row ∷ map different (callee_rows false ms)) (analysed_callees (tree_of m.code))
+    ap (λ (row : List MethodId). different row ∷ map different (callee_rows false ms))
+    (analysed_callees (tree_of m.code))
     ∙ ap (λ (rows : List (List MethodId)). different (calls_in (tree_of m.code)) ∷ rows) (rows_are ms)

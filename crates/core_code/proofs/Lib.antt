@@ -5,3 +5,4 @@ pub mod Membership
 pub mod InRange
 pub mod Gathering
 pub mod Different
+pub mod Ranks

@@ -1,4 +1,5 @@
--- A contract of a public call rests on this: `Program::of`. What holds of the ends of code and of calls in every program.
+-- A contract of a public call rests on this: `Program::of`. What holds of the ends of code and of calls in every
+-- program.
 use Rattle.std.specs.Prelude.{ℕ, Bool, true, false, ◌&&◌, ◌||◌, not, None, Some, length, is_some, nat_eq}
 use Rattle.std.specs.Prelude.{nat_lt}
 use Rattle.std.specs.List.{list_all, enumerate_from}

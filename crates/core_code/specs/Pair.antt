@@ -133,6 +133,7 @@ after_call call status =
           method_new ∷ record method_put { status = status }
           ∷ record method_both {
             code =
-                in_sequence (step 0 (at 5 8) this ∷ step 1 (at 5 8) call ∷ step 2 (at 5 8) PushPrim ∷ step 3 (at 5 8) Ret ∷ []);
+                in_sequence
+                (step 0 (at 5 8) this ∷ step 1 (at 5 8) call ∷ step 2 (at 5 8) PushPrim ∷ step 3 (at 5 8) Ret ∷ []);
           } ∷ [];
     }

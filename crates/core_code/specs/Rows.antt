@@ -1,5 +1,5 @@
 -- A contract of a public call rests on this: `call_rows`. The rows of a program, and their ranks.
-use Rattle.std.specs.Prelude.{◌≡◌, ℕ, not, List, [], ◌∷◌, filter, map, nat_eq}
+use Rattle.std.specs.Prelude.{◌≡◌, ℕ, not, List, [], ◌∷◌, filter, length, map, nat_eq}
 use Rattle.racer_base.specs.declared.ids.MethodId.{MethodId}
 use Rattle.call_graph.specs.Falling.{DoFall}
 use Rattle.core_code.specs.declared.rows.CallRows.{CallRows}
@@ -22,7 +22,8 @@ rows_in rows = rows.rows
 abbrev pub ranks_in : CallRows → List ℕ
 ranks_in rows = rows.ranks
 
--- the rows are those of a program, and the rank of each method is greater than those of the methods in its row
+-- the rows are those of a program; each method has a rank, which is greater than those of the methods in its row
 pub record AreRowsOf (core : Core) (rows : CallRows) : Type 0 where
   pub rows_are : rows_in rows ≡ rows_of core
+  pub as_many : length (ranks_in rows) ≡ length core.methods
   pub ranks_fall : DoFall (rows_of core) (ranks_in rows)

@@ -1,10 +1,12 @@
 //! Laws of the definitions, and their values on small programs.
-ghost use Rattle.std.specs.Prelude.{◌≡◌, ℕ, true, false, [], ◌∷◌, ◌++◌, ◌&&◌, ◌+◌, length, Some, None, IsTrue, List};
+ghost use Rattle.std.specs.Prelude.{◌≡◌, ℕ, ◌<◌, true, false, [], ◌∷◌, ◌++◌, ◌&&◌, ◌+◌, length, Some, None, IsTrue, List};
 ghost use Rattle.std.specs.Prelude.{slice_get, Contains, map, codes};
 ghost use Rattle.racer_base.specs.declared.ids.Kind.TheVariants.{Plain};
 ghost use Rattle.core_code.specs.declared.code.Op.TheVariants.{Call};
 ghost use Rattle.core_code.specs.declared.code.Reason.TheVariants.{Overload};
-ghost use Rattle.core_code.specs.Calls.{rank_of};
+ghost use Rattle.racer_base.specs.declared.ids.MethodId.{MethodId};
+ghost use Rattle.core_code.specs.Core.{Core};
+ghost use Rattle.core_code.specs.Calls.{rank_of, calls_of};
 ghost use Rattle.racer_base.specs.declared.ids.SiteId.{SiteId};
 ghost use Rattle.core_code.specs.Tree.{Tree, Operation, can_end, steps_of, op_at};
 ghost use Rattle.core_code.specs.Facts.{are_numbers_in_range, are_sites_in_order, are_entries_analysed};
@@ -47,16 +49,20 @@ pub fn pair_is_a_program()
 pub fn names_of_programs()
     ensures identifiers { map is_identifier (codes "Pair" ∷ codes "$a_1" ∷ codes "_" ∷ codes "class1" ∷ [])
         ≡ true ∷ true ∷ true ∷ true ∷ [] }
-    ensures others { map is_identifier (codes "" ∷ codes "<new>" ∷ codes "1a" ∷ codes "a b" ∷ codes "class" ∷ codes "null" ∷ [])
+    ensures others { map is_identifier
+        (codes "" ∷ codes "<new>" ∷ codes "1a" ∷ codes "a b" ∷ codes "class" ∷ codes "null" ∷ [])
         ≡ false ∷ false ∷ false ∷ false ∷ false ∷ false ∷ [] }
-    ensures class_name { are_identifiers (record pair { classes = record class_pair { name = codes "<new>" } ∷ [] }) ≡ false }
+    ensures class_name { are_identifiers (record pair { classes = record class_pair { name = codes "<new>" } ∷ [] })
+        ≡ false }
     ensures field_name { are_identifiers (record pair { fields = record field_a { name = codes "int" } ∷ [] }) ≡ false }
     ensures classes { do_classes_differ (record pair { classes = class_pair ∷ class_pair ∷ [] }) ≡ false }
     ensures fields { do_fields_differ (record pair { fields = field_a ∷ field_b ∷ field_a ∷ [] }) ≡ false }
     ensures of_classes { do_fields_differ (record pair { fields = field_a ∷ in_class 1 field_a ∷ [] }) ≡ true }
     ensures methods { do_methods_differ (record pair { methods = method_put ∷ method_put ∷ [] }) ≡ false }
-    ensures overload { do_methods_differ (record pair { methods = method_put ∷ record method_put { status = Some Overload } ∷ [] }) ≡ true }
-    ensures counts { do_methods_differ (record pair { methods = method_put ∷ record method_put { parameters = Plain ∷ [] } ∷ [] }) ≡ true }
+    ensures overload { do_methods_differ
+        (record pair { methods = method_put ∷ record method_put { status = Some Overload } ∷ [] }) ≡ true }
+    ensures counts { do_methods_differ
+        (record pair { methods = method_put ∷ record method_put { parameters = Plain ∷ [] } ∷ [] }) ≡ true }
 {}
 
 /// When calls, ranks and the ends of code are right. The methods of the class are 0, 1 and 2.
@@ -71,6 +77,13 @@ pub fn calls_of_programs()
     ensures rank_of_caller { rank_of (after_call call_put None) (record { 0 = 2 }) ≡ 2 }
     ensures itself { has_ranks (after_call (Call (record { 0 = 2 }) 1) None) ≡ false }
     ensures goes_on { do_end_by_return (with_method (record method_put { code = step 0 (at 1 1) this })) ≡ false }
+{}
+
+/// Any numbers of methods that fall along calls, and are smaller than the number of methods, show that there are ranks.
+pub fn numbers_show_ranks()
+    ensures { (core : Core) (number : MethodId → ℕ) →
+        ((m n : MethodId) → Contains (calls_of core m) n → number n < number m) →
+        ((m : MethodId) → m.0 < length core.methods → number m < length core.methods) → IsTrue (has_ranks core) }
 {}
 
 /// Sites that go on where others end count from where those began.

@@ -1,4 +1,5 @@
-use Rattle.std.proofs.Common.{◌≡◌, ℕ, List, map, sym, ap, ◌∙◌, subst}
+use Rattle.std.proofs.Common.{◌≡◌, ℕ, List, length, map, sym, ap, ◌∙◌, subst}
+use Rattle.std.proofs.lemmas.List.{length-map}
 use Rattle.racer_base.specs.declared.ids.MethodId.{MethodId}
 use Rattle.call_graph.specs.Falling.{DoFall}
 use Rattle.core_code.specs.Core.{Method}
@@ -17,8 +18,14 @@ returns c =
     ∙ ap (λ (ms : List Method). map (λ (m : Method). different (calls_in m.code)) ms) c.methods.ensures in
     record {
       rows_are = c.from.ensures ∙ made;
+      as_many =
+          ap (λ (ranks : List ℕ). length ranks) c.from-2.ensures
+          ∙ c.in_ok-ranks.ensures.length
+          ∙ ap (λ (rows : List (List MethodId)). length rows) (c.as_slice-2.ensures.value ∙ made)
+          ∙ length-map (core c.args.program.now).methods (λ (m : Method). different (calls_in m.code));
       ranks_fall =
           subst (λ (ranks : List ℕ). DoFall (rows_of (core c.args.program.now)) ranks) (sym c.from-2.ensures)
-          (subst (λ (rows : List (List MethodId)). DoFall rows c.in_ok-ranks.ranks.items) (c.as_slice-2.ensures.value ∙ made)
+          (subst (λ (rows : List (List MethodId)). DoFall rows c.in_ok-ranks.ranks.items)
+          (c.as_slice-2.ensures.value ∙ made)
           c.in_ok-ranks.ensures.fall);
     }
