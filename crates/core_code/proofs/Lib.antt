@@ -3,3 +3,5 @@ pub mod Sites
 pub mod ByRank
 pub mod Membership
 pub mod InRange
+pub mod Gathering
+pub mod Different

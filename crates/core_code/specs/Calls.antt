@@ -1,7 +1,10 @@
--- A contract of a public call rests on this: which methods a method's code calls, ranks, and tables by rank.
-use Rattle.std.specs.Prelude.{ℕ, zero, suc, max, List, [], ◌∷◌, Option, None, Some, map, length, slice_get, nat_eq}
-use Rattle.std.specs.Prelude.{if◌then◌else◌}
+-- A contract of a public call rests on this: what a method takes, which methods its code calls, ranks, and tables by
+-- rank.
+use Rattle.std.specs.Prelude.{ℕ, zero, suc, max, Bool, false, List, [], ◌∷◌, Option, None, Some, map, length, slice_get}
+use Rattle.std.specs.Prelude.{nat_eq, is_none, if◌then◌else◌}
 use Rattle.std.specs.List.{flat_map}
+use Rattle.racer_base.specs.declared.ids.Kind.{Kind}
+use Rattle.racer_base.specs.declared.ids.Kind.TheVariants.{Declared}
 use Rattle.racer_base.specs.declared.ids.MethodId.{MethodId}
 use Rattle.core_code.specs.declared.code.Op.{Op as CoreOp}
 use Rattle.core_code.specs.declared.code.Op.TheVariants.{Call}
@@ -18,6 +21,14 @@ calls_in code = flat_map (λ (o : Operation). called_by o.op) (steps_of code)
 
 abbrev pub method_at : Core → MethodId → Option Method
 method_at core m = slice_get core.methods m.0
+
+-- whether there is such a method and it is analysed
+abbrev pub is_analysed : Core → MethodId → Bool
+is_analysed core m = elim (method_at core m) [ None ↦ false | Some method ↦ is_none method.status ]
+
+-- the kinds of what a method takes: the receiver of an instance method, and the parameters
+abbrev pub taken_by : Method → List Kind
+taken_by m = if m.is_static then m.parameters else Declared m.class ∷ m.parameters
 
 abbrev pub calls_of : Core → MethodId → List MethodId
 calls_of core m = elim (method_at core m) [ None ↦ [] | Some method ↦ calls_in method.code ]

@@ -4,4 +4,13 @@ pub mod Core
 pub mod Facts
 pub mod Program
 pub mod Calls
+pub mod CallFacts
+pub mod Kinds
+pub mod KindCheck
+pub mod Names
 pub mod Pair
+pub mod Kinded
+pub mod Recursion
+pub mod Rows
+pub mod Gathered
+pub mod Stamps

@@ -5,11 +5,12 @@
 --       void put() { this.a = 1; }
 --       void both() { synchronized (this) { this.a = 2; this.b = 3; } }
 --     }
-use Rattle.std.specs.Prelude.{ℕ, true, false, [], ◌∷◌, None, codes}
+use Rattle.std.specs.Prelude.{ℕ, true, false, [], ◌∷◌, Option, None, codes}
 use Rattle.racer_base.specs.declared.ids.Kind.TheVariants.{Plain, Declared}
 use Rattle.racer_base.specs.declared.ids.Place.{Place}
 use Rattle.core_code.specs.declared.code.Op.{Op as CoreOp}
-use Rattle.core_code.specs.declared.code.Op.TheVariants.{Push, PushPrim, Drop, Put, Ret}
+use Rattle.core_code.specs.declared.code.Op.TheVariants.{Push, PushPrim, Drop, Put, Call, Unread, Ret}
+use Rattle.core_code.specs.declared.code.Reason.{Reason}
 use Rattle.core_code.specs.declared.parts.ClassCore.{ClassCore}
 use Rattle.core_code.specs.declared.parts.FieldCore.{FieldCore}
 use Rattle.core_code.specs.Tree.{Tree, Step, Held, in_sequence}
@@ -112,3 +113,26 @@ pair =
 -- the same with this method alone
 abbrev pub with_method : Method → Core
 with_method m = record pair { methods = m ∷ [] }
+
+-- a field, in the class of this number
+abbrev pub in_class : ℕ → FieldCore → FieldCore
+in_class c field = record field { class = record { 0 = c } }
+
+-- a call of the second method on `this`
+abbrev pub call_put : CoreOp
+call_put = Call (record { 0 = 1 }) 1
+
+abbrev pub unread_put : CoreOp
+unread_put = Unread (record { 0 = 1 }) 1
+
+-- the class, its last method making this call alone, its second method having this status
+abbrev pub after_call : CoreOp → Option Reason → Core
+after_call call status =
+    record pair {
+      methods =
+          method_new ∷ record method_put { status = status }
+          ∷ record method_both {
+            code =
+                in_sequence (step 0 (at 5 8) this ∷ step 1 (at 5 8) call ∷ step 2 (at 5 8) PushPrim ∷ step 3 (at 5 8) Ret ∷ []);
+          } ∷ [];
+    }

@@ -1,13 +1,22 @@
 //! Laws of the definitions, and their values on small programs.
 ghost use Rattle.std.specs.Prelude.{◌≡◌, ℕ, true, false, [], ◌∷◌, ◌++◌, ◌&&◌, ◌+◌, length, Some, None, IsTrue, List};
-ghost use Rattle.std.specs.Prelude.{slice_get, Contains};
+ghost use Rattle.std.specs.Prelude.{slice_get, Contains, map, codes};
+ghost use Rattle.racer_base.specs.declared.ids.Kind.TheVariants.{Plain};
+ghost use Rattle.core_code.specs.declared.code.Op.TheVariants.{Call};
+ghost use Rattle.core_code.specs.declared.code.Reason.TheVariants.{Overload};
+ghost use Rattle.core_code.specs.Calls.{rank_of};
 ghost use Rattle.racer_base.specs.declared.ids.SiteId.{SiteId};
 ghost use Rattle.core_code.specs.Tree.{Tree, Operation, can_end, steps_of, op_at};
 ghost use Rattle.core_code.specs.Facts.{are_numbers_in_range, are_sites_in_order, are_entries_analysed};
 ghost use Rattle.core_code.specs.Facts.{are_stacks_enough};
 ghost use Rattle.core_code.specs.Facts.{sites_of, counts_from, height_after};
 ghost use Rattle.core_code.specs.Pair.{pair, step, at, put_at, this, method_put, method_both, lock_elsewhere};
-ghost use Rattle.core_code.specs.Pair.{with_method};
+ghost use Rattle.core_code.specs.Pair.{with_method, class_pair, field_a, field_b, method_new, in_class};
+ghost use Rattle.core_code.specs.Pair.{call_put, unread_put, after_call};
+ghost use Rattle.core_code.specs.CallFacts.{do_end_by_return, are_calls_right, has_ranks};
+ghost use Rattle.core_code.specs.KindCheck.{are_kinded};
+ghost use Rattle.core_code.specs.Names.{is_identifier, are_identifiers, do_classes_differ, do_fields_differ};
+ghost use Rattle.core_code.specs.Names.{do_methods_differ};
 
 /// What the type of `Program` keeps holds of a class with two methods, and is refused where one number of it is
 /// changed.
@@ -16,6 +25,14 @@ pub fn pair_is_a_program()
     ensures sites { IsTrue (are_sites_in_order pair) }
     ensures entries { IsTrue (are_entries_analysed pair) }
     ensures stacks { IsTrue (are_stacks_enough pair) }
+    ensures ends { IsTrue (do_end_by_return pair) }
+    ensures calls { IsTrue (are_calls_right pair) }
+    ensures ranks { IsTrue (has_ranks pair) }
+    ensures kinded { IsTrue (are_kinded pair) }
+    ensures identifiers { IsTrue (are_identifiers pair) }
+    ensures classes { IsTrue (do_classes_differ pair) }
+    ensures fields { IsTrue (do_fields_differ pair) }
+    ensures methods { IsTrue (do_methods_differ pair) }
     ensures no_field { are_numbers_in_range (record pair { fields = [] }) ≡ false }
     ensures no_file { are_numbers_in_range (record pair { files = [] }) ≡ false }
     ensures no_variable { are_numbers_in_range (with_method (record method_put { variables = [] })) ≡ false }
@@ -24,6 +41,36 @@ pub fn pair_is_a_program()
     ensures other_site { are_sites_in_order (with_method (record method_put { code = step 1 (at 1 1) this })) ≡ false }
     ensures empty_stack { height_after (step 0 (at 1 1) (put_at 0)) 1 ≡ None }
     ensures returns { can_end method_both.code ≡ false }
+{}
+
+/// Which names are identifiers, and when names differ enough.
+pub fn names_of_programs()
+    ensures identifiers { map is_identifier (codes "Pair" ∷ codes "$a_1" ∷ codes "_" ∷ codes "class1" ∷ [])
+        ≡ true ∷ true ∷ true ∷ true ∷ [] }
+    ensures others { map is_identifier (codes "" ∷ codes "<new>" ∷ codes "1a" ∷ codes "a b" ∷ codes "class" ∷ codes "null" ∷ [])
+        ≡ false ∷ false ∷ false ∷ false ∷ false ∷ false ∷ [] }
+    ensures class_name { are_identifiers (record pair { classes = record class_pair { name = codes "<new>" } ∷ [] }) ≡ false }
+    ensures field_name { are_identifiers (record pair { fields = record field_a { name = codes "int" } ∷ [] }) ≡ false }
+    ensures classes { do_classes_differ (record pair { classes = class_pair ∷ class_pair ∷ [] }) ≡ false }
+    ensures fields { do_fields_differ (record pair { fields = field_a ∷ field_b ∷ field_a ∷ [] }) ≡ false }
+    ensures of_classes { do_fields_differ (record pair { fields = field_a ∷ in_class 1 field_a ∷ [] }) ≡ true }
+    ensures methods { do_methods_differ (record pair { methods = method_put ∷ method_put ∷ [] }) ≡ false }
+    ensures overload { do_methods_differ (record pair { methods = method_put ∷ record method_put { status = Some Overload } ∷ [] }) ≡ true }
+    ensures counts { do_methods_differ (record pair { methods = method_put ∷ record method_put { parameters = Plain ∷ [] } ∷ [] }) ≡ true }
+{}
+
+/// When calls, ranks and the ends of code are right. The methods of the class are 0, 1 and 2.
+pub fn calls_of_programs()
+    ensures call { are_calls_right (after_call call_put None) ≡ true }
+    ensures not_analysed { are_calls_right (after_call call_put (Some Overload)) ≡ false }
+    ensures unread { are_calls_right (after_call unread_put (Some Overload)) ≡ true }
+    ensures analysed { are_calls_right (after_call unread_put None) ≡ false }
+    ensures other_count { are_calls_right (after_call (Call (record { 0 = 1 }) 2) None) ≡ false }
+    ensures no_method { are_calls_right (after_call (Call (record { 0 = 3 }) 1) None) ≡ false }
+    ensures ranks { has_ranks (after_call call_put None) ≡ true }
+    ensures rank_of_caller { rank_of (after_call call_put None) (record { 0 = 2 }) ≡ 2 }
+    ensures itself { has_ranks (after_call (Call (record { 0 = 2 }) 1) None) ≡ false }
+    ensures goes_on { do_end_by_return (with_method (record method_put { code = step 0 (at 1 1) this })) ≡ false }
 {}
 
 /// Sites that go on where others end count from where those began.

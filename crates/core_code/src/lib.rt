@@ -9,11 +9,19 @@
 //! Code is seen as a `Tree` of `specs/Tree.antt`, by `tree_of`.
 #![tactic(auto)]
 
+mod calls;
 mod code;
+pub mod kind_laws;
 pub mod laws;
 mod parts;
 mod program;
+mod recursion;
+mod row_making;
+mod rows;
 
 pub use code::{Code, Op, Reason};
 pub use parts::{ClassCore, FieldCore, MethodCore, Parts};
 pub use program::Program;
+pub use recursion::recursive;
+pub use row_making::call_rows;
+pub use rows::CallRows;

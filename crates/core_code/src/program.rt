@@ -3,6 +3,9 @@ ghost use Rattle.std.specs.Prelude.{IsTrue};
 ghost use Rattle.core_code.specs.Core.{core_of};
 ghost use Rattle.core_code.specs.Facts.{are_numbers_in_range, are_sites_in_order, are_entries_analysed};
 ghost use Rattle.core_code.specs.Facts.{are_stacks_enough};
+ghost use Rattle.core_code.specs.CallFacts.{do_end_by_return, are_calls_right, has_ranks};
+ghost use Rattle.core_code.specs.KindCheck.{are_kinded};
+ghost use Rattle.core_code.specs.Names.{are_identifiers, do_classes_differ, do_fields_differ, do_methods_differ};
 
 use crate::{ClassCore, FieldCore, MethodCore, Parts};
 use racer_base::{ClassId, FieldId, Names, Place, Text};
@@ -15,6 +18,14 @@ pub struct Program {
     pub ghost sites_in_order: { IsTrue (are_sites_in_order (core_of parts)) },
     pub ghost entries_analysed: { IsTrue (are_entries_analysed (core_of parts)) },
     pub ghost stacks_enough: { IsTrue (are_stacks_enough (core_of parts)) },
+    pub ghost ends_by_return: { IsTrue (do_end_by_return (core_of parts)) },
+    pub ghost calls_right: { IsTrue (are_calls_right (core_of parts)) },
+    pub ghost ranks_there: { IsTrue (has_ranks (core_of parts)) },
+    pub ghost kinded: { IsTrue (are_kinded (core_of parts)) },
+    pub ghost identifiers: { IsTrue (are_identifiers (core_of parts)) },
+    pub ghost classes_differ: { IsTrue (do_classes_differ (core_of parts)) },
+    pub ghost fields_differ: { IsTrue (do_fields_differ (core_of parts)) },
+    pub ghost methods_differ: { IsTrue (do_methods_differ (core_of parts)) },
 }
 
 impl Program {
@@ -23,6 +34,9 @@ impl Program {
     ghost use Rattle.core_code.specs.Program.{core, files, skipped, classes, fields, methods};
     ghost use Rattle.core_code.specs.Facts.{are_numbers_in_range, are_sites_in_order, are_entries_analysed};
     ghost use Rattle.core_code.specs.Facts.{are_stacks_enough};
+    ghost use Rattle.core_code.specs.CallFacts.{do_end_by_return, are_calls_right, has_ranks};
+    ghost use Rattle.core_code.specs.KindCheck.{are_kinded};
+    ghost use Rattle.core_code.specs.Names.{are_identifiers, do_classes_differ, do_fields_differ, do_methods_differ};
 
     /// Makes a program of its parts, without taking memory.
     pub fn of(parts: Parts) -> Program
@@ -30,6 +44,14 @@ impl Program {
         requires sites_in_order { IsTrue (are_sites_in_order (core_of parts)) }
         requires entries_analysed { IsTrue (are_entries_analysed (core_of parts)) }
         requires stacks_enough { IsTrue (are_stacks_enough (core_of parts)) }
+        requires ends_by_return { IsTrue (do_end_by_return (core_of parts)) }
+        requires calls_right { IsTrue (are_calls_right (core_of parts)) }
+        requires ranks_there { IsTrue (has_ranks (core_of parts)) }
+        requires kinded { IsTrue (are_kinded (core_of parts)) }
+        requires identifiers { IsTrue (are_identifiers (core_of parts)) }
+        requires classes_differ { IsTrue (do_classes_differ (core_of parts)) }
+        requires fields_differ { IsTrue (do_fields_differ (core_of parts)) }
+        requires methods_differ { IsTrue (do_methods_differ (core_of parts)) }
         ensures { core result ≡ core_of parts }
     {
         Program { parts }

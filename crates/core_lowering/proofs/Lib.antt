@@ -1,4 +1,6 @@
 pub mod Placed
+pub mod NamedTokens
+pub mod Named
 pub mod Sequences
 pub mod Turns
 pub mod Added
@@ -6,3 +8,6 @@ pub mod LoweredSites
 pub mod LoweredStacks
 pub mod LoweredEntries
 pub mod LoweredNumbers
+pub mod LoweredCalls
+pub mod LoweredKinds
+pub mod LoweredNames

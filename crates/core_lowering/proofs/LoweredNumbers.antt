@@ -29,7 +29,7 @@ listed_within : (b rest : Bool) (i n : ℕ) → (b || rest) ≡ true → (rest �
 listed_within true rest i n h k = omega arith
 listed_within false rest i n h k = let below : i < n = k h in omega arith
 
-index_of-listed : (names : List (List ℕ)) (name : List ℕ) → is_listed names name ≡ true →
+pub index_of-listed : (names : List (List ℕ)) (name : List ℕ) → is_listed names name ≡ true →
     index_of names name < length names
 index_of-listed [] name h = absurd (false≢true h)
 index_of-listed (other ∷ others) name h = listed_within (pointwise nat_eq name other) (is_listed others name)

@@ -7,12 +7,14 @@ ghost use Rattle.java_parser.specs.Examples.{around, nested, set_x};
 ghost use Rattle.core_code.specs.Pair.{pair};
 ghost use Rattle.core_lowering.specs.Lowering.{program_of, is_checked};
 ghost use Rattle.core_lowering.specs.InFile.{are_in_file};
+ghost use Rattle.core_lowering.specs.Named.{are_named};
 ghost use Rattle.core_lowering.specs.LoweringExamples.{class_pair, flat};
 
 /// A class with two methods is lowered to what was lowered by hand.
 pub fn lowered_rows()
     ensures pair { flat (program_of (codes "Pair.java") (class_pair ∷ [])) ≡ pair }
     ensures placed { IsTrue (are_in_file 0 (class_pair ∷ [])) }
+    ensures named { IsTrue (are_named (class_pair ∷ [])) }
 {}
 
 /// Which classes are checked.

@@ -11,6 +11,7 @@ ghost use Rattle.core_code.specs.Program as program;
 ghost use Rattle.core_lowering.specs.Lowering as low;
 ghost use Rattle.core_lowering.specs.LoweringSteps.{around_of, class_added};
 ghost use Rattle.core_lowering.specs.InFile.{are_in_file};
+ghost use Rattle.core_lowering.specs.Named.{are_named};
 
 use core_code::{ClassCore, Code, FieldCore, MethodCore, Op, Parts, Program};
 use java_parser::{FirstClass, FirstMethod, FirstStatement};
@@ -343,6 +344,7 @@ fn lower_parts(alloc: Global, file: &str, classes: &[FirstClass]) -> Result<Part
 pub fn lower_first(alloc: Global, file: &str, classes: &[FirstClass]) -> Result<Program, Memory>
     requires allowed { IsTrue (is_allowed (classes_of classes.now)) }
     requires placed { IsTrue (are_in_file 0 (classes_of classes.now)) }
+    requires named { IsTrue (are_named (classes_of classes.now)) }
     ensures { IfOk result (λ made. program.core made ≡ low.program_of file.now (classes_of classes.now)) }
 {
     Ok(Program::of(lower_parts(alloc, file, classes)?))

@@ -6,7 +6,10 @@ pub mod Nesting
 pub mod Brackets
 pub mod Formed
 pub mod View
+pub mod KeptPlaces
+pub mod MethodPlaces
 pub mod Examples
+pub mod PlacedExamples
 pub mod Sameness
 pub mod SameParts
 pub mod SameTrees

@@ -4,6 +4,7 @@ mod expression_edges;
 mod expression_forms;
 mod method_forms;
 mod operators;
+mod places;
 mod readings;
 mod spellings;
 mod statement_forms;
@@ -17,6 +18,7 @@ pub use expression_forms::{
 };
 pub use method_forms::{formed_heads, formed_methods};
 pub use operators::{levels_of_operators, other_operators};
+pub use places::kept_places;
 pub use readings::{
     character_is_one_literal, conditionals_group_to_the_right, difference_is_no_statement,
     else_belongs_to_the_inner_if, minuses_group_to_the_left, named_parentheses_before_a_sign,

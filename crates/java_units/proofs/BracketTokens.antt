@@ -5,7 +5,7 @@ use Rattle.std.specs.Cmp.Lexicographic.{bytes_decides}
 use Rattle.std.proofs.lemmas.Bool.{and_parts, or_parts, or_left, or_right, true≢false}
 use Rattle.java_lexer.specs.declared.token.Token.{Token}
 use Rattle.java_tree.specs.declared.words.Spelled.{Spelled}
-use Rattle.method_reader.proofs.Taken.{sign_is}
+use Rattle.method_grammar.proofs.Taken.{sign_is}
 use Rattle.java_units.specs.PlacedTokens.{plain, is_sign_token, is_opening, is_closing, is_pair}
 
 one_text : (a b : List ℕ) (t : Token) → bytes_eq a b ≡ false → is_sign_token a t ≡ true → is_sign_token b t ≡ true → ⊥

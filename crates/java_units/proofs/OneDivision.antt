@@ -10,8 +10,8 @@ use Rattle.java_tree.specs.Words.{identifier, sign}
 use Rattle.java_tree.specs.Trees.{Init, Variable}
 use Rattle.java_tree.specs.Spelling.{maybe_init_onto, variable_onto, commas_onto}
 use Rattle.java_tree.specs.Formed.{Each, has_some, FormedVariable, FormedMaybeInit}
-use Rattle.method_reader.proofs.Taken.{sign_is}
-use Rattle.method_reader.proofs.Ensuring.{name_is}
+use Rattle.method_grammar.proofs.Taken.{sign_is}
+use Rattle.method_grammar.proofs.Ensuring.{name_is}
 use Rattle.java_units.specs.Models.{FieldInit, Absent, Formed, Unread, FieldVariable}
 use Rattle.java_units.specs.PlacedTokens.{plain, plain_all}
 use Rattle.java_units.specs.BracketTrees.{Item, One, Group, Items, no_item, item_then, item_onto, items_onto}

@@ -4,8 +4,8 @@ use Rattle.racer_base.specs.Name.{is_listed}
 use Rattle.java_lexer.specs.declared.token.Token.{Token}
 use Rattle.java_tree.specs.declared.words.Spelled.{Spelled}
 use Rattle.java_tree.specs.Brackets.{is_sign_kind, is_sign}
-use Rattle.method_reader.specs.Taking.{is_keyword_kind}
-use Rattle.method_reader.specs.Lookahead.{is_word_name}
+use Rattle.method_grammar.specs.Taking.{is_keyword_kind}
+use Rattle.method_grammar.specs.Lookahead.{is_word_name}
 
 -- tokens without their places
 abbrev pub plain : Token → Spelled

@@ -9,7 +9,7 @@ ghost use Rattle.java_units.specs.MemberCuts.{joined, IsCut};
 ghost use Rattle.java_units.specs.Models.{FieldVariable};
 ghost use Rattle.java_units.specs.Units.{declared};
 
-use method_reader::laws::one_list_of_variables;
+use method_grammar::laws::one_list_of_variables;
 
 /// A list of tokens has at most one tree of brackets.
 pub fn one_tree_of_brackets()

@@ -1,0 +1,48 @@
+-- A contract of a public call rests on this: `Program::of`. What holds of the names in every program.
+use Rattle.std.specs.Prelude.{ℕ, Bool, true, ◌&&◌, not, List, [], ◌∷◌, filter, is_none, length, nat_eq}
+use Rattle.std.specs.List.{list_all}
+use Rattle.std.specs.Cmp.Lexicographic.{pointwise}
+use Rattle.racer_base.specs.Name.{is_word, is_listed, keywords, fixed_words}
+use Rattle.core_code.specs.declared.parts.ClassCore.{ClassCore}
+use Rattle.core_code.specs.declared.parts.FieldCore.{FieldCore}
+use Rattle.core_code.specs.Core.{Core, Method}
+
+-- The names of classes and fields are identifiers: words that are neither keywords nor literals (JLS 3.8).
+
+abbrev pub is_identifier : List ℕ → Bool
+is_identifier text = is_word text && not (is_listed keywords text) && not (is_listed fixed_words text)
+
+abbrev pub are_identifiers : Core → Bool
+are_identifiers core =
+    list_all (λ (c : ClassCore). is_identifier c.name) core.classes
+    && list_all (λ (f : FieldCore). is_identifier f.name) core.fields
+
+-- no two elements are the same
+abbrev pub all_differ : {X : Type 0} → (X → X → Bool) → List X → Bool
+all_differ same [] = true
+all_differ same (x ∷ xs) = list_all (λ y. not (same x y)) xs && all_differ same xs
+
+abbrev pub same_text : List ℕ → List ℕ → Bool
+same_text = pointwise nat_eq
+
+-- Class names differ.
+
+abbrev pub do_classes_differ : Core → Bool
+do_classes_differ core = all_differ (λ (a b : ClassCore). same_text a.name b.name) core.classes
+
+-- The names of the fields of one class differ (JLS 8.3).
+
+abbrev pub same_field : FieldCore → FieldCore → Bool
+same_field a b = nat_eq a.class.0 b.class.0 && same_text a.name b.name
+
+abbrev pub do_fields_differ : Core → Bool
+do_fields_differ core = all_differ same_field core.fields
+
+-- Analysed methods of one class differ in their names or in how many parameters they have.
+
+abbrev pub same_signature : Method → Method → Bool
+same_signature a b =
+    nat_eq a.class.0 b.class.0 && same_text a.name b.name && nat_eq (length a.parameters) (length b.parameters)
+
+abbrev pub do_methods_differ : Core → Bool
+do_methods_differ core = all_differ same_signature (filter (λ (m : Method). is_none m.status) core.methods)
