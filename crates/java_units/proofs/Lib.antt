@@ -1,5 +1,4 @@
-pub mod BracketTokens
-pub mod OneTree
+pub mod Joined
 pub mod OneCut
 pub mod Appended
 pub mod OneDivision

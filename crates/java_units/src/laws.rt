@@ -6,12 +6,13 @@ mod cuts;
 mod declarations;
 mod heads;
 mod members;
+mod trees;
 
 pub use annotations::pieces_of_lines;
 pub use brackets::{deep_brackets, unbalanced_brackets};
 pub use classes::{read_classes, skipped_types};
 pub use cuts::{
-    members_are_cut_once, one_division_of_fields, one_tree_of_brackets, types_are_the_declarations,
+    items_are_the_tokens, members_are_cut_once, one_division_of_fields, types_are_the_declarations,
 };
 pub use declarations::{
     types_of_units, unfit_annotations, unfit_ends, unfit_orders, unfit_tokens, units,
@@ -21,3 +22,4 @@ pub use members::{
     blocks, endless_members, ends_of_members, fields, methods, methods_without_bodies,
     types_among_members,
 };
+pub use trees::{methods_of_classes, results_of_heads, texts_between_commas, texts_of_no_variable};
