@@ -2,3 +2,4 @@ pub mod Joined
 pub mod OneCut
 pub mod Appended
 pub mod OneDivision
+mod NoTrees

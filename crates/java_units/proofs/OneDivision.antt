@@ -18,7 +18,7 @@ use Rattle.method_grammar.proofs.Taken.{sign_is}
 use Rattle.method_grammar.proofs.Ensuring.{name_is}
 use Rattle.java_units.specs.Tokens.{plain, plain_all, is_sign_token}
 use Rattle.java_units.specs.FieldDivisions.{BeginsWith, IsVariable, IsDivided, IsRead, AreRead}
-use Rattle.java_units.specs.SeenVariables.{initialiser_of, SeenVariable, seen_of}
+use Rattle.java_units.specs.ReadVariables.{initialiser_of, ReadVariable, read_of}
 use Rattle.java_units.proofs.Appended.{init_before}
 
 plain_append : (r s : List Token) → plain_all (r ++ s) ≡ plain_all r ++ plain_all s
@@ -125,11 +125,11 @@ same_length p q v w a ra b rb e =
     ∙ ap (λ x. variable_onto x []) e ∙ variable_spelled q w [] b rb ∙ append_nothing (plain_all q) in
     sym (plain_length p) ∙ ap length spelled ∙ plain_length q
 
-abbrev all_of : List ℕ → Place → Option Init → SeenVariable
+abbrev all_of : List ℕ → Place → Option Init → ReadVariable
 all_of name place initialiser = record { name = name; place = place; initialiser = initialiser }
 
 same_variable : (p : List Token) (v w : FieldVariable) → IsVariable p v → IsVariable p w → bare v ≡ bare w
-    → seen_of v ≡ seen_of w
+    → read_of v ≡ read_of w
 same_variable [] v w a b e = absurd a
 same_variable (t ∷ ts) v w a b e =
     let first : Option Init = initialiser_of v.initialiser in
@@ -147,7 +147,7 @@ heads v w vs ws e = record { first = cc; rest = cc }
 -- the same variables in the same pieces
 pub record SameDivision (ps qs : List (List Token)) (vs ws : List FieldVariable) : Type 0 where
   pub pieces : ps ≡ qs
-  pub variables : map seen_of vs ≡ map seen_of ws
+  pub variables : map read_of vs ≡ map read_of ws
 
 pub same_division : (ps qs : List (List Token)) (ts : List Token) (vs ws : List FieldVariable) → IsDivided ps ts
     → AllZip IsVariable ps vs → Each IsRead vs → IsDivided qs ts → AllZip IsVariable qs ws → Each IsRead ws

@@ -1,11 +1,10 @@
 -- A contract of a public call rests on this: the brackets of a file (JLS 3.11), and what stands outside of them.
-use Rattle.std.specs.Prelude.{ℕ, suc, ◌-◌, ◌==◌, ◌&&◌, ◌||◌, Bool, List, [], ◌∷◌, Option, Some, None, nat_lt, codes}
+use Rattle.std.specs.Prelude.{ℕ, suc, ◌-◌, ◌&&◌, ◌||◌, Bool, List, [], ◌∷◌, Option, Some, None, nat_lt, codes}
 use Rattle.std.specs.Prelude.{if◌then◌else◌}
 use Rattle.racer_base.specs.declared.limits.TheConstants.{MAX_BRACKET_NESTING}
 use Rattle.racer_base.specs.declared.ids.Place.{Place}
 use Rattle.java_lexer.specs.declared.token.Token.{Token}
-use Rattle.java_units.specs.Tokens.{is_sign_token, is_name, begins, signed}
-use Rattle.java_units.specs.Cuts.{with_cut, joined}
+use Rattle.java_units.specs.Tokens.{is_sign_token}
 
 abbrev pub is_opening : Token → Bool
 is_opening t = is_sign_token (codes "(") t || (is_sign_token (codes "[") t || is_sign_token (codes "{") t)
@@ -47,17 +46,3 @@ abbrev pub too_deep : ℕ → List Token → Option Place
 too_deep n [] = None
 too_deep n (t ∷ ts) =
     if nat_lt MAX_BRACKET_NESTING (depth_behind n t) then Some t.place else too_deep (depth_behind n t) ts
-
--- ---- outside brackets
-
--- a token that is no bracket, or a pair of brackets with what stands in it
-abbrev pub Item : Type 0
-Item = List Token
-
--- the items of tokens, where so many brackets are open: cut where none is
-abbrev pub items_from : ℕ → List Token → List Item
-items_from n [] = []
-items_from n (t ∷ ts) = with_cut (depth_behind n t == 0) t (items_from (depth_behind n t) ts)
-
-abbrev pub items_of : List Token → List Item
-items_of ts = items_from 0 ts

@@ -1,6 +1,6 @@
--- A contract of a public call rests on this: the declarations of a file (JLS 7.3), a package, imports and types with
--- lone `;` among them, or the first token that does not fit.
-use Rattle.std.specs.Prelude.{ℕ, Bool, true, false, ◌&&◌, List, [], ◌∷◌, Option, Some, None, Result, Ok, Err}
+-- A contract of a public call rests on this: the declarations of a file (JLS 7.3), a package (JLS 7.4), imports (JLS 7.5)
+-- and types (JLS 7.6) with lone `;` among them, or the first token that does not fit.
+use Rattle.std.specs.Prelude.{Bool, true, false, ◌&&◌, List, [], ◌∷◌, Option, Some, None, Result, Ok, Err}
 use Rattle.std.specs.Prelude.{codes, filter, map, if◌then◌else◌}
 use Rattle.java_lexer.specs.declared.token.Token.{Token}
 use Rattle.java_units.specs.Tokens.{is_keyword_of, is_name, begins, signed, worded}
@@ -33,7 +33,7 @@ pub data Seen : Type 0 where
   TypeWord : Seen
   TypeName : Seen
   -- `package`, `import` or what stands behind it
-  Line : Seen
+  Directive : Seen
 
 -- what is seen with one more item behind annotations and words
 abbrev pub modified : (early : Bool) → Item → Option Seen
@@ -41,24 +41,24 @@ modified early i =
     if begins is_type_modifier i then Some (Modifiers false)
     else (if begins is_type_word i then Some TypeWord
     else (if signed (codes "@") i then Some (AtSign early)
-    else (if early && worded (codes "package") i then Some Line else None)))
+    else (if early && worded (codes "package") i then Some Directive else None)))
 
 -- what is seen with one more item, where it fits
-abbrev pub next : Seen → Item → Option Seen
-next (Whole early imports) i =
+abbrev pub seen_with : Seen → Item → Option Seen
+seen_with (Whole early imports) i =
     if signed (codes ";") i then Some (Whole early imports)
-    else (if imports && worded (codes "import") i then Some Line else modified early i)
-next (Modifiers early) i = modified early i
-next (AtSign early) i =
+    else (if imports && worded (codes "import") i then Some Directive else modified early i)
+seen_with (Modifiers early) i = modified early i
+seen_with (AtSign early) i =
     if begins is_name i then Some (AnnotationName early)
     else (if worded (codes "interface") i then Some TypeWord else None)
-next (AnnotationName early) i =
+seen_with (AnnotationName early) i =
     if signed (codes ".") i then Some (AnnotationPoint early)
     else (if signed (codes "(") i then Some (Modifiers early) else modified early i)
-next (AnnotationPoint early) i = if begins is_name i then Some (AnnotationName early) else None
-next TypeWord i = if begins is_name i then Some TypeName else None
-next TypeName i = if signed (codes "{") i then Some (Whole false false) else Some TypeName
-next Line i = if signed (codes ";") i then Some (Whole false true) else Some Line
+seen_with (AnnotationPoint early) i = if begins is_name i then Some (AnnotationName early) else None
+seen_with TypeWord i = if begins is_name i then Some TypeName else None
+seen_with TypeName i = if signed (codes "{") i then Some (Whole false false) else Some TypeName
+seen_with Directive i = if signed (codes ";") i then Some (Whole false true) else Some Directive
 
 abbrev pub is_whole : Seen → Bool
 is_whole (Whole early imports) = true
@@ -73,7 +73,7 @@ and_before cut i (Err rest) = Err rest
 abbrev pub declarations : Seen → List Item → Result (List (List Item)) (List Item)
 declarations seen [] = if is_whole seen then Ok [] else Err []
 declarations seen (i ∷ is) =
-    elim (next seen i) [ None ↦ Err (i ∷ is) | (Some more) ↦ and_before (is_whole more) i (declarations more is) ]
+    elim (seen_with seen i) [ None ↦ Err (i ∷ is) | (Some more) ↦ and_before (is_whole more) i (declarations more is) ]
 
 -- the tokens of each declaration that is a type: it ends with braces
 abbrev pub types_among : List (List Item) → List (List Token)

@@ -1,5 +1,5 @@
 -- A contract of a public call rests on this: declarations of fields (JLS 8.3), and their division at commas.
-use Rattle.std.specs.Prelude.{◌≡◌, ℕ, ◌≤◌, ◌⊎◌, List, [], ◌∷◌, ◌++◌, IsTrue, codes, map, if◌then◌else◌}
+use Rattle.std.specs.Prelude.{◌≡◌, ◌≤◌, ◌⊎◌, List, [], ◌∷◌, ◌++◌, IsTrue, codes, map, if◌then◌else◌}
 use Rattle.std.specs.List.{AllZip}
 use Rattle.racer_base.specs.Name.{is_listed}
 use Rattle.racer_base.specs.declared.limits.TheConstants.{MAX_NESTING}

@@ -1,12 +1,11 @@
 -- A contract of a public call rests on this: methods and constructors (JLS 8.4, 8.8), those that have a tree and
--- what is kept of the others.
+-- what is kept of the others: their result (JLS 8.4.5) and the number of their parameters (JLS 8.4.1).
 use Rattle.std.specs.Prelude.{◌≡◌, ℕ, suc, ◌-◌, ◌≤◌, Bool, not, ◌&&◌, List, [], ◌∷◌, ◌++◌, codes, ◌==◌, filter}
 use Rattle.std.specs.Prelude.{if◌then◌else◌}
 use Rattle.std.specs.List.{list_any}
 use Rattle.racer_base.specs.declared.limits.TheConstants.{MAX_NESTING}
 use Rattle.java_lexer.specs.declared.token.Token.{Token}
 use Rattle.java_tree.specs.declared.words.Spelled.{Spelled}
-use Rattle.java_tree.specs.declared.methods.MethodTree.{MethodTree}
 use Rattle.java_tree.specs.Trees.{Modifier, Result, NoResult, VoidResult, TypeResult, Method}
 use Rattle.java_tree.specs.Spelling.{modifiers_onto, result_onto, spelling}
 use Rattle.java_tree.specs.Formed.{Each, FormedModifier, FormedResult, FormedMethod}

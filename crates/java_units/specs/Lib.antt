@@ -7,6 +7,6 @@ pub mod Members
 pub mod MemberCuts
 pub mod Heads
 pub mod FieldDivisions
-pub mod SeenVariables
+pub mod ReadVariables
 pub mod Units
 pub mod UnitExamples

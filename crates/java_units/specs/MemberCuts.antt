@@ -1,5 +1,5 @@
--- A contract of a public call rests on this: what a cut into members is.
-use Rattle.std.specs.Prelude.{Bool, true, false, not, ◌&&◌, ◌||◌, ◌⊎◌, List, [], ◌∷◌, IsTrue, codes}
+-- A contract of a public call rests on this: what a cut of a class body into members is (JLS 8.1.6).
+use Rattle.std.specs.Prelude.{Bool, false, not, ◌&&◌, ◌||◌, ◌⊎◌, List, [], ◌∷◌, IsTrue, codes}
 use Rattle.java_tree.specs.Formed.{has_some}
 use Rattle.java_units.specs.Tokens.{signed}
 use Rattle.java_units.specs.Pieces.{Item}

@@ -14,11 +14,11 @@ abbrev pub ends_member : (equals : Bool) → Item → Bool
 ends_member equals i = signed (codes ";") i || (signed (codes "{") i && not equals)
 
 -- the cut behind each end
-abbrev pub cut : (equals : Bool) → List Item → List (List Item)
-cut equals [] = []
-cut equals (i ∷ is) =
+abbrev pub cut_members : (equals : Bool) → List Item → List (List Item)
+cut_members equals [] = []
+cut_members equals (i ∷ is) =
     let ended = ends_member equals i in
-    with_cut ended i (cut (not ended && (equals || signed (codes "=") i)) is)
+    with_cut ended i (cut_members (not ended && (equals || signed (codes "=") i)) is)
 
 -- whether none of the items ends a member
 abbrev pub is_endless : (equals : Bool) → List Item → Bool
@@ -31,7 +31,7 @@ is_lone _ = false
 
 -- the tokens of each member of a class: a lone `;` is none
 abbrev pub members_of : List Token → List (List Token)
-members_of body = filter (λ m. not (is_lone m)) (map joined (cut false (items_of body)))
+members_of body = filter (λ m. not (is_lone m)) (map joined (cut_members false (items_of body)))
 
 -- ---- what form it has
 
@@ -64,11 +64,11 @@ begins_type (p ∷ q ∷ ps) = begins is_type_word p || (signed (codes "@") p &&
 
 -- what stands before the first parentheses outside annotations and brackets, and these, where no `=` stands before
 -- them
-abbrev pub head_of : List Piece → Option (List Token × Piece)
-head_of [] = None
-head_of (p ∷ ps) =
+abbrev pub before_parentheses : List Piece → Option (List Token × Piece)
+before_parentheses [] = None
+before_parentheses (p ∷ ps) =
     if signed (codes "(") p then Some ([], p)
-    else (if signed (codes "=") p then None else option_map (λ h. (p ++ h.0, h.1)) (head_of ps))
+    else (if signed (codes "=") p then None else option_map (λ h. (p ++ h.0, h.1)) (before_parentheses ps))
 
 -- the tokens before the last, and the last where it is a name
 abbrev pub name_at_end : List Token → Option (List Token × Token)
@@ -82,10 +82,10 @@ pub data Form : Type 0 where
   MethodForm : List Token → (name : Token) → Piece → Form
   FieldForm : Form
 
-abbrev pub form_of_head : (braces : Bool) → Option (List Token × Piece) → Form
-form_of_head braces None = FieldForm
-form_of_head false (Some head) = SkippedForm
-form_of_head true (Some head) =
+abbrev pub form_by : (braces : Bool) → Option (List Token × Piece) → Form
+form_by braces None = FieldForm
+form_by false (Some head) = SkippedForm
+form_by true (Some head) =
     elim (name_at_end head.0) [ None ↦ SkippedForm | (Some x) ↦ MethodForm x.0 x.1 head.1 ]
 
 -- the form of a member: the first row of the table that fits
@@ -93,4 +93,4 @@ abbrev pub form_of : List Token → Form
 form_of m =
     if is_endless false (items_of m) || (is_block (items_of m) || begins_type (behind_words is_modifier (pieces_of m)))
     then SkippedForm
-    else form_of_head (ends (is_sign_token (codes "}")) m) (head_of (pieces_of m))
+    else form_by (ends (is_sign_token (codes "}")) m) (before_parentheses (pieces_of m))

@@ -38,15 +38,16 @@ abbrev pub more_of_piece : List Item → ℕ
 more_of_piece (i ∷ j ∷ is) = if signed (codes "@") i && begins is_name j then suc (more_of_annotation is) else 0
 more_of_piece _ = 0
 
--- how many items stand behind the first before the next cut, where so many were to go on with what stands before it
-abbrev pub more_behind : (more : ℕ) → List Item → ℕ
-more_behind zero is = more_of_piece is
-more_behind (suc more) is = more
+-- how many items of its piece stand behind the first of these: it begins a piece, or is one of so many that were left
+abbrev pub left_behind : (left : ℕ) → List Item → ℕ
+left_behind zero is = more_of_piece is
+left_behind (suc left) is = left
 
-abbrev pub cut_pieces : (more : ℕ) → List Item → List (List Item)
-cut_pieces more [] = []
-cut_pieces more (i ∷ is) =
-    with_cut (more_behind more (i ∷ is) == 0) i (cut_pieces (more_behind more (i ∷ is)) is)
+-- cut where none of a piece is left
+abbrev pub cut_pieces : (left : ℕ) → List Item → List (List Item)
+cut_pieces left [] = []
+cut_pieces left (i ∷ is) =
+    with_cut (left_behind left (i ∷ is) == 0) i (cut_pieces (left_behind left (i ∷ is)) is)
 
 -- an item outside annotations, or all items of one annotation
 abbrev pub Piece : Type 0

@@ -1,6 +1,6 @@
 -- A contract of a public call rests on this: worked readings, tokens as a reader writes them, in a line with one space
 -- between two.
-use Rattle.std.specs.Prelude.{ℕ, ◌+◌, Bool, true, List, [], ◌∷◌, ◌++◌, Option, Some, None, Ok, Err, map, length}
+use Rattle.std.specs.Prelude.{ℕ, ◌+◌, true, List, [], ◌∷◌, ◌++◌, Option, Some, None, Ok, Err, map, length}
 use Rattle.std.specs.Prelude.{replicate}
 use Rattle.racer_base.specs.declared.ids.Place.{Place}
 use Rattle.java_lexer.specs.declared.token.Token.{Token}

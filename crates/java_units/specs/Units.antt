@@ -1,6 +1,6 @@
--- A contract of a public call rests on this: what a file is read as, its classes with their members and the types that
--- are skipped, or its first fault.
-use Rattle.std.specs.Prelude.{◌≡◌, ℕ, Bool, true, not, List, [], ◌∷◌, Option, Some, None, Result, Ok, Err, is_some}
+-- A contract of a public call rests on this: what a file is read as (JLS 7.3), its classes with their members (JLS 8.1)
+-- and the types that are skipped, or its first fault.
+use Rattle.std.specs.Prelude.{◌≡◌, ℕ, Bool, true, not, List, [], ◌∷◌, Option, Some, None, Ok, Err, is_some}
 use Rattle.std.specs.Prelude.{◌||◌, ◌&&◌, IsTrue, codes, filter, if◌then◌else◌}
 use Rattle.std.specs.List.{AllZip}
 use Rattle.racer_base.specs.declared.ids.Place.{Place}
@@ -50,7 +50,7 @@ IsMember class m tree = HasForm class m (form_of m) tree
 
 -- ---- types
 
--- the name of a class that is read: behind it stand its braces, or `implements` (JLS 8.1)
+-- the name of a class that is read: behind it stand its braces, or `implements` (JLS 8.1.5)
 abbrev pub name_in : List Piece → Option Token
 name_in (word ∷ (t ∷ ts) ∷ next ∷ ps) =
     if worded (codes "class") word && (signed (codes "{") next || worded (codes "implements") next) then Some t

@@ -1,5 +1,6 @@
 //! Laws of the definitions, as functions with nothing to do.
 mod annotations;
+mod answers;
 mod brackets;
 mod classes;
 mod cuts;
@@ -9,8 +10,11 @@ mod members;
 mod trees;
 
 pub use annotations::pieces_of_lines;
+pub use answers::{
+    first_faults, heads_of_constructors, unknown_results, variable_with_a_tree, whole_file,
+};
 pub use brackets::{deep_brackets, unbalanced_brackets};
-pub use classes::{read_classes, skipped_types};
+pub use classes::{annotations_of_classes, read_classes, skipped_types};
 pub use cuts::{
     items_are_the_tokens, members_are_cut_once, one_division_of_fields, types_are_the_declarations,
 };
@@ -22,4 +26,7 @@ pub use members::{
     blocks, endless_members, ends_of_members, fields, methods, methods_without_bodies,
     types_among_members,
 };
-pub use trees::{methods_of_classes, results_of_heads, texts_between_commas, texts_of_no_variable};
+pub use trees::{
+    methods_of_classes, results_of_heads, texts_between_commas, texts_of_no_variable,
+    words_of_fields,
+};

@@ -4,6 +4,7 @@ ghost use Rattle.java_units.specs.declared.unit.ParseFault.TheVariants as fault;
 
 use java_tree::{AnnotationTree, FieldTree, MethodTree, TypeTree};
 use racer_base::{Items, Memory, Place, Text};
+use std::alloc::AllocFailed;
 
 /// A file: the classes that are read, and the places of the types that are skipped (JLS 7.3).
 #[derive(Drop)]
@@ -26,13 +27,14 @@ pub struct ClassTree {
 pub enum Member {
     Field(FieldTree),
     Method(MethodTree),
-    /// A method or a constructor whose tokens no tree spells.
+    /// A method or a constructor with a body that no tree of this class spells.
     Outside(OutsideHead),
     /// Any other member, with the place of its first token.
     Skipped(Place),
 }
 
-/// What is kept of a method that no tree spells. A constructor has the name `<new>`.
+/// What is kept of a method that no tree of its class spells. A constructor has the name `<new>`, and is an instance method
+/// whatever `is_static` says.
 #[derive(Drop)]
 pub struct OutsideHead {
     pub name: Text,
@@ -43,7 +45,7 @@ pub struct OutsideHead {
     pub parameters: u32,
 }
 
-/// What the head of a method says of its result; `Unknown` where it is not formed.
+/// What the head of a method says of its result (JLS 8.4.5); `Unknown` where it is not formed, or says nothing.
 #[derive(Drop)]
 pub enum HeadResult {
     Void,
@@ -64,6 +66,14 @@ pub enum ParseFault {
     NotAUnit(Place),
     /// Memory was refused.
     Memory,
+}
+
+impl<T: Drop> From<AllocFailed<T>> for ParseFault {
+    ghost from_gives = { λ _ given. given ≡ fault.Memory };
+
+    fn from(_error: AllocFailed<T>) -> ParseFault {
+        ParseFault::Memory
+    }
 }
 
 impl From<Memory> for ParseFault {

@@ -6,8 +6,8 @@ ghost use Rattle.java_units.specs.Cuts.{joined};
 ghost use Rattle.java_units.specs.Pieces.{Item, items_of, pieces_of};
 ghost use Rattle.java_units.specs.Declarations.{declarations, Whole};
 ghost use Rattle.java_units.specs.FieldDivisions.{AreRead};
-ghost use Rattle.java_units.specs.Members.{cut};
-ghost use Rattle.java_units.specs.SeenVariables.{seen_of};
+ghost use Rattle.java_units.specs.Members.{cut_members};
+ghost use Rattle.java_units.specs.ReadVariables.{read_of};
 ghost use Rattle.java_units.specs.MemberCuts.{IsCut};
 
 use method_grammar::laws::one_list_of_variables;
@@ -21,9 +21,9 @@ pub fn items_are_the_tokens()
 /// The members of a class and its lone `;` are together its items, each piece ends where a member first does, and there
 /// is no other such cut.
 pub fn members_are_cut_once()
-    ensures whole { (body : List Item) → joined (cut false body) ≡ body }
-    ensures cut { (body : List Item) → IsCut (cut false body) }
-    ensures once { (pieces : List (List Item)) → IsCut pieces → cut false (joined pieces) ≡ pieces }
+    ensures whole { (body : List Item) → joined (cut_members false body) ≡ body }
+    ensures cut { (body : List Item) → IsCut (cut_members false body) }
+    ensures once { (pieces : List (List Item)) → IsCut pieces → cut_members false (joined pieces) ≡ pieces }
 {}
 
 /// The declarations of a file are together its items.
@@ -38,7 +38,7 @@ pub fn one_division_of_fields()
     ensures pieces { (ts : List Token) (ps qs : List (List Token)) (vs ws : List FieldVariable) → AreRead ts ps vs
         → AreRead ts qs ws → ps ≡ qs }
     ensures variables { (ts : List Token) (ps qs : List (List Token)) (vs ws : List FieldVariable) → AreRead ts ps vs
-        → AreRead ts qs ws → map seen_of vs ≡ map seen_of ws }
+        → AreRead ts qs ws → map read_of vs ≡ map read_of ws }
 {
     one_list_of_variables();
 }

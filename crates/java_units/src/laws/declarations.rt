@@ -46,6 +46,8 @@ pub fn unfit_orders()
     ensures package_with_word { unfit (codes "public @ N package a ;") ≡ Some (at 12) }
     ensures late_import { unfit (codes "class A { } ; import b ;") ≡ Some (at 15) }
     ensures annotated_import { unfit (codes "@ A import b ;") ≡ Some (at 5) }
+    ensures noted_import { unfit (codes "@ A ( ) import b ;") ≡ Some (at 9) }
+    ensures modified_import { unfit (codes "public import b ;") ≡ Some (at 8) }
 {}
 
 /// What does not go on with an annotation.

@@ -6,7 +6,8 @@ ghost use Rattle.java_tree.specs.Trees.{Word, Annotated, NoResult, VoidResult, T
 ghost use Rattle.java_tree.specs.Examples.{annotation, bare_annotation, class_a, ints, method, formal};
 ghost use Rattle.java_units.specs.Heads.{IsMethod, IsHead};
 ghost use Rattle.java_units.specs.Pieces.{items_of};
-ghost use Rattle.java_units.specs.FieldDivisions.{BeginsWith, IsVariable, between_commas};
+ghost use Rattle.java_units.specs.FieldDivisions.{BeginsWith, IsVariable, FormedFieldModifier};
+ghost use Rattle.java_units.specs.FieldDivisions.{between_commas};
 ghost use Rattle.java_units.specs.UnitExamples.{line, shown};
 
 /// A constructor has the name of its class, whatever its modifiers; a method may have it too.
@@ -30,6 +31,14 @@ pub fn results_of_heads()
         (TypeResult class_a) }
     ensures native_method { ¬ IsHead (line (codes "native void")) (Word (codes "native") ∷ []) VoidResult }
     ensures field_word { ¬ IsHead (line (codes "volatile int")) (Word (codes "volatile") ∷ []) (TypeResult (ints 0)) }
+{}
+
+/// The words of fields (JLS 8.3.1).
+pub fn words_of_fields()
+    ensures words { FormedFieldModifier (Word (codes "volatile")) × FormedFieldModifier (Word (codes "transient"))
+        × FormedFieldModifier (Annotated (bare_annotation (codes "A"))) }
+    ensures others { (¬ FormedFieldModifier (Word (codes "synchronized")))
+        × (¬ FormedFieldModifier (Word (codes "abstract"))) }
 {}
 
 /// What is no variable: array marks behind the name, an `=` with nothing behind it, what has no name.
