@@ -1,0 +1,4 @@
+//! Laws of the names of a folder: what the definitions give on small lists.
+pub mod declared;
+pub mod names;
+pub mod refusals;
