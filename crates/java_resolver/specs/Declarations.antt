@@ -1,6 +1,6 @@
 -- A contract of a public call rests on this: what the units of a folder declare, as lists in source order: classes,
 -- fields by class and declarator, methods and constructors (JLS 8.1, 8.3, 8.4, 8.8).
-use Rattle.std.specs.Prelude.{ℕ, suc, Bool, true, false, not, ◌&&◌, ◌||◌, List, [], ◌∷◌, ◌++◌, codes, length, map}
+use Rattle.std.specs.Prelude.{ℕ, suc, Bool, true, false, not, ◌&&◌, ◌||◌, List, [], ◌∷◌, ◌++◌, codes, map}
 use Rattle.std.specs.Prelude.{replicate, if◌then◌else◌}
 use Rattle.std.specs.List.{flat_map, list_any}
 use Rattle.racer_base.specs.declared.ids.ClassId.{ClassId}
@@ -33,10 +33,6 @@ use Rattle.java_resolver.specs.TypeKinds.{kind_of}
 abbrev pub trees_of : List Unit → List ClassTree
 trees_of = flat_map (λ (u : Unit). u.classes)
 
--- their names
-abbrev pub names_of : List Unit → List (List ℕ)
-names_of units = map (λ (c : ClassTree). c.name) (trees_of units)
-
 -- whether `synchronized` stands among the tokens of a method or constructor
 abbrev pub has_synchronized : Member → Bool
 has_synchronized (Method m) = list_any is_synchronized (spelling (method_of m))
@@ -58,6 +54,12 @@ class_info c = record { name = c.name; place = c.place; checked = is_checked c }
 
 abbrev pub classes_of : List Unit → List ClassInfo
 classes_of units = map class_info (trees_of units)
+
+abbrev pub class_names : List ClassInfo → List (List ℕ)
+class_names classes = map (λ (c : ClassInfo). c.name) classes
+
+abbrev pub names_of : List Unit → List (List ℕ)
+names_of units = class_names (classes_of units)
 
 -- what each class has, given its number, from this one on
 abbrev pub by_class : {A : Type 0} → (ClassId → ClassTree → List A) → ℕ → List ClassTree → List A
@@ -102,14 +104,20 @@ abbrev pub is_constructor : ResultTree → Bool
 is_constructor result.Constructor = true
 is_constructor _ = false
 
+abbrev pub method_name : MethodTree → List ℕ
+method_name m = if is_constructor m.result then constructor_name else m.name.text
+
+abbrev pub kinds_of : List (List ℕ) → List ParameterTree → List Kind
+kinds_of classes parameters = map (λ (p : ParameterTree). kind_of classes (ty_of p.kind)) parameters
+
 -- a constructor is an instance method whatever its modifiers
 abbrev pub method_info : List (List ℕ) → ClassId → MethodTree → MethodInfo
 method_info classes c m =
     record {
       class = c;
-      name = if is_constructor m.result then constructor_name else m.name.text;
+      name = method_name m;
       place = m.name.place;
-      parameters = map (λ (p : ParameterTree). kind_of classes (ty_of p.kind)) m.parameters;
+      parameters = kinds_of classes m.parameters;
       result = result_kind classes c m.result;
       is_static = has_word (codes "static") m.modifiers && not (is_constructor m.result);
       is_private = has_word (codes "private") m.modifiers;
@@ -163,20 +171,26 @@ default_constructor c tree =
 abbrev pub member_methods : List (List ℕ) → ClassId → Member → List MethodInfo
 member_methods classes c (Method m) = method_info classes c m ∷ []
 member_methods classes c (Outside h) = head_info classes c h ∷ []
-member_methods classes c _ = []
+member_methods classes c (Field f) = []
+member_methods classes c (Skipped place) = []
 
 -- the methods that a class declares
 abbrev pub declared_methods : List (List ℕ) → ClassId → ClassTree → List MethodInfo
 declared_methods classes c tree = flat_map (member_methods classes c) tree.members
 
-abbrev pub has_constructor : List MethodInfo → Bool
-has_constructor = list_any (λ (m : MethodInfo). m.is_constructor)
+abbrev pub member_is_constructor : Member → Bool
+member_is_constructor (Method m) = is_constructor m.result
+member_is_constructor (Outside h) = is_constructor_head h.result
+member_is_constructor (Field f) = false
+member_is_constructor (Skipped place) = false
 
-abbrev pub with_constructor : MethodInfo → List MethodInfo → List MethodInfo
-with_constructor made ms = if has_constructor ms then ms else made ∷ ms
+-- the constructor that a class has without declaring it
+abbrev pub default_constructors : ClassId → ClassTree → List MethodInfo
+default_constructors c tree =
+    if list_any member_is_constructor tree.members then [] else default_constructor c tree ∷ []
 
 abbrev pub class_methods : List (List ℕ) → ClassId → ClassTree → List MethodInfo
-class_methods classes c tree = with_constructor (default_constructor c tree) (declared_methods classes c tree)
+class_methods classes c tree = default_constructors c tree ++ declared_methods classes c tree
 
 abbrev pub methods_of : List Unit → List MethodInfo
 methods_of units = by_class (class_methods (names_of units)) 0 (trees_of units)

@@ -1,18 +1,26 @@
 -- No public contract rests on this: small classes, fields, methods and scopes for worked rows.
-use Rattle.std.specs.Prelude.{ℕ, Bool, true, false, List, [], ◌∷◌, codes, replicate}
+use Rattle.std.specs.Prelude.{ℕ, Bool, true, false, List, [], codes, replicate, map}
 use Rattle.racer_base.specs.declared.ids.ClassId.{ClassId}
-use Rattle.racer_base.specs.declared.ids.Kind.{Kind}
 use Rattle.racer_base.specs.declared.ids.Kind.TheVariants as kind
 use Rattle.racer_base.specs.declared.ids.Place.{Place}
+use Rattle.java_tree.specs.declared.types.TypeTree.{TypeTree}
+use Rattle.java_tree.specs.declared.types.BaseType as base
+use Rattle.java_tree.specs.declared.words.Ident.{Ident}
 use Rattle.java_tree.specs.declared.methods.AnnotationTree.{AnnotationTree}
-use Rattle.java_tree.specs.Trees.{Ty, Typed, Plain, Named, no_part, part_then, Part, Bare}
+use Rattle.java_tree.specs.declared.methods.ModifierTree.{ModifierTree}
+use Rattle.java_tree.specs.declared.methods.ModifierTree.TheVariants.{Word}
+use Rattle.java_tree.specs.declared.methods.FieldInitialiser.TheVariants.{Absent}
+use Rattle.java_tree.specs.declared.methods.FieldTree.{FieldTree}
+use Rattle.java_tree.specs.declared.methods.FieldVariable.{FieldVariable}
+use Rattle.java_tree.specs.declared.methods.MethodTree.{MethodTree}
+use Rattle.java_tree.specs.declared.methods.ParameterTree.{ParameterTree}
+use Rattle.java_tree.specs.declared.methods.ResultTree.{ResultTree}
+use Rattle.java_tree.specs.Trees.{Ty, Typed, Named, no_part, part_then, Part}
 use Rattle.java_units.specs.declared.unit.Unit.{Unit}
 use Rattle.java_units.specs.declared.unit.ClassTree.{ClassTree}
 use Rattle.java_units.specs.declared.unit.Member.{Member}
-use Rattle.java_units.specs.declared.unit.Member.TheVariants.{Outside, Skipped}
-use Rattle.java_units.specs.declared.unit.OutsideHead.{OutsideHead}
+use Rattle.java_units.specs.declared.unit.Member.TheVariants.{Outside}
 use Rattle.java_units.specs.declared.unit.HeadResult.{HeadResult}
-use Rattle.java_units.specs.declared.unit.HeadResult.TheVariants as head
 use Rattle.java_resolver.specs.declared.infos.ClassInfo.{ClassInfo}
 use Rattle.java_resolver.specs.declared.infos.FieldInfo.{FieldInfo}
 use Rattle.java_resolver.specs.declared.infos.MethodInfo.{MethodInfo}
@@ -39,6 +47,38 @@ annotation names = record { names = names; arguments = [] }
 abbrev pub tree : List ℕ → ℕ → List AnnotationTree → List Member → ClassTree
 tree name column annotations members =
     record { name = name; place = at column; annotations = annotations; members = members }
+
+-- an `int`, or more, with so many `[ ]`
+abbrev pub int : ℕ → TypeTree
+int arrays = record { base = base.Plain (codes "int"); arrays = arrays }
+
+abbrev pub words : List (List ℕ) → List ModifierTree
+words = map Word
+
+abbrev pub ident : List ℕ → ℕ → Ident
+ident name column = record { text = name; place = at column }
+
+-- fields of type `int` with these modifiers
+abbrev pub ints : List (List ℕ) → List FieldVariable → FieldTree
+ints modifiers variables = record { modifiers = words modifiers; kind = int 0; variables = variables }
+
+abbrev pub absent : List ℕ → ℕ → FieldVariable
+absent name column = record { name = ident name column; initialiser = Absent }
+
+-- a method or constructor with an empty body
+abbrev pub method_tree : List ModifierTree → ResultTree → List ℕ → List ParameterTree → MethodTree
+method_tree modifiers result name parameters =
+    record {
+      modifiers = modifiers;
+      result = result;
+      name = ident name 9;
+      parameters = parameters;
+      throws = [];
+      body = [];
+    }
+
+abbrev pub parameter : TypeTree → ParameterTree
+parameter kind = record { is_final = false; annotations = []; kind = kind; name = ident (codes "p") 12 }
 
 -- a method that no tree spells, with or without the word `synchronized` in it
 abbrev pub outside : List ℕ → ℕ → HeadResult → Bool → Member

@@ -1,19 +1,14 @@
 -- A contract of a public call rests on this: what a type means: a primitive one, a class of the folder, or another.
-use Rattle.std.specs.Prelude.{ℕ, suc, List, [], ◌∷◌, Option, Some, None, bytes_eq, if◌then◌else◌, option_map}
-use Rattle.std.specs.Prelude.{◌==◌}
+use Rattle.std.specs.Prelude.{ℕ, List, Option, Some, None, bytes_eq, if◌then◌else◌, option_map, ◌==◌}
 use Rattle.racer_base.specs.declared.ids.ClassId.{ClassId}
 use Rattle.racer_base.specs.declared.ids.Kind.{Kind}
 use Rattle.racer_base.specs.declared.ids.Kind.TheVariants as kind
 use Rattle.java_tree.specs.Trees.{Ty, Typed, Base, Plain, Named, no_part, part_then, Bare}
-
--- how many of the names stand before the first of this name
-abbrev pub index_of : List ℕ → List (List ℕ) → Option ℕ
-index_of name [] = None
-index_of name (x ∷ xs) = if bytes_eq x name then Some 0 else option_map suc (index_of name xs)
+use Rattle.java_resolver.specs.Firsts.{first_that}
 
 -- the class of this name, among the names of all classes
 abbrev pub class_named : List (List ℕ) → List ℕ → Option ClassId
-class_named classes name = option_map (λ n. record { 0 = n }) (index_of name classes)
+class_named classes name = option_map (λ n. record { 0 = n }) (first_that (λ text. bytes_eq text name) classes)
 
 abbrev pub declared_kind : Option ClassId → Kind
 declared_kind None = kind.Other

@@ -1,5 +1,5 @@
 //! Why the units of a folder have no table.
-use racer_base::Place;
+use racer_base::{Memory, Place};
 
 /// The first of these that holds, in their order.
 #[derive(Clone, Copy, Debug, PartialEq, Eq)]
@@ -14,4 +14,15 @@ pub enum ResolveFault {
     TooManyMethods(u32),
     /// Memory was refused.
     Memory,
+}
+
+impl From<Memory> for ResolveFault {
+    ghost use Rattle.std.specs.Prelude.{◌≡◌};
+    ghost use Rattle.java_resolver.specs.declared.fault.ResolveFault.TheVariants as fault;
+
+    ghost from_gives = { λ _ given. given ≡ fault.Memory };
+
+    fn from(_error: Memory) -> ResolveFault {
+        ResolveFault::Memory
+    }
 }

@@ -4,11 +4,19 @@
 //! simple name means, and which method is called; `specs/Refusals.antt` what is refused.
 #![tactic(auto)]
 
+mod classes;
 mod fault;
+mod fields;
 mod infos;
+mod kinds;
 pub mod laws;
+mod methods;
+mod numbers;
 mod scope;
+mod table;
+mod words;
 
 pub use fault::ResolveFault;
 pub use infos::{ClassInfo, FieldInfo, MethodInfo};
 pub use scope::{Meaning, Scope, ScopeVariable};
+pub use table::{Table, resolve};
