@@ -59,19 +59,22 @@ module _ (test : CoreOp → Bool) (push : (v : VarId) → test (Push v) ≡ true
   at o = test o.op
 
   mutual
-    lowered_pass : (around : Around) (s : grammar.Statement) (n : ℕ) → list_all at (steps_of (lowered around s n)) ≡ true
+    lowered_pass : (around : Around) (s : grammar.Statement) (n : ℕ) →
+        list_all at (steps_of (lowered around s n)) ≡ true
     lowered_pass around (Set field place) n =
         both _ _ (push _) (both (test PushPrim) _ primitive (both _ _ (put _) (both (test Drop) true pop refl)))
     lowered_pass around (Sync place body) n =
         both _ _ (push _)
         (list_all-append at (steps_of (all_lowered around body (n + 1))) []
-        ∙ both (list_all at (steps_of (all_lowered around body (n + 1)))) true (all_lowered_pass around body (n + 1)) refl)
+        ∙ both (list_all at (steps_of (all_lowered around body (n + 1)))) true (all_lowered_pass around body (n + 1))
+        refl)
 
     all_lowered_pass : (around : Around) (ss : Statements) (n : ℕ) →
         list_all at (steps_of (all_lowered around ss n)) ≡ true
     all_lowered_pass around no_statement n = refl
     all_lowered_pass around (statement_then first others) n =
-        list_all-append at (steps_of (lowered around first n)) (steps_of (all_lowered around others (n + size_of first)))
+        list_all-append at (steps_of (lowered around first n))
+        (steps_of (all_lowered around others (n + size_of first)))
         ∙ both _ _ (lowered_pass around first n) (all_lowered_pass around others (n + size_of first))
 
   body_passes : (around : Around) (body : Statements) → list_all at (steps_of (body_lowered around body)) ≡ true

@@ -1,5 +1,6 @@
 -- Lowered code is kinded.
-use Rattle.std.proofs.Common.{◌≡◌, ℕ, zero, suc, ◌+◌, ◌<◌, Bool, true, ◌&&◌, ◌||◌, List, [], ◌∷◌, ◌++◌, Some, length, map}
+use Rattle.std.proofs.Common.{◌≡◌, ℕ, zero, suc, ◌+◌, ◌<◌, Bool, true, ◌&&◌, ◌||◌, List, [], ◌∷◌, ◌++◌, Some, length}
+use Rattle.std.proofs.Common.{map}
 use Rattle.std.proofs.Common.{is_some, refl, ap, ◌∙◌, arith, add_assoc, zero-add, slice_get, nat_eq}
 use Rattle.std.proofs.Common.{Option}
 use Rattle.std.proofs.lemmas.Bool.{eq-eqb}
@@ -16,7 +17,8 @@ use Rattle.core_code.specs.Kinds as kinds
 use Rattle.core_code.specs.Kinds.{StackKind}
 use Rattle.core_code.specs.KindCheck.{Kinds, and_then, where_true, after_put, kinds_after, is_kinded, are_kinded}
 use Rattle.core_code.proofs.BoolParts.{both, first_part, last_part}
-use Rattle.core_lowering.specs.Lowering.{Around, step, index_of, lowered, all_lowered, body_lowered, size_of, size_of_all}
+use Rattle.core_lowering.specs.Lowering.{Around, step, index_of, lowered, all_lowered, body_lowered, size_of}
+use Rattle.core_lowering.specs.Lowering.{size_of_all}
 use Rattle.core_lowering.specs.Lowering.{field_lowered, method_lowered, making_method, fields_from, methods_from}
 use Rattle.core_lowering.specs.Lowering.{making_lowered, program_of}
 use Rattle.core_lowering.proofs.LoweredNumbers.{index_of-listed}
@@ -43,7 +45,8 @@ beyond c (name ∷ names) rest k =
 
 -- ---- code
 
-module _ (core : Core) (c f : ℕ) (class : Class) (place_fields : HasFields core c f class.fields) (m : grammar.Method) where
+module _ (core : Core) (c f : ℕ) (class : Class) (place_fields : HasFields core c f class.fields)
+    (m : grammar.Method) where
   abbrev made : Method
   made = method_lowered c f class m
 
@@ -65,16 +68,19 @@ module _ (core : Core) (c f : ℕ) (class : Class) (place_fields : HasFields cor
     kinds-lowered : (s : grammar.Statement) (n : ℕ) → sets_only class.fields s ≡ true →
         kinds_after core made (lowered around s n) [] ≡ Some []
     kinds-lowered (Set field place) n listed =
-        ap (λ (o : Kinds). and_then o (λ between. kinds_after core made (Then (step (n + 3) m.place Drop) Nothing) between))
+        ap (λ (o : Kinds). and_then o (λ between.
+        kinds_after core made (Then (step (n + 3) m.place Drop) Nothing) between))
         (put_kinds (index_of class.fields field) (index_of-listed class.fields field listed))
     kinds-lowered (Sync place body) n listed =
-        ap (λ (o : Kinds). and_then o (λ (between : List StackKind). Some between)) (kinds-all_lowered body (n + 1) listed)
+        ap (λ (o : Kinds). and_then o (λ (between : List StackKind). Some between))
+        (kinds-all_lowered body (n + 1) listed)
 
     kinds-all_lowered : (ss : Statements) (n : ℕ) → all_set_only class.fields ss ≡ true →
         kinds_after core made (all_lowered around ss n) [] ≡ Some []
     kinds-all_lowered no_statement n listed = refl
     kinds-all_lowered (statement_then first others) n listed =
-        ap (λ (o : Kinds). and_then o (λ between. kinds_after core made (all_lowered around others (n + size_of first)) between))
+        ap (λ (o : Kinds). and_then o (λ between.
+        kinds_after core made (all_lowered around others (n + size_of first)) between))
         (kinds-lowered first n (first_part (sets_only class.fields first) _ listed))
         ∙ kinds-all_lowered others (n + size_of first) (last_part (sets_only class.fields first) _ listed)
 
@@ -83,7 +89,8 @@ module _ (core : Core) (c f : ℕ) (class : Class) (place_fields : HasFields cor
       let size : ℕ = size_of_all m.body in
       let last : Tree = Then (step size m.place PushPrim) (Then (step (size + 1) m.place Ret) Nothing) in
       let code : kinds_after core made (body_lowered around m.body) [] ≡ Some [] =
-      ap (λ (o : Kinds). and_then o (λ between. kinds_after core made last between)) (kinds-all_lowered m.body 0 listed) in
+      ap (λ (o : Kinds). and_then o (λ between. kinds_after core made last between))
+      (kinds-all_lowered m.body 0 listed) in
       both _ (is_some (kinds_after core made (body_lowered around m.body) []))
       (both _ true (eq-eqb c c refl) refl) (ap (λ (o : Kinds). is_some o) code)
 

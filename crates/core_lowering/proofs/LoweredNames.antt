@@ -105,7 +105,8 @@ module _ {X : Type 0} (same : X → X → Bool) where
       (list_all-append test xs ys
       ∙ both (list_all test xs) (list_all test ys) (first_part (list_all test xs) _ own)
       (first_part (list_all test ys) _ apart))
-      (differ_together xs ys (last_part (list_all test xs) _ own) other (last_part (list_all test ys) (are_apart xs ys) apart))
+      (differ_together xs ys (last_part (list_all test xs) _ own) other
+      (last_part (list_all test ys) (are_apart xs ys) apart))
 
   -- elements with a smaller number differ from those with greater ones
   module _ (number_of : X → ℕ) (numbered : (x y : X) → same x y ≡ true → number_of x ≡ number_of y) (c : ℕ) where
@@ -133,7 +134,8 @@ pub classes_differ : (file : List ℕ) (classes : List Class) → is_allowed cla
 classes_differ file classes allowed =
     differ_by_name (λ (c : Class). c.name) class_lowered (λ (a b : ClassCore). same_text a.name b.name)
     (λ a b same. same) classes
-    (last_part _ (conditions.all_differ (class_names classes)) (first_part _ (list_all is_allowed_class classes) allowed))
+    (last_part _ (conditions.all_differ (class_names classes))
+    (first_part _ (list_all is_allowed_class classes) allowed))
 
 -- ---- fields
 
@@ -176,14 +178,16 @@ fields_from_differ c (class ∷ others) allowed =
     let one : is_allowed_class class ≡ true = first_part (is_allowed_class class) _ allowed in
     differ_together same_field own (fields_from (suc c) others)
     (own_fields_differ c class.fields (last_part _ (conditions.all_differ class.fields)
-    (first_part _ (conditions.all_differ (method_names class.methods)) (first_part _ (list_all (is_allowed_method class.fields) class.methods) one))))
+    (first_part _ (conditions.all_differ (method_names class.methods))
+    (first_part _ (list_all (is_allowed_method class.fields) class.methods) one))))
     (fields_from_differ (suc c) others (last_part (is_allowed_class class) _ allowed))
     (apart_by_number same_field field_number fields_same_class c own (fields_from (suc c) others)
     (own_fields_numbered c class.fields) (fields_above (suc c) c others (omega arith)))
 
 pub fields_differ : (file : List ℕ) (classes : List Class) → is_allowed classes ≡ true →
     do_fields_differ (program_of file classes) ≡ true
-fields_differ file classes allowed = fields_from_differ 0 classes (last_part _ (list_all is_allowed_class classes) allowed)
+fields_differ file classes allowed =
+    fields_from_differ 0 classes (last_part _ (list_all is_allowed_class classes) allowed)
 
 -- ---- methods
 
@@ -222,7 +226,8 @@ own_methods_numbered c f class [] = refl
 own_methods_numbered c f class (m ∷ ms) = both (nat_eq c c) _ (eq-eqb c c refl) (own_methods_numbered c f class ms)
 
 class_methods_numbered : (c f : ℕ) (class : Class) →
-    list_all (λ (m : Method). nat_eq (method_number m) c) (making_method c class ∷ map (method_lowered c f class) class.methods) ≡ true
+    list_all (λ (m : Method). nat_eq (method_number m) c)
+    (making_method c class ∷ map (method_lowered c f class) class.methods) ≡ true
 class_methods_numbered c f class = both (nat_eq c c) _ (eq-eqb c c refl) (own_methods_numbered c f class class.methods)
 
 own_methods_above : (c d f : ℕ) (class : Class) (methods : List grammar.Method) → d < c →
@@ -234,7 +239,8 @@ methods_above : (c d f : ℕ) (classes : List Class) → d < c →
     list_all (λ (m : Method). nat_lt d (method_number m)) (methods_from c f classes) ≡ true
 methods_above c d f [] h = refl
 methods_above c d f (class ∷ others) h =
-    list_all-append (λ (m : Method). nat_lt d m.class.0) (making_method c class ∷ map (method_lowered c f class) class.methods)
+    list_all-append (λ (m : Method). nat_lt d m.class.0)
+    (making_method c class ∷ map (method_lowered c f class) class.methods)
     (methods_from (suc c) (f + length class.fields) others)
     ∙ both _ _ (both (nat_lt d c) _ (lt-ltb d c h) (own_methods_above c d f class class.methods h))
     (methods_above (suc c) d (f + length class.fields) others (omega arith))
@@ -279,7 +285,8 @@ methods_open c f (class ∷ others) =
     let own : List Method = map (method_lowered c f class) class.methods in
     let rest : List Method = methods_from (suc c) (f + length class.fields) others in
     ap (λ (more : List Method). making_method c class ∷ more)
-    (filter-append is_open own rest ∙ ap (λ (front : List Method). front ++ filter is_open rest) (own_methods_open c f class class.methods)
+    (filter-append is_open own rest ∙ ap (λ (front : List Method). front ++ filter is_open rest)
+    (own_methods_open c f class class.methods)
     ∙ ap (λ (back : List Method). own ++ back) (methods_open (suc c) (f + length class.fields) others))
 
 pub methods_differ : (file : List ℕ) (classes : List Class) → is_allowed classes ≡ true → are_named classes ≡ true →
