@@ -1,5 +1,5 @@
--- A contract of a public call rests on this: what a simple name means at a place (JLS 6.4.1, 6.5), and which method of a
--- class is called by a name and a number of arguments.
+-- A contract of a public call rests on this: what a simple name means at a place (JLS 6.4.1, 6.5), and which method
+-- of a class is called by a name and a number of arguments.
 use Rattle.std.specs.Prelude.{ℕ, Bool, not, ◌&&◌, ◌||◌, List, Option, Some, None, bytes_eq, length, ◌==◌, option_map}
 use Rattle.racer_base.specs.declared.ids.ClassId.{ClassId}
 use Rattle.racer_base.specs.declared.ids.FieldId.{FieldId}

@@ -1,5 +1,5 @@
--- A contract of a public call rests on this: which units have no table: two classes of one name, two fields of one name in
--- a class, too many classes or methods, the first of these in this order.
+-- A contract of a public call rests on this: which units have no table: two classes of one name, two fields of one
+-- name in a class, too many classes or methods, the first of these in this order.
 use Rattle.std.specs.Prelude.{ℕ, Bool, ◌&&◌, List, [], ◌∷◌, ◌++◌, Option, Some, None, bytes_eq, length, nat_lt, find}
 use Rattle.std.specs.Prelude.{◌==◌, if◌then◌else◌, option_map}
 use Rattle.std.specs.Option.{option_or}

@@ -21,8 +21,8 @@ pub struct FieldInfo {
     pub is_volatile: bool,
 }
 
-/// A method or a constructor, with the place of its name (JLS 8.4, 8.8). A constructor has the name `<new>`; one that no
-/// class declares stands at the class's name (JLS 8.8.9).
+/// A method or a constructor, with the place of its name (JLS 8.4, 8.8). A constructor has the name `<new>`; one that
+/// no class declares stands at the class's name (JLS 8.8.9).
 #[derive(Drop)]
 pub struct MethodInfo {
     pub class: ClassId,

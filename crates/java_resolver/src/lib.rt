@@ -1,7 +1,7 @@
 //! The names of a folder: its classes, their fields and methods, and what a name means at a place (JLS 6).
 //!
-//! `specs/Declarations.antt` says what the units of a folder declare, as lists in source order; `specs/Meanings.antt` what a
-//! simple name means, and which method is called; `specs/Refusals.antt` what is refused.
+//! `specs/Declarations.antt` says what the units of a folder declare, as lists in source order;
+//! `specs/Meanings.antt` what a simple name means, and which method is called; `specs/Refusals.antt` what is refused.
 #![tactic(auto)]
 
 mod classes;

@@ -26,7 +26,8 @@ pub fn fields_of_declarations()
           is_final = false;
           is_volatile = true;
         } }
-    ensures final_word { (field_info [] (class 1) (ints (codes "final" ∷ []) []) (absent (codes "x") 5)).is_final ≡ true }
+    ensures final_word { (field_info [] (class 1) (ints (codes "final" ∷ []) [])
+        (absent (codes "x") 5)).is_final ≡ true }
     ensures none { member_fields [] (class 0) (Method (method_tree [] Void (codes "x") [])) ≡ [] }
     ensures classes { map (λ (f : FieldInfo). f.class) (fields_of
         (unit (tree (codes "A") 1 [] [] ∷ tree (codes "B") 2 [] (Field (ints [] (absent (codes "x") 5 ∷ [])) ∷ []) ∷ [])
@@ -49,7 +50,8 @@ pub fn methods_of_trees()
           main = false;
           not_thread_safe = false;
         } }
-    ensures constructor { method_info [] (class 1) (method_tree (words (codes "static" ∷ [])) Constructor (codes "A") [])
+    ensures constructor { method_info [] (class 1)
+        (method_tree (words (codes "static" ∷ [])) Constructor (codes "A") [])
         ≡ record {
           class = class 1;
           name = codes "<new>";

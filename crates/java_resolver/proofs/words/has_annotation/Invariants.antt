@@ -4,4 +4,6 @@ use Rattle.java_resolver.specs.Words.{is_annotation_named}
 use Rattle.java_resolver.proofs.words.has_annotation.Given as goal
 
 abbrev pub invariant-loop-annotation : goal.invariant-loop-annotation
-invariant-loop-annotation l = list_any (is_annotation_named l.name) (drop l.annotation-index l.annotations) ≡ list_any (is_annotation_named l.name) l.annotations
+invariant-loop-annotation l =
+    let test = is_annotation_named l.name in
+    list_any test (drop l.annotation-index l.annotations) ≡ list_any test l.annotations

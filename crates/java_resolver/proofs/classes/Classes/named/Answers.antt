@@ -12,7 +12,8 @@ returns-in_err-number c =
     let name = c.args.name.now in
     let made : Option ℕ → Option ClassId = option_map (λ n. record { 0 = n }) in
     c.from_residual.ensures
-    ∙ ap made (c.in_err-number.ensures ∙ class_found c.self.inside.numbers c.self.inside.list.items name c.self.invariant)
+    ∙ ap made
+    (c.in_err-number.ensures ∙ class_found c.self.inside.numbers c.self.inside.list.items name c.self.invariant)
     ∙ ap (λ (classes : List ClassInfo). class_named (class_names classes) name) c.self.view_is
 
 pub returns : goal.returns
