@@ -178,7 +178,7 @@ keys_added-nil xs = keys_added-firsts [] xs ∙ filter-all (first_of_keys xs)
 
 -- ---- the set of paths
 
-contains_added : (old : PathSet) (xs : List Path) (q : Path) →
+pub contains_added : (old : PathSet) (xs : List Path) (q : Path) →
     set.contains (paths_added old xs) q ≡ (set.contains old q || list_any (eq_by_cmp path_cmp q) xs)
 contains_added old [] q = sym (or-false (set.contains old q))
 contains_added old (x ∷ xs) q =

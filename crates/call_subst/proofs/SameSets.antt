@@ -73,7 +73,7 @@ or-assoc : (a b c : Bool) → ((a || b) || c) ≡ (a || (b || c))
 or-assoc true b c = refl
 or-assoc false b c = refl
 
-any-append : {X : Type 0} (test : X → Bool) (xs ys : List X) →
+pub any-append : {X : Type 0} (test : X → Bool) (xs ys : List X) →
     list_any test (xs ++ ys) ≡ (list_any test xs || list_any test ys)
 any-append test [] ys = refl
 any-append test (x ∷ xs) ys = ap (λ b. test x || b) (any-append test xs ys)

@@ -5,6 +5,8 @@
 #[cfg(test)]
 mod first_grammar;
 #[cfg(test)]
+mod methods;
+#[cfg(test)]
 mod outside;
 #[cfg(test)]
 mod tokens;

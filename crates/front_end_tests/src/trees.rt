@@ -5,7 +5,7 @@ ghost use Rattle.java_tree.specs.View.{method_of};
 
 use java_lexer::lex;
 use java_tree::{Ident, MethodTree, ResultTree, spell};
-use method_reader::spell_the_same;
+use method_grammar::spell_the_same;
 use racer_base::{FileId, Items, Memory, Place, Text};
 use std::alloc::Global;
 use std::test::Fail;

@@ -171,7 +171,8 @@ stmt_step (statement.Expr e) rest = expr_places e rest
 stmt_step (statement.If e s t) rest = expr_places e (s.value (maybe_puts (option_map (λ b. b.value) t) rest))
 stmt_step (statement.While e s) rest = expr_places e (s.value rest)
 stmt_step (statement.For i condition updates s) rest =
-    start_places i (maybe_puts (option_map expr_places condition) (each_puts (map expr_places updates.items) (s.value rest)))
+    start_places i (maybe_puts (option_map expr_places condition) (each_puts (map expr_places updates.items)
+    (s.value rest)))
 stmt_step (statement.ForEach is_final t x e s) rest = ty_places t ++ (x.place ∷ expr_places e (s.value rest))
 stmt_step (statement.Sync place e ss) rest = place ∷ expr_places e (each_puts ss.items rest)
 stmt_step (statement.Return e) rest = maybe_puts (option_map expr_places e) rest

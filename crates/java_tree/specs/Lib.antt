@@ -7,6 +7,7 @@ pub mod Brackets
 pub mod Formed
 pub mod View
 pub mod KeptPlaces
+pub mod MethodPlaces
 pub mod Examples
 pub mod PlacedExamples
 pub mod Sameness

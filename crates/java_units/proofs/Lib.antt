@@ -1,5 +1,5 @@
-pub mod BracketTokens
-pub mod OneTree
+pub mod Joined
 pub mod OneCut
 pub mod Appended
 pub mod OneDivision
+mod NoTrees

@@ -1,94 +1,102 @@
 -- A contract of a public call rests on this: declarations of fields (JLS 8.3), and their division at commas.
-use Rattle.std.specs.Prelude.{◌≡◌, ℕ, ◌≤◌, Bool, not, ◌⊎◌, List, [], ◌∷◌, ◌++◌, IsTrue, codes}
-use Rattle.std.specs.List.{AllZip, list_any}
+use Rattle.std.specs.Prelude.{◌≡◌, ◌≤◌, ◌⊎◌, List, [], ◌∷◌, ◌++◌, IsTrue, codes, map, if◌then◌else◌}
+use Rattle.std.specs.List.{AllZip}
 use Rattle.racer_base.specs.Name.{is_listed}
+use Rattle.racer_base.specs.declared.limits.TheConstants.{MAX_NESTING}
+use Rattle.java_lexer.specs.declared.token.Token.{Token}
+use Rattle.java_tree.specs.declared.methods.FieldTree.{FieldTree}
+use Rattle.java_tree.specs.declared.methods.FieldVariable.{FieldVariable}
+use Rattle.java_tree.specs.declared.methods.FieldInitialiser.{FieldInitialiser}
+use Rattle.java_tree.specs.declared.methods.FieldInitialiser.TheVariants.{Absent, Formed, Unread}
 use Rattle.java_tree.specs.Trees.{Init, Modifier, Word, Annotated}
 use Rattle.java_tree.specs.Spelling.{ty_onto, init_onto, modifiers_onto}
 use Rattle.java_tree.specs.Formed.{Each, has_some, FormedTy, FormedInit, FormedAnnotation}
 use Rattle.java_tree.specs.Nesting.{ty_nesting, init_nesting}
-use Rattle.java_units.specs.Models.{FieldInit, Absent, Formed, Unread, FieldVariable, Fields}
-use Rattle.java_units.specs.PlacedTokens.{plain_all, is_name}
-use Rattle.java_units.specs.BracketTrees.{Item, One, Group, tokens_of}
-use Rattle.java_units.specs.Cuts.{is_sign}
-use Rattle.racer_base.specs.declared.limits.TheConstants.{MAX_NESTING}
-
--- the words of a field (JLS 8.3.1)
-abbrev pub is_field_modifier : List ℕ → Bool
-is_field_modifier text =
-    is_listed
-    (codes "public" ∷ codes "protected" ∷ codes "private" ∷ codes "static" ∷ codes "final" ∷ codes "transient"
-    ∷ codes "volatile" ∷ [])
-    text
-
-abbrev pub FormedFieldModifier : Modifier → Type 0
-FormedFieldModifier (Word text) = IsTrue (is_field_modifier text)
-FormedFieldModifier (Annotated n) = FormedAnnotation n
+use Rattle.java_tree.specs.View.{ty_of, init_of, modifier_of}
+use Rattle.java_units.specs.Tokens.{plain_all, is_sign_token, is_name, signed}
+use Rattle.java_units.specs.Pieces.{Item, items_of}
 
 -- ---- one variable
 
 -- the tree of what a variable begins with
-pub record IsInit (items : List Item) (i : Init) : Type 0 where
+pub record IsInit (ts : List Token) (i : Init) : Type 0 where
   pub formed : FormedInit i
   pub nested : init_nesting i ≤ MAX_NESTING
-  pub spelled : init_onto i [] ≡ plain_all (tokens_of items)
+  pub spelled : init_onto i [] ≡ plain_all ts
 
--- what stands behind the name: nothing, or an `=` and one or more items
-abbrev pub BeginsWith : List Item → FieldInit → Type 0
+-- what stands behind the name: nothing, or an `=` and one or more tokens
+abbrev pub BeginsWith : List Token → FieldInitialiser → Type 0
 BeginsWith [] Absent = Unit {0}
 BeginsWith [] _ = ⊥
-BeginsWith (e ∷ is) Absent = ⊥
-BeginsWith (e ∷ is) (Formed i) = IsTrue (is_sign (codes "=") e) × IsInit is i
-BeginsWith (e ∷ is) Unread = IsTrue (is_sign (codes "=") e) × IsTrue (has_some is) × ((i : Init) → IsInit is i → ⊥)
+BeginsWith (e ∷ ts) Absent = ⊥
+BeginsWith (e ∷ ts) (Formed i) = IsTrue (is_sign_token (codes "=") e) × IsInit ts (init_of i)
+BeginsWith (e ∷ ts) Unread =
+    IsTrue (is_sign_token (codes "=") e) × IsTrue (has_some ts) × ((i : Init) → IsInit ts i → ⊥)
 
--- the items are this variable
-abbrev pub IsVariable : List Item → FieldVariable → Type 0
+-- the tokens are this variable
+abbrev pub IsVariable : List Token → FieldVariable → Type 0
 IsVariable [] v = ⊥
-IsVariable (Group o inside c ∷ is) v = ⊥
-IsVariable (One t ∷ is) v = IsTrue (is_name t) × (t.text ≡ v.name) × (t.place ≡ v.place) × BeginsWith is v.initialiser
-
--- ---- the division into variables
-
--- the items are these pieces, with a `,` between two
-abbrev pub IsDivided : List (List Item) → List Item → Type 0
-IsDivided [] items = ⊥
-IsDivided (p ∷ []) items = items ≡ p
-IsDivided (p ∷ q ∷ ps) items =
-    (comma : Item) × (rest : List Item) × (items ≡ p ++ comma ∷ rest) × IsTrue (is_sign (codes ",") comma)
-    × IsDivided (q ∷ ps) rest
-
-abbrev pub AreVariables : List Item → List (List Item) → List FieldVariable → Type 0
-AreVariables items pieces vs = IsDivided pieces items × AllZip IsVariable pieces vs
+IsVariable (t ∷ ts) v =
+    IsTrue (is_name t) × (v.name.text ≡ t.text) × (v.name.place ≡ t.place) × BeginsWith ts v.initialiser
 
 -- it begins with nothing, or with what has a tree
 abbrev pub IsRead : FieldVariable → Type 0
 IsRead v = v.initialiser ≡ Unread → ⊥
 
-abbrev pub IsUndivided : List Item → Type 0
-IsUndivided items = IsTrue (not (list_any (is_sign (codes ",")) items))
+-- ---- the division into variables
 
--- no division at commas has a tree for each initialiser
-abbrev pub HasNoTrees : List Item → Type 0
-HasNoTrees items =
-    (pieces : List (List Item)) (vs : List FieldVariable) → AreVariables items pieces vs → Each IsRead vs → ⊥
+-- the tokens are these pieces, with a `,` between two
+abbrev pub IsDivided : List (List Token) → List Token → Type 0
+IsDivided [] ts = ⊥
+IsDivided (p ∷ []) ts = ts ≡ p
+IsDivided (p ∷ q ∷ ps) ts =
+    (comma : Token) × (rest : List Token) × (ts ≡ p ++ comma ∷ rest) × IsTrue (is_sign_token (codes ",") comma)
+    × IsDivided (q ∷ ps) rest
 
--- the items are divided at some or none of the commas such that each initialiser has a tree; where no division does,
--- at each of the commas
-abbrev pub IsDivision : List Item → List FieldVariable → Type 0
-IsDivision items vs =
-    (pieces : List (List Item)) × AreVariables items pieces vs
-    × (Each IsRead vs ⊎ (Each IsUndivided pieces × HasNoTrees items))
+-- divided at some or none of the commas, each initialiser has a tree; so these commas stand outside brackets
+pub record AreRead (ts : List Token) (pieces : List (List Token)) (vs : List FieldVariable) : Type 0 where
+  pub divided : IsDivided pieces ts
+  pub variables : AllZip IsVariable pieces vs
+  pub read : Each IsRead vs
+
+abbrev pub before_first : Item → List (List Token) → List (List Token)
+before_first i [] = i ∷ []
+before_first i (p ∷ ps) = (i ++ p) ∷ ps
+
+-- what stands between the commas outside brackets
+abbrev pub between_commas : List Item → List (List Token)
+between_commas [] = [] ∷ []
+between_commas (i ∷ is) =
+    if signed (codes ",") i then [] ∷ between_commas is else before_first i (between_commas is)
+
+-- divided at each comma, where no division leaves a tree for each initialiser
+pub record AreDividedAtEach (ts : List Token) (vs : List FieldVariable) : Type 0 where
+  pub variables : AllZip IsVariable (between_commas (items_of ts)) vs
+  pub none : (pieces : List (List Token)) (ws : List FieldVariable) → AreRead ts pieces ws → ⊥
+
+abbrev pub AreVariables : List Token → List FieldVariable → Type 0
+AreVariables ts vs = ((pieces : List (List Token)) × AreRead ts pieces vs) ⊎ AreDividedAtEach ts vs
 
 -- ---- the whole declaration
 
+-- the words of a field (JLS 8.3.1)
+abbrev pub FormedFieldModifier : Modifier → Type 0
+FormedFieldModifier (Annotated n) = FormedAnnotation n
+FormedFieldModifier (Word text) =
+    IsTrue (is_listed
+    (codes "public" ∷ codes "protected" ∷ codes "private" ∷ codes "static" ∷ codes "final" ∷ codes "transient"
+    ∷ codes "volatile" ∷ [])
+    text)
+
 -- modifiers with annotations, a type, variables and a `;`
-pub record AreFields (items : List Item) (f : Fields) : Type 0 where
-  pub front : List Item
-  pub variables : List Item
-  pub last : Item
-  pub parts : items ≡ front ++ variables ++ last ∷ []
-  pub ended : IsTrue (is_sign (codes ";") last)
-  pub spelled : modifiers_onto f.modifiers (ty_onto f.kind []) ≡ plain_all (tokens_of front)
-  pub modifiers_formed : Each FormedFieldModifier f.modifiers
-  pub formed : FormedTy f.kind
-  pub nested : ty_nesting f.kind ≤ MAX_NESTING
-  pub divided : IsDivision variables f.variables
+pub record AreFields (ts : List Token) (f : FieldTree) : Type 0 where
+  pub front : List Token
+  pub variables : List Token
+  pub last : Token
+  pub parts : ts ≡ front ++ variables ++ last ∷ []
+  pub ended : IsTrue (is_sign_token (codes ";") last)
+  pub modifiers : Each FormedFieldModifier (map modifier_of f.modifiers)
+  pub formed : FormedTy (ty_of f.kind)
+  pub nested : ty_nesting (ty_of f.kind) ≤ MAX_NESTING
+  pub spelled : modifiers_onto (map modifier_of f.modifiers) (ty_onto (ty_of f.kind) []) ≡ plain_all front
+  pub divided : AreVariables variables f.variables

@@ -1,11 +1,12 @@
-pub mod Models
-pub mod PlacedTokens
-pub mod BracketTrees
+pub mod Tokens
 pub mod Cuts
+pub mod Brackets
+pub mod Pieces
 pub mod Declarations
 pub mod Members
 pub mod MemberCuts
 pub mod Heads
 pub mod FieldDivisions
+pub mod ReadVariables
 pub mod Units
 pub mod UnitExamples

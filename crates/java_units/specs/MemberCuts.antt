@@ -1,18 +1,15 @@
--- A contract of a public call rests on this: what a cut into members is, and what pieces are together.
-use Rattle.std.specs.Prelude.{Bool, true, false, not, ◌&&◌, ◌||◌, ◌⊎◌, List, [], ◌∷◌, ◌++◌, IsTrue, codes}
+-- A contract of a public call rests on this: what a cut of a class body into members is (JLS 8.1.6).
+use Rattle.std.specs.Prelude.{Bool, false, not, ◌&&◌, ◌||◌, ◌⊎◌, List, [], ◌∷◌, IsTrue, codes}
 use Rattle.java_tree.specs.Formed.{has_some}
-use Rattle.java_units.specs.BracketTrees.{Item}
-use Rattle.java_units.specs.Cuts.{is_sign}
-use Rattle.java_units.specs.Members.{ends_member, is_ended}
+use Rattle.java_units.specs.Tokens.{signed}
+use Rattle.java_units.specs.Pieces.{Item}
+use Rattle.java_units.specs.Members.{ends_member, is_endless}
 
-abbrev pub joined : List (List Item) → List Item
-joined [] = []
-joined (p ∷ ps) = p ++ joined ps
-
--- whether none of the items ends a member
-abbrev pub is_endless : (equals : Bool) → List Item → Bool
-is_endless equals [] = true
-is_endless equals (i ∷ is) = not (ends_member equals i) && is_endless (equals || is_sign (codes "=") i) is
+-- whether the last of the items ends a member, and none before it
+abbrev pub is_ended : (equals : Bool) → List Item → Bool
+is_ended equals [] = false
+is_ended equals (i ∷ []) = ends_member equals i
+is_ended equals (i ∷ j ∷ is) = not (ends_member equals i) && is_ended (equals || signed (codes "=") i) (j ∷ is)
 
 -- each piece ends where a member first does; the last may be without an end
 abbrev pub IsCut : List (List Item) → Type 0

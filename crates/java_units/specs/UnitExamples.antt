@@ -1,16 +1,16 @@
--- A contract of a public call rests on this: worked readings, items as a reader writes them, in a line with one space
--- between two tokens.
-use Rattle.std.specs.Prelude.{ℕ, ◌+◌, List, [], ◌∷◌, ◌++◌, Option, Some, None, Ok, Err, map, length}
-use Rattle.std.specs.Prelude.{replicate, if◌then◌else◌}
+-- A contract of a public call rests on this: worked readings, tokens as a reader writes them, in a line with one space
+-- between two.
+use Rattle.std.specs.Prelude.{ℕ, ◌+◌, true, List, [], ◌∷◌, ◌++◌, Option, Some, None, Ok, Err, map, length}
+use Rattle.std.specs.Prelude.{replicate}
 use Rattle.racer_base.specs.declared.ids.Place.{Place}
 use Rattle.java_lexer.specs.declared.token.Token.{Token}
 use Rattle.java_tree.specs.declared.words.Spelled.{Spelled}
 use Rattle.java_tree.specs.Words.{sign}
 use Rattle.java_tree.specs.Examples.{space, between_spaces, token_of}
-use Rattle.java_units.specs.PlacedTokens.{is_opening, is_closing}
-use Rattle.java_units.specs.BracketTrees.{Item, One, Group, Items, no_item, item_then, tokens_of}
-use Rattle.java_units.specs.Cuts.{Piece, Apart, Annotating, first_place, pieces_of}
-use Rattle.java_units.specs.Declarations.{First, Whole, declarations, types_among}
+use Rattle.java_units.specs.Tokens.{first_place}
+use Rattle.java_units.specs.Cuts.{joined}
+use Rattle.java_units.specs.Pieces.{items_of, inside, pieces_of}
+use Rattle.java_units.specs.Declarations.{Whole, declarations, types_among}
 use Rattle.java_units.specs.Members.{members_of, Form, SkippedForm, MethodForm, FieldForm, form_of}
 use Rattle.java_units.specs.Heads.{parameters_among}
 
@@ -50,66 +50,37 @@ shown [] = []
 shown (t ∷ []) = t.text
 shown (t ∷ u ∷ ts) = t.text ++ space ∷ shown (u ∷ ts)
 
--- ---- items
-
-abbrev pub pack : List Item → Items
-pack [] = no_item
-pack (i ∷ is) = item_then i (pack is)
-
--- the items of tokens, where these brackets are open, each with what stands before it
-abbrev pub made : List (List Item × Token) → List Item → List Token → List Item
-made [] front [] = front
-made (o ∷ os) front [] = []
-made os front (t ∷ ts) =
-    if is_opening t then made ((front, t) ∷ os) [] ts
-    else (if is_closing t then elim os [ [] ↦ [] | (p ∷ ps) ↦ made ps (p.0 ++ Group p.1 (pack front) t ∷ []) ts ]
-    else made os (front ++ One t ∷ []) ts)
-
--- the items of a line
-abbrev pub items : List ℕ → List Item
-items text = made [] [] (line text)
-
-abbrev pub shown_items : List Item → List ℕ
-shown_items is = shown (tokens_of is)
-
-abbrev pub shown_piece : Piece → List ℕ
-shown_piece (Apart i) = shown_items (i ∷ [])
-shown_piece (Annotating is) = shown_items is
+-- ---- pieces
 
 -- the pieces of a line
 abbrev pub pieces : List ℕ → List (List ℕ)
-pieces text = map shown_piece (pieces_of (items text))
+pieces text = map shown (pieces_of (line text))
 
 -- ---- files and members
 
 -- the place of what does not fit, or none
 abbrev pub unfit : List ℕ → Option Place
 unfit text =
-    elim (declarations (Whole First) (items text)) [
+    elim (declarations (Whole true true) (items_of (line text))) [
       | (Ok ds) ↦ None
-      | (Err rest) ↦ Some (first_place (end_of text) rest)
+      | (Err rest) ↦ Some (first_place (end_of text) (joined rest))
     ]
 
 -- the types of a file
 abbrev pub types : List ℕ → List (List ℕ)
 types text =
-    elim (declarations (Whole First) (items text)) [
-      | (Ok ds) ↦ map shown_items (types_among ds)
+    elim (declarations (Whole true true) (items_of (line text))) [
+      | (Ok ds) ↦ map shown (types_among ds)
       | (Err rest) ↦ []
     ]
 
 -- the members of a class with this body
 abbrev pub members : List ℕ → List (List ℕ)
-members text = map shown_items (members_of (items text))
+members text = map shown (members_of (line text))
 
 -- the form of a member
 abbrev pub form : List ℕ → Form
-form text = form_of (items text)
-
-abbrev pub items_of_pieces : List Piece → List Item
-items_of_pieces [] = []
-items_of_pieces (Apart i ∷ ps) = i ∷ items_of_pieces ps
-items_of_pieces (Annotating is ∷ ps) = is ++ items_of_pieces ps
+form text = form_of (line text)
 
 -- of a method its name, with what stands before it and the number of its parameters
 pub data Shown : Type 0 where
@@ -119,8 +90,8 @@ pub data Shown : Type 0 where
 abbrev pub shown_form : Form → Shown
 shown_form SkippedForm = NoMethod
 shown_form FieldForm = NoMethod
-shown_form (MethodForm front name parameters) =
-    Method (shown_items (items_of_pieces front)) name (parameters_among parameters)
+shown_form (MethodForm front name parentheses) =
+    Method (shown front) name (parameters_among (items_of (inside parentheses)))
 
 abbrev pub method : List ℕ → Shown
 method text = shown_form (form text)

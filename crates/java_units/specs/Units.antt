@@ -1,118 +1,113 @@
--- A contract of a public call rests on this: what a file is read as, its classes with their members and the types that
--- are skipped, or its first fault.
-use Rattle.std.specs.Prelude.{◌≡◌, ℕ, Bool, not, List, [], ◌∷◌, Option, Some, None, Result, Ok, Err}
-use Rattle.std.specs.Prelude.{false, ◌||◌, codes, filter, if◌then◌else◌}
+-- A contract of a public call rests on this: what a file is read as (JLS 7.3), its classes with their members (JLS 8.1)
+-- and the types that are skipped, or its first fault.
+use Rattle.std.specs.Prelude.{◌≡◌, ℕ, Bool, true, not, List, [], ◌∷◌, Option, Some, None, Ok, Err, is_some}
+use Rattle.std.specs.Prelude.{◌||◌, ◌&&◌, IsTrue, codes, filter, if◌then◌else◌}
 use Rattle.std.specs.List.{AllZip}
 use Rattle.racer_base.specs.declared.ids.Place.{Place}
 use Rattle.java_lexer.specs.declared.token.Token.{Token}
-use Rattle.java_tree.specs.Trees.{Annotation, Method}
+use Rattle.java_tree.specs.declared.methods.AnnotationTree.{AnnotationTree}
+use Rattle.java_tree.specs.declared.methods.FieldTree.{FieldTree}
+use Rattle.java_tree.specs.Trees.{Method}
 use Rattle.java_tree.specs.Spelling.{annotation_onto}
-use Rattle.java_tree.specs.Formed.{FormedAnnotation}
-use Rattle.java_units.specs.Models.{Fields, Member, FieldMember, MethodMember, OutsideMember, SkippedMember, Class}
-use Rattle.java_units.specs.Models.{SourceUnit, UnitFault, Unbalanced, TooDeep, NotAUnit}
-use Rattle.java_units.specs.PlacedTokens.{plain_all}
-use Rattle.java_units.specs.BracketTrees.{Item, One, Group, Items, list_of, tokens_of, AreItems, unbalanced, too_deep}
-use Rattle.java_units.specs.Cuts.{is_group, first_place, Piece, Apart, Annotating, pieces_of, is_apart}
-use Rattle.java_units.specs.Declarations.{is_word, is_type_modifier, First, Whole, declarations, types_among}
-use Rattle.java_units.specs.Members.{members_of, Form, SkippedForm, MethodForm, FieldForm, form_of}
+use Rattle.java_tree.specs.Formed.{has_some}
+use Rattle.java_tree.specs.View.{method_of, annotation_of}
+use Rattle.method_grammar.specs.Lookahead.{begins_with}
+use Rattle.java_units.specs.declared.unit.Member.{Member}
+use Rattle.java_units.specs.declared.unit.Member.TheVariants as member
+use Rattle.java_units.specs.declared.unit.ClassTree.{ClassTree}
+use Rattle.java_units.specs.declared.unit.Unit as unit
+use Rattle.java_units.specs.declared.unit.ParseFault.{ParseFault}
+use Rattle.java_units.specs.declared.unit.ParseFault.TheVariants.{Unbalanced, TooDeep, NotAUnit, Memory}
+use Rattle.java_units.specs.Tokens.{plain_all, begins, signed, worded, first_place}
+use Rattle.java_units.specs.Cuts.{joined}
+use Rattle.java_units.specs.Brackets.{unbalanced, too_deep}
+use Rattle.java_units.specs.Pieces.{Item, items_of, Piece, pieces_of, is_annotation, inside}
+use Rattle.java_units.specs.Declarations.{is_type_modifier, Whole, declarations, types_among}
+use Rattle.java_units.specs.Members.{members_of, behind_words, Form, SkippedForm, MethodForm, FieldForm, form_of}
 use Rattle.java_units.specs.Heads.{IsMethod, IsOutside}
 use Rattle.java_units.specs.FieldDivisions.{AreFields}
 
+-- the first token stands at this place
+abbrev pub BeginsAt : List Token → Place → Type 0
+BeginsAt [] place = ⊥
+BeginsAt (t ∷ ts) place = t.place ≡ place
+
 -- ---- members
 
--- a member of this form; its items have a first token at this place
-abbrev pub HasForm : (class : List ℕ) → List Item → Form → Member → Type 0
-HasForm class items SkippedForm (SkippedMember place) = first_place place items ≡ place
-HasForm class items (MethodForm front name parameters) (MethodMember place m) =
-    (place ≡ name.place) × IsMethod class (tokens_of items) m
-HasForm class items (MethodForm front name parameters) (OutsideMember head) =
-    ((m : Method) → IsMethod class (tokens_of items) m → ⊥) × IsOutside class front name parameters items head
-HasForm class items FieldForm (FieldMember f) = AreFields items f
-HasForm class items FieldForm (SkippedMember place) =
-    (first_place place items ≡ place) × ((f : Fields) → AreFields items f → ⊥)
-HasForm class items form member = ⊥
+-- the tokens of a member of this form are read as this
+abbrev pub HasForm : (class : List ℕ) → List Token → Form → Member → Type 0
+HasForm class m SkippedForm (member.Skipped place) = BeginsAt m place
+HasForm class m (MethodForm front name parentheses) (member.Method tree) =
+    (tree.name.place ≡ name.place) × IsMethod class m (method_of tree)
+HasForm class m (MethodForm front name parentheses) (member.Outside head) =
+    ((tree : Method) → IsMethod class m tree → ⊥) × IsOutside class front name parentheses m head
+HasForm class m FieldForm (member.Field f) = AreFields m f
+HasForm class m FieldForm (member.Skipped place) = ((f : FieldTree) → AreFields m f → ⊥) × BeginsAt m place
+HasForm class m _ _ = ⊥
 
--- the items of a member of this class are read as this
-abbrev pub IsMember : (class : List ℕ) → List Item → Member → Type 0
-IsMember class items member = HasForm class items (form_of items) member
+abbrev pub IsMember : (class : List ℕ) → List Token → Member → Type 0
+IsMember class m tree = HasForm class m (form_of m) tree
 
 -- ---- types
 
--- of a class what stands before the word, its name, and what stands behind it
-pub record Parts : Type 0 where
-  pub modifiers : List Piece
+-- the name of a class that is read: behind it stand its braces, or `implements` (JLS 8.1.5)
+abbrev pub name_in : List Piece → Option Token
+name_in (word ∷ (t ∷ ts) ∷ next ∷ ps) =
+    if worded (codes "class") word && (signed (codes "{") next || worded (codes "implements") next) then Some t
+    else None
+name_in _ = None
+
+abbrev pub read_name : List Token → Option Token
+read_name type = name_in (behind_words is_type_modifier (pieces_of type))
+
+-- the annotations among the modifiers
+abbrev pub annotations_before : List Piece → List Piece
+annotations_before [] = []
+annotations_before (p ∷ ps) =
+    if is_annotation p then p ∷ annotations_before ps
+    else (if begins is_type_modifier p then annotations_before ps else [])
+
+-- the tokens are this annotation; its arguments are parentheses with what stands in them, or none (JLS 9.7)
+pub record IsAnnotation (ts : List Token) (n : AnnotationTree) : Type 0 where
+  pub named : IsTrue (has_some n.names)
+  pub spelled : annotation_onto (annotation_of n) [] ≡ plain_all ts
+  pub bracketed : IsTrue (not (has_some n.arguments) || begins_with (codes "(") n.arguments)
+
+-- the tokens in the braces at the end
+abbrev pub body_among : List Item → List Token
+body_among [] = []
+body_among (i ∷ []) = inside i
+body_among (i ∷ j ∷ is) = body_among (j ∷ is)
+
+-- the tokens of a type are read as this class
+pub record IsClass (type : List Token) (c : ClassTree) : Type 0 where
   pub name : Token
-  pub behind : List Piece
-
-abbrev pub with_modifier : Piece → Option Parts → Option Parts
-with_modifier p None = None
-with_modifier p (Some parts) = Some (record parts { modifiers = p ∷ parts.modifiers })
-
-abbrev pub parts_from_name : List Piece → Option Parts
-parts_from_name (Apart (One t) ∷ ps) = Some (record { modifiers = []; name = t; behind = ps })
-parts_from_name _ = None
-
--- the parts of a type that is a class (JLS 8.1)
-abbrev pub class_parts : List Piece → Option Parts
-class_parts [] = None
-class_parts (Annotating is ∷ ps) = with_modifier (Annotating is) (class_parts ps)
-class_parts (Apart i ∷ ps) =
-    if is_type_modifier i then with_modifier (Apart i) (class_parts ps)
-    else (if is_word (codes "class") i then parts_from_name ps else None)
-
--- whether its braces stand behind the name, or `implements`
-abbrev pub may_be_read : List Piece → Bool
-may_be_read [] = false
-may_be_read (p ∷ ps) = is_apart (is_group (codes "{")) p || is_apart (is_word (codes "implements")) p
-
-abbrev pub is_read : List Item → Bool
-is_read type = elim (class_parts (pieces_of type)) [ None ↦ false | (Some parts) ↦ may_be_read parts.behind ]
-
--- the items in the braces at the end
-abbrev pub body_of : List Item → List Item
-body_of (Group o inside c ∷ []) = list_of inside
-body_of (i ∷ is) = body_of is
-body_of [] = []
-
-abbrev pub annotations_among : List Piece → List (List Item)
-annotations_among [] = []
-annotations_among (Apart i ∷ ps) = annotations_among ps
-annotations_among (Annotating is ∷ ps) = is ∷ annotations_among ps
-
--- the items are this annotation
-abbrev pub IsAnnotation : List Item → Annotation → Type 0
-IsAnnotation items n = FormedAnnotation n × (annotation_onto n [] ≡ plain_all (tokens_of items))
-
--- the items of a type are read as this class
-pub record IsClass (type : List Item) (c : Class) : Type 0 where
-  pub parts : Parts
-  pub is : class_parts (pieces_of type) ≡ Some parts
-  pub named : c.name ≡ parts.name.text
-  pub placed : c.place ≡ parts.name.place
-  pub annotated : AllZip IsAnnotation (annotations_among parts.modifiers) c.annotations
-  pub members : AllZip (IsMember c.name) (members_of (body_of type)) c.members
+  pub is : read_name type ≡ Some name
+  pub named : c.name ≡ name.text
+  pub placed : c.place ≡ name.place
+  pub annotated : AllZip IsAnnotation (annotations_before (pieces_of type)) c.annotations
+  pub members : AllZip (IsMember c.name) (members_of (body_among (items_of type))) c.members
 
 -- ---- files
 
--- the declarations of a file with these items, or the items from the first on that does not fit
-abbrev pub declared : Items → Result (List (List Item)) (List Item)
-declared all = declarations (Whole First) (list_of all)
+abbrev pub is_read : List Token → Bool
+is_read type = is_some (read_name type)
 
--- the tokens of a file are read as this; a skipped type has the place of its first token
-pub record IsUnit (ts : List Token) (unit : SourceUnit) : Type 0 where
-  pub items : Items
-  pub bracketed : AreItems ts items
+-- the tokens of a file are read as this
+pub record IsUnit (ts : List Token) (u : unit.Unit) : Type 0 where
+  pub balanced : unbalanced [] ts ≡ None
+  pub flat : too_deep 0 ts ≡ None
   pub all : List (List Item)
-  pub fit : declared items ≡ Ok all
-  pub classes : AllZip IsClass (filter is_read (types_among all)) unit.classes
-  pub skipped : AllZip (λ type place. first_place place type ≡ place) (filter (λ type. not (is_read type)) (types_among
-      all)) unit.skipped
+  pub fit : declarations (Whole true true) (items_of ts) ≡ Ok all
+  pub classes : AllZip IsClass (filter is_read (types_among all)) u.classes
+  pub skipped : AllZip BeginsAt (filter (λ type. not (is_read type)) (types_among all)) u.skipped
 
 -- the fault of a file that ends at this place: the first bracket that does not match, else the first that stands too
--- deep, else the first token that does not fit
-abbrev pub IsFault : List Token → (end : Place) → UnitFault → Type 0
+-- deep, else the first token that does not fit; nothing is said where memory was refused
+abbrev pub IsFault : List Token → (end : Place) → ParseFault → Type 0
 IsFault ts end (Unbalanced place) = unbalanced [] ts ≡ Some place
-IsFault ts end (TooDeep place) = (unbalanced [] ts ≡ None) × (too_deep [] ts ≡ Some place)
+IsFault ts end (TooDeep place) = (unbalanced [] ts ≡ None) × (too_deep 0 ts ≡ Some place)
 IsFault ts end (NotAUnit place) =
-    (items : Items) × (rest : List Item) × AreItems ts items × (declared items ≡ Err rest)
-    × (first_place end rest ≡ place)
+    (unbalanced [] ts ≡ None) × (too_deep 0 ts ≡ None) × (rest : List Item)
+    × (declarations (Whole true true) (items_of ts) ≡ Err rest) × (first_place end (joined rest) ≡ place)
+IsFault ts end Memory = Unit {0}

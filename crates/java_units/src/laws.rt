@@ -1,17 +1,22 @@
 //! Laws of the definitions, as functions with nothing to do.
 mod annotations;
+mod answers;
 mod brackets;
 mod classes;
 mod cuts;
 mod declarations;
 mod heads;
 mod members;
+mod trees;
 
 pub use annotations::pieces_of_lines;
+pub use answers::{
+    first_faults, heads_of_constructors, unknown_results, variable_with_a_tree, whole_file,
+};
 pub use brackets::{deep_brackets, unbalanced_brackets};
-pub use classes::{read_classes, skipped_types};
+pub use classes::{annotations_of_classes, read_classes, skipped_types};
 pub use cuts::{
-    members_are_cut_once, one_division_of_fields, one_tree_of_brackets, types_are_the_declarations,
+    items_are_the_tokens, members_are_cut_once, one_division_of_fields, types_are_the_declarations,
 };
 pub use declarations::{
     types_of_units, unfit_annotations, unfit_ends, unfit_orders, unfit_tokens, units,
@@ -20,4 +25,8 @@ pub use heads::{parameters, static_heads, synchronized_members};
 pub use members::{
     blocks, endless_members, ends_of_members, fields, methods, methods_without_bodies,
     types_among_members,
+};
+pub use trees::{
+    methods_of_classes, results_of_heads, texts_between_commas, texts_of_no_variable,
+    words_of_fields,
 };

@@ -2,3 +2,6 @@
 #![tactic(auto)]
 
 pub mod laws;
+mod unit;
+
+pub use unit::{ClassTree, HeadResult, Member, OutsideHead, ParseFault, Unit};

@@ -1,9 +1,7 @@
-pub mod Taking
-pub mod TypeReading
-pub mod Leads
-pub mod ExpressionReading
-pub mod Readers
-pub mod Lookahead
-pub mod StatementReading
-pub mod MethodReading
-pub mod JavaReaders
+pub mod StatementLeadView
+pub mod HeadReading
+pub mod HeadView
+pub mod AwaitedBrackets
+pub mod ModifierReading
+pub mod LedPlaces
+pub mod PlacedMethods

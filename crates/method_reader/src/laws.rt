@@ -1,16 +1,13 @@
-//! Laws of the definitions, as functions with nothing to do.
-mod found;
-mod one_tree;
-mod sound;
+//! Laws of methods that tokens spell.
+ghost use Rattle.std.specs.Prelude.{◌≡◌, List};
+ghost use Rattle.java_lexer.specs.declared.token.Token.{Token};
+ghost use Rattle.java_tree.specs.declared.methods.MethodTree.{MethodTree};
+ghost use Rattle.java_tree.specs.MethodPlaces.{method_marks};
+ghost use Rattle.java_tree.specs.View.{method_of};
+ghost use Rattle.method_reader.specs.PlacedMethods.{IsPlacedMethod, Agree};
 
-pub use found::{
-    arrays_are_read, expressions_are_read, inits_are_read, methods_are_read, statements_are_read,
-    types_are_read, variables_are_read,
-};
-pub use one_tree::{
-    one_array, one_expression, one_init, one_list_of_variables, one_method, one_statement, one_type,
-};
-pub use sound::{
-    read_arrays, read_expressions, read_inits, read_methods, read_statements, read_types,
-    read_variables,
-};
+/// Two methods that the same tokens spell are equal, and so are the places that they keep.
+pub fn one_placed_method()
+    ensures { (tokens : List Token) (a b : MethodTree) → IsPlacedMethod tokens a → IsPlacedMethod tokens b
+        → (method_of a ≡ method_of b) × Agree (method_marks a) (method_marks b) }
+{}

@@ -2,6 +2,7 @@
 #![tactic(auto)]
 
 pub mod laws;
-mod spellings;
+mod reading;
 
-pub use spellings::spell_the_same;
+pub use reading::read_method;
+pub use type_reader::ReadError;

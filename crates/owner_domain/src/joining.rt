@@ -41,7 +41,13 @@ fn join_values(
     Ok(values)
 }
 
-fn join_value(alloc: Global, a: &Value, b: &Value, names: &mut Vec<Path>) -> Result<Value, Memory>
+/// The value where two meet. Puts the paths that are lost there at the end: those that two different values name.
+pub fn join_value(
+    alloc: Global,
+    a: &Value,
+    b: &Value,
+    names: &mut Vec<Path>,
+) -> Result<Value, Memory>
     ensures value { IfOk result (λ made. made ≡ joined a.now b.now) }
     ensures lost { OnOk result (names.new.items ≡ names.old.items ++ lost a.now b.now) }
 {

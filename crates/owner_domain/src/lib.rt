@@ -8,5 +8,5 @@ mod joining;
 pub mod laws;
 mod value;
 
-pub use joining::join;
+pub use joining::{join, join_value};
 pub use value::{State, Value};

@@ -1,7 +1,7 @@
 //! Files whose brackets do not match, or stand too deep (JLS 3.11).
 ghost use Rattle.std.specs.Prelude.{◌≡◌, [], ◌∷◌, ◌++◌, codes, None, Some};
 ghost use Rattle.java_tree.specs.Words.{sign};
-ghost use Rattle.java_units.specs.BracketTrees.{unbalanced, too_deep};
+ghost use Rattle.java_units.specs.Brackets.{unbalanced, too_deep};
 ghost use Rattle.java_units.specs.UnitExamples.{at, line, placed_all, signs};
 
 /// The first closing bracket that does not match, or the innermost open one.
@@ -16,11 +16,11 @@ pub fn unbalanced_brackets()
 
 /// The 201st bracket of those open.
 pub fn deep_brackets()
-    ensures flat { too_deep [] (line (codes "class A { }")) ≡ None }
-    ensures deep { too_deep [] (placed_all 1 (signs 201 (codes "{"))) ≡ Some (at 201) }
-    ensures closed { too_deep [] (placed_all 1 (signs 200 (codes "[") ++ sign (codes "]") ∷ sign (codes "(") ∷ []))
+    ensures flat { too_deep 0 (line (codes "class A { }")) ≡ None }
+    ensures deep { too_deep 0 (placed_all 1 (signs 201 (codes "{"))) ≡ Some (at 201) }
+    ensures closed { too_deep 0 (placed_all 1 (signs 200 (codes "[") ++ sign (codes "]") ∷ sign (codes "(") ∷ []))
         ≡ None }
-    ensures reopened { too_deep []
+    ensures reopened { too_deep 0
         (placed_all 1 (signs 200 (codes "[") ++ sign (codes "]") ∷ sign (codes "(") ∷ sign (codes "{") ∷ []))
         ≡ Some (at 203) }
 {}

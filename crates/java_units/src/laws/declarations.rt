@@ -1,11 +1,11 @@
 //! Files that are units, and the first token of others that does not fit (JLS 7.3).
-ghost use Rattle.std.specs.Prelude.{◌≡◌, [], ◌∷◌, codes, None, Some, Ok};
-ghost use Rattle.java_units.specs.Declarations.{declarations, Whole, First};
+ghost use Rattle.std.specs.Prelude.{◌≡◌, [], ◌∷◌, codes, None, Some, Ok, true};
+ghost use Rattle.java_units.specs.Declarations.{declarations, Whole};
 ghost use Rattle.java_units.specs.UnitExamples.{at, unfit, types};
 
 /// Files that are units: a package, imports and types, with `;` before, between and behind them.
 pub fn units()
-    ensures empty { declarations (Whole First) [] ≡ Ok [] }
+    ensures empty { declarations (Whole true true) [] ≡ Ok [] }
     ensures nothing { unfit (codes "; ;") ≡ None }
     ensures package { unfit (codes "; @ N ( { ; } ) package a . b ; ; import c . * ; ; import static d ; ;") ≡ None }
     ensures types { unfit (codes "import a ; ; @ a . B public class A { int x ; } ; enum C { } ;") ≡ None }
@@ -46,6 +46,8 @@ pub fn unfit_orders()
     ensures package_with_word { unfit (codes "public @ N package a ;") ≡ Some (at 12) }
     ensures late_import { unfit (codes "class A { } ; import b ;") ≡ Some (at 15) }
     ensures annotated_import { unfit (codes "@ A import b ;") ≡ Some (at 5) }
+    ensures noted_import { unfit (codes "@ A ( ) import b ;") ≡ Some (at 9) }
+    ensures modified_import { unfit (codes "public import b ;") ≡ Some (at 8) }
 {}
 
 /// What does not go on with an annotation.

@@ -8,6 +8,8 @@ ghost use Rattle.java_units.specs.UnitExamples.{placed, members, form, method, M
 pub fn ends_of_members()
     ensures each { members (codes "int x ; void f ( ) { ; } ; int y = 1 ; ;")
         ≡ codes "int x ;" ∷ codes "void f ( ) { ; }" ∷ codes "int y = 1 ;" ∷ [] }
+    ensures initialised { members (codes "int x = 1 ; void f ( ) { } int z ;")
+        ≡ codes "int x = 1 ;" ∷ codes "void f ( ) { }" ∷ codes "int z ;" ∷ [] }
     ensures none { members (codes "; ;") ≡ [] }
     ensures equals { members (codes "int x = { 1 } , y { } ; int z ;")
         ≡ codes "int x = { 1 } , y { } ;" ∷ codes "int z ;" ∷ [] }

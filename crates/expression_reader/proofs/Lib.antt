@@ -1,0 +1,3 @@
+pub mod ClassFacts
+pub mod ExpressionLoops
+pub mod CastChoice

@@ -1,0 +1,5 @@
+pub mod LeadView
+pub mod TurnView
+pub mod GoingOn
+pub mod ClassFollows
+pub mod FirstParenthesis

@@ -1,0 +1,17 @@
+//! Reading trees from tokens, from left to right.
+mod arguments;
+mod class_names;
+mod creations;
+pub mod expressions;
+mod first_operand;
+pub mod initialisers;
+pub mod leads;
+mod levels;
+mod lists;
+pub mod nested;
+mod operands;
+mod turned;
+mod turns;
+mod whole;
+
+pub use whole::read_initialiser;

@@ -1,0 +1,230 @@
+//! Larger expressions, made of what was read before and behind an operator, a point or a bracket.
+ghost use Rattle.std.specs.Prelude.{◌≡◌, ◌<◌, ◌≤◌, ◌^◌, suc, ◌∷◌, length, map, IfOk};
+ghost use Rattle.java_tree.specs.Trees.{Assign, Conditional, Binary, Postfix, Field, Index, CallOn, pack_exprs};
+ghost use Rattle.java_tree.specs.KeptPlaces.{kept, each_puts, expr_places};
+ghost use Rattle.java_tree.specs.View.{expr_of};
+ghost use Rattle.method_grammar.specs.ExpressionReading.{grown, instance_with};
+ghost use Rattle.type_reader.specs.Tokens.{spelled};
+ghost use Rattle.expression_reader.specs.TurnView.{turn_of, places_put, IsSmall, IsWithin};
+ghost use Rattle.type_reader.specs.ReadAnswer.{Gives};
+
+use super::nested::{NestedExpression, NestedExpressions};
+use super::turned::Turned;
+use java_lexer::Token;
+use java_tree::{Expression, Ident};
+use racer_base::Text;
+use std::alloc::Global;
+use type_reader::reading::error::ReadError;
+use type_reader::reading::made_types::read_bare_type;
+
+/// A larger expression, if it is not nested too deep.
+fn grown<'a>(
+    limit: u32,
+    tree: NestedExpression,
+    tokens: &'a [Token],
+) -> Result<Turned<'a>, ReadError>
+    requires room { suc (suc limit) < 2 ^ 32 }
+    ensures gives { Gives turn_of result (grown limit (expr_of tree.tree) (map spelled tokens.now)) }
+    ensures places { IfOk result (λ x. places_put x (kept tokens.now) ≡ expr_places tree.tree (kept tokens.now)) }
+    ensures small { IfOk result (λ x. IsSmall x (suc limit)) }
+    ensures shorter { IfOk result (λ x. IsWithin x (length tokens.now)) }
+{
+    if tree.nesting <= limit + 1 {
+        Ok(Turned::Next(tree, tokens))
+    } else {
+        Err(ReadError::Unformed)
+    }
+}
+
+/// JLS 15.26.
+pub fn assigned<'a>(
+    alloc: Global,
+    limit: u32,
+    left: NestedExpression,
+    operator: &str,
+    right: NestedExpression,
+    tokens: &'a [Token],
+) -> Result<Turned<'a>, ReadError>
+    requires room { suc (suc limit) < 2 ^ 32 }
+    requires left { left.nesting ≤ suc limit }
+    requires right { right.nesting ≤ limit }
+    ensures gives { Gives turn_of result (grown limit (Assign (expr_of left.tree) operator.now (expr_of right.tree))
+        (map spelled tokens.now)) }
+    ensures places { IfOk result (λ x. places_put x (kept tokens.now) ≡ expr_places left.tree (expr_places right.tree
+        (kept tokens.now))) }
+    ensures small { IfOk result (λ x. IsSmall x (suc limit)) }
+    ensures shorter { IfOk result (λ x. IsWithin x (length tokens.now)) }
+{
+    let nesting = 1 + left.nesting.max(right.nesting);
+    let text = Text::from_str(alloc, operator)?;
+    let left = Box::new(alloc, left.tree)?;
+    let tree = Expression::Assign(left, text, Box::new(alloc, right.tree)?);
+    grown(limit, NestedExpression { tree, nesting }, tokens)
+}
+
+/// JLS 15.25.
+pub fn chosen<'a>(
+    alloc: Global,
+    limit: u32,
+    condition: NestedExpression,
+    then: NestedExpression,
+    other: NestedExpression,
+    tokens: &'a [Token],
+) -> Result<Turned<'a>, ReadError>
+    requires room { suc (suc limit) < 2 ^ 32 }
+    requires condition { condition.nesting ≤ suc limit }
+    requires then { then.nesting ≤ limit }
+    requires other { other.nesting ≤ limit }
+    ensures gives { Gives turn_of result (grown limit (Conditional (expr_of condition.tree) (expr_of then.tree)
+        (expr_of other.tree)) (map spelled tokens.now)) }
+    ensures places { IfOk result (λ x. places_put x (kept tokens.now) ≡ expr_places condition.tree
+        (expr_places then.tree (expr_places other.tree (kept tokens.now)))) }
+    ensures small { IfOk result (λ x. IsSmall x (suc limit)) }
+    ensures shorter { IfOk result (λ x. IsWithin x (length tokens.now)) }
+{
+    let nesting = 1 + condition.nesting.max(then.nesting.max(other.nesting));
+    let condition = Box::new(alloc, condition.tree)?;
+    let then = Box::new(alloc, then.tree)?;
+    let tree = Expression::Conditional(condition, then, Box::new(alloc, other.tree)?);
+    grown(limit, NestedExpression { tree, nesting }, tokens)
+}
+
+/// JLS 15.17 to 15.24.
+pub fn joined<'a>(
+    alloc: Global,
+    limit: u32,
+    left: NestedExpression,
+    operator: &str,
+    right: NestedExpression,
+    tokens: &'a [Token],
+) -> Result<Turned<'a>, ReadError>
+    requires room { suc (suc limit) < 2 ^ 32 }
+    requires left { left.nesting ≤ suc limit }
+    requires right { right.nesting ≤ limit }
+    ensures gives { Gives turn_of result (grown limit (Binary (expr_of left.tree) operator.now (expr_of right.tree))
+        (map spelled tokens.now)) }
+    ensures places { IfOk result (λ x. places_put x (kept tokens.now) ≡ expr_places left.tree (expr_places right.tree
+        (kept tokens.now))) }
+    ensures small { IfOk result (λ x. IsSmall x (suc limit)) }
+    ensures shorter { IfOk result (λ x. IsWithin x (length tokens.now)) }
+{
+    let nesting = 1 + left.nesting.max(right.nesting);
+    let text = Text::from_str(alloc, operator)?;
+    let left = Box::new(alloc, left.tree)?;
+    let tree = Expression::Binary(left, text, Box::new(alloc, right.tree)?);
+    grown(limit, NestedExpression { tree, nesting }, tokens)
+}
+
+/// The type behind an `instanceof`, and the expression that it makes (JLS 15.20.2).
+#[tactic(auto, unfolding(method_grammar::specs::ExpressionReading::instance_with))]
+pub fn tested<'a>(
+    alloc: Global,
+    limit: u32,
+    left: NestedExpression,
+    tokens: &'a [Token],
+) -> Result<Turned<'a>, ReadError>
+    requires few { length tokens.now < 2 ^ 32 }
+    requires room { suc (suc limit) < 2 ^ 32 }
+    requires left { left.nesting ≤ suc limit }
+    ensures gives { Gives turn_of result (instance_with limit (expr_of left.tree) (map spelled tokens.now)) }
+    ensures places { IfOk result (λ x. places_put x (kept tokens.now) ≡ expr_places left.tree (kept tokens.now)) }
+    ensures small { IfOk result (λ x. IsSmall x (suc limit)) }
+    ensures shorter { IfOk result (λ x. IsWithin x (length tokens.now)) }
+{
+    let (kind, rest) = read_bare_type(alloc, tokens)?;
+    let nesting = 1 + left.nesting.max(kind.nesting);
+    let tree = Expression::InstanceOf(Box::new(alloc, left.tree)?, kind.tree);
+    grown(limit, NestedExpression { tree, nesting }, rest)
+}
+
+/// JLS 15.14.
+pub fn stepped<'a>(
+    alloc: Global,
+    limit: u32,
+    left: NestedExpression,
+    operator: &str,
+    tokens: &'a [Token],
+) -> Result<Turned<'a>, ReadError>
+    requires room { suc (suc limit) < 2 ^ 32 }
+    requires left { left.nesting ≤ suc limit }
+    ensures gives { Gives turn_of result (grown limit (Postfix (expr_of left.tree) operator.now)
+        (map spelled tokens.now)) }
+    ensures places { IfOk result (λ x. places_put x (kept tokens.now) ≡ expr_places left.tree (kept tokens.now)) }
+    ensures small { IfOk result (λ x. IsSmall x (suc limit)) }
+    ensures shorter { IfOk result (λ x. IsWithin x (length tokens.now)) }
+{
+    let nesting = left.nesting + 1;
+    let text = Text::from_str(alloc, operator)?;
+    let tree = Expression::Postfix(Box::new(alloc, left.tree)?, text);
+    grown(limit, NestedExpression { tree, nesting }, tokens)
+}
+
+/// JLS 15.11.
+pub fn selected<'a>(
+    alloc: Global,
+    limit: u32,
+    left: NestedExpression,
+    name: Ident,
+    tokens: &'a [Token],
+) -> Result<Turned<'a>, ReadError>
+    requires room { suc (suc limit) < 2 ^ 32 }
+    requires left { left.nesting ≤ suc limit }
+    ensures gives { Gives turn_of result (grown limit (Field (expr_of left.tree) name.text) (map spelled tokens.now)) }
+    ensures places { IfOk result (λ x. places_put x (kept tokens.now) ≡ expr_places left.tree (name.place
+        ∷ kept tokens.now)) }
+    ensures small { IfOk result (λ x. IsSmall x (suc limit)) }
+    ensures shorter { IfOk result (λ x. IsWithin x (length tokens.now)) }
+{
+    let nesting = left.nesting + 1;
+    let tree = Expression::Field(Box::new(alloc, left.tree)?, name);
+    grown(limit, NestedExpression { tree, nesting }, tokens)
+}
+
+/// JLS 15.12.
+pub fn called<'a>(
+    alloc: Global,
+    limit: u32,
+    left: NestedExpression,
+    name: Ident,
+    all: NestedExpressions,
+    tokens: &'a [Token],
+) -> Result<Turned<'a>, ReadError>
+    requires room { suc (suc limit) < 2 ^ 32 }
+    requires left { left.nesting ≤ suc limit }
+    requires all { all.nesting ≤ limit }
+    ensures gives { Gives turn_of result (grown limit (CallOn (expr_of left.tree) name.text
+        (pack_exprs (map expr_of all.trees.items))) (map spelled tokens.now)) }
+    ensures places { IfOk result (λ x. places_put x (kept tokens.now) ≡ expr_places left.tree (name.place
+        ∷ each_puts (map expr_places all.trees.items) (kept tokens.now))) }
+    ensures small { IfOk result (λ x. IsSmall x (suc limit)) }
+    ensures shorter { IfOk result (λ x. IsWithin x (length tokens.now)) }
+{
+    let nesting = 1 + left.nesting.max(all.nesting);
+    let left = Some(Box::new(alloc, left.tree)?);
+    let tree = Expression::Call(left, name, all.trees);
+    grown(limit, NestedExpression { tree, nesting }, tokens)
+}
+
+/// JLS 15.10.3.
+pub fn indexed<'a>(
+    alloc: Global,
+    limit: u32,
+    left: NestedExpression,
+    index: NestedExpression,
+    tokens: &'a [Token],
+) -> Result<Turned<'a>, ReadError>
+    requires room { suc (suc limit) < 2 ^ 32 }
+    requires left { left.nesting ≤ suc limit }
+    requires index { index.nesting ≤ limit }
+    ensures gives { Gives turn_of result (grown limit (Index (expr_of left.tree) (expr_of index.tree))
+        (map spelled tokens.now)) }
+    ensures places { IfOk result (λ x. places_put x (kept tokens.now) ≡ expr_places left.tree (expr_places index.tree
+        (kept tokens.now))) }
+    ensures small { IfOk result (λ x. IsSmall x (suc limit)) }
+    ensures shorter { IfOk result (λ x. IsWithin x (length tokens.now)) }
+{
+    let nesting = 1 + left.nesting.max(index.nesting);
+    let left = Box::new(alloc, left.tree)?;
+    let tree = Expression::Index(left, Box::new(alloc, index.tree)?);
+    grown(limit, NestedExpression { tree, nesting }, tokens)
+}

@@ -1,0 +1,7 @@
+mod Adding
+mod FirstOnes
+mod Repeats
+mod LastNames
+mod PartKinds
+mod Variables
+mod ByClass

@@ -1,0 +1,196 @@
+-- A contract of a public call rests on this: what the units of a folder declare, as lists in source order: classes,
+-- fields by class and declarator, methods and constructors (JLS 8.1, 8.3, 8.4, 8.8).
+use Rattle.std.specs.Prelude.{ℕ, suc, Bool, true, false, not, ◌&&◌, ◌||◌, List, [], ◌∷◌, ◌++◌, codes, map}
+use Rattle.std.specs.Prelude.{replicate, if◌then◌else◌}
+use Rattle.std.specs.List.{flat_map, list_any}
+use Rattle.racer_base.specs.declared.ids.ClassId.{ClassId}
+use Rattle.racer_base.specs.declared.ids.Kind.{Kind}
+use Rattle.racer_base.specs.declared.ids.Kind.TheVariants as kind
+use Rattle.java_tree.specs.declared.methods.FieldTree.{FieldTree}
+use Rattle.java_tree.specs.declared.methods.FieldVariable.{FieldVariable}
+use Rattle.java_tree.specs.declared.methods.MethodTree.{MethodTree}
+use Rattle.java_tree.specs.declared.methods.ParameterTree.{ParameterTree}
+use Rattle.java_tree.specs.declared.methods.ResultTree.{ResultTree}
+use Rattle.java_tree.specs.declared.methods.ResultTree.TheVariants as result
+use Rattle.java_tree.specs.Spelling.{spelling}
+use Rattle.java_tree.specs.View.{ty_of, method_of}
+use Rattle.java_units.specs.declared.unit.Unit.{Unit}
+use Rattle.java_units.specs.declared.unit.ClassTree.{ClassTree}
+use Rattle.java_units.specs.declared.unit.Member.{Member}
+use Rattle.java_units.specs.declared.unit.Member.TheVariants.{Field, Method, Outside, Skipped}
+use Rattle.java_units.specs.declared.unit.OutsideHead.{OutsideHead}
+use Rattle.java_units.specs.declared.unit.HeadResult.{HeadResult}
+use Rattle.java_units.specs.declared.unit.HeadResult.TheVariants as head
+use Rattle.java_resolver.specs.declared.infos.ClassInfo.{ClassInfo}
+use Rattle.java_resolver.specs.declared.infos.FieldInfo.{FieldInfo}
+use Rattle.java_resolver.specs.declared.infos.MethodInfo.{MethodInfo}
+use Rattle.java_resolver.specs.Words.{is_annotation_named, has_word, is_annotated, is_synchronized}
+use Rattle.java_resolver.specs.TypeKinds.{kind_of}
+
+-- ---- classes
+
+-- the classes of all units
+abbrev pub trees_of : List Unit → List ClassTree
+trees_of = flat_map (λ (u : Unit). u.classes)
+
+-- whether `synchronized` stands among the tokens of a method or constructor
+abbrev pub has_synchronized : Member → Bool
+has_synchronized (Method m) = list_any is_synchronized (spelling (method_of m))
+has_synchronized (Outside h) = h.has_synchronized
+has_synchronized (Field f) = false
+has_synchronized (Skipped place) = false
+
+abbrev pub has_annotation : List ℕ → ClassTree → Bool
+has_annotation name c = list_any (is_annotation_named name) c.annotations
+
+-- whether a class is analysed for races: it is called safe for threads, or takes a lock, and is not called unsafe
+abbrev pub is_checked : ClassTree → Bool
+is_checked c =
+    (has_annotation (codes "ThreadSafe") c || list_any has_synchronized c.members)
+    && not (has_annotation (codes "NotThreadSafe") c)
+
+abbrev pub class_info : ClassTree → ClassInfo
+class_info c = record { name = c.name; place = c.place; checked = is_checked c }
+
+abbrev pub classes_of : List Unit → List ClassInfo
+classes_of units = map class_info (trees_of units)
+
+abbrev pub class_names : List ClassInfo → List (List ℕ)
+class_names classes = map (λ (c : ClassInfo). c.name) classes
+
+abbrev pub names_of : List Unit → List (List ℕ)
+names_of units = class_names (classes_of units)
+
+-- what each class has, given its number, from this one on
+abbrev pub by_class : {A : Type 0} → (ClassId → ClassTree → List A) → ℕ → List ClassTree → List A
+by_class f n [] = []
+by_class f n (c ∷ cs) = f (record { 0 = n }) c ++ by_class f (suc n) cs
+
+-- ---- fields
+
+abbrev pub field_info : List (List ℕ) → ClassId → FieldTree → FieldVariable → FieldInfo
+field_info classes c f v =
+    record {
+      class = c;
+      name = v.name.text;
+      place = v.name.place;
+      kind = kind_of classes (ty_of f.kind);
+      is_static = has_word (codes "static") f.modifiers;
+      is_final = has_word (codes "final") f.modifiers;
+      is_volatile = has_word (codes "volatile") f.modifiers;
+    }
+
+abbrev pub member_fields : List (List ℕ) → ClassId → Member → List FieldInfo
+member_fields classes c (Field f) = map (field_info classes c f) f.variables
+member_fields classes c _ = []
+
+abbrev pub class_fields : List (List ℕ) → ClassId → ClassTree → List FieldInfo
+class_fields classes c tree = flat_map (member_fields classes c) tree.members
+
+abbrev pub fields_of : List Unit → List FieldInfo
+fields_of units = by_class (class_fields (names_of units)) 0 (trees_of units)
+
+-- ---- methods
+
+abbrev pub constructor_name : List ℕ
+constructor_name = codes "<new>"
+
+abbrev pub result_kind : List (List ℕ) → ClassId → ResultTree → Kind
+result_kind classes c result.Constructor = kind.Declared c
+result_kind classes c result.Void = kind.Plain
+result_kind classes c (result.Of t) = kind_of classes (ty_of t)
+
+abbrev pub is_constructor : ResultTree → Bool
+is_constructor result.Constructor = true
+is_constructor _ = false
+
+abbrev pub method_name : MethodTree → List ℕ
+method_name m = if is_constructor m.result then constructor_name else m.name.text
+
+abbrev pub kinds_of : List (List ℕ) → List ParameterTree → List Kind
+kinds_of classes parameters = map (λ (p : ParameterTree). kind_of classes (ty_of p.kind)) parameters
+
+-- a constructor is an instance method whatever its modifiers
+abbrev pub method_info : List (List ℕ) → ClassId → MethodTree → MethodInfo
+method_info classes c m =
+    record {
+      class = c;
+      name = method_name m;
+      place = m.name.place;
+      parameters = kinds_of classes m.parameters;
+      result = result_kind classes c m.result;
+      is_static = has_word (codes "static") m.modifiers && not (is_constructor m.result);
+      is_private = has_word (codes "private") m.modifiers;
+      is_constructor = is_constructor m.result;
+      main = is_annotated (codes "MainThread") m.modifiers || is_annotated (codes "UiThread") m.modifiers;
+      not_thread_safe = is_annotated (codes "NotThreadSafe") m.modifiers;
+    }
+
+abbrev pub head_kind : List (List ℕ) → ClassId → HeadResult → Kind
+head_kind classes c head.Void = kind.Plain
+head_kind classes c (head.Formed t) = kind_of classes (ty_of t)
+head_kind classes c head.Constructor = kind.Declared c
+head_kind classes c head.Unknown = kind.Other
+
+abbrev pub is_constructor_head : HeadResult → Bool
+is_constructor_head head.Constructor = true
+is_constructor_head _ = false
+
+-- of a method that no tree spells, the kinds of its parameters are not known
+abbrev pub head_info : List (List ℕ) → ClassId → OutsideHead → MethodInfo
+head_info classes c h =
+    record {
+      class = c;
+      name = h.name;
+      place = h.place;
+      parameters = replicate h.parameters kind.Other;
+      result = head_kind classes c h.result;
+      is_static = h.is_static && not (is_constructor_head h.result);
+      is_private = false;
+      is_constructor = is_constructor_head h.result;
+      main = false;
+      not_thread_safe = false;
+    }
+
+-- the constructor of a class that declares none, at the class's name (JLS 8.8.9)
+abbrev pub default_constructor : ClassId → ClassTree → MethodInfo
+default_constructor c tree =
+    record {
+      class = c;
+      name = constructor_name;
+      place = tree.place;
+      parameters = [];
+      result = kind.Declared c;
+      is_static = false;
+      is_private = false;
+      is_constructor = true;
+      main = false;
+      not_thread_safe = false;
+    }
+
+abbrev pub member_methods : List (List ℕ) → ClassId → Member → List MethodInfo
+member_methods classes c (Method m) = method_info classes c m ∷ []
+member_methods classes c (Outside h) = head_info classes c h ∷ []
+member_methods classes c (Field f) = []
+member_methods classes c (Skipped place) = []
+
+-- the methods that a class declares
+abbrev pub declared_methods : List (List ℕ) → ClassId → ClassTree → List MethodInfo
+declared_methods classes c tree = flat_map (member_methods classes c) tree.members
+
+abbrev pub member_is_constructor : Member → Bool
+member_is_constructor (Method m) = is_constructor m.result
+member_is_constructor (Outside h) = is_constructor_head h.result
+member_is_constructor (Field f) = false
+member_is_constructor (Skipped place) = false
+
+-- the constructor that a class has without declaring it
+abbrev pub default_constructors : ClassId → ClassTree → List MethodInfo
+default_constructors c tree =
+    if list_any member_is_constructor tree.members then [] else default_constructor c tree ∷ []
+
+abbrev pub class_methods : List (List ℕ) → ClassId → ClassTree → List MethodInfo
+class_methods classes c tree = default_constructors c tree ++ declared_methods classes c tree
+
+abbrev pub methods_of : List Unit → List MethodInfo
+methods_of units = by_class (class_methods (names_of units)) 0 (trees_of units)

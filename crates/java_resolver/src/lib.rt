@@ -1,0 +1,22 @@
+//! The names of a folder: its classes, their fields and methods, and what a name means at a place (JLS 6).
+//!
+//! `specs/Declarations.antt` says what the units of a folder declare, as lists in source order;
+//! `specs/Meanings.antt` what a simple name means, and which method is called; `specs/Refusals.antt` what is refused.
+#![tactic(auto)]
+
+mod classes;
+mod fault;
+mod fields;
+mod infos;
+mod kinds;
+pub mod laws;
+mod methods;
+mod numbers;
+mod scope;
+mod table;
+mod words;
+
+pub use fault::ResolveFault;
+pub use infos::{ClassInfo, FieldInfo, MethodInfo};
+pub use scope::{Meaning, Scope, ScopeVariable};
+pub use table::{Table, resolve};

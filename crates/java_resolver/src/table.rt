@@ -1,0 +1,109 @@
+//! The table of names.
+ghost use Rattle.std.specs.Prelude.{◌≡◌, bytes_eq, IfOk, IfErr, None, option_copied};
+ghost use Rattle.java_resolver.specs.Declarations.{classes_of, fields_of, methods_of};
+ghost use Rattle.java_resolver.specs.Firsts.{last_that};
+ghost use Rattle.java_resolver.specs.Refusals.{refusal};
+ghost use Rattle.java_resolver.specs.Faults.{IsFault};
+ghost use Rattle.java_resolver.specs.Table as table;
+
+use crate::classes::{Classes, class_trees, classes_of};
+use crate::fault::ResolveFault;
+use crate::fields::{Fields, fields_of};
+use crate::infos::{ClassInfo, FieldInfo, MethodInfo};
+use crate::methods::{Methods, methods_of};
+use crate::scope::{Meaning, Scope, ScopeVariable};
+use java_units::Unit;
+use racer_base::{ClassId, MethodId};
+use std::alloc::Global;
+
+/// The classes, fields and methods of a folder, each found by its name.
+#[derive(Drop)]
+pub struct Table {
+    classes: Classes,
+    fields: Fields,
+    methods: Methods,
+}
+
+impl Table {
+    ghost use Rattle.std.specs.Prelude.{◌≡◌};
+    ghost use Rattle.java_resolver.specs.Meanings.{meaning, found};
+    ghost use Rattle.java_resolver.specs.Table.{classes, fields, methods};
+
+    /// The classes, in source order.
+    pub fn classes(&self) -> &[ClassInfo]
+        ensures { result.now ≡ classes self.now }
+    {
+        self.classes.as_slice()
+    }
+
+    /// The fields of all classes, in source order.
+    pub fn fields(&self) -> &[FieldInfo]
+        ensures { result.now ≡ fields self.now }
+    {
+        self.fields.as_slice()
+    }
+
+    /// The methods of all classes, in source order, with a constructor `<new>` for each class that declares none.
+    pub fn methods(&self) -> &[MethodInfo]
+        ensures { result.now ≡ methods self.now }
+    {
+        self.methods.as_slice()
+    }
+
+    /// What a simple name means at a place (JLS 6.4.1, 6.5).
+    pub fn meaning(&self, scope: &Scope, name: &str) -> Meaning
+        ensures { result ≡ meaning (classes self.now) (fields self.now) scope.now name.now }
+    {
+        if let Some(variable) = variable_named(scope.variables.as_slice(), name) {
+            return Meaning::Variable(variable.id, variable.kind);
+        }
+        if let Some(field) = self.fields.named(scope.class, scope.is_static, name) {
+            return Meaning::Field(field);
+        }
+        match self.classes.named(name) {
+            Some(class) => Meaning::Class(class),
+            None => Meaning::Opaque,
+        }
+    }
+
+    /// The method or constructor of a class by its name, `<new>` for a constructor, and its number of parameters.
+    pub fn find(&self, c: ClassId, name: &str, count: u32) -> Option<MethodId>
+        ensures { result ≡ found (methods self.now) c name.now count }
+    {
+        self.methods.named(c, name, count)
+    }
+}
+
+/// The last of the variables of this name.
+fn variable_named<'a>(variables: &'a [ScopeVariable], name: &str) -> Option<&'a ScopeVariable>
+    ensures { option_copied result ≡ last_that (λ v. bytes_eq v.name name.now) variables.now }
+{
+    let mut left = variables.len();
+    while left > 0 {
+        left -= 1;
+        let variable = &variables[left];
+        if variable.name.as_str() == name {
+            return Some(variable);
+        }
+    }
+    None
+}
+
+/// The table of these units, which are those of the files of a folder, in order.
+pub fn resolve(alloc: Global, units: &[Unit]) -> Result<Table, ResolveFault>
+    ensures classes { IfOk result (λ t. table.classes t ≡ classes_of units.now) }
+    ensures fields { IfOk result (λ t. table.fields t ≡ fields_of units.now) }
+    ensures methods { IfOk result (λ t. table.methods t ≡ methods_of units.now) }
+    ensures ok { IfOk result (λ _. refusal units.now ≡ None) }
+    ensures err { IfErr result (IsFault (refusal units.now)) }
+{
+    let trees = class_trees(alloc, units)?;
+    let classes = classes_of(alloc, trees.as_slice())?;
+    let fields = fields_of(alloc, &classes, trees.as_slice())?;
+    let methods = methods_of(alloc, &classes, trees.as_slice())?;
+    Ok(Table {
+        classes,
+        fields,
+        methods,
+    })
+}

@@ -1,0 +1,16 @@
+use Rattle.std.proofs.Common.{codes, sym, ◌∙◌}
+use Rattle.type_reader.proofs.KeptTokens.{keyword_behind}
+use Rattle.method_reader.proofs.LeadingWords.{lock_is_seen, lock_is_kept}
+use Rattle.method_reader.proofs.reading.lookahead.statement_lead.Goals as goal
+
+pub returns-then-is_keyword-3-clause-places : goal.returns-then-is_keyword-3-clause-places
+returns-then-is_keyword-3-clause-places c = keyword_behind (codes "for") c.args.tokens.now c.token-item.result
+    c.in-len1-up.len_at_least c.token-item.is (sym c.is_keyword-else-is_keyword-2.ensures ∙ c.if-is_keyword-3.true)
+
+pub returns-then-is_keyword-4-clause-gives : goal.returns-then-is_keyword-4-clause-gives
+returns-then-is_keyword-4-clause-gives c = lock_is_seen c.args.tokens.now c.token-item.result
+    c.in-len1-up.len_at_least c.token-item.is (sym c.is_keyword-else-is_keyword-3.ensures ∙ c.if-is_keyword-4.true)
+
+pub returns-then-is_keyword-4-clause-places : goal.returns-then-is_keyword-4-clause-places
+returns-then-is_keyword-4-clause-places c = lock_is_kept c.args.tokens.now c.token-item.result
+    c.in-len1-up.len_at_least c.token-item.is (sym c.is_keyword-else-is_keyword-3.ensures ∙ c.if-is_keyword-4.true)

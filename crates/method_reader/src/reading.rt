@@ -1,0 +1,13 @@
+//! Reading trees from tokens, from left to right.
+mod annotations;
+mod brackets;
+mod heads;
+mod lines;
+mod locals;
+mod lookahead;
+mod methods;
+mod parameters;
+mod statements;
+mod whole;
+
+pub use whole::read_method;

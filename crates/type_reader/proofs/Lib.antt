@@ -1,0 +1,6 @@
+pub mod ReadLoops
+pub mod PushedNesting
+pub mod MadePartLoop
+pub mod WholeTrees
+pub mod KeptTokens
+pub mod PutPlaces

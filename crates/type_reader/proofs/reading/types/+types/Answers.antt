@@ -1,0 +1,133 @@
+use Rattle.std.proofs.Common.{◌≡◌, ◌++◌, ◌∷◌, [], length, map, sym, ◌∙◌, arith}
+use Rattle.std.proofs.lemmas.Result.{err_from_is_err_and}
+use Rattle.std.proofs.lemmas.List.{map_push}
+use Rattle.java_tree.specs.View.{part_of, argument_of}
+use Rattle.java_tree.specs.KeptPlaces.{kept, part_places, argument_places}
+use Rattle.method_grammar.specs.Taking.{commas}
+use Rattle.method_grammar.specs.TypeReading.{points, part_with, argument_with, ty_at}
+use Rattle.type_reader.specs.Tokens.{spelled}
+use Rattle.type_reader.specs.Finishing.{finished}
+use Rattle.type_reader.specs.Endings.{named_end, angled_end}
+use Rattle.type_reader.proofs.PutPlaces.{one_more}
+use Rattle.type_reader.proofs.PushedNesting.{parts_nesting_push, arguments_nesting_push}
+use Rattle.type_reader.proofs.ReadLoops.{comma_goes_on, comma_fails, comma_ends, comma_runs_out, point_goes_on}
+use Rattle.type_reader.proofs.ReadLoops.{point_fails, point_ends, point_runs_out, ends_give}
+use Rattle.type_reader.proofs.reading.types.+types.Goals as goal
+use Rattle.type_reader.proofs.reading.types.+types.Goals.{arguments-else-loop-test}
+use Rattle.type_reader.proofs.reading.types.+types.Goals.{arguments-then-loop-test+in_default}
+
+-- ---- type arguments
+
+pub arguments-returns-in_err-next-clause-gives : goal.arguments-returns-in_err-next-clause-gives
+arguments-returns-in_err-next-clause-gives t c =
+    let read = argument_with (ty_at c.args.limit) in
+    let total =
+    finished angled_end (argument_of c.args.first.tree ∷ []) (commas read (length (map spelled c.args.tokens.now))
+    (map spelled c.args.tokens.now)) in
+    let p = err_from_is_err_and c.from_residual-in_err-next.result c.from_residual-in_err-next.ensures.1 in
+    rw (p.1, p.2) (comma_fails read angled_end total c.args.tokens.now c.loop.counter (map argument_of
+    c.loop.items.items) c.in_err-next.field-0.0 (map spelled c.loop.rest.now) (map spelled c.in-Some.after.now)
+    c.loop-test.true c.in-Some.ensures.gives c.in_err-next.ensures.gives c.loop.invariant.gives)
+
+pub arguments-loop-preserved : goal.arguments-loop-preserved
+arguments-loop-preserved t c =
+    let n = c.in_ok-next.next.tree in
+    let e : map argument_of c.push-in-loop.new.self.items ≡ map argument_of c.loop.items.items ++ argument_of n ∷ [] =
+    rw c.in_ok-push-2.ensures.items (map_push _ c.loop.items.items n) in
+    let read = argument_with (ty_at c.args.limit) in
+    let total =
+    finished angled_end (argument_of c.args.first.tree ∷ []) (commas read (length (map spelled c.args.tokens.now))
+    (map spelled c.args.tokens.now)) in
+    record {
+      gives = rw e (comma_goes_on read angled_end total c.args.tokens.now c.loop.counter (map argument_of
+          c.loop.items.items) (argument_of n) (map spelled c.loop.rest.now) (map spelled c.in-Some.after.now)
+          (map spelled c.in_ok-next.after.now) c.loop-test.true c.in-Some.ensures.gives c.in_ok-next.ensures.gives
+          c.loop.invariant.gives);
+      places = rw c.in_ok-push-2.ensures.items (one_more argument_places c.loop.items.items n (kept c.loop.rest.now)
+          (kept c.in_ok-next.after.now) _ (c.in_ok-next.ensures.places ∙ c.in-Some.ensures.places)
+          c.loop.invariant.places);
+      small = omega (arith, c.in_ok-next.ensures.small, c.max-nesting.ensures);
+      measured = rw e (omega (
+        arith,
+        c.max-nesting.ensures,
+        c.loop.invariant.measured,
+        c.in_ok-next.next.measured,
+        arguments_nesting_push (map argument_of c.loop.items.items) (argument_of n),
+      ));
+      shorter = omega (arith, c.in-Some.ensures.shorter, c.in_ok-next.ensures.shorter);
+    }
+
+pub arguments-returns-clause-gives : goal.arguments-returns-clause-gives
+arguments-returns-clause-gives t c =
+    let read = argument_with (ty_at c.args.limit) in
+    let total =
+    finished angled_end (argument_of c.args.first.tree ∷ []) (commas read (length (map spelled c.args.tokens.now))
+    (map spelled c.args.tokens.now)) in
+    elim c.loop-test.branch [
+      | arguments-else-loop-test w ↦ ends_give _ c.closed.result total _ (comma_runs_out read angled_end total
+          c.args.tokens.now c.loop.counter (map argument_of c.loop.items.items) (map spelled c.loop.rest.now)
+          w.loop-test.false c.loop.invariant.gives) c.closed.ensures.gives
+      | arguments-then-loop-test+in_default w ↦ ends_give _ c.closed.result total _ (comma_ends read angled_end total
+          c.args.tokens.now c.loop.counter (map argument_of c.loop.items.items) (map spelled c.loop.rest.now)
+          w.loop-test.true w.in_default.ensures.gives c.loop.invariant.gives) c.closed.ensures.gives
+    ]
+
+-- ---- parts
+
+pub parts-returns-in_default-clause-gives : goal.parts-returns-in_default-clause-gives
+parts-returns-in_default-clause-gives t c =
+    let read = part_with (ty_at c.args.limit) in
+    let total =
+    finished named_end (part_of c.args.first.tree ∷ []) (points read (length (map spelled c.args.tokens.now))
+    (map spelled c.args.tokens.now)) in
+    point_ends read named_end total c.args.tokens.now c.loop.counter (map part_of c.loop.parts.items)
+    (map spelled c.loop.rest.now) c.loop-test.true c.in_default.ensures.gives c.loop.invariant.gives
+    ∙ sym c.named.ensures.gives
+
+pub parts-returns-in_err-next-clause-gives : goal.parts-returns-in_err-next-clause-gives
+parts-returns-in_err-next-clause-gives t c =
+    let read = part_with (ty_at c.args.limit) in
+    let total =
+    finished named_end (part_of c.args.first.tree ∷ []) (points read (length (map spelled c.args.tokens.now))
+    (map spelled c.args.tokens.now)) in
+    let p = err_from_is_err_and c.from_residual-in_err-next.result c.from_residual-in_err-next.ensures.1 in
+    rw (p.1, p.2) (point_fails read named_end total c.args.tokens.now c.loop.counter (map part_of c.loop.parts.items)
+    c.in_err-next.field-0.0 (map spelled c.loop.rest.now) (map spelled c.in-Some.after.now) c.loop-test.true
+    c.in-Some.ensures.gives c.in_err-next.ensures.gives c.loop.invariant.gives)
+
+pub parts-loop-preserved : goal.parts-loop-preserved
+parts-loop-preserved t c =
+    let n = c.in_ok-next.next.tree in
+    let e : map part_of c.push-in-loop.new.self.items ≡ map part_of c.loop.parts.items ++ part_of n ∷ [] =
+    rw c.in_ok-push-2.ensures.items (map_push _ c.loop.parts.items n) in
+    let read = part_with (ty_at c.args.limit) in
+    let total =
+    finished named_end (part_of c.args.first.tree ∷ []) (points read (length (map spelled c.args.tokens.now))
+    (map spelled c.args.tokens.now)) in
+    record {
+      gives = rw e (point_goes_on read named_end total c.args.tokens.now c.loop.counter
+          (map part_of c.loop.parts.items) (part_of n) (map spelled c.loop.rest.now) (map spelled c.in-Some.after.now)
+          (map spelled c.in_ok-next.after.now) c.loop-test.true c.in-Some.ensures.gives c.in_ok-next.ensures.gives
+          c.loop.invariant.gives);
+      places = rw c.in_ok-push-2.ensures.items (one_more part_places c.loop.parts.items n (kept c.loop.rest.now)
+          (kept c.in_ok-next.after.now) _ (c.in_ok-next.ensures.places ∙ c.in-Some.ensures.places)
+          c.loop.invariant.places);
+      small = omega (arith, c.in_ok-next.ensures.small, c.max-nesting.ensures);
+      measured = rw e (omega (
+        arith,
+        c.max-nesting.ensures,
+        c.loop.invariant.measured,
+        c.in_ok-next.next.measured,
+        parts_nesting_push (map part_of c.loop.parts.items) (part_of n),
+      ));
+      shorter = omega (arith, c.in-Some.ensures.shorter, c.in_ok-next.ensures.shorter);
+    }
+
+pub parts-returns-clause-gives : goal.parts-returns-clause-gives
+parts-returns-clause-gives t c =
+    let read = part_with (ty_at c.args.limit) in
+    let total =
+    finished named_end (part_of c.args.first.tree ∷ []) (points read (length (map spelled c.args.tokens.now))
+    (map spelled c.args.tokens.now)) in
+    point_runs_out read named_end total c.args.tokens.now c.loop.counter (map part_of c.loop.parts.items)
+    (map spelled c.loop.rest.now) c.loop-test.false c.loop.invariant.gives ∙ sym c.named-2.ensures.gives
