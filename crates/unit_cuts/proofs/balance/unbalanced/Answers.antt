@@ -1,0 +1,19 @@
+use Rattle.std.proofs.Common.{◌≡◌, ◌≤◌, [], ◌∷◌, map, length, drop, ap, sym, ◌∙◌, arith}
+use Rattle.std.proofs.lemmas.List.{drop_all}
+use Rattle.java_units.specs.Brackets.{unbalanced}
+use Rattle.unit_cuts.specs.OpenBrackets.{open_onto}
+use Rattle.unit_cuts.proofs.OpenStack.{open_push, open_at_end}
+use Rattle.unit_cuts.proofs.balance.unbalanced.Goals as goal
+
+pub returns-in-Some : goal.returns-in-Some
+returns-in-Some c =
+    let all = c.loop-token.open.items in
+    let left = c.pop.new.self.items in
+    let tokens = c.args.tokens.now in
+    let done : length tokens ≤ c.loop-token.token-index = omega (arith, c.loop-token-test.false) in
+    let none : drop c.loop-token.token-index tokens ≡ [] = drop_all c.loop-token.token-index tokens done in
+    open_at_end (open_onto (map (λ t. t.now) all) []) c.in-Some.opening.now (open_onto (map (λ t. t.now) left) [])
+    (unbalanced [] tokens)
+    (ap (λ l. open_onto (map (λ t. t.now) l) []) c.in-Some.ensures.items ∙ open_push (λ t. t.now) left c.in-Some.opening
+    [])
+    (ap (unbalanced (open_onto (map (λ t. t.now) all) [])) (sym none) ∙ c.loop-token.invariant)

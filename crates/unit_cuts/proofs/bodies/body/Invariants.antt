@@ -1,0 +1,12 @@
+use Rattle.std.proofs.Common.{◌≡◌, ◌+◌, false, length, drop}
+use Rattle.java_units.specs.Pieces.{items_of}
+use Rattle.java_units.specs.Members.{is_endless}
+use Rattle.java_units.specs.Units.{body_among}
+use Rattle.unit_cuts.specs.Members.{behind_member, last_inside}
+use Rattle.unit_cuts.proofs.bodies.body.Given as goal
+
+abbrev pub invariant-loop-item : goal.invariant-loop-item
+invariant-loop-item l = last_inside l.last (items_of l.rest) ≡ body_among (items_of l.tokens)
+
+abbrev pub decreases-loop-item : goal.decreases-loop-item
+decreases-loop-item l = length l.rest
