@@ -1,11 +1,15 @@
-//! The tests of the front end: outside, tokens, trees, reading. They stand here, over public calls alone, since a crate
-//! with tests is proved twice. There is no code.
+//! The tests of the front end: outside, tokens, trees, reading, parts of files, names. They stand here, over public
+//! calls alone, since a crate with tests is proved twice. There is no code.
 #![tactic(auto)]
 
+#[cfg(test)]
+mod cuts;
 #[cfg(test)]
 mod first_grammar;
 #[cfg(test)]
 mod methods;
+#[cfg(test)]
+mod names;
 #[cfg(test)]
 mod outside;
 #[cfg(test)]
