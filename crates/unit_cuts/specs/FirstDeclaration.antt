@@ -34,7 +34,10 @@ first_by false seen i is others = others
 abbrev pub first_declared : Seen → List Item → First
 first_declared seen [] = Misfit []
 first_declared seen (i ∷ is) =
-    elim (seen_with seen i) [ None ↦ Misfit (i ∷ is) | (Some more) ↦ first_by (is_whole more) more i is (first_declared more is) ]
+    elim (seen_with seen i) [
+      | None ↦ Misfit (i ∷ is)
+      | (Some more) ↦ first_by (is_whole more) more i is (first_declared more is)
+    ]
 
 abbrev pub IsMisfit : First → (end place : Place) → Type 0
 IsMisfit (Misfit rest) end place = first_place end (joined rest) ≡ place

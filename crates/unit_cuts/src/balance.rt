@@ -1,6 +1,7 @@
 //! The brackets of a file (JLS 3.11).
 ghost use Rattle.std.specs.Prelude.{◌≡◌, ◌<◌, ◌≤◌, ◌^◌, suc, [], map, IfOk, IfErr};
-ghost use Rattle.java_units.specs.Brackets.{is_opening, is_closing, is_pair, depth_behind, opened, unbalanced, too_deep};
+ghost use Rattle.java_units.specs.Brackets.{is_opening, is_closing, is_pair, depth_behind, opened};
+ghost use Rattle.java_units.specs.Brackets.{unbalanced, too_deep};
 ghost use Rattle.unit_cuts.specs.OpenBrackets.{open_onto, IsOpened, IsBalanced, IsBracketFault};
 
 use java_lexer::Token;

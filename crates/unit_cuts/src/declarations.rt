@@ -2,7 +2,7 @@
 ghost use Rattle.std.specs.Prelude.{◌≡◌, ◌<◌, ◌≤◌, true, length, option_map, IfOk};
 ghost use Rattle.java_units.specs.Tokens.{first_place};
 ghost use Rattle.java_units.specs.Pieces.{items_of};
-ghost use Rattle.java_units.specs.Declarations.{modified, seen_with, is_whole, Whole, AnnotationName};
+ghost use Rattle.java_units.specs.Declarations.{modified, seen_with, is_whole, Whole, AtSign, AnnotationName};
 ghost use Rattle.unit_cuts.specs.FirstDeclaration.{seen_of, first_declared, IsFirst};
 
 use super::items::next_item;
@@ -82,6 +82,19 @@ fn annotated(early: bool, item: &[Token]) -> Option<Seen>
     }
 }
 
+/// What is seen with one more item behind an `@`.
+fn marked(early: bool, item: &[Token]) -> Option<Seen>
+    ensures { option_map seen_of result ≡ seen_with (AtSign early) item.now }
+{
+    if named(item) {
+        Some(Seen::AnnotationName(early))
+    } else if worded(item, "interface") {
+        Some(Seen::TypeWord)
+    } else {
+        None
+    }
+}
+
 /// What is seen with one more item, where it fits.
 fn seen_with(seen: Seen, item: &[Token]) -> Option<Seen>
     ensures { option_map seen_of result ≡ seen_with (seen_of seen) item.now }
@@ -89,15 +102,7 @@ fn seen_with(seen: Seen, item: &[Token]) -> Option<Seen>
     match seen {
         Seen::Whole(early, imports) => begun(early, imports, item),
         Seen::Modifiers(early) => modified(early, item),
-        Seen::AtSign(early) => {
-            if named(item) {
-                Some(Seen::AnnotationName(early))
-            } else if worded(item, "interface") {
-                Some(Seen::TypeWord)
-            } else {
-                None
-            }
-        }
+        Seen::AtSign(early) => marked(early, item),
         Seen::AnnotationName(early) => annotated(early, item),
         Seen::AnnotationPoint(early) => {
             if named(item) {

@@ -3,7 +3,8 @@ ghost use Rattle.std.specs.Prelude.{◌≡◌, Some, None, map, codes, MatchOpti
 ghost use Rattle.java_units.specs.Tokens.{is_sign_token, is_keyword_of};
 ghost use Rattle.java_units.specs.Cuts.{ends};
 ghost use Rattle.java_units.specs.Pieces.{items_of, pieces_of};
-ghost use Rattle.java_units.specs.Members.{is_block, is_modifier, behind_words, begins_type, before_parentheses, name_at_end};
+ghost use Rattle.java_units.specs.Members.{is_block, is_modifier, behind_words, begins_type};
+ghost use Rattle.java_units.specs.Members.{before_parentheses, name_at_end};
 ghost use Rattle.java_units.specs.Members.{form_by, form_of};
 ghost use Rattle.unit_cuts.specs.FormView.{form_view};
 
@@ -96,7 +97,8 @@ fn declares_type(member: &[Token]) -> bool
 /// What stands before the first parentheses outside annotations and brackets, and these, where no `=` stands before
 /// them.
 fn head(member: &[Token]) -> Option<(&[Token], &[Token])>
-    ensures { MatchOption result (before_parentheses (pieces_of member.now) ≡ None) (λ x. before_parentheses (pieces_of member.now)
+    ensures { MatchOption result (before_parentheses (pieces_of member.now) ≡ None)
+        (λ x. before_parentheses (pieces_of member.now)
         ≡ Some (x.0.now, x.1.now)) }
 {
     let mut size = 0;
