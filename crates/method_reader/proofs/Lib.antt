@@ -5,3 +5,5 @@ pub mod StatementLoops
 pub mod WholeMethods
 pub mod LedMarks
 pub mod LeadingWords
+pub mod TypeCounts
+pub mod SameMarks

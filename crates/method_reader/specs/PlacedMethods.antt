@@ -1,12 +1,12 @@
 -- A contract of a public call rests on this: methods that tokens spell, with their places.
-use Rattle.std.specs.Prelude.{◌≡◌, List, [], ◌∷◌, Some, None, map}
+use Rattle.std.specs.Prelude.{◌≡◌, List, map}
 use Rattle.java_lexer.specs.declared.token.Token.{Token}
 use Rattle.java_tree.specs.declared.methods.MethodTree.{MethodTree}
 use Rattle.java_tree.specs.Spelling.{spelling}
 use Rattle.java_tree.specs.Formed.{FormedMethod}
 use Rattle.java_tree.specs.View.{method_of}
 use Rattle.java_tree.specs.KeptPlaces.{kept}
-use Rattle.java_tree.specs.MethodPlaces.{Marks, method_marks, AreAt}
+use Rattle.java_tree.specs.MethodPlaces.{method_marks, AreAt}
 use Rattle.type_reader.specs.Tokens.{spelled}
 
 -- the tokens spell the method, which is formed, and it keeps places that are theirs
@@ -14,12 +14,3 @@ pub record IsPlacedMethod (tokens : List Token) (tree : MethodTree) : Type 0 whe
   pub formed : FormedMethod (method_of tree)
   pub spells : spelling (method_of tree) ≡ map spelled tokens
   pub stands : AreAt (method_marks tree) (kept tokens)
-
--- for each token the same place, where both keep one
-abbrev pub Agree : Marks → Marks → Type 0
-Agree [] [] = Unit {0}
-Agree [] (n ∷ ns) = ⊥
-Agree (m ∷ ms) [] = ⊥
-Agree (Some p ∷ ms) (Some q ∷ ns) = (p ≡ q) × Agree ms ns
-Agree (Some p ∷ ms) (None ∷ ns) = Agree ms ns
-Agree (None ∷ ms) (n ∷ ns) = Agree ms ns
