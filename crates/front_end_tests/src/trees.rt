@@ -4,11 +4,11 @@ ghost use Rattle.java_tree.specs.Formed.{FormedMethod};
 ghost use Rattle.java_tree.specs.View.{method_of};
 
 use java_lexer::lex;
-use java_tree::{Ident, MethodTree, ResultTree, spell};
-use method_grammar::spell_the_same;
+use java_tree::{Ident, MethodTree, ResultTree};
 use racer_base::{FileId, Items, Memory, Place, Text};
 use std::alloc::Global;
 use std::test::Fail;
+use tree_spelling::{spell, spell_the_same};
 
 /// `void m() { }`, its name in this column.
 fn empty_method(alloc: Global, column: u32) -> Result<MethodTree, Memory>

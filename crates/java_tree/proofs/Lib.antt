@@ -1,6 +1,3 @@
-pub mod BracketPairs
-pub mod CallParts
-pub mod Chains
 pub mod Operators
 pub mod SameAnswers
 pub mod SameEnds

@@ -40,4 +40,3 @@ pub mod SoundLists
 pub mod SoundTurns
 pub mod SoundOperands
 pub mod SoundExpressions
-pub mod SameSpellings

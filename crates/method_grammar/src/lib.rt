@@ -2,6 +2,3 @@
 #![tactic(auto)]
 
 pub mod laws;
-mod spellings;
-
-pub use spellings::spell_the_same;

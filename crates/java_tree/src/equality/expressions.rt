@@ -1,11 +1,12 @@
 //! Equality of expressions (JLS 15) and array initialisers (JLS 10.6).
-ghost use Rattle.std.specs.Prelude.{◌≡◌, ◌↔◌, IsTrue, map, option_map, bytes_eq};
-ghost use Rattle.java_tree.specs.Trees.{pack_exprs, pack_inits};
-ghost use Rattle.java_tree.specs.Sameness.{same_list, same_option, same_expr, same_exprs, same_array, same_inits};
-ghost use Rattle.java_tree.specs.Sameness.{same_init};
+ghost use Rattle.std.specs.Prelude.{◌≡◌, ◌↔◌, IsTrue, map, bytes_eq};
+ghost use Rattle.java_tree.specs.Trees.{pack_exprs, pack_inits, Assign, Conditional, Binary, InstanceOf, Prefix};
+ghost use Rattle.java_tree.specs.Trees.{Cast, Postfix, Literal, Name, Paren, Field, Index, Call, CallOn};
+ghost use Rattle.java_tree.specs.Trees.{ClassOf, New, NewArray, NewItems};
+ghost use Rattle.java_tree.specs.Sameness.{same_list, same_expr, same_exprs, same_array, same_inits, same_init};
 ghost use Rattle.java_tree.specs.SameTrees.{expr_is, expr_refl, init_is, init_refl};
 ghost use Rattle.java_tree.specs.SameLaws.{partial_equivalence};
-ghost use Rattle.java_tree.specs.View.{name_of, expr_of, init_of, array_of};
+ghost use Rattle.java_tree.specs.View.{name_of, ty_of, expr_of, init_of, array_of};
 
 use super::words::same_kind;
 use crate::expressions::Expression::{
@@ -13,7 +14,10 @@ use crate::expressions::Expression::{
     NewArray, NewItems, Paren, Postfix, Prefix, This,
 };
 use crate::expressions::{ArrayTree, Expression, Initialiser};
+use crate::types::TypeTree;
 use crate::words::Ident;
+use java_lexer::TokenKind;
+use racer_base::Text;
 
 impl PartialEq for Expression {
     ghost eq = { λ a b. same_expr (expr_of a) (expr_of b) };
@@ -48,49 +52,218 @@ fn same_names(a: &[Ident], b: &[Ident]) -> bool
 }
 
 #[cycle(compare_expressions)]
-fn same_tree(a: &Expression, b: &Expression) -> bool
-    ensures { result ≡ same_expr (expr_of a.now) (expr_of b.now) }
+fn same_tree(tree: &Expression, other: &Expression) -> bool
+    ensures { result ≡ same_expr (expr_of tree.now) (expr_of other.now) }
 {
-    match a {
-        Assign(a, o, x) =>
-            matches!(b, Assign(c, p, y) if same_tree(a, c) && o == p && same_tree(x, y)),
-        Conditional(a, x, z) => {
-            matches!(b, Conditional(c, y, e) if same_tree(a, c) && same_tree(x, y) && same_tree(z, e))
-        }
-        Binary(a, o, x) =>
-            matches!(b, Binary(c, p, y) if same_tree(a, c) && o == p && same_tree(x, y)),
-        InstanceOf(a, s) => matches!(b, InstanceOf(c, t) if same_tree(a, c) && s == t),
-        Prefix(o, a) => matches!(b, Prefix(p, c) if o == p && same_tree(a, c)),
-        Cast(s, a) => matches!(b, Cast(t, c) if s == t && same_tree(a, c)),
-        Postfix(a, o) => matches!(b, Postfix(c, p) if same_tree(a, c) && o == p),
-        Literal(k, o) => matches!(b, Literal(l, p) if same_kind(*k, *l) && o == p),
-        This => matches!(b, This),
-        Name(x) => matches!(b, Name(y) if x == y),
-        Paren(a) => matches!(b, Paren(c) if same_tree(a, c)),
-        Field(a, x) => matches!(b, Field(c, y) if same_tree(a, c) && x == y),
-        Index(a, i) => matches!(b, Index(c, j) if same_tree(a, c) && same_tree(i, j)),
-        Call(a, x, all) => {
-            matches!(b, Call(c, y, others) if same_receiver(a, c) && x == y && same_trees(all, others))
-        }
-        ClassOf(all) => matches!(b, ClassOf(others) if same_names(all, others)),
-        New(_, s, all) => matches!(b, New(_, t, others) if s == t && same_trees(all, others)),
-        NewArray(_, s, all, m) => {
-            matches!(b, NewArray(_, t, others, n) if s == t && same_trees(all, others) && *m == *n)
-        }
-        NewItems(_, s, m, a) => {
-            matches!(b, NewItems(_, t, n, c) if s == t && *m == *n && same_array(a, c))
-        }
+    match tree {
+        Assign(left, operator, right) => same_assignment(left, operator, right, other),
+        Conditional(test, then, otherwise) => same_conditional(test, then, otherwise, other),
+        Binary(left, operator, right) => same_binary(left, operator, right, other),
+        InstanceOf(value, kind) => same_instance_of(value, kind, other),
+        Prefix(operator, value) => same_prefix(value, operator, other),
+        Cast(kind, value) => same_cast(value, kind, other),
+        Postfix(value, operator) => same_postfix(value, operator, other),
+        Literal(kind, text) => same_literal(*kind, text, other),
+        This => matches!(other, This),
+        Name(name) => same_name(name, other),
+        Paren(value) => same_parentheses(value, other),
+        Field(value, name) => same_field(value, name, other),
+        Index(array, index) => same_index(array, index, other),
+        Call(None, name, all) => same_call(all, name, other),
+        Call(Some(value), name, all) => same_call_on(value, name, all, other),
+        ClassOf(names) => same_class_of(names, other),
+        New(_, kind, all) => same_new(all, kind, other),
+        NewArray(_, kind, all, count) => same_new_array(all, kind, *count, other),
+        NewItems(_, kind, count, items) => same_new_items(items, kind, *count, other),
     }
 }
 
 #[cycle(compare_expressions)]
-fn same_receiver(a: &Option<Box<Expression>>, b: &Option<Box<Expression>>) -> bool
-    ensures { result ≡ same_option same_expr (option_map (λ x. expr_of x.value) a.now)
-        (option_map (λ x. expr_of x.value) b.now) }
+fn same_assignment(
+    left: &Expression,
+    operator: &Text,
+    right: &Expression,
+    other: &Expression,
+) -> bool
+    ensures { result ≡ same_expr (Assign (expr_of left.now) operator.now (expr_of right.now)) (expr_of other.now) }
 {
-    match (a, b) {
-        (None, None) => true,
-        (Some(a), Some(b)) => same_tree(a, b),
+    match other {
+        Assign(a, o, b) => same_tree(left, a) && operator == o && same_tree(right, b),
+        _ => false,
+    }
+}
+
+#[cycle(compare_expressions)]
+fn same_conditional(
+    test: &Expression,
+    then: &Expression,
+    otherwise: &Expression,
+    other: &Expression,
+) -> bool
+    ensures { result ≡ same_expr (Conditional (expr_of test.now) (expr_of then.now) (expr_of otherwise.now))
+        (expr_of other.now) }
+{
+    match other {
+        Conditional(a, b, c) => same_tree(test, a) && same_tree(then, b) && same_tree(otherwise, c),
+        _ => false,
+    }
+}
+
+#[cycle(compare_expressions)]
+fn same_binary(left: &Expression, operator: &Text, right: &Expression, other: &Expression) -> bool
+    ensures { result ≡ same_expr (Binary (expr_of left.now) operator.now (expr_of right.now)) (expr_of other.now) }
+{
+    match other {
+        Binary(a, o, b) => same_tree(left, a) && operator == o && same_tree(right, b),
+        _ => false,
+    }
+}
+
+#[cycle(compare_expressions)]
+fn same_instance_of(value: &Expression, kind: &TypeTree, other: &Expression) -> bool
+    ensures { result ≡ same_expr (InstanceOf (expr_of value.now) (ty_of kind.now)) (expr_of other.now) }
+{
+    match other {
+        InstanceOf(a, t) => same_tree(value, a) && kind == t,
+        _ => false,
+    }
+}
+
+#[cycle(compare_expressions)]
+fn same_prefix(value: &Expression, operator: &Text, other: &Expression) -> bool
+    ensures { result ≡ same_expr (Prefix operator.now (expr_of value.now)) (expr_of other.now) }
+{
+    match other {
+        Prefix(o, a) => operator == o && same_tree(value, a),
+        _ => false,
+    }
+}
+
+#[cycle(compare_expressions)]
+fn same_cast(value: &Expression, kind: &TypeTree, other: &Expression) -> bool
+    ensures { result ≡ same_expr (Cast (ty_of kind.now) (expr_of value.now)) (expr_of other.now) }
+{
+    match other {
+        Cast(t, a) => kind == t && same_tree(value, a),
+        _ => false,
+    }
+}
+
+#[cycle(compare_expressions)]
+fn same_postfix(value: &Expression, operator: &Text, other: &Expression) -> bool
+    ensures { result ≡ same_expr (Postfix (expr_of value.now) operator.now) (expr_of other.now) }
+{
+    match other {
+        Postfix(a, o) => same_tree(value, a) && operator == o,
+        _ => false,
+    }
+}
+
+fn same_literal(kind: TokenKind, text: &Text, other: &Expression) -> bool
+    ensures { result ≡ same_expr (Literal kind text.now) (expr_of other.now) }
+{
+    match other {
+        Literal(k, t) => same_kind(kind, *k) && text == t,
+        _ => false,
+    }
+}
+
+fn same_name(name: &Ident, other: &Expression) -> bool
+    ensures { result ≡ same_expr (Name (name_of name.now)) (expr_of other.now) }
+{
+    match other {
+        Name(n) => name == n,
+        _ => false,
+    }
+}
+
+#[cycle(compare_expressions)]
+fn same_parentheses(value: &Expression, other: &Expression) -> bool
+    ensures { result ≡ same_expr (Paren (expr_of value.now)) (expr_of other.now) }
+{
+    match other {
+        Paren(a) => same_tree(value, a),
+        _ => false,
+    }
+}
+
+#[cycle(compare_expressions)]
+fn same_field(value: &Expression, name: &Ident, other: &Expression) -> bool
+    ensures { result ≡ same_expr (Field (expr_of value.now) (name_of name.now)) (expr_of other.now) }
+{
+    match other {
+        Field(a, n) => same_tree(value, a) && name == n,
+        _ => false,
+    }
+}
+
+#[cycle(compare_expressions)]
+fn same_index(array: &Expression, index: &Expression, other: &Expression) -> bool
+    ensures { result ≡ same_expr (Index (expr_of array.now) (expr_of index.now)) (expr_of other.now) }
+{
+    match other {
+        Index(a, i) => same_tree(array, a) && same_tree(index, i),
+        _ => false,
+    }
+}
+
+#[cycle(compare_expressions)]
+fn same_call(all: &[Expression], name: &Ident, other: &Expression) -> bool
+    ensures { result ≡ same_expr (Call (name_of name.now) (pack_exprs (map expr_of all.now))) (expr_of other.now) }
+{
+    match other {
+        Call(None, n, others) => name == n && same_trees(all, others),
+        _ => false,
+    }
+}
+
+#[cycle(compare_expressions)]
+fn same_call_on(value: &Expression, name: &Ident, all: &[Expression], other: &Expression) -> bool
+    ensures { result ≡ same_expr (CallOn (expr_of value.now) (name_of name.now) (pack_exprs (map expr_of all.now)))
+        (expr_of other.now) }
+{
+    match other {
+        Call(Some(a), n, others) => same_tree(value, a) && name == n && same_trees(all, others),
+        _ => false,
+    }
+}
+
+fn same_class_of(names: &[Ident], other: &Expression) -> bool
+    ensures { result ≡ same_expr (ClassOf (map name_of names.now)) (expr_of other.now) }
+{
+    match other {
+        ClassOf(others) => same_names(names, others),
+        _ => false,
+    }
+}
+
+#[cycle(compare_expressions)]
+fn same_new(all: &[Expression], kind: &TypeTree, other: &Expression) -> bool
+    ensures { result ≡ same_expr (New (ty_of kind.now) (pack_exprs (map expr_of all.now))) (expr_of other.now) }
+{
+    match other {
+        New(_, t, others) => kind == t && same_trees(all, others),
+        _ => false,
+    }
+}
+
+#[cycle(compare_expressions)]
+fn same_new_array(all: &[Expression], kind: &TypeTree, count: u32, other: &Expression) -> bool
+    ensures { result ≡ same_expr (NewArray (ty_of kind.now) (pack_exprs (map expr_of all.now)) count)
+        (expr_of other.now) }
+{
+    match other {
+        NewArray(_, t, others, n) => kind == t && same_trees(all, others) && count == *n,
+        _ => false,
+    }
+}
+
+#[cycle(compare_expressions)]
+fn same_new_items(items: &ArrayTree, kind: &TypeTree, count: u32, other: &Expression) -> bool
+    ensures { result ≡ same_expr (NewItems (ty_of kind.now) count (array_of items.now)) (expr_of other.now) }
+{
+    match other {
+        NewItems(_, t, n, others) => kind == t && count == *n && same_array(items, others),
         _ => false,
     }
 }

@@ -1,24 +1,21 @@
 //! Equality of statements (JLS 14).
 ghost use Rattle.std.specs.Prelude.{◌≡◌, ◌↔◌, IsTrue, map, option_map};
-ghost use Rattle.java_tree.specs.Trees.{pack_stmts};
-ghost use Rattle.java_tree.specs.Sameness.{
-  same_option,
-  same_variable,
-  same_locals,
-  same_start,
-  same_stmt,
-  same_stmts,
-};
+ghost use Rattle.java_tree.specs.Trees.{pack_exprs, pack_stmts, Block, Local, Run, If, IfElse, While, For};
+ghost use Rattle.java_tree.specs.Trees.{ForEach, Sync, Return};
+ghost use Rattle.java_tree.specs.Sameness.{same_variable, same_locals, same_start, same_stmt, same_stmts};
 ghost use Rattle.java_tree.specs.SameMethods.{variable_is, variable_refl, locals_is, locals_refl, start_is};
 ghost use Rattle.java_tree.specs.SameMethods.{start_refl, stmt_is, stmt_refl};
 ghost use Rattle.java_tree.specs.SameLaws.{partial_equivalence};
-ghost use Rattle.java_tree.specs.View.{variable_of, locals_of, start_of, stmt_of};
+ghost use Rattle.java_tree.specs.View.{name_of, ty_of, expr_of, variable_of, locals_of, start_of, stmt_of};
 
 use super::expressions::same_trees;
+use crate::expressions::Expression;
 use crate::statements::Statement::{
     Block, Empty, Expr, For, ForEach, If, Local, Return, Sync, While,
 };
 use crate::statements::{LocalsTree, StartTree, Statement, VariableTree};
+use crate::types::TypeTree;
+use crate::words::Ident;
 
 impl PartialEq for VariableTree {
     ghost eq = { λ a b. same_variable (variable_of a) (variable_of b) };
@@ -80,44 +77,146 @@ impl PartialEq for Statement {
 }
 
 #[cycle(compare_statements)]
-#[tactic(auto, using(crate::proofs::SameLists::slices))]
-fn same_statement(a: &Statement, b: &Statement) -> bool
-    ensures { result ≡ same_stmt (stmt_of a.now) (stmt_of b.now) }
+fn same_statement(tree: &Statement, other: &Statement) -> bool
+    ensures { result ≡ same_stmt (stmt_of tree.now) (stmt_of other.now) }
 {
-    match a {
-        Block(all) => matches!(b, Block(others) if same_statements(all, others)),
-        Local(l) => matches!(b, Local(m) if l == m),
-        Expr(x) => matches!(b, Expr(y) if x == y),
-        If(x, s, u) => {
-            matches!(b, If(y, t, v) if x == y && same_statement(s, t) && same_else(u, v))
-        }
-        While(x, s) => matches!(b, While(y, t) if x == y && same_statement(s, t)),
-        For(i, x, u, s) => matches!(
-            b,
-            For(j, y, v, t)
-                if i == j && x == y && same_trees(u, v) && same_statement(s, t)
+    match tree {
+        Block(all) => same_block(all, other),
+        Local(locals) => same_local(locals, other),
+        Expr(value) => same_run(value, other),
+        If(test, then, None) => same_if(then, test, other),
+        If(test, then, Some(otherwise)) => same_if_else(then, otherwise, test, other),
+        While(test, body) => same_while(body, test, other),
+        For(start, test, updates, body) => same_for(body, start, test, updates, other),
+        ForEach(is_final, kind, name, value, body) => same_for_each(
+            body, *is_final, kind, name, value, other,
         ),
-        ForEach(f, k, m, x, s) => matches!(
-            b,
-            ForEach(g, l, n, y, t)
-                if *f == *g && k == l && m == n && x == y && same_statement(s, t)
-        ),
-        Sync(_, x, all) => {
-            matches!(b, Sync(_, y, others) if x == y && same_statements(all, others))
-        }
-        Return(x) => matches!(b, Return(y) if x == y),
-        Empty => matches!(b, Empty),
+        Sync(_, value, all) => same_sync(all, value, other),
+        Return(value) => same_return(value, other),
+        Empty => matches!(other, Empty),
     }
 }
 
 #[cycle(compare_statements)]
-fn same_else(a: &Option<Box<Statement>>, b: &Option<Box<Statement>>) -> bool
-    ensures { result ≡ same_option same_stmt (option_map (λ x. stmt_of x.value) a.now)
-        (option_map (λ x. stmt_of x.value) b.now) }
+fn same_block(all: &[Statement], other: &Statement) -> bool
+    ensures { result ≡ same_stmt (Block (pack_stmts (map stmt_of all.now))) (stmt_of other.now) }
 {
-    match (a, b) {
-        (None, None) => true,
-        (Some(a), Some(b)) => same_statement(a, b),
+    match other {
+        Block(others) => same_statements(all, others),
+        _ => false,
+    }
+}
+
+fn same_local(locals: &LocalsTree, other: &Statement) -> bool
+    ensures { result ≡ same_stmt (Local (locals_of locals.now)) (stmt_of other.now) }
+{
+    match other {
+        Local(l) => locals == l,
+        _ => false,
+    }
+}
+
+fn same_run(value: &Expression, other: &Statement) -> bool
+    ensures { result ≡ same_stmt (Run (expr_of value.now)) (stmt_of other.now) }
+{
+    match other {
+        Expr(a) => value == a,
+        _ => false,
+    }
+}
+
+#[cycle(compare_statements)]
+fn same_if(then: &Statement, test: &Expression, other: &Statement) -> bool
+    ensures { result ≡ same_stmt (If (expr_of test.now) (stmt_of then.now)) (stmt_of other.now) }
+{
+    match other {
+        If(a, s, None) => test == a && same_statement(then, s),
+        _ => false,
+    }
+}
+
+#[cycle(compare_statements)]
+fn same_if_else(
+    then: &Statement,
+    otherwise: &Statement,
+    test: &Expression,
+    other: &Statement,
+) -> bool
+    ensures { result ≡ same_stmt (IfElse (expr_of test.now) (stmt_of then.now) (stmt_of otherwise.now))
+        (stmt_of other.now) }
+{
+    match other {
+        If(a, s, Some(t)) => test == a && same_statement(then, s) && same_statement(otherwise, t),
+        _ => false,
+    }
+}
+
+#[cycle(compare_statements)]
+fn same_while(body: &Statement, test: &Expression, other: &Statement) -> bool
+    ensures { result ≡ same_stmt (While (expr_of test.now) (stmt_of body.now)) (stmt_of other.now) }
+{
+    match other {
+        While(a, s) => test == a && same_statement(body, s),
+        _ => false,
+    }
+}
+
+#[cycle(compare_statements)]
+#[tactic(auto, using(crate::proofs::SameLists::slices))]
+fn same_for(
+    body: &Statement,
+    start: &StartTree,
+    test: &Option<Expression>,
+    updates: &[Expression],
+    other: &Statement,
+) -> bool
+    ensures { result ≡ same_stmt (For (start_of start.now) (option_map expr_of test.now)
+        (pack_exprs (map expr_of updates.now)) (stmt_of body.now)) (stmt_of other.now) }
+{
+    match other {
+        For(i, a, u, s) => {
+            start == i && test == a && same_trees(updates, u) && same_statement(body, s)
+        },
+        _ => false,
+    }
+}
+
+#[cycle(compare_statements)]
+fn same_for_each(
+    body: &Statement,
+    is_final: bool,
+    kind: &TypeTree,
+    name: &Ident,
+    value: &Expression,
+    other: &Statement,
+) -> bool
+    ensures { result ≡ same_stmt (ForEach is_final (ty_of kind.now) (name_of name.now) (expr_of value.now)
+        (stmt_of body.now)) (stmt_of other.now) }
+{
+    match other {
+        ForEach(f, t, n, a, s) => {
+            is_final == *f && kind == t && name == n && value == a && same_statement(body, s)
+        },
+        _ => false,
+    }
+}
+
+#[cycle(compare_statements)]
+fn same_sync(all: &[Statement], value: &Expression, other: &Statement) -> bool
+    ensures { result ≡ same_stmt (Sync (expr_of value.now) (pack_stmts (map stmt_of all.now))) (stmt_of other.now) }
+{
+    match other {
+        Sync(_, a, others) => value == a && same_statements(all, others),
+        _ => false,
+    }
+}
+
+#[tactic(auto, using(crate::proofs::SameLists::slices))]
+fn same_return(value: &Option<Expression>, other: &Statement) -> bool
+    ensures { result ≡ same_stmt (Return (option_map expr_of value.now)) (stmt_of other.now) }
+{
+    match other {
+        Return(a) => value == a,
         _ => false,
     }
 }

@@ -1,8 +1,7 @@
-use Rattle.std.proofs.Common.{map, refl, ◌∙◌, rules}
+use Rattle.std.proofs.Common.{map, refl, ◌∙◌}
 use Rattle.java_tree.specs.Trees.{pack_stmts}
 use Rattle.java_tree.specs.Sameness.{same_stmts}
 use Rattle.java_tree.specs.View.{stmt_of}
-use Rattle.java_tree.specs.declared.statements.Statement.TheFolds.{the_lemmas}
 use Rattle.java_tree.proofs.SameEnds.{ended}
 use Rattle.java_tree.proofs.equality.statements.+compare_statements.Goals as goal
 
@@ -12,6 +11,3 @@ same_statements-returns t c =
     ∙ ended (λ xs ys. same_stmts (pack_stmts (map stmt_of xs)) (pack_stmts (map stmt_of ys))) refl (λ y ys. refl)
     c.args.a.now c.loop-x.rest.now c.loop-x.x-index c.loop-x-test.false
     ∙ c.loop-x.invariant
-
-pub same_statement-same_statements-requires-then-eq-8 : goal.same_statement-same_statements-requires-then-eq-8
-same_statement-same_statements-requires-then-eq-8 t c = (search (rules, the_lemmas) depth 8, tt)

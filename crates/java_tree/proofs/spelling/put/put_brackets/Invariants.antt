@@ -1,9 +1,0 @@
-use Rattle.std.proofs.Common.{◌≡◌, ◌-◌, List, ◌++◌}
-use Rattle.java_tree.specs.declared.words.Spelled.{Spelled}
-use Rattle.java_tree.specs.Spelling.{brackets_onto}
-use Rattle.java_tree.proofs.spelling.put.put_brackets.Given as goal
-
-abbrev pub invariant-loop : goal.invariant-loop
-invariant-loop l =
-    (rest : List Spelled) → l.initial.out ++ brackets_onto l.count rest ≡ l.out ++ brackets_onto (l.count - l.counter)
-    rest

@@ -1,0 +1,3 @@
+pub mod BracketPairs
+pub mod Chains
+pub mod SameSpellings

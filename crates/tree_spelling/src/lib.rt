@@ -1,0 +1,11 @@
+//! The tokens that the tree of a method spells.
+#![tactic(auto)]
+
+mod expressions;
+mod methods;
+mod put;
+mod spellings;
+mod statements;
+mod types;
+
+pub use spellings::{spell, spell_the_same};
