@@ -3,3 +3,4 @@ pub mod TurnView
 pub mod GoingOn
 pub mod ClassFollows
 pub mod FirstParenthesis
+pub mod Closings

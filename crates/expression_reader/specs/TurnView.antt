@@ -9,13 +9,13 @@ use Rattle.type_reader.specs.Tokens.{spelled}
 
 -- a whole expression, or the left part of a larger one and the tokens behind it
 abbrev pub turn_of : Turned → Turn
-turn_of (turned.Stop e) = Stop (expr_of e.tree)
-turn_of (turned.Next e rest) = Next (expr_of e.tree) (map spelled rest.now)
+turn_of (turned.Stop e) = Stop (expr_of e.tree.value)
+turn_of (turned.Next e rest) = Next (expr_of e.tree.value) (map spelled rest.now)
 
 -- the places of what was read, and then those of the tokens behind it: these here, where it is whole
 abbrev pub places_put : Turned → Places → Places
-places_put (turned.Stop e) here = expr_places e.tree here
-places_put (turned.Next e rest) here = expr_places e.tree (kept rest.now)
+places_put (turned.Stop e) here = expr_places e.tree.value here
+places_put (turned.Next e rest) here = expr_places e.tree.value (kept rest.now)
 
 -- the expression is of a nesting of at most n
 abbrev pub IsSmall : Turned → ℕ → Type 0

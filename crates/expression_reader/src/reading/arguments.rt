@@ -12,7 +12,7 @@ ghost use Rattle.type_reader.specs.ReadAnswer.{Gives};
 
 use super::expressions::read_expression;
 use super::lists::{call_end, no_arguments};
-use super::nested::{NestedExpression, NestedExpressions};
+use super::nested::{NestedExpression, NestedExpressions, push_tree};
 use java_lexer::Token;
 use std::alloc::Global;
 use type_reader::reading::error::ReadError;
@@ -53,16 +53,16 @@ fn arguments(
     requires room { suc (suc limit) < 2 ^ 32 }
     requires first { first.nesting ≤ limit }
     ensures gives { Gives (λ x. (map expr_of x.0.trees.items, map spelled x.1.now)) result (finished call_end
-        (expr_of first.tree ∷ []) (commas (read_at limit assignment_level) (length (map spelled tokens.now))
+        (expr_of first.tree.value ∷ []) (commas (read_at limit assignment_level) (length (map spelled tokens.now))
         (map spelled tokens.now))) }
     ensures places { IfOk result (λ x. each_puts (map expr_places x.0.trees.items) (kept x.1.now) ≡ expr_places
-        first.tree (kept tokens.now)) }
+        first.tree.value (kept tokens.now)) }
     ensures small { IfOk result (λ x. x.0.nesting ≤ limit) }
     ensures shorter { IfOk result (λ x. length x.1.now ≤ length tokens.now) }
 {
     let mut trees = Vec::new(alloc);
     let mut nesting = first.nesting;
-    trees.push(first.tree)?;
+    push_tree(&mut trees, first.tree)?;
     let mut rest = tokens;
     for _ in 0..tokens.len() {
         let Some(after) = after_sign(rest, ",") else {
@@ -70,7 +70,7 @@ fn arguments(
         };
         let (next, after) = read_expression(alloc, limit, 0, after)?;
         nesting = nesting.max(next.nesting);
-        trees.push(next.tree)?;
+        push_tree(&mut trees, next.tree)?;
         rest = after;
     }
     call_end(trees, nesting, rest)

@@ -1,8 +1,8 @@
 //! The names of a class before `. class` (JLS 15.8.2).
 ghost use Rattle.std.specs.Prelude.{◌≡◌, ◌≤◌, ℕ, true, false, None, [], ◌∷◌, length, map, IfOk};
 ghost use Rattle.java_lexer.specs.declared.token.TokenKind.TheVariants as kind;
-ghost use Rattle.java_tree.specs.Trees.{Expr, ClassOf};
-ghost use Rattle.java_tree.specs.KeptPlaces.{Places, kept, each_puts, name_places, expr_places};
+ghost use Rattle.java_tree.specs.Trees.{Expr};
+ghost use Rattle.java_tree.specs.KeptPlaces.{kept, each_puts, name_places, expr_places};
 ghost use Rattle.java_tree.specs.View.{expr_of, name_of};
 ghost use Rattle.method_grammar.specs.ExpressionReading.{Reading, class_at, name_with};
 ghost use Rattle.expression_reader.specs.ClassFollows.{class_follows, class_end};
@@ -15,7 +15,7 @@ use java_lexer::Token;
 use java_tree::{Expression, Ident};
 use std::alloc::Global;
 use type_reader::reading::error::ReadError;
-use type_reader::reading::look::{after_keyword, is_keyword, is_name, is_sign, name, sign};
+use type_reader::reading::look::{after_keyword, ident, is_keyword, is_name, is_sign, name, sign};
 
 /// Whether names, each behind a point, and `. class` are in front.
 #[tactic(auto, unfolding(crate::specs::ClassFollows::class_follows))]
@@ -52,13 +52,20 @@ pub fn class_follows(tokens: &[Token]) -> bool
 }
 
 /// A class of these names.
-fn class_of(names: Vec<Ident>) -> NestedExpression
-    ensures gives { expr_of result.tree ≡ ClassOf (map name_of names.items) }
-    ensures places { (rest : Places) → expr_places result.tree rest ≡ each_puts (map name_places names.items) rest }
-    ensures small { result.nesting ≡ 1 }
+fn class_of(
+    alloc: Global,
+    names: Vec<Ident>,
+    tokens: &[Token],
+) -> Result<(NestedExpression, &[Token]), ReadError>
+    ensures gives { Gives (λ x. (expr_of x.0.tree.value, map spelled x.1.now)) result (class_end
+        (map name_of names.items, map spelled tokens.now)) }
+    ensures places { IfOk result (λ x. expr_places x.0.tree.value (kept x.1.now) ≡ each_puts
+        (map name_places names.items) (kept tokens.now)) }
+    ensures small { IfOk result (λ x. x.0.nesting ≡ 1) }
+    ensures shorter { IfOk result (λ x. length x.1.now ≤ length tokens.now) }
 {
     let tree = Expression::ClassOf(names);
-    NestedExpression { tree, nesting: 1 }
+    Ok((NestedExpression::new(alloc, tree, 1)?, tokens))
 }
 
 /// The class of this name and of those behind it.
@@ -67,9 +74,9 @@ fn names(
     first: Ident,
     tokens: &[Token],
 ) -> Result<(NestedExpression, &[Token]), ReadError>
-    ensures gives { Gives (λ x. (expr_of x.0.tree, map spelled x.1.now)) result (finished class_end (first.text ∷ [])
+    ensures gives { Gives (λ x. (expr_of x.0.tree.value, map spelled x.1.now)) result (finished class_end (first.text ∷ [])
         (class_at true (map spelled tokens.now))) }
-    ensures places { IfOk result (λ x. expr_places x.0.tree (kept x.1.now) ≡ first.place ∷ kept tokens.now) }
+    ensures places { IfOk result (λ x. expr_places x.0.tree.value (kept x.1.now) ≡ first.place ∷ kept tokens.now) }
     ensures small { IfOk result (λ x. x.0.nesting ≡ 1) }
     ensures shorter { IfOk result (λ x. length x.1.now ≤ length tokens.now) }
 {
@@ -79,7 +86,7 @@ fn names(
     for _ in 0..tokens.len() {
         let after = sign(rest, ".")?;
         if let Some(behind) = after_keyword(after, "class") {
-            return Ok((class_of(names), behind));
+            return class_of(alloc, names, behind);
         }
         let (next, behind) = name(alloc, after)?;
         names.push(next)?;
@@ -89,17 +96,18 @@ fn names(
 }
 
 /// The class of this name, where one follows.
-pub fn class(
+pub fn class<'a>(
     alloc: Global,
-    name: Ident,
-    tokens: &[Token],
-) -> Result<(NestedExpression, &[Token]), ReadError>
+    token: &Token,
+    tokens: &'a [Token],
+) -> Result<(NestedExpression, &'a [Token]), ReadError>
     requires follows { class_follows true (map spelled tokens.now) ≡ true }
-    ensures gives { (read : ℕ → Reading Expr) → Gives (λ x. (expr_of x.0.tree, map spelled x.1.now)) result
-        (name_with read name.text (map spelled tokens.now)) }
-    ensures places { IfOk result (λ x. expr_places x.0.tree (kept x.1.now) ≡ name.place ∷ kept tokens.now) }
+    ensures gives { (read : ℕ → Reading Expr) → Gives (λ x. (expr_of x.0.tree.value, map spelled x.1.now)) result
+        (name_with read token.now.text (map spelled tokens.now)) }
+    ensures places { IfOk result (λ x. expr_places x.0.tree.value (kept x.1.now) ≡ token.now.place ∷ kept tokens.now) }
     ensures small { IfOk result (λ x. x.0.nesting ≡ 1) }
     ensures shorter { IfOk result (λ x. length x.1.now ≤ length tokens.now) }
 {
+    let name = ident(alloc, token)?;
     names(alloc, name, tokens)
 }

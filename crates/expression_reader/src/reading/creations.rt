@@ -15,14 +15,14 @@ use super::arguments::call_arguments;
 use super::expressions::read_expression;
 use super::initialisers::read_array;
 use super::lists::{length_behind, lengths_end};
-use super::nested::{NestedExpression, NestedExpressions};
-use super::operands::{array_of_items, element, is_named, object};
+use super::nested::{NestedExpression, NestedExpressions, push_tree};
+use super::operands::{array_of_items, is_named, new_base, object};
 use java_lexer::Token;
 use racer_base::Place;
 use std::alloc::Global;
 use type_reader::reading::error::ReadError;
 use type_reader::reading::look::{after_brackets, after_sign, brackets, sign};
-use type_reader::reading::made_types::{has_diamond, made_base};
+use type_reader::reading::made_types::has_diamond;
 use type_reader::reading::nested::NestedBase;
 
 /// What stands behind a `new` (JLS 15.9, 15.10). The place is that of the `new`.
@@ -36,13 +36,13 @@ pub fn creation(
 ) -> Result<(NestedExpression, &[Token]), ReadError>
     requires few { length tokens.now < 2 ^ 32 }
     requires room { suc (suc limit) < 2 ^ 32 }
-    ensures gives { Gives (λ x. (expr_of x.0.tree, map spelled x.1.now)) result (new_with (read_at limit)
+    ensures gives { Gives (λ x. (expr_of x.0.tree.value, map spelled x.1.now)) result (new_with (read_at limit)
         (made_base_at limit) (array_at limit) (map spelled tokens.now)) }
-    ensures places { IfOk result (λ x. expr_places x.0.tree (kept x.1.now) ≡ place ∷ kept tokens.now) }
+    ensures places { IfOk result (λ x. expr_places x.0.tree.value (kept x.1.now) ≡ place ∷ kept tokens.now) }
     ensures small { IfOk result (λ x. x.0.nesting ≤ suc limit) }
     ensures shorter { IfOk result (λ x. length x.1.now ≤ length tokens.now) }
 {
-    let (base, rest) = made_base(alloc, limit, tokens)?;
+    let (base, rest) = new_base(alloc, limit, tokens)?;
     if let Some(inside) = after_sign(rest, "(") {
         return new_object(alloc, limit, place, base, inside);
     }
@@ -62,15 +62,15 @@ fn new_object(
     alloc: Global,
     limit: u32,
     place: Place,
-    base: NestedBase,
+    base: Box<NestedBase>,
     tokens: &[Token],
 ) -> Result<(NestedExpression, &[Token]), ReadError>
     requires few { length tokens.now < 2 ^ 32 }
     requires room { suc (suc limit) < 2 ^ 32 }
-    requires base { base.nesting < limit }
-    ensures gives { Gives (λ x. (expr_of x.0.tree, map spelled x.1.now)) result (new_object_with (read_at limit)
-        (base_of base.tree) (map spelled tokens.now)) }
-    ensures places { IfOk result (λ x. expr_places x.0.tree (kept x.1.now) ≡ place ∷ (base_places base.tree
+    requires base { base.value.nesting < limit }
+    ensures gives { Gives (λ x. (expr_of x.0.tree.value, map spelled x.1.now)) result (new_object_with (read_at limit)
+        (base_of base.value.tree) (map spelled tokens.now)) }
+    ensures places { IfOk result (λ x. expr_places x.0.tree.value (kept x.1.now) ≡ place ∷ (base_places base.value.tree
         ++ kept tokens.now)) }
     ensures small { IfOk result (λ x. x.0.nesting ≤ suc limit) }
     ensures shorter { IfOk result (λ x. length x.1.now ≤ length tokens.now) }
@@ -79,7 +79,7 @@ fn new_object(
         return Err(ReadError::Unformed);
     }
     let (all, rest) = call_arguments(alloc, limit, tokens)?;
-    Ok((object(place, element(base), all), rest))
+    object(alloc, place, base, all, rest)
 }
 
 /// An array of lengths (JLS 15.10.1).
@@ -89,15 +89,15 @@ fn new_array(
     alloc: Global,
     limit: u32,
     place: Place,
-    base: NestedBase,
+    base: Box<NestedBase>,
     tokens: &[Token],
 ) -> Result<(NestedExpression, &[Token]), ReadError>
     requires few { length tokens.now < 2 ^ 32 }
     requires room { suc (suc limit) < 2 ^ 32 }
-    requires base { base.nesting < limit }
-    ensures gives { Gives (λ x. (expr_of x.0.tree, map spelled x.1.now)) result
-        (new_array_with (read_at limit assignment_level) (base_of base.tree) (map spelled tokens.now)) }
-    ensures places { IfOk result (λ x. expr_places x.0.tree (kept x.1.now) ≡ place ∷ (base_places base.tree
+    requires base { base.value.nesting < limit }
+    ensures gives { Gives (λ x. (expr_of x.0.tree.value, map spelled x.1.now)) result
+        (new_array_with (read_at limit assignment_level) (base_of base.value.tree) (map spelled tokens.now)) }
+    ensures places { IfOk result (λ x. expr_places x.0.tree.value (kept x.1.now) ≡ place ∷ (base_places base.value.tree
         ++ kept tokens.now)) }
     ensures small { IfOk result (λ x. x.0.nesting ≤ suc limit) }
     ensures shorter { IfOk result (λ x. length x.1.now ≤ length tokens.now) }
@@ -114,25 +114,25 @@ fn lengths(
     alloc: Global,
     limit: u32,
     place: Place,
-    base: NestedBase,
+    base: Box<NestedBase>,
     first: NestedExpression,
     tokens: &[Token],
 ) -> Result<(NestedExpression, &[Token]), ReadError>
     requires few { length tokens.now < 2 ^ 32 }
     requires room { suc (suc limit) < 2 ^ 32 }
-    requires base { base.nesting < limit }
+    requires base { base.value.nesting < limit }
     requires first { first.nesting ≤ limit }
-    ensures gives { Gives (λ x. (expr_of x.0.tree, map spelled x.1.now)) result
-        (finished (lengths_end (base_of base.tree)) (expr_of first.tree ∷ [])
+    ensures gives { Gives (λ x. (expr_of x.0.tree.value, map spelled x.1.now)) result
+        (finished (lengths_end (base_of base.value.tree)) (expr_of first.tree.value ∷ [])
         (lengths_with (read_at limit assignment_level) (length (map spelled tokens.now)) (map spelled tokens.now))) }
-    ensures places { IfOk result (λ x. expr_places x.0.tree (kept x.1.now) ≡ place ∷ (base_places base.tree
-        ++ expr_places first.tree (kept tokens.now))) }
+    ensures places { IfOk result (λ x. expr_places x.0.tree.value (kept x.1.now) ≡ place ∷ (base_places base.value.tree
+        ++ expr_places first.tree.value (kept tokens.now))) }
     ensures small { IfOk result (λ x. x.0.nesting ≤ suc limit) }
     ensures shorter { IfOk result (λ x. length x.1.now ≤ length tokens.now) }
 {
     let mut trees = Vec::new(alloc);
     let mut nesting = first.nesting;
-    trees.push(first.tree)?;
+    push_tree(&mut trees, first.tree)?;
     let mut rest = tokens;
     for _ in 0..tokens.len() {
         let Some(inside) = length_behind(rest) else {
@@ -141,11 +141,11 @@ fn lengths(
         let (next, behind) = read_expression(alloc, limit, 0, inside)?;
         let behind = sign(behind, "]")?;
         nesting = nesting.max(next.nesting);
-        trees.push(next.tree)?;
+        push_tree(&mut trees, next.tree)?;
         rest = behind;
     }
     let all = NestedExpressions { trees, nesting };
-    Ok(lengths_end(place, base, all, rest))
+    lengths_end(alloc, place, base, all, rest)
 }
 
 /// An array of items, behind the first `[ ]` (JLS 15.10.1).
@@ -155,21 +155,21 @@ fn new_items(
     alloc: Global,
     limit: u32,
     place: Place,
-    base: NestedBase,
+    base: Box<NestedBase>,
     tokens: &[Token],
 ) -> Result<(NestedExpression, &[Token]), ReadError>
     requires few { length tokens.now < 2 ^ 32 }
     requires room { suc (suc limit) < 2 ^ 32 }
-    requires base { base.nesting < limit }
+    requires base { base.value.nesting < limit }
     requires more { suc (length tokens.now) < 2 ^ 32 }
-    ensures gives { Gives (λ x. (expr_of x.0.tree, map spelled x.1.now)) result (new_items_with (array_at limit)
-        (base_of base.tree) (map spelled tokens.now)) }
-    ensures places { IfOk result (λ x. expr_places x.0.tree (kept x.1.now) ≡ place ∷ (base_places base.tree
+    ensures gives { Gives (λ x. (expr_of x.0.tree.value, map spelled x.1.now)) result (new_items_with (array_at limit)
+        (base_of base.value.tree) (map spelled tokens.now)) }
+    ensures places { IfOk result (λ x. expr_places x.0.tree.value (kept x.1.now) ≡ place ∷ (base_places base.value.tree
         ++ kept tokens.now)) }
     ensures small { IfOk result (λ x. x.0.nesting ≤ suc limit) }
     ensures shorter { IfOk result (λ x. length x.1.now ≤ length tokens.now) }
 {
     let (more, rest) = brackets(tokens);
     let (items, rest) = read_array(alloc, limit, rest)?;
-    Ok((array_of_items(place, element(base), more, items), rest))
+    array_of_items(alloc, place, base, more, items, rest)
 }

@@ -32,9 +32,9 @@ pub fn read_expression(
 ) -> Result<(NestedExpression, &[Token]), ReadError>
     requires few { length tokens.now < 2 ^ 32 }
     requires room { suc (suc limit) < 2 ^ 32 }
-    ensures gives { Gives (λ x. (expr_of x.0.tree, map spelled x.1.now)) result (read_at limit level
+    ensures gives { Gives (λ x. (expr_of x.0.tree.value, map spelled x.1.now)) result (read_at limit level
         (map spelled tokens.now)) }
-    ensures places { IfOk result (λ x. expr_places x.0.tree (kept x.1.now) ≡ kept tokens.now) }
+    ensures places { IfOk result (λ x. expr_places x.0.tree.value (kept x.1.now) ≡ kept tokens.now) }
     ensures small { IfOk result (λ x. x.0.nesting ≤ limit) }
     ensures shorter { IfOk result (λ x. length x.1.now ≤ length tokens.now) }
 {
@@ -59,9 +59,9 @@ fn climb(
     requires few { length tokens.now < 2 ^ 32 }
     requires room { suc (suc limit) < 2 ^ 32 }
     requires first { first.nesting ≤ suc limit }
-    ensures gives { Gives (λ x. (expr_of x.0.tree, map spelled x.1.now)) result (climb_with (read_at limit) limit
-        level (suc limit) (expr_of first.tree) (map spelled tokens.now)) }
-    ensures places { IfOk result (λ x. expr_places x.0.tree (kept x.1.now) ≡ expr_places first.tree (kept tokens.now)) }
+    ensures gives { Gives (λ x. (expr_of x.0.tree.value, map spelled x.1.now)) result (climb_with (read_at limit) limit
+        level (suc limit) (expr_of first.tree.value) (map spelled tokens.now)) }
+    ensures places { IfOk result (λ x. expr_places x.0.tree.value (kept x.1.now) ≡ expr_places first.tree.value (kept tokens.now)) }
     ensures small { IfOk result (λ x. x.0.nesting ≤ suc limit) }
     ensures shorter { IfOk result (λ x. length x.1.now ≤ length tokens.now) }
 {
@@ -92,9 +92,9 @@ fn turn<'a>(
     requires few { length tokens.now < 2 ^ 32 }
     requires room { suc (suc limit) < 2 ^ 32 }
     requires left { left.nesting ≤ suc limit }
-    ensures gives { Gives turn_of result (turn_with (read_at limit) limit level (expr_of left.tree)
+    ensures gives { Gives turn_of result (turn_with (read_at limit) limit level (expr_of left.tree.value)
         (lead (map spelled tokens.now))) }
-    ensures places { IfOk result (λ x. places_put x (kept tokens.now) ≡ expr_places left.tree (kept tokens.now)) }
+    ensures places { IfOk result (λ x. places_put x (kept tokens.now) ≡ expr_places left.tree.value (kept tokens.now)) }
     ensures small { IfOk result (λ x. IsSmall x (suc limit)) }
     ensures shorter { IfOk result (λ x. IsWithin x (length tokens.now)) }
 {
@@ -127,9 +127,9 @@ fn assign<'a>(
     requires few { length tokens.now < 2 ^ 32 }
     requires room { suc (suc limit) < 2 ^ 32 }
     requires left { left.nesting ≤ suc limit }
-    ensures gives { Gives turn_of result (assign_with (read_at limit) limit (expr_of left.tree) operator.now
+    ensures gives { Gives turn_of result (assign_with (read_at limit) limit (expr_of left.tree.value) operator.now
         (map spelled tokens.now)) }
-    ensures places { IfOk result (λ x. places_put x (kept tokens.now) ≡ expr_places left.tree (kept tokens.now)) }
+    ensures places { IfOk result (λ x. places_put x (kept tokens.now) ≡ expr_places left.tree.value (kept tokens.now)) }
     ensures small { IfOk result (λ x. IsSmall x (suc limit)) }
     ensures shorter { IfOk result (λ x. IsWithin x (length tokens.now)) }
 {
@@ -149,9 +149,9 @@ fn conditional<'a>(
     requires few { length tokens.now < 2 ^ 32 }
     requires room { suc (suc limit) < 2 ^ 32 }
     requires left { left.nesting ≤ suc limit }
-    ensures gives { Gives turn_of result (conditional_with (read_at limit) limit (expr_of left.tree)
+    ensures gives { Gives turn_of result (conditional_with (read_at limit) limit (expr_of left.tree.value)
         (map spelled tokens.now)) }
-    ensures places { IfOk result (λ x. places_put x (kept tokens.now) ≡ expr_places left.tree (kept tokens.now)) }
+    ensures places { IfOk result (λ x. places_put x (kept tokens.now) ≡ expr_places left.tree.value (kept tokens.now)) }
     ensures small { IfOk result (λ x. IsSmall x (suc limit)) }
     ensures shorter { IfOk result (λ x. IsWithin x (length tokens.now)) }
 {
@@ -174,9 +174,9 @@ fn binary<'a>(
     requires few { length tokens.now < 2 ^ 32 }
     requires room { suc (suc limit) < 2 ^ 32 }
     requires left { left.nesting ≤ suc limit }
-    ensures gives { Gives turn_of result (binary_with (read_at limit) limit (expr_of left.tree) operator.now
+    ensures gives { Gives turn_of result (binary_with (read_at limit) limit (expr_of left.tree.value) operator.now
         (map spelled tokens.now)) }
-    ensures places { IfOk result (λ x. places_put x (kept tokens.now) ≡ expr_places left.tree (kept tokens.now)) }
+    ensures places { IfOk result (λ x. places_put x (kept tokens.now) ≡ expr_places left.tree.value (kept tokens.now)) }
     ensures small { IfOk result (λ x. IsSmall x (suc limit)) }
     ensures shorter { IfOk result (λ x. IsWithin x (length tokens.now)) }
 {
@@ -196,9 +196,9 @@ fn select<'a>(
     requires few { length tokens.now < 2 ^ 32 }
     requires room { suc (suc limit) < 2 ^ 32 }
     requires left { left.nesting ≤ suc limit }
-    ensures gives { Gives turn_of result (select_with (read_at limit) limit (expr_of left.tree)
+    ensures gives { Gives turn_of result (select_with (read_at limit) limit (expr_of left.tree.value)
         (map spelled tokens.now)) }
-    ensures places { IfOk result (λ x. places_put x (kept tokens.now) ≡ expr_places left.tree (kept tokens.now)) }
+    ensures places { IfOk result (λ x. places_put x (kept tokens.now) ≡ expr_places left.tree.value (kept tokens.now)) }
     ensures small { IfOk result (λ x. IsSmall x (suc limit)) }
     ensures shorter { IfOk result (λ x. IsWithin x (length tokens.now)) }
 {
@@ -222,13 +222,12 @@ fn index<'a>(
     requires few { length tokens.now < 2 ^ 32 }
     requires room { suc (suc limit) < 2 ^ 32 }
     requires left { left.nesting ≤ suc limit }
-    ensures gives { Gives turn_of result (index_with (read_at limit) limit (expr_of left.tree)
+    ensures gives { Gives turn_of result (index_with (read_at limit) limit (expr_of left.tree.value)
         (map spelled tokens.now)) }
-    ensures places { IfOk result (λ x. places_put x (kept tokens.now) ≡ expr_places left.tree (kept tokens.now)) }
+    ensures places { IfOk result (λ x. places_put x (kept tokens.now) ≡ expr_places left.tree.value (kept tokens.now)) }
     ensures small { IfOk result (λ x. IsSmall x (suc limit)) }
     ensures shorter { IfOk result (λ x. IsWithin x (length tokens.now)) }
 {
     let (index, rest) = read_expression(alloc, limit, 0, tokens)?;
-    let rest = sign(rest, "]")?;
     indexed(alloc, limit, left, index, rest)
 }

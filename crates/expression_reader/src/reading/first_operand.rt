@@ -16,12 +16,11 @@ use super::creations::creation;
 use super::expressions::read_expression;
 use super::leads::{casts, is_prefix, opens_operand};
 use super::nested::NestedExpression;
-use super::operands::{call, cast_to, literal, paren, prefixed, this, variable};
+use super::operands::{call, cast_to, cast_type, literal, paren, prefixed, this, variable};
 use java_lexer::{Token, TokenKind};
 use std::alloc::Global;
 use type_reader::reading::error::ReadError;
-use type_reader::reading::look::{after_sign, ident, name, sign};
-use type_reader::reading::types::read_type;
+use type_reader::reading::look::{after_sign, sign};
 
 /// An expression with no expression at its left.
 #[cycle(expressions)]
@@ -33,9 +32,9 @@ pub fn operand(
 ) -> Result<(NestedExpression, &[Token]), ReadError>
     requires few { length tokens.now < 2 ^ 32 }
     requires room { suc (suc limit) < 2 ^ 32 }
-    ensures gives { Gives (λ x. (expr_of x.0.tree, map spelled x.1.now)) result (operand_with (read_at limit)
+    ensures gives { Gives (λ x. (expr_of x.0.tree.value, map spelled x.1.now)) result (operand_with (read_at limit)
         (ty_at limit) (made_base_at limit) (array_at limit) (map spelled tokens.now)) }
-    ensures places { IfOk result (λ x. expr_places x.0.tree (kept x.1.now) ≡ kept tokens.now) }
+    ensures places { IfOk result (λ x. expr_places x.0.tree.value (kept x.1.now) ≡ kept tokens.now) }
     ensures small { IfOk result (λ x. x.0.nesting ≤ suc limit) }
     ensures shorter { IfOk result (λ x. length x.1.now ≤ length tokens.now) }
 {
@@ -50,7 +49,7 @@ pub fn operand(
         TokenKind::Name => named(alloc, limit, token, rest),
         TokenKind::Sign => signed(alloc, limit, token, rest),
         TokenKind::Fixed | TokenKind::Number | TokenKind::Character | TokenKind::Text => {
-            Ok((literal(alloc, token)?, rest))
+            literal(alloc, token, rest)
         }
     }
 }
@@ -65,16 +64,16 @@ fn word<'a>(
 ) -> Result<(NestedExpression, &'a [Token]), ReadError>
     requires few { length tokens.now < 2 ^ 32 }
     requires room { suc (suc limit) < 2 ^ 32 }
-    ensures gives { Gives (λ x. (expr_of x.0.tree, map spelled x.1.now)) result (operand_of (read_at limit)
+    ensures gives { Gives (λ x. (expr_of x.0.tree.value, map spelled x.1.now)) result (operand_of (read_at limit)
         (ty_at limit) (made_base_at limit) (array_at limit) kind.Keyword token.now.text (map spelled tokens.now)) }
-    ensures places { IfOk result (λ x. expr_places x.0.tree (kept x.1.now) ≡ place_onto kind.Keyword token.now.text
+    ensures places { IfOk result (λ x. expr_places x.0.tree.value (kept x.1.now) ≡ place_onto kind.Keyword token.now.text
         token.now.place (kept tokens.now)) }
     ensures small { IfOk result (λ x. x.0.nesting ≤ suc limit) }
     ensures shorter { IfOk result (λ x. length x.1.now ≤ length tokens.now) }
 {
     let text = token.text.as_str();
     if text == "this" {
-        return Ok((this(), tokens));
+        return this(alloc, tokens);
     }
     if text == "new" {
         return creation(alloc, limit, token.place, tokens);
@@ -93,21 +92,20 @@ fn named<'a>(
 ) -> Result<(NestedExpression, &'a [Token]), ReadError>
     requires few { length tokens.now < 2 ^ 32 }
     requires room { suc (suc limit) < 2 ^ 32 }
-    ensures gives { Gives (λ x. (expr_of x.0.tree, map spelled x.1.now)) result (name_with (read_at limit)
+    ensures gives { Gives (λ x. (expr_of x.0.tree.value, map spelled x.1.now)) result (name_with (read_at limit)
         token.now.text (map spelled tokens.now)) }
-    ensures places { IfOk result (λ x. expr_places x.0.tree (kept x.1.now) ≡ token.now.place ∷ kept tokens.now) }
+    ensures places { IfOk result (λ x. expr_places x.0.tree.value (kept x.1.now) ≡ token.now.place ∷ kept tokens.now) }
     ensures small { IfOk result (λ x. x.0.nesting ≤ suc limit) }
     ensures shorter { IfOk result (λ x. length x.1.now ≤ length tokens.now) }
 {
-    let name = ident(alloc, token)?;
     if class_follows(tokens) {
-        return class(alloc, name, tokens);
+        return class(alloc, token, tokens);
     }
     let Some(inside) = after_sign(tokens, "(") else {
-        return Ok((variable(name), tokens));
+        return variable(alloc, token, tokens);
     };
     let (all, rest) = call_arguments(alloc, limit, inside)?;
-    Ok((call(name, all), rest))
+    call(alloc, token, all, rest)
 }
 
 /// What begins with this sign (JLS 15.15, 15.16, 15.8.5).
@@ -120,9 +118,9 @@ fn signed<'a>(
 ) -> Result<(NestedExpression, &'a [Token]), ReadError>
     requires few { length tokens.now < 2 ^ 32 }
     requires room { suc (suc limit) < 2 ^ 32 }
-    ensures gives { Gives (λ x. (expr_of x.0.tree, map spelled x.1.now)) result (operand_of (read_at limit)
+    ensures gives { Gives (λ x. (expr_of x.0.tree.value, map spelled x.1.now)) result (operand_of (read_at limit)
         (ty_at limit) (made_base_at limit) (array_at limit) kind.Sign token.now.text (map spelled tokens.now)) }
-    ensures places { IfOk result (λ x. expr_places x.0.tree (kept x.1.now) ≡ kept tokens.now) }
+    ensures places { IfOk result (λ x. expr_places x.0.tree.value (kept x.1.now) ≡ kept tokens.now) }
     ensures small { IfOk result (λ x. x.0.nesting ≤ suc limit) }
     ensures shorter { IfOk result (λ x. length x.1.now ≤ length tokens.now) }
 {
@@ -151,9 +149,9 @@ fn prefix<'a>(
 ) -> Result<(NestedExpression, &'a [Token]), ReadError>
     requires few { length tokens.now < 2 ^ 32 }
     requires room { suc (suc limit) < 2 ^ 32 }
-    ensures gives { Gives (λ x. (expr_of x.0.tree, map spelled x.1.now)) result (prefix_with (read_at limit)
+    ensures gives { Gives (λ x. (expr_of x.0.tree.value, map spelled x.1.now)) result (prefix_with (read_at limit)
         operator.now (map spelled tokens.now)) }
-    ensures places { IfOk result (λ x. expr_places x.0.tree (kept x.1.now) ≡ kept tokens.now) }
+    ensures places { IfOk result (λ x. expr_places x.0.tree.value (kept x.1.now) ≡ kept tokens.now) }
     ensures small { IfOk result (λ x. x.0.nesting ≤ suc limit) }
     ensures shorter { IfOk result (λ x. length x.1.now ≤ length tokens.now) }
 {
@@ -170,16 +168,16 @@ fn cast(
 ) -> Result<(NestedExpression, &[Token]), ReadError>
     requires few { length tokens.now < 2 ^ 32 }
     requires room { suc (suc limit) < 2 ^ 32 }
-    ensures gives { Gives (λ x. (expr_of x.0.tree, map spelled x.1.now)) result (cast_with (read_at limit)
+    ensures gives { Gives (λ x. (expr_of x.0.tree.value, map spelled x.1.now)) result (cast_with (read_at limit)
         (ty_at limit) (map spelled tokens.now)) }
-    ensures places { IfOk result (λ x. expr_places x.0.tree (kept x.1.now) ≡ kept tokens.now) }
+    ensures places { IfOk result (λ x. expr_places x.0.tree.value (kept x.1.now) ≡ kept tokens.now) }
     ensures small { IfOk result (λ x. x.0.nesting ≤ suc limit) }
     ensures shorter { IfOk result (λ x. length x.1.now ≤ length tokens.now) }
 {
-    let (kind, rest) = read_type(alloc, limit, tokens)?;
+    let (kind, rest) = cast_type(alloc, limit, tokens)?;
     let rest = sign(rest, ")")?;
     let (part, rest) = read_expression(alloc, limit, 12, rest)?;
-    Ok((cast_to(alloc, kind, part)?, rest))
+    cast_to(alloc, kind, part, rest)
 }
 
 /// Parentheses, behind the `(` (JLS 15.8.5).
@@ -191,15 +189,14 @@ fn parens(
 ) -> Result<(NestedExpression, &[Token]), ReadError>
     requires few { length tokens.now < 2 ^ 32 }
     requires room { suc (suc limit) < 2 ^ 32 }
-    ensures gives { Gives (λ x. (expr_of x.0.tree, map spelled x.1.now)) result (parens_with (read_at limit)
+    ensures gives { Gives (λ x. (expr_of x.0.tree.value, map spelled x.1.now)) result (parens_with (read_at limit)
         (map spelled tokens.now)) }
-    ensures places { IfOk result (λ x. expr_places x.0.tree (kept x.1.now) ≡ kept tokens.now) }
+    ensures places { IfOk result (λ x. expr_places x.0.tree.value (kept x.1.now) ≡ kept tokens.now) }
     ensures small { IfOk result (λ x. x.0.nesting ≤ suc limit) }
     ensures shorter { IfOk result (λ x. length x.1.now ≤ length tokens.now) }
 {
     let (part, rest) = read_expression(alloc, limit, 0, tokens)?;
-    let rest = sign(rest, ")")?;
-    Ok((paren(alloc, part)?, rest))
+    paren(alloc, part, rest)
 }
 
 /// The same with parentheses in them. An operand behind them would make this a cast of no type.
@@ -211,9 +208,9 @@ fn nested_parens(
 ) -> Result<(NestedExpression, &[Token]), ReadError>
     requires few { length tokens.now < 2 ^ 32 }
     requires room { suc (suc limit) < 2 ^ 32 }
-    ensures gives { Gives (λ x. (expr_of x.0.tree, map spelled x.1.now)) result (lone_parens_with (read_at limit)
+    ensures gives { Gives (λ x. (expr_of x.0.tree.value, map spelled x.1.now)) result (lone_parens_with (read_at limit)
         (map spelled tokens.now)) }
-    ensures places { IfOk result (λ x. expr_places x.0.tree (kept x.1.now) ≡ kept tokens.now) }
+    ensures places { IfOk result (λ x. expr_places x.0.tree.value (kept x.1.now) ≡ kept tokens.now) }
     ensures small { IfOk result (λ x. x.0.nesting ≤ suc limit) }
     ensures shorter { IfOk result (λ x. length x.1.now ≤ length tokens.now) }
 {

@@ -8,10 +8,9 @@ ghost use Rattle.type_reader.specs.Endings.{items_end};
 ghost use Rattle.type_reader.specs.ReadAnswer.{Gives};
 
 use super::expressions::read_expression;
-use super::lists::{item_behind, items_end, no_items};
-use super::nested::{NestedArray, NestedInitialiser};
+use super::lists::{expression_value, item_behind, items_end, items_value, no_items};
+use super::nested::{NestedArray, NestedInitialiser, push_tree};
 use java_lexer::Token;
-use java_tree::Initialiser;
 use std::alloc::Global;
 use type_reader::reading::error::ReadError;
 use type_reader::reading::look::{after_sign, sign};
@@ -69,16 +68,16 @@ fn items(
     requires few { length tokens.now < 2 ^ 32 }
     requires room { suc (suc limit) < 2 ^ 32 }
     requires first { first.nesting ≤ limit }
-    ensures gives { Gives (λ x. (array_of x.0.tree, map spelled x.1.now)) result (items_end (init_of first.tree ∷ [])
+    ensures gives { Gives (λ x. (array_of x.0.tree, map spelled x.1.now)) result (items_end (init_of first.tree.value ∷ [])
         (items_with (init_at limit) (length (map spelled tokens.now)) (map spelled tokens.now))) }
-    ensures places { IfOk result (λ x. array_places x.0.tree (kept x.1.now) ≡ init_places first.tree
+    ensures places { IfOk result (λ x. array_places x.0.tree (kept x.1.now) ≡ init_places first.tree.value
         (kept tokens.now)) }
     ensures small { IfOk result (λ x. x.0.nesting ≤ suc limit) }
     ensures shorter { IfOk result (λ x. length x.1.now ≤ length tokens.now) }
 {
     let mut items = Vec::new(alloc);
     let mut nesting = first.nesting;
-    items.push(first.tree)?;
+    push_tree(&mut items, first.tree)?;
     let mut rest = tokens;
     for _ in 0..tokens.len() {
         let Some(after) = item_behind(rest) else {
@@ -86,7 +85,7 @@ fn items(
         };
         let (next, after) = read_initialiser(alloc, limit, after)?;
         nesting = nesting.max(next.nesting);
-        items.push(next.tree)?;
+        push_tree(&mut items, next.tree)?;
         rest = after;
     }
     Err(ReadError::Unformed)
@@ -101,20 +100,16 @@ pub fn read_initialiser(
 ) -> Result<(NestedInitialiser, &[Token]), ReadError>
     requires few { length tokens.now < 2 ^ 32 }
     requires room { suc (suc limit) < 2 ^ 32 }
-    ensures gives { Gives (λ x. (init_of x.0.tree, map spelled x.1.now)) result
+    ensures gives { Gives (λ x. (init_of x.0.tree.value, map spelled x.1.now)) result
         (init_at limit (map spelled tokens.now)) }
-    ensures places { IfOk result (λ x. init_places x.0.tree (kept x.1.now) ≡ kept tokens.now) }
+    ensures places { IfOk result (λ x. init_places x.0.tree.value (kept x.1.now) ≡ kept tokens.now) }
     ensures small { IfOk result (λ x. x.0.nesting ≤ limit) }
     ensures shorter { IfOk result (λ x. length x.1.now ≤ length tokens.now) }
 {
     if after_sign(tokens, "{").is_some() {
         let (items, rest) = read_array(alloc, limit, tokens)?;
-        let nesting = items.nesting;
-        let tree = Initialiser::Items(items.tree);
-        return Ok((NestedInitialiser { tree, nesting }, rest));
+        return items_value(alloc, items, rest);
     }
     let (value, rest) = read_expression(alloc, limit, 0, tokens)?;
-    let nesting = value.nesting;
-    let tree = Initialiser::Value(value.tree);
-    Ok((NestedInitialiser { tree, nesting }, rest))
+    expression_value(alloc, value, rest)
 }

@@ -1,17 +1,18 @@
 //! Lists in expressions, at their end: arguments, lengths and items of arrays.
-ghost use Rattle.std.specs.Prelude.{◌≡◌, ◌<◌, ◌≤◌, ◌^◌, suc, max, false, [], ◌∷◌, ◌++◌, Some, None, MatchOption};
+ghost use Rattle.std.specs.Prelude.{◌≡◌, ◌<◌, ◌≤◌, ◌^◌, suc, max, false, [], ◌∷◌, ◌++◌, None, MatchOption};
 ghost use Rattle.std.specs.Prelude.{length, map, IfSome, IfOk};
 ghost use Rattle.java_tree.specs.KeptPlaces.{Places, kept, each_puts, base_places, expr_places, init_places};
 ghost use Rattle.java_tree.specs.KeptPlaces.{array_places};
 ghost use Rattle.java_tree.specs.Nesting.{exprs_nesting, inits_nesting};
-ghost use Rattle.java_tree.specs.Trees.{Braces, no_init, pack_exprs, pack_inits};
+ghost use Rattle.java_tree.specs.Trees.{Braces, Value, Items, no_init, pack_exprs, pack_inits};
 ghost use Rattle.java_tree.specs.View.{ty_of, base_of, expr_of, init_of, array_of};
 ghost use Rattle.type_reader.specs.Tokens.{spelled};
 ghost use Rattle.type_reader.specs.Endings.{call_end, lengths_end, length_behind, item_behind, items_close};
 ghost use Rattle.type_reader.specs.Endings.{items_end};
+ghost use Rattle.expression_reader.specs.Closings.{as_read};
 ghost use Rattle.type_reader.specs.ReadAnswer.{Gives};
 
-use super::nested::{NestedArray, NestedExpression, NestedExpressions};
+use super::nested::{NestedArray, NestedExpression, NestedExpressions, NestedInitialiser};
 use super::operands::element;
 use java_lexer::Token;
 use java_tree::{ArrayTree, Expression, Initialiser};
@@ -64,26 +65,27 @@ pub fn length_behind(tokens: &[Token]) -> Option<&[Token]>
 
 /// An array of these lengths, and the `[ ]` behind them (JLS 15.10.1).
 pub fn lengths_end(
+    alloc: Global,
     place: Place,
-    base: NestedBase,
+    base: Box<NestedBase>,
     lengths: NestedExpressions,
     tokens: &[Token],
-) -> (NestedExpression, &[Token])
+) -> Result<(NestedExpression, &[Token]), ReadError>
     requires few { length tokens.now < 2 ^ 32 }
-    requires base { suc (suc base.nesting) < 2 ^ 32 }
+    requires base { suc (suc base.value.nesting) < 2 ^ 32 }
     requires lengths { suc lengths.nesting < 2 ^ 32 }
-    ensures gives { Some (expr_of result.0.tree, map spelled result.1.now) ≡ lengths_end (base_of base.tree)
-        (map expr_of lengths.trees.items, map spelled tokens.now) }
-    ensures places { expr_places result.0.tree (kept result.1.now) ≡ place ∷ (base_places base.tree
-        ++ each_puts (map expr_places lengths.trees.items) (kept tokens.now)) }
-    ensures small { result.0.nesting ≡ suc (max (suc base.nesting) lengths.nesting) }
-    ensures shorter { length result.1.now ≤ length tokens.now }
+    ensures gives { Gives (λ x. (expr_of x.0.tree.value, map spelled x.1.now)) result (lengths_end (base_of base.value.tree)
+        (map expr_of lengths.trees.items, map spelled tokens.now)) }
+    ensures places { IfOk result (λ x. expr_places x.0.tree.value (kept x.1.now) ≡ place ∷ (base_places base.value.tree
+        ++ each_puts (map expr_places lengths.trees.items) (kept tokens.now))) }
+    ensures small { IfOk result (λ x. x.0.nesting ≡ suc (max (suc base.value.nesting) lengths.nesting)) }
+    ensures shorter { IfOk result (λ x. length x.1.now ≤ length tokens.now) }
 {
     let kind = element(base);
     let nesting = 1 + kind.nesting.max(lengths.nesting);
     let (arrays, rest) = brackets(tokens);
     let tree = Expression::NewArray(place, kind.tree, lengths.trees, arrays);
-    (NestedExpression { tree, nesting }, rest)
+    Ok((NestedExpression::new(alloc, tree, nesting)?, rest))
 }
 
 /// An array initialiser of these items (JLS 10.6).
@@ -143,4 +145,40 @@ pub fn items_end(
     };
     let rest = sign(after, "}")?;
     Ok((braced(items, nesting, true), rest))
+}
+
+/// An array initialiser as what a variable begins with (JLS 8.3).
+pub fn items_value(
+    alloc: Global,
+    items: NestedArray,
+    tokens: &[Token],
+) -> Result<(NestedInitialiser, &[Token]), ReadError>
+    ensures gives { Gives (λ x. (init_of x.0.tree.value, map spelled x.1.now)) result (as_read
+        (Items (array_of items.tree)) (map spelled tokens.now)) }
+    ensures places { IfOk result (λ x. init_places x.0.tree.value (kept x.1.now) ≡ array_places items.tree
+        (kept tokens.now)) }
+    ensures small { IfOk result (λ x. x.0.nesting ≡ items.nesting) }
+    ensures shorter { IfOk result (λ x. length x.1.now ≤ length tokens.now) }
+{
+    let nesting = items.nesting;
+    let tree = Initialiser::Items(items.tree);
+    Ok((NestedInitialiser::new(alloc, tree, nesting)?, tokens))
+}
+
+/// An expression as what a variable begins with (JLS 8.3).
+pub fn expression_value(
+    alloc: Global,
+    value: NestedExpression,
+    tokens: &[Token],
+) -> Result<(NestedInitialiser, &[Token]), ReadError>
+    ensures gives { Gives (λ x. (init_of x.0.tree.value, map spelled x.1.now)) result (as_read
+        (Value (expr_of value.tree.value)) (map spelled tokens.now)) }
+    ensures places { IfOk result (λ x. init_places x.0.tree.value (kept x.1.now) ≡ expr_places value.tree.value
+        (kept tokens.now)) }
+    ensures small { IfOk result (λ x. x.0.nesting ≡ value.nesting) }
+    ensures shorter { IfOk result (λ x. length x.1.now ≤ length tokens.now) }
+{
+    let nesting = value.nesting;
+    let tree = Initialiser::Value(Box::into_inner(value.tree));
+    Ok((NestedInitialiser::new(alloc, tree, nesting)?, tokens))
 }

@@ -30,7 +30,7 @@ fn whole_initialiser(alloc: Global, limit: u32, tokens: &[Token]) -> Result<Init
     if !rest.is_empty() {
         return Err(ReadError::Unformed);
     }
-    Ok(value.tree)
+    Ok(Box::into_inner(value.tree))
 }
 
 /// The formed expression or array initialiser that these tokens spell, of a nesting within the limit (JLS 8.3, 10.6).

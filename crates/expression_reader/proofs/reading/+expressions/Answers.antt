@@ -1,4 +1,4 @@
-use Rattle.std.proofs.Common.{rules, codes, true, false, ◌≡◌, suc, ◌++◌, ◌∷◌, [], length, map, sym, ap}
+use Rattle.std.proofs.Common.{rules, codes, true, false, ◌≡◌, suc, ◌++◌, ◌∷◌, [], length, map, ap}
 use Rattle.std.proofs.Common.{◌∙◌, arith}
 use Rattle.std.proofs.lemmas.Result.{err_from_is_err_and}
 use Rattle.std.proofs.lemmas.List.{map_push}
@@ -37,9 +37,9 @@ expressions::climb-loop-preserved t c =
     let shorter = rw c.in-Next.is at c.in_ok-whole.ensures.shorter in
     let places = rw c.in-Next.is at c.in_ok-whole.ensures.places in
     record {
-      gives = climbs_on (read_at n) n c.args.level c.loop.counter (expr_of c.loop.tree.tree)
-          (expr_of c.in-Next.larger.tree) (map spelled c.loop.rest.now) (map spelled c.in-Next.after.now)
-          (climb_with (read_at n) n c.args.level (suc n) (expr_of c.args.first.tree) (map spelled c.args.tokens.now))
+      gives = climbs_on (read_at n) n c.args.level c.loop.counter (expr_of c.loop.tree.tree.value)
+          (expr_of c.in-Next.larger.tree.value) (map spelled c.loop.rest.now) (map spelled c.in-Next.after.now)
+          (climb_with (read_at n) n c.args.level (suc n) (expr_of c.args.first.tree.value) (map spelled c.args.tokens.now))
           (omega arith) gives c.loop.invariant.gives;
       places = places ∙ c.loop.invariant.places;
       small = small;
@@ -64,7 +64,7 @@ pub arguments::arguments-returns-in_err-next-clause-gives : goal.arguments::argu
 arguments::arguments-returns-in_err-next-clause-gives t c =
     let read = read_at c.args.limit assignment_level in
     let total =
-    finished call_end (expr_of c.args.first.tree ∷ []) (commas read (length (map spelled c.args.tokens.now))
+    finished call_end (expr_of c.args.first.tree.value ∷ []) (commas read (length (map spelled c.args.tokens.now))
     (map spelled c.args.tokens.now)) in
     let p = err_from_is_err_and c.from_residual-in_err-next.result c.from_residual-in_err-next.ensures.1 in
     rw (p.1, p.2) (comma_fails read call_end total c.args.tokens.now c.loop.counter (map expr_of c.loop.trees.items)
@@ -73,19 +73,19 @@ arguments::arguments-returns-in_err-next-clause-gives t c =
 
 pub arguments::arguments-loop-preserved : goal.arguments::arguments-loop-preserved
 arguments::arguments-loop-preserved t c =
-    let n = c.in_ok-next.next.tree in
-    let e : map expr_of c.push-in-loop.new.self.items ≡ map expr_of c.loop.trees.items ++ expr_of n ∷ [] =
-    rw c.in_ok-push-2.ensures.items (map_push _ c.loop.trees.items n) in
+    let n = c.in_ok-next.next.tree.value in
+    let e : map expr_of c.push_tree-in-loop.new.trees.items ≡ map expr_of c.loop.trees.items ++ expr_of n ∷ [] =
+    rw c.in_ok-push_tree-2.ensures.items (map_push _ c.loop.trees.items n) in
     let read = read_at c.args.limit assignment_level in
     let total =
-    finished call_end (expr_of c.args.first.tree ∷ []) (commas read (length (map spelled c.args.tokens.now))
+    finished call_end (expr_of c.args.first.tree.value ∷ []) (commas read (length (map spelled c.args.tokens.now))
     (map spelled c.args.tokens.now)) in
     record {
       gives = rw e (comma_goes_on read call_end total c.args.tokens.now c.loop.counter
           (map expr_of c.loop.trees.items) (expr_of n) (map spelled c.loop.rest.now) (map spelled c.in-Some.after.now)
           (map spelled c.in_ok-next.after.now) c.loop-test.true c.in-Some.ensures.gives c.in_ok-next.ensures.gives
           c.loop.invariant.gives);
-      places = rw c.in_ok-push-2.ensures.items (one_put expr_places c.loop.trees.items n (kept c.loop.rest.now)
+      places = rw c.in_ok-push_tree-2.ensures.items (one_put expr_places c.loop.trees.items n (kept c.loop.rest.now)
           (kept c.in_ok-next.after.now) _ (c.in_ok-next.ensures.places ∙ c.in-Some.ensures.places)
           c.loop.invariant.places);
       small = omega (arith, c.in_ok-next.ensures.small, c.max-nesting.ensures);
@@ -103,7 +103,7 @@ pub arguments::arguments-returns-clause-gives : goal.arguments::arguments-return
 arguments::arguments-returns-clause-gives t c =
     let read = read_at c.args.limit assignment_level in
     let total =
-    finished call_end (expr_of c.args.first.tree ∷ []) (commas read (length (map spelled c.args.tokens.now))
+    finished call_end (expr_of c.args.first.tree.value ∷ []) (commas read (length (map spelled c.args.tokens.now))
     (map spelled c.args.tokens.now)) in
     elim c.loop-test.branch [
       | arguments::arguments-else-loop-test w ↦ ends_give _ c.call_end.result total _ (comma_runs_out read call_end
@@ -120,9 +120,9 @@ arguments::arguments-returns-clause-gives t c =
 pub creations::lengths-returns-in_err-next-clause-gives : goal.creations::lengths-returns-in_err-next-clause-gives
 creations::lengths-returns-in_err-next-clause-gives t c =
     let read = read_at c.args.limit assignment_level in
-    let end = lengths_end (base_of c.args.base.tree) in
+    let end = lengths_end (base_of c.args.base.value.tree) in
     let total =
-    finished end (expr_of c.args.first.tree ∷ []) (lengths_with read (length (map spelled c.args.tokens.now))
+    finished end (expr_of c.args.first.tree.value ∷ []) (lengths_with read (length (map spelled c.args.tokens.now))
     (map spelled c.args.tokens.now)) in
     let p = err_from_is_err_and c.from_residual-in_err-next.result c.from_residual-in_err-next.ensures.1 in
     rw (p.1, p.2) (length_fails read end total c.args.tokens.now c.loop.counter (map expr_of c.loop.trees.items)
@@ -132,32 +132,32 @@ creations::lengths-returns-in_err-next-clause-gives t c =
 pub creations::lengths-returns-in_err-behind-clause-gives : goal.creations::lengths-returns-in_err-behind-clause-gives
 creations::lengths-returns-in_err-behind-clause-gives t c =
     let read = read_at c.args.limit assignment_level in
-    let end = lengths_end (base_of c.args.base.tree) in
+    let end = lengths_end (base_of c.args.base.value.tree) in
     let total =
-    finished end (expr_of c.args.first.tree ∷ []) (lengths_with read (length (map spelled c.args.tokens.now))
+    finished end (expr_of c.args.first.tree.value ∷ []) (lengths_with read (length (map spelled c.args.tokens.now))
     (map spelled c.args.tokens.now)) in
     let p = err_from_is_err_and c.from_residual-in_err-behind.result c.from_residual-in_err-behind.ensures.1 in
     rw (p.1, p.2) (length_unclosed read end total c.args.tokens.now c.loop.counter (map expr_of c.loop.trees.items)
-    (map spelled c.loop.rest.now) c.in_err-behind.field-0.0 (expr_of c.in_ok-next.next.tree)
+    (map spelled c.loop.rest.now) c.in_err-behind.field-0.0 (expr_of c.in_ok-next.next.tree.value)
     (map spelled c.in-Some.inside.now) (map spelled c.in_ok-next.behind.now) c.loop-test.true
     c.in-Some.ensures.gives c.in_ok-next.ensures.gives c.in_err-behind.ensures.gives c.loop.invariant.gives)
 
 pub creations::lengths-loop-preserved : goal.creations::lengths-loop-preserved
 creations::lengths-loop-preserved t c =
-    let n = c.in_ok-next.next.tree in
-    let e : map expr_of c.push-in-loop.new.self.items ≡ map expr_of c.loop.trees.items ++ expr_of n ∷ [] =
-    rw c.in_ok-push-2.ensures.items (map_push _ c.loop.trees.items n) in
+    let n = c.in_ok-next.next.tree.value in
+    let e : map expr_of c.push_tree-in-loop.new.trees.items ≡ map expr_of c.loop.trees.items ++ expr_of n ∷ [] =
+    rw c.in_ok-push_tree-2.ensures.items (map_push _ c.loop.trees.items n) in
     let read = read_at c.args.limit assignment_level in
-    let end = lengths_end (base_of c.args.base.tree) in
+    let end = lengths_end (base_of c.args.base.value.tree) in
     let total =
-    finished end (expr_of c.args.first.tree ∷ []) (lengths_with read (length (map spelled c.args.tokens.now))
+    finished end (expr_of c.args.first.tree.value ∷ []) (lengths_with read (length (map spelled c.args.tokens.now))
     (map spelled c.args.tokens.now)) in
     record {
       gives = rw e (length_goes_on read end total c.args.tokens.now c.loop.counter (map expr_of c.loop.trees.items)
           (map spelled c.loop.rest.now) (expr_of n) (map spelled c.in-Some.inside.now)
           (map spelled c.in_ok-next.behind.now) (map spelled c.in_ok-behind.behind.now) c.loop-test.true
           c.in-Some.ensures.gives c.in_ok-next.ensures.gives c.in_ok-behind.ensures.gives c.loop.invariant.gives);
-      places = rw c.in_ok-push-2.ensures.items (one_put expr_places c.loop.trees.items n (kept c.loop.rest.now)
+      places = rw c.in_ok-push_tree-2.ensures.items (one_put expr_places c.loop.trees.items n (kept c.loop.rest.now)
           (kept c.in_ok-behind.behind.now) _ (ap (expr_places n) c.in_ok-behind.ensures.places
           ∙ (c.in_ok-next.ensures.places ∙ c.in-Some.ensures.places)) c.loop.invariant.places);
       small = omega (arith, c.in_ok-next.ensures.small, c.max-nesting.ensures);
@@ -174,17 +174,17 @@ creations::lengths-loop-preserved t c =
 pub creations::lengths-returns-clause-gives : goal.creations::lengths-returns-clause-gives
 creations::lengths-returns-clause-gives t c =
     let read = read_at c.args.limit assignment_level in
-    let end = lengths_end (base_of c.args.base.tree) in
+    let end = lengths_end (base_of c.args.base.value.tree) in
     let total =
-    finished end (expr_of c.args.first.tree ∷ []) (lengths_with read (length (map spelled c.args.tokens.now))
+    finished end (expr_of c.args.first.tree.value ∷ []) (lengths_with read (length (map spelled c.args.tokens.now))
     (map spelled c.args.tokens.now)) in
     elim c.loop-test.branch [
-      | creations::lengths-else-loop-test w ↦ length_runs_out read end total c.args.tokens.now c.loop.counter
-          (map expr_of c.loop.trees.items) (map spelled c.loop.rest.now) w.loop-test.false c.loop.invariant.gives
-          ∙ sym c.lengths_end.ensures.gives
-      | creations::lengths-then-loop-test+in_default w ↦ length_ends read end total c.args.tokens.now c.loop.counter
-          (map expr_of c.loop.trees.items) (map spelled c.loop.rest.now) w.loop-test.true w.in_default.ensures.gives
-          c.loop.invariant.gives ∙ sym c.lengths_end.ensures.gives
+      | creations::lengths-else-loop-test w ↦ ends_give _ c.lengths_end.result total _ (length_runs_out read end
+          total c.args.tokens.now c.loop.counter (map expr_of c.loop.trees.items) (map spelled c.loop.rest.now)
+          w.loop-test.false c.loop.invariant.gives) c.lengths_end.ensures.gives
+      | creations::lengths-then-loop-test+in_default w ↦ ends_give _ c.lengths_end.result total _ (length_ends read
+          end total c.args.tokens.now c.loop.counter (map expr_of c.loop.trees.items) (map spelled c.loop.rest.now)
+          w.loop-test.true w.in_default.ensures.gives c.loop.invariant.gives) c.lengths_end.ensures.gives
     ]
 
 -- ---- items of arrays
@@ -192,7 +192,7 @@ creations::lengths-returns-clause-gives t c =
 pub initialisers::items-returns-in_default-clause-gives : goal.initialisers::items-returns-in_default-clause-gives
 initialisers::items-returns-in_default-clause-gives t c =
     let read = init_at c.args.limit in
-    let total = items_end (init_of c.args.first.tree ∷ []) (items_with read (length (map spelled c.args.tokens.now))
+    let total = items_end (init_of c.args.first.tree.value ∷ []) (items_with read (length (map spelled c.args.tokens.now))
     (map spelled c.args.tokens.now)) in
     ends_give _ c.items_end.result total _ (items_stop read total c.args.tokens.now c.loop.counter
     (map init_of c.loop.items.items) (map spelled c.loop.rest.now) c.loop-test.true c.in_default.ensures.gives
@@ -201,7 +201,7 @@ initialisers::items-returns-in_default-clause-gives t c =
 pub initialisers::items-returns-in_err-next-clause-gives : goal.initialisers::items-returns-in_err-next-clause-gives
 initialisers::items-returns-in_err-next-clause-gives t c =
     let read = init_at c.args.limit in
-    let total = items_end (init_of c.args.first.tree ∷ []) (items_with read (length (map spelled c.args.tokens.now))
+    let total = items_end (init_of c.args.first.tree.value ∷ []) (items_with read (length (map spelled c.args.tokens.now))
     (map spelled c.args.tokens.now)) in
     let p = err_from_is_err_and c.from_residual-in_err-next.result c.from_residual-in_err-next.ensures.1 in
     rw (p.1, p.2) (item_fails read total c.args.tokens.now c.loop.counter (map init_of c.loop.items.items)
@@ -210,18 +210,18 @@ initialisers::items-returns-in_err-next-clause-gives t c =
 
 pub initialisers::items-loop-preserved : goal.initialisers::items-loop-preserved
 initialisers::items-loop-preserved t c =
-    let n = c.in_ok-next.next.tree in
-    let e : map init_of c.push-in-loop.new.self.items ≡ map init_of c.loop.items.items ++ init_of n ∷ [] =
-    rw c.in_ok-push-2.ensures.items (map_push _ c.loop.items.items n) in
+    let n = c.in_ok-next.next.tree.value in
+    let e : map init_of c.push_tree-in-loop.new.trees.items ≡ map init_of c.loop.items.items ++ init_of n ∷ [] =
+    rw c.in_ok-push_tree-2.ensures.items (map_push _ c.loop.items.items n) in
     let read = init_at c.args.limit in
-    let total = items_end (init_of c.args.first.tree ∷ []) (items_with read (length (map spelled c.args.tokens.now))
+    let total = items_end (init_of c.args.first.tree.value ∷ []) (items_with read (length (map spelled c.args.tokens.now))
     (map spelled c.args.tokens.now)) in
     record {
       gives = rw e (item_goes_on read total c.args.tokens.now c.loop.counter (map init_of c.loop.items.items)
           (map spelled c.loop.rest.now) (init_of n) (map spelled c.in-Some.after.now)
           (map spelled c.in_ok-next.after.now) c.loop-test.true c.in-Some.ensures.gives c.in_ok-next.ensures.gives
           c.loop.invariant.gives);
-      places = rw c.in_ok-push-2.ensures.items (one_put init_places c.loop.items.items n (kept c.loop.rest.now)
+      places = rw c.in_ok-push_tree-2.ensures.items (one_put init_places c.loop.items.items n (kept c.loop.rest.now)
           (kept c.in_ok-next.after.now) _ (c.in_ok-next.ensures.places ∙ c.in-Some.ensures.places)
           c.loop.invariant.places);
       small = omega (arith, c.in_ok-next.ensures.small, c.max-nesting.ensures);
@@ -238,7 +238,7 @@ initialisers::items-loop-preserved t c =
 pub initialisers::items-returns-clause-gives : goal.initialisers::items-returns-clause-gives
 initialisers::items-returns-clause-gives t c =
     let read = init_at c.args.limit in
-    let total = items_end (init_of c.args.first.tree ∷ []) (items_with read (length (map spelled c.args.tokens.now))
+    let total = items_end (init_of c.args.first.tree.value ∷ []) (items_with read (length (map spelled c.args.tokens.now))
     (map spelled c.args.tokens.now)) in
     items_run_out read total c.args.tokens.now c.loop.counter (map init_of c.loop.items.items)
     (map spelled c.loop.rest.now) c.loop-test.false c.loop.invariant.gives

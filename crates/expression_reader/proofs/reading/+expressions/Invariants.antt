@@ -13,10 +13,10 @@ use Rattle.expression_reader.proofs.reading.+expressions.Given as goal
 
 abbrev pub invariant-expressions::climb-loop : goal.invariant-expressions::climb-loop
 invariant-expressions::climb-loop l = record {
-  gives : climb_with (read_at l.limit) l.limit l.level (suc l.limit - l.counter) (expr_of l.tree.tree)
-      (map spelled l.rest) ≡ climb_with (read_at l.limit) l.limit l.level (suc l.limit) (expr_of l.fn.first.tree)
+  gives : climb_with (read_at l.limit) l.limit l.level (suc l.limit - l.counter) (expr_of l.tree.tree.value)
+      (map spelled l.rest) ≡ climb_with (read_at l.limit) l.limit l.level (suc l.limit) (expr_of l.fn.first.tree.value)
       (map spelled l.tokens);
-  places : expr_places l.tree.tree (kept l.rest) ≡ expr_places l.fn.first.tree (kept l.tokens);
+  places : expr_places l.tree.tree.value (kept l.rest) ≡ expr_places l.fn.first.tree.value (kept l.tokens);
   small : l.tree.nesting ≤ suc l.limit;
   shorter : length l.rest ≤ length l.tokens;
 }
@@ -24,9 +24,9 @@ invariant-expressions::climb-loop l = record {
 abbrev pub invariant-arguments::arguments-loop : goal.invariant-arguments::arguments-loop
 invariant-arguments::arguments-loop l = record {
   gives : finished call_end (map expr_of l.trees.items) (commas (read_at l.limit assignment_level)
-      (length (map spelled l.tokens) - l.counter) (map spelled l.rest)) ≡ finished call_end (expr_of l.fn.first.tree
+      (length (map spelled l.tokens) - l.counter) (map spelled l.rest)) ≡ finished call_end (expr_of l.fn.first.tree.value
       ∷ []) (commas (read_at l.limit assignment_level) (length (map spelled l.tokens)) (map spelled l.tokens));
-  places : each_puts (map expr_places l.trees.items) (kept l.rest) ≡ expr_places l.fn.first.tree (kept l.tokens);
+  places : each_puts (map expr_places l.trees.items) (kept l.rest) ≡ expr_places l.fn.first.tree.value (kept l.tokens);
   small : l.nesting ≤ l.limit;
   measured : l.nesting ≡ exprs_nesting (pack_exprs (map expr_of l.trees.items));
   shorter : length l.rest ≤ length l.tokens;
@@ -34,11 +34,11 @@ invariant-arguments::arguments-loop l = record {
 
 abbrev pub invariant-creations::lengths-loop : goal.invariant-creations::lengths-loop
 invariant-creations::lengths-loop l = record {
-  gives : finished (lengths_end (base_of l.base.tree)) (map expr_of l.trees.items)
+  gives : finished (lengths_end (base_of l.base.value.tree)) (map expr_of l.trees.items)
       (lengths_with (read_at l.limit assignment_level) (length (map spelled l.tokens) - l.counter)
-      (map spelled l.rest)) ≡ finished (lengths_end (base_of l.base.tree)) (expr_of l.fn.first.tree ∷ [])
+      (map spelled l.rest)) ≡ finished (lengths_end (base_of l.base.value.tree)) (expr_of l.fn.first.tree.value ∷ [])
       (lengths_with (read_at l.limit assignment_level) (length (map spelled l.tokens)) (map spelled l.tokens));
-  places : each_puts (map expr_places l.trees.items) (kept l.rest) ≡ expr_places l.fn.first.tree (kept l.tokens);
+  places : each_puts (map expr_places l.trees.items) (kept l.rest) ≡ expr_places l.fn.first.tree.value (kept l.tokens);
   small : l.nesting ≤ l.limit;
   measured : l.nesting ≡ exprs_nesting (pack_exprs (map expr_of l.trees.items));
   shorter : length l.rest ≤ length l.tokens;
@@ -47,9 +47,9 @@ invariant-creations::lengths-loop l = record {
 abbrev pub invariant-initialisers::items-loop : goal.invariant-initialisers::items-loop
 invariant-initialisers::items-loop l = record {
   gives : items_end (map init_of l.items.items) (items_with (init_at l.limit) (length (map spelled l.tokens)
-      - l.counter) (map spelled l.rest)) ≡ items_end (init_of l.fn.first.tree ∷ []) (items_with (init_at l.limit)
+      - l.counter) (map spelled l.rest)) ≡ items_end (init_of l.fn.first.tree.value ∷ []) (items_with (init_at l.limit)
       (length (map spelled l.tokens)) (map spelled l.tokens));
-  places : each_puts (map init_places l.items.items) (kept l.rest) ≡ init_places l.fn.first.tree (kept l.tokens);
+  places : each_puts (map init_places l.items.items) (kept l.rest) ≡ init_places l.fn.first.tree.value (kept l.tokens);
   small : l.nesting ≤ l.limit;
   measured : l.nesting ≡ inits_nesting (pack_inits (map init_of l.items.items));
   shorter : length l.rest ≤ length l.tokens;

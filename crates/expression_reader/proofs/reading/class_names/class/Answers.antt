@@ -1,4 +1,4 @@
-use Rattle.std.proofs.Common.{map}
+use Rattle.std.proofs.Common.{rules, ◌≡◌, map}
 use Rattle.type_reader.specs.Tokens.{spelled}
 use Rattle.expression_reader.proofs.ClassFacts.{class_given}
 use Rattle.type_reader.proofs.ReadLoops.{ends_give}
@@ -6,5 +6,7 @@ use Rattle.expression_reader.proofs.reading.class_names.class.Goals as goal
 
 pub returns-clause-gives : goal.returns-clause-gives
 returns-clause-gives c read =
-    ends_give _ c.names.result _ _ (class_given read c.args.name.text (map spelled c.args.tokens.now)
-    c.requires.follows) c.names.ensures.gives
+    let ts = map spelled c.args.tokens.now in
+    let same : c.args.token.now.text ≡ c.in_ok-name.name.text = search rules in
+    rw same (ends_give _ c.names.result _ _ (class_given read c.in_ok-name.name.text ts c.requires.follows)
+    c.names.ensures.gives)

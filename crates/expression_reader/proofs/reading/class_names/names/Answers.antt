@@ -8,6 +8,7 @@ use Rattle.expression_reader.specs.ClassFollows.{class_end}
 use Rattle.type_reader.specs.Tokens.{spelled}
 use Rattle.type_reader.specs.Finishing.{finished}
 use Rattle.type_reader.proofs.PutPlaces.{one_put}
+use Rattle.type_reader.proofs.ReadLoops.{ends_give}
 use Rattle.expression_reader.proofs.ClassFacts.{class_unpointed, class_goes_on, class_ends, class_fails, class_runs_out}
 use Rattle.expression_reader.proofs.reading.class_names.names.Goals as goal
 
@@ -37,9 +38,9 @@ returns-in_err-after-clause-gives c =
 pub returns-in-Some-clause-gives : goal.returns-in-Some-clause-gives
 returns-in-Some-clause-gives c =
     let total = finished class_end (c.args.first.text ∷ []) (class_at true (map spelled c.args.tokens.now)) in
-    rw c.class_of.ensures.gives (class_ends total (map name_of c.loop.names.items) (map spelled c.loop.rest.now)
-    (map spelled c.in_ok-after.after.now) (map spelled c.in-Some.behind.now) c.in_ok-after.ensures.gives
-    c.in-Some.ensures.gives c.loop.invariant.gives)
+    ends_give _ c.class_of.result total _ (class_ends total (map name_of c.loop.names.items)
+    (map spelled c.loop.rest.now) (map spelled c.in_ok-after.after.now) (map spelled c.in-Some.behind.now)
+    c.in_ok-after.ensures.gives c.in-Some.ensures.gives c.loop.invariant.gives) c.class_of.ensures.gives
 
 pub returns-in_err-next-clause-gives : goal.returns-in_err-next-clause-gives
 returns-in_err-next-clause-gives c =

@@ -1,4 +1,4 @@
-use Rattle.std.proofs.Common.{◌≡◌, ◌∷◌, Some, Box, Vec, Global, IfOk, map, ap, ◌∙◌, subst, rules}
+use Rattle.std.proofs.Common.{◌≡◌, ◌∷◌, Some, Box, Vec, Global, IfOk, map, subst, rules}
 use Rattle.java_tree.specs.declared.words.Ident.{Ident}
 use Rattle.java_tree.specs.declared.expressions.Expression.{Expression}
 use Rattle.java_tree.specs.declared.expressions.Expression.TheVariants as expression
@@ -23,15 +23,11 @@ places_of_call a x all rest = search (rules, the_lemmas)
 
 pub returns-clause-gives : goal.returns-clause-gives
 returns-clause-gives c =
-    let all = c.args.all.trees in
     subst (λ (e : Expr). Gives turn_of c.grown.result (grown c.args.limit e (map spelled c.args.tokens.now)))
-    (tree_of_call c.in_ok-new.field-0 c.args.name all ∙ ap (λ (a : Expression). CallOn (expr_of a) c.args.name.text
-    (pack_exprs (map expr_of all.items))) c.in_ok-new.ensures.ok) c.grown.ensures.gives
+    (tree_of_call c.args.left.tree c.args.name c.args.all.trees) c.grown.ensures.gives
 
 pub returns-clause-places : goal.returns-clause-places
 returns-clause-places c =
-    let all = c.args.all.trees in
     let here = kept c.args.tokens.now in
     subst (λ (ps : Places). IfOk c.grown.result (λ x. places_put x here ≡ ps))
-    (places_of_call c.in_ok-new.field-0 c.args.name all here ∙ ap (λ (a : Expression). expr_places a
-    (c.args.name.place ∷ each_puts (map expr_places all.items) here)) c.in_ok-new.ensures.ok) c.grown.ensures.places
+    (places_of_call c.args.left.tree c.args.name c.args.all.trees here) c.grown.ensures.places
