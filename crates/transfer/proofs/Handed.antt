@@ -1,0 +1,206 @@
+-- The outcomes of methods that are handed in.
+use Rattle.std.proofs.Common.{◌≡◌, ℕ, zero, suc, ◌+◌, ◌<◌, Bool, true, false, cond, ◌&&◌, ◌||◌, List, [], ◌∷◌, ◌++◌, Option, None, Some}
+use Rattle.std.proofs.Common.{refl, sym, ap, subst, ◌∙◌, option_map, nat_eq, nat_lt, is_some, is_none, All, slice_get, get_or, map, length}
+use Rattle.std.proofs.Common.{arith}
+use Rattle.std.proofs.Math.Nat.{add-zero, zero-add}
+use Rattle.std.proofs.lemmas.Bool.Decides.{nat_tests}
+use Rattle.std.proofs.lemmas.Bool.{ltb-true}
+use Rattle.std.proofs.lemmas.List.Elements.{All-head, All-tail}
+use Rattle.std.specs.Arc.{arc_value}
+use Rattle.std.specs.List.{list_any, list_all, enumerate_from}
+use Rattle.std.specs.Option.{option_or, option_and_then}
+use Rattle.racer_base.specs.declared.ids.MethodId.{MethodId}
+use Rattle.core_code.specs.declared.code.Reason.{Reason}
+use Rattle.core_code.specs.Calls.{rank_of, method_at, calls_in, calls_of}
+use Rattle.core_code.specs.CallFacts.{is_above, has_ranks}
+use Rattle.core_code.specs.declared.parts.MethodCore.{MethodCore}
+use Rattle.core_code.specs.Core.{Core, Method, method_of}
+use Rattle.core_code.proofs.ByRank.{known_below-lower}
+use Rattle.core_code.specs.Program.{core}
+use Rattle.access_domain.specs.declared.summary.Outcome.{Outcome}
+use Rattle.access_domain.specs.declared.summary.Outcome.TheVariants as code
+use Rattle.access_domain.specs.declared.summary.Summary.{Summary}
+use Rattle.access_domain.specs.Findings.{Findings, outcome_from, summary_from}
+use Rattle.access_domain.specs.Operations.{Effects, found_effects, popped, pushed}
+use Rattle.owner_domain.specs.declared.value.State.{State}
+use Rattle.access_domain.specs.Summaries.{outcome_of, known_of_callees, known_at, known_given}
+use Rattle.call_subst.proofs.SameSets.{from_list-items}
+use Rattle.transfer.specs.declared.calls.Callee.{Callee}
+use Rattle.transfer.specs.Callees.{Held, AreCallees, outcome_in}
+use Rattle.transfer.specs.Known.{findings_in, known_in, outcome_among, table_of}
+use Rattle.transfer.specs.Walks.{summary_effects}
+use Rattle.transfer.proofs.Tables.{Agree, is_method, outcome-agree}
+
+-- ---- one more
+
+among_alone : (c : Callee) (m : MethodId) → Option Outcome
+among_alone c m = cond (nat_eq c.method.0 m.0) (Some (arc_value c.outcome)) None
+
+step_or : (b : Bool) (o : Outcome) (p q : Option Outcome) →
+    cond b (Some o) (option_or p q) ≡ option_or (cond b (Some o) p) q
+step_or true o p q = refl
+step_or false o p q = refl
+
+pub among-push : (cs : List Callee) (c : Callee) (m : MethodId) →
+    outcome_among (cs ++ c ∷ []) m ≡ option_or (outcome_among cs m) (outcome_among (c ∷ []) m)
+among-push [] c m = refl
+among-push (x ∷ cs) c m =
+    ap (λ (o : Option Outcome). cond (nat_eq x.method.0 m.0) (Some (arc_value x.outcome)) o) (among-push cs c m)
+    ∙ step_or (nat_eq x.method.0 m.0) (arc_value x.outcome) (outcome_among cs m) (outcome_among (c ∷ []) m)
+
+or-assoc : (p q r : Option Outcome) → option_or (option_or p q) r ≡ option_or p (option_or q r)
+or-assoc None q r = refl
+or-assoc (Some x) q r = refl
+
+pub or-none : (p : Option Outcome) → option_or p None ≡ p
+or-none None = refl
+or-none (Some x) = refl
+
+first_or : (b : Bool) (x : Outcome) (o : Option Outcome) → option_or (cond b (Some x) None) o ≡ cond b (Some x) o
+first_or true x o = refl
+first_or false x o = refl
+
+-- one more method is known, and one fewer is left
+pub one-more : (cs : List Callee) (c : Callee) (f : Held) (left : List Held) (m : MethodId) →
+    c.method ≡ (arc_value f).method → arc_value c.outcome ≡ arc_value (arc_value f).outcome →
+    option_or (outcome_among (cs ++ c ∷ []) m) (outcome_in left m) ≡
+    option_or (outcome_among cs m) (outcome_in (f ∷ left) m)
+one-more cs c f left m method outcome =
+    ap (λ (o : Option Outcome). option_or o (outcome_in left m)) (among-push cs c m)
+    ∙ or-assoc (outcome_among cs m) (outcome_among (c ∷ []) m) (outcome_in left m)
+    ∙ ap (option_or (outcome_among cs m))
+    (first_or (nat_eq c.method.0 m.0) (arc_value c.outcome) (outcome_in left m)
+    ∙ (λ i. cond (nat_eq (method i).0 m.0) (Some (outcome i)) (outcome_in left m)))
+
+-- ---- what is known of callees
+
+pub held : (s : Summary) → summary_from (findings_in s) ≡ s
+held s = λ i. record { accesses = s.accesses; wobbly = from_list-items s.wobbly i; result = s.result }
+
+known-held : (o : Outcome) → outcome_from (known_in o) ≡ o
+known-held code.Large = refl
+known-held (code.Summary s) = ap code.Summary (held s)
+
+known-held_option : (o : Option Outcome) → option_map outcome_from (option_map known_in o) ≡ o
+known-held_option None = refl
+known-held_option (Some o) = ap Some (known-held o)
+
+pub table-outcome : (callees : List Callee) (n : MethodId) →
+    option_map outcome_from (table_of callees n) ≡ outcome_among callees n
+table-outcome callees n = known-held_option (outcome_among callees n)
+
+pub nat_eq-same : (n m : MethodId) → nat_eq n.0 m.0 ≡ true → n ≡ m
+nat_eq-same n m e = grind (arith, nat_tests)
+
+-- the outcome of a finished method is that of its number
+pub outcome-right : (program : Core) (finished : List Held) (n : MethodId) →
+    All (λ (f : Held). core (arc_value (arc_value f).program) ≡ program) finished →
+    is_some (outcome_in finished n) ≡ true → outcome_in finished n ≡ outcome_of program n
+outcome-right program [] n same there = absurd cc
+outcome-right program (f ∷ fs) n same there =
+    let IsFor : Held → Type 0 = λ g. core (arc_value (arc_value g).program) ≡ program in
+    elim (nat_eq (arc_value f).method.0 n.0) as (λ b. nat_eq (arc_value f).method.0 n.0 ≡ b →
+    is_some (cond b (Some (arc_value (arc_value f).outcome)) (outcome_in fs n)) ≡ true →
+    cond b (Some (arc_value (arc_value f).outcome)) (outcome_in fs n) ≡ outcome_of program n) [
+      | true ↦ λ e _. (arc_value f).right
+          ∙ (λ i. outcome_of (All-head IsFor f fs same i) (nat_eq-same (arc_value f).method n e i))
+      | false ↦ λ e k. outcome-right program fs n (All-tail IsFor f fs same) k
+    ] refl there
+
+-- ---- the methods that a method calls
+
+both-true : (a b : Bool) → (a && b) ≡ true → (a ≡ true) × (b ≡ true)
+both-true true b e = (refl, e)
+both-true false b e = absurd cc
+
+all_any : (p : MethodId → Bool) (n : MethodId) (ms : List MethodId) → list_all p ms ≡ true →
+    list_any (is_method n) ms ≡ true → p n ≡ true
+all_any p n [] all there = absurd cc
+all_any p n (m ∷ ms) all there =
+    let parts = both-true (p m) (list_all p ms) all in
+    elim (nat_eq m.0 n.0) as (λ b. nat_eq m.0 n.0 ≡ b → (b || list_any (is_method n) ms) ≡ true → p n ≡ true) [
+      | true ↦ λ e _. ap p (sym (nat_eq-same m n e)) ∙ parts.0
+      | false ↦ λ _ k. all_any p n ms parts.1 k
+    ] refl there
+
+numbered : (p : ℕ × Method → Bool) (k i : ℕ) (xs : List Method) (x : Method) →
+    list_all p (enumerate_from k xs) ≡ true → slice_get xs i ≡ Some x → p (k + i, x) ≡ true
+numbered p k i [] x all is = absurd cc
+numbered p k zero (y ∷ xs) x all is =
+    let same : y ≡ x = cc in
+    (λ j. p (add-zero k j, sym same j)) ∙ (both-true (p (k, y)) (list_all p (enumerate_from (k + 1) xs)) all).0
+numbered p k (suc i) (y ∷ xs) x all is =
+    let one : k + suc i ≡ (k + 1) + i = omega arith in
+    ap (λ (n : ℕ). p (n, x)) one
+    ∙ numbered p (k + 1) i xs x (both-true (p (k, y)) (list_all p (enumerate_from (k + 1) xs)) all).1 is
+
+no_status : (o : Option Reason) (b : Bool) → is_none o ≡ true → (is_some o || b) ≡ true → b ≡ true
+no_status None b e k = k
+no_status (Some r) b e k = absurd cc
+
+callee_below : (program : Core) (m n : MethodId) (method : Method) → has_ranks program ≡ true →
+    method_at program m ≡ Some method → is_none method.status ≡ true →
+    list_any (is_method n) (calls_in method.code) ≡ true → rank_of program n < rank_of program m
+callee_below program m n method ranks is analysed there =
+    let test : MethodId → Bool = λ k. nat_lt (rank_of program k) (rank_of program m) in
+    let above : (is_some method.status || list_all test (calls_in method.code)) ≡ true =
+    ap (λ (n : ℕ). is_above (rank_of program) (n, method)) (sym (zero-add m.0))
+    ∙ numbered (is_above (rank_of program)) 0 m.0 program.methods method ranks is in
+    ltb-true (rank_of program n) (rank_of program m)
+    (all_any test n (calls_in method.code) (no_status method.status (list_all test (calls_in method.code)) analysed above)
+    there)
+
+pub outcome-known : (program : Core) (m : MethodId) (method : Method) (callees : List Callee) (finished : List Held) →
+    has_ranks program ≡ true → method_at program m ≡ Some method → is_none method.status ≡ true →
+    ((n : MethodId) → outcome_among callees n ≡ outcome_in finished n) → AreCallees program m finished →
+    Some (outcome_from (known_given program (table_of callees) method)) ≡ outcome_of program m
+outcome-known program m method callees finished ranks is analysed same are =
+    let code : calls_of program m ≡ calls_in method.code =
+    ap (λ (o : Option Method). elim o as (λ _. List MethodId) [ None ↦ [] | Some x ↦ calls_in x.code ]) is in
+    let there : list_all (λ (n : MethodId). is_some (outcome_in finished n)) (calls_in method.code) ≡ true =
+    ap (list_all (λ (n : MethodId). is_some (outcome_in finished n))) (sym code) ∙ are.are_there in
+    let agreed = outcome-agree program (table_of callees) (known_of_callees program m) method
+    (λ n called.
+    table-outcome callees n
+    ∙ same n
+    ∙ outcome-right program finished n are.same_program
+    (all_any (λ k. is_some (outcome_in finished k)) n (calls_in method.code) there called)
+    ∙ ap (option_map outcome_from)
+    (sym (known_below-lower None (known_at program) program (rank_of program m) n
+    (callee_below program m n method ranks is analysed called)))) in
+    ap Some agreed
+    ∙ sym (ap (λ (b : Bool). option_map outcome_from
+    (cond b (Some (known_given program (known_of_callees program m) method)) None)) analysed)
+    ∙ sym (ap (λ (o : Option Method). option_map outcome_from (option_and_then
+    (λ x. cond (is_none x.status) (Some (known_given program (known_of_callees program m) x)) None) o)) is)
+
+-- ---- the method of a number
+
+abbrev pub analysed_at : Option Method → Bool
+analysed_at o = elim o as (λ _. Bool) [ None ↦ false | Some method ↦ is_none method.status ]
+
+pub in_range : (ms : List MethodCore) (i : ℕ) → analysed_at (slice_get (map method_of ms) i) ≡ true → i < length ms
+in_range [] i e = absurd cc
+in_range (x ∷ ms) zero e = omega arith
+in_range (x ∷ ms) (suc i) e = let rest = in_range ms i e in omega arith
+
+pub found_at : (ms : List MethodCore) (i : ℕ) (x : MethodCore) → i < length ms → x ≡ get_or ms i x →
+    slice_get (map method_of ms) i ≡ Some (method_of x)
+found_at [] i x within is = absurd (omega arith)
+found_at (y ∷ ms) zero x within is = ap (λ (m : MethodCore). Some (method_of m)) (sym is)
+found_at (y ∷ ms) (suc i) x within is = found_at ms i x (omega arith) is
+
+-- ---- what is found of a callee
+
+pub summary-effects : (made : Summary) (found : Findings) (s now : State) (n : ℕ) → made ≡ summary_from found →
+    now ≡ popped s n → Agree (summary_effects made now) (found_effects found s n)
+summary-effects made found s now n same rest =
+    record {
+      next = λ i. Some (pushed (rest i) (same i).result);
+      alike = record {
+        records = ap (λ (x : Summary). x.accesses) same;
+        wobbly = from_list-items made.wobbly ∙ ap (λ (x : Summary). x.wobbly) same;
+        result = refl;
+        large = refl;
+      };
+    }
