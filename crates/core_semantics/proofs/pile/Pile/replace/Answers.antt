@@ -1,0 +1,17 @@
+use Rattle.std.proofs.Common.{◌≡◌, ◌-◌, ◌<◌, ap, ◌∙◌, ◌∷◌, arith, drop, reverse, length}
+use Rattle.core_semantics.proofs.Piles.{put_reversed}
+use Rattle.core_semantics.proofs.pile.Pile.replace.Goals as goal
+
+pub returns-else-kept-len-clause-ok : goal.returns-else-kept-len-clause-ok
+returns-else-kept-len-clause-ok g c =
+    let xs = c.self.inside.items.items in
+    let kept = c.saturating_sub-kept.result in
+    let counted = c.len.ensures ∙ c.self.inside.items.ok.0 in
+    let is_left : kept ≡ length xs - c.args.count =
+    c.saturating_sub-kept.ensures ∙ ap (λ m. m - c.args.count) counted in
+    let all = c.len-2.ensures ∙ c.self.inside.items.ok.0 in
+    let other = c.if-kept-len.false in
+    let within : kept < length xs = omega (arith, is_left, all, other) in
+    ap reverse c.truncate.ensures.items
+    ∙ put_reversed c.args.count kept xs c.args.item is_left within
+    ∙ ap (λ ys. c.args.item ∷ drop c.args.count ys) c.self.view_is

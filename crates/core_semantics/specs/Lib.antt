@@ -1,0 +1,11 @@
+-- A contract of a public call rests on this: the list of files.
+pub mod Objects
+pub mod Order
+pub mod Same
+pub mod State
+pub mod Steps
+pub mod Runs
+pub mod Cells
+pub mod CellOrder
+pub mod Legs
+pub mod Rows

@@ -1,0 +1,51 @@
+-- A contract of a public call rests on this: an order of objects, in which cells and heaps are kept.
+use Rattle.std.specs.Prelude.{ℕ, List, [], ◌∷◌, map}
+use Rattle.std.specs.Ordering.{nat_cmp}
+use Rattle.std.specs.declared.cmp.Ordering.{Ordering}
+use Rattle.std.specs.Cmp.Lexicographic.{slice_cmp}
+use Rattle.racer_base.specs.declared.ids.FieldId.{FieldId}
+use Rattle.core_semantics.specs.declared.object.StartRoot.{StartRoot}
+use Rattle.core_semantics.specs.declared.object.StartRoot.TheVariants.{This, Class, Param}
+use Rattle.core_semantics.specs.declared.object.Object.{Object}
+use Rattle.core_semantics.specs.declared.object.Object.TheVariants.{Start, Fresh}
+
+abbrev pub root_form : StartRoot → ℕ
+root_form This = 0
+root_form (Class c) = 1
+root_form (Param t i) = 2
+
+abbrev pub root_first : StartRoot → ℕ
+root_first This = 0
+root_first (Class c) = c.0
+root_first (Param t i) = t
+
+abbrev pub root_second : StartRoot → ℕ
+root_second This = 0
+root_second (Class c) = 0
+root_second (Param t i) = i
+
+-- the number of the form of an object
+abbrev pub object_form : Object → ℕ
+object_form (Start p) = root_form p.root
+object_form (Fresh n) = 3
+
+-- the numbers in an object, 0 where it has none
+abbrev pub first_number : Object → ℕ
+first_number (Start p) = root_first p.root
+first_number (Fresh n) = n
+
+abbrev pub second_number : Object → ℕ
+second_number (Start p) = root_second p.root
+second_number (Fresh n) = 0
+
+abbrev pub object_fields : Object → List FieldId
+object_fields (Start p) = p.fields
+object_fields (Fresh n) = []
+
+-- the numbers of an object, and then of its fields
+abbrev pub object_key : Object → List ℕ
+object_key o =
+    object_form o ∷ first_number o ∷ second_number o ∷ map (λ (f : FieldId). f.0) (object_fields o)
+
+abbrev pub object_cmp : Object → Object → Ordering
+object_cmp a b = slice_cmp nat_cmp (object_key a) (object_key b)

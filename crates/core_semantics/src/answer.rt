@@ -1,0 +1,42 @@
+//! What a step answers.
+use crate::Object;
+
+/// The side of a choice; at a loop, whether its body is done once more.
+#[derive(Clone, Copy, Debug, PartialEq, Eq)]
+pub enum Turn {
+    Left,
+    Right,
+}
+
+/// Why a thread cannot step.
+#[derive(Clone, Copy, Debug, PartialEq, Eq)]
+pub enum Why {
+    /// The object of an access, a call or a lock is null.
+    NullBase,
+    /// The object of an access or a call is from outside the folder.
+    OpaqueBase,
+    /// The object of an access, a call or a lock is a value of a primitive type.
+    PlainBase,
+    /// The method that is called is not analysed.
+    UnreadCall,
+}
+
+/// A monitor.
+#[derive(Drop)]
+pub enum Holder {
+    Object(Object),
+    /// The one monitor of all values from outside the folder.
+    Outside,
+}
+
+/// The answer of a step.
+#[derive(Drop)]
+pub enum StepAnswer {
+    Stepped,
+    Stuck(Why),
+    /// The thread has ended.
+    Done,
+    /// The other thread holds this monitor.
+    Held(Holder),
+    Memory,
+}

@@ -1,0 +1,127 @@
+//! Equality and an order of objects.
+ghost use Rattle.std.specs.Prelude.{◌≡◌};
+ghost use Rattle.core_semantics.specs.Order.{object_form, first_number, second_number, object_fields, object_cmp};
+
+use crate::{Object, StartRoot};
+use racer_base::FieldId;
+use std::cmp::Ordering;
+
+impl Object {
+    /// The number of the form of an object.
+    fn form(&self) -> u32
+        ensures { result ≡ object_form self.now }
+    {
+        match self {
+            Object::Fresh(_) => 3,
+            Object::Start(path) => match path.root {
+                StartRoot::This => 0,
+                StartRoot::Class(_) => 1,
+                StartRoot::Param(_, _) => 2,
+            },
+        }
+    }
+
+    /// The first number of an object, 0 where it has none.
+    fn first_number(&self) -> u32
+        ensures { result ≡ first_number self.now }
+    {
+        match self {
+            Object::Fresh(number) => *number,
+            Object::Start(path) => match path.root {
+                StartRoot::This => 0,
+                StartRoot::Class(class) => class.0,
+                StartRoot::Param(thread, _) => thread,
+            },
+        }
+    }
+
+    /// The second number of an object, 0 where it has none.
+    fn second_number(&self) -> u32
+        ensures { result ≡ second_number self.now }
+    {
+        match self {
+            Object::Fresh(_) => 0,
+            Object::Start(path) => match path.root {
+                StartRoot::Param(_, number) => number,
+                StartRoot::This | StartRoot::Class(_) => 0,
+            },
+        }
+    }
+
+    /// The fields of an object's path.
+    fn fields(&self) -> &[FieldId]
+        ensures { result.now ≡ object_fields self.now }
+    {
+        match self {
+            Object::Start(path) => path.fields.as_slice(),
+            Object::Fresh(_) => &[],
+        }
+    }
+}
+
+impl PartialEq for Object {
+    ghost use Rattle.core_semantics.specs.Objects.{same_object};
+    ghost use Rattle.core_semantics.specs.Same.{same_object-laws};
+
+    ghost eq = { same_object };
+
+    ghost laws = { same_object-laws };
+
+    fn eq(&self, other: &Object) -> bool {
+        match (self, other) {
+            (Object::Start(p), Object::Start(q)) => {
+                p.root == q.root && p.fields.as_slice() == q.fields.as_slice()
+            }
+            (Object::Fresh(m), Object::Fresh(n)) => m == n,
+            _ => false,
+        }
+    }
+}
+
+impl Eq for Object {
+    ghost use Rattle.core_semantics.specs.Same.{same_object-equivalence};
+
+    ghost laws = { same_object-equivalence };
+}
+
+impl PartialOrd for Object {
+    ghost use Rattle.std.specs.Ordering.{as_partial_cmp};
+    ghost use Rattle.core_semantics.specs.Order.{object_cmp};
+    ghost use Rattle.core_semantics.specs.Same.{object_cmp-partial};
+
+    ghost partial_cmp = { as_partial_cmp object_cmp };
+
+    ghost laws = { object_cmp-partial };
+
+    fn partial_cmp(&self, other: &Object) -> Option<Ordering> {
+        Some(compare(self, other))
+    }
+}
+
+impl Ord for Object {
+    ghost use Rattle.std.proofs.Common.{refl, sym};
+    ghost use Rattle.core_semantics.specs.Order.{object_cmp};
+    ghost use Rattle.core_semantics.specs.Same.{object_cmp-total, tied};
+
+    ghost cmp = { object_cmp };
+
+    ghost total = { object_cmp-total };
+
+    ghost matches_partial_cmp = { λ a b. refl };
+
+    ghost matches_eq = { λ a b. sym (tied a b) };
+
+    fn cmp(&self, other: &Object) -> Ordering {
+        compare(self, other)
+    }
+}
+
+/// The order of two objects: of their forms, of their numbers, and of their fields in turn.
+fn compare(a: &Object, b: &Object) -> Ordering
+    ensures { result ≡ object_cmp a.now b.now }
+{
+    let forms = a.form().cmp(&b.form());
+    let first = a.first_number().cmp(&b.first_number());
+    let second = a.second_number().cmp(&b.second_number());
+    forms.then(first.then(second.then(a.fields().cmp(b.fields()))))
+}

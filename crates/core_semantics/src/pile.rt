@@ -1,0 +1,101 @@
+//! A pile, which grows and shrinks at its top.
+ghost use Rattle.std.specs.Prelude.{◌≡◌, ◌<◌, [], ◌∷◌, drop, length, reverse, slice_get, OnOk, OnErr};
+ghost use Rattle.std.specs.Option.{option_copied};
+
+use racer_base::Memory;
+use std::alloc::Global;
+use std::marker::Model;
+
+/// A pile, which contracts see as the list of its elements with the top first.
+#[derive(Drop)]
+pub(crate) struct Pile<T> {
+    /// The top stands last.
+    items: Vec<T>,
+}
+
+impl<T> Model for Pile<T> {
+    ghost use Rattle.std.specs.Prelude.{List, reverse};
+    ghost use Rattle.std.specs.Coded.{coded_list};
+
+    ghost Value = { List T };
+
+    ghost coded = { coded_list T.code };
+
+    ghost view = { λ pile. reverse pile.items.items };
+}
+
+impl<T> Pile<T> {
+    pub(crate) fn new(alloc: Global) -> Pile<T>
+        ensures { result ≡ [] }
+    {
+        Pile {
+            items: Vec::new(alloc),
+        }
+    }
+
+    /// The elements, with the top last.
+    pub(crate) fn as_slice(&self) -> &[T]
+        ensures { result.now ≡ reverse self.now }
+    {
+        self.items.as_slice()
+    }
+
+    /// The element of this number, counted from the top.
+    pub(crate) fn get(&self, number: usize) -> Option<&T>
+        ensures { option_copied result ≡ slice_get self.now number }
+    {
+        let below = self.items.len().checked_sub(number)?;
+        self.items.get(below.checked_sub(1)?)
+    }
+
+    /// Takes so many elements from the top.
+    pub(crate) fn cut(&mut self, count: usize)
+    where
+        T: Drop,
+        ensures { self.new ≡ drop count self.old }
+    {
+        self.items.truncate(self.items.len().saturating_sub(count));
+    }
+
+    /// Puts one element in the place of so many at the top.
+    pub(crate) fn replace(&mut self, count: usize, item: T) -> Result<(), Memory>
+    where
+        T: Drop,
+        ensures ok { OnOk result (self.new ≡ item ∷ drop count self.old) }
+        ensures err { OnErr result (self.new ≡ self.old) }
+    {
+        let kept = self.items.len().saturating_sub(count);
+        if kept == self.items.len() {
+            self.items.push(item)?;
+        } else {
+            self.items[kept] = item;
+            self.items.truncate(kept + 1);
+        }
+        Ok(())
+    }
+
+    /// Puts two elements in the place of the top, where there is one.
+    pub(crate) fn replace_by_two(&mut self, first: T, second: T) -> Result<(), Memory>
+    where
+        T: Drop,
+        requires { 0 < length self.old }
+        ensures ok { OnOk result (self.new ≡ first ∷ second ∷ drop 1 self.old) }
+        ensures err { OnErr result (self.new ≡ self.old) }
+    {
+        let last = self.items.len() - 1;
+        self.items.push(first)?;
+        self.items[last] = second;
+        Ok(())
+    }
+
+    /// Takes the element under the top, where there is one.
+    pub(crate) fn pull(&mut self)
+    where
+        T: Drop,
+        requires { 1 < length self.old }
+        ensures top { slice_get self.new 0 ≡ slice_get self.old 0 }
+        ensures rest { drop 1 self.new ≡ drop 2 self.old }
+    {
+        self.items.remove(self.items.len() - 2);
+    }
+}
