@@ -16,3 +16,5 @@ mod outside;
 mod tokens;
 #[cfg(test)]
 mod trees;
+#[cfg(test)]
+mod words;

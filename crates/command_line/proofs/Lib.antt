@@ -1,0 +1,11 @@
+pub mod BuiltRules
+pub mod UsedRows
+pub mod Turns
+pub mod WordKinds
+pub mod WordTurns
+pub mod Walks
+pub mod ReadWords
+pub mod IdleReads
+pub mod Finished
+pub mod GivenLines
+pub mod Texts

@@ -1,0 +1,13 @@
+use Rattle.std.proofs.Common.{rules, map, string_bytes}
+use Rattle.command_line.proofs.GivenLines.{some_line, no_line}
+use Rattle.command_line.proofs.Texts.{are_texts}
+use Rattle.command_line.proofs.line.given_line.Goals as goal
+
+-- src/line.rt:39:1
+pub returns-in-Some : goal.returns-in-Some
+returns-in-Some c = some_line (map string_bytes c.args.words.now) _ (are_texts c.args.words.now) (search rules)
+    (search rules)
+
+-- src/line.rt:39:1
+pub returns-in-None : goal.returns-in-None
+returns-in-None c = no_line (map string_bytes c.args.words.now) (are_texts c.args.words.now) (search rules)

@@ -1,0 +1,9 @@
+-- A contract of a public call rests on this: what is seen of a request.
+use Rattle.command_line.specs.declared.request.Request.{Request}
+use Rattle.command_line.specs.declared.request.Request.TheVariants as request
+use Rattle.command_line.specs.Words.{Asked, Report, Replay, Made}
+
+abbrev pub asked_of : Request → Asked
+asked_of (request.Report r) = Report r.folder r.workers r.json r.summaries r.history
+asked_of (request.Replay folder witness) = Replay folder witness
+asked_of (request.Made count workers) = Made count workers
