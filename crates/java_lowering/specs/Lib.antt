@@ -1,0 +1,16 @@
+-- A contract of a public call rests on this: the list of files.
+pub mod Trees
+pub mod TreesOf
+pub mod ValueKinds
+pub mod Around
+pub mod Assignments
+pub mod Calls
+pub mod Expressions
+pub mod Scopes
+pub mod Statements
+pub mod Methods
+pub mod Sites
+pub mod Programs
+pub mod PlacedTexts
+pub mod Examples
+pub mod ProgramExamples

@@ -1,0 +1,70 @@
+//! Programs of small units.
+ghost use Rattle.std.specs.Prelude.{◌≡◌, [], ◌∷◌, Some, None, true, false, codes, map};
+ghost use Rattle.java_tree.specs.declared.methods.ResultTree.TheVariants.{Constructor, Void};
+ghost use Rattle.java_units.specs.declared.unit.HeadResult.TheVariants as head;
+ghost use Rattle.java_resolver.specs.NameExamples.{outside};
+ghost use Rattle.call_graph.specs.Chains.{flag_of};
+ghost use Rattle.core_code.specs.declared.code.Op.TheVariants.{Push, PushClass, PushPrim, Drop, Ret, Call, Unread};
+ghost use Rattle.core_code.specs.declared.code.Reason.TheVariants.{Overload, Outside, Parameters, Recursive};
+ghost use Rattle.core_code.specs.Core.{Method};
+ghost use Rattle.core_code.specs.Tree.{Nothing, Then, Either, Again, Held, in_sequence};
+ghost use Rattle.core_code.specs.Pair.{at, step, pair, method_put, method_both};
+ghost use Rattle.java_lowering.specs.Sites.{numbered};
+ghost use Rattle.java_lowering.specs.Programs.{program_of, in_order, call_edges};
+ghost use Rattle.java_lowering.specs.ProgramExamples.{checked_class, empty_method, void_method, methods_of};
+ghost use Rattle.java_lowering.specs.ProgramExamples.{statuses_of, codes_of};
+
+/// Why methods are not analysed; the first of these is the constructor that a class does not declare.
+pub fn statuses_of_programs()
+    ensures analysed { statuses_of (checked_class (void_method (codes "f") ∷ [])) ≡ None ∷ None ∷ [] }
+    ensures overload { statuses_of (checked_class (void_method (codes "f") ∷ empty_method [] Void (codes "f") 1
+        ∷ outside (codes "f") 9 head.Void false ∷ void_method (codes "f") ∷ []))
+        ≡ None ∷ Some Overload ∷ None ∷ Some Outside ∷ Some Overload ∷ [] }
+    ensures parameters { statuses_of (checked_class (empty_method [] Void (codes "f") 64
+        ∷ empty_method [] Void (codes "g") 65 ∷ [])) ≡ None ∷ None ∷ Some Parameters ∷ [] }
+    ensures recursive { map (λ (m : Method). m.status) (program_of [] (checked_class (void_method (codes "f")
+        ∷ outside (codes "g") 9 head.Void false ∷ [])) (flag_of (true ∷ false ∷ true ∷ []))).methods
+        ≡ Some Recursive ∷ None ∷ Some Outside ∷ [] }
+{}
+
+/// What other threads may call: analysed methods of a checked class that are not private, and no constructor.
+pub fn entries_of_programs()
+    ensures checked { map (λ (m : Method). m.entry) (methods_of (checked_class (void_method (codes "f")
+        ∷ empty_method (codes "private" ∷ []) Void (codes "g") 0 ∷ outside (codes "h") 9 head.Void false ∷ [])))
+        ≡ false ∷ true ∷ false ∷ false ∷ [] }
+{}
+
+/// The code of whole methods, numbered.
+pub fn codes_of_programs()
+    ensures locks { codes_of (checked_class (empty_method (codes "synchronized" ∷ []) Constructor (codes "A") 0
+        ∷ empty_method (codes "static" ∷ codes "synchronized" ∷ []) Void (codes "f") 0 ∷ []))
+        ≡ in_sequence (step 0 (at 1 9) (Push (record { 0 = 0 })) ∷ Held (at 1 9) Nothing
+        ∷ step 1 (at 1 9) (Push (record { 0 = 0 })) ∷ step 2 (at 1 9) Ret ∷ [])
+        ∷ in_sequence (step 0 (at 1 9) (PushClass (record { 0 = 0 })) ∷ Held (at 1 9) Nothing
+        ∷ step 1 (at 1 9) PushPrim ∷ step 2 (at 1 9) Ret ∷ []) ∷ [] }
+{}
+
+/// Operations are numbered in reading order.
+pub fn sites()
+    ensures { numbered 5 (Then (Either (step 0 (at 1 1) Ret) (Held (at 1 2) (step 0 (at 1 3) Drop)))
+        (Then (Again (step 0 (at 1 4) Drop)) (step 0 (at 1 5) Ret)))
+        ≡ Then (Either (step 5 (at 1 1) Ret) (Held (at 1 2) (step 6 (at 1 3) Drop)))
+        (Then (Again (step 7 (at 1 4) Drop)) (step 8 (at 1 5) Ret)) }
+{}
+
+/// Places go by file, line and column.
+pub fn ordered_places()
+    ensures { in_order (at 2 1 ∷ at 1 9 ∷ at 3 1 ∷ at 1 7 ∷ []) ≡ at 1 7 ∷ at 1 9 ∷ at 2 1 ∷ at 3 1 ∷ [] }
+{}
+
+/// Calls of one method from one place or from several are one pair; calls of unread methods count.
+pub fn draft_edges()
+    ensures { call_edges (record pair {
+      methods = record method_put {
+        code = in_sequence
+            (step 0 (at 1 1) (Call (record { 0 = 1 }) 1) ∷ step 1 (at 1 1) (Unread (record { 0 = 1 }) 1)
+            ∷ step 2 (at 1 1) (Unread (record { 0 = 0 }) 1) ∷ []);
+      }
+          ∷ record method_both { code = step 0 (at 1 1) (Unread (record { 0 = 1 }) 1) } ∷ [];
+    }) ≡ 3 }
+{}
