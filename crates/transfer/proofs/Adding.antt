@@ -1,6 +1,6 @@
 -- What is found behind one piece of code and then another is found behind both.
-use Rattle.std.proofs.Common.{◌≡◌, ℕ, ◌≤◌, ◌<◌, Bool, true, false, cond, ◌&&◌, ◌||◌, List, [], ◌∷◌, ◌++◌, Option, None, Some}
-use Rattle.std.proofs.Common.{length, nat_lt, refl, sym, ap, ◌∙◌, arith}
+use Rattle.std.proofs.Common.{◌≡◌, Bool, true, false, ◌||◌, List, [], ◌∷◌, ◌++◌, Option, None}
+use Rattle.std.proofs.Common.{refl, sym, ap, ◌∙◌}
 use Rattle.std.proofs.lemmas.List.{append-nil}
 use Rattle.std.specs.FinSet as set
 use Rattle.std.specs.List.{list_any}
@@ -17,7 +17,7 @@ use Rattle.access_domain.specs.Flow.{joined_result, lost_result, both, chosen, r
 use Rattle.access_domain.proofs.AdditionLemmas.{contains_added, keys_added-append}
 use Rattle.call_subst.proofs.SameSets.{any-append, any-same_set}
 use Rattle.transfer.specs.declared.found.Found.{Found}
-use Rattle.transfer.specs.Marks.{marks, paths_after, all_added, added}
+use Rattle.transfer.specs.Marks.{marks, paths_after, added}
 use Rattle.transfer.proofs.JoinedResults.{joined_result-none, lost_result-none, joined_result-assoc, lost_result-assoc}
 
 abbrev is_among : Path → List Path → Bool

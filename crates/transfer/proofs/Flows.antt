@@ -1,11 +1,10 @@
 -- Code that is gone through part by part is gone through whole.
-use Rattle.std.proofs.Common.{◌≡◌, ℕ, zero, suc, ◌+◌, ◌-◌, ◌<◌, Bool, true, false, cond, ◌&&◌, ◌||◌, List, [], ◌∷◌, ◌++◌}
-use Rattle.std.proofs.Common.{Option, None, Some, length, refl, sym, ap, subst, ◌∙◌, arith, option_map}
+use Rattle.std.proofs.Common.{◌≡◌, ℕ, suc, ◌+◌, Bool, true, false, cond, List, [], ◌∷◌, ◌++◌}
+use Rattle.std.proofs.Common.{Option, None, Some, length, refl, sym, ap, subst, ◌∙◌}
 use Rattle.std.proofs.lemmas.List.{append-nil}
 use Rattle.std.specs.FinSet as set
 use Rattle.std.specs.Prelude.{Result, Ok, Err, IfOk, slice_index_or, drop}
 use Rattle.racer_base.specs.declared.ids.FieldId.{FieldId}
-use Rattle.racer_base.specs.declared.ids.MethodId.{MethodId}
 use Rattle.racer_base.specs.declared.ids.SiteId.{SiteId}
 use Rattle.racer_base.specs.declared.ids.Touch.{Touch}
 use Rattle.access_paths.specs.declared.path.Path.{Path}
@@ -21,7 +20,7 @@ use Rattle.core_code.specs.Program.{core}
 use Rattle.access_domain.specs.declared.access.Access.{Access}
 use Rattle.access_domain.specs.Given.{Given, field_at}
 use Rattle.access_domain.specs.Operations.{Effects, goes_on, op_effects, record_of, top, popped, slot_of}
-use Rattle.access_domain.specs.Flow.{both, after, chosen, rounds, repeated, looped, joined_next, lost_next}
+use Rattle.access_domain.specs.Flow.{both, after, chosen, rounds, looped, joined_next, lost_next}
 use Rattle.access_domain.proofs.ReachedPaths.{touched-reached}
 use Rattle.transfer.specs.declared.found.Found.{Found}
 use Rattle.transfer.specs.declared.found.Stop.{Stop}
@@ -29,7 +28,7 @@ use Rattle.transfer.specs.declared.found.Stop.TheVariants.{Large, Memory}
 use Rattle.transfer.specs.declared.operations.Frame.{Frame}
 use Rattle.transfer.specs.Frames.{given, record_reached}
 use Rattle.transfer.specs.Known.{table_of}
-use Rattle.transfer.specs.Marks.{marks, added, all_added, IsNoted, IsStopped, IsMarked, LeadsTo}
+use Rattle.transfer.specs.Marks.{marks, all_added, IsNoted, IsStopped, IsMarked, LeadsTo}
 use Rattle.transfer.specs.Walks.{IsFlow, next_of, is_quiet, moved, round_next, round_lost}
 use Rattle.transfer.proofs.Adding.{Alike, chosen-alike, repeated-alike}
 use Rattle.transfer.proofs.Marking.{noted-then, noted-alike, noted-nothing, noted-quiet, stopped-then, stopped-first}

@@ -1,6 +1,6 @@
 -- The outcomes of methods that are handed in.
 use Rattle.std.proofs.Common.{◌≡◌, ℕ, zero, suc, ◌+◌, ◌<◌, Bool, true, false, cond, ◌&&◌, ◌||◌, List, [], ◌∷◌, ◌++◌, Option, None, Some}
-use Rattle.std.proofs.Common.{refl, sym, ap, subst, ◌∙◌, option_map, nat_eq, nat_lt, is_some, is_none, All, slice_get, get_or, map, length}
+use Rattle.std.proofs.Common.{refl, sym, ap, ◌∙◌, option_map, nat_eq, nat_lt, is_some, is_none, All, slice_get, get_or, map, length}
 use Rattle.std.proofs.Common.{arith}
 use Rattle.std.proofs.Math.Nat.{add-zero, zero-add}
 use Rattle.std.proofs.lemmas.Bool.Decides.{nat_tests}
@@ -21,7 +21,7 @@ use Rattle.access_domain.specs.declared.summary.Outcome.{Outcome}
 use Rattle.access_domain.specs.declared.summary.Outcome.TheVariants as code
 use Rattle.access_domain.specs.declared.summary.Summary.{Summary}
 use Rattle.access_domain.specs.Findings.{Findings, outcome_from, summary_from}
-use Rattle.access_domain.specs.Operations.{Effects, found_effects, popped, pushed}
+use Rattle.access_domain.specs.Operations.{found_effects, popped, pushed}
 use Rattle.owner_domain.specs.declared.value.State.{State}
 use Rattle.access_domain.specs.Summaries.{outcome_of, known_of_callees, known_at, known_given}
 use Rattle.call_subst.proofs.SameSets.{from_list-items}
@@ -109,7 +109,7 @@ outcome-right program (f ∷ fs) n same there =
 
 -- ---- the methods that a method calls
 
-both-true : (a b : Bool) → (a && b) ≡ true → (a ≡ true) × (b ≡ true)
+pub both-true : (a b : Bool) → (a && b) ≡ true → (a ≡ true) × (b ≡ true)
 both-true true b e = (refl, e)
 both-true false b e = absurd cc
 

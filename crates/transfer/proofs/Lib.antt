@@ -6,3 +6,4 @@ pub mod Tables
 pub mod Flows
 pub mod Handed
 pub mod Wholes
+pub mod Every

@@ -1,5 +1,6 @@
 -- A stack whose top stands last, seen with its top first.
-use Rattle.std.proofs.Common.{◌≡◌, ℕ, ◌-◌, ◌≤◌, Bool, true, false, List, ◌++◌, length, take, drop, reverse, nat_lt}
+use Rattle.std.proofs.Common.{[], ◌∷◌, ◌+◌, ◌<◌, suc, replicate, append_assoc}
+use Rattle.std.proofs.Common.{◌≡◌, ℕ, ◌-◌, true, false, List, ◌++◌, length, take, drop, reverse, nat_lt}
 use Rattle.std.proofs.Common.{sym, ap, ◌∙◌, refl, arith}
 use Rattle.std.proofs.Math.Seq.{drop-append_seam, take-append_seam}
 use Rattle.std.proofs.lemmas.Bool.{ltb-true, ltb-false}
@@ -63,3 +64,10 @@ taken-rest xs n kept e = ap (λ (k : ℕ). reverse (take k xs)) e ∙ sym (drop-
 
 abbrev pub stack_of : List Value → List Value → State
 stack_of vars stack = record { vars = vars; stack = stack }
+
+-- one more value behind the same that are left
+pub replicate-turn : {X : Type 0} (before : List X) (n i : ℕ) (x : X) → i < n →
+    (before ++ x ∷ []) ++ replicate (n - (i + 1)) x ≡ before ++ replicate (n - i) x
+replicate-turn before n i x within =
+    let one : suc (n - (i + 1)) ≡ n - i = omega arith in
+    append_assoc before (x ∷ []) (replicate (n - (i + 1)) x) ∙ ap (λ (k : ℕ). before ++ replicate k x) one

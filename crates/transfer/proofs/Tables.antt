@@ -10,7 +10,6 @@ use Rattle.racer_base.specs.declared.ids.SiteId.{SiteId}
 use Rattle.racer_base.specs.declared.limits.TheConstants.{MAX_SUMMARY_KEYS}
 use Rattle.access_paths.specs.declared.path.Path.{Path}
 use Rattle.access_paths.specs.Order.{path_cmp}
-use Rattle.owner_domain.specs.declared.value.Value.{Value}
 use Rattle.owner_domain.specs.declared.value.Value.TheVariants.{Unnamed}
 use Rattle.owner_domain.specs.declared.value.State.{State}
 use Rattle.owner_domain.specs.Values.{joined_state, lost_state, names_of}
@@ -20,13 +19,11 @@ use Rattle.core_code.specs.declared.code.Op.TheVariants.{Set, Prim, Outside, Cal
 use Rattle.core_code.specs.Calls.{called_by, calls_in}
 use Rattle.core_code.specs.Core.{Core, Method}
 use Rattle.core_code.specs.Tree.{Tree, Step, Nothing, Then, Either, Again, Held, Operation, steps_of}
-use Rattle.access_domain.specs.declared.access.Access.{Access}
 use Rattle.access_domain.specs.declared.summary.Summary.{Summary}
-use Rattle.access_domain.specs.declared.summary.Outcome.{Outcome}
 use Rattle.access_domain.specs.declared.summary.Outcome.TheVariants as code
 use Rattle.access_domain.specs.Records.{first_of_keys, different_paths}
 use Rattle.access_domain.specs.Findings.{Findings, Known, Large, Whole, Table, summary_from, outcome_from}
-use Rattle.access_domain.specs.Given.{Given, given_of}
+use Rattle.access_domain.specs.Given.{given_of}
 use Rattle.access_domain.specs.Substitution.{Actuals, actuals_from, substituted, substituted_record, substituted_value}
 use Rattle.access_domain.specs.Substitution.{value_named}
 use Rattle.access_domain.specs.Operations.{Effects, passed_from, replaced, popped, found_effects, call_effects, op_effects}
@@ -233,10 +230,10 @@ any_call-append p (x ∷ xs) ys =
     or-back true b c = refl
     or-back false b c = refl
 
-or-left : (a b : Bool) → a ≡ true → (a || b) ≡ true
+pub or-left : (a b : Bool) → a ≡ true → (a || b) ≡ true
 or-left a b e = ap (λ c. c || b) e
 
-or-right : (a b : Bool) → b ≡ true → (a || b) ≡ true
+pub or-right : (a b : Bool) → b ≡ true → (a || b) ≡ true
 or-right true b e = refl
 or-right false b e = e
 

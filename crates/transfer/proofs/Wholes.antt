@@ -4,13 +4,11 @@ use Rattle.std.proofs.Common.{unwrap_or}
 use Rattle.std.proofs.lemmas.Bool.{le-ltb}
 use Rattle.std.specs.FinSet as set
 use Rattle.racer_base.specs.declared.limits.TheConstants.{MAX_SUMMARY_KEYS}
-use Rattle.access_paths.specs.Order.{PathSet}
 use Rattle.owner_domain.specs.declared.value.Value.TheVariants.{Unnamed}
-use Rattle.access_domain.specs.declared.access.Access.{Access}
 use Rattle.access_domain.specs.declared.summary.Summary.{Summary}
 use Rattle.access_domain.specs.declared.summary.Outcome.TheVariants as code
 use Rattle.access_domain.specs.Records.{first_of_keys, different_paths}
-use Rattle.access_domain.specs.Findings.{Known, Large, Whole, outcome_from, summary_from}
+use Rattle.access_domain.specs.Findings.{Large, Whole, outcome_from, summary_from}
 use Rattle.access_domain.specs.Operations.{Effects}
 use Rattle.access_domain.specs.Summaries.{findings_from, is_large, known_from}
 use Rattle.access_domain.proofs.AdditionLemmas.{keys_added-nil, paths_added-empty, len-from_list}

@@ -1,5 +1,5 @@
 -- No public contract rests on this: what a flow is given, where a method is gone through.
-use Rattle.std.specs.Prelude.{Bool, List, [], ◌∷◌, Option, None, Some, if◌then◌else◌}
+use Rattle.std.specs.Prelude.{Bool, List, [], ◌∷◌, None, Some, if◌then◌else◌}
 use Rattle.racer_base.specs.declared.ids.FieldId.{FieldId}
 use Rattle.racer_base.specs.declared.ids.SiteId.{SiteId}
 use Rattle.racer_base.specs.declared.ids.Touch.{Touch}

@@ -1,5 +1,5 @@
 -- A contract of a public call rests on this: what is known of the methods that a method calls, as it is handed in.
-use Rattle.std.specs.Prelude.{Bool, List, [], ◌∷◌, Option, None, Some, option_map, nat_eq, if◌then◌else◌}
+use Rattle.std.specs.Prelude.{List, [], ◌∷◌, Option, None, Some, option_map, nat_eq, if◌then◌else◌}
 use Rattle.std.specs.FinSet as set
 use Rattle.std.specs.Arc.{arc_value}
 use Rattle.racer_base.specs.declared.ids.MethodId.{MethodId}

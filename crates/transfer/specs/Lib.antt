@@ -4,3 +4,4 @@ pub mod Callees
 pub mod Marks
 pub mod Frames
 pub mod Walks
+pub mod Tables

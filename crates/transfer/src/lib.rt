@@ -12,7 +12,9 @@ mod here;
 pub mod laws;
 mod operations;
 mod walk;
+mod whole;
 
 pub use analysis::{analyse, outcome};
 pub use calls::Callee;
 pub use finished::Finished;
+pub use whole::outcomes;

@@ -1,4 +1,4 @@
-use Rattle.std.proofs.Common.{◌≡◌, ◌+◌, List, ap, ◌∙◌, sym, drop, get_or}
+use Rattle.std.proofs.Common.{◌+◌, List, ap, ◌∙◌, sym, drop, get_or}
 use Rattle.std.specs.Arc.{arc_value}
 use Rattle.std.specs.Option.{option_or}
 use Rattle.std.proofs.lemmas.List.{at_drop_more}

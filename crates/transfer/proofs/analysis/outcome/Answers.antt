@@ -3,7 +3,6 @@ use Rattle.owner_domain.specs.declared.value.Value.{Value}
 use Rattle.owner_domain.specs.declared.value.State.{State}
 use Rattle.core_code.specs.Core.{method_of}
 use Rattle.core_code.specs.Program.{core}
-use Rattle.core_code.specs.Tree.{tree_of}
 use Rattle.access_domain.specs.Flow.{flow}
 use Rattle.access_domain.specs.Given.{given_of}
 use Rattle.access_domain.specs.Summaries.{effects_given, start_of}

@@ -1,4 +1,4 @@
-use Rattle.std.proofs.Common.{Some, refl, sym, ap, ◌∙◌}
+use Rattle.std.proofs.Common.{Some, sym, ap, ◌∙◌}
 use Rattle.std.specs.FinSet as set
 use Rattle.call_subst.proofs.SameSets.{from_list-items}
 use Rattle.transfer.proofs.Flows.{noted-parts, stopped-records, stopped-paths}

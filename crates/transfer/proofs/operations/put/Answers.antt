@@ -1,11 +1,9 @@
 use Rattle.std.proofs.Common.{◌≡◌, Some, ◌++◌, sym, ap, ◌∙◌}
 use Rattle.std.specs.FinSet as set
 use Rattle.racer_base.specs.declared.ids.Touch.TheVariants.{Write}
-use Rattle.access_paths.specs.declared.path.Path.{Path}
 use Rattle.access_paths.specs.Order.{path_cmp}
 use Rattle.owner_domain.specs.declared.value.Value.{Value}
 use Rattle.owner_domain.specs.Values.{names_of, field_value}
-use Rattle.access_domain.specs.declared.access.Access.{Access}
 use Rattle.owner_domain.specs.declared.value.State.{State}
 use Rattle.access_domain.specs.Operations.{popped, pushed, record_of, slot_of, stored_paths, top}
 use Rattle.transfer.specs.Frames.{given, record_reached}

@@ -1,4 +1,4 @@
-use Rattle.std.proofs.Common.{◌≡◌, ◌+◌, ◌-◌, Bool, map, drop, length}
+use Rattle.std.proofs.Common.{◌+◌, ◌-◌, Bool, map, drop, length}
 use Rattle.std.specs.Prelude.{Result}
 use Rattle.owner_domain.specs.declared.value.State.{State}
 use Rattle.core_code.specs.Tree.{tree_of, in_sequence}

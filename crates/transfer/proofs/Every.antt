@@ -1,0 +1,285 @@
+-- Methods that are finished one after another, each behind those that it calls.
+use Rattle.std.proofs.Common.{◌≡◌, ℕ, zero, suc, ◌+◌, ◌-◌, ◌<◌, ◌≤◌, Bool, true, false, cond, ◌&&◌, ◌||◌, not, List, [], ◌∷◌}
+use Rattle.std.proofs.Common.{◌++◌, Option, None, Some, length, map, filter, drop, refl, sym, ap, subst, ◌∙◌, arith}
+use Rattle.std.proofs.Common.{option_map, nat_eq, is_none, is_some, All, slice_get, slice_set, slice_index_or, ◌⊎◌, inl, inr}
+use Rattle.std.proofs.Common.{append_assoc, add-one, replicate, get_or}
+use Rattle.std.specs.Arc.{arc_value}
+use Rattle.std.proofs.lemmas.Bool.{eq-eqb}
+use Rattle.std.proofs.lemmas.List.{at_drop_more, drop_all}
+use Rattle.std.specs.List.{list_any, list_all, flat_map}
+use Rattle.std.specs.Option.{IfSome, option_and_then}
+use Rattle.racer_base.specs.declared.ids.MethodId.{MethodId}
+use Rattle.call_graph.specs.Chains.{row_of}
+use Rattle.core_code.specs.declared.code.Op.{Op as CoreOp}
+use Rattle.core_code.specs.declared.code.Op.TheVariants.{Push, PushClass, PushPrim, PushNull, New, Dup, Drop, Get, Put}
+use Rattle.core_code.specs.declared.code.Op.TheVariants.{Set, Prim, Outside, Call, Unread, Ret}
+use Rattle.core_code.specs.declared.code.Reason.{Reason}
+use Rattle.core_code.specs.Calls.{called_by, calls_in, calls_of, method_at, is_analysed}
+use Rattle.core_code.specs.CallFacts.{is_right_call, has_right_calls, are_calls_right, takes}
+use Rattle.core_code.specs.Core.{Core, Method}
+use Rattle.core_code.specs.Program.{core}
+use Rattle.core_code.specs.Rows.{different, rows_of}
+use Rattle.core_code.specs.Tree.{Operation, steps_of}
+use Rattle.access_domain.specs.declared.summary.Outcome.{Outcome}
+use Rattle.access_domain.specs.Records.{firsts}
+use Rattle.access_domain.specs.Findings.{Known, outcome_from}
+use Rattle.access_domain.proofs.Different.{list_any-firsts}
+use Rattle.call_subst.proofs.SameSets.{any-append}
+use Rattle.access_domain.specs.Summaries.{outcome_of, outcomes_from, known_given, known_of_callees}
+use Rattle.transfer.specs.declared.finished.Finished.{Finished}
+use Rattle.transfer.specs.Callees.{Held, AreCallees, outcome_in}
+use Rattle.transfer.specs.Tables.{IsFinished, IsTable}
+use Rattle.transfer.proofs.Handed.{nat_eq-same, both-true, analysed_at}
+use Rattle.transfer.proofs.Tables.{is_method, or-right, or-left}
+
+-- ---- the table
+
+set_get : {X : Type 0} (xs : List X) (i j : ℕ) (x : X) →
+    (slice_get (slice_set xs i x) j ≡ slice_get xs j) ⊎ ((j ≡ i) × (slice_get (slice_set xs i x) j ≡ Some x))
+set_get [] i j x = inl refl
+set_get (y ∷ xs) zero zero x = inr (refl, refl)
+set_get (y ∷ xs) zero (suc j) x = inl refl
+set_get (y ∷ xs) (suc i) zero x = inl refl
+set_get (y ∷ xs) (suc i) (suc j) x =
+    elim (set_get xs i j x) [ inl e ↦ inl e | inr p ↦ inr (ap suc p.0, p.1) ]
+
+abbrev place_of : Option (Option Held) → Option Finished
+place_of o = option_map arc_value (option_and_then (λ (place : Option Held). place) o)
+
+pub kept-table : (program : Core) (table : List (Option Held)) (m : MethodId) (f : Held) → IsTable program table →
+    IsFinished program m (arc_value f) → IsTable program (slice_set table m.0 (Some f))
+kept-table program table m f at is n =
+    elim (set_get table m.0 n.0 (Some f)) [
+      | inl e ↦ subst (λ (o : Option (Option Held)). IfSome (place_of o) (λ g. IsFinished program n g)) (sym e) (at n)
+      | inr p ↦
+          let same : m ≡ n = ap (λ (k : ℕ). record { 0 = k }) (sym p.0) in
+          subst (λ (o : Option (Option Held)). IfSome (place_of o) (λ g. IsFinished program n g)) (sym p.1)
+          (subst (λ (k : MethodId). IsFinished program k (arc_value f)) same is)
+    ]
+
+empty_at : (n i : ℕ) → place_of (slice_get (replicate n None) i) ≡ None
+empty_at zero i = refl
+empty_at (suc n) zero = refl
+empty_at (suc n) (suc i) = empty_at n i
+
+pub empty-table : (program : Core) (n : ℕ) → IsTable program (replicate n None)
+empty-table program n m =
+    subst (λ (o : Option Finished). IfSome o (λ g. IsFinished program m g)) (sym (empty_at n m.0)) tt
+
+-- ---- rows
+
+abbrev same_number : MethodId → MethodId → Bool
+same_number a b = nat_eq a.0 b.0
+
+different-firsts : (ms : List MethodId) → different ms ≡ firsts same_number ms
+different-firsts [] = refl
+different-firsts (m ∷ ms) =
+    ap (λ (rest : List MethodId). m ∷ filter (λ (n : MethodId). not (nat_eq m.0 n.0)) rest) (different-firsts ms)
+
+in_row : (n : MethodId) (ms : List MethodId) → list_any (is_method n) (different ms) ≡ list_any (is_method n) ms
+in_row n ms =
+    ap (list_any (is_method n)) (different-firsts ms)
+    ∙ list_any-firsts (is_method n) same_number
+    (λ x y same. ap (is_method n) (sym (nat_eq-same x y same))) ms
+
+row_at : (ms : List Method) (i : ℕ) (method : Method) → slice_get ms i ≡ Some method →
+    slice_index_or (map (λ (m : Method). different (calls_in m.code)) ms) i [] ≡ different (calls_in method.code)
+row_at [] i method is = absurd cc
+row_at (m ∷ ms) zero method is = let same : m ≡ method = cc in ap (λ (x : Method). different (calls_in x.code)) same
+row_at (m ∷ ms) (suc i) method is = row_at ms i method is
+
+-- ---- reading a row
+
+read_itself : {X : Type 0} (xs : List X) (i : ℕ) (d : X) → i < length xs →
+    slice_index_or xs i d ≡ slice_index_or xs i (slice_index_or xs i d)
+read_itself [] i d within = absurd (omega arith)
+read_itself (x ∷ xs) zero d within = refl
+read_itself (x ∷ xs) (suc i) d within = read_itself xs i d (omega arith)
+
+pub read_at : {X : Type 0} (xs ys : List X) (i : ℕ) (d : X) → xs ≡ ys → i < length xs →
+    (i < length ys) × (slice_index_or xs i d ≡ get_or ys i (slice_index_or xs i d))
+read_at {X} xs ys i d same within =
+    subst (λ (zs : List X). (i < length zs) × (slice_index_or xs i d ≡ get_or zs i (slice_index_or xs i d))) same
+    (within, read_itself xs i d within)
+
+pub read_any : (ms : List MethodId) (i : ℕ) (n : MethodId) → i < length ms → n ≡ get_or ms i n →
+    list_any (is_method n) ms ≡ true
+read_any [] i n within is = absurd (omega arith)
+read_any (m ∷ ms) zero n within is =
+    or-left (nat_eq m.0 n.0) (list_any (is_method n) ms) (eq-eqb m.0 n.0 (ap (λ (k : MethodId). k.0) (sym is)))
+read_any (m ∷ ms) (suc i) n within is =
+    or-right (nat_eq m.0 n.0) (list_any (is_method n) ms) (read_any ms i n (omega arith) is)
+
+-- ---- the methods in a row are analysed
+
+alone : (b : Bool) → (b || false) ≡ true → b ≡ true
+alone true e = refl
+alone false e = absurd cc
+
+analysed_in : (program : Core) (n : MethodId) (op : CoreOp) → is_right_call program op ≡ true →
+    list_any (is_method n) (called_by op) ≡ true → is_analysed program n ≡ true
+analysed_in program n (Call m k) right there =
+    let same : m ≡ n = nat_eq-same m n (alone (nat_eq m.0 n.0) there) in
+    ap (is_analysed program) (sym same) ∙ (both-true (is_analysed program m) (takes program m k) right).0
+analysed_in program n (Push v) right there = absurd cc
+analysed_in program n (PushClass c) right there = absurd cc
+analysed_in program n PushPrim right there = absurd cc
+analysed_in program n PushNull right there = absurd cc
+analysed_in program n (New c) right there = absurd cc
+analysed_in program n Dup right there = absurd cc
+analysed_in program n Drop right there = absurd cc
+analysed_in program n (Get f) right there = absurd cc
+analysed_in program n (Put f) right there = absurd cc
+analysed_in program n (Set v) right there = absurd cc
+analysed_in program n (Prim k) right there = absurd cc
+analysed_in program n (Outside k) right there = absurd cc
+analysed_in program n (Unread m k) right there = absurd cc
+analysed_in program n Ret right there = absurd cc
+
+analysed_among : (program : Core) (n : MethodId) (ops : List Operation) →
+    list_all (λ (o : Operation). is_right_call program o.op) ops ≡ true →
+    list_any (is_method n) (flat_map (λ (o : Operation). called_by o.op) ops) ≡ true → is_analysed program n ≡ true
+analysed_among program n [] right there = absurd cc
+analysed_among program n (o ∷ ops) right there =
+    let rest = flat_map (λ (x : Operation). called_by x.op) ops in
+    let parts = both-true (is_right_call program o.op) (list_all (λ (x : Operation). is_right_call program x.op) ops) right in
+    elim (list_any (is_method n) (called_by o.op)) as (λ b. list_any (is_method n) (called_by o.op) ≡ b →
+    (b || list_any (is_method n) rest) ≡ true → is_analysed program n ≡ true) [
+      | true ↦ λ e _. analysed_in program n o.op parts.0 e
+      | false ↦ λ _ k. analysed_among program n ops parts.1 k
+    ] refl (sym (any-append (is_method n) (called_by o.op) rest) ∙ there)
+
+right_at : (program : Core) (ms : List Method) (i : ℕ) (method : Method) →
+    list_all (has_right_calls program) ms ≡ true → slice_get ms i ≡ Some method → has_right_calls program method ≡ true
+right_at program [] i method all is = absurd cc
+right_at program (m ∷ ms) zero method all is =
+    let same : m ≡ method = cc in
+    ap (has_right_calls program) (sym same)
+    ∙ (both-true (has_right_calls program m) (list_all (has_right_calls program) ms) all).0
+right_at program (m ∷ ms) (suc i) method all is =
+    right_at program ms i method (both-true (has_right_calls program m) (list_all (has_right_calls program) ms) all).1 is
+
+method_there : (o : Option Method) → analysed_at o ≡ true → (method : Method) × (o ≡ Some method)
+method_there None e = absurd cc
+method_there (Some method) e = (method, refl)
+
+-- the row of an analysed method has the methods that its code calls
+pub in_row_called : (program : Core) (m n : MethodId) → is_analysed program m ≡ true →
+    list_any (is_method n) (row_of (rows_of program) m) ≡ list_any (is_method n) (calls_of program m)
+in_row_called program m n analysed =
+    let found = method_there (method_at program m) analysed in
+    ap (list_any (is_method n)) (row_at program.methods m.0 found.0 found.1)
+    ∙ in_row n (calls_in found.0.code)
+    ∙ sym (ap (λ (o : Option Method). list_any (is_method n) (elim o as (λ _. List MethodId) [
+      | None ↦ []
+      | Some method ↦ calls_in method.code
+    ])) found.1)
+
+pub row_analysed : (program : Core) (m n : MethodId) → are_calls_right program ≡ true → is_analysed program m ≡ true →
+    list_any (is_method n) (row_of (rows_of program) m) ≡ true → is_analysed program n ≡ true
+row_analysed program m n right analysed there =
+    let found = method_there (method_at program m) analysed in
+    analysed_among program n (steps_of found.0.code) (right_at program program.methods m.0 found.0 right found.1)
+    (sym (ap (λ (o : Option Method). list_any (is_method n) (elim o as (λ _. List MethodId) [
+      | None ↦ []
+      | Some method ↦ calls_in method.code
+    ])) found.1) ∙ sym (in_row_called program m n analysed) ∙ there)
+
+-- ---- one more callee
+
+more_some : (b : Bool) (x : Outcome) (o p : Option Outcome) → (is_some o ≡ true → is_some p ≡ true) →
+    is_some (cond b (Some x) o) ≡ true → is_some (cond b (Some x) p) ≡ true
+more_some true x o p h e = refl
+more_some false x o p h e = h e
+
+-- what is among some is among more
+still_in : (fs : List Held) (f : Held) (n : MethodId) → is_some (outcome_in fs n) ≡ true →
+    is_some (outcome_in (fs ++ f ∷ []) n) ≡ true
+still_in [] f n e = absurd cc
+still_in (g ∷ fs) f n e =
+    more_some (nat_eq (arc_value g).method.0 n.0) (arc_value (arc_value g).outcome) (outcome_in fs n)
+    (outcome_in (fs ++ f ∷ []) n) (still_in fs f n) e
+
+some_either : (b : Bool) (x : Outcome) (p : Option Outcome) → is_some p ≡ true → is_some (cond b (Some x) p) ≡ true
+some_either true x p e = refl
+some_either false x p e = e
+
+last_in : (fs : List Held) (f : Held) (n : MethodId) → (arc_value f).method ≡ n →
+    is_some (outcome_in (fs ++ f ∷ []) n) ≡ true
+last_in [] f n is =
+    ap (λ (b : Bool). is_some (cond b (Some (arc_value (arc_value f).outcome)) None))
+    (eq-eqb (arc_value f).method.0 n.0 (ap (λ (m : MethodId). m.0) is))
+last_in (g ∷ fs) f n is =
+    some_either (nat_eq (arc_value g).method.0 n.0) (arc_value (arc_value g).outcome) (outcome_in (fs ++ f ∷ []) n)
+    (last_in fs f n is)
+
+either_true : (a b c d : Bool) → (a ≡ true → d ≡ true) → (b ≡ true → d ≡ true) → (a || (b || c)) ≡ true →
+    (d || c) ≡ true
+either_true true b c d f g e = ap (λ (x : Bool). x || c) (f refl)
+either_true false true c d f g e = ap (λ (x : Bool). x || c) (g refl)
+either_true false false c d f g e = or-right d c e
+
+pub one-fewer : (fs : List Held) (f : Held) (row : List MethodId) (i : ℕ) (x n : MethodId) → i < length row →
+    x ≡ get_or row i x → (arc_value f).method ≡ x →
+    (is_some (outcome_in fs n) || list_any (is_method n) (drop i row)) ≡ true →
+    (is_some (outcome_in (fs ++ f ∷ []) n) || list_any (is_method n) (drop (i + 1) row)) ≡ true
+one-fewer fs f row i x n within at is e =
+    let left = list_any (is_method n) (drop (i + 1) row) in
+    let split : list_any (is_method n) (drop i row) ≡ (is_method n x || left) =
+    at_drop_more (list_any (is_method n)) row i x within ∙ ap (λ (m : MethodId). is_method n m || left) (sym at) in
+    either_true (is_some (outcome_in fs n)) (is_method n x) left (is_some (outcome_in (fs ++ f ∷ []) n))
+    (still_in fs f n)
+    (λ same. last_in fs f n (is ∙ nat_eq-same x n same))
+    (ap (λ (b : Bool). is_some (outcome_in fs n) || b) (sym split) ∙ e)
+
+all_from : (p : MethodId → Bool) (ms : List MethodId) →
+    ((n : MethodId) → list_any (is_method n) ms ≡ true → p n ≡ true) → list_all p ms ≡ true
+all_from p [] h = refl
+all_from p (m ∷ ms) h = (λ i.
+    h m (or-left (nat_eq m.0 m.0) (list_any (is_method m) ms) (eq-eqb m.0 m.0 refl)) i
+    && all_from p ms (λ n e. h n (or-right (nat_eq m.0 n.0) (list_any (is_method n) ms) e)) i)
+
+or_none : (a b : Bool) → b ≡ false → (a || b) ≡ true → a ≡ true
+or_none true b e h = refl
+or_none false b e h = sym e ∙ h
+
+-- all callees are finished
+pub row-done : (program : Core) (m : MethodId) (fs : List Held) (row : List MethodId) (i : ℕ) →
+    is_analysed program m ≡ true → row ≡ row_of (rows_of program) m → length row ≤ i →
+    All (λ (f : Held). core (arc_value (arc_value f).program) ≡ program) fs →
+    ((n : MethodId) → list_any (is_method n) row ≡ true →
+    (is_some (outcome_in fs n) || list_any (is_method n) (drop i row)) ≡ true) → AreCallees program m fs
+row-done program m fs row i analysed is over same there =
+    record {
+      same_program = same;
+      are_there = all_from (λ (n : MethodId). is_some (outcome_in fs n)) (calls_of program m)
+          (λ n called.
+          or_none (is_some (outcome_in fs n)) (list_any (is_method n) (drop i row))
+          (ap (list_any (is_method n)) (drop_all i row over))
+          (there n (ap (list_any (is_method n)) is ∙ in_row_called program m n analysed ∙ called)));
+    }
+
+-- ---- outcomes
+
+without : (o : Option Reason) (x : Known) → is_some o ≡ true →
+    None ≡ option_map outcome_from (cond (is_none o) (Some x) None)
+without None x e = absurd cc
+without (Some r) x e = refl
+
+-- a method that is not analysed has no outcome
+pub no_outcome : (program : Core) (m : MethodId) (method : Method) → method_at program m ≡ Some method →
+    is_some method.status ≡ true → None ≡ outcome_of program m
+no_outcome program m method is e =
+    without method.status (known_given program (known_of_callees program m) method) e
+    ∙ sym (ap (λ (o : Option Method). option_map outcome_from (option_and_then
+    (λ x. cond (is_none x.status) (Some (known_given program (known_of_callees program m) x)) None) o)) is)
+
+-- one more outcome
+pub outcomes_turn : (program : Core) (n i : ℕ) (before : List (Option Outcome)) (found : Option Outcome) → i < n →
+    found ≡ outcome_of program (record { 0 = i }) →
+    (before ++ found ∷ []) ++ outcomes_from program (i + 1) (n - (i + 1)) ≡ before ++ outcomes_from program i (n - i)
+outcomes_turn program n i before found within is =
+    let one : suc (n - (i + 1)) ≡ n - i = omega arith in
+    append_assoc before (found ∷ []) (outcomes_from program (i + 1) (n - (i + 1)))
+    ∙ (λ j. before ++ is j ∷ outcomes_from program (add-one i j) (n - (i + 1)))
+    ∙ ap (λ (k : ℕ). before ++ outcomes_from program i k) one

@@ -1,0 +1,83 @@
+use Rattle.std.proofs.Common.{◌≡◌, ◌+◌, ◌≤◌, ◌<◌, ◌||◌, true, List, [], ◌∷◌, ◌++◌, All, drop, is_some, length, sym, ap, subst}
+use Rattle.std.proofs.Common.{◌∙◌, arith}
+use Rattle.std.proofs.lemmas.List.Elements.{All-push}
+use Rattle.std.specs.Arc.{arc_value}
+use Rattle.std.specs.List.{list_any}
+use Rattle.std.specs.Prelude.{slice_index_or}
+use Rattle.racer_base.specs.declared.ids.MethodId.{MethodId}
+use Rattle.call_graph.specs.Chains.{row_of}
+use Rattle.call_graph.specs.Falling.{number_of}
+use Rattle.core_code.specs.Calls.{is_analysed}
+use Rattle.core_code.specs.Program.{core}
+use Rattle.core_code.specs.Rows.{rows_in, rows_of, ranks_in}
+use Rattle.transfer.specs.Callees.{Held, AreCallees, outcome_in}
+use Rattle.transfer.specs.Tables.{IsFinished, IsTable}
+use Rattle.transfer.proofs.Tables.{is_method}
+use Rattle.transfer.proofs.Every.{read_at, read_any, row_analysed, one-fewer, row-done, kept-table}
+use Rattle.transfer.proofs.whole.+finish.Goals as goal
+
+pub finish-requires : goal.finish-requires
+finish-requires t c =
+    let program = core (arc_value c.args.program.now) in
+    let m = c.args.method in
+    let row = c.row-callee-items.result.now in
+    let i = c.loop-callee.callee-index in
+    let n : MethodId = slice_index_or row i (record { 0 = 0 }) in
+    let same : row ≡ row_of (rows_of program) m =
+    c.row-callee-items.ensures ∙ ap (λ (rows : List (List MethodId)). row_of rows m) c.requires.rows.rows_are in
+    let at = read_at row (row_of (rows_of program) m) i (record { 0 = 0 }) same c.loop-callee-test.true in
+    let falls : number_of (ranks_in c.args.rows.now) n < number_of (ranks_in c.args.rows.now) m =
+    c.requires.rows.ranks_fall m n (i, at.0, sym at.1) in
+    let analysed : is_analysed program n ≡ true =
+    row_analysed program m n (arc_value c.args.program.now).calls_right c.requires.analysed
+    (read_any (row_of (rows_of program) m) i n at.0 at.1) in
+    (omega (arith, falls, c.decreases), (c.requires.rows, (analysed, c.loop-callee.invariant.table)))
+
+pub loop-callee-preserved : goal.loop-callee-preserved
+loop-callee-preserved t c =
+    let program = core (arc_value c.args.program.now) in
+    let m = c.args.method in
+    let row = row_of (rows_in c.args.rows.now) m in
+    let inv = c.loop-callee.invariant in
+    let i = c.loop-callee.callee-index in
+    let n : MethodId = slice_index_or c.row-callee-items.result.now i (record { 0 = 0 }) in
+    let at = read_at c.row-callee-items.result.now row i (record { 0 = 0 }) c.row-callee-items.ensures
+    c.loop-callee-test.true in
+    let callees = c.loop-callee.callees.items in
+    let made = c.in_ok-finished-2.finished in
+    let IsFor : Held → Type 0 = λ f. core (arc_value (arc_value f).program) ≡ program in
+    record {
+      table = c.in_ok-finished-2.ensures.table;
+      same_program =
+          subst (λ (fs : List Held). All IsFor fs) (sym {A = List Held} {b = callees ++ made ∷ []} c.in_ok-push.ensures.items)
+          (All-push IsFor callees made inv.same_program c.in_ok-finished-2.ensures.made.program_is);
+      there = λ k e.
+          subst (λ (fs : List Held). (is_some (outcome_in fs k) || list_any (is_method k) (drop (i + 1) row)) ≡ true)
+          (sym {A = List Held} {b = callees ++ made ∷ []} c.in_ok-push.ensures.items)
+          (one-fewer callees made row i n k at.0 at.1 c.in_ok-finished-2.ensures.made.method (inv.there k e));
+    }
+
+pub analyse-requires-clause-callees : goal.analyse-requires-clause-callees
+analyse-requires-clause-callees t c =
+    let program = core (arc_value c.args.program.now) in
+    let m = c.args.method in
+    let row = row_of (rows_in c.args.rows.now) m in
+    let inv = c.loop-callee.invariant in
+    let i = c.loop-callee.callee-index in
+    let over : length row ≤ i =
+    subst (λ (ms : List MethodId). length ms ≤ i) c.row-callee-items.ensures c.loop-callee-test.false in
+    subst (AreCallees program m) (sym c.as_slice-2.ensures.value)
+    (row-done program m c.loop-callee.callees.items row i c.requires.analysed
+    (ap (λ (rows : List (List MethodId)). row_of rows m) c.requires.rows.rows_are) over inv.same_program inv.there)
+
+pub returns-clause-table : goal.returns-clause-table
+returns-clause-table t c =
+    let program = core (arc_value c.args.program.now) in
+    let m = c.args.method in
+    let made = c.in_ok-finished-3 in
+    let kept = c.in_ok-clone.field-0 in
+    let is : IsFinished program m made.finished =
+    record { method = made.ensures.method; program_is = ap core made.ensures.program } in
+    subst (IsTable program) (sym c.keep.ensures)
+    (kept-table program c.loop-callee.table.items m kept c.loop-callee.invariant.table
+    (subst (IsFinished program m) (sym (c.in_ok-clone.ensures.cases ∙ c.in_ok-finished-4.ensures.ok)) is))
