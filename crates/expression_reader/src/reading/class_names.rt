@@ -74,7 +74,8 @@ fn names(
     first: Ident,
     tokens: &[Token],
 ) -> Result<(NestedExpression, &[Token]), ReadError>
-    ensures gives { Gives (λ x. (expr_of x.0.tree.value, map spelled x.1.now)) result (finished class_end (first.text ∷ [])
+    ensures gives { Gives (λ x. (expr_of x.0.tree.value, map spelled x.1.now)) result (finished class_end
+        (first.text ∷ [])
         (class_at true (map spelled tokens.now))) }
     ensures places { IfOk result (λ x. expr_places x.0.tree.value (kept x.1.now) ≡ first.place ∷ kept tokens.now) }
     ensures small { IfOk result (λ x. x.0.nesting ≡ 1) }

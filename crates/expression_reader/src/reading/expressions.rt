@@ -61,7 +61,8 @@ fn climb(
     requires first { first.nesting ≤ suc limit }
     ensures gives { Gives (λ x. (expr_of x.0.tree.value, map spelled x.1.now)) result (climb_with (read_at limit) limit
         level (suc limit) (expr_of first.tree.value) (map spelled tokens.now)) }
-    ensures places { IfOk result (λ x. expr_places x.0.tree.value (kept x.1.now) ≡ expr_places first.tree.value (kept tokens.now)) }
+    ensures places { IfOk result (λ x. expr_places x.0.tree.value (kept x.1.now) ≡ expr_places first.tree.value
+        (kept tokens.now)) }
     ensures small { IfOk result (λ x. x.0.nesting ≤ suc limit) }
     ensures shorter { IfOk result (λ x. length x.1.now ≤ length tokens.now) }
 {

@@ -66,7 +66,8 @@ fn word<'a>(
     requires room { suc (suc limit) < 2 ^ 32 }
     ensures gives { Gives (λ x. (expr_of x.0.tree.value, map spelled x.1.now)) result (operand_of (read_at limit)
         (ty_at limit) (made_base_at limit) (array_at limit) kind.Keyword token.now.text (map spelled tokens.now)) }
-    ensures places { IfOk result (λ x. expr_places x.0.tree.value (kept x.1.now) ≡ place_onto kind.Keyword token.now.text
+    ensures places { IfOk result (λ x. expr_places x.0.tree.value (kept x.1.now)
+        ≡ place_onto kind.Keyword token.now.text
         token.now.place (kept tokens.now)) }
     ensures small { IfOk result (λ x. x.0.nesting ≤ suc limit) }
     ensures shorter { IfOk result (λ x. length x.1.now ≤ length tokens.now) }

@@ -68,7 +68,8 @@ fn items(
     requires few { length tokens.now < 2 ^ 32 }
     requires room { suc (suc limit) < 2 ^ 32 }
     requires first { first.nesting ≤ limit }
-    ensures gives { Gives (λ x. (array_of x.0.tree, map spelled x.1.now)) result (items_end (init_of first.tree.value ∷ [])
+    ensures gives { Gives (λ x. (array_of x.0.tree, map spelled x.1.now)) result (items_end
+        (init_of first.tree.value ∷ [])
         (items_with (init_at limit) (length (map spelled tokens.now)) (map spelled tokens.now))) }
     ensures places { IfOk result (λ x. array_places x.0.tree (kept x.1.now) ≡ init_places first.tree.value
         (kept tokens.now)) }

@@ -74,7 +74,8 @@ pub fn lengths_end(
     requires few { length tokens.now < 2 ^ 32 }
     requires base { suc (suc base.value.nesting) < 2 ^ 32 }
     requires lengths { suc lengths.nesting < 2 ^ 32 }
-    ensures gives { Gives (λ x. (expr_of x.0.tree.value, map spelled x.1.now)) result (lengths_end (base_of base.value.tree)
+    ensures gives { Gives (λ x. (expr_of x.0.tree.value, map spelled x.1.now)) result (lengths_end
+        (base_of base.value.tree)
         (map expr_of lengths.trees.items, map spelled tokens.now)) }
     ensures places { IfOk result (λ x. expr_places x.0.tree.value (kept x.1.now) ≡ place ∷ (base_places base.value.tree
         ++ each_puts (map expr_places lengths.trees.items) (kept tokens.now))) }

@@ -118,7 +118,8 @@ pub fn prefixed<'a>(
     requires { suc part.nesting < 2 ^ 32 }
     ensures gives { Gives (λ x. (expr_of x.0.tree.value, map spelled x.1.now)) result (prefix_end operator.now
         (expr_of part.tree.value, map spelled tokens.now)) }
-    ensures places { IfOk result (λ x. expr_places x.0.tree.value (kept x.1.now) ≡ expr_places part.tree.value (kept tokens.now)) }
+    ensures places { IfOk result (λ x. expr_places x.0.tree.value (kept x.1.now) ≡ expr_places part.tree.value
+        (kept tokens.now)) }
     ensures small { IfOk result (λ x. x.0.nesting ≡ suc part.nesting) }
     ensures shorter { IfOk result (λ x. length x.1.now ≤ length tokens.now) }
 {

@@ -63,9 +63,11 @@ pub fn assigned<'a>(
     requires room { suc (suc limit) < 2 ^ 32 }
     requires left { left.nesting ≤ suc limit }
     requires right { right.nesting ≤ limit }
-    ensures gives { Gives turn_of result (grown limit (Assign (expr_of left.tree.value) operator.now (expr_of right.tree.value))
+    ensures gives { Gives turn_of result (grown limit (Assign (expr_of left.tree.value) operator.now
+        (expr_of right.tree.value))
         (map spelled tokens.now)) }
-    ensures places { IfOk result (λ x. places_put x (kept tokens.now) ≡ expr_places left.tree.value (expr_places right.tree.value
+    ensures places { IfOk result (λ x. places_put x (kept tokens.now) ≡ expr_places left.tree.value
+        (expr_places right.tree.value
         (kept tokens.now))) }
     ensures small { IfOk result (λ x. IsSmall x (suc limit)) }
     ensures shorter { IfOk result (λ x. IsWithin x (length tokens.now)) }
@@ -89,7 +91,8 @@ pub fn chosen<'a>(
     requires condition { condition.nesting ≤ suc limit }
     requires then { then.nesting ≤ limit }
     requires other { other.nesting ≤ limit }
-    ensures gives { Gives turn_of result (grown limit (Conditional (expr_of condition.tree.value) (expr_of then.tree.value)
+    ensures gives { Gives turn_of result (grown limit (Conditional (expr_of condition.tree.value)
+        (expr_of then.tree.value)
         (expr_of other.tree.value)) (map spelled tokens.now)) }
     ensures places { IfOk result (λ x. places_put x (kept tokens.now) ≡ expr_places condition.tree.value
         (expr_places then.tree.value (expr_places other.tree.value (kept tokens.now)))) }
@@ -113,9 +116,11 @@ pub fn joined<'a>(
     requires room { suc (suc limit) < 2 ^ 32 }
     requires left { left.nesting ≤ suc limit }
     requires right { right.nesting ≤ limit }
-    ensures gives { Gives turn_of result (grown limit (Binary (expr_of left.tree.value) operator.now (expr_of right.tree.value))
+    ensures gives { Gives turn_of result (grown limit (Binary (expr_of left.tree.value) operator.now
+        (expr_of right.tree.value))
         (map spelled tokens.now)) }
-    ensures places { IfOk result (λ x. places_put x (kept tokens.now) ≡ expr_places left.tree.value (expr_places right.tree.value
+    ensures places { IfOk result (λ x. places_put x (kept tokens.now) ≡ expr_places left.tree.value
+        (expr_places right.tree.value
         (kept tokens.now))) }
     ensures small { IfOk result (λ x. IsSmall x (suc limit)) }
     ensures shorter { IfOk result (λ x. IsWithin x (length tokens.now)) }
@@ -180,7 +185,8 @@ pub fn selected<'a>(
 ) -> Result<Turned<'a>, ReadError>
     requires room { suc (suc limit) < 2 ^ 32 }
     requires left { left.nesting ≤ suc limit }
-    ensures gives { Gives turn_of result (grown limit (Field (expr_of left.tree.value) name.text) (map spelled tokens.now)) }
+    ensures gives { Gives turn_of result (grown limit (Field (expr_of left.tree.value) name.text)
+        (map spelled tokens.now)) }
     ensures places { IfOk result (λ x. places_put x (kept tokens.now) ≡ expr_places left.tree.value (name.place
         ∷ kept tokens.now)) }
     ensures small { IfOk result (λ x. IsSmall x (suc limit)) }
@@ -228,7 +234,8 @@ pub fn indexed<'a>(
     requires index { index.nesting ≤ limit }
     ensures gives { Gives turn_of result (index_end limit (expr_of left.tree.value)
         (expr_of index.tree.value) (map spelled tokens.now)) }
-    ensures places { IfOk result (λ x. places_put x (kept tokens.now) ≡ expr_places left.tree.value (expr_places index.tree.value
+    ensures places { IfOk result (λ x. places_put x (kept tokens.now) ≡ expr_places left.tree.value
+        (expr_places index.tree.value
         (kept tokens.now))) }
     ensures small { IfOk result (λ x. IsSmall x (suc limit)) }
     ensures shorter { IfOk result (λ x. IsWithin x (length tokens.now)) }

@@ -39,7 +39,8 @@ expressions::climb-loop-preserved t c =
     record {
       gives = climbs_on (read_at n) n c.args.level c.loop.counter (expr_of c.loop.tree.tree.value)
           (expr_of c.in-Next.larger.tree.value) (map spelled c.loop.rest.now) (map spelled c.in-Next.after.now)
-          (climb_with (read_at n) n c.args.level (suc n) (expr_of c.args.first.tree.value) (map spelled c.args.tokens.now))
+          (climb_with (read_at n) n c.args.level (suc n) (expr_of c.args.first.tree.value)
+          (map spelled c.args.tokens.now))
           (omega arith) gives c.loop.invariant.gives;
       places = places ∙ c.loop.invariant.places;
       small = small;
@@ -192,7 +193,8 @@ creations::lengths-returns-clause-gives t c =
 pub initialisers::items-returns-in_default-clause-gives : goal.initialisers::items-returns-in_default-clause-gives
 initialisers::items-returns-in_default-clause-gives t c =
     let read = init_at c.args.limit in
-    let total = items_end (init_of c.args.first.tree.value ∷ []) (items_with read (length (map spelled c.args.tokens.now))
+    let total = items_end (init_of c.args.first.tree.value ∷ []) (items_with read (length
+    (map spelled c.args.tokens.now))
     (map spelled c.args.tokens.now)) in
     ends_give _ c.items_end.result total _ (items_stop read total c.args.tokens.now c.loop.counter
     (map init_of c.loop.items.items) (map spelled c.loop.rest.now) c.loop-test.true c.in_default.ensures.gives
@@ -201,7 +203,8 @@ initialisers::items-returns-in_default-clause-gives t c =
 pub initialisers::items-returns-in_err-next-clause-gives : goal.initialisers::items-returns-in_err-next-clause-gives
 initialisers::items-returns-in_err-next-clause-gives t c =
     let read = init_at c.args.limit in
-    let total = items_end (init_of c.args.first.tree.value ∷ []) (items_with read (length (map spelled c.args.tokens.now))
+    let total = items_end (init_of c.args.first.tree.value ∷ []) (items_with read (length
+    (map spelled c.args.tokens.now))
     (map spelled c.args.tokens.now)) in
     let p = err_from_is_err_and c.from_residual-in_err-next.result c.from_residual-in_err-next.ensures.1 in
     rw (p.1, p.2) (item_fails read total c.args.tokens.now c.loop.counter (map init_of c.loop.items.items)
@@ -214,7 +217,8 @@ initialisers::items-loop-preserved t c =
     let e : map init_of c.push_tree-in-loop.new.trees.items ≡ map init_of c.loop.items.items ++ init_of n ∷ [] =
     rw c.in_ok-push_tree-2.ensures.items (map_push _ c.loop.items.items n) in
     let read = init_at c.args.limit in
-    let total = items_end (init_of c.args.first.tree.value ∷ []) (items_with read (length (map spelled c.args.tokens.now))
+    let total = items_end (init_of c.args.first.tree.value ∷ []) (items_with read (length
+    (map spelled c.args.tokens.now))
     (map spelled c.args.tokens.now)) in
     record {
       gives = rw e (item_goes_on read total c.args.tokens.now c.loop.counter (map init_of c.loop.items.items)
@@ -238,7 +242,8 @@ initialisers::items-loop-preserved t c =
 pub initialisers::items-returns-clause-gives : goal.initialisers::items-returns-clause-gives
 initialisers::items-returns-clause-gives t c =
     let read = init_at c.args.limit in
-    let total = items_end (init_of c.args.first.tree.value ∷ []) (items_with read (length (map spelled c.args.tokens.now))
+    let total = items_end (init_of c.args.first.tree.value ∷ []) (items_with read (length
+    (map spelled c.args.tokens.now))
     (map spelled c.args.tokens.now)) in
     items_run_out read total c.args.tokens.now c.loop.counter (map init_of c.loop.items.items)
     (map spelled c.loop.rest.now) c.loop-test.false c.loop.invariant.gives

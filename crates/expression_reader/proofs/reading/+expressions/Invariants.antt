@@ -24,7 +24,8 @@ invariant-expressions::climb-loop l = record {
 abbrev pub invariant-arguments::arguments-loop : goal.invariant-arguments::arguments-loop
 invariant-arguments::arguments-loop l = record {
   gives : finished call_end (map expr_of l.trees.items) (commas (read_at l.limit assignment_level)
-      (length (map spelled l.tokens) - l.counter) (map spelled l.rest)) ≡ finished call_end (expr_of l.fn.first.tree.value
+      (length (map spelled l.tokens) - l.counter) (map spelled l.rest)) ≡ finished call_end
+      (expr_of l.fn.first.tree.value
       ∷ []) (commas (read_at l.limit assignment_level) (length (map spelled l.tokens)) (map spelled l.tokens));
   places : each_puts (map expr_places l.trees.items) (kept l.rest) ≡ expr_places l.fn.first.tree.value (kept l.tokens);
   small : l.nesting ≤ l.limit;
