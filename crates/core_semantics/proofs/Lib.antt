@@ -1,3 +1,7 @@
 pub mod Piles
 pub mod StoredCells
 pub mod HeapLemmas
+pub mod Frames
+pub mod Answered
+pub mod InnerSteps
+pub mod ThreadSteps

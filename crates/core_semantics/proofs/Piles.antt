@@ -1,9 +1,10 @@
 -- A list and the same from its end.
 use Rattle.std.proofs.Common.{◌≡◌, ℕ, suc, ◌+◌, ◌-◌, ◌<◌, ◌≤◌, List, [], ◌∷◌, ◌++◌, length, drop, take, reverse, set}
-use Rattle.std.proofs.Common.{sym, ap, ◌∙◌, arith, inl, inr, add-one}
+use Rattle.std.proofs.Common.{refl, sym, ap, ◌∙◌, arith, inl, inr, add-one, slice_get, None, Some, zero}
 use Rattle.std.proofs.lemmas.Bool.{cases_lt}
+use Rattle.std.proofs.lemmas.Option.{get_or_from_slice_get, slice_get_within}
 use Rattle.std.proofs.lemmas.List.{take-append-drop, reverse-append, length-reverse, length-drop, set-append_left}
-use Rattle.std.proofs.Math.Seq.{drop-append_seam, take-suc-set, take-length}
+use Rattle.std.proofs.Math.Seq.{drop-cons, drop-append_seam, take-append_seam, take-suc-set, take-length}
 use Rattle.std.proofs.Math.ListN.{drop_of_length-le, length-set}
 
 -- the end of a list stands first in its reverse
@@ -56,14 +57,36 @@ two_reversed k xs a b is_last =
 
 -- the one under the top taken away
 pub pulled_reversed : {A : Type 0} (k : ℕ) (xs : List A) → k + 2 ≡ length xs →
-    drop 1 (reverse (take k xs ++ drop (suc k) xs)) ≡ drop 2 (reverse xs)
+    reverse (take k xs ++ drop (suc k) xs) ≡ take 1 (reverse xs) ++ drop 2 (reverse xs)
 pulled_reversed {A} k xs is_under =
     let back : List A = reverse (drop (suc k) xs) in
     let one : length back ≡ 1 =
     length-reverse (drop (suc k) xs) ∙ length-drop (suc k) xs ∙ (let e : length xs - suc k ≡ 1 = omega arith in e) in
     let left : length xs - 2 ≡ k = omega arith in
-    ap (drop 1) (reverse-append (take k xs) (drop (suc k) xs))
-    ∙ ap (λ m. drop m (back ++ reverse (take k xs))) (sym one)
-    ∙ drop-append_seam back (reverse (take k xs))
-    ∙ ap (λ m. reverse (take m xs)) (sym left)
-    ∙ sym (drop_reversed 2 xs)
+    let top : take 1 (reverse xs) ≡ back =
+    ap (take 1) (reversed (suc k) xs)
+    ∙ ap (λ m. take m (back ++ reverse (take (suc k) xs))) (sym one)
+    ∙ take-append_seam back (reverse (take (suc k) xs)) in
+    let below : drop 2 (reverse xs) ≡ reverse (take k xs) = drop_reversed 2 xs ∙ ap (λ m. reverse (take m xs)) left in
+    reverse-append (take k xs) (drop (suc k) xs) ∙ (λ i. sym top i ++ sym below i)
+
+-- a pile without a top is empty
+pub empty_pile : {A : Type 0} (xs : List A) → slice_get xs 0 ≡ None → xs ≡ []
+empty_pile [] e = refl
+empty_pile (x ∷ xs) e = cc
+
+-- the rest of a pile from an element on
+pub rest_at : {A : Type 0} (xs : List A) (n : ℕ) (x : A) → slice_get xs n ≡ Some x → drop n xs ≡ x ∷ drop (n + 1) xs
+rest_at xs n x found =
+    drop-cons xs n x (slice_get_within xs n x found)
+    ∙ (λ i. get_or_from_slice_get xs n x x found i ∷ drop (sym (add-one n) i) xs)
+
+pub rest_past : {A : Type 0} (xs : List A) (n : ℕ) → slice_get xs n ≡ None → drop n xs ≡ []
+rest_past [] n none = drop_of_length-le [] (omega arith)
+rest_past (x ∷ xs) zero none = cc
+rest_past (x ∷ xs) (suc n) none = rest_past xs n none
+
+pub rest_past_one : {A : Type 0} (xs : List A) (n : ℕ) → slice_get xs n ≡ None → drop (n + 1) xs ≡ []
+rest_past_one [] n none = drop_of_length-le [] (omega arith)
+rest_past_one (x ∷ xs) zero none = cc
+rest_past_one (x ∷ xs) (suc n) none = ap (λ m. drop m (x ∷ xs)) (add-one (suc n)) ∙ ap (λ m. drop m xs) (sym (add-one n)) ∙ rest_past_one xs n none

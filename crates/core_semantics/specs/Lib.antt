@@ -2,10 +2,14 @@
 pub mod Objects
 pub mod Order
 pub mod Same
+pub mod SameMonitor
 pub mod State
 pub mod Steps
 pub mod Runs
 pub mod Cells
 pub mod CellOrder
+pub mod Answers
+pub mod View
+pub mod Weights
 pub mod Legs
 pub mod Rows

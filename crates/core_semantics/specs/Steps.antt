@@ -1,17 +1,19 @@
 -- A contract of a public call rests on this: one step of a thread, a row an operation (JLS 4.12.5, 14.19, 15.11, 15.12.4,
 -- 17.1).
 use Rattle.std.specs.Prelude.{ℕ, suc, ◌-◌, Bool, ◌&&◌, List, [], ◌∷◌, ◌++◌, None, Some}
-use Rattle.std.specs.Prelude.{drop, length, nat_lt, replicate, reverse, slice_get, slice_index_or, slice_set}
-use Rattle.std.specs.Prelude.{take, if◌then◌else◌, Result, Ok, Err}
+use Rattle.std.specs.Prelude.{drop, length, map, nat_lt, replicate, reverse, slice_get, slice_index_or, slice_set}
+use Rattle.std.specs.Prelude.{Option, take, if◌then◌else◌, Result, Ok, Err}
 use Rattle.std.specs.List.{list_any}
 use Rattle.racer_base.specs.declared.ids.FieldId.{FieldId}
 use Rattle.racer_base.specs.declared.ids.MethodId.{MethodId}
+use Rattle.racer_base.specs.declared.ids.VarId.{VarId}
 use Rattle.racer_base.specs.declared.ids.Kind.{Kind}
 use Rattle.racer_base.specs.declared.ids.Kind.TheVariants.{Plain as PlainKind, Declared, Other}
 use Rattle.access_paths.specs.Paths.{same_field}
 use Rattle.core_code.specs.declared.code.Op.{Op as CoreOp}
 use Rattle.core_code.specs.declared.code.Op.TheVariants.{Push, PushClass, PushPrim, PushNull, New, Dup, Drop, Get, Put}
 use Rattle.core_code.specs.declared.code.Op.TheVariants.{Set, Prim, Outside, Call, Ret}
+use Rattle.core_code.specs.declared.parts.FieldCore.{FieldCore}
 use Rattle.core_code.specs.Tree.{Tree, is_return}
 use Rattle.core_code.specs.Core.{Core, Method}
 use Rattle.core_code.specs.Calls.{method_at}
@@ -94,14 +96,23 @@ base_of Opaque = Err OpaqueBase
 base_of Null = Err NullBase
 base_of (Ref o) = Ok o
 
+-- why there is none, where there is none
+abbrev pub reason : Result Object Why → Option Why
+reason (Ok o) = None
+reason (Err why) = Some why
+
+abbrev pub on_base : {X : Type 0} → Result Object Why → (Object → Next X) → Next X
+on_base (Ok o) next = next o
+on_base (Err why) next = Sticks why
+
 -- what comes then with the object that a value is; no step where it is none
 abbrev pub on_object : {X : Type 0} → Value → (Object → Next X) → Next X
-on_object v next = elim (base_of v) [ Ok o ↦ next o | Err why ↦ Sticks why ]
+on_object v next = on_base (base_of v) next
 
 -- What is read and stored.
 
 abbrev pub kind_of : Core → FieldId → Kind
-kind_of core f = elim (slice_get core.fields f.0) [ None ↦ Other | Some field ↦ field.kind ]
+kind_of core f = slice_index_or (map (λ (field : FieldCore). field.kind) core.fields) f.0 Other
 
 -- what a field of this kind of an object holds before anything is stored there
 abbrev pub unstored : (StartPath → Bool) → Kind → Object → FieldId → Value
@@ -136,6 +147,15 @@ abbrev pub put : Inner → FieldId → Object → Next Inner
 put i f o =
     Goes (record { store = written i.store o f (top i.frame); frame = replaced i.frame 2 (top i.frame) })
 
+abbrev pub put_on : Inner → FieldId → Next Inner
+put_on i f = on_object (slot_of i.frame 1) (put i f)
+
+abbrev pub got : Core → Inner → FieldId → Next Inner
+got core i f = on_object (top i.frame) (λ o. going i (replaced i.frame 1 (read core i.store o f)))
+
+abbrev pub with_var : Frame → VarId → Frame
+with_var f v = record f { vars = slice_set f.vars v.0 (top f) }
+
 -- Calls of analysed methods and returns are no operations in one frame.
 abbrev pub inner_step : Core → Inner → CoreOp → Next Inner
 inner_step core i (Push v) = going i (replaced i.frame 0 (slice_index_or i.frame.vars v.0 Null))
@@ -145,9 +165,9 @@ inner_step core i PushNull = going i (replaced i.frame 0 Null)
 inner_step core i (New c) = made i
 inner_step core i Dup = going i (replaced i.frame 0 (top i.frame))
 inner_step core i Drop = going i (popped i.frame 1)
-inner_step core i (Get f) = on_object (top i.frame) (λ o. going i (replaced i.frame 1 (read core i.store o f)))
-inner_step core i (Put f) = on_object (slot_of i.frame 1) (put i f)
-inner_step core i (Set v) = going i (record i.frame { vars = slice_set i.frame.vars v.0 (top i.frame) })
+inner_step core i (Get f) = got core i f
+inner_step core i (Put f) = put_on i f
+inner_step core i (Set v) = going i (with_var i.frame v)
 inner_step core i (Prim n) = going i (replaced i.frame n Plain)
 inner_step core i (Outside n) = going i (replaced i.frame n Opaque)
 inner_step core i _ = Sticks UnreadCall
@@ -184,11 +204,15 @@ called_method s method n =
 abbrev pub called : Core → Spot → MethodId → ℕ → Next After
 called core s m n = elim (method_at core m) [ None ↦ Sticks UnreadCall | Some method ↦ called_method s method n ]
 
+-- a thread that has ended
+abbrev pub ended_with : Store → List Holder → After
+ended_with store locks = record { store = store; thread = record { frames = []; locks = locks } }
+
 -- the frame ends, and its value goes to its caller
 abbrev pub returned : Spot → Next After
 returned s =
     elim s.callers [
-      | [] ↦ Goes (record { store = s.store; thread = record { frames = []; locks = s.locks } })
+      | [] ↦ Goes (ended_with s.store s.locks)
       | ◌∷◌ caller callers ↦ Goes (after (record s { frame = replaced caller 0 (top s.frame); callers = callers }))
     ]
 
@@ -206,7 +230,7 @@ unlocked s = record s { frame = record s.frame { locked = s.frame.locked - 1 }; 
 -- a monitor is locked, unless the other thread holds it, and the body is done before it is unlocked
 abbrev pub locking : List Holder → Spot → Tree → Holder → Next After
 locking others s body monitor =
-    if list_any (same_monitor monitor) others
+    if list_any (λ held. same_monitor held monitor) others
     then Waits monitor
     else
     Goes (after (record s {
@@ -219,12 +243,19 @@ locking others s body monitor =
       locks = monitor ∷ s.locks;
     }))
 
--- all opaque values share one monitor
+-- the monitor of a value, or why it has none: all opaque values share one
+abbrev pub monitor_of : Value → Result Holder Why
+monitor_of Plain = Err PlainBase
+monitor_of Null = Err NullBase
+monitor_of Opaque = Ok AllOpaque
+monitor_of (Ref o) = Ok (Of o)
+
+abbrev pub lock_with : List Holder → Spot → Tree → Result Holder Why → Next After
+lock_with others s body (Ok monitor) = locking others s body monitor
+lock_with others s body (Err why) = Sticks why
+
 abbrev pub lock_step : List Holder → Spot → Tree → Value → Next After
-lock_step others s body Plain = Sticks PlainBase
-lock_step others s body Null = Sticks NullBase
-lock_step others s body Opaque = locking others s body AllOpaque
-lock_step others s body (Ref o) = locking others s body (Of o)
+lock_step others s body v = lock_with others s body (monitor_of v)
 
 -- One step: an operation, one turn at a choice or a loop, one lock, or one unlock.
 

@@ -3,12 +3,22 @@
 //! In clauses a `Machine` is a `State` of `specs/State.antt`; what a step does stands in `specs/Steps.antt`.
 #![tactic(auto)]
 
+mod ahead;
 mod answer;
+mod calls;
+mod frame;
+mod inner;
+mod later;
 pub mod laws;
+mod locks;
+mod machine;
 mod object;
 mod order;
 mod pile;
+mod step;
 mod store;
+mod thread;
 
 pub use answer::{Holder, StepAnswer, Turn, Why};
+pub use machine::{Machine, begin};
 pub use object::{Object, Start, StartPath, StartRoot, Value};

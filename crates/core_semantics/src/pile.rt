@@ -1,5 +1,5 @@
 //! A pile, which grows and shrinks at its top.
-ghost use Rattle.std.specs.Prelude.{◌≡◌, ◌<◌, [], ◌∷◌, drop, length, reverse, slice_get, OnOk, OnErr};
+ghost use Rattle.std.specs.Prelude.{◌≡◌, ◌<◌, [], ◌∷◌, ◌++◌, drop, length, reverse, slice_get, take, OnOk, OnErr};
 ghost use Rattle.std.specs.Option.{option_copied};
 
 use racer_base::Memory;
@@ -38,6 +38,12 @@ impl<T> Pile<T> {
         ensures { result.now ≡ reverse self.now }
     {
         self.items.as_slice()
+    }
+
+    pub(crate) fn len(&self) -> usize
+        ensures { result ≡ length self.now }
+    {
+        self.items.len()
     }
 
     /// The element of this number, counted from the top.
@@ -92,10 +98,10 @@ impl<T> Pile<T> {
     pub(crate) fn pull(&mut self)
     where
         T: Drop,
-        requires { 1 < length self.old }
-        ensures top { slice_get self.new 0 ≡ slice_get self.old 0 }
-        ensures rest { drop 1 self.new ≡ drop 2 self.old }
+        ensures { self.new ≡ take 1 self.old ++ drop 2 self.old }
     {
-        self.items.remove(self.items.len() - 2);
+        if self.items.len() > 1 {
+            self.items.remove(self.items.len() - 2);
+        }
     }
 }

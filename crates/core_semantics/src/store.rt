@@ -112,3 +112,12 @@ impl Heap {
         }
     }
 }
+
+/// What both threads share.
+#[derive(Drop)]
+pub(crate) struct Store {
+    pub heap: Heap,
+    pub cells: Cells,
+    /// The number of the next object that is made.
+    pub fresh: u32,
+}

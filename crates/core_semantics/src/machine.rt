@@ -1,0 +1,163 @@
+//! The machine.
+ghost use Rattle.std.specs.Prelude.{◌≡◌, ◌++◌, IfOk, OnOk};
+ghost use Rattle.core_code.specs.Core.{method_of};
+ghost use Rattle.core_code.specs.Program.{core};
+ghost use Rattle.core_semantics.specs.declared.object.Object.TheVariants.{Start as StartOf};
+ghost use Rattle.core_semantics.specs.declared.object.Value.TheVariants.{Object as Ref};
+ghost use Rattle.core_semantics.specs.Answers.{IsAnswer};
+ghost use Rattle.core_semantics.specs.Objects.{root_path};
+ghost use Rattle.core_semantics.specs.Runs.{begun, given_to, parameter, parameters_from, thread_at};
+ghost use Rattle.core_semantics.specs.Steps.{step};
+ghost use Rattle.core_semantics.specs.View.{seen_of, state_of};
+
+use crate::frame::Frame;
+use crate::pile::Pile;
+use crate::step::{Given, step_thread};
+use crate::store::{Cells, Heap, Store};
+use crate::thread::{Running, Thread};
+use crate::{Object, Start, StartPath, StartRoot, StepAnswer, Turn, Value};
+use core_code::{MethodCore, Program};
+use racer_base::{Kind, Memory, MethodId};
+use std::alloc::Global;
+
+/// Two threads that run methods of a program.
+#[derive(Drop)]
+pub struct Machine<'a> {
+    alloc: Global,
+    store: Store,
+    first: Thread<'a>,
+    second: Thread<'a>,
+}
+
+/// The object of a root.
+fn root_object(alloc: Global, root: StartRoot) -> Value
+    ensures { result ≡ Ref (StartOf (root_path root)) }
+{
+    Value::Object(Object::Start(StartPath::alone(alloc, root)))
+}
+
+/// A parameter of the entry of a thread.
+fn parameter(alloc: Global, thread: u32, number: u32, kind: Kind) -> Value
+    ensures { result ≡ parameter thread number kind }
+{
+    match kind {
+        Kind::Plain => Value::Plain,
+        Kind::Declared(_) => root_object(alloc, StartRoot::Param(thread, number)),
+        Kind::Other => Value::Opaque,
+    }
+}
+
+/// Puts the parameters of the entry of a thread, which have these kinds, behind other values.
+fn push_parameters(
+    alloc: Global,
+    thread: u32,
+    kinds: &[Kind],
+    values: &mut Vec<Value>,
+) -> Result<(), Memory>
+    ensures { OnOk result (values.new.items ≡ values.old.items ++ parameters_from thread 0 kinds.now) }
+{
+    for (index, kind) in kinds.iter().enumerate() {
+        let number = number_of(index)?;
+        values.push(parameter(alloc, thread, number, *kind))?;
+    }
+    Ok(())
+}
+
+/// An index as a number.
+fn number_of(index: usize) -> Result<u32, Memory>
+    ensures { IfOk result (λ number. number ≡ index) }
+{
+    u32::try_from(index).map_err(|_| Memory)
+}
+
+/// What the entry of a thread is given.
+fn given_to(alloc: Global, thread: u32, method: &MethodCore) -> Result<Vec<Value>, Memory>
+    ensures { IfOk result (λ values. values.items ≡ given_to thread (method_of method.now)) }
+{
+    let mut values = Vec::new(alloc);
+    if !method.is_static {
+        values.push(root_object(alloc, StartRoot::This))?;
+    }
+    push_parameters(alloc, thread, method.parameters.as_slice(), &mut values)?;
+    Ok(values)
+}
+
+/// A thread at the entry of a method.
+fn thread_at<'a>(
+    alloc: Global,
+    program: &'a Program,
+    thread: u32,
+    method: MethodId,
+) -> Result<Thread<'a>, Memory>
+    ensures { IfOk result (λ made. seen_of made ≡ thread_at (core program.now) thread method) }
+{
+    let locks = Pile::new(alloc);
+    let Some(method) = program.methods().get(method.0 as usize) else {
+        return Ok(Thread {
+            running: None,
+            locks,
+        });
+    };
+    let frame = Frame::entered(alloc, method, given_to(alloc, thread, method)?)?;
+    let running = Running {
+        frame,
+        callers: Vec::new(alloc),
+    };
+    Ok(Thread {
+        running: Some(running),
+        locks,
+    })
+}
+
+/// Two threads at the entries of two methods of a program: the first at that of `m1`. Nothing is stored yet.
+pub fn begin<'a>(
+    alloc: Global,
+    program: &'a Program,
+    m1: MethodId,
+    m2: MethodId,
+    start: Start,
+) -> Result<Machine<'a>, Memory>
+    ensures { IfOk result (λ machine. state_of machine ≡ begun (core program.now) m1 m2 start) }
+{
+    let first = thread_at(alloc, program, 0, m1)?;
+    let second = thread_at(alloc, program, 1, m2)?;
+    let heap = Heap::of(alloc, start)?;
+    let store = Store {
+        heap,
+        cells: Cells::new(alloc),
+        fresh: 0,
+    };
+    Ok(Machine {
+        alloc,
+        store,
+        first,
+        second,
+    })
+}
+
+impl<'a> Machine<'a> {
+    /// One step of thread 0, or of thread 1 at any other number. The turn counts only at a choice or a loop, and the
+    /// program is the one that the machine began with.
+    pub fn step(&mut self, program: &'a Program, thread: u32, turn: Turn) -> StepAnswer
+        ensures { IsAnswer (step (core program.now) (state_of self.old) thread turn) (state_of self.old)
+            (state_of self.new) result }
+    {
+        if thread == 0 {
+            let given = Given {
+                alloc: self.alloc,
+                program,
+                turn,
+                others: &self.second.locks,
+            };
+            step_thread(&given, &mut self.store, &mut self.first)
+        } else {
+            let given = Given {
+                alloc: self.alloc,
+                program,
+                turn,
+                others: &self.first.locks,
+            };
+            step_thread(&given, &mut self.store, &mut self.second)
+        }
+    }
+}

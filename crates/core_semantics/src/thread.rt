@@ -1,0 +1,22 @@
+//! Threads.
+use crate::Holder;
+use crate::frame::Frame;
+use crate::pile::Pile;
+
+/// A thread that has not ended.
+#[derive(Drop)]
+pub(crate) struct Running<'a> {
+    /// The innermost frame.
+    pub frame: Frame<'a>,
+    /// The other frames, the innermost last.
+    pub callers: Vec<Frame<'a>>,
+}
+
+/// A thread.
+#[derive(Drop)]
+pub(crate) struct Thread<'a> {
+    /// None where it has ended.
+    pub running: Option<Running<'a>>,
+    /// The monitors that it holds, one for each time.
+    pub locks: Pile<Holder>,
+}
