@@ -103,7 +103,8 @@ pub paths_after-alike : (found : Found) (e f : Effects) → Alike e f → paths_
 paths_after-alike found e f same =
     ap (λ (p : PathSet). paths_added p (lost_result found.result e.result))
     (paths-same found.wobbly e.wobbly f.wobbly same.wobbly)
-    ∙ ap (λ (r : Option Value). paths_added (paths_added found.wobbly f.wobbly) (lost_result found.result r)) same.result
+    ∙ ap (λ (r : Option Value). paths_added (paths_added found.wobbly f.wobbly) (lost_result found.result r))
+    same.result
 
 alike_of : (noted : Bool) (records : List Access) (w : PathSet) (result : Option Value) (e f : Effects) → Alike e f →
     added (found_of noted records w result) e ≡ added (found_of noted records w result) f

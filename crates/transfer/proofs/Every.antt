@@ -1,7 +1,9 @@
 -- Methods that are finished one after another, each behind those that it calls.
-use Rattle.std.proofs.Common.{◌≡◌, ℕ, zero, suc, ◌+◌, ◌-◌, ◌<◌, ◌≤◌, Bool, true, false, cond, ◌&&◌, ◌||◌, not, List, [], ◌∷◌}
+use Rattle.std.proofs.Common.{◌≡◌, ℕ, zero, suc, ◌+◌, ◌-◌, ◌<◌, ◌≤◌, Bool, true, false, cond}
+use Rattle.std.proofs.Common.{◌&&◌, ◌||◌, not, List, [], ◌∷◌}
 use Rattle.std.proofs.Common.{◌++◌, Option, None, Some, length, map, filter, drop, refl, sym, ap, subst, ◌∙◌, arith}
-use Rattle.std.proofs.Common.{option_map, nat_eq, is_none, is_some, All, slice_get, slice_set, slice_index_or, ◌⊎◌, inl, inr}
+use Rattle.std.proofs.Common.{option_map, nat_eq, is_none, is_some, All, slice_get, slice_set}
+use Rattle.std.proofs.Common.{slice_index_or, ◌⊎◌, inl, inr}
 use Rattle.std.proofs.Common.{append_assoc, add-one, replicate, get_or}
 use Rattle.std.specs.Arc.{arc_value}
 use Rattle.std.proofs.lemmas.Bool.{eq-eqb}
@@ -142,7 +144,8 @@ analysed_among : (program : Core) (n : MethodId) (ops : List Operation) →
 analysed_among program n [] right there = absurd cc
 analysed_among program n (o ∷ ops) right there =
     let rest = flat_map (λ (x : Operation). called_by x.op) ops in
-    let parts = both-true (is_right_call program o.op) (list_all (λ (x : Operation). is_right_call program x.op) ops) right in
+    let others = list_all (λ (x : Operation). is_right_call program x.op) ops in
+    let parts = both-true (is_right_call program o.op) others right in
     elim (list_any (is_method n) (called_by o.op)) as (λ b. list_any (is_method n) (called_by o.op) ≡ b →
     (b || list_any (is_method n) rest) ≡ true → is_analysed program n ≡ true) [
       | true ↦ λ e _. analysed_in program n o.op parts.0 e
@@ -157,7 +160,8 @@ right_at program (m ∷ ms) zero method all is =
     ap (has_right_calls program) (sym same)
     ∙ (both-true (has_right_calls program m) (list_all (has_right_calls program) ms) all).0
 right_at program (m ∷ ms) (suc i) method all is =
-    right_at program ms i method (both-true (has_right_calls program m) (list_all (has_right_calls program) ms) all).1 is
+    right_at program ms i method
+    (both-true (has_right_calls program m) (list_all (has_right_calls program) ms) all).1 is
 
 method_there : (o : Option Method) → analysed_at o ≡ true → (method : Method) × (o ≡ Some method)
 method_there None e = absurd cc

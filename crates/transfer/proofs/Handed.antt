@@ -1,6 +1,8 @@
 -- The outcomes of methods that are handed in.
-use Rattle.std.proofs.Common.{◌≡◌, ℕ, zero, suc, ◌+◌, ◌<◌, Bool, true, false, cond, ◌&&◌, ◌||◌, List, [], ◌∷◌, ◌++◌, Option, None, Some}
-use Rattle.std.proofs.Common.{refl, sym, ap, ◌∙◌, option_map, nat_eq, nat_lt, is_some, is_none, All, slice_get, get_or, map, length}
+use Rattle.std.proofs.Common.{◌≡◌, ℕ, zero, suc, ◌+◌, ◌<◌, Bool, true, false, cond, ◌&&◌, ◌||◌}
+use Rattle.std.proofs.Common.{List, [], ◌∷◌, ◌++◌, Option, None, Some}
+use Rattle.std.proofs.Common.{refl, sym, ap, ◌∙◌, option_map, nat_eq, nat_lt, is_some, is_none}
+use Rattle.std.proofs.Common.{All, slice_get, get_or, map, length}
 use Rattle.std.proofs.Common.{arith}
 use Rattle.std.proofs.Math.Nat.{add-zero, zero-add}
 use Rattle.std.proofs.lemmas.Bool.Decides.{nat_tests}
@@ -147,7 +149,8 @@ callee_below program m n method ranks is analysed there =
     ap (λ (n : ℕ). is_above (rank_of program) (n, method)) (sym (zero-add m.0))
     ∙ numbered (is_above (rank_of program)) 0 m.0 program.methods method ranks is in
     ltb-true (rank_of program n) (rank_of program m)
-    (all_any test n (calls_in method.code) (no_status method.status (list_all test (calls_in method.code)) analysed above)
+    (all_any test n (calls_in method.code)
+    (no_status method.status (list_all test (calls_in method.code)) analysed above)
     there)
 
 pub outcome-known : (program : Core) (m : MethodId) (method : Method) (callees : List Callee) (finished : List Held) →

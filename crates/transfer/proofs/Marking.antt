@@ -24,7 +24,8 @@ use Rattle.transfer.specs.declared.found.Stop.TheVariants.{Large, Memory}
 use Rattle.transfer.specs.Marks.{marks, returns_of, paths_after, all_added, added, is_many, IsNoted, IsStopped}
 use Rattle.transfer.specs.Marks.{IsMarked}
 use Rattle.transfer.proofs.JoinedResults.{joined_result-none, lost_result-none}
-use Rattle.transfer.proofs.Adding.{Alike, paths-both, added-both, added-noted, added-alike, paths_after-alike, added-nothing}
+use Rattle.transfer.proofs.Adding.{Alike, paths-both, added-both, added-noted}
+use Rattle.transfer.proofs.Adding.{added-alike, paths_after-alike, added-nothing}
 
 -- ---- tests
 

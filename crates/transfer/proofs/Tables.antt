@@ -1,5 +1,6 @@
 -- The flow of code depends on what is known of the methods that it calls, and there not on the order of wobbly paths.
-use Rattle.std.proofs.Common.{◌≡◌, ℕ, zero, suc, ◌+◌, Bool, true, false, cond, ◌||◌, List, [], ◌∷◌, ◌++◌, Option, None, Some}
+use Rattle.std.proofs.Common.{◌≡◌, ℕ, zero, suc, ◌+◌, Bool, true, false, cond, ◌||◌, List}
+use Rattle.std.proofs.Common.{[], ◌∷◌, ◌++◌, Option, None, Some}
 use Rattle.std.proofs.Common.{length, refl, sym, ap, subst, ◌∙◌, option_map, nat_eq, nat_lt, unwrap_or}
 use Rattle.std.proofs.lemmas.Bool.{eq-eqb}
 use Rattle.std.specs.FinSet as set
@@ -26,7 +27,8 @@ use Rattle.access_domain.specs.Findings.{Findings, Known, Large, Whole, Table, s
 use Rattle.access_domain.specs.Given.{given_of}
 use Rattle.access_domain.specs.Substitution.{Actuals, actuals_from, substituted, substituted_record, substituted_value}
 use Rattle.access_domain.specs.Substitution.{value_named}
-use Rattle.access_domain.specs.Operations.{Effects, passed_from, replaced, popped, found_effects, call_effects, op_effects}
+use Rattle.access_domain.specs.Operations.{Effects, passed_from, replaced, popped}
+use Rattle.access_domain.specs.Operations.{found_effects, call_effects, op_effects}
 use Rattle.access_domain.specs.Flow.{flow, both, after, chosen, rounds, repeated, joined_next, lost_next, joined_result}
 use Rattle.access_domain.specs.Flow.{lost_result, looped}
 use Rattle.access_domain.specs.Summaries.{findings_from, is_large, known_from, known_given, effects_given, start_of}
@@ -66,7 +68,8 @@ both-agree e f r q a b =
       alike = record {
         records = λ i. a.alike.records i ++ b.alike.records i;
         wobbly = append-same_set (e.wobbly ++ r.wobbly) (lost_result e.result r.result) (f.wobbly ++ q.wobbly)
-            (lost_result f.result q.result) (append-same_set e.wobbly r.wobbly f.wobbly q.wobbly a.alike.wobbly b.alike.wobbly)
+            (lost_result f.result q.result)
+            (append-same_set e.wobbly r.wobbly f.wobbly q.wobbly a.alike.wobbly b.alike.wobbly)
             (λ i. set.from_list {R = path_cmp} (lost_result (a.alike.result i) (b.alike.result i)));
         result = λ i. joined_result (a.alike.result i) (b.alike.result i);
         large = λ i. a.alike.large i || b.alike.large i;
@@ -177,7 +180,8 @@ found-agree core t u main locked site actuals f h s n same =
 
 known-agree : (core : Core) (t u : Table) (main locked : Bool) (site : SiteId) (m : MethodId) (n : ℕ) (s : State)
     (o p : Option Known) → option_map outcome_from o ≡ option_map outcome_from p →
-    Agree (call_effects (given_of core t main) locked site m n s o) (call_effects (given_of core u main) locked site m n s p)
+    Agree (call_effects (given_of core t main) locked site m n s o)
+    (call_effects (given_of core u main) locked site m n s p)
 known-agree core t u main locked site m n s None None e = agree-itself _
 known-agree core t u main locked site m n s None (Some k) e = absurd cc
 known-agree core t u main locked site m n s (Some k) None e = absurd cc
@@ -186,7 +190,8 @@ known-agree core t u main locked site m n s (Some Large) (Some (Whole h)) e = ab
 known-agree core t u main locked site m n s (Some (Whole f)) (Some Large) e = absurd cc
 known-agree core t u main locked site m n s (Some (Whole f)) (Some (Whole h)) e =
     let same : summary_from f ≡ summary_from h = cc in
-    found-agree core t u main locked site (actuals_from ((given_of core t main).is_static m) (passed_from s n)) f h s n same
+    found-agree core t u main locked site (actuals_from ((given_of core t main).is_static m) (passed_from s n)) f h
+    s n same
 
 -- whether it is this method
 abbrev pub is_method : MethodId → MethodId → Bool

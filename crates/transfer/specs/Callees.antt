@@ -1,4 +1,4 @@
--- A contract of a public call rests on this: `analyse`. The methods that a method calls, as they are handed in finished.
+-- A contract of a public call rests on this: `analyse`. The methods that a method calls, as they are handed in.
 use Rattle.std.specs.Prelude.{◌≡◌, true, List, [], ◌∷◌, Option, None, Some, is_some, nat_eq, if◌then◌else◌, All}
 use Rattle.std.specs.List.{list_all}
 use Rattle.std.specs.Arc.{arc_value}

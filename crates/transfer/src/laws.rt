@@ -11,6 +11,7 @@ ghost use Rattle.access_domain.specs.Summaries.{known_given};
 /// that is known of methods.
 pub fn outcomes_depend_on_callees()
     ensures { (core : Core) (t u : Table) (m : Method) →
-        ((n : MethodId) → Contains (calls_in m.code) n → option_map outcome_from (t n) ≡ option_map outcome_from (u n)) →
+        ((n : MethodId) → Contains (calls_in m.code) n →
+            option_map outcome_from (t n) ≡ option_map outcome_from (u n)) →
         outcome_from (known_given core t m) ≡ outcome_from (known_given core u m) }
 {}

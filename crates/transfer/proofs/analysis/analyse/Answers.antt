@@ -14,7 +14,8 @@ use Rattle.transfer.proofs.analysis.analyse.Goals as goal
 pub bounds-methods-method : goal.bounds-methods-method
 bounds-methods-method c =
     let ms = c.methods.result.now in
-    let all : map method_of ms ≡ methods (arc_value c.args.program.now) = c.methods.ensures ∙ ap methods c.deref.ensures in
+    let all : map method_of ms ≡ methods (arc_value c.args.program.now) =
+    c.methods.ensures ∙ ap methods c.deref.ensures in
     in_range ms c.args.method.0
     (subst (λ (xs : List Method). analysed_at (slice_get xs c.args.method.0) ≡ true) (sym all) c.requires.analysed)
 
@@ -25,7 +26,8 @@ invariant_of-result c =
     let ms = c.methods.result.now in
     let x = c.index-methods-method.result in
     let callees = c.in_ok-callees.callees.items in
-    let all : map method_of ms ≡ methods (arc_value c.args.program.now) = c.methods.ensures ∙ ap methods c.deref.ensures in
+    let all : map method_of ms ≡ methods (arc_value c.args.program.now) =
+    c.methods.ensures ∙ ap methods c.deref.ensures in
     let within : m.0 < length ms =
     in_range ms m.0
     (subst (λ (xs : List Method). analysed_at (slice_get xs m.0) ≡ true) (sym all) c.requires.analysed) in
@@ -39,7 +41,7 @@ invariant_of-result c =
           ∙ c.in_ok-outcome.ensures
           ∙ (λ i. outcome_from
           (known_given (core (c.deref-2.ensures i)) (table_of (c.as_slice.ensures.value i)) (method_of x))))
-          ∙ outcome-known program m (method_of x) callees c.args.callees.now (arc_value c.args.program.now).ranks_there at
-          analysed c.in_ok-callees.ensures c.requires.callees
+          ∙ outcome-known program m (method_of x) callees c.args.callees.now
+          (arc_value c.args.program.now).ranks_there at analysed c.in_ok-callees.ensures c.requires.callees
           ∙ ap (λ (p : Program). outcome_of (core p) m) (sym c.in_ok-clone.ensures.cases);
     }

@@ -16,11 +16,13 @@ loop-one-preserved c = λ m.
     let i = c.loop-one.one-index in
     let one = c.one-item.result in
     let left = drop (i + 1) finished in
-    let callee : Callee = record { method = c.deref-in-loop-one.result.now.method; outcome = c.in_ok-outcome.outcome } in
+    let callee : Callee =
+    record { method = c.deref-in-loop-one.result.now.method; outcome = c.in_ok-outcome.outcome } in
     ap (λ (cs : List Callee). option_or (outcome_among cs m) (outcome_in left m)) c.in_ok-push.ensures.items
     ∙ one-more made callee (get_or finished i one) left m (ap (λ (f : Finished). f.method) c.deref-in-loop-one.ensures
     ∙ ap (λ (f : Held). (arc_value f).method) c.one-item.is)
     (c.in_ok-outcome.ensures.cases ∙ ap (λ (f : Finished). arc_value f.outcome) c.deref.ensures
     ∙ ap (λ (f : Held). arc_value (arc_value f).outcome) c.one-item.is)
-    ∙ ap (option_or (outcome_among made m)) (sym (at_drop_more (λ fs. outcome_in fs m) finished i one c.loop-one-test.true))
+    ∙ ap (option_or (outcome_among made m))
+    (sym (at_drop_more (λ fs. outcome_in fs m) finished i one c.loop-one-test.true))
     ∙ c.loop-one.invariant m

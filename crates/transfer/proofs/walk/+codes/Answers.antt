@@ -1,4 +1,5 @@
-use Rattle.std.proofs.Common.{◌≡◌, ◌+◌, ◌-◌, ◌<◌, suc, ℕ, get_or, List, map, drop, length, Bool, true, false, Ok, Err, refl, sym, ap}
+use Rattle.std.proofs.Common.{◌≡◌, ◌+◌, ◌-◌, ◌<◌, suc, ℕ, get_or, List, map, drop, length, Bool}
+use Rattle.std.proofs.Common.{true, false, Ok, Err, refl, sym, ap}
 use Rattle.std.proofs.Common.{subst, ◌∙◌, arith, rules}
 use Rattle.std.proofs.lemmas.List.{at_drop_more, at_drop_all}
 use Rattle.owner_domain.specs.declared.value.State.{State}
@@ -76,7 +77,8 @@ go_through-returns-in-Ok-false t c =
     let i = at.part-index in
     let parts = c.args.parts.now in
     at.invariant c.go.new.here c.go.new.found (Ok false)
-    (subst (λ (code : Tree). IsFlow (flow g code c.args.locked at.here) c.go.new.here at.found c.go.new.found (Ok false))
+    (subst (λ (code : Tree).
+    IsFlow (flow g code c.args.locked at.here) c.go.new.here at.found c.go.new.found (Ok false))
     (sym (turn parts i c.part-item.result c.loop-part-test.true c.part-item.is))
     (flow-ended (flow g (tree_of c.part-item.result) c.args.locked at.here)
     (flow g (in_sequence (map tree_of (drop (i + 1) parts))) c.args.locked) c.go.new.here at.found c.go.new.found
@@ -147,8 +149,8 @@ repeat-returns-in-Err t c =
     let at = c.loop-round in
     let one : total - at.round ≡ suc (total - (at.round + 1)) =
     omega (arith, c.loop-round-test.true, c.rounds-round-end.ensures) in
-    rounds-stopped body (total - at.round) (total - (at.round + 1)) start at.here c.args.found.now at.found c.in-Err.stop
-    one at.invariant c.in-Err.ensures.found
+    rounds-stopped body (total - at.round) (total - (at.round + 1)) start at.here c.args.found.now at.found
+    c.in-Err.stop     one at.invariant c.in-Err.ensures.found
 
 pub repeat-returns-then-not-found : goal.repeat-returns-then-not-found
 repeat-returns-then-not-found t c =

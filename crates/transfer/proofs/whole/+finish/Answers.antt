@@ -1,4 +1,5 @@
-use Rattle.std.proofs.Common.{◌≡◌, ◌+◌, ◌≤◌, ◌<◌, ◌||◌, true, List, [], ◌∷◌, ◌++◌, All, drop, is_some, length, sym, ap, subst}
+use Rattle.std.proofs.Common.{◌≡◌, ◌+◌, ◌≤◌, ◌<◌, ◌||◌, true, List, [], ◌∷◌, ◌++◌, All}
+use Rattle.std.proofs.Common.{drop, is_some, length, sym, ap, subst}
 use Rattle.std.proofs.Common.{◌∙◌, arith}
 use Rattle.std.proofs.lemmas.List.Elements.{All-push}
 use Rattle.std.specs.Arc.{arc_value}
@@ -49,7 +50,8 @@ loop-callee-preserved t c =
     record {
       table = c.in_ok-finished-2.ensures.table;
       same_program =
-          subst (λ (fs : List Held). All IsFor fs) (sym {A = List Held} {b = callees ++ made ∷ []} c.in_ok-push.ensures.items)
+          subst (λ (fs : List Held). All IsFor fs)
+          (sym {A = List Held} {b = callees ++ made ∷ []} c.in_ok-push.ensures.items)
           (All-push IsFor callees made inv.same_program c.in_ok-finished-2.ensures.made.program_is);
       there = λ k e.
           subst (λ (fs : List Held). (is_some (outcome_in fs k) || list_any (is_method k) (drop (i + 1) row)) ≡ true)

@@ -3,7 +3,8 @@ use Rattle.std.specs.Vec.Iter.{into_iter_items}
 use Rattle.access_paths.specs.declared.path.Path.{Path}
 use Rattle.transfer.specs.Marks.{marks, IsMarked, IsStopped}
 use Rattle.transfer.proofs.Adding.{path-alike}
-use Rattle.transfer.proofs.Marking.{marked-then, marked-alike, stopped-first, stopped-alike, noted-nothing, nothing_left}
+use Rattle.transfer.proofs.Marking.{marked-then, marked-alike, stopped-first, stopped-alike}
+use Rattle.transfer.proofs.Marking.{noted-nothing, nothing_left}
 use Rattle.transfer.proofs.found.Found.note_paths.Goals as goal
 
 pub loop-path-init : goal.loop-path-init

@@ -3,7 +3,8 @@ use Rattle.std.specs.Vec.Iter.{into_iter_items}
 use Rattle.access_domain.specs.declared.access.Access.{Access}
 use Rattle.transfer.specs.Marks.{marks, IsMarked, IsStopped}
 use Rattle.transfer.proofs.Adding.{record-alike}
-use Rattle.transfer.proofs.Marking.{marked-then, marked-alike, stopped-first, stopped-alike, noted-nothing, nothing_left}
+use Rattle.transfer.proofs.Marking.{marked-then, marked-alike, stopped-first, stopped-alike}
+use Rattle.transfer.proofs.Marking.{noted-nothing, nothing_left}
 use Rattle.transfer.proofs.found.Found.note_records.Goals as goal
 
 pub loop-access-init : goal.loop-access-init
