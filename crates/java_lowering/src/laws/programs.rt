@@ -1,12 +1,15 @@
 //! Programs of small units.
-ghost use Rattle.std.specs.Prelude.{◌≡◌, [], ◌∷◌, Some, None, true, false, codes, map};
+ghost use Rattle.std.specs.Prelude.{◌≡◌, ℕ, Bool, List, [], ◌∷◌, Some, None, true, false, codes, map, IsTrue};
+ghost use Rattle.racer_base.specs.declared.ids.MethodId.{MethodId};
 ghost use Rattle.java_tree.specs.declared.methods.ResultTree.TheVariants.{Constructor, Void};
+ghost use Rattle.java_units.specs.declared.unit.Unit.{Unit};
 ghost use Rattle.java_units.specs.declared.unit.HeadResult.TheVariants as head;
 ghost use Rattle.java_resolver.specs.NameExamples.{outside};
 ghost use Rattle.call_graph.specs.Chains.{flag_of};
 ghost use Rattle.core_code.specs.declared.code.Op.TheVariants.{Push, PushClass, PushPrim, Drop, Ret, Call, Unread};
 ghost use Rattle.core_code.specs.declared.code.Reason.TheVariants.{Overload, Outside, Parameters, Recursive};
 ghost use Rattle.core_code.specs.Core.{Method};
+ghost use Rattle.core_code.specs.KindCheck.{are_kinded};
 ghost use Rattle.core_code.specs.Tree.{Nothing, Then, Either, Again, Held, in_sequence};
 ghost use Rattle.core_code.specs.Pair.{at, step, pair, method_put, method_both};
 ghost use Rattle.java_lowering.specs.Sites.{numbered};
@@ -67,4 +70,10 @@ pub fn draft_edges()
       }
           ∷ record method_both { code = step 0 (at 1 1) (Unread (record { 0 = 1 }) 1) } ∷ [];
     }) ≡ 3 }
+{}
+
+/// The code of every method of every program of units is kinded, whichever methods are recursive.
+pub fn kinded_programs()
+    ensures { (files : List (List ℕ)) (units : List Unit) (is_recursive : MethodId → Bool) →
+        IsTrue (are_kinded (program_of files units is_recursive)) }
 {}

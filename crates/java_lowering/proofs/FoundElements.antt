@@ -1,0 +1,109 @@
+-- What is found in the lists of a folder.
+use Rattle.std.proofs.Common.{◌≡◌, ℕ, suc, Bool, true, false, cond, not, ◌&&◌, ◌||◌, List, [], ◌∷◌, Option, Some, None}
+use Rattle.std.proofs.Common.{refl, ap, subst, slice_get, length}
+use Rattle.std.specs.Prelude.{option_map, ◌==◌}
+use Rattle.std.specs.Option.{option_or}
+use Rattle.std.proofs.lemmas.Option.{same_Some, none-some}
+use borrow.Author.Tests.{eqb-true}
+use Rattle.racer_base.specs.declared.ids.ClassId.{ClassId}
+use Rattle.racer_base.specs.declared.ids.FieldId.{FieldId}
+use Rattle.racer_base.specs.declared.ids.MethodId.{MethodId}
+use Rattle.core_code.proofs.BoolParts.{first_part, last_part}
+use Rattle.java_resolver.specs.declared.infos.FieldInfo.{FieldInfo}
+use Rattle.java_resolver.specs.declared.infos.MethodInfo.{MethodInfo}
+use Rattle.java_resolver.specs.Firsts.{first_that, last_that}
+use Rattle.java_resolver.specs.Meanings.{is_seen, field_named, is_called, found}
+
+first_from : {A : Type 0} (test : A → Bool) (x : A) (xs : List A) →
+    ((n : ℕ) → first_that test xs ≡ Some n → (y : A) × (slice_get xs n ≡ Some y) × (test y ≡ true)) →
+    (b : Bool) → test x ≡ b → (o : Option ℕ) → first_that test xs ≡ o → (n : ℕ) →
+    cond b (Some 0) (option_map suc o) ≡ Some n → (y : A) × (slice_get (x ∷ xs) n ≡ Some y) × (test y ≡ true)
+first_from test x xs more true passes o there n e =
+    (x, subst (λ k. slice_get (x ∷ xs) k ≡ Some x) (same_Some _ _ e) refl, passes)
+first_from test x xs more false fails None there n e = absurd (none-some _ e)
+first_from test x xs more false fails (Some k) there n e =
+    let y = more k there in
+    (y.0, subst (λ j. slice_get (x ∷ xs) j ≡ Some y.0) (same_Some _ _ e) y.1, y.2)
+
+-- the first element that passes is there, and passes
+pub first-passes : {A : Type 0} (test : A → Bool) (xs : List A) (n : ℕ) → first_that test xs ≡ Some n →
+    (y : A) × (slice_get xs n ≡ Some y) × (test y ≡ true)
+first-passes test [] n e = absurd (none-some _ e)
+first-passes test (x ∷ xs) n e =
+    first_from test x xs (first-passes test xs) (test x) refl (first_that test xs) refl n e
+
+numbered-field : (o : Option ℕ) (f : FieldId) → option_map
+    (λ n. let made : FieldId = record { 0 = n } in made) o ≡ Some f →
+    o ≡ Some f.0
+numbered-field None f e = absurd (none-some _ e)
+numbered-field (Some n) f e = ap (λ (g : FieldId). Some g.0) (same_Some _ _ e)
+
+numbered-method : (o : Option ℕ) (m : MethodId) →
+    option_map (λ n. let made : MethodId = record { 0 = n } in made) o ≡ Some m → o ≡ Some m.0
+numbered-method None m e = absurd (none-some _ e)
+numbered-method (Some n) m e = ap (λ (g : MethodId). Some g.0) (same_Some _ _ e)
+
+-- a field that is found in a class
+pub record FieldThere (fields : List FieldInfo) (c : ClassId) (in_static : Bool) (f : FieldId) : Type 0 where
+  pub info : FieldInfo
+  pub there : slice_get fields f.0 ≡ Some info
+  pub class_is : info.class ≡ c
+  pub static_is : in_static ≡ true → info.is_static ≡ true
+
+static-seen : (in_static is_static : Bool) → (not in_static || is_static) ≡ true → in_static ≡ true → is_static ≡ true
+static-seen true is_static h e = h
+static-seen false is_static h e = cc
+
+pub field-there : (fields : List FieldInfo) (c : ClassId) (in_static : Bool) (name : List ℕ) (f : FieldId) →
+    field_named fields c in_static name ≡ Some f → FieldThere fields c in_static f
+field-there fields c in_static name f e =
+    let y = first-passes (is_seen c in_static name) fields f.0
+    (numbered-field (first_that (is_seen c in_static name) fields) f e) in
+    let seen = first_part (not in_static || y.0.is_static) _ y.2 in
+    let own = first_part (y.0.class.0 == c.0) _ (last_part (not in_static || y.0.is_static) _ y.2) in
+    record {
+      info = y.0;
+      there = y.1;
+      class_is = ap (λ (n : ℕ). let made : ClassId = record { 0 = n } in made) (eqb-true y.0.class.0 c.0 own);
+      static_is = static-seen in_static y.0.is_static seen;
+    }
+
+-- a method that is found in a class
+pub record MethodThere (methods : List MethodInfo) (c : ClassId) (count : ℕ) (m : MethodId) : Type 0 where
+  pub info : MethodInfo
+  pub there : slice_get methods m.0 ≡ Some info
+  pub class_is : info.class ≡ c
+  pub many : length info.parameters ≡ count
+
+pub method-there : (methods : List MethodInfo) (c : ClassId) (name : List ℕ) (count : ℕ) (m : MethodId) →
+    found methods c name count ≡ Some m → MethodThere methods c count m
+method-there methods c name count m e =
+    let y = first-passes (is_called c name count) methods m.0
+    (numbered-method (first_that (is_called c name count) methods) m e) in
+    let both = first_part (y.0.class.0 == c.0 && length y.0.parameters == count) _ y.2 in
+    record {
+      info = y.0;
+      there = y.1;
+      class_is =
+          ap (λ (n : ℕ). let made : ClassId = record { 0 = n } in made)
+          (eqb-true y.0.class.0 c.0 (first_part (y.0.class.0 == c.0) _ both));
+      many = eqb-true (length y.0.parameters) count (last_part (y.0.class.0 == c.0) _ both);
+    }
+
+last_from : {A : Type 0} (P : A → Type 0) (x : A) (b : Bool) (o : Option A) (y : A) → P x → (o ≡ Some y → P y) →
+    option_or o (cond b (Some x) None) ≡ Some y → P y
+last_from P x b (Some z) y first later e = later e
+last_from P x true None y first later e = subst P (same_Some _ _ e) first
+last_from P x false None y first later e = absurd (none-some _ e)
+
+-- what holds of all
+abbrev pub Each : {A : Type 0} → (A → Type 0) → List A → Type 0
+Each P [] = Unit {0}
+Each P (x ∷ xs) = P x × Each P xs
+
+-- what holds of all holds of the last that passes
+pub last-holds : {A : Type 0} (P : A → Type 0) (test : A → Bool) (xs : List A) (y : A) → Each P xs →
+    last_that test xs ≡ Some y → P y
+last-holds P test [] y all e = absurd (none-some _ e)
+last-holds P test (x ∷ xs) y all e =
+    last_from P x (test x) (last_that test xs) y all.0 (last-holds P test xs y all.1) e

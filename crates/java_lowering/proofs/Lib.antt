@@ -1,0 +1,11 @@
+pub mod Suits
+pub mod Runs
+pub mod FoundElements
+pub mod Stands
+pub mod KindedAccesses
+pub mod KindedCalls
+pub mod KindedExpressions
+pub mod GrownScopes
+pub mod KindedStatements
+pub mod KindedMethods
+pub mod KindedPrograms
