@@ -90,7 +90,7 @@ pub record EndsModifiers (rest : List Spelled) : Type 0 where
   pub no_at : after_sign (codes "@") rest ≡ None
   pub no_word : after_modifier rest ≡ None
 
-annotation_found : (n : Annotation) (rest : List Spelled) → FormedAnnotation n → EndsAnnotation rest → annotation_at
+pub annotation_found : (n : Annotation) (rest : List Spelled) → FormedAnnotation n → EndsAnnotation rest → annotation_at
     (names_onto n.names (n.arguments ++ rest)) ≡ Some (n, rest)
 unfolding annotation_at
 annotation_found n rest f e =

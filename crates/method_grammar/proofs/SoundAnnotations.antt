@@ -85,7 +85,7 @@ names_sound ts =
 
 -- ---- annotations
 
-annotation_sound : (ts : List Spelled) → Ensures (Taken FormedAnnotation annotation_onto (sign (codes "@") ∷ ts))
+pub annotation_sound : (ts : List Spelled) → Ensures (Taken FormedAnnotation annotation_onto (sign (codes "@") ∷ ts))
     (annotation_at ts)
 unfolding annotation_at
 annotation_sound ts =
