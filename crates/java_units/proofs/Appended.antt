@@ -1,5 +1,6 @@
 -- What a tree spells before tokens it also spells before these and more.
-use Rattle.std.proofs.Common.{◌≡◌, ℕ, zero, suc, Bool, true, false, List, [], ◌∷◌, ◌++◌, refl, ap, ◌∙◌, codes}
+use Rattle.std.proofs.Common.{◌≡◌, ℕ, zero, suc, Bool, true, false, List, [], ◌∷◌, ◌++◌, refl, ap, sym, ◌∙◌, codes}
+use Rattle.std.proofs.Common.{append_assoc}
 use Rattle.std.specs.Prelude.{bytes_eq, if◌then◌else◌}
 use Rattle.java_tree.specs.declared.words.Spelled.{Spelled}
 use Rattle.java_tree.specs.Words.{keyword, identifier, sign, sign_glued, word_of}
@@ -8,7 +9,8 @@ use Rattle.java_tree.specs.Trees.{Arguments, Angled, ArgumentList, no_argument, 
 use Rattle.java_tree.specs.Trees.{Extends, Super, Expr, Assign, Conditional, Binary, InstanceOf, Prefix, Cast}
 use Rattle.java_tree.specs.Trees.{Postfix, Literal, This, Name, Paren, Field, Index, Call, CallOn, ClassOf, New}
 use Rattle.java_tree.specs.Trees.{NewArray, NewItems, Exprs, no_expr, expr_then, Array, Braces, Inits, no_init}
-use Rattle.java_tree.specs.Trees.{init_then, Init, Value, Items}
+use Rattle.java_tree.specs.Trees.{init_then, Init, Value, Items, Annotation, Modifier, Word, Annotated}
+use Rattle.java_tree.specs.Spelling.{annotation_onto, modifiers_onto}
 use Rattle.java_tree.specs.Spelling.{behind_points, names_onto, brackets_onto, ty_onto, base_onto, parts_onto}
 use Rattle.java_tree.specs.Spelling.{more_parts_onto, part_onto, angled_onto, arguments_onto, more_arguments_onto}
 use Rattle.java_tree.specs.Spelling.{argument_onto, operator_onto, last_comma_onto, expr_onto, exprs_onto}
@@ -68,10 +70,23 @@ operator_append op r s = by_text (bytes_eq op (codes ">>")) (bytes_eq op (codes 
   by_text false true = refl
   by_text false false = refl
 
+-- ---- annotations and modifiers
+
+pub annotation_append : (n : Annotation) → Appends (annotation_onto n)
+annotation_append n r s =
+    ap (λ l. sign (codes "@") ∷ l) (ap (names_onto n.names) (sym (append_assoc n.arguments r s))
+    ∙ names_append n.names (n.arguments ++ r) s)
+
+pub modifiers_append : (ms : List Modifier) → Appends (modifiers_onto ms)
+modifiers_append [] r s = refl
+modifiers_append (Word text ∷ ms) r s = ap (λ l. keyword text ∷ l) (modifiers_append ms r s)
+modifiers_append (Annotated n ∷ ms) r s =
+    ap (annotation_onto n) (modifiers_append ms r s) ∙ annotation_append n (modifiers_onto ms r) s
+
 -- ---- types
 
 mutual
-  ty_append : (t : Ty) → Appends (ty_onto t)
+  pub ty_append : (t : Ty) → Appends (ty_onto t)
   ty_append (Typed base n) = joins (base_onto base) (brackets_onto n) (base_append base) (brackets_append n)
 
   base_append : (b : Base) → Appends (base_onto b)
@@ -88,7 +103,7 @@ mutual
       ap (λ l. sign (codes ".") ∷ l) (joins (part_onto p) (more_parts_onto ps) (part_append p)
       (more_parts_append ps) r s)
 
-  part_append : (p : Part) → Appends (part_onto p)
+  pub part_append : (p : Part) → Appends (part_onto p)
   part_append (Bare x) = one (identifier x)
   part_append (Generic x a) = leads (identifier x) (angled_onto a) (angled_append a)
 

@@ -1,5 +1,5 @@
 -- A contract of a public call rests on this: declarations of fields (JLS 8.3), and their division at commas.
-use Rattle.std.specs.Prelude.{◌≡◌, ◌≤◌, ◌⊎◌, List, [], ◌∷◌, ◌++◌, IsTrue, codes, map, if◌then◌else◌}
+use Rattle.std.specs.Prelude.{◌≡◌, ℕ, Bool, ◌≤◌, ◌⊎◌, List, [], ◌∷◌, ◌++◌, IsTrue, codes, map, if◌then◌else◌}
 use Rattle.std.specs.List.{AllZip}
 use Rattle.racer_base.specs.Name.{is_listed}
 use Rattle.racer_base.specs.declared.limits.TheConstants.{MAX_NESTING}
@@ -12,8 +12,9 @@ use Rattle.java_tree.specs.Trees.{Init, Modifier, Word, Annotated}
 use Rattle.java_tree.specs.Spelling.{ty_onto, init_onto, modifiers_onto}
 use Rattle.java_tree.specs.Formed.{Each, has_some, FormedTy, FormedInit, FormedAnnotation}
 use Rattle.java_tree.specs.Nesting.{ty_nesting, init_nesting}
+use Rattle.java_tree.specs.KeptPlaces.{kept, ty_places, init_places}
 use Rattle.java_tree.specs.View.{ty_of, init_of, modifier_of}
-use Rattle.java_units.specs.Tokens.{plain_all, is_sign_token, is_name, signed}
+use Rattle.java_units.specs.Tokens.{plain_all, is_sign_token, is_name, signed, AreLast}
 use Rattle.java_units.specs.Pieces.{Item, items_of}
 
 -- ---- one variable
@@ -24,12 +25,13 @@ pub record IsInit (ts : List Token) (i : Init) : Type 0 where
   pub nested : init_nesting i ≤ MAX_NESTING
   pub spelled : init_onto i [] ≡ plain_all ts
 
--- what stands behind the name: nothing, or an `=` and one or more tokens
+-- what stands behind the name: nothing, or an `=` and one or more tokens; its tree keeps their places
 abbrev pub BeginsWith : List Token → FieldInitialiser → Type 0
 BeginsWith [] Absent = Unit {0}
 BeginsWith [] _ = ⊥
 BeginsWith (e ∷ ts) Absent = ⊥
-BeginsWith (e ∷ ts) (Formed i) = IsTrue (is_sign_token (codes "=") e) × IsInit ts (init_of i)
+BeginsWith (e ∷ ts) (Formed i) =
+    IsTrue (is_sign_token (codes "=") e) × IsInit ts (init_of i) × (init_places i [] ≡ kept ts)
 BeginsWith (e ∷ ts) Unread =
     IsTrue (is_sign_token (codes "=") e) × IsTrue (has_some ts) × ((i : Init) → IsInit ts i → ⊥)
 
@@ -80,23 +82,33 @@ AreVariables ts vs = ((pieces : List (List Token)) × AreRead ts pieces vs) ⊎ 
 -- ---- the whole declaration
 
 -- the words of a field (JLS 8.3.1)
-abbrev pub FormedFieldModifier : Modifier → Type 0
-FormedFieldModifier (Annotated n) = FormedAnnotation n
-FormedFieldModifier (Word text) =
-    IsTrue (is_listed
+abbrev pub is_field_modifier : List ℕ → Bool
+is_field_modifier text =
+    is_listed
     (codes "public" ∷ codes "protected" ∷ codes "private" ∷ codes "static" ∷ codes "final" ∷ codes "transient"
     ∷ codes "volatile" ∷ [])
-    text)
+    text
 
--- modifiers with annotations, a type, variables and a `;`
-pub record AreFields (ts : List Token) (f : FieldTree) : Type 0 where
+abbrev pub FormedFieldModifier : Modifier → Type 0
+FormedFieldModifier (Annotated n) = FormedAnnotation n
+FormedFieldModifier (Word text) = IsTrue (is_field_modifier text)
+
+-- modifiers with annotations, a type and variables; the type keeps its places
+pub record AreDeclared (ts : List Token) (f : FieldTree) : Type 0 where
   pub front : List Token
   pub variables : List Token
-  pub last : Token
-  pub parts : ts ≡ front ++ variables ++ last ∷ []
-  pub ended : IsTrue (is_sign_token (codes ";") last)
+  pub parts : ts ≡ front ++ variables
   pub modifiers : Each FormedFieldModifier (map modifier_of f.modifiers)
   pub formed : FormedTy (ty_of f.kind)
   pub nested : ty_nesting (ty_of f.kind) ≤ MAX_NESTING
   pub spelled : modifiers_onto (map modifier_of f.modifiers) (ty_onto (ty_of f.kind) []) ≡ plain_all front
+  pub placed : AreLast (ty_places f.kind) front
   pub divided : AreVariables variables f.variables
+
+-- the same with a `;` behind it
+pub record AreFields (ts : List Token) (f : FieldTree) : Type 0 where
+  pub declaration : List Token
+  pub last : Token
+  pub parts : ts ≡ declaration ++ last ∷ []
+  pub ended : IsTrue (is_sign_token (codes ";") last)
+  pub declared : AreDeclared declaration f

@@ -10,11 +10,12 @@ use Rattle.java_tree.specs.Trees.{Modifier, Result, NoResult, VoidResult, TypeRe
 use Rattle.java_tree.specs.Spelling.{modifiers_onto, result_onto, spelling}
 use Rattle.java_tree.specs.Formed.{Each, FormedModifier, FormedResult, FormedMethod}
 use Rattle.java_tree.specs.Nesting.{result_nesting, method_nesting}
+use Rattle.java_tree.specs.KeptPlaces.{ty_places}
 use Rattle.java_tree.specs.View.{ty_of}
 use Rattle.java_units.specs.declared.unit.HeadResult.{HeadResult}
 use Rattle.java_units.specs.declared.unit.HeadResult.TheVariants.{Void, Formed, Constructor, Unknown}
 use Rattle.java_units.specs.declared.unit.OutsideHead.{OutsideHead}
-use Rattle.java_units.specs.Tokens.{plain_all, is_word_token, is_angle, signed, worded, begins}
+use Rattle.java_units.specs.Tokens.{plain_all, is_word_token, is_angle, signed, worded, begins, AreLast}
 use Rattle.java_units.specs.Cuts.{joined}
 use Rattle.java_units.specs.Pieces.{Item, items_of, inside, pieces_of, is_annotation}
 
@@ -55,7 +56,7 @@ HasHead front result = (modifiers : List Modifier) × IsHead front modifiers res
 
 abbrev pub HeadSays : List Token → HeadResult → Type 0
 HeadSays front Void = HasHead front VoidResult
-HeadSays front (Formed t) = HasHead front (TypeResult (ty_of t))
+HeadSays front (Formed t) = HasHead front (TypeResult (ty_of t)) × AreLast (ty_places t) front
 HeadSays front Constructor = ⊥
 HeadSays front Unknown = (r : Result) → (r ≡ NoResult → ⊥) → HasHead front r → ⊥
 

@@ -1,10 +1,11 @@
 -- A contract of a public call rests on this: tests of one token, and of tokens by the first of them.
-use Rattle.std.specs.Prelude.{ℕ, Bool, false, not, ◌&&◌, List, [], ◌∷◌, codes, bytes_eq, map}
+use Rattle.std.specs.Prelude.{◌≡◌, ℕ, Bool, false, not, ◌&&◌, List, [], ◌∷◌, ◌++◌, codes, bytes_eq, map}
 use Rattle.racer_base.specs.declared.ids.Place.{Place}
 use Rattle.racer_base.specs.Name.{is_listed}
 use Rattle.java_lexer.specs.declared.token.Token.{Token}
 use Rattle.java_tree.specs.declared.words.Spelled.{Spelled}
 use Rattle.java_tree.specs.Brackets.{is_sign_kind, is_sign}
+use Rattle.java_tree.specs.KeptPlaces.{Places, kept}
 use Rattle.method_grammar.specs.Taking.{is_keyword_kind, is_keyword}
 use Rattle.method_grammar.specs.Lookahead.{is_word_name}
 
@@ -53,3 +54,9 @@ worded text ts = begins (is_word_token text) ts
 abbrev pub first_place : Place → List Token → Place
 first_place other [] = other
 first_place other (t ∷ ts) = t.place
+
+-- ---- places
+
+-- these places are the last of those of the tokens of which a tree keeps one
+abbrev pub AreLast : Places → List Token → Type 0
+AreLast places ts = (before : Places) × (before ++ places ≡ kept ts)

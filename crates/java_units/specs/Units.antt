@@ -10,6 +10,8 @@ use Rattle.java_tree.specs.declared.methods.FieldTree.{FieldTree}
 use Rattle.java_tree.specs.Trees.{Method}
 use Rattle.java_tree.specs.Spelling.{annotation_onto}
 use Rattle.java_tree.specs.Formed.{has_some}
+use Rattle.java_tree.specs.KeptPlaces.{kept}
+use Rattle.java_tree.specs.MethodPlaces.{method_marks, AreAt}
 use Rattle.java_tree.specs.View.{method_of, annotation_of}
 use Rattle.method_grammar.specs.Lookahead.{begins_with}
 use Rattle.java_units.specs.declared.unit.Member.{Member}
@@ -34,11 +36,11 @@ BeginsAt (t ∷ ts) place = t.place ≡ place
 
 -- ---- members
 
--- the tokens of a member of this form are read as this
+-- the tokens of a member of this form are read as this; the tree of a method keeps their places, that of its name also
 abbrev pub HasForm : (class : List ℕ) → List Token → Form → Member → Type 0
 HasForm class m SkippedForm (member.Skipped place) = BeginsAt m place
 HasForm class m (MethodForm front name parentheses) (member.Method tree) =
-    (tree.name.place ≡ name.place) × IsMethod class m (method_of tree)
+    IsMethod class m (method_of tree) × AreAt (method_marks tree) (kept m)
 HasForm class m (MethodForm front name parentheses) (member.Outside head) =
     ((tree : Method) → IsMethod class m tree → ⊥) × IsOutside class front name parentheses m head
 HasForm class m FieldForm (member.Field f) = AreFields m f

@@ -2,7 +2,7 @@
 #![tactic(auto)]
 
 pub mod laws;
-mod reading;
+pub mod reading;
 
 pub use reading::read_method;
 pub use type_reader::ReadError;

@@ -1,5 +1,5 @@
 //! Reading trees from tokens, from left to right.
-mod annotations;
+pub mod annotations;
 mod brackets;
 mod heads;
 mod lines;

@@ -2,7 +2,7 @@ mod FirstItem
 mod OpenStack
 mod FirstMember
 mod FirstPiece
-mod Walks
+pub mod Walks
 mod DeclarationSteps
-mod HeadSteps
+pub mod HeadSteps
 mod TypeSteps

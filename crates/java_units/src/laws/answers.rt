@@ -4,6 +4,7 @@ ghost use Rattle.java_tree.specs.declared.expressions.Initialiser.{Initialiser};
 ghost use Rattle.java_tree.specs.declared.methods.FieldVariable.{FieldVariable};
 ghost use Rattle.java_tree.specs.declared.methods.FieldInitialiser.TheVariants.{Formed};
 ghost use Rattle.java_tree.specs.Trees.{Value, Name};
+ghost use Rattle.java_tree.specs.KeptPlaces.{init_places};
 ghost use Rattle.java_tree.specs.View.{init_of};
 ghost use Rattle.java_units.specs.declared.unit.HeadResult.TheVariants.{Unknown};
 ghost use Rattle.java_units.specs.declared.unit.ParseFault.TheVariants as fault;
@@ -29,7 +30,8 @@ pub fn unknown_results()
 /// A variable with what it begins with.
 pub fn variable_with_a_tree()
     ensures { (v : FieldVariable) (i : Initialiser) → v.name.text ≡ codes "x" → v.name.place ≡ at 1
-        → v.initialiser ≡ Formed i → init_of i ≡ Value (Name (codes "y")) → IsVariable (line (codes "x = y")) v }
+        → v.initialiser ≡ Formed i → init_of i ≡ Value (Name (codes "y")) → init_places i [] ≡ at 5 ∷ []
+        → IsVariable (line (codes "x = y")) v }
 {}
 
 /// Of faults the brackets come first, then their depth.

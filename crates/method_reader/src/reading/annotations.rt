@@ -50,7 +50,7 @@ fn more_names(
 
 /// An annotation behind its `@`.
 #[tactic(auto, unfolding(method_grammar::specs::MethodReading::annotation_at, method_grammar::specs::MethodReading::names_at))]
-fn annotation(alloc: Global, tokens: &[Token]) -> Result<(AnnotationTree, &[Token]), ReadError>
+pub fn annotation(alloc: Global, tokens: &[Token]) -> Result<(AnnotationTree, &[Token]), ReadError>
     ensures gives { Gives (λ x. (annotation_of x.0, map spelled x.1.now)) result
         (annotation_at (map spelled tokens.now)) }
     ensures places { IfOk result (λ x. Leads (annotation_marks x.0) (kept tokens.now) (kept x.1.now)) }

@@ -1,11 +1,10 @@
 use Rattle.std.proofs.Common.{◌∷◌, [], codes, refl, sym, subst, arith}
-use Rattle.java_tree.specs.Examples.{token_of}
 use Rattle.java_units.specs.FieldDivisions.{BeginsWith, IsInit}
 use Rattle.java_units.specs.UnitExamples.{placed_texts}
 use Rattle.java_units.proofs.laws.answers.variable_with_a_tree.Goals as goal
 
 pub returns : goal.returns
-returns c = λ v i n p f e. (
+returns c = λ v i n p f e places. (
   refl,
   n,
   p,
@@ -16,5 +15,6 @@ returns c = λ v i n p f e. (
       nested = omega arith;
       spelled = refl;
     }),
+    places,
   ),
 )

@@ -1,0 +1,5 @@
+pub mod Fronts
+pub mod FieldModifiers
+pub mod Divisions
+pub mod LastParts
+pub mod ResultParts

@@ -1,0 +1,3 @@
+pub mod ClassNameSteps
+pub mod AnnotationSteps
+pub mod UnitSteps

@@ -1,0 +1,3 @@
+pub mod ClassNames
+pub mod NamesOfAnnotations
+pub mod ReadTypes

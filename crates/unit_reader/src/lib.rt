@@ -1,0 +1,8 @@
+//! Files of Java, read from their tokens.
+#![tactic(auto)]
+
+mod annotations;
+mod classes;
+mod units;
+
+pub use units::parse_unit;

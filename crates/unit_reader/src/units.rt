@@ -1,0 +1,58 @@
+//! Files (JLS 7.3).
+ghost use Rattle.std.specs.Prelude.{◌≡◌, not, map, filter, IfOk, IfErr};
+ghost use Rattle.std.specs.List.{AllZip};
+ghost use Rattle.java_units.specs.Units.{is_read, IsClass, BeginsAt, IsUnit, IsFault};
+ghost use Rattle.unit_reader.specs.ReadTypes.{AddsType, AreRead};
+
+use super::classes::{class, read_name};
+use java_lexer::{Lexed, Token};
+use java_units::{ParseFault, Unit};
+use racer_base::{Items, Memory};
+use std::alloc::Global;
+use unit_cuts::balance::check_brackets;
+use unit_cuts::types::types;
+
+/// One more type.
+fn add_type(alloc: Global, unit: &mut Unit, tokens: &[Token]) -> Result<(), Memory>
+    ensures { IfOk result (λ _. AddsType tokens.now unit.old unit.new) }
+{
+    match read_name(tokens) {
+        Some(name) => {
+            let next = class(alloc, name, tokens)?;
+            unit.classes.push(next)?;
+        }
+        None => {
+            let [first, ..] = tokens else {
+                return Err(Memory);
+            };
+            unit.skipped.push(first.place)?;
+        }
+    }
+    Ok(())
+}
+
+/// The unit that these types are.
+fn unit(alloc: Global, types: &[&[Token]]) -> Result<Unit, Memory>
+    ensures { IfOk result (λ unit. AreRead (map (λ t. t.now) types.now) unit) }
+{
+    let mut unit = Unit {
+        classes: Items::new(alloc),
+        skipped: Items::new(alloc),
+    };
+    for tokens in types {
+        add_type(alloc, &mut unit, tokens)?;
+    }
+    Ok(unit)
+}
+
+/// The unit that a file is, or its first fault: a bracket that does not match, or else one that stands too deep, or
+/// else what does not fit.
+pub fn parse_unit(alloc: Global, lexed: &Lexed) -> Result<Unit, ParseFault>
+    ensures unit { IfOk result (λ unit. IsUnit lexed.now.tokens unit) }
+    ensures fault { IfErr result (λ fault. IsFault lexed.now.tokens lexed.now.end fault) }
+{
+    let tokens = lexed.tokens.as_slice();
+    check_brackets(alloc, tokens)?;
+    let types = types(alloc, tokens, lexed.end)?;
+    Ok(unit(alloc, types.as_slice())?)
+}
