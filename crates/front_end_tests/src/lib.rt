@@ -1,4 +1,4 @@
-//! The tests of the front end: outside, tokens, trees, reading, parts of files, names. They stand here, over public
+//! The tests of the front end: outside, tokens, trees, reading, parts of files. They stand here, over public
 //! calls alone, since a crate with tests is proved twice. There is no code.
 #![tactic(auto)]
 
@@ -9,12 +9,8 @@ mod first_grammar;
 #[cfg(test)]
 mod methods;
 #[cfg(test)]
-mod names;
-#[cfg(test)]
 mod outside;
 #[cfg(test)]
 mod tokens;
 #[cfg(test)]
 mod trees;
-#[cfg(test)]
-mod words;
