@@ -1,7 +1,7 @@
 -- Fields that are read are declared by their tokens, and where none are read none are declared.
-use Rattle.std.proofs.Common.{◌≡◌, ℕ, ◌≤◌, Bool, true, false, List, [], ◌∷◌, ◌++◌, Option, Some, None, IsTrue, codes}
-use Rattle.std.proofs.Common.{length, map, refl, ap, sym, ◌∙◌, subst, append_assoc, append-nil, arith}
-use Rattle.std.proofs.Common.{◌⊎◌, inl, inr}
+use Rattle.std.proofs.Common.{◌≡◌, Bool, true, false, List, [], ◌∷◌, ◌++◌, Option, Some, None, IsTrue, codes}
+use Rattle.std.proofs.Common.{length, map, refl, ap, sym, ◌∙◌, subst, append_assoc, append-nil}
+use Rattle.std.proofs.Common.{inl, inr}
 use Rattle.std.specs.Prelude.{if◌then◌else◌, ◌==◌}
 use Rattle.std.specs.List.{AllZip}
 use Rattle.racer_base.specs.declared.limits.TheConstants.{MAX_NESTING}
@@ -12,7 +12,7 @@ use Rattle.java_tree.specs.declared.methods.FieldVariable.{FieldVariable}
 use Rattle.java_tree.specs.Words.{identifier}
 use Rattle.java_tree.specs.Trees.{Modifier, Ty}
 use Rattle.java_tree.specs.Spelling.{modifiers_onto, ty_onto}
-use Rattle.java_tree.specs.Formed.{Each, FormedTy}
+use Rattle.java_tree.specs.Formed.{FormedTy}
 use Rattle.java_tree.specs.Nesting.{ty_nesting}
 use Rattle.java_tree.specs.KeptPlaces.{Places, kept, ty_places}
 use Rattle.java_tree.specs.View.{ty_of, modifier_of}
@@ -26,11 +26,11 @@ use Rattle.java_units.specs.Tokens.{is_name, is_sign_token, signed}
 use Rattle.java_units.specs.Brackets.{depth_behind}
 use Rattle.java_units.specs.Cuts.{onto_first, with_cut}
 use Rattle.java_units.specs.Pieces.{Item, items_from, items_of}
-use Rattle.java_units.specs.FieldDivisions.{FormedFieldModifier, IsVariable, IsDivided, AreRead, AreDividedAtEach}
+use Rattle.java_units.specs.FieldDivisions.{IsVariable, IsDivided}
 use Rattle.java_units.specs.FieldDivisions.{before_first, between_commas, AreVariables, AreDeclared, AreFields}
 use Rattle.java_units.proofs.Appended.{Appends, ty_append, modifiers_append}
 use Rattle.type_reader.specs.Tokens.{spelled}
-use Rattle.member_reader.specs.FieldModifiers.{EndsModifiers, Spells, NoModifiers, AreModifiers}
+use Rattle.member_reader.specs.FieldModifiers.{Spells, NoModifiers, AreModifiers}
 use Rattle.member_reader.specs.Fronts.{EndsWith, IsFront}
 use Rattle.member_reader.proofs.ModifierSteps.{ends_type}
 use Rattle.member_reader.proofs.SameEnds.{same_ends, plain_append, same_size, kept_append}

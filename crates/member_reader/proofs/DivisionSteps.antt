@@ -1,18 +1,18 @@
 -- The division of fields at commas, one variable after the other.
-use Rattle.std.proofs.Common.{◌≡◌, ℕ, suc, ◌+◌, ◌≤◌, Bool, true, false, List, [], ◌∷◌, ◌++◌, Option, Some, None}
-use Rattle.std.proofs.Common.{IsTrue, codes, length, take, drop, refl, ap, sym, ◌∙◌, subst, arith}
+use Rattle.std.proofs.Common.{◌≡◌, ℕ, Bool, true, false, List, [], ◌∷◌, ◌++◌, Option, Some, None}
+use Rattle.std.proofs.Common.{codes, length, take, drop, refl, ap, sym, ◌∙◌, subst, arith}
 use Rattle.std.proofs.Common.{take-append-drop, append-nil, append_assoc, length-append}
 use Rattle.std.specs.Prelude.{if◌then◌else◌}
 use Rattle.std.specs.List.{AllZip}
 use Rattle.java_lexer.specs.declared.token.Token.{Token}
 use Rattle.java_tree.specs.declared.methods.FieldVariable.{FieldVariable}
 use Rattle.java_tree.specs.Formed.{Each}
-use Rattle.java_units.specs.Tokens.{is_sign_token, signed}
+use Rattle.java_units.specs.Tokens.{signed}
 use Rattle.java_units.specs.Pieces.{Item, items_of}
 use Rattle.java_units.specs.FieldDivisions.{IsVariable, IsRead, IsDivided, AreRead, before_first, between_commas}
 use Rattle.member_reader.specs.Divisions.{HasTree, NoDivision, EndsVariable, IsOnlySize, NoVariable, IsSized, IsCut}
 use Rattle.member_reader.specs.Divisions.{Passes, IsFirst, Divides, left_pieces}
-use Rattle.member_reader.proofs.SameEnds.{same_ends, SameEnds}
+use Rattle.member_reader.proofs.SameEnds.{same_ends}
 use Rattle.member_reader.proofs.VariableSteps.{read_has_tree}
 
 -- ---- the first variable of a division

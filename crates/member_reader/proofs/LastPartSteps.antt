@@ -1,17 +1,17 @@
 -- What stands at the end of tokens that end in a type is the last part of it.
-use Rattle.std.proofs.Common.{◌≡◌, ℕ, zero, suc, ◌+◌, ◌-◌, ◌≤◌, ◌<◌, Bool, true, false, List, [], ◌∷◌, ◌++◌}
-use Rattle.std.proofs.Common.{codes, length, take, drop, map, refl, ap, sym, ◌∙◌, subst, arith, append-nil}
+use Rattle.std.proofs.Common.{◌≡◌, ℕ, zero, suc, ◌-◌, ◌≤◌, Bool, true, false, List, [], ◌∷◌, ◌++◌}
+use Rattle.std.proofs.Common.{codes, length, take, drop, map, refl, ap, sym, ◌∙◌, arith}
 use Rattle.std.proofs.Common.{append_assoc}
 use Rattle.std.proofs.Common.{take-append-drop}
 use Rattle.std.specs.Prelude.{◌==◌, if◌then◌else◌}
 use Rattle.java_tree.specs.Brackets.{is_sign}
 use Rattle.java_lexer.specs.declared.token.Token.{Token}
 use Rattle.java_tree.specs.declared.words.Spelled.{Spelled}
-use Rattle.java_tree.specs.Words.{keyword, identifier, sign, sign_glued}
+use Rattle.java_tree.specs.Words.{keyword, sign, sign_glued}
 use Rattle.java_tree.specs.Trees.{Ty, Typed, Base, Plain, Named, Parts, no_part, part_then, Part, Bare, Generic}
 use Rattle.java_tree.specs.Trees.{Arguments, Angled, ArgumentList, no_argument, argument_then, Argument, Exact, Any}
 use Rattle.java_tree.specs.Trees.{Extends, Super, Result, NoResult, VoidResult, TypeResult}
-use Rattle.java_tree.specs.Spelling.{brackets_onto, ty_onto, base_onto, parts_onto, more_parts_onto, part_onto}
+use Rattle.java_tree.specs.Spelling.{brackets_onto, ty_onto, base_onto, more_parts_onto, part_onto}
 use Rattle.java_tree.specs.Spelling.{angled_onto, arguments_onto, more_arguments_onto, argument_onto, result_onto}
 use Rattle.java_tree.specs.Formed.{FormedTy, FormedParts, FormedPart, FormedResult}
 use Rattle.java_tree.specs.Nesting.{ty_nesting, parts_nesting, part_nesting, result_nesting}

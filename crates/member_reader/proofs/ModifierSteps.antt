@@ -5,7 +5,7 @@ use Rattle.java_lexer.specs.declared.token.Token.{Token}
 use Rattle.java_lexer.specs.declared.token.TokenKind.{TokenKind}
 use Rattle.java_lexer.specs.declared.token.TokenKind.TheVariants as kind
 use Rattle.java_tree.specs.declared.words.Spelled.{Spelled}
-use Rattle.java_tree.specs.Words.{keyword, sign, identifier}
+use Rattle.java_tree.specs.Words.{keyword, sign}
 use Rattle.java_tree.specs.Trees.{Modifier, Word, Annotated, Ty, Typed, Plain, Named, no_part, part_then}
 use Rattle.java_tree.specs.Trees.{Bare, Generic}
 use Rattle.java_tree.specs.Spelling.{modifier_onto, modifiers_onto, annotation_onto, ty_onto, brackets_onto}

@@ -1,5 +1,5 @@
 -- What an error says that is passed on.
-use Rattle.std.proofs.Common.{◌≡◌, Option, Some, None, Result, Ok, Err, ap}
+use Rattle.std.proofs.Common.{◌≡◌, Option, None, Result, Err, ap}
 use Rattle.std.specs.Prelude.{IsErrOf}
 use Rattle.type_reader.specs.declared.reading.error.ReadError.{ReadError}
 use Rattle.type_reader.specs.declared.reading.error.ReadError.TheVariants.{Memory, Unformed}

@@ -1,17 +1,14 @@
 -- What the head of a method says of its result.
-use Rattle.std.proofs.Common.{◌≡◌, ℕ, ◌≤◌, ◌<◌, Bool, true, false, List, [], ◌∷◌, ◌++◌, Option, Some, None, IsTrue}
-use Rattle.std.proofs.Common.{codes, length, map, refl, ap, sym, ◌∙◌, subst, arith}
+use Rattle.std.proofs.Common.{◌≡◌, ℕ, ◌<◌, Bool, true, false, List, [], ◌∷◌, ◌++◌, Option, Some, None, IsTrue}
+use Rattle.std.proofs.Common.{codes, length, refl, ap, sym, ◌∙◌, subst, arith}
 use Rattle.std.specs.Prelude.{◌↔◌}
-use Rattle.racer_base.specs.declared.limits.TheConstants.{MAX_NESTING}
 use Rattle.java_lexer.specs.declared.token.Token.{Token}
 use Rattle.java_tree.specs.declared.words.Spelled.{Spelled}
-use Rattle.java_tree.specs.declared.types.TypeTree.{TypeTree}
 use Rattle.java_tree.specs.Words.{keyword}
-use Rattle.java_tree.specs.Trees.{Modifier, Ty, Result, NoResult, VoidResult, TypeResult}
-use Rattle.java_tree.specs.Spelling.{modifiers_onto, result_onto, ty_onto}
-use Rattle.java_tree.specs.Formed.{Each, FormedModifier, FormedTy, FormedResult}
-use Rattle.java_tree.specs.Nesting.{ty_nesting, result_nesting}
-use Rattle.java_tree.specs.KeptPlaces.{kept, ty_places}
+use Rattle.java_tree.specs.Trees.{Modifier, Result, NoResult, VoidResult, TypeResult}
+use Rattle.java_tree.specs.Spelling.{modifiers_onto, result_onto}
+use Rattle.java_tree.specs.Formed.{Each, FormedModifier, FormedResult}
+use Rattle.java_tree.specs.KeptPlaces.{kept}
 use Rattle.java_tree.specs.View.{ty_of}
 use Rattle.method_grammar.specs.MethodReading.{modifiers_at}
 use Rattle.method_grammar.specs.Taking.{is_keyword}
@@ -21,7 +18,7 @@ use Rattle.method_grammar.proofs.SoundAnnotations.{Taken, modifiers_sound}
 use Rattle.method_grammar.proofs.TypeFronts.{formed_longer}
 use Rattle.java_units.specs.declared.unit.HeadResult.{HeadResult}
 use Rattle.java_units.specs.declared.unit.HeadResult.TheVariants.{Void, Formed, Constructor, Unknown}
-use Rattle.java_units.specs.Heads.{EndsInResult, IsConstructor, IsHead, HasHead, HeadSays, IsResult}
+use Rattle.java_units.specs.Heads.{EndsInResult, IsConstructor, HasHead, HeadSays, IsResult}
 use Rattle.java_units.specs.Tokens.{plain_all}
 use Rattle.type_reader.specs.Tokens.{spelled}
 use Rattle.member_reader.specs.Fronts.{EndsWith}

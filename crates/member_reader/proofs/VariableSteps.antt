@@ -1,7 +1,7 @@
 -- Variables in front of tokens, with what they begin with, and where they end.
-use Rattle.std.proofs.Common.{◌≡◌, ℕ, suc, ◌+◌, ◌-◌, ◌≤◌, ◌<◌, Bool, true, false, ◌&&◌, List, [], ◌∷◌, ◌++◌, Option}
-use Rattle.std.proofs.Common.{Some, None, IsTrue, codes, length, take, drop, map, refl, ap, sym, ◌∙◌, subst, arith}
-use Rattle.std.proofs.Common.{◌⊎◌, inl, inr, length-append, take-append-drop, append-nil, append_assoc}
+use Rattle.std.proofs.Common.{◌≡◌, suc, ◌-◌, ◌≤◌, true, false, List, [], ◌∷◌, ◌++◌, Option}
+use Rattle.std.proofs.Common.{Some, None, codes, length, take, drop, map, refl, ap, sym, ◌∙◌, subst, arith}
+use Rattle.std.proofs.Common.{inl, inr, length-append, take-append-drop}
 use Rattle.std.proofs.Common.{length-drop}
 use Rattle.std.proofs.lemmas.Bool.{true≢false}
 use Rattle.std.specs.List.{AllZip}
@@ -20,21 +20,21 @@ use Rattle.java_tree.specs.Nesting.{init_nesting}
 use Rattle.java_tree.specs.View.{init_of}
 use Rattle.method_grammar.specs.ExpressionReading.{init_at}
 use Rattle.method_grammar.specs.Leads.{pull}
-use Rattle.method_grammar.proofs.Ensuring.{of_equation, and_first, and_last}
+use Rattle.method_grammar.proofs.Ensuring.{of_equation}
 use Rattle.method_grammar.proofs.FoundExpressions.{init_found}
 use Rattle.method_grammar.proofs.Lengths.{init_longer}
 use Rattle.method_grammar.proofs.SoundJava.{java_sound}
 use Rattle.method_grammar.proofs.SoundSteps.{GotOne}
 use Rattle.method_grammar.proofs.Taken.{sign_is, pull_comma, pull_nothing}
 use Rattle.java_units.specs.Tokens.{is_name, is_sign_token}
-use Rattle.java_units.specs.FieldDivisions.{IsInit, BeginsWith, IsVariable, IsRead, IsDivided, AreRead}
-use Rattle.java_units.specs.FieldDivisions.{AreDividedAtEach, AreVariables, between_commas}
+use Rattle.java_units.specs.FieldDivisions.{IsInit, BeginsWith, IsVariable, IsRead}
+use Rattle.java_units.specs.FieldDivisions.{AreVariables, between_commas}
 use Rattle.java_units.specs.Pieces.{items_of}
 use Rattle.java_units.proofs.Appended.{init_before}
 use Rattle.type_reader.specs.Tokens.{spelled}
-use Rattle.member_reader.specs.Divisions.{is_beginning, is_declarator, are_declarators, HasTree, NoDivision, HasValue}
-use Rattle.member_reader.specs.Divisions.{EndsVariable, IsOnlySize, NoVariable, IsSized, IsCut, Passes, IsFirst}
-use Rattle.member_reader.specs.Divisions.{Divides, ArePieces}
+use Rattle.member_reader.specs.Divisions.{is_beginning, is_declarator, are_declarators, HasTree, HasValue}
+use Rattle.member_reader.specs.Divisions.{EndsVariable, NoVariable, IsSized}
+use Rattle.member_reader.specs.Divisions.{ArePieces}
 use Rattle.member_reader.proofs.SameEnds.{same_ends, plain_append, plain_length, same_size}
 
 -- ---- what a variable with a tree looks like

@@ -1,4 +1,4 @@
-use Rattle.std.proofs.Common.{◌≡◌, ap, ◌∙◌, sym, refl, take, arith}
+use Rattle.std.proofs.Common.{ap, ◌∙◌, sym, refl, take, arith}
 use Rattle.java_units.specs.Pieces.{items_of}
 use Rattle.java_units.specs.FieldDivisions.{before_first, between_commas}
 use Rattle.unit_cuts.proofs.HeadSteps.{take_step}

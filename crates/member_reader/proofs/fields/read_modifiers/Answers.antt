@@ -5,7 +5,7 @@ use Rattle.java_tree.specs.View.{modifier_of}
 use Rattle.type_reader.specs.Tokens.{spelled}
 use Rattle.type_reader.specs.declared.reading.error.ReadError.TheVariants.{Unformed}
 use Rattle.member_reader.specs.FieldModifiers.{field_modifier_at}
-use Rattle.member_reader.proofs.ModifierSteps.{skips_none, skips_one, skips_end, skips_fail, spells_none, spells_more}
+use Rattle.member_reader.proofs.ModifierSteps.{skips_one, skips_end, skips_fail, spells_more}
 use Rattle.member_reader.proofs.Refusals.{error_is, fails_so}
 use Rattle.member_reader.proofs.fields.read_modifiers.Goals as goal
 
