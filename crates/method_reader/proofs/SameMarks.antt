@@ -143,5 +143,5 @@ pub same_marks : (a b : MethodTree) (ps : Places) → method_of a ≡ method_of 
     → AreAt (method_marks b) ps → method_marks a ≡ method_marks b
 same_marks a b ps e x y =
     let p = fronts a b e (some_onto (rest_of a) []) (some_onto (rest_of b) []) ps
-        (subst (λ m. AreAt m ps) (marks_of a) x) (subst (λ m. AreAt m ps) (marks_of b) y) in
+    (subst (λ m. AreAt m ps) (marks_of a) x) (subst (λ m. AreAt m ps) (marks_of b) y) in
     marks_of a ∙ p.same (ends (rest_of a) (rest_of b) p.left p.first p.second) ∙ sym (marks_of b)

@@ -63,15 +63,23 @@ ArgumentHas t = length (argument_places t) ≡ argument_count (argument_of t)
 parts_have : (ps : List ((p : TypePart) × PartHas p)) → length (all_places (map part_places (map (λ e. e.0) ps)))
     ≡ parts_count (pack_parts (map part_of (map (λ e. e.0) ps)))
 parts_have [] = refl
-parts_have (p ∷ ps) = omega (arith, p.1, parts_have ps,
-    length-append (part_places p.0) (all_places (map part_places (map (λ e. e.0) ps))))
+parts_have (p ∷ ps) = omega (
+  arith,
+  p.1,
+  parts_have ps,
+  length-append (part_places p.0) (all_places (map part_places (map (λ e. e.0) ps))),
+)
 
 arguments_have : (ps : List ((p : TypeArgument) × ArgumentHas p))
     → length (all_places (map argument_places (map (λ e. e.0) ps)))
     ≡ arguments_count (pack_arguments (map argument_of (map (λ e. e.0) ps)))
 arguments_have [] = refl
-arguments_have (p ∷ ps) = omega (arith, p.1, arguments_have ps,
-    length-append (argument_places p.0) (all_places (map argument_places (map (λ e. e.0) ps))))
+arguments_have (p ∷ ps) = omega (
+  arith,
+  p.1,
+  arguments_have ps,
+  length-append (argument_places p.0) (all_places (map argument_places (map (λ e. e.0) ps))),
+)
 
 abbrev Bases : Type 0
 Bases = (x : BaseType) × BaseHas x

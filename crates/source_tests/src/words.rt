@@ -9,10 +9,18 @@ fn shown(alloc: Global, request: &Option<Request>) -> Result<String, Memory> {
     let text = match request {
         None => format!(in alloc; "-")?,
         Some(Request::Report(r)) => format!(in alloc;
-            "report {} {} {} {} {}", r.folder.as_str(), r.workers, r.json, r.summaries, r.history
+            "report {} {} {} {} {}",
+            r.folder.as_str(),
+            r.workers,
+            r.json,
+            r.summaries,
+            r.history
         )?,
-        Some(Request::Replay(folder, witness)) =>
-            format!(in alloc; "replay {} {}", folder.as_str(), witness.as_str())?,
+        Some(Request::Replay(folder, witness)) => format!(in alloc;
+            "replay {} {}",
+            folder.as_str(),
+            witness.as_str()
+        )?,
         Some(Request::Made(count, workers)) => format!(in alloc; "made {count} {workers}")?,
     };
     Ok(text)
@@ -33,7 +41,10 @@ const ROWS: &[(&str, &str)] = &[
     ("", "-"),
     ("src", "report src 4 false false false"),
     ("src --workers 64 --json", "report src 64 true false false"),
-    ("--history --workers=1 src --summaries", "report src 1 false true true"),
+    (
+        "--history --workers=1 src --summaries",
+        "report src 1 false true true",
+    ),
     ("src --workers 0", "-"),
     ("src --workers 65", "-"),
     ("src --workers 08", "-"),
