@@ -69,7 +69,7 @@ const PAIR: &str = "class Pair {
 ";
 
 /// Files, and what they are.
-const FILES: [(&str, &str); 12] = [
+const FILES: &[(&str, &str)] = &[
     ("", ""),
     (
         PAIR,
@@ -109,7 +109,7 @@ const FILES: [(&str, &str); 12] = [
 ];
 
 /// Files of another grammar, or that break one of the further conditions.
-const OTHERS: [&str; 40] = [
+const OTHERS: &[&str] = &[
     "class A { int x; long y; }",
     "class A {",
     "class A { } }",
@@ -156,7 +156,7 @@ const OTHERS: [&str; 40] = [
 fn files(rt: HostRuntime) -> Result<(), Fail> {
     for (text, want) in FILES {
         let line = read(rt.alloc(), text)?;
-        assert_eq!(rt; line.as_str(), want, "in {text}");
+        assert_eq!(rt; line.as_str(), *want, "in {text}");
     }
     for text in OTHERS {
         let line = read(rt.alloc(), text)?;

@@ -48,7 +48,7 @@ fn try_calls<F: Folder>(
     rt: &impl Abort,
     alloc: Global,
     folder: &mut F,
-    rows: &[(Call, Option<&'static str>)],
+    rows: &[(Call, Option<&str>)],
 ) -> Result<(), Fail> {
     for (call, wanted) in rows {
         match made(alloc, folder, *call) {
@@ -61,6 +61,18 @@ fn try_calls<F: Folder>(
     }
     Ok(())
 }
+
+/// The calls on a folder in memory whose calls 3 and 9 fail, and what they give.
+const IN_MEMORY: &[(Call, Option<&str>)] = &[
+    (Call::Enter("src"), Some("")),
+    (Call::Enter("lib"), None),
+    (Call::Names, Some("B.java a.txt ")),
+    (Call::Names, None),
+    (Call::Read("B.java", 5), Some("class")),
+    (Call::Read("B.java", 11), Some("class B {}")),
+    (Call::Read("a.txt", 1), Some("")),
+    (Call::Read("b.java", 5), None),
+];
 
 #[test]
 fn folder_in_memory(rt: HostRuntime) -> Result<(), Fail> {
@@ -75,17 +87,7 @@ fn folder_in_memory(rt: HostRuntime) -> Result<(), Fail> {
     }
     let name = String::from_str(alloc, "src")?;
     let mut folder = MemoryFolder::new(name, files, [3, 9].to_vec(alloc)?);
-    let rows = [
-        (Call::Enter("src"), Some("")),
-        (Call::Enter("lib"), None),
-        (Call::Names, Some("B.java a.txt ")),
-        (Call::Names, None),
-        (Call::Read("B.java", 5), Some("class")),
-        (Call::Read("B.java", 11), Some("class B {}")),
-        (Call::Read("a.txt", 1), Some("")),
-        (Call::Read("b.java", 5), None),
-    ];
-    try_calls(&rt, alloc, &mut folder, &rows)
+    try_calls(&rt, alloc, &mut folder, IN_MEMORY)
 }
 
 /// Writes a folder with two files, a folder, and a symbolic link.
@@ -107,6 +109,24 @@ fn lay_out(rt: &HostRuntime, root: &str) -> Result<(), Fail> {
     Ok(())
 }
 
+/// The calls before a folder is entered.
+const NOT_ENTERED: &[(Call, Option<&str>)] = &[
+    (Call::Names, None),
+    (Call::Enter("/nowhere"), None),
+];
+
+/// The calls in the folder that `lay_out` writes, and what they give.
+const ON_DISK: &[(Call, Option<&str>)] = &[
+    (Call::Names, Some("B.java a.txt ")),
+    (Call::Read("B.java", 5), Some("class")),
+    (Call::Read("B.java", 1_048_577), Some("class B {}")),
+    (Call::Read("a.txt", 1), Some("")),
+    (Call::Read("b.java", 5), None),
+    (Call::Read("link.java", 5), None),
+    (Call::Read("inner", 5), None),
+    (Call::Read("inner/C.java", 5), None),
+];
+
 #[test]
 fn real_folder(rt: HostRuntime) -> Result<(), Fail> {
     let alloc = rt.alloc();
@@ -116,24 +136,9 @@ fn real_folder(rt: HostRuntime) -> Result<(), Fail> {
     let root = format!(in alloc; "{parent}/racer_base_{number}")?;
     lay_out(&rt, root.as_str())?;
     let mut folder = DirFolder::new(rt.clone()?);
-    try_calls(
-        &rt,
-        alloc,
-        &mut folder,
-        &[(Call::Names, None), (Call::Enter("/nowhere"), None)],
-    )?;
+    try_calls(&rt, alloc, &mut folder, NOT_ENTERED)?;
     folder.enter(alloc, root.as_str())?;
-    let rows = [
-        (Call::Names, Some("B.java a.txt ")),
-        (Call::Read("B.java", 5), Some("class")),
-        (Call::Read("B.java", 1_048_577), Some("class B {}")),
-        (Call::Read("a.txt", 1), Some("")),
-        (Call::Read("b.java", 5), None),
-        (Call::Read("link.java", 5), None),
-        (Call::Read("inner", 5), None),
-        (Call::Read("inner/C.java", 5), None),
-    ];
-    try_calls(&rt, alloc, &mut folder, &rows)?;
+    try_calls(&rt, alloc, &mut folder, ON_DISK)?;
     fs::remove_dir_all(&rt, root.as_str())?;
     Ok(())
 }
@@ -163,42 +168,67 @@ impl Print for Printer {
     }
 }
 
+const PIECE: &[u8] = b"racer report 1\n";
+
+/// Printers, and what a write of the piece gives on each.
+const PRINTERS: &[(Printer, Result<usize, Failed>)] = &[
+    (Printer(Some(100)), Ok(15)),
+    (Printer(Some(4)), Ok(4)),
+    (Printer(Some(0)), Err(Failed)),
+    (Printer(None), Err(Failed)),
+];
+
 #[test]
-fn sinks(rt: HostRuntime) -> Result<(), Fail> {
-    let piece = b"racer report 1\n";
-    let mut sink = MemorySink::new(rt.alloc(), 20, 16, Vec::new(rt.alloc()))?;
-    for wanted in [Ok(15), Ok(5), Err(Failed)] {
-        assert_eq!(rt; sink.write(piece), wanted);
-    }
-    assert_eq!(rt; sink.taken(), b"racer report 1\nracer".as_slice());
-    assert_eq!(rt; StdSink::new(&rt).write(piece), Ok(15));
-    for (printer, wanted) in [
-        (Printer(Some(100)), Ok(15)),
-        (Printer(Some(4)), Ok(4)),
-        (Printer(Some(0)), Err(Failed)),
-        (Printer(None), Err(Failed)),
-    ] {
-        assert_eq!(rt; StdSink::new(&printer).write(piece), wanted);
+fn printers(rt: HostRuntime) {
+    for (printer, wanted) in PRINTERS {
+        assert_eq!(rt; StdSink::new(printer).write(PIECE), *wanted);
     }
     assert_eq!(rt; StdSink::new(&Printer(Some(0))).write(b""), Ok(0));
+    assert_eq!(rt; StdSink::new(&rt).write(PIECE), Ok(15));
+}
+
+#[test]
+fn sink_in_memory(rt: HostRuntime) -> Result<(), Fail> {
+    let mut sink = MemorySink::new(rt.alloc(), 20, 16, Vec::new(rt.alloc()))?;
+    for wanted in &[Ok(15), Ok(5), Err(Failed)] {
+        assert_eq!(rt; sink.write(PIECE), *wanted);
+    }
+    assert_eq!(rt; sink.taken(), b"racer report 1\nracer".as_slice());
     Ok(())
 }
 
 #[test]
-fn list_and_text(rt: HostRuntime) -> Result<(), Fail> {
+fn lists(rt: HostRuntime) -> Result<(), Fail> {
     let mut list = Items::new(rt.alloc());
     assert!(rt; list.is_empty());
     list.push(7)?;
     list.push(5)?;
-    assert_eq!(rt; list.as_slice(), [7, 5].as_slice());
-    assert_eq!(rt; list.into_vec().as_slice(), [7, 5].as_slice());
-    for bytes in ["", "racer", "sixteen bytes ..", "seventeen bytes .."] {
-        let text = Text::from_str(rt.alloc(), bytes)?;
-        assert_eq!(rt; text.clone()?.as_str(), bytes);
-        let made = Text::from(String::from_str(rt.alloc(), bytes)?);
-        assert!(rt; text == made);
-        assert_eq!(rt; text.into_string(rt.alloc())?.as_str(), bytes);
-        assert_eq!(rt; made.into_string(rt.alloc())?.as_str(), bytes);
+    assert!(rt; list.as_slice() == [7, 5].as_slice());
+    assert!(rt; list.into_vec().as_slice() == [7, 5].as_slice());
+    Ok(())
+}
+
+/// Whether two texts of these bytes, and a copy of one of them, are equal and have the bytes.
+fn are_equal(alloc: Global, bytes: &str) -> Result<bool, Fail> {
+    let text = Text::from_str(alloc, bytes)?;
+    let made = Text::from(String::from_str(alloc, bytes)?);
+    Ok(text == made && made.as_str() == bytes && text.clone()?.as_str() == bytes)
+}
+
+/// Whether a text of these bytes, made in each of two ways, gives them back.
+fn are_given_back(alloc: Global, bytes: &str) -> Result<bool, Fail> {
+    let copied = Text::from_str(alloc, bytes)?.into_string(alloc)?;
+    let moved = Text::from(String::from_str(alloc, bytes)?).into_string(alloc)?;
+    Ok(copied.as_str() == bytes && moved.as_str() == bytes)
+}
+
+const TEXTS: &[&str] = &["", "racer", "sixteen bytes ..", "seventeen bytes .."];
+
+#[test]
+fn texts(rt: HostRuntime) -> Result<(), Fail> {
+    for text in TEXTS {
+        assert!(rt; are_equal(rt.alloc(), text)?, "{text}");
+        assert!(rt; are_given_back(rt.alloc(), text)?, "{text}");
     }
     Ok(())
 }
