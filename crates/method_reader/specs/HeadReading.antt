@@ -3,6 +3,7 @@
 -- first statement of an `if`.
 use Rattle.std.specs.Prelude.{ℕ, Bool, List, Option, Some, codes, if◌then◌else◌}
 use Rattle.java_tree.specs.declared.words.Spelled.{Spelled}
+use Rattle.java_tree.specs.Trees.{Init, Variable, Locals}
 use Rattle.java_tree.specs.Trees.{Ty, Expr, Exprs, pack_exprs, Start, Declares, Runs, Stmt, If, IfElse, For, ForEach}
 use Rattle.method_grammar.specs.ExpressionReading.{Reading}
 use Rattle.method_grammar.specs.Taking.{◌>>=◌, match_option, after_sign, after_keyword}
@@ -14,6 +15,13 @@ use Rattle.method_grammar.specs.StatementReading.{final_at, variables_at, expr_u
 pub data Head : Type 0 where
   Counted : Start → Option Expr → Exprs → Head
   Each : (is_final : Bool) → Ty → (name : List ℕ) → Expr → Head
+
+-- a variable of this name, and the variables of a declaration
+abbrev pub variable_with : List ℕ → Option Init → Variable
+variable_with x i = record { name = x; initialiser = i }
+
+abbrev pub locals_with : Bool → Ty → List Variable → Locals
+locals_with is_final t vs = record { is_final = is_final; kind = t; variables = vs }
 
 -- the `for` of this head and body
 abbrev pub for_of : Head → Stmt → Stmt

@@ -9,11 +9,13 @@ use Rattle.method_reader.specs.HeadReading.{Head, Counted, Each}
 
 abbrev pub head_of : heads.ForHead → Head
 head_of (head.Counted start condition updates) =
-    Counted (start_of start) (option_map expr_of condition) (pack_exprs (map expr_of updates.items))
-head_of (head.Each is_final t x e) = Each is_final (ty_of t) (name_of x) (expr_of e)
+    Counted (start_of start.value) (option_map (λ e. expr_of e.value) condition) (pack_exprs
+    (map expr_of updates.items))
+head_of (head.Each is_final t x e) = Each is_final (ty_of t.value) (name_of x) (expr_of e.value)
 
 -- its places, and then the rest
 abbrev pub head_places : heads.ForHead → Puts
 head_places (head.Counted start condition updates) rest =
-    start_places start (maybe_puts (option_map expr_places condition) (each_puts (map expr_places updates.items) rest))
-head_places (head.Each is_final t x e) rest = ty_places t ++ (x.place ∷ expr_places e rest)
+    start_places start.value (maybe_puts (option_map (λ e. expr_places e.value) condition) (each_puts
+    (map expr_places updates.items) rest))
+head_places (head.Each is_final t x e) rest = ty_places t.value ++ (x.place ∷ expr_places e.value rest)

@@ -6,6 +6,7 @@ mod lines;
 mod locals;
 mod lookahead;
 mod methods;
+mod nodes;
 mod parameters;
 mod statements;
 mod whole;

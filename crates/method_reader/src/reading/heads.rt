@@ -1,7 +1,7 @@
 //! Reading what stands in the parentheses of statements, and expressions that statements run (JLS 14.8, 14.9,
 //! 14.12, 14.14).
 ghost use Rattle.std.specs.Prelude.{◌++◌};
-ghost use Rattle.std.specs.Prelude.{◌≡◌, ◌<◌, ◌≤◌, ◌^◌, suc, [], ◌∷◌, length, map, option_map, IfOk};
+ghost use Rattle.std.specs.Prelude.{◌≡◌, ◌<◌, ◌≤◌, ◌^◌, suc, Some, [], ◌∷◌, length, map, option_map, IfOk};
 ghost use Rattle.java_tree.specs.KeptPlaces.{kept, maybe_puts, each_puts, ty_places, expr_places, start_places};
 ghost use Rattle.java_tree.specs.Formed.{is_run};
 ghost use Rattle.java_tree.specs.View.{ty_of, expr_of, start_of};
@@ -16,25 +16,25 @@ ghost use Rattle.type_reader.specs.Finishing.{finished};
 ghost use Rattle.type_reader.specs.Endings.{as_they_are};
 ghost use Rattle.type_reader.specs.ReadAnswer.{Gives};
 
-use super::locals::variables;
+use super::locals::{boxed_type, variables};
 use super::lookahead::{begins_with, final_at, looks_local, name_and_colon};
 use expression_reader::reading::expressions::read_expression;
 use expression_reader::reading::leads::is_step;
+use expression_reader::reading::nested::push_tree;
 use java_lexer::Token;
 use java_tree::{Expression, Ident, StartTree, TypeTree};
 use racer_base::Items;
 use std::alloc::Global;
 use type_reader::reading::error::ReadError;
 use type_reader::reading::look::{after_sign, ident, sign};
-use type_reader::reading::types::read_type;
 
 /// What stands in the parentheses of a `for`.
 #[derive(Drop)]
 pub enum ForHead {
     /// JLS 14.14.1.
-    Counted(StartTree, Option<Expression>, Vec<Expression>),
+    Counted(Box<StartTree>, Option<Box<Expression>>, Vec<Expression>),
     /// JLS 14.14.2, and whether `final` stands.
-    Each(bool, TypeTree, Ident, Expression),
+    Each(bool, Box<TypeTree>, Ident, Box<Expression>),
 }
 
 /// Whether an expression is one that a statement can be (JLS 14.8).
@@ -57,12 +57,12 @@ pub fn condition(
     alloc: Global,
     limit: u32,
     tokens: &[Token],
-) -> Result<(Expression, &[Token]), ReadError>
+) -> Result<(Box<Expression>, &[Token]), ReadError>
     requires few { length tokens.now < 2 ^ 32 }
     requires room { suc (suc limit) < 2 ^ 32 }
-    ensures gives { Gives (λ x. (expr_of x.0, map spelled x.1.now)) result (condition_at method_readers limit
+    ensures gives { Gives (λ x. (expr_of x.0.value, map spelled x.1.now)) result (condition_at method_readers limit
         (map spelled tokens.now)) }
-    ensures places { IfOk result (λ x. expr_places x.0 (kept x.1.now) ≡ kept tokens.now) }
+    ensures places { IfOk result (λ x. expr_places x.0.value (kept x.1.now) ≡ kept tokens.now) }
     ensures shorter { IfOk result (λ x. length x.1.now < length tokens.now) }
 {
     let rest = sign(tokens, "(")?;
@@ -77,12 +77,13 @@ pub fn expression_until<'a>(
     limit: u32,
     end: &str,
     tokens: &'a [Token],
-) -> Result<(Option<Expression>, &'a [Token]), ReadError>
+) -> Result<(Option<Box<Expression>>, &'a [Token]), ReadError>
     requires few { length tokens.now < 2 ^ 32 }
     requires room { suc (suc limit) < 2 ^ 32 }
-    ensures gives { Gives (λ x. (option_map expr_of x.0, map spelled x.1.now)) result (expr_until method_readers limit
-        end.now (map spelled tokens.now)) }
-    ensures places { IfOk result (λ x. maybe_puts (option_map expr_places x.0) (kept x.1.now) ≡ kept tokens.now) }
+    ensures gives { Gives (λ x. (option_map (λ e. expr_of e.value) x.0, map spelled x.1.now)) result
+        (expr_until method_readers limit end.now (map spelled tokens.now)) }
+    ensures places { IfOk result (λ x. maybe_puts (option_map (λ e. expr_places e.value) x.0) (kept x.1.now)
+        ≡ kept tokens.now) }
     ensures shorter { IfOk result (λ x. length x.1.now ≤ length tokens.now) }
 {
     if begins_with(tokens, end) {
@@ -93,12 +94,16 @@ pub fn expression_until<'a>(
 }
 
 /// An expression that is run for what it does (JLS 14.8).
-pub fn run(alloc: Global, limit: u32, tokens: &[Token]) -> Result<(Expression, &[Token]), ReadError>
+pub fn run(
+    alloc: Global,
+    limit: u32,
+    tokens: &[Token],
+) -> Result<(Box<Expression>, &[Token]), ReadError>
     requires few { length tokens.now < 2 ^ 32 }
     requires room { suc (suc limit) < 2 ^ 32 }
-    ensures gives { Gives (λ x. (expr_of x.0, map spelled x.1.now)) result (run_at method_readers limit
+    ensures gives { Gives (λ x. (expr_of x.0.value, map spelled x.1.now)) result (run_at method_readers limit
         (map spelled tokens.now)) }
-    ensures places { IfOk result (λ x. expr_places x.0 (kept x.1.now) ≡ kept tokens.now) }
+    ensures places { IfOk result (λ x. expr_places x.0.value (kept x.1.now) ≡ kept tokens.now) }
     ensures shorter { IfOk result (λ x. length x.1.now ≤ length tokens.now) }
 {
     let (run, rest) = read_expression(alloc, limit, 0, tokens)?;
@@ -112,27 +117,27 @@ pub fn run(alloc: Global, limit: u32, tokens: &[Token]) -> Result<(Expression, &
 fn more_runs(
     alloc: Global,
     limit: u32,
-    first: Expression,
+    first: Box<Expression>,
     tokens: &[Token],
 ) -> Result<(Vec<Expression>, &[Token]), ReadError>
     requires few { length tokens.now < 2 ^ 32 }
     requires room { suc (suc limit) < 2 ^ 32 }
     ensures gives { Gives (λ x. (map expr_of x.0.items, map spelled x.1.now)) result (finished as_they_are
-        (expr_of first ∷ []) (commas (run_at method_readers limit) (length (map spelled tokens.now))
+        (expr_of first.value ∷ []) (commas (run_at method_readers limit) (length (map spelled tokens.now))
         (map spelled tokens.now))) }
-    ensures places { IfOk result (λ x. each_puts (map expr_places x.0.items) (kept x.1.now) ≡ expr_places first
+    ensures places { IfOk result (λ x. each_puts (map expr_places x.0.items) (kept x.1.now) ≡ expr_places first.value
         (kept tokens.now)) }
     ensures shorter { IfOk result (λ x. length x.1.now ≤ length tokens.now) }
 {
     let mut items = Vec::new(alloc);
-    items.push(first)?;
+    push_tree(&mut items, first)?;
     let mut rest = tokens;
     for _ in 0..tokens.len() {
         let Some(after) = after_sign(rest, ",") else {
             break;
         };
         let (next, after) = run(alloc, limit, after)?;
-        items.push(next)?;
+        push_tree(&mut items, next)?;
         rest = after;
     }
     Ok((items, rest))
@@ -159,19 +164,26 @@ fn runs_until<'a>(
     more_runs(alloc, limit, first, rest)
 }
 
+/// What stands before the first `;`, in memory of its own.
+fn boxed_start(alloc: Global, start: StartTree) -> Result<Box<StartTree>, ReadError>
+    ensures { Gives (λ b. b.value) result (Some start) }
+{
+    Ok(Box::new(alloc, start)?)
+}
+
 /// The head of a `for` from its first `;` on (JLS 14.14.1).
 #[tactic(auto, unfolding(crate::specs::HeadReading::counted_head_at))]
 fn counted(
     alloc: Global,
     limit: u32,
-    start: StartTree,
+    start: Box<StartTree>,
     tokens: &[Token],
 ) -> Result<(ForHead, &[Token]), ReadError>
     requires few { length tokens.now < 2 ^ 32 }
     requires room { suc (suc limit) < 2 ^ 32 }
     ensures gives { Gives (λ x. (head_of x.0, map spelled x.1.now)) result (counted_head_at method_readers limit
-        (start_of start) (map spelled tokens.now)) }
-    ensures places { IfOk result (λ x. head_places x.0 (kept x.1.now) ≡ start_places start (kept tokens.now)) }
+        (start_of start.value) (map spelled tokens.now)) }
+    ensures places { IfOk result (λ x. head_places x.0 (kept x.1.now) ≡ start_places start.value (kept tokens.now)) }
     ensures shorter { IfOk result (λ x. length x.1.now ≤ length tokens.now) }
 {
     let rest = sign(tokens, ";")?;
@@ -188,15 +200,15 @@ fn each(
     alloc: Global,
     limit: u32,
     is_final: bool,
-    kind: TypeTree,
+    kind: Box<TypeTree>,
     name: Ident,
     tokens: &[Token],
 ) -> Result<(ForHead, &[Token]), ReadError>
     requires few { length tokens.now < 2 ^ 32 }
     requires room { suc (suc limit) < 2 ^ 32 }
     ensures gives { Gives (λ x. (head_of x.0, map spelled x.1.now)) result (each_head_at method_readers limit is_final
-        (ty_of kind) name.text (map spelled tokens.now)) }
-    ensures places { IfOk result (λ x. head_places x.0 (kept x.1.now) ≡ ty_places kind ++ (name.place
+        (ty_of kind.value) name.text (map spelled tokens.now)) }
+    ensures places { IfOk result (λ x. head_places x.0 (kept x.1.now) ≡ ty_places kind.value ++ (name.place
         ∷ kept tokens.now)) }
     ensures shorter { IfOk result (λ x. length x.1.now ≤ length tokens.now) }
 {
@@ -210,14 +222,14 @@ fn declared(
     alloc: Global,
     limit: u32,
     is_final: bool,
-    kind: TypeTree,
+    kind: Box<TypeTree>,
     tokens: &[Token],
 ) -> Result<(ForHead, &[Token]), ReadError>
     requires few { length tokens.now < 2 ^ 32 }
     requires room { suc (suc limit) < 2 ^ 32 }
     ensures gives { Gives (λ x. (head_of x.0, map spelled x.1.now)) result (declared_head_at method_readers limit
-        is_final (ty_of kind) (map spelled tokens.now)) }
-    ensures places { IfOk result (λ x. head_places x.0 (kept x.1.now) ≡ ty_places kind ++ kept tokens.now) }
+        is_final (ty_of kind.value) (map spelled tokens.now)) }
+    ensures places { IfOk result (λ x. head_places x.0 (kept x.1.now) ≡ ty_places kind.value ++ kept tokens.now) }
     ensures shorter { IfOk result (λ x. length x.1.now ≤ length tokens.now) }
 {
     if let Some((word, rest)) = name_and_colon(tokens) {
@@ -225,7 +237,8 @@ fn declared(
         return each(alloc, limit, is_final, kind, name, rest);
     }
     let (locals, rest) = variables(alloc, limit, is_final, kind, tokens)?;
-    counted(alloc, limit, StartTree::Local(locals), rest)
+    let start = boxed_start(alloc, StartTree::Local(Box::into_inner(locals)))?;
+    counted(alloc, limit, start, rest)
 }
 
 /// The head of a `for` with a declaration in front.
@@ -239,8 +252,8 @@ fn typed(alloc: Global, limit: u32, tokens: &[Token]) -> Result<(ForHead, &[Toke
     ensures shorter { IfOk result (λ x. length x.1.now ≤ length tokens.now) }
 {
     let (is_final, rest) = final_at(tokens);
-    let (kind, rest) = read_type(alloc, limit, rest)?;
-    declared(alloc, limit, is_final, kind.tree, rest)
+    let (kind, rest) = boxed_type(alloc, limit, rest)?;
+    declared(alloc, limit, is_final, kind, rest)
 }
 
 /// The head of a `for` with expressions in front, or nothing.
@@ -254,7 +267,7 @@ fn untyped(alloc: Global, limit: u32, tokens: &[Token]) -> Result<(ForHead, &[To
     ensures shorter { IfOk result (λ x. length x.1.now ≤ length tokens.now) }
 {
     let (runs, rest) = runs_until(alloc, limit, ";", tokens)?;
-    let start = StartTree::Expressions(Items::from(runs));
+    let start = boxed_start(alloc, StartTree::Expressions(Items::from(runs)))?;
     counted(alloc, limit, start, rest)
 }
 

@@ -1,8 +1,12 @@
 //! Reading declarations of local variables (JLS 14.4).
 ghost use Rattle.std.specs.Prelude.{◌≡◌, ◌++◌};
-ghost use Rattle.std.specs.Prelude.{◌<◌, ◌≤◌, ◌^◌, suc, [], ◌∷◌, length, map, IfOk};
-ghost use Rattle.java_tree.specs.KeptPlaces.{kept, each_puts, ty_places, variable_places, locals_places};
-ghost use Rattle.java_tree.specs.View.{ty_of, variable_of, locals_of};
+ghost use Rattle.std.specs.Prelude.{◌<◌, ◌≤◌, ◌^◌, suc, Some, None, [], ◌∷◌, length, map, IfOk};
+ghost use Rattle.java_tree.specs.KeptPlaces.{kept, each_puts, ty_places, init_places, variable_places};
+ghost use Rattle.java_tree.specs.KeptPlaces.{locals_places};
+ghost use Rattle.method_grammar.specs.TypeReading.{ty_at};
+ghost use Rattle.expression_reader.specs.Closings.{as_read};
+ghost use Rattle.method_reader.specs.HeadReading.{variable_with, locals_with};
+ghost use Rattle.java_tree.specs.View.{ty_of, init_of, variable_of, locals_of};
 ghost use Rattle.method_grammar.specs.Taking.{commas};
 ghost use Rattle.method_grammar.specs.StatementReading.{variable_at, variables_at, locals_at};
 ghost use Rattle.method_grammar.specs.JavaReaders.{method_readers};
@@ -13,13 +17,62 @@ ghost use Rattle.type_reader.specs.ReadAnswer.{Gives};
 
 use super::lookahead::final_at;
 use expression_reader::reading::initialisers::read_initialiser;
+use expression_reader::reading::nested::push_tree;
 use java_lexer::Token;
-use java_tree::{LocalsTree, TypeTree, VariableTree};
+use java_tree::{Ident, Initialiser, LocalsTree, TypeTree, VariableTree};
 use racer_base::Items;
 use std::alloc::Global;
 use type_reader::reading::error::ReadError;
 use type_reader::reading::look::{after_sign, name};
 use type_reader::reading::types::read_type;
+
+/// The type in front, in memory of its own.
+pub fn boxed_type(
+    alloc: Global,
+    limit: u32,
+    tokens: &[Token],
+) -> Result<(Box<TypeTree>, &[Token]), ReadError>
+    requires { length tokens.now < 2 ^ 32 }
+    ensures gives { Gives (λ x. (ty_of x.0.value, map spelled x.1.now)) result (ty_at limit
+        (map spelled tokens.now)) }
+    ensures places { IfOk result (λ x. ty_places x.0.value ++ kept x.1.now ≡ kept tokens.now) }
+    ensures shorter { IfOk result (λ x. length x.1.now ≤ length tokens.now) }
+{
+    let (kind, rest) = read_type(alloc, limit, tokens)?;
+    Ok((Box::new(alloc, kind.tree)?, rest))
+}
+
+/// A variable that begins with nothing.
+fn bare(
+    alloc: Global,
+    name: Ident,
+    tokens: &[Token],
+) -> Result<(Box<VariableTree>, &[Token]), ReadError>
+    ensures gives { Gives (λ x. (variable_of x.0.value, map spelled x.1.now)) result (as_read
+        (variable_with name.text None) (map spelled tokens.now)) }
+    ensures places { IfOk result (λ x. variable_places x.0.value (kept x.1.now) ≡ name.place ∷ kept tokens.now) }
+    ensures shorter { IfOk result (λ x. length x.1.now ≤ length tokens.now) }
+{
+    let initialiser = None;
+    Ok((Box::new(alloc, VariableTree { name, initialiser })?, tokens))
+}
+
+/// A variable that begins with this.
+fn begun(
+    alloc: Global,
+    name: Ident,
+    value: Box<Initialiser>,
+    tokens: &[Token],
+) -> Result<(Box<VariableTree>, &[Token]), ReadError>
+    ensures gives { Gives (λ x. (variable_of x.0.value, map spelled x.1.now)) result (as_read
+        (variable_with name.text (Some (init_of value.value))) (map spelled tokens.now)) }
+    ensures places { IfOk result (λ x. variable_places x.0.value (kept x.1.now) ≡ name.place
+        ∷ init_places value.value (kept tokens.now)) }
+    ensures shorter { IfOk result (λ x. length x.1.now ≤ length tokens.now) }
+{
+    let initialiser = Some(Box::into_inner(value));
+    Ok((Box::new(alloc, VariableTree { name, initialiser })?, tokens))
+}
 
 /// A variable, with what it begins with.
 #[tactic(auto, unfolding(method_grammar::specs::StatementReading::variable_at))]
@@ -27,52 +80,73 @@ fn variable(
     alloc: Global,
     limit: u32,
     tokens: &[Token],
-) -> Result<(VariableTree, &[Token]), ReadError>
+) -> Result<(Box<VariableTree>, &[Token]), ReadError>
     requires few { length tokens.now < 2 ^ 32 }
     requires room { suc (suc limit) < 2 ^ 32 }
-    ensures gives { Gives (λ x. (variable_of x.0, map spelled x.1.now)) result (variable_at method_readers limit
+    ensures gives { Gives (λ x. (variable_of x.0.value, map spelled x.1.now)) result (variable_at method_readers limit
         (map spelled tokens.now)) }
-    ensures places { IfOk result (λ x. variable_places x.0 (kept x.1.now) ≡ kept tokens.now) }
+    ensures places { IfOk result (λ x. variable_places x.0.value (kept x.1.now) ≡ kept tokens.now) }
     ensures shorter { IfOk result (λ x. length x.1.now < length tokens.now) }
 {
     let (name, rest) = name(alloc, tokens)?;
     let Some(after) = after_sign(rest, "=") else {
-        let initialiser = None;
-        return Ok((VariableTree { name, initialiser }, rest));
+        return bare(alloc, name, rest);
     };
     let (value, rest) = read_initialiser(alloc, limit, after)?;
-    let initialiser = Some(value.tree);
-    Ok((VariableTree { name, initialiser }, rest))
+    begun(alloc, name, value.tree, rest)
 }
 
 /// This variable and others, each behind a comma.
 fn more_variables(
     alloc: Global,
     limit: u32,
-    first: VariableTree,
+    first: Box<VariableTree>,
     tokens: &[Token],
 ) -> Result<(Vec<VariableTree>, &[Token]), ReadError>
     requires few { length tokens.now < 2 ^ 32 }
     requires room { suc (suc limit) < 2 ^ 32 }
     ensures gives { Gives (λ x. (map variable_of x.0.items, map spelled x.1.now)) result (finished as_they_are
-        (variable_of first ∷ []) (commas (variable_at method_readers limit) (length (map spelled tokens.now))
+        (variable_of first.value ∷ []) (commas (variable_at method_readers limit) (length (map spelled tokens.now))
         (map spelled tokens.now))) }
-    ensures places { IfOk result (λ x. each_puts (map variable_places x.0.items) (kept x.1.now) ≡ variable_places first
+    ensures places { IfOk result (λ x. each_puts (map variable_places x.0.items) (kept x.1.now)
+        ≡ variable_places first.value
         (kept tokens.now)) }
     ensures shorter { IfOk result (λ x. length x.1.now ≤ length tokens.now) }
 {
     let mut items = Vec::new(alloc);
-    items.push(first)?;
+    push_tree(&mut items, first)?;
     let mut rest = tokens;
     for _ in 0..tokens.len() {
         let Some(after) = after_sign(rest, ",") else {
             break;
         };
         let (next, after) = variable(alloc, limit, after)?;
-        items.push(next)?;
+        push_tree(&mut items, next)?;
         rest = after;
     }
     Ok((items, rest))
+}
+
+/// A declaration of these variables.
+fn declaration(
+    alloc: Global,
+    is_final: bool,
+    kind: Box<TypeTree>,
+    items: Vec<VariableTree>,
+    tokens: &[Token],
+) -> Result<(Box<LocalsTree>, &[Token]), ReadError>
+    ensures gives { Gives (λ x. (locals_of x.0.value, map spelled x.1.now)) result (as_read
+        (locals_with is_final (ty_of kind.value) (map variable_of items.items)) (map spelled tokens.now)) }
+    ensures places { IfOk result (λ x. locals_places x.0.value (kept x.1.now) ≡ ty_places kind.value
+        ++ each_puts (map variable_places items.items) (kept tokens.now)) }
+    ensures shorter { IfOk result (λ x. length x.1.now ≤ length tokens.now) }
+{
+    let locals = LocalsTree {
+        is_final,
+        kind: Box::into_inner(kind),
+        variables: Items::from(items),
+    };
+    Ok((Box::new(alloc, locals)?, tokens))
 }
 
 /// The variables of a declaration of this type.
@@ -81,25 +155,20 @@ pub fn variables(
     alloc: Global,
     limit: u32,
     is_final: bool,
-    kind: TypeTree,
+    kind: Box<TypeTree>,
     tokens: &[Token],
-) -> Result<(LocalsTree, &[Token]), ReadError>
+) -> Result<(Box<LocalsTree>, &[Token]), ReadError>
     requires few { length tokens.now < 2 ^ 32 }
     requires room { suc (suc limit) < 2 ^ 32 }
-    ensures gives { Gives (λ x. (locals_of x.0, map spelled x.1.now)) result (variables_at method_readers limit
-        is_final (ty_of kind) (map spelled tokens.now)) }
-    ensures places { IfOk result (λ x. locals_places x.0 (kept x.1.now) ≡ ty_places kind ++ kept tokens.now) }
+    ensures gives { Gives (λ x. (locals_of x.0.value, map spelled x.1.now)) result (variables_at method_readers limit
+        is_final (ty_of kind.value) (map spelled tokens.now)) }
+    ensures places { IfOk result (λ x. locals_places x.0.value (kept x.1.now)
+        ≡ ty_places kind.value ++ kept tokens.now) }
     ensures shorter { IfOk result (λ x. length x.1.now < length tokens.now) }
 {
     let (first, rest) = variable(alloc, limit, tokens)?;
     let (items, rest) = more_variables(alloc, limit, first, rest)?;
-    let variables = Items::from(items);
-    let locals = LocalsTree {
-        is_final,
-        kind,
-        variables,
-    };
-    Ok((locals, rest))
+    declaration(alloc, is_final, kind, items, rest)
 }
 
 /// A declaration without its `;`.
@@ -108,15 +177,15 @@ pub fn locals(
     alloc: Global,
     limit: u32,
     tokens: &[Token],
-) -> Result<(LocalsTree, &[Token]), ReadError>
+) -> Result<(Box<LocalsTree>, &[Token]), ReadError>
     requires few { length tokens.now < 2 ^ 32 }
     requires room { suc (suc limit) < 2 ^ 32 }
-    ensures gives { Gives (λ x. (locals_of x.0, map spelled x.1.now)) result (locals_at method_readers limit
+    ensures gives { Gives (λ x. (locals_of x.0.value, map spelled x.1.now)) result (locals_at method_readers limit
         (map spelled tokens.now)) }
-    ensures places { IfOk result (λ x. locals_places x.0 (kept x.1.now) ≡ kept tokens.now) }
+    ensures places { IfOk result (λ x. locals_places x.0.value (kept x.1.now) ≡ kept tokens.now) }
     ensures shorter { IfOk result (λ x. length x.1.now < length tokens.now) }
 {
     let (is_final, rest) = final_at(tokens);
-    let (kind, rest) = read_type(alloc, limit, rest)?;
-    variables(alloc, limit, is_final, kind.tree, rest)
+    let (kind, rest) = boxed_type(alloc, limit, rest)?;
+    variables(alloc, limit, is_final, kind, rest)
 }

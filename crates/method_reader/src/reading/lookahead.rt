@@ -10,6 +10,7 @@ ghost use Rattle.method_grammar.specs.Lookahead.{begins_with, is_word_name, is_p
 ghost use Rattle.method_grammar.specs.Lookahead.{name_and_colon, statement_lead, is_constructor, after_modifier};
 ghost use Rattle.method_reader.specs.StatementLeadView.{statement_lead_of, places_from, LeadIsBelow};
 ghost use Rattle.method_grammar.specs.StatementReading.{final_at};
+ghost use Rattle.method_grammar.specs.Taking.{after_keyword};
 ghost use Rattle.type_reader.specs.Tokens.{spelled};
 
 use java_lexer::{Token, TokenKind};
@@ -132,6 +133,16 @@ pub fn final_at(tokens: &[Token]) -> (bool, &[Token])
         Some(rest) => (true, rest),
         None => (false, tokens),
     }
+}
+
+/// The tokens behind an `else`, where it stands in front (JLS 14.9.2).
+pub fn behind_else(tokens: &[Token]) -> Option<&[Token]>
+    ensures gives { MatchOption result (after_keyword (codes "else") (map spelled tokens.now) ≡ None) (λ rest.
+        after_keyword (codes "else") (map spelled tokens.now) ≡ Some (map spelled rest.now)) }
+    ensures places { IfSome result (λ rest. kept rest.now ≡ kept tokens.now) }
+    ensures shorter { IfSome result (λ rest. length rest.now < length tokens.now) }
+{
+    after_keyword(tokens, "else")
 }
 
 /// What a statement begins with.

@@ -13,14 +13,16 @@ ghost use Rattle.type_reader.specs.Tokens.{spelled};
 ghost use Rattle.type_reader.specs.ReadAnswer.{Gives};
 
 use super::heads::{condition, head};
-use super::lines::{boxed, headed, is_body, returned, simple, with_else, without_else};
-use super::lookahead::{StatementLead, statement_lead};
+use super::lines::{is_body, returned, simple};
+use super::lookahead::{StatementLead, behind_else, statement_lead};
+use super::nodes::{block, empty, headed, locked, repeated, with_else, without_else};
+use expression_reader::reading::nested::push_tree;
 use java_lexer::Token;
 use java_tree::{Expression, Statement};
 use racer_base::Place;
 use std::alloc::Global;
 use type_reader::reading::error::ReadError;
-use type_reader::reading::look::{after_keyword, after_sign, sign};
+use type_reader::reading::look::{after_sign, sign};
 
 /// A statement of a nesting of at most `limit`.
 #[cycle(statements)]
@@ -29,12 +31,12 @@ pub fn read_statement(
     alloc: Global,
     limit: u32,
     tokens: &[Token],
-) -> Result<(Statement, &[Token]), ReadError>
+) -> Result<(Box<Statement>, &[Token]), ReadError>
     requires few { length tokens.now < 2 ^ 32 }
     requires room { suc (suc limit) < 2 ^ 32 }
-    ensures gives { Gives (λ x. (stmt_of x.0, map spelled x.1.now)) result (stmt_at method_readers limit
+    ensures gives { Gives (λ x. (stmt_of x.0.value, map spelled x.1.now)) result (stmt_at method_readers limit
         (map spelled tokens.now)) }
-    ensures places { IfOk result (λ x. stmt_places x.0 (kept x.1.now) ≡ kept tokens.now) }
+    ensures places { IfOk result (λ x. stmt_places x.0.value (kept x.1.now) ≡ kept tokens.now) }
     ensures shorter { IfOk result (λ x. length x.1.now ≤ length tokens.now) }
 {
     if limit == 0 {
@@ -45,20 +47,24 @@ pub fn read_statement(
 
 /// A statement with statements of a nesting of at most `limit` in it.
 #[cycle(statements)]
-fn by_lead(alloc: Global, limit: u32, tokens: &[Token]) -> Result<(Statement, &[Token]), ReadError>
+fn by_lead(
+    alloc: Global,
+    limit: u32,
+    tokens: &[Token],
+) -> Result<(Box<Statement>, &[Token]), ReadError>
     requires few { length tokens.now < 2 ^ 32 }
     requires room { suc (suc limit) < 2 ^ 32 }
-    ensures gives { Gives (λ x. (stmt_of x.0, map spelled x.1.now)) result (by_lead method_readers
+    ensures gives { Gives (λ x. (stmt_of x.0.value, map spelled x.1.now)) result (by_lead method_readers
         (stmt_at method_readers limit) (block_at method_readers limit) limit (statement_lead (map spelled tokens.now))
         (map spelled tokens.now)) }
-    ensures places { IfOk result (λ x. stmt_places x.0 (kept x.1.now) ≡ kept tokens.now) }
+    ensures places { IfOk result (λ x. stmt_places x.0.value (kept x.1.now) ≡ kept tokens.now) }
     ensures shorter { IfOk result (λ x. length x.1.now ≤ length tokens.now) }
 {
     match statement_lead(tokens) {
-        StatementLead::Semicolon(rest) => Ok((Statement::Empty, rest)),
+        StatementLead::Semicolon(rest) => empty(alloc, rest),
         StatementLead::Brace(rest) => {
             let (statements, rest) = braces(alloc, limit, rest)?;
-            Ok((Statement::Block(statements), rest))
+            block(alloc, statements, rest)
         }
         StatementLead::IfWord(rest) => if_statement(alloc, limit, rest),
         StatementLead::WhileWord(rest) => while_statement(alloc, limit, rest),
@@ -83,8 +89,7 @@ fn body(
     ensures places { IfOk result (λ x. stmt_places x.0.value (kept x.1.now) ≡ kept tokens.now) }
     ensures shorter { IfOk result (λ x. length x.1.now ≤ length tokens.now) }
 {
-    let (statement, rest) = read_statement(alloc, limit, tokens)?;
-    let body = boxed(alloc, statement)?;
+    let (body, rest) = read_statement(alloc, limit, tokens)?;
     if !is_body(&body) {
         return Err(ReadError::Unformed);
     }
@@ -112,7 +117,7 @@ fn braces(
             return Ok((items, after));
         }
         let (next, after) = read_statement(alloc, limit, rest)?;
-        items.push(next)?;
+        push_tree(&mut items, next)?;
         rest = after;
     }
     Err(ReadError::Unformed)
@@ -147,12 +152,12 @@ fn if_statement(
     alloc: Global,
     limit: u32,
     tokens: &[Token],
-) -> Result<(Statement, &[Token]), ReadError>
+) -> Result<(Box<Statement>, &[Token]), ReadError>
     requires few { length tokens.now < 2 ^ 32 }
     requires room { suc (suc limit) < 2 ^ 32 }
-    ensures gives { Gives (λ x. (stmt_of x.0, map spelled x.1.now)) result (if_at method_readers
+    ensures gives { Gives (λ x. (stmt_of x.0.value, map spelled x.1.now)) result (if_at method_readers
         (stmt_at method_readers limit) limit (map spelled tokens.now)) }
-    ensures places { IfOk result (λ x. stmt_places x.0 (kept x.1.now) ≡ kept tokens.now) }
+    ensures places { IfOk result (λ x. stmt_places x.0.value (kept x.1.now) ≡ kept tokens.now) }
     ensures shorter { IfOk result (λ x. length x.1.now ≤ length tokens.now) }
 {
     let (condition, rest) = condition(alloc, limit, tokens)?;
@@ -166,23 +171,24 @@ fn if_statement(
 fn otherwise(
     alloc: Global,
     limit: u32,
-    condition: Expression,
+    condition: Box<Expression>,
     then: Box<Statement>,
     tokens: &[Token],
-) -> Result<(Statement, &[Token]), ReadError>
+) -> Result<(Box<Statement>, &[Token]), ReadError>
     requires few { length tokens.now < 2 ^ 32 }
     requires room { suc (suc limit) < 2 ^ 32 }
-    ensures gives { Gives (λ x. (stmt_of x.0, map spelled x.1.now)) result (else_at method_readers
-        (stmt_at method_readers limit) (expr_of condition) (stmt_of then.value) (map spelled tokens.now)) }
-    ensures places { IfOk result (λ x. stmt_places x.0 (kept x.1.now) ≡ expr_places condition (stmt_places then.value
+    ensures gives { Gives (λ x. (stmt_of x.0.value, map spelled x.1.now)) result (else_at method_readers
+        (stmt_at method_readers limit) (expr_of condition.value) (stmt_of then.value) (map spelled tokens.now)) }
+    ensures places { IfOk result (λ x. stmt_places x.0.value (kept x.1.now) ≡ expr_places condition.value
+        (stmt_places then.value
         (kept tokens.now))) }
     ensures shorter { IfOk result (λ x. length x.1.now ≤ length tokens.now) }
 {
-    let Some(after) = after_keyword(tokens, "else") else {
-        return Ok((without_else(condition, then), tokens));
+    let Some(after) = behind_else(tokens) else {
+        return without_else(alloc, condition, then, tokens);
     };
     let (other, rest) = body(alloc, limit, after)?;
-    Ok((with_else(condition, then, other), rest))
+    with_else(alloc, condition, then, other, rest)
 }
 
 /// Behind `while` (JLS 14.12).
@@ -192,17 +198,17 @@ fn while_statement(
     alloc: Global,
     limit: u32,
     tokens: &[Token],
-) -> Result<(Statement, &[Token]), ReadError>
+) -> Result<(Box<Statement>, &[Token]), ReadError>
     requires few { length tokens.now < 2 ^ 32 }
     requires room { suc (suc limit) < 2 ^ 32 }
-    ensures gives { Gives (λ x. (stmt_of x.0, map spelled x.1.now)) result (while_at method_readers
+    ensures gives { Gives (λ x. (stmt_of x.0.value, map spelled x.1.now)) result (while_at method_readers
         (stmt_at method_readers limit) limit (map spelled tokens.now)) }
-    ensures places { IfOk result (λ x. stmt_places x.0 (kept x.1.now) ≡ kept tokens.now) }
+    ensures places { IfOk result (λ x. stmt_places x.0.value (kept x.1.now) ≡ kept tokens.now) }
     ensures shorter { IfOk result (λ x. length x.1.now ≤ length tokens.now) }
 {
     let (condition, rest) = condition(alloc, limit, tokens)?;
     let (body, rest) = body(alloc, limit, rest)?;
-    Ok((Statement::While(condition, body), rest))
+    repeated(alloc, condition, body, rest)
 }
 
 /// Behind `for` (JLS 14.14).
@@ -211,17 +217,17 @@ fn for_statement(
     alloc: Global,
     limit: u32,
     tokens: &[Token],
-) -> Result<(Statement, &[Token]), ReadError>
+) -> Result<(Box<Statement>, &[Token]), ReadError>
     requires few { length tokens.now < 2 ^ 32 }
     requires room { suc (suc limit) < 2 ^ 32 }
-    ensures gives { Gives (λ x. (stmt_of x.0, map spelled x.1.now)) result (headed_at method_readers
+    ensures gives { Gives (λ x. (stmt_of x.0.value, map spelled x.1.now)) result (headed_at method_readers
         (stmt_at method_readers limit) limit (map spelled tokens.now)) }
-    ensures places { IfOk result (λ x. stmt_places x.0 (kept x.1.now) ≡ kept tokens.now) }
+    ensures places { IfOk result (λ x. stmt_places x.0.value (kept x.1.now) ≡ kept tokens.now) }
     ensures shorter { IfOk result (λ x. length x.1.now ≤ length tokens.now) }
 {
     let (head, rest) = head(alloc, limit, tokens)?;
     let (body, rest) = body(alloc, limit, rest)?;
-    Ok((headed(head, body), rest))
+    headed(alloc, head, body, rest)
 }
 
 /// Behind `synchronized`, which stands at this place (JLS 14.19).
@@ -232,15 +238,15 @@ fn synchronized(
     limit: u32,
     place: Place,
     tokens: &[Token],
-) -> Result<(Statement, &[Token]), ReadError>
+) -> Result<(Box<Statement>, &[Token]), ReadError>
     requires few { length tokens.now < 2 ^ 32 }
     requires room { suc (suc limit) < 2 ^ 32 }
-    ensures gives { Gives (λ x. (stmt_of x.0, map spelled x.1.now)) result (sync_at method_readers
+    ensures gives { Gives (λ x. (stmt_of x.0.value, map spelled x.1.now)) result (sync_at method_readers
         (block_at method_readers limit) limit (map spelled tokens.now)) }
-    ensures places { IfOk result (λ x. stmt_places x.0 (kept x.1.now) ≡ place ∷ kept tokens.now) }
+    ensures places { IfOk result (λ x. stmt_places x.0.value (kept x.1.now) ≡ place ∷ kept tokens.now) }
     ensures shorter { IfOk result (λ x. length x.1.now ≤ length tokens.now) }
 {
     let (lock, rest) = condition(alloc, limit, tokens)?;
     let (statements, rest) = read_block(alloc, limit, rest)?;
-    Ok((Statement::Sync(place, lock, statements), rest))
+    locked(alloc, place, lock, statements, rest)
 }

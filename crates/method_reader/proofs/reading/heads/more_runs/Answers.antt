@@ -17,7 +17,8 @@ use Rattle.method_reader.proofs.reading.heads.more_runs.Goals.{else-loop-test, t
 pub returns-in_err-next-clause-gives : goal.returns-in_err-next-clause-gives
 returns-in_err-next-clause-gives c =
     let read = run_at method_readers c.args.limit in
-    let total = finished as_they_are (expr_of c.args.first ∷ []) (commas read (length (map spelled c.args.tokens.now))
+    let total = finished as_they_are (expr_of c.args.first.value ∷ []) (commas read (length
+    (map spelled c.args.tokens.now))
     (map spelled c.args.tokens.now)) in
     let p = err_from_is_err_and c.from_residual-in_err-next.result c.from_residual-in_err-next.ensures.1 in
     rw (p.1, p.2) (comma_fails read as_they_are total c.args.tokens.now c.loop.counter
@@ -27,18 +28,19 @@ returns-in_err-next-clause-gives c =
 
 pub loop-preserved : goal.loop-preserved
 loop-preserved c =
-    let n = c.in_ok-next.next in
-    let e : map expr_of c.push-in-loop.new.self.items ≡ map expr_of c.loop.items.items ++ expr_of n ∷ [] =
-    rw c.in_ok-push-2.ensures.items (map_push _ c.loop.items.items n) in
+    let n = c.in_ok-next.next.value in
+    let e : map expr_of c.push_tree-in-loop.new.trees.items ≡ map expr_of c.loop.items.items ++ expr_of n ∷ [] =
+    rw c.in_ok-push_tree-2.ensures.items (map_push _ c.loop.items.items n) in
     let read = run_at method_readers c.args.limit in
-    let total = finished as_they_are (expr_of c.args.first ∷ []) (commas read (length (map spelled c.args.tokens.now))
+    let total = finished as_they_are (expr_of c.args.first.value ∷ []) (commas read (length
+    (map spelled c.args.tokens.now))
     (map spelled c.args.tokens.now)) in
     record {
       gives = rw e (comma_goes_on read as_they_are total c.args.tokens.now c.loop.counter
           (map expr_of c.loop.items.items) (expr_of n) (map spelled c.loop.rest.now) (map spelled c.in-Some.after.now)
           (map spelled c.in_ok-next.after.now) c.loop-test.true c.in-Some.ensures.gives c.in_ok-next.ensures.gives
           c.loop.invariant.gives);
-      places = rw c.in_ok-push-2.ensures.items (one_put expr_places c.loop.items.items n (kept c.loop.rest.now)
+      places = rw c.in_ok-push_tree-2.ensures.items (one_put expr_places c.loop.items.items n (kept c.loop.rest.now)
           (kept c.in_ok-next.after.now) _ (c.in_ok-next.ensures.places ∙ c.in-Some.ensures.places)
           c.loop.invariant.places);
       shorter = omega (arith, c.in-Some.ensures.shorter, c.in_ok-next.ensures.shorter);
@@ -47,7 +49,8 @@ loop-preserved c =
 pub returns-clause-gives : goal.returns-clause-gives
 returns-clause-gives c =
     let read = run_at method_readers c.args.limit in
-    let total = finished as_they_are (expr_of c.args.first ∷ []) (commas read (length (map spelled c.args.tokens.now))
+    let total = finished as_they_are (expr_of c.args.first.value ∷ []) (commas read (length
+    (map spelled c.args.tokens.now))
     (map spelled c.args.tokens.now)) in
     elim c.loop-test.branch [
       | else-loop-test w ↦ comma_runs_out read as_they_are total c.args.tokens.now c.loop.counter

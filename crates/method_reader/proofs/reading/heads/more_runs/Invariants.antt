@@ -12,8 +12,8 @@ use Rattle.method_reader.proofs.reading.heads.more_runs.Given as goal
 abbrev pub invariant-loop : goal.invariant-loop
 invariant-loop l = record {
   gives : finished as_they_are (map expr_of l.items.items) (commas (run_at method_readers l.limit)
-      (length (map spelled l.tokens) - l.counter) (map spelled l.rest)) ≡ finished as_they_are (expr_of l.fn.first
+      (length (map spelled l.tokens) - l.counter) (map spelled l.rest)) ≡ finished as_they_are (expr_of l.fn.first.value
       ∷ []) (commas (run_at method_readers l.limit) (length (map spelled l.tokens)) (map spelled l.tokens));
-  places : each_puts (map expr_places l.items.items) (kept l.rest) ≡ expr_places l.fn.first (kept l.tokens);
+  places : each_puts (map expr_places l.items.items) (kept l.rest) ≡ expr_places l.fn.first.value (kept l.tokens);
   shorter : length l.rest ≤ length l.tokens;
 }

@@ -18,7 +18,7 @@ pub returns-in_err-next-clause-gives : goal.returns-in_err-next-clause-gives
 returns-in_err-next-clause-gives c =
     let read = variable_at method_readers c.args.limit in
     let total =
-    finished as_they_are (variable_of c.args.first ∷ []) (commas read (length (map spelled c.args.tokens.now))
+    finished as_they_are (variable_of c.args.first.value ∷ []) (commas read (length (map spelled c.args.tokens.now))
     (map spelled c.args.tokens.now)) in
     let p = err_from_is_err_and c.from_residual-in_err-next.result c.from_residual-in_err-next.ensures.1 in
     rw (p.1, p.2) (comma_fails read as_they_are total c.args.tokens.now c.loop.counter (map variable_of
@@ -27,19 +27,20 @@ returns-in_err-next-clause-gives c =
 
 pub loop-preserved : goal.loop-preserved
 loop-preserved c =
-    let n = c.in_ok-next.next in
-    let e : map variable_of c.push-in-loop.new.self.items ≡ map variable_of c.loop.items.items ++ variable_of n ∷ [] =
-    rw c.in_ok-push-2.ensures.items (map_push _ c.loop.items.items n) in
+    let n = c.in_ok-next.next.value in
+    let e : map variable_of c.push_tree-in-loop.new.trees.items
+    ≡ map variable_of c.loop.items.items ++ variable_of n ∷ [] =
+    rw c.in_ok-push_tree-2.ensures.items (map_push _ c.loop.items.items n) in
     let read = variable_at method_readers c.args.limit in
     let total =
-    finished as_they_are (variable_of c.args.first ∷ []) (commas read (length (map spelled c.args.tokens.now))
+    finished as_they_are (variable_of c.args.first.value ∷ []) (commas read (length (map spelled c.args.tokens.now))
     (map spelled c.args.tokens.now)) in
     record {
       gives = rw e (comma_goes_on read as_they_are total c.args.tokens.now c.loop.counter (map variable_of
           c.loop.items.items) (variable_of n) (map spelled c.loop.rest.now) (map spelled c.in-Some.after.now)
           (map spelled c.in_ok-next.after.now) c.loop-test.true c.in-Some.ensures.gives c.in_ok-next.ensures.gives
           c.loop.invariant.gives);
-      places = rw c.in_ok-push-2.ensures.items (one_put variable_places c.loop.items.items n (kept c.loop.rest.now)
+      places = rw c.in_ok-push_tree-2.ensures.items (one_put variable_places c.loop.items.items n (kept c.loop.rest.now)
           (kept c.in_ok-next.after.now) _ (c.in_ok-next.ensures.places ∙ c.in-Some.ensures.places)
           c.loop.invariant.places);
       shorter = omega (arith, c.in-Some.ensures.shorter, c.in_ok-next.ensures.shorter);
@@ -49,7 +50,7 @@ pub returns-clause-gives : goal.returns-clause-gives
 returns-clause-gives c =
     let read = variable_at method_readers c.args.limit in
     let total =
-    finished as_they_are (variable_of c.args.first ∷ []) (commas read (length (map spelled c.args.tokens.now))
+    finished as_they_are (variable_of c.args.first.value ∷ []) (commas read (length (map spelled c.args.tokens.now))
     (map spelled c.args.tokens.now)) in
     elim c.loop-test.branch [
       | else-loop-test w ↦ comma_runs_out read as_they_are total c.args.tokens.now c.loop.counter (map variable_of

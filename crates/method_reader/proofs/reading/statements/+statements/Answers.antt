@@ -33,16 +33,16 @@ braces-returns-in_err-next-clause-gives t c =
 
 pub braces-loop-preserved : goal.braces-loop-preserved
 braces-loop-preserved t c =
-    let n = c.in_ok-next.next in
-    let e : map stmt_of c.push.new.self.items ≡ map stmt_of c.loop.items.items ++ stmt_of n ∷ [] =
-    rw c.in_ok-push.ensures.items (map_push _ c.loop.items.items n) in
+    let n = c.in_ok-next.next.value in
+    let e : map stmt_of c.push_tree.new.trees.items ≡ map stmt_of c.loop.items.items ++ stmt_of n ∷ [] =
+    rw c.in_ok-push_tree.ensures.items (map_push _ c.loop.items.items n) in
     let read = stmt_at method_readers c.args.limit in
     record {
       gives = rw e (statement_goes_on method_readers read block_end (braces_at method_readers read
           (map spelled c.args.tokens.now)) c.args.tokens.now c.loop.counter (map stmt_of c.loop.items.items)
           (stmt_of n) (map spelled c.loop.rest.now) (map spelled c.in_ok-next.after.now) c.loop-test.true
           c.in_default.ensures.gives c.in_ok-next.ensures.gives c.loop.invariant.gives);
-      places = rw c.in_ok-push.ensures.items (one_put stmt_places c.loop.items.items n (kept c.loop.rest.now)
+      places = rw c.in_ok-push_tree.ensures.items (one_put stmt_places c.loop.items.items n (kept c.loop.rest.now)
           (kept c.in_ok-next.after.now) _ c.in_ok-next.ensures.places c.loop.invariant.places);
       shorter = omega (arith, c.in_ok-next.ensures.shorter);
     }
