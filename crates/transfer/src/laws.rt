@@ -12,6 +12,6 @@ ghost use Rattle.access_domain.specs.Summaries.{known_given};
 pub fn outcomes_depend_on_callees()
     ensures { (core : Core) (t u : Table) (m : Method) →
         ((n : MethodId) → Contains (calls_in m.code) n →
-            option_map outcome_from (t n) ≡ option_map outcome_from (u n)) →
+        option_map outcome_from (t n) ≡ option_map outcome_from (u n)) →
         outcome_from (known_given core t m) ≡ outcome_from (known_given core u m) }
 {}

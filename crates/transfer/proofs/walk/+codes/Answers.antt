@@ -150,7 +150,7 @@ repeat-returns-in-Err t c =
     let one : total - at.round ≡ suc (total - (at.round + 1)) =
     omega (arith, c.loop-round-test.true, c.rounds-round-end.ensures) in
     rounds-stopped body (total - at.round) (total - (at.round + 1)) start at.here c.args.found.now at.found
-    c.in-Err.stop     one at.invariant c.in-Err.ensures.found
+    c.in-Err.stop one at.invariant c.in-Err.ensures.found
 
 pub repeat-returns-then-not-found : goal.repeat-returns-then-not-found
 repeat-returns-then-not-found t c =
