@@ -1,14 +1,11 @@
 //! Calls.
-ghost use Rattle.std.specs.Prelude.{◌≡◌, OnOk};
+ghost use Rattle.std.specs.Prelude.{◌≡◌, Some};
 ghost use Rattle.std.specs.Option.{option_copied};
-ghost use Rattle.owner_domain.specs.declared.value.Value.TheVariants.{Unnamed as NotNamed};
 ghost use Rattle.core_code.specs.declared.code.Op.TheVariants.{Call};
-ghost use Rattle.access_domain.specs.declared.summary.Outcome.TheVariants.{Summary as Held};
-ghost use Rattle.access_domain.specs.Operations.{call_effects, op_effects, replaced, unread};
 ghost use Rattle.access_domain.specs.Findings.{Whole};
+ghost use Rattle.access_domain.specs.Operations.{call_effects, op_effects};
 ghost use Rattle.transfer.specs.Frames.{given};
 ghost use Rattle.transfer.specs.Known.{findings_in, outcome_among};
-ghost use Rattle.transfer.specs.Marks.{IsMarked, marks};
 ghost use Rattle.transfer.specs.Walks.{IsFlow, large_effects, summary_effects};
 
 use crate::found::{Found, Stop};
@@ -17,7 +14,7 @@ use crate::operations::Frame;
 use access_domain::{Outcome, Summary};
 use call_subst::substitute;
 use owner_domain::Value;
-use racer_base::{Memory, MethodId, SiteId};
+use racer_base::{MethodId, SiteId};
 use std::alloc::Global;
 use std::sync::Arc;
 
@@ -55,7 +52,12 @@ pub fn call(
         found.new result }
 {
     match outcome_among(frame.callees, method) {
-        None => call_unknown(count, here, found),
+        None => {
+            let Ok(()) = here.replace(count, Value::Unnamed) else {
+                return Err(Stop::Memory);
+            };
+            Ok(true)
+        }
         Some(Outcome::Large) => call_large(count, here, found),
         Some(Outcome::Summary(summary)) => {
             call_known(
@@ -63,16 +65,6 @@ pub fn call(
             )
         }
     }
-}
-
-/// Calls a method that nothing is known of.
-fn call_unknown(count: u32, here: &mut Here, found: &mut Found) -> Result<bool, Stop>
-    ensures { IsFlow (unread here.old count) here.new found.old found.new result }
-{
-    let Ok(()) = here.replace(count, Value::Unnamed) else {
-        return Err(Stop::Memory);
-    };
-    Ok(true)
 }
 
 /// Calls a method that finds too much.

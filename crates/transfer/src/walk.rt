@@ -12,7 +12,6 @@ use crate::here::Here;
 use crate::operations::{Frame, step};
 use core_code::Code;
 use owner_domain::join;
-use racer_base::Memory;
 use std::alloc::Global;
 
 /// Goes through a piece of code; whether it goes on behind it.
