@@ -116,6 +116,7 @@ module _ (core : Core) (m : Method) where
       record {
         fields = s.fields;
         methods = s.methods;
+        unread = s.unread;
         constructors = s.constructors;
         variables =
             each-last (IsVariable m) around.scope.variables (new_variable around k x) s.variables
@@ -143,6 +144,7 @@ module _ (core : Core) (m : Method) where
       record {
         fields = t.fields;
         methods = t.methods;
+        unread = t.unread;
         constructors = t.constructors;
         variables = s.variables;
         object = s.object;

@@ -67,19 +67,20 @@ module _ (core : Core) (m : Method) (around : Around) (stands : Stands core m ar
 
   pub pushes : (place : Place) (v : VarId) (kind : Kind) (stack : List StackKind) → variable_at m v ≡ Some kind →
       Runs core m (op_at place (Push v)) stack (kind_of kind ∷ stack)
-  pushes place v kind stack e = once core m place (Push v) (ap (λ (o : Option Kind). after_push o stack) e)
+  pushes place v kind stack e = once core m place (Push v) [] (kind_of kind ∷ []) stack refl refl refl (ap (λ
+      (o : Option Kind). after_push o stack) e)
 
   pub sets : (place : Place) (v : VarId) (kind : Kind) (s : StackKind) (stack : List StackKind) →
       variable_at m v ≡ Some kind → fits kind s ≡ true → Runs core m (op_at place (Set v)) (s ∷ stack) (s ∷ stack)
   sets place v kind s stack e h =
-      once core m place (Set v)
+      once core m place (Set v) (s ∷ []) (s ∷ []) stack refl refl refl
       (ap (λ (o : Option Kind). after_set o (s ∷ stack)) e ∙ ap (λ b. where_true b (s ∷ stack)) h)
 
   gets : (place : Place) (f : FieldId) (field : FieldCore) (base : StackKind) (stack : List StackKind) →
       check.field_at core f ≡ Some field → is_base_of field base ≡ true →
       Runs core m (op_at place (Get f)) (base ∷ stack) (kind_of field.kind ∷ stack)
   gets place f field base stack e h =
-      once core m place (Get f)
+      once core m place (Get f) (base ∷ []) (kind_of field.kind ∷ []) stack refl refl refl
       (ap (λ (o : Option FieldCore). after_get o (base ∷ stack)) e
       ∙ ap (λ b. where_true b (kind_of field.kind ∷ stack)) h)
 
@@ -87,13 +88,14 @@ module _ (core : Core) (m : Method) (around : Around) (stands : Stands core m ar
       check.field_at core f ≡ Some field → is_base_of field base ≡ true → fits field.kind s ≡ true →
       Runs core m (op_at place (Put f)) (s ∷ base ∷ stack) (s ∷ stack)
   puts place f field s base stack e h k =
-      once core m place (Put f)
+      once core m place (Put f) (s ∷ base ∷ []) (s ∷ []) stack refl refl refl
       (ap (λ (o : Option FieldCore). after_put o (s ∷ base ∷ stack)) e
       ∙ ap (λ b. where_true (b && fits field.kind s) (s ∷ stack)) h ∙ ap (λ b. where_true b (s ∷ stack)) k)
 
   pub prims : (place : Place) (values stack : List StackKind) (n : ℕ) → length values ≡ n →
       Runs core m (op_at place (Prim n)) (values ++ stack) (Plain ∷ stack)
-  prims place values stack n many = once core m place (Prim n) (popped Plain values stack n many)
+  prims place values stack n many = once core m place (Prim n) values (Plain ∷ []) stack many refl refl
+      (popped Plain values stack n many)
 
   -- ---- what is there
 
@@ -176,7 +178,8 @@ module _ (core : Core) (m : Method) (around : Around) (stands : Stands core m ar
             let fitting = subst (λ k. fits k c.to ≡ true) (sym h.kind_is) c.fitting in (
               c.to,
               fits-suits kind c.to c.fitting,
-              in_turn_7 core m b.1 (once core m around.place Dup refl) (gets name f h.field b.0
+              in_turn_7 core m b.1 (once core m around.place Dup (b.0 ∷ [])
+                  (b.0 ∷ b.0 ∷ []) stack refl refl refl refl) (gets name f h.field b.0
                   (b.0 ∷ stack) h.there b.2) value.2 (prims around.place (value.0 ∷ kind_of h.field.kind ∷ [])
                   (b.0 ∷ stack) 2 refl) c.runs (puts name f h.field c.to b.0 stack h.there b.2 fitting),
             );
@@ -213,7 +216,8 @@ module _ (core : Core) (m : Method) (around : Around) (stands : Stands core m ar
             let fitting = subst (λ k. fits k c.to ≡ true) (sym h.kind_is) c.fitting in (
               c.to,
               tt,
-              in_turn_6 core m b.1 (once core m around.place Dup refl) (gets name f h.field b.0
+              in_turn_6 core m b.1 (once core m around.place Dup (b.0 ∷ [])
+                  (b.0 ∷ b.0 ∷ []) stack refl refl refl refl) (gets name f h.field b.0
                   (b.0 ∷ stack) h.there b.2) (prims around.place (kind_of h.field.kind ∷ [])
                   (b.0 ∷ stack) 1 refl) c.runs (puts name f h.field c.to b.0 stack h.there b.2 fitting),
             );
@@ -270,7 +274,12 @@ module _ (core : Core) (m : Method) (around : Around) (stands : Stands core m ar
       IsBase core m (op around (PushClass c)) (field_core info)
   class-pushed info c same e =
       record {
-        leaves = λ stack. (Class c, once core m around.place (PushClass c) refl, class-base info c same e);
+        leaves = λ stack. (
+          Class c,
+          once core m around.place (PushClass c) []
+              (Class c ∷ []) stack refl refl refl refl,
+          class-base info c same e,
+        );
       }
 
   not-static : (s t : Bool) → (s ≡ true → t ≡ true) → t ≡ false → s ≡ false
@@ -351,8 +360,8 @@ module _ (core : Core) (m : Method) (around : Around) (stands : Stands core m ar
         leaves = λ stack.
             let value = l.leaves stack in (
               Class c,
-              in_turn_3 core m value.2 (once core m around.place Drop refl) (once core m around.place
-                  (PushClass c) refl),
+              in_turn_3 core m value.2 (once core m around.place Drop (value.0 ∷ []) [] stack refl refl refl refl)
+                  (once core m around.place (PushClass c) [] (Class c ∷ []) stack refl refl refl refl),
               class-base info c same is_static,
             );
       }

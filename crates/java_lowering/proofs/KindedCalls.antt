@@ -14,6 +14,12 @@ use Rattle.java_resolver.specs.Meanings.{found}
 use Rattle.core_code.specs.declared.code.Op.TheVariants.{New, Drop, Outside, Call, Unread}
 use Rattle.core_code.specs.Core as core_specs
 use Rattle.core_code.specs.Core.{Core}
+use Rattle.core_code.specs.Calls.{taken_by}
+use Rattle.core_code.specs.Calls as core_calls
+use Rattle.core_code.specs.CallFacts.{is_right_call}
+use Rattle.core_code.proofs.BoolParts.{both}
+use Rattle.std.proofs.Common.{is_none, nat_eq, not}
+use Rattle.std.proofs.lemmas.Bool.{eq-eqb}
 use Rattle.core_code.specs.Kinds.{StackKind, Declared, Opaque, kind_of, fits_class, fits}
 use Rattle.core_code.specs.KindCheck.{Kinds, and_then, below_fitting, after_call}
 use Rattle.java_lowering.specs.ValueKinds.{ValueKind, Of}
@@ -176,16 +182,35 @@ module _ (core : Core) (m : core_specs.Method) (around : Around) (stands : Stand
 
   -- ---- the call
 
-  calls : (place : Place) (n : MethodId) (info : MethodInfo) (count : ℕ) (before stack : List StackKind) →
-      HasMethod core n info → below_fitting (reverse (taken_of info)) before ≡ Some stack →
-      Runs core m (op_at place (Call n count)) before (kind_of info.result ∷ stack)
-  calls place n info count before stack h e =
-      once core m place (Call n count)
-      (ap (λ o. after_call o before) h.there
-      ∙ ap (λ kinds. and_then (below_fitting (reverse kinds) before) (λ rest. Some (kind_of h.method.result ∷ rest)))
-      h.takes
+  call-right : (n : MethodId) (info : MethodInfo) (count : ℕ) → HasMethod core n info →
+      length (taken_of info) ≡ count → is_right_call core (Call n count) ≡ true
+  call-right n info count h many =
+      both (core_calls.is_analysed core n) _
+      (ap (λ o. elim o as (λ _. Bool) [ None ↦ false | Some method ↦ is_none method.status ]) h.there ∙ h.analysed)
+      (ap (λ o. elim o as (λ _. Bool) [ None ↦ false | Some method ↦ nat_eq count (length (taken_by method)) ]) h.there
+      ∙ eq-eqb count (length (taken_by h.method)) (sym many ∙ ap (length {A = Kind}) (sym h.takes)))
+
+  calls : (place : Place) (n : MethodId) (info : MethodInfo) (count : ℕ) (values stack : List StackKind) →
+      HasMethod core n info → length values ≡ count → length (taken_of info) ≡ count →
+      below_fitting (reverse (taken_of info)) (values ++ stack) ≡ Some stack →
+      Runs core m (op_at place (Call n count)) (values ++ stack) (kind_of info.result ∷ stack)
+  calls place n info count values stack h many taken e =
+      once core m place (Call n count) values (kind_of info.result ∷ []) stack many refl
+      (call-right n info count h taken)
+      (ap (λ o. after_call o (values ++ stack)) h.there
+      ∙ ap (λ kinds. and_then (below_fitting (reverse kinds) (values ++ stack))
+      (λ rest. Some (kind_of h.method.result ∷ rest))) h.takes
       ∙ ap (λ (o : Kinds). and_then o (λ rest. Some (kind_of h.method.result ∷ rest))) e
       ∙ ap (λ k. Some (kind_of k ∷ stack)) h.gives)
+
+  unreads : (place : Place) (n : MethodId) (count : ℕ) (values stack : List StackKind) → is_analysed around n ≡ false →
+      length values ≡ count → Runs core m (op_at place (Unread n count)) (values ++ stack) (Opaque ∷ stack)
+  unreads place n count values stack e many =
+      once core m place (Unread n count) values (Opaque ∷ []) stack many refl (ap not (stands.unread n e))
+      (popped Opaque values stack count many)
+
+  abbrev taken_by_test : MethodInfo → Bool → List Kind
+  taken_by_test info b = cond b info.parameters (types.Declared info.class ∷ info.parameters)
 
   static-call : (place : Place) (n : MethodId) (info : MethodInfo) (count : ℕ) (arguments : Passing) →
       ((kinds : List Kind) → PassedTo core m (arguments kinds) kinds count) → info_at around n ≡ Some info →
@@ -201,7 +226,9 @@ module _ (core : Core) (m : core_specs.Method) (around : Around) (stands : Stand
             (p.0 ++ stack)) static_is ∙ p.3 many stack in (
               kind_of info.result,
               suits-own info.result,
-              followed core m p.1 (calls place n info count (p.0 ++ stack) stack (stands.methods n info there e) takes),
+              followed core m p.1
+                  (calls place n info count p.0 stack (stands.methods n info there e) p.2
+                  (ap (λ b. length (taken_by_test info b)) static_is ∙ many) takes),
             );
       }
   static-call place n info count arguments passing there static_is many false e =
@@ -210,7 +237,7 @@ module _ (core : Core) (m : core_specs.Method) (around : Around) (stands : Stand
             let p = (passing []).passes stack in (
               Opaque,
               suits-opaque info.result,
-              followed core m p.1 (once core m place (Unread n count) (popped Opaque p.0 stack count p.2)),
+              followed core m p.1 (unreads place n count p.0 stack e p.2),
             );
       }
 
@@ -237,28 +264,33 @@ module _ (core : Core) (m : core_specs.Method) (around : Around) (stands : Stand
         leaves = λ stack.
             let object = r.leaves stack in
             let p = (passing info.parameters).passes (object.0 ∷ stack) in
-            let takes : below_fitting (reverse (taken_of info)) (p.0 ++ object.0 ∷ stack) ≡ Some stack =
-            ap (λ b. below_fitting (reverse (cond b info.parameters (types.Declared info.class ∷ info.parameters)))
-            (p.0 ++ object.0 ∷ stack)) static_is
+            let values = p.0 ++ object.0 ∷ [] in
+            let grouped_values = append_assoc p.0 (object.0 ∷ []) stack in
+            let takes : below_fitting (reverse (taken_of info)) (values ++ stack) ≡ Some stack =
+            ap (below_fitting (reverse (taken_of info))) grouped_values
+            ∙ ap (λ b. below_fitting (reverse (taken_by_test info b)) (p.0 ++ object.0 ∷ stack)) static_is
             ∙ below_first (types.Declared info.class) info.parameters p.0 object.0 stack
-            (p.3 many (object.0 ∷ stack)) object.2 in (
-              kind_of info.result,
-              suits-own info.result,
-              in_turn_3 core m object.1 p.1 (calls place n info (suc count) (p.0 ++ object.0 ∷ stack) stack
-                  (stands.methods n info there e) takes),
-            );
+            (p.3 many (object.0 ∷ stack)) object.2 in
+            let taken : length (taken_of info) ≡ suc count =
+            ap (λ b. length (taken_by_test info b)) static_is ∙ ap suc many in
+            let runs : Runs core m (op_at place (Call n (suc count))) (p.0 ++ object.0 ∷ stack)
+            (kind_of info.result ∷ stack) =
+            subst (λ before. Runs core m (op_at place (Call n (suc count))) before (kind_of info.result ∷ stack))
+            grouped_values
+            (calls place n info (suc count) values stack (stands.methods n info there e)
+            (one_more p.0 object.0 count p.2) taken takes) in
+            (kind_of info.result, suits-own info.result, in_turn_3 core m object.1 p.1 runs);
       }
   object-call place n info count receiver arguments passing r there static_is many false e =
       record {
         leaves = λ stack.
             let object = r.leaves stack in
             let p = (passing []).passes (object.0 ∷ stack) in
-            let pops : Runs core m (op_at place (Unread n (suc count))) (p.0 ++ object.0 ∷ stack) (Opaque ∷ stack) =
+            let runs : Runs core m (op_at place (Unread n (suc count))) (p.0 ++ object.0 ∷ stack) (Opaque ∷ stack) =
             subst (λ before. Runs core m (op_at place (Unread n (suc count))) before (Opaque ∷ stack))
             (append_assoc p.0 (object.0 ∷ []) stack)
-            (once core m place (Unread n (suc count))
-            (popped Opaque (p.0 ++ object.0 ∷ []) stack (suc count) (one_more p.0 object.0 count p.2))) in
-            (Opaque, suits-opaque info.result, in_turn_3 core m object.1 p.1 pops);
+            (unreads place n (suc count) (p.0 ++ object.0 ∷ []) stack e (one_more p.0 object.0 count p.2)) in
+            (Opaque, suits-opaque info.result, in_turn_3 core m object.1 p.1 runs);
       }
 
   pub object-called : (place : Place) (n : MethodId) (c : ClassId) (count : ℕ) (receiver : Code) (arguments : Passing) →
@@ -321,7 +353,8 @@ module _ (core : Core) (m : core_specs.Method) (around : Around) (stands : Stand
               rest.0,
               rest.1,
               grouped core m (e ++ op around Drop) (arguments (parameter_kinds around n)) (call_at around place n count)
-                  (in_turn_3 core m value.2 (once core m around.place Drop refl) rest.2),
+                  (in_turn_3 core m value.2 (once core m around.place Drop
+                  (value.0 ∷ []) [] stack refl refl refl refl) rest.2),
             );
       }
 
@@ -380,7 +413,14 @@ module _ (core : Core) (m : core_specs.Method) (around : Around) (stands : Stand
 
   created : (place : Place) (c : ClassId) → Receives core m (op_at place (New c)) c
   created place c =
-      record { leaves = λ stack. (Declared c, once core m place (New c) refl, class_same c) }
+      record {
+        leaves = λ stack. (
+          Declared c,
+          once core m place (New c) []
+              (Declared c ∷ []) stack refl refl refl refl,
+          class_same c,
+        );
+      }
 
   constructed : (place : Place) (n : MethodId) (c : ClassId) (count : ℕ) (arguments : Passing) →
       ((kinds : List Kind) → PassedTo core m (arguments kinds) kinds count) →

@@ -57,7 +57,14 @@ module _ (core : Core) (m : Method) (around : Around) (stands : Stands core m ar
 
   class-leaves : (o : Option ClassId) → Leaves core m (class_object around o) (Of types.Other)
   class-leaves None = record { leaves = λ stack. (Opaque, tt, outside core m around.place [] stack 0 refl) }
-  class-leaves (Some c) = record { leaves = λ stack. (Class c, tt, once core m around.place (PushClass c) refl) }
+  class-leaves (Some c) = record {
+    leaves = λ stack. (
+      Class c,
+      tt,
+      once core m around.place (PushClass c) []
+          (Class c ∷ []) stack refl refl refl refl,
+    );
+  }
 
   cast-leaves : {e : Code} {given : ValueKind} (k : Kind) → Leaves core m e given →
       Leaves core m (e ++ cast around k) (Of k)
@@ -136,7 +143,8 @@ module _ (core : Core) (m : Method) (around : Around) (stands : Stands core m ar
             let second = q.leaves stack in (
               joined_kind first.0 second.0,
               suits-common k l first.0 second.0 first.1 second.1,
-              in_turn_3 core m value.2 (once core m around.place Drop refl) (chosen core m first.2 second.2
+              in_turn_3 core m value.2 (once core m around.place Drop (value.0 ∷ []) [] stack refl refl refl refl)
+                  (chosen core m first.2 second.2
                   (joined_stack-top first.0 second.0 stack)),
             );
       }
@@ -157,9 +165,23 @@ module _ (core : Core) (m : Method) (around : Around) (stands : Stands core m ar
 
   mutual
     pub code-leaves : (e : Expr) → Leaves core m (code around e) (kind around e)
-    code-leaves tree.Prim = record { leaves = λ stack. (Plain, tt, once core m around.place PushPrim refl) }
+    code-leaves tree.Prim = record {
+      leaves = λ stack. (
+        Plain,
+        tt,
+        once core m around.place PushPrim []
+            (Plain ∷ []) stack refl refl refl refl,
+      );
+    }
     code-leaves Text = record { leaves = λ stack. (Opaque, tt, outside core m around.place [] stack 0 refl) }
-    code-leaves tree.Null = record { leaves = λ stack. (Null, refl, once core m around.place PushNull refl) }
+    code-leaves tree.Null = record {
+      leaves = λ stack. (
+        Null,
+        refl,
+        once core m around.place PushNull []
+            (Null ∷ []) stack refl refl refl refl,
+      );
+    }
     code-leaves This = this-by around.scope.is_static refl
     code-leaves (ClassOf xs) = class-leaves (class_written around xs)
     code-leaves (Read a) =

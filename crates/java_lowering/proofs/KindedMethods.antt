@@ -30,6 +30,7 @@ use Rattle.core_code.specs.KindCheck.{Kinds, and_then, where_true, kinds_after, 
 use Rattle.core_code.specs.KindCheck.{begins_with}
 use Rattle.core_code.specs.KindCheck.{is_kinded, variable_at}
 use Rattle.core_code.specs.Calls.{taken_by}
+use Rattle.core_code.specs.Calls as core_calls
 use Rattle.core_code.proofs.BoolParts.{both}
 use Rattle.java_lowering.specs.Trees.{Stmts}
 use Rattle.java_lowering.specs.TreesOf.{init_of}
@@ -93,7 +94,8 @@ module _ (core : Core) (m : Method) where
   dropped : (around : Around) {code : Code} {kind : ValueKind} → Leaves core m code kind →
       Keeps core m (code ++ op around Drop)
   dropped around l =
-      let value = l.leaves [] in followed core m value.2 (once core m around.place Drop refl)
+      let value = l.leaves [] in followed core m value.2 (once core m around.place Drop
+      (value.0 ∷ []) [] [] refl refl refl refl)
 
   unread-leaves : (around : Around) (k : ValueKind) → Leaves core m (unread around k) (Of types.Other)
   unread-leaves around value.Null = record {
@@ -101,7 +103,14 @@ module _ (core : Core) (m : Method) where
         (Opaque, tt, outside core m around.place [] stack 0 refl);
   }
   unread-leaves around (Of types.Plain) =
-      record { leaves = λ stack. (Plain, tt, once core m around.place PushPrim refl) }
+      record {
+        leaves = λ stack. (
+          Plain,
+          tt,
+          once core m around.place PushPrim []
+              (Plain ∷ []) stack refl refl refl refl,
+        );
+      }
   unread-leaves around (Of (types.Declared c)) =
       record { leaves = λ stack. (Opaque, tt, outside core m around.place [] stack 0 refl) }
   unread-leaves around (Of types.Other) =
@@ -145,6 +154,7 @@ module _ (core : Core) (m : Method) where
       record {
         fields = s.fields;
         methods = s.methods;
+        unread = s.unread;
         constructors = s.constructors;
         variables = tt;
         object = s.object;
@@ -161,7 +171,11 @@ module _ (core : Core) (m : Method) where
 
   owner : (around : Around) → Stands core m around → (b : Bool) → around.scope.is_static ≡ b →
       (lock : StackKind) × Runs core m (cond b (push_own_class around) (push_this around)) [] (lock ∷ [])
-  owner around s true e = (Class around.scope.class, once core m around.place (PushClass around.scope.class) refl)
+  owner around s true e = (
+    Class around.scope.class,
+    once core m around.place (PushClass around.scope.class) []
+        (Class around.scope.class ∷ []) [] refl refl refl refl,
+  )
   owner around s false e = (
     Declared around.scope.class,
     pushes core m around s around.place (record { 0 = 0 }) (types.Declared around.scope.class) [] (s.object e),
@@ -247,6 +261,9 @@ pub record FolderStands (core : Core) (folder : Folder) : Type 0 where
   pub methods : (n : MethodId) (info : MethodInfo) → slice_get folder.methods n.0 ≡ Some info →
       elim (slice_get folder.statuses n.0) as (λ _. Bool) [ None ↦ false | Some status ↦ is_none status ] ≡ true →
       HasMethod core n info
+  pub unread : (n : MethodId) →
+      elim (slice_get folder.statuses n.0) as (λ _. Bool) [ None ↦ false | Some status ↦ is_none status ] ≡ false →
+      core_calls.is_analysed core n ≡ false
   pub constructors : (n : MethodId) (info : MethodInfo) → slice_get folder.methods n.0 ≡ Some info →
       info.is_constructor ≡ true → (info.result ≡ types.Declared info.class) × (info.is_static ≡ false)
 
@@ -299,6 +316,7 @@ module _ (core : Core) (folder : Folder) (known : FolderStands core folder) (inf
       record {
         fields = known.fields;
         methods = known.methods;
+        unread = known.unread;
         constructors = known.constructors;
         variables = tt;
         object = object-there m body h;
@@ -320,32 +338,38 @@ module _ (core : Core) (folder : Folder) (known : FolderStands core folder) (inf
       both (begins_with (taken_by (made body)) (made body).variables)
       (is_some (kinds_after core (made body) (made body).code [])) takes (ap (is_some {T = List StackKind}) code)
 
-  pub kinded : (body : Body) → IsRight (class_names folder.classes) info body → is_kinded core (made body) ≡ true
-  kinded Default right =
+  pub method-keeps : (body : Body) → IsRight (class_names folder.classes) info body →
+      Keeps core (made body) (method_code folder (source body))
+  method-keeps Default right =
       let m = made Default in
       let around = entered folder (source Default) in
       let h : HasKinds m around = record { rest = []; all = sym (append-nil (this_kinds info)) } in
       let s = entered-stands m Default refl h right in
-      checked Default [] (ended-keeps core m around s (fields-keep core m around s members))
-      (sym (append-nil (this_kinds info)) ∙ ap (λ ps. this_kinds info ++ ps) (sym right.2)
-      ∙ sym (append-nil (this_kinds info ++ info.parameters)))
-  kinded (Spelled t) right =
+      ended-keeps core m around s (fields-keep core m around s members)
+  method-keeps (Spelled t) right =
       let m = made (Spelled t) in
       let around = entered folder (source (Spelled t)) in
       let inside = parameters_declared around t.parameters in
       let end = after_all inside (body_of t) in
       let last : HasKinds m end = record { rest = []; all = sym (append-nil end.kinds) } in
-      let grown = grows-after_all inside (body_of t) in
-      let first = has-earlier m inside end grown last in
-      let s = entered-stands m (Spelled t) refl (has-earlier m around inside
-      (grows-parameters around t.parameters) first)
-      right in
+      let first = has-earlier m inside end (grows-after_all inside (body_of t)) last in
+      let s = entered-stands m (Spelled t) refl
+      (has-earlier m around inside (grows-parameters around t.parameters) first) right in
       let stands = parameters-stand core m around t.parameters s first in
-      checked (Spelled t) grown.more
-      (ended-keeps core m around s (spelled-keeps core m inside stands members t last))
+      ended-keeps core m around s (spelled-keeps core m inside stands members t last)
+  method-keeps Unspelled right = nothing core (made Unspelled) []
+
+  pub kinded : (body : Body) → IsRight (class_names folder.classes) info body → is_kinded core (made body) ≡ true
+  kinded Default right =
+      checked Default [] (method-keeps Default right)
+      (sym (append-nil (this_kinds info)) ∙ ap (λ ps. this_kinds info ++ ps) (sym right.2)
+      ∙ sym (append-nil (this_kinds info ++ info.parameters)))
+  kinded (Spelled t) right =
+      let around = entered folder (source (Spelled t)) in
+      let grown = grows-after_all (parameters_declared around t.parameters) (body_of t) in
+      checked (Spelled t) grown.more (method-keeps (Spelled t) right)
       (grown.longer
       ∙ ap (λ kinds. kinds ++ grown.more)
       (kinds-parameters around t.parameters ∙ ap (λ ps. this_kinds info ++ ps) (sym right.1)))
   kinded Unspelled right =
-      let m = made Unspelled in
-      checked Unspelled [] (nothing core m []) (sym (append-nil (this_kinds info ++ info.parameters)))
+      checked Unspelled [] (method-keeps Unspelled right) (sym (append-nil (this_kinds info ++ info.parameters)))

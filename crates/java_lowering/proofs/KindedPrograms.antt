@@ -117,7 +117,7 @@ sources-same units =
 
 -- ---- what is known of methods is right
 
-abbrev IsRightSource : List (List ℕ) → Source → Type 0
+abbrev pub IsRightSource : List (List ℕ) → Source → Type 0
 IsRightSource names s = IsRight names s.info s.body
 
 and-false : (b : Bool) → (b && false) ≡ false
@@ -148,7 +148,7 @@ class-right names c tree =
     (unless (IsRightSource names) (list_any member_is_constructor tree.members) _ ((refl, refl, refl), tt))
     (each-flat_map (IsRightSource names) (member_sources names c tree) (member-right names c tree) tree.members)
 
-sources-right : (units : List unit_type.Unit) → Each (IsRightSource (names_of units)) (sources_of units)
+pub sources-right : (units : List unit_type.Unit) → Each (IsRightSource (names_of units)) (sources_of units)
 sources-right units =
     each-by_class (IsRightSource (names_of units)) (class_sources (names_of units)) (class-right (names_of units)) 0
     (trees_of units)
@@ -214,6 +214,10 @@ mapped : (o : Option Source) (info : MethodInfo) → option_map known o ≡ Some
 mapped None info e = absurd (none-some _ e)
 mapped (Some s) info e = (s, refl, same_Some _ _ e)
 
+pub or-true : (a b : Bool) → b ≡ true → (a || b) ≡ true
+or-true true b h = refl
+or-true false b h = h
+
 module _ (files : List (List ℕ)) (units : List unit_type.Unit) (is_recursive : MethodId → Bool) where
   abbrev folder : Folder
   folder = folder_of units is_recursive
@@ -230,6 +234,7 @@ module _ (files : List (List ℕ)) (units : List unit_type.Unit) (is_recursive :
         there = core-at folder (sources_of units) folder.statuses n.0 s None e f;
         takes = refl;
         gives = refl;
+        analysed = refl;
       })
 
   found-method : (n : MethodId) (info : MethodInfo) → slice_get (methods_of units) n.0 ≡ Some info →
@@ -240,17 +245,25 @@ module _ (files : List (List ℕ)) (units : List unit_type.Unit) (is_recursive :
       ∙ ap (λ (infos : List MethodInfo). slice_get infos n.0) (sources-same units) ∙ e) in
       has_method n s.0 info s.1 s.2 (analysed-none (slice_get folder.statuses n.0) h)
 
-  folder-stands : FolderStands program folder
+  unread-method : (sources : List Source) (statuses : List (Option Reason)) (n : ℕ) →
+      analysed_by (slice_get statuses n) ≡ false →
+      elim (slice_get (method_cores folder sources statuses) n) as (λ _. Bool) [
+        | None ↦ false
+        | Some m ↦ is_none m.status
+      ] ≡ false
+  unread-method [] statuses n h = refl
+  unread-method (s ∷ sources) [] n h = refl
+  unread-method (s ∷ sources) (status ∷ statuses) zero h = h
+  unread-method (s ∷ sources) (status ∷ statuses) (suc n) h = unread-method sources statuses n h
+
+  pub folder-stands : FolderStands program folder
   folder-stands =
       record {
         fields = refl;
         methods = found-method;
+        unread = λ n h. unread-method (sources_of units) folder.statuses n.0 h;
         constructors = λ n info e h. each-at IsMaker (methods_of units) n.0 info (methods-makers units) e h;
       }
-
-  or-true : (a b : Bool) → b ≡ true → (a || b) ≡ true
-  or-true true b h = refl
-  or-true false b h = h
 
   all-kinded : (sources : List Source) (statuses : List (Option Reason)) →
       Each (IsRightSource (names_of units)) sources →

@@ -49,7 +49,7 @@ module _ (core : Core) (m : Method) where
   run-keeps : (around : Around) → Stands core m around → (e : Expr) → Keeps (run around e)
   run-keeps around s e =
       let value = (code-leaves core m around s e).leaves [] in
-      followed core m value.2 (once core m around.place Drop refl)
+      followed core m value.2 (once core m around.place Drop (value.0 ∷ []) [] [] refl refl refl refl)
 
   run_all-keeps : (around : Around) → Stands core m around → (es : Exprs) → Keeps (run_all around es)
   run_all-keeps around s no_expr = nothing core m []
@@ -63,7 +63,8 @@ module _ (core : Core) (m : Method) where
   set-drops : (around : Around) → Stands core m around → (v : VarId) (k : Kind) (s : StackKind) →
       variable_at m v ≡ Some k → fits k s ≡ true → Runs core m (set around v) (s ∷ []) []
   set-drops around stands v k s there h =
-      followed core m (sets core m around stands around.place v k s [] there h) (once core m around.place Drop refl)
+      followed core m (sets core m around stands around.place v k s [] there h) (once core m around.place Drop
+      (s ∷ []) [] [] refl refl refl refl)
 
   begun-keeps : (around : Around) → Stands core m around → (v : VarId) (k : Kind) → variable_at m v ≡ Some k →
       (o : Option Init) → Keeps (begun around v k o)
@@ -94,7 +95,7 @@ module _ (core : Core) (m : Method) where
       Keeps (flat_map (cleared before) vs)
   clears before s [] all = nothing core m []
   clears before s (v ∷ vs) all =
-      followed core m (followed core m (once core m before.place PushNull refl)
+      followed core m (followed core m (once core m before.place PushNull [] (Null ∷ []) [] refl refl refl refl)
       (set-drops before s v.id v.kind Null all.0 (fits-null v.kind))) (clears before s vs all.1)
 
   pub closed-keeps : (before inside : Around) → Stands core m before → Stands core m inside →
@@ -106,7 +107,7 @@ module _ (core : Core) (m : Method) where
   -- ---- returns
 
   returns : (around : Around) (s : StackKind) → fits m.result s ≡ true → Runs core m (op around Ret) (s ∷ []) []
-  returns around s h = once core m around.place Ret (ap (λ b. where_true b []) h)
+  returns around s h = once core m around.place Ret (s ∷ []) [] [] refl refl refl (ap (λ b. where_true b []) h)
 
   itself : (around : Around) → Stands core m around → IsResult m Itself →
       Runs core m (push_this around ++ op around Ret) [] []
@@ -117,7 +118,8 @@ module _ (core : Core) (m : Method) where
 
   a_number : (around : Around) → m.result ≡ types.Plain → Runs core m (op around PushPrim ++ op around Ret) [] []
   a_number around e =
-      followed core m (once core m around.place PushPrim refl) (returns around Plain (subst
+      followed core m (once core m around.place PushPrim [] (Plain ∷ []) [] refl refl refl refl)
+      (returns around Plain (subst
       (λ k. fits k Plain ≡ true) (sym e) refl))
 
   unknown : (around : Around) (k : Kind) → m.result ≡ k →

@@ -9,3 +9,5 @@ pub mod GrownScopes
 pub mod KindedStatements
 pub mod KindedMethods
 pub mod KindedPrograms
+pub mod NumberedCode
+pub mod ProgramFacts

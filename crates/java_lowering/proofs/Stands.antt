@@ -14,6 +14,8 @@ use Rattle.java_resolver.specs.declared.scope.ScopeVariable.{ScopeVariable}
 use Rattle.core_code.specs.declared.parts.FieldCore.{FieldCore}
 use Rattle.core_code.specs.Core.{Core, Method}
 use Rattle.core_code.specs.Calls.{method_at, taken_by}
+use Rattle.core_code.specs.Calls as core_calls
+use Rattle.std.proofs.Common.{false, is_none}
 use Rattle.core_code.specs.KindCheck.{field_at, variable_at}
 use Rattle.java_lowering.specs.Around.{Around, Result, Itself, Nothing, Value, is_analysed}
 use Rattle.java_lowering.specs.Calls.{info_at}
@@ -30,6 +32,7 @@ pub record HasMethod (core : Core) (n : MethodId) (info : MethodInfo) : Type 0 w
   pub there : method_at core n ≡ Some method
   pub takes : taken_by method ≡ taken_of info
   pub gives : method.result ≡ info.result
+  pub analysed : is_none method.status ≡ true
 
 abbrev pub IsVariable : Method → ScopeVariable → Type 0
 IsVariable m v = variable_at m v.id ≡ Some v.kind
@@ -45,6 +48,7 @@ pub record Stands (core : Core) (m : Method) (around : Around) : Type 0 where
   pub fields : core.fields ≡ map field_core around.folder.fields
   pub methods : (n : MethodId) (info : MethodInfo) → info_at around n ≡ Some info → is_analysed around n ≡ true →
       HasMethod core n info
+  pub unread : (n : MethodId) → is_analysed around n ≡ false → core_calls.is_analysed core n ≡ false
   pub constructors : (n : MethodId) (info : MethodInfo) → info_at around n ≡ Some info → info.is_constructor ≡ true →
       (info.result ≡ Declared info.class) × (info.is_static ≡ false)
   pub variables : Each (IsVariable m) around.scope.variables

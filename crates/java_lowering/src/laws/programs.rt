@@ -9,6 +9,8 @@ ghost use Rattle.call_graph.specs.Chains.{flag_of};
 ghost use Rattle.core_code.specs.declared.code.Op.TheVariants.{Push, PushClass, PushPrim, Drop, Ret, Call, Unread};
 ghost use Rattle.core_code.specs.declared.code.Reason.TheVariants.{Overload, Outside, Parameters, Recursive};
 ghost use Rattle.core_code.specs.Core.{Method};
+ghost use Rattle.core_code.specs.Facts.{are_sites_in_order, are_entries_analysed, are_stacks_enough};
+ghost use Rattle.core_code.specs.CallFacts.{do_end_by_return, are_calls_right};
 ghost use Rattle.core_code.specs.KindCheck.{are_kinded};
 ghost use Rattle.core_code.specs.Tree.{Nothing, Then, Either, Again, Held, in_sequence};
 ghost use Rattle.core_code.specs.Pair.{at, step, pair, method_put, method_both};
@@ -72,8 +74,19 @@ pub fn draft_edges()
     }) ≡ 3 }
 {}
 
-/// The code of every method of every program of units is kinded, whichever methods are recursive.
-pub fn kinded_programs()
-    ensures { (files : List (List ℕ)) (units : List Unit) (is_recursive : MethodId → Bool) →
+/// What every program of units keeps, whatever the units, and whichever methods are recursive: the code of all methods
+/// is kinded, pops no empty stack and calls rightly, and that of an analysed method ends by a return alone.
+pub fn facts_of_programs()
+    ensures kinded { (files : List (List ℕ)) (units : List Unit) (is_recursive : MethodId → Bool) →
         IsTrue (are_kinded (program_of files units is_recursive)) }
+    ensures stacks { (files : List (List ℕ)) (units : List Unit) (is_recursive : MethodId → Bool) →
+        IsTrue (are_stacks_enough (program_of files units is_recursive)) }
+    ensures calls { (files : List (List ℕ)) (units : List Unit) (is_recursive : MethodId → Bool) →
+        IsTrue (are_calls_right (program_of files units is_recursive)) }
+    ensures sites { (files : List (List ℕ)) (units : List Unit) (is_recursive : MethodId → Bool) →
+        IsTrue (are_sites_in_order (program_of files units is_recursive)) }
+    ensures entries { (files : List (List ℕ)) (units : List Unit) (is_recursive : MethodId → Bool) →
+        IsTrue (are_entries_analysed (program_of files units is_recursive)) }
+    ensures ends { (files : List (List ℕ)) (units : List Unit) (is_recursive : MethodId → Bool) →
+        IsTrue (do_end_by_return (program_of files units is_recursive)) }
 {}
