@@ -1,9 +1,8 @@
 -- The names of an annotation, one after the other, and annotations among modifiers.
 use Rattle.std.proofs.Common.{◌≡◌, ℕ, Bool, true, false, not, List, [], ◌∷◌, ◌++◌, Option, Some, None, IsTrue}
-use Rattle.std.proofs.Common.{codes, map}
-use Rattle.std.proofs.Common.{refl, ap, sym, ◌∙◌, subst, append-nil}
+use Rattle.std.proofs.Common.{codes}
+use Rattle.std.proofs.Common.{refl, ap, sym, ◌∙◌, append-nil}
 use Rattle.std.specs.Prelude.{◌&&◌, if◌then◌else◌, ◌||◌}
-use Rattle.std.specs.List.{AllZip}
 use Rattle.java_lexer.specs.declared.token.Token.{Token}
 use Rattle.java_tree.specs.declared.words.Spelled.{Spelled}
 use Rattle.java_tree.specs.declared.methods.AnnotationTree.{AnnotationTree}
@@ -14,12 +13,11 @@ use Rattle.java_tree.specs.Spelling.{behind_points, names_onto}
 use Rattle.method_grammar.specs.Lookahead.{begins_with}
 use Rattle.method_grammar.proofs.Ensuring.{name_is, and_first, and_last}
 use Rattle.method_grammar.proofs.Taken.{sign_is}
-use Rattle.java_units.specs.Tokens.{plain, plain_all, is_sign_token, is_name, begins, signed}
+use Rattle.java_units.specs.Tokens.{plain, plain_all, is_sign_token, is_name, begins}
 use Rattle.java_units.specs.Declarations.{is_type_modifier}
 use Rattle.java_units.specs.Pieces.{Piece, is_annotation}
 use Rattle.java_units.specs.Units.{annotations_before, IsAnnotation}
 use Rattle.unit_reader.specs.NamesOfAnnotations.{after_point, AreNames, fits_names, IsInner}
-use Rattle.member_reader.proofs.Zips.{Zips}
 
 -- ---- names
 

@@ -1,6 +1,5 @@
 -- The name of a class, by its first three pieces.
-use Rattle.std.proofs.Common.{◌≡◌, List, [], ◌∷◌, Option, Some, None, refl, ap, ◌∙◌}
-use Rattle.java_lexer.specs.declared.token.Token.{Token}
+use Rattle.std.proofs.Common.{◌≡◌, List, [], ◌∷◌, None, refl, ap, ◌∙◌}
 use Rattle.java_units.specs.Pieces.{Piece}
 use Rattle.java_units.specs.Units.{name_in}
 use Rattle.unit_reader.specs.ClassNames.{named_between}

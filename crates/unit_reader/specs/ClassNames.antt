@@ -1,5 +1,5 @@
 -- No public contract rests on this: the name of a class that is read, between two pieces.
-use Rattle.std.specs.Prelude.{List, [], ◌∷◌, ◌&&◌, ◌||◌, Option, Some, None, codes, if◌then◌else◌}
+use Rattle.std.specs.Prelude.{[], ◌∷◌, ◌&&◌, ◌||◌, Option, Some, None, codes, if◌then◌else◌}
 use Rattle.java_lexer.specs.declared.token.Token.{Token}
 use Rattle.java_units.specs.Tokens.{signed, worded}
 use Rattle.java_units.specs.Pieces.{Piece}
