@@ -1,9 +1,8 @@
 -- Steps in one frame.
-use Rattle.std.proofs.Common.{◌≡◌, ℕ, Ok, Result, sym, ap, ◌∙◌}
+use Rattle.std.proofs.Common.{◌≡◌, Ok, sym, ap, ◌∙◌}
 use Rattle.core_code.specs.Core.{Core}
 use Rattle.racer_base.specs.declared.ids.FieldId.{FieldId}
 use Rattle.core_semantics.specs.declared.answer.StepAnswer.{StepAnswer}
-use Rattle.core_semantics.specs.declared.answer.Why.{Why}
 use Rattle.core_semantics.specs.declared.frame.Frame.{Frame as CodeFrame}
 use Rattle.core_semantics.specs.declared.object.Object.{Object}
 use Rattle.core_semantics.specs.declared.object.Value.{Value}

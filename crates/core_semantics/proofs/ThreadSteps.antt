@@ -1,6 +1,6 @@
 -- Steps of a thread.
-use Rattle.std.proofs.Common.{◌≡◌, ℕ, ◌<◌, ◌≤◌, Bool, true, false, ◌&&◌, cond, List, [], ◌∷◌, None, Some, length, nat_eq, nat_lt}
-use Rattle.std.proofs.Common.{sym, ap, subst, ◌∙◌, lt-ltb, le-ltb, drop}
+use Rattle.std.proofs.Common.{◌≡◌, ◌<◌, ◌≤◌, Bool, cond, List, ◌∷◌}
+use Rattle.std.proofs.Common.{ap, subst, ◌∙◌, lt-ltb, le-ltb, drop}
 use Rattle.core_code.specs.Core.{Core}
 use Rattle.core_code.specs.declared.code.Op.{Op as CoreOp}
 use Rattle.core_code.specs.declared.code.Op.TheVariants.{Ret}
@@ -12,7 +12,7 @@ use Rattle.core_semantics.specs.declared.later.NextStep.{NextStep}
 use Rattle.core_semantics.specs.declared.thread.Running.{Running}
 use Rattle.core_semantics.specs.Answers.{IsAnswer}
 use Rattle.core_semantics.specs.State.{Todo, Store}
-use Rattle.core_semantics.specs.Steps.{Spot, Next, Goes, After, after, frame_step, op_step, operated, returned, todo_step}
+use Rattle.core_semantics.specs.Steps.{Spot, Goes, After, after, frame_step, operated, returned, todo_step}
 use Rattle.core_semantics.specs.Steps.{unlocked, with_todo}
 use Rattle.core_semantics.specs.View.{spot_of, step_of, todo_of}
 use Rattle.core_semantics.proofs.Answered.{along}

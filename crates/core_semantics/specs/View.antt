@@ -1,5 +1,10 @@
 -- A contract of a public call rests on this: what is seen of the machine.
-use Rattle.std.specs.Prelude.{◌≡◌, ℕ, Bool, false, ◌&&◌, nat_eq, List, [], ◌∷◌, Option, None, Some, drop, length, ◌<◌, map, reverse}
+use Rattle.std.specs.Prelude.{◌≡◌, Bool, false, ◌&&◌, nat_eq, List, [], ◌∷◌, Option, None, Some, drop, length, ◌<◌, map, reverse}
+use Rattle.std.specs.Borrow.{Bor}
+use Rattle.racer_base.specs.declared.ids.FieldId.{FieldId}
+use Rattle.racer_base.specs.declared.ids.Touch.{Touch}
+use Rattle.core_semantics.specs.declared.object.Object.{Object}
+use Rattle.core_semantics.specs.Runs.{Access}
 use Rattle.core_code.specs.declared.code.Op.{Op as CoreOp}
 use Rattle.core_code.specs.Tree.{tree_of, in_sequence, is_return}
 use Rattle.core_semantics.specs.declared.later.Later.{Later}
@@ -119,3 +124,7 @@ ends_thread _ r = false
 -- what is seen of a machine
 abbrev pub state_of : Machine → State
 state_of m = record { store = store_of m.store; first = seen_of m.first; second = seen_of m.second }
+
+-- what is seen of an access
+abbrev pub seen_access : Bor Object × FieldId × Touch → Access
+seen_access (o, f, kind) = (o.now, f, kind)

@@ -18,6 +18,7 @@ mod pile;
 mod step;
 mod store;
 mod thread;
+mod touch;
 
 pub use answer::{Holder, StepAnswer, Turn, Why};
 pub use machine::{Machine, begin};

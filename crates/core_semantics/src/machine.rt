@@ -25,8 +25,8 @@ use std::alloc::Global;
 pub struct Machine<'a> {
     alloc: Global,
     store: Store,
-    first: Thread<'a>,
-    second: Thread<'a>,
+    pub(crate) first: Thread<'a>,
+    pub(crate) second: Thread<'a>,
 }
 
 /// The object of a root.

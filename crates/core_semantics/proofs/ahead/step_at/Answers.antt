@@ -1,6 +1,6 @@
-use Rattle.std.proofs.Common.{◌≡◌, ◌+◌, None, sym, ap, ◌∙◌, drop, slice_get}
+use Rattle.std.proofs.Common.{◌+◌, sym, ap, ◌∙◌, drop, slice_get}
 use Rattle.std.specs.Option.{option_copied}
-use Rattle.core_semantics.specs.View.{or_next, todo_of}
+use Rattle.core_semantics.specs.View.{todo_of}
 use Rattle.core_semantics.proofs.Piles.{rest_at, rest_past, rest_past_one}
 use Rattle.core_semantics.proofs.ahead.step_at.Goals as goal
 

@@ -1,4 +1,4 @@
-use Rattle.std.proofs.Common.{◌≡◌, ◌++◌, ◌-◌, ◌<◌, sym, ap, ◌∙◌, arith, length, replicate}
+use Rattle.std.proofs.Common.{◌++◌, ◌-◌, ◌<◌, ap, ◌∙◌, arith, length, replicate}
 use Rattle.core_semantics.specs.declared.object.Value.TheVariants.{Null}
 use Rattle.core_semantics.proofs.Frames.{one_more}
 use Rattle.core_semantics.proofs.frame.with_nulls.Goals as goal

@@ -1,9 +1,7 @@
-use Rattle.std.proofs.Common.{ap, sym, slice_index_or}
-use Rattle.core_code.specs.Program.{core}
+use Rattle.std.proofs.Common.{slice_index_or}
 use Rattle.core_semantics.specs.declared.object.Value.TheVariants.{Null}
-use Rattle.core_semantics.specs.Steps.{inner_step, replaced, top}
-use Rattle.core_semantics.specs.View.{behind, behind_inner, frame_of, inner_of}
-use Rattle.core_semantics.proofs.Answered.{along}
+use Rattle.core_semantics.specs.Steps.{replaced, top}
+use Rattle.core_semantics.specs.View.{behind, frame_of}
 use Rattle.core_semantics.proofs.InnerSteps.{framed}
 use Rattle.core_semantics.proofs.inner.operate.Goals as goal
 

@@ -1,4 +1,4 @@
-use Rattle.std.proofs.Common.{◌≡◌, sym, ap, ◌∙◌}
+use Rattle.std.proofs.Common.{sym, ap, ◌∙◌}
 use Rattle.core_semantics.specs.View.{todo_of}
 use Rattle.core_semantics.proofs.Piles.{empty_pile}
 use Rattle.core_semantics.proofs.later.settle.Goals as goal

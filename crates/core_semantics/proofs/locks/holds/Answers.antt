@@ -1,4 +1,4 @@
-use Rattle.std.proofs.Common.{◌≡◌, Bool, sym, ap, ◌∙◌, reverse}
+use Rattle.std.proofs.Common.{Bool, sym, ap, ◌∙◌, reverse}
 use Rattle.std.proofs.lemmas.List.Sorted.{list_any-IsPermutation, IsPermutation-reverse}
 use Rattle.std.specs.List.{list_any}
 use Rattle.core_semantics.specs.declared.answer.Holder.{Holder}

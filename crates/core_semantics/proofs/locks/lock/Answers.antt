@@ -1,4 +1,4 @@
-use Rattle.std.proofs.Common.{◌≡◌, Ok, sym, ap, ◌∙◌}
+use Rattle.std.proofs.Common.{sym, ap, ◌∙◌}
 use Rattle.core_code.specs.Tree.{tree_of}
 use Rattle.core_semantics.specs.Steps.{after, lock_step, lock_with, locking, monitor_of, top}
 use Rattle.core_semantics.specs.View.{behind_at, frame_of, spot_at}

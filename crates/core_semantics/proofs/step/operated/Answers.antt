@@ -1,5 +1,5 @@
 use Rattle.core_code.specs.Program.{core}
-use Rattle.std.proofs.Common.{◌≡◌, sym, ap, ◌∙◌, drop, arith, ◌≤◌}
+use Rattle.std.proofs.Common.{sym, ap, ◌∙◌, drop}
 use Rattle.core_semantics.specs.Steps.{Goes, after, operated, returned}
 use Rattle.core_semantics.specs.View.{behind_spot, callers_of, spot_of, store_of, todo_of}
 use Rattle.core_semantics.proofs.Answered.{along}

@@ -1,4 +1,4 @@
-use Rattle.std.proofs.Common.{◌≡◌, sym, ap}
+use Rattle.std.proofs.Common.{sym, ap}
 use Rattle.core_semantics.specs.Steps.{Goes, after}
 use Rattle.core_semantics.specs.View.{callers_of, store_of}
 use Rattle.core_semantics.proofs.step.step_next.Goals as goal

@@ -1,4 +1,4 @@
-use Rattle.std.proofs.Common.{◌≡◌, ◌++◌, ◌-◌, ap, ◌∙◌, length, take, drop}
+use Rattle.std.proofs.Common.{◌++◌, ◌-◌, ap, ◌∙◌, length, take, drop}
 use Rattle.core_semantics.proofs.Frames.{top_of_pile}
 use Rattle.core_semantics.proofs.frame.Frame.passed.Goals as goal
 
