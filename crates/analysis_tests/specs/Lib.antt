@@ -1,2 +1,3 @@
 -- No public contract rests on this: the list of files.
 pub mod Loops
+pub mod Small

@@ -1,9 +1,11 @@
-//! The tests of the analysis: graphs of calls, programs, paths, values, records, substitution, warnings. They stand
-//! here, over public calls alone, since a crate with tests is proved twice. There is no code.
+//! The tests of the analysis: graphs of calls, programs, paths, values, records, substitution, methods, warnings. They
+//! stand here, over public calls alone, since a crate with tests is proved twice. There is no code.
 #![tactic(auto)]
 
 #[cfg(test)]
 mod graphs;
+#[cfg(test)]
+mod methods;
 #[cfg(test)]
 mod paths;
 #[cfg(test)]
@@ -18,3 +20,5 @@ mod substitution;
 mod values;
 #[cfg(test)]
 mod warnings;
+#[cfg(test)]
+mod words;

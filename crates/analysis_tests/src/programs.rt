@@ -1,8 +1,10 @@
 //! A program of one class with one field.
 ghost use Rattle.std.specs.Prelude.{◌≡◌, true, false, IfOk, [], ◌∷◌, length};
+ghost use Rattle.core_code.specs.Core.{core_of, method_of};
 ghost use Rattle.core_code.specs.Program.{class_names, field_names};
+ghost use Rattle.analysis_tests.specs.Small as small;
 
-use core_code::{ClassCore, FieldCore, Parts, Program};
+use core_code::{ClassCore, Code, FieldCore, MethodCore, Parts, Program, Reason};
 use racer_base::{ClassId, FieldId, FileId, Items, Kind, Names, Place, Text};
 use std::alloc::Global;
 use std::test::Fail;
@@ -51,6 +53,91 @@ fn fields(alloc: Global, name: &str) -> Result<Items<FieldCore>, Fail>
         recorded: true,
     })?;
     Ok(fields)
+}
+
+fn field(
+    alloc: Global,
+    class: u32,
+    name: &str,
+    kind: Kind,
+    recorded: bool,
+) -> Result<FieldCore, Fail>
+    ensures { IfOk result (λ made. made ≡ small.field class name.now kind recorded) }
+{
+    Ok(FieldCore {
+        class: ClassId(class),
+        name: Text::from_str(alloc, name)?,
+        kind,
+        is_static: false,
+        recorded,
+    })
+}
+
+fn small_fields(alloc: Global) -> Result<Items<FieldCore>, Fail>
+    ensures { IfOk result (λ made. made ≡ small.fields) }
+{
+    let object = Kind::Declared(ClassId(0));
+    let mut fields = Items::new(alloc);
+    fields.push(field(alloc, 0, "f", object, true)?)?;
+    fields.push(field(alloc, 0, "v", Kind::Plain, true)?)?;
+    fields.push(field(alloc, 1, "a", object, true)?)?;
+    fields.push(field(alloc, 1, "b", object, true)?)?;
+    fields.push(field(alloc, 1, "t", Kind::Plain, true)?)?;
+    fields.push(field(alloc, 1, "quiet", object, false)?)?;
+    Ok(fields)
+}
+
+fn small_classes(alloc: Global) -> Result<Items<ClassCore>, Fail>
+    ensures { IfOk result (λ made. made ≡ small.classes) }
+{
+    let mut classes = classes(alloc, "P")?;
+    classes.push(ClassCore {
+        name: Text::from_str(alloc, "Small")?,
+        place: HERE,
+        checked: true,
+    })?;
+    Ok(classes)
+}
+
+fn small_method(alloc: Global) -> Result<MethodCore, Fail>
+    ensures { IfOk result (λ made. method_of made ≡ small.method) }
+{
+    Ok(MethodCore {
+        class: ClassId(1),
+        name: Text::from_str(alloc, "m")?,
+        place: HERE,
+        parameters: Items::new(alloc),
+        result: Kind::Plain,
+        variables: Items::new(alloc),
+        is_static: false,
+        entry: false,
+        main: false,
+        status: Some(Reason::Outside),
+        code: Code::Seq(Vec::new(alloc)),
+    })
+}
+
+fn small_parts(alloc: Global) -> Result<Parts, Fail>
+    ensures { IfOk result (λ made. core_of made ≡ small.small) }
+{
+    let files = files(alloc, "Small.java")?;
+    let classes = small_classes(alloc)?;
+    let fields = small_fields(alloc)?;
+    let mut methods = Items::new(alloc);
+    methods.push(small_method(alloc)?)?;
+    Ok(Parts {
+        files,
+        skipped: Items::new(alloc),
+        classes,
+        fields,
+        methods,
+    })
+}
+
+/// A program of a class P with fields f, of this class, and v, and of one with fields a, b, t and quiet, which is
+/// volatile; a, b and quiet are of class P. It has a method that is not static.
+pub fn small(alloc: Global) -> Result<Program, Fail> {
+    Ok(Program::of(small_parts(alloc)?))
 }
 
 /// A program of a class with a field of a primitive type, and no method.

@@ -8,7 +8,9 @@ ghost use Rattle.analysis_tests.specs.Loops as loops;
 use core_code::{ClassCore, Code, MethodCore, Op, Parts, Program, Reason, call_rows, recursive};
 use racer_base::{ClassId, FileId, Items, Kind, MethodId, Place, SiteId, Text, VarId};
 use std::alloc::Global;
+use std::sync::Arc;
 use std::test::Fail;
+use transfer::outcomes;
 
 const HERE: Place = Place {
     file: FileId(0),
@@ -161,5 +163,22 @@ fn rows_have_each_callee_once(rt: HostRuntime) -> Result<(), Fail> {
     assert!(rt; rows.row(MethodId(2)).is_empty());
     assert!(rt; rows.rank(MethodId(0)) > rows.rank(MethodId(1)));
     assert!(rt; rows.rank(MethodId(1)) > rows.rank(MethodId(2)));
+    Ok(())
+}
+
+#[test]
+fn each_analysed_method_has_its_outcome(rt: HostRuntime) -> Result<(), Fail> {
+    let called = Arc::new(rt.alloc(), program(rt.alloc(), calls(rt.alloc())?)?)?;
+    let found = outcomes(rt.alloc(), &called)?;
+    assert_eq!(rt; found.len(), 3);
+    for outcome in &found {
+        assert!(rt; outcome.is_some());
+    }
+    let unread = Arc::new(rt.alloc(), program(rt.alloc(), unread_calls(rt.alloc())?)?)?;
+    let found = outcomes(rt.alloc(), &unread)?;
+    assert_eq!(rt; found.len(), 3);
+    for outcome in &found {
+        assert!(rt; outcome.is_none());
+    }
     Ok(())
 }
