@@ -2,6 +2,3 @@ mod Written
 mod SortedNames
 mod SourceLemmas
 mod OneStatus
-pub mod FirstPrograms
-pub mod Kept
-pub mod Summed

@@ -1,8 +1,6 @@
 -- A contract of a public call rests on this: the list of files.
 pub mod Number
 pub mod Words
-pub mod FirstCode
-pub mod Walks
 pub mod Source
 pub mod Counted
 pub mod Said

@@ -1,9 +1,7 @@
 //! Reads a folder of Java sources and reports the data races in it.
 #![tactic(auto)]
 
-mod analysis;
 mod laws;
-mod operands;
 mod request;
 mod run;
 mod said;

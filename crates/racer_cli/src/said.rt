@@ -1,9 +1,9 @@
 //! What a run has to say.
-ghost use Rattle.std.specs.Prelude.{◌≡◌, ◌≢◌, ◌<◌, IfOk, IfSome, IsTrue, OnOk, true};
+ghost use Rattle.std.specs.Prelude.{◌≡◌, ◌≢◌, ◌<◌, IfOk, IfSome, OnOk, true};
 ghost use Rattle.std.specs.FinMap as finite;
 ghost use Rattle.racer_base.specs.Outside.{last_count};
 ghost use Rattle.core_code.specs.Program.{core};
-ghost use Rattle.racer_cli.specs.FirstCode.{is_first_program};
+ghost use Rattle.access_domain.specs.Outcomes.{AreOutcomes};
 ghost use Rattle.racer_cli.specs.Source.{IsOneSource, Accepted, count_of, no_program, refusal_line};
 ghost use Rattle.racer_cli.specs.Source.{source_names, Source};
 ghost use Rattle.racer_cli.specs.Said.{said_from, Says};
@@ -11,16 +11,18 @@ ghost use Rattle.racer_cli.specs.Counted.{count_told};
 ghost use Rattle.racer_cli.specs.Causes.{asked_of, AsksFor, IsDue, is_said};
 ghost use Rattle.racer_cli.specs.FolderCalls.{CountsFaults, FailsByMemory, IsSaidOfFile, IsSaidOfCount};
 
-use crate::analysis::outcomes;
 use crate::request::requested_folder;
 use crate::source::source_program;
 use crate::sources::{Counted, count, sources};
 use crate::status::Status;
+use access_domain::Outcomes;
 use core_code::{Parts, Program};
 use race_pairs::warnings;
 use race_report::report;
 use racer_base::{Folder, FolderFault, Items, MAX_FILE_BYTES, Memory, Text};
 use std::alloc::Global;
+use std::sync::Arc;
+use transfer::outcomes;
 
 /// The text that a run writes, and the status that it has once the text is written.
 #[derive(Drop)]
@@ -40,14 +42,13 @@ fn refused(alloc: Global, name: &str) -> Result<Said, Memory>
     })
 }
 
-/// The report on a program.
-fn reported(alloc: Global, program: &Program) -> Result<Said, Memory>
-    requires { IsTrue (is_first_program (core program.now)) }
+/// The report on a program whose methods have these outcomes.
+fn said_of(alloc: Global, program: &Program, outcomes: &Outcomes) -> Result<Said, Memory>
+    requires { AreOutcomes (core program.now) outcomes.now.items }
     ensures status { IfOk result (λ said. is_said said.status ≡ true) }
     ensures said { IfOk result (λ said. said ≡ said_from (Accepted (core program.now))) }
 {
-    let outcomes = outcomes(alloc, program)?;
-    let found = warnings(alloc, program, &outcomes)?;
+    let found = warnings(alloc, program, outcomes)?;
     let text = report(alloc, program, outcomes.as_slice(), found.as_slice())?;
     let status = if found.is_empty() {
         Status::Clean
@@ -60,10 +61,19 @@ fn reported(alloc: Global, program: &Program) -> Result<Said, Memory>
     })
 }
 
+/// The report on a program.
+fn reported(alloc: Global, program: Program) -> Result<Said, Memory>
+    ensures status { IfOk result (λ said. is_said said.status ≡ true) }
+    ensures said { IfOk result (λ said. said ≡ said_from (Accepted (core program))) }
+{
+    let program = Arc::new(alloc, program)?;
+    let outcomes = outcomes(alloc, &program)?;
+    said_of(alloc, &*program, &outcomes)
+}
+
 /// The program of no source.
 fn nothing(alloc: Global) -> Program
-    ensures program { core result ≡ no_program }
-    ensures first_code { IsTrue (is_first_program (core result)) }
+    ensures { core result ≡ no_program }
 {
     Program::of(Parts {
         files: Items::new(alloc),
@@ -79,7 +89,7 @@ fn reported_nothing(alloc: Global) -> Result<Said, Memory>
     ensures status { IfOk result (λ said. is_said said.status ≡ true) }
     ensures said { IfOk result (λ said. said ≡ said_from (Accepted no_program)) }
 {
-    reported(alloc, &nothing(alloc))
+    reported(alloc, nothing(alloc))
 }
 
 /// What is said of a source of this name and these bytes.
@@ -89,7 +99,7 @@ fn said_of_source(alloc: Global, name: &str, bytes: &[u8]) -> Result<Said, Memor
         (source : Source) × IsOneSource name.now bytes.now source × (said ≡ said_from source)) }
 {
     match source_program(alloc, name, bytes)? {
-        Some(program) => reported(alloc, &program),
+        Some(program) => reported(alloc, program),
         None => refused(alloc, name),
     }
 }

@@ -1,7 +1,5 @@
 //! One source: from its bytes to its program.
-ghost use Rattle.std.specs.Prelude.{◌≡◌, IfOk, IfSome, IsTrue};
-ghost use Rattle.core_code.specs.Program.{core};
-ghost use Rattle.racer_cli.specs.FirstCode.{is_first_program};
+ghost use Rattle.std.specs.Prelude.{IfOk};
 ghost use Rattle.racer_cli.specs.Source.{IsOneSource, source_found};
 
 use core_code::Program;
@@ -14,8 +12,7 @@ use std::alloc::Global;
 /// The program of a source of this name and these bytes, or none where they are too many or no file of the
 /// first grammar.
 pub fn source_program(alloc: Global, name: &str, bytes: &[u8]) -> Result<Option<Program>, Memory>
-    ensures source { IfOk result (λ found. IsOneSource name.now bytes.now (source_found name.now found)) }
-    ensures first_code { IfOk result (λ found. IfSome found (λ program. IsTrue (is_first_program (core program)))) }
+    ensures { IfOk result (λ found. IsOneSource name.now bytes.now (source_found name.now found)) }
 {
     if bytes.len() > MAX_FILE_BYTES {
         return Ok(None);

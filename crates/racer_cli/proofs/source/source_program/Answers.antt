@@ -3,15 +3,12 @@ use Rattle.std.specs.List.{All}
 use Rattle.java_lexer.specs.declared.token.Token.{Token}
 use Rattle.java_parser.specs.declared.first.FirstClass.{FirstClass}
 use Rattle.java_parser.specs.View.{classes_of}
-use Rattle.core_code.specs.Core.{Core}
 use Rattle.core_lowering.specs.InFile.{are_in_file}
 use Rattle.core_lowering.specs.Named.{are_named}
-use Rattle.racer_cli.specs.FirstCode.{is_first_program}
 use Rattle.core_lowering.proofs.Placed.{placed_by_tokens}
 use Rattle.core_lowering.proofs.NamedTokens.{IsNamed, tokens_named}
 use Rattle.core_lowering.proofs.Named.{named_by_tokens}
 use Rattle.racer_cli.proofs.SourceLemmas.{tokens_in_first}
-use Rattle.racer_cli.proofs.FirstPrograms.{program_of-first_code}
 use Rattle.racer_cli.proofs.source.source_program.Goals as goal
 
 pub lower_first-requires-clause-placed : goal.lower_first-requires-clause-placed
@@ -25,6 +22,3 @@ lower_first-requires-clause-named c =
     let all = subst (λ (tokens : List Token). All IsNamed tokens) (sym c.in_ok-lexed.ensures.tokens) (tokens_named (record { 0 = 0 }) c.args.bytes.now) in
     let named = named_by_tokens c.in_ok-lexed.lexed.tokens (classes_of c.in-Ok.classes.items) c.in-Ok.ensures.file all in
     subst (λ (classes : List FirstClass). are_named (classes_of classes) ≡ true) (sym c.as_slice.ensures.value) named
-
-pub returns-in-Ok-clause-first_code : goal.returns-in-Ok-clause-first_code
-returns-in-Ok-clause-first_code c = subst (λ (program : Core). is_first_program program ≡ true) (sym c.in_ok-lower_first-in-Ok.ensures) (program_of-first_code c.args.name.now (classes_of c.as_slice.result.now))
