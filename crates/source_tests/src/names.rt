@@ -87,7 +87,7 @@ fn put_method(alloc: Global, out: &mut String, method: &MethodInfo) -> Result<()
 fn shown(alloc: Global, table: &Table) -> Result<String, AllocError> {
     let mut out = String::new(alloc);
     for (index, class) in table.classes().iter().enumerate() {
-        put_class(alloc, &mut out, index as u32, class)?;
+        put_class(alloc, &mut out, u32::try_from(index).unwrap_or(0), class)?;
     }
     for field in table.fields() {
         put_field(alloc, &mut out, field)?;
@@ -124,7 +124,7 @@ fn fault_shown(alloc: Global, fault: ResolveFault) -> Result<String, AllocError>
 fn answer(alloc: Global, files: &[&str]) -> Result<String, Fail> {
     let mut units: Vec<Unit> = Vec::new(alloc);
     for (index, text) in files.iter().enumerate() {
-        units.push(unit(alloc, index as u32, text)?)?;
+        units.push(unit(alloc, u32::try_from(index).unwrap_or(0), text)?)?;
     }
     match resolve(alloc, units.as_slice()) {
         Ok(table) => Ok(shown(alloc, &table)?),
@@ -274,7 +274,7 @@ fn scope(alloc: Global, is_static: bool) -> Result<Scope, Memory> {
     for (index, (name, kind)) in rows.into_iter().enumerate() {
         variables.push(ScopeVariable {
             name: Text::from_str(alloc, name)?,
-            id: VarId(index as u32),
+            id: VarId(u32::try_from(index).unwrap_or(0)),
             kind,
         })?;
     }
