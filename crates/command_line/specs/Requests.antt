@@ -5,5 +5,5 @@ use Rattle.command_line.specs.Words.{Asked, Report, Replay, Made}
 
 abbrev pub asked_of : Request → Asked
 asked_of (request.Report r) = Report r.folder r.workers r.json r.summaries r.history
-asked_of (request.Replay folder witness) = Replay folder witness
-asked_of (request.Made count workers) = Made count workers
+asked_of (request.Replay r) = Replay r.folder r.witness
+asked_of (request.Made r) = Made r.count r.workers

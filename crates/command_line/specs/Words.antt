@@ -3,6 +3,7 @@ use Rattle.std.specs.Prelude.{ℕ, Bool, false, not, ◌&&◌, ◌||◌, ◌==�
 use Rattle.std.specs.Prelude.{None, Some, length, fold, codes, bytes_eq, nat_le, is_some, option_map, if◌then◌else◌}
 use Rattle.std.specs.Prelude.{option_and_then}
 use Rattle.std.specs.List.{list_all}
+use Rattle.racer_base.specs.declared.limits.TheConstants.{MAX_WORKERS}
 use Rattle.command_line.specs.Uses.{Word, Line, line}
 
 pub data Asked : Type 0 where
@@ -32,7 +33,7 @@ up_to most word = if is_number word && nat_le (number word) most then Some (numb
 -- 4 workers where the words name no number
 abbrev pub workers_of : Option Word → Option ℕ
 workers_of None = Some 4
-workers_of (Some word) = up_to 64 word
+workers_of (Some word) = up_to MAX_WORKERS word
 
 -- a report on the folder
 abbrev pub report : Word → Line → Option Asked

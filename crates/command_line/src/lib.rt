@@ -9,4 +9,4 @@ mod read;
 mod request;
 
 pub use read::read_words;
-pub use request::{ReportRequest, Request};
+pub use request::{MadeRequest, ReplayRequest, ReportRequest, Request};

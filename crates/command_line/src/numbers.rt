@@ -3,9 +3,9 @@ ghost use Rattle.std.specs.Prelude.{◌≡◌, ◌≤◌, ◌-◌, length, optio
 ghost use Rattle.std.specs.List.{list_all};
 ghost use Rattle.command_line.specs.Words.{is_digit, is_number, number, up_to, workers_of};
 
-/// The most workers, and the workers of a line that names no number.
-const MOST_WORKERS: u32 = 64;
+use racer_base::MAX_WORKERS;
 
+/// The workers of a line that names no number.
 const WORKERS: u32 = 4;
 
 /// The most files of a made folder.
@@ -74,7 +74,7 @@ pub fn workers_of(word: Option<&str>) -> Option<u32>
     ensures { result ≡ workers_of (option_map (λ s. s.now) word.entry) }
 {
     match word {
-        Some(word) => up_to(MOST_WORKERS, word),
+        Some(word) => up_to(MAX_WORKERS, word),
         None => Some(WORKERS),
     }
 }

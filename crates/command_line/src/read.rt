@@ -6,7 +6,7 @@ ghost use Rattle.command_line.specs.Words.{asked, asked_by, is_name, has_flag, r
 
 use crate::line::{GivenLine, given_line};
 use crate::numbers::{made_of, workers_of};
-use crate::request::{ReportRequest, Request};
+use crate::request::{MadeRequest, ReplayRequest, ReportRequest, Request};
 use racer_base::{Memory, Text};
 use std::alloc::Global;
 
@@ -54,7 +54,8 @@ fn replay(
         return Ok(None);
     }
     let folder = Text::from_str(alloc, folder)?;
-    Ok(Some(Request::Replay(folder, Text::from_str(alloc, witness)?)))
+    let witness = Text::from_str(alloc, witness)?;
+    Ok(Some(Request::Replay(ReplayRequest { folder, witness })))
 }
 
 /// A made folder, beside which only the number of workers stands.
@@ -66,7 +67,7 @@ fn made(count: &str, line: &GivenLine<'_>) -> Option<Request>
     }
     let count = made_of(count)?;
     let workers = workers_of(line.workers)?;
-    Some(Request::Made(count, workers))
+    Some(Request::Made(MadeRequest { count, workers }))
 }
 
 /// What the line asks for.

@@ -6,10 +6,10 @@ use racer_base::Text;
 pub enum Request {
     /// A report on the sources of a folder.
     Report(ReportRequest),
-    /// The replay of a witness: the folder, and the name of the witness's file in it.
-    Replay(Text, Text),
-    /// A made folder: the number of its files, and that of the workers.
-    Made(u32, u32),
+    /// The replay of a witness.
+    Replay(ReplayRequest),
+    /// A report on a made folder.
+    Made(MadeRequest),
 }
 
 /// A report on the sources of a folder.
@@ -20,4 +20,18 @@ pub struct ReportRequest {
     pub json: bool,
     pub summaries: bool,
     pub history: bool,
+}
+
+/// The replay of a witness: the folder, and the name of the witness's file in it.
+#[derive(Drop)]
+pub struct ReplayRequest {
+    pub folder: Text,
+    pub witness: Text,
+}
+
+/// A made folder, by the number of its files.
+#[derive(Drop)]
+pub struct MadeRequest {
+    pub count: u32,
+    pub workers: u32,
 }

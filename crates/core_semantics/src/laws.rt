@@ -82,7 +82,8 @@ pub fn gate_row()
 
 /// A return inside a lock frees the monitor first. The choice wants a turn.
 pub fn early_row()
-    ensures race { is_race early (method 0) (method 0) (leg 0 (Right ∷ []) 13 ∷ leg 1 (Right ∷ []) 13 ∷ []) ≡ Some true }
+    ensures race { is_race early (method 0) (method 0) (leg 0 (Right ∷ []) 13 ∷ leg 1 (Right ∷ []) 13 ∷ [])
+        ≡ Some true }
     ensures no_turn { halt_after early (method 0) (method 0) [] (leg 0 [] 13) ≡ Some (NoTurn, 5) }
     ensures wants { option_map (λ s. wants_turn s 0) (after_legs early (method 0) (method 0) All (leg 0 [] 5 ∷ []))
         ≡ Some true }
@@ -105,7 +106,8 @@ pub fn calls_row()
         (after_legs calls (method 1) (method 1) All (leg 0 (Left ∷ []) 17 ∷ [])) ≡ Some true }
     ensures held { halt_after calls (method 1) (method 1) (leg 0 (Left ∷ []) 11 ∷ []) (leg 1 (Left ∷ []) 11)
         ≡ Some (HeldBy AllOpaque, 10) }
-    ensures given_back { option_map (stack_of 0) (after_legs calls (method 1) (method 1) All (leg 0 (Left ∷ []) 14 ∷ []))
+    ensures given_back { option_map (stack_of 0)
+        (after_legs calls (method 1) (method 1) All (leg 0 (Left ∷ []) 14 ∷ []))
         ≡ Some (Some (Ref (StartOf (root_path (Param 0 0))) ∷ [])) }
     ensures touched { option_map (λ s. next_touch s 0)
         (after_legs calls (method 0) (method 0) All (leg 0 [] 2 ∷ []))

@@ -16,12 +16,12 @@ fn shown(alloc: Global, request: &Option<Request>) -> Result<String, Memory> {
             r.summaries,
             r.history
         )?,
-        Some(Request::Replay(folder, witness)) => format!(in alloc;
+        Some(Request::Replay(r)) => format!(in alloc;
             "replay {} {}",
-            folder.as_str(),
-            witness.as_str()
+            r.folder.as_str(),
+            r.witness.as_str()
         )?,
-        Some(Request::Made(count, workers)) => format!(in alloc; "made {count} {workers}")?,
+        Some(Request::Made(r)) => format!(in alloc; "made {} {}", r.count, r.workers)?,
     };
     Ok(text)
 }
