@@ -90,7 +90,7 @@ fn folder_in_memory(rt: HostRuntime) -> Result<(), Fail> {
     try_calls(&rt, alloc, &mut folder, IN_MEMORY)
 }
 
-/// Writes a folder with two files, a folder, and a symbolic link.
+/// Writes a folder with two files, a folder with a file, and symbolic links to a file and to a folder.
 fn lay_out(rt: &HostRuntime, root: &str) -> Result<(), Fail> {
     let alloc = rt.alloc();
     fs::create_dir_all(rt, format!(in alloc; "{root}/inner")?.as_str())?;
@@ -101,11 +101,9 @@ fn lay_out(rt: &HostRuntime, root: &str) -> Result<(), Fail> {
     ] {
         fs::write(rt, format!(in alloc; "{root}/{name}")?.as_str(), text)?;
     }
-    symlink(
-        rt,
-        "B.java",
-        format!(in alloc; "{root}/link.java")?.as_str(),
-    )?;
+    for (name, target) in [("link.java", "B.java"), ("linked", "inner")] {
+        symlink(rt, target, format!(in alloc; "{root}/{name}")?.as_str())?;
+    }
     Ok(())
 }
 
@@ -117,15 +115,28 @@ const NOT_ENTERED: &[(Call, Option<&str>)] = &[
 
 /// The calls in the folder that `lay_out` writes, and what they give.
 const ON_DISK: &[(Call, Option<&str>)] = &[
-    (Call::Names, Some("B.java a.txt ")),
+    (Call::Names, Some("B.java a.txt inner/C.java ")),
     (Call::Read("B.java", 5), Some("class")),
     (Call::Read("B.java", 1_048_577), Some("class B {}")),
     (Call::Read("a.txt", 1), Some("")),
     (Call::Read("b.java", 5), None),
     (Call::Read("link.java", 5), None),
     (Call::Read("inner", 5), None),
-    (Call::Read("inner/C.java", 5), None),
+    (Call::Read("inner/C.java", 5), Some("class")),
+    (Call::Read("linked/C.java", 5), None),
+    (Call::Read("inner/../B.java", 5), None),
+    (Call::Read("B.java/", 5), None),
 ];
+
+/// Makes subfolders, each in the one before.
+fn nest(rt: &HostRuntime, root: &str, nesting: usize) -> Result<(), Fail> {
+    let alloc = rt.alloc();
+    let mut path = String::from_str(alloc, root)?;
+    for _ in 0..nesting {
+        path.push_str("/n")?;
+    }
+    Ok(fs::create_dir_all(rt, path.as_str())?)
+}
 
 #[test]
 fn real_folder(rt: HostRuntime) -> Result<(), Fail> {
@@ -139,6 +150,10 @@ fn real_folder(rt: HostRuntime) -> Result<(), Fail> {
     try_calls(&rt, alloc, &mut folder, NOT_ENTERED)?;
     folder.enter(alloc, root.as_str())?;
     try_calls(&rt, alloc, &mut folder, ON_DISK)?;
+    nest(&rt, root.as_str(), 64)?;
+    assert!(rt; folder.names(alloc).is_ok());
+    nest(&rt, root.as_str(), 65)?;
+    assert_eq!(rt; folder.names(alloc).is_ok(), false);
     fs::remove_dir_all(&rt, root.as_str())?;
     Ok(())
 }

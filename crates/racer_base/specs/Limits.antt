@@ -2,6 +2,7 @@
 use Rattle.std.specs.Prelude.{◌≡◌, ◌*◌}
 use Rattle.racer_base.specs.declared.limits.TheConstants.{MAX_PATH_FIELDS, MAX_SUMMARY_KEYS, MAX_WAY_STEPS}
 use Rattle.racer_base.specs.declared.limits.TheConstants.{MAX_FILES, MAX_FILE_BYTES, MAX_FOLDER_BYTES}
+use Rattle.racer_base.specs.declared.limits.TheConstants.{MAX_FOLDER_ENTRIES, MAX_FOLDER_NESTING}
 use Rattle.racer_base.specs.declared.limits.TheConstants.{MAX_CLASSES, MAX_METHODS, MAX_CALL_EDGES}
 use Rattle.racer_base.specs.declared.limits.TheConstants.{MAX_NESTING, MAX_BRACKET_NESTING}
 use Rattle.racer_base.specs.declared.limits.TheConstants.{MAX_PARAMETERS, MAX_LOCALS, MIN_WORKERS, MAX_WORKERS}
@@ -15,6 +16,8 @@ pub record AreLimits : Type 0 where
   pub files : MAX_FILES ≡ 4096
   pub bytes_of_a_file : MAX_FILE_BYTES ≡ 1024 * 1024
   pub bytes_of_a_folder : MAX_FOLDER_BYTES ≡ 32 * 1024 * 1024
+  pub entries_of_a_folder : MAX_FOLDER_ENTRIES ≡ 1024 * 1024
+  pub nesting_of_folders : MAX_FOLDER_NESTING ≡ 64
   pub classes : MAX_CLASSES ≡ 2048
   pub methods : MAX_METHODS ≡ 4096
   pub call_edges : MAX_CALL_EDGES ≡ 65536

@@ -1,7 +1,7 @@
 //! A folder of the file system.
 ghost use Rattle.std.specs.Prelude.{◌≡◌, ◌≤◌, IfOk, vec_len};
 
-use crate::{Folder, FolderFault};
+use crate::{Folder, FolderFault, MAX_FOLDER_ENTRIES, MAX_FOLDER_NESTING};
 use std::alloc::Global;
 use std::fs::File;
 use std::io::{ErrorKind, Read};
@@ -10,9 +10,11 @@ use std::{fs, io};
 
 /// A folder of the file system.
 ///
-/// Its files are the regular files that stand directly in it: folders and symbolic links are left out. A name that
-/// is no UTF-8 is a fault, also that of a link: the runtime is asked by texts alone, so what has such a name cannot
-/// be known. It tells nothing of them, since others may change them at any time.
+/// Its files are the regular files in it and in its subfolders, named relative to it with `/`; symbolic links are
+/// left out, and so is what lies behind them. A name that is no UTF-8 is a fault, also that of a link: the runtime is
+/// asked by texts alone, so what has such a name cannot be known. More than `MAX_FOLDER_ENTRIES` entries together are
+/// a fault, and so are subfolders nested more than `MAX_FOLDER_NESTING` deep. It tells nothing of its files, since
+/// others may change them at any time.
 #[derive(Drop)]
 pub struct DirFolder<R: Files + AllocGlobal + Clone + Drop> {
     rt: R,
@@ -54,24 +56,84 @@ impl<R: Files + AllocGlobal + Clone + Drop> DirFolder<R> {
         }
     }
 
+    /// The path of what has this relative name.
+    fn path_of(&self, alloc: Global, name: &str) -> io::Result<String> {
+        let folder = self.path()?;
+        Ok(format!(in alloc; "{folder}/{name}")?)
+    }
+
     /// The names of its files.
     fn listed(&self, alloc: Global) -> io::Result<Vec<String>> {
-        let mut names = Vec::new(alloc);
-        for entry in fs::read_dir(&self.rt, self.path()?)? {
+        let mut listing = Listing {
+            names: Vec::new(alloc),
+            entries: 0,
+        };
+        self.list_below(alloc, "", MAX_FOLDER_NESTING, &mut listing)?;
+        Ok(listing.names)
+    }
+
+    /// Lists what stands in a folder, whose name ends with `/` unless it is this one, and in its subfolders, which
+    /// may be nested so deep.
+    fn list_below(
+        &self,
+        alloc: Global,
+        folder: &str,
+        nesting: u32,
+        listing: &mut Listing,
+    ) -> io::Result<()> {
+        for subfolder in self.list(alloc, folder, listing)?.iter() {
+            let Some(nesting) = nesting.checked_sub(1) else {
+                return Err(io::Error::from(ErrorKind::Unsupported));
+            };
+            self.list_below(alloc, subfolder.as_str(), nesting, listing)?;
+        }
+        Ok(())
+    }
+
+    /// Lists what stands in a folder itself. The answer is its subfolders' names, with a `/` behind each.
+    fn list(&self, alloc: Global, folder: &str, listing: &mut Listing) -> io::Result<Vec<String>> {
+        let mut subfolders = Vec::new(alloc);
+        for entry in fs::read_dir(&self.rt, self.path_of(alloc, folder)?.as_str())? {
             let entry = entry?;
-            if entry.file_type()?.is_file() {
-                names.push(String::from_str(alloc, entry.file_name())?)?;
+            let kind = entry.file_type()?;
+            let name = entry.file_name();
+            listing.count()?;
+            if kind.is_file() {
+                listing.names.push(format!(in alloc; "{folder}{name}")?)?;
+            } else if kind.is_dir() {
+                subfolders.push(format!(in alloc; "{folder}{name}/")?)?;
             }
         }
-        Ok(names)
+        Ok(subfolders)
+    }
+
+    /// Whether a relative name has only words that lead down, and no symbolic link before its last word.
+    fn leads_down(&self, alloc: Global, name: &str) -> io::Result<bool> {
+        let mut path = String::new(alloc);
+        for word in name.split('/') {
+            if word.is_empty() || word == "." || word == ".." {
+                return Ok(false);
+            }
+            if !path.is_empty() && !self.is_folder(alloc, path.as_str())? {
+                return Ok(false);
+            }
+            path.push_str(word)?;
+            path.push('/')?;
+        }
+        Ok(true)
+    }
+
+    /// Whether a relative name, with a `/` behind it, is that of a subfolder and not of a link to one.
+    fn is_folder(&self, alloc: Global, name: &str) -> io::Result<bool> {
+        let path = self.path_of(alloc, name.strip_suffix('/').unwrap_or(name))?;
+        Ok(fs::symlink_metadata(&self.rt, path.as_str())?.is_dir())
     }
 
     /// The path of one of its files.
     fn file_path(&self, alloc: Global, name: &str) -> io::Result<String> {
-        let folder = self.path()?;
-        let path = format!(in alloc; "{folder}/{name}")?;
+        let path = self.path_of(alloc, name)?;
         let file = fs::symlink_metadata(&self.rt, path.as_str())?;
-        if name.contains('/') || !file.is_file() {
+        if !file.is_file() || !self.leads_down(alloc, name)? {
             return Err(io::Error::from(ErrorKind::NotFound));
         }
         Ok(path)
@@ -88,6 +150,26 @@ impl<R: Files + AllocGlobal + Clone + Drop> DirFolder<R> {
             .read_to_end(&mut bytes)?;
         bytes.truncate(most);
         Ok(bytes)
+    }
+}
+
+/// What was found of a folder so far.
+#[derive(Drop)]
+struct Listing {
+    /// The names of its files.
+    names: Vec<String>,
+    /// How many files, folders and other entries were met.
+    entries: u32,
+}
+
+impl Listing {
+    /// Counts an entry, unless there are too many.
+    fn count(&mut self) -> io::Result<()> {
+        if self.entries >= MAX_FOLDER_ENTRIES {
+            return Err(io::Error::from(ErrorKind::Unsupported));
+        }
+        self.entries += 1;
+        Ok(())
     }
 }
 

@@ -12,6 +12,12 @@ pub const MAX_WAY_STEPS: u32 = 65_536;
 /// Source files of a folder.
 pub const MAX_FILES: usize = 4_096;
 
+/// Entries of a folder of the file system, with those of its subfolders.
+pub const MAX_FOLDER_ENTRIES: u32 = 1_048_576;
+
+/// Nesting of the subfolders of a folder of the file system.
+pub const MAX_FOLDER_NESTING: u32 = 64;
+
 /// Bytes of one source file.
 pub const MAX_FILE_BYTES: usize = 1_048_576;
 
