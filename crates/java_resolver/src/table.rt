@@ -10,10 +10,12 @@ use crate::classes::{Classes, class_trees, classes_of};
 use crate::fault::ResolveFault;
 use crate::fields::{Fields, fields_of};
 use crate::infos::{ClassInfo, FieldInfo, MethodInfo};
+use crate::kinds::kind_of;
 use crate::methods::{Methods, methods_of};
 use crate::scope::{Meaning, Scope, ScopeVariable};
+use java_tree::TypeTree;
 use java_units::Unit;
-use racer_base::{ClassId, MethodId};
+use racer_base::{ClassId, FieldId, Kind, MethodId};
 use std::alloc::Global;
 
 /// The classes, fields and methods of a folder, each found by its name.
@@ -26,7 +28,10 @@ pub struct Table {
 
 impl Table {
     ghost use Rattle.std.specs.Prelude.{◌≡◌};
-    ghost use Rattle.java_resolver.specs.Meanings.{meaning, found};
+    ghost use Rattle.java_tree.specs.View.{ty_of};
+    ghost use Rattle.java_resolver.specs.Declarations.{class_names};
+    ghost use Rattle.java_resolver.specs.TypeKinds.{class_named, kind_of};
+    ghost use Rattle.java_resolver.specs.Meanings.{meaning, found, field_named};
     ghost use Rattle.java_resolver.specs.Table.{classes, fields, methods};
 
     /// The classes, in source order.
@@ -64,6 +69,27 @@ impl Table {
             Some(class) => Meaning::Class(class),
             None => Meaning::Opaque,
         }
+    }
+
+    /// The class of a name.
+    pub fn class_named(&self, name: &str) -> Option<ClassId>
+        ensures { result ≡ class_named (class_names (classes self.now)) name.now }
+    {
+        self.classes.named(name)
+    }
+
+    /// The field of a class by its name; where a static one is asked for, a static one.
+    pub fn field_named(&self, c: ClassId, in_static: bool, name: &str) -> Option<FieldId>
+        ensures { result ≡ field_named (fields self.now) c in_static name.now }
+    {
+        self.fields.named(c, in_static, name)
+    }
+
+    /// The kind of a type.
+    pub fn type_kind(&self, tree: &TypeTree) -> Kind
+        ensures { result ≡ kind_of (class_names (classes self.now)) (ty_of tree.now) }
+    {
+        kind_of(&self.classes, tree)
     }
 
     /// The method or constructor of a class by its name, `<new>` for a constructor, and its number of parameters.
