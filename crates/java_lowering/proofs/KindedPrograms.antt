@@ -39,16 +39,16 @@ use Rattle.java_lowering.proofs.KindedMethods.{FolderStands, IsRight, IsRightRes
 
 -- ---- what holds of each element
 
-each-append : {A : Type 0} (P : A → Type 0) (xs ys : List A) → Each P xs → Each P ys → Each P (xs ++ ys)
+pub each-append : {A : Type 0} (P : A → Type 0) (xs ys : List A) → Each P xs → Each P ys → Each P (xs ++ ys)
 each-append P [] ys p q = q
 each-append P (x ∷ xs) ys p q = (p.0, each-append P xs ys p.1 q)
 
-each-flat_map : {A B : Type 0} (P : B → Type 0) (f : A → List B) → ((x : A) → Each P (f x)) → (xs : List A) →
+pub each-flat_map : {A B : Type 0} (P : B → Type 0) (f : A → List B) → ((x : A) → Each P (f x)) → (xs : List A) →
     Each P (flat_map f xs)
 each-flat_map P f all [] = tt
 each-flat_map P f all (x ∷ xs) = each-append P (f x) (flat_map f xs) (all x) (each-flat_map P f all xs)
 
-each-by_class : {A : Type 0} (P : A → Type 0) (f : ClassId → ClassTree → List A) →
+pub each-by_class : {A : Type 0} (P : A → Type 0) (f : ClassId → ClassTree → List A) →
     ((c : ClassId) (tree : ClassTree) → Each P (f c tree)) → (n : ℕ) (trees : List ClassTree) →
     Each P (by_class f n trees)
 each-by_class P f all n [] = tt
@@ -56,12 +56,12 @@ each-by_class P f all n (c ∷ cs) =
     each-append P (f (record { 0 = n }) c) (by_class f (suc n) cs) (all (record { 0 = n }) c)
     (each-by_class P f all (suc n) cs)
 
-each-at : {A : Type 0} (P : A → Type 0) (xs : List A) (n : ℕ) (x : A) → Each P xs → slice_get xs n ≡ Some x → P x
+pub each-at : {A : Type 0} (P : A → Type 0) (xs : List A) (n : ℕ) (x : A) → Each P xs → slice_get xs n ≡ Some x → P x
 each-at P [] n x all e = absurd (none-some _ e)
 each-at P (y ∷ ys) zero x all e = subst P (same_Some _ _ e) all.0
 each-at P (y ∷ ys) (suc n) x all e = each-at P ys n x all.1 e
 
-unless : {A : Type 0} (P : A → Type 0) (b : Bool) (xs : List A) → Each P xs → Each P (cond b [] xs)
+pub unless : {A : Type 0} (P : A → Type 0) (b : Bool) (xs : List A) → Each P xs → Each P (cond b [] xs)
 unless P true xs all = tt
 unless P false xs all = all
 
@@ -83,7 +83,7 @@ map-by_class g f h same n (c ∷ cs) =
     ∙ ap (λ ys. ys ++ map g (by_class f (suc n) cs)) (same (record { 0 = n }) c)
     ∙ ap (λ ys. h (record { 0 = n }) c ++ ys) (map-by_class g f h same (suc n) cs)
 
-abbrev known : Source → MethodInfo
+abbrev pub known : Source → MethodInfo
 known s = s.info
 
 member-same : (names : List (List ℕ)) (c : ClassId) (tree : ClassTree) (x : Member) →
@@ -110,7 +110,7 @@ class-same names c tree =
     ∙ ap (λ ys. default_constructors c tree ++ ys)
     (map-flat_map known (member_sources names c tree) (member_methods names c) (member-same names c tree) tree.members)
 
-sources-same : (units : List unit_type.Unit) → map known (sources_of units) ≡ methods_of units
+pub sources-same : (units : List unit_type.Unit) → map known (sources_of units) ≡ methods_of units
 sources-same units =
     map-by_class known (class_sources (names_of units)) (class_methods (names_of units)) (class-same (names_of units)) 0
     (trees_of units)

@@ -11,3 +11,12 @@ pub mod KindedMethods
 pub mod KindedPrograms
 pub mod NumberedCode
 pub mod ProgramFacts
+pub mod ProgramNames
+pub mod PlacedTrees
+pub mod InRangeCode
+pub mod InRangeExpressions
+pub mod InRangeStatements
+pub mod KeptTrees
+pub mod KeptPlaces
+pub mod MethodsInRange
+pub mod NumbersInRange

@@ -14,3 +14,4 @@ pub mod Programs
 pub mod PlacedTexts
 pub mod Examples
 pub mod ProgramExamples
+pub mod Conditions

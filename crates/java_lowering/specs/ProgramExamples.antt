@@ -4,8 +4,11 @@ use Rattle.java_tree.specs.declared.methods.ResultTree.{ResultTree}
 use Rattle.java_tree.specs.declared.methods.ResultTree.TheVariants.{Void}
 use Rattle.java_units.specs.declared.unit.Unit.{Unit}
 use Rattle.java_units.specs.declared.unit.Member.{Member}
-use Rattle.java_units.specs.declared.unit.Member.TheVariants.{Method}
-use Rattle.java_resolver.specs.NameExamples.{annotation, tree, words, method_tree, parameter, int, unit}
+use Rattle.java_units.specs.declared.unit.ClassTree.{ClassTree}
+use Rattle.java_units.specs.declared.unit.HeadResult.TheVariants as head
+use Rattle.java_units.specs.declared.unit.Member.TheVariants.{Method, Field, Skipped}
+use Rattle.java_resolver.specs.NameExamples.{annotation, tree, words, method_tree, parameter, int, unit, at, ints}
+use Rattle.java_resolver.specs.NameExamples.{absent, outside}
 use Rattle.core_code.specs.declared.code.Reason.{Reason}
 use Rattle.core_code.specs.Core as core
 use Rattle.core_code.specs.Tree.{Tree}
@@ -32,3 +35,13 @@ statuses_of units = map (λ (m : core.Method). m.status) (methods_of units)
 
 abbrev pub codes_of : List Unit → List Tree
 codes_of units = map (λ (m : core.Method). m.code) (methods_of units)
+
+-- a class with a member of each form, each of its places at another column
+abbrev pub placed_class : ClassTree
+placed_class =
+    tree (codes "A") 7 []
+    (void_method (codes "f") ∷ Field (ints [] (absent (codes "x") 3 ∷ [])) ∷ outside (codes "g") 5 head.Void false
+    ∷ Skipped (at 6) ∷ [])
+
+abbrev pub placed_unit : Unit
+placed_unit = unit (placed_class ∷ [])

@@ -59,7 +59,7 @@ pub use methods::{
     ends_of_methods, fields_of_objects, first_methods, locks_of_methods, unread_fields,
 };
 pub use programs::{
-    codes_of_programs, draft_edges, entries_of_programs, facts_of_programs, ordered_places, sites,
-    statuses_of_programs,
+    codes_of_programs, conditions_of_units, draft_edges, entries_of_programs, facts_of_programs,
+    ordered_places, sites, statuses_of_programs,
 };
 pub use statements::{blocks, branches, loops, returns, variables};

@@ -4,18 +4,25 @@ ghost use Rattle.racer_base.specs.declared.ids.MethodId.{MethodId};
 ghost use Rattle.java_tree.specs.declared.methods.ResultTree.TheVariants.{Constructor, Void};
 ghost use Rattle.java_units.specs.declared.unit.Unit.{Unit};
 ghost use Rattle.java_units.specs.declared.unit.HeadResult.TheVariants as head;
-ghost use Rattle.java_resolver.specs.NameExamples.{outside};
+ghost use Rattle.java_units.specs.declared.unit.ClassTree.{ClassTree};
+ghost use Rattle.java_units.specs.declared.unit.Member.TheVariants.{Field};
+ghost use Rattle.java_resolver.specs.NameExamples.{outside, ints, absent};
+ghost use Rattle.java_resolver.specs.Refusals.{refusal};
 ghost use Rattle.call_graph.specs.Chains.{flag_of};
 ghost use Rattle.core_code.specs.declared.code.Op.TheVariants.{Push, PushClass, PushPrim, Drop, Ret, Call, Unread};
 ghost use Rattle.core_code.specs.declared.code.Reason.TheVariants.{Overload, Outside, Parameters, Recursive};
 ghost use Rattle.core_code.specs.Core.{Method};
-ghost use Rattle.core_code.specs.Facts.{are_sites_in_order, are_entries_analysed, are_stacks_enough};
+ghost use Rattle.core_code.specs.Facts.{are_numbers_in_range, are_sites_in_order, are_entries_analysed};
+ghost use Rattle.core_code.specs.Facts.{are_stacks_enough};
 ghost use Rattle.core_code.specs.CallFacts.{do_end_by_return, are_calls_right};
 ghost use Rattle.core_code.specs.KindCheck.{are_kinded};
+ghost use Rattle.core_code.specs.Names.{are_identifiers, do_classes_differ, do_fields_differ, do_methods_differ};
 ghost use Rattle.core_code.specs.Tree.{Nothing, Then, Either, Again, Held, in_sequence};
 ghost use Rattle.core_code.specs.Pair.{at, step, pair, method_put, method_both};
 ghost use Rattle.java_lowering.specs.Sites.{numbered};
 ghost use Rattle.java_lowering.specs.Programs.{program_of, in_order, call_edges};
+ghost use Rattle.java_lowering.specs.Conditions.{class_places, are_in_files, are_named};
+ghost use Rattle.java_lowering.specs.ProgramExamples.{placed_class, placed_unit};
 ghost use Rattle.java_lowering.specs.ProgramExamples.{checked_class, empty_method, void_method, methods_of};
 ghost use Rattle.java_lowering.specs.ProgramExamples.{statuses_of, codes_of};
 
@@ -74,8 +81,29 @@ pub fn draft_edges()
     }) ≡ 3 }
 {}
 
-/// What every program of units keeps, whatever the units, and whichever methods are recursive: the code of all methods
-/// is kinded, pops no empty stack and calls rightly, and that of an analysed method ends by a return alone.
+/// When the places of units are in files, and their names are identifiers.
+pub fn conditions_of_units()
+    ensures places { map (λ (t : ClassTree). class_places t) (placed_class ∷ [])
+        ≡ (at 1 7 ∷ at 1 9 ∷ at 1 3 ∷ at 1 5 ∷ at 1 6 ∷ []) ∷ [] }
+    ensures inside { are_in_files (codes "A.java" ∷ []) (placed_unit ∷ []) ≡ true }
+    ensures no_file { are_in_files [] (placed_unit ∷ []) ≡ false }
+    ensures nothing { are_in_files [] [] ≡ true }
+    ensures skipped { are_in_files (codes "A.java" ∷ []) (record placed_unit {
+      skipped = record (at 1 1) { file = record { 0 = 1 } } ∷ [];
+    } ∷ []) ≡ false }
+    ensures named { are_named (placed_unit ∷ []) ≡ true }
+    ensures class_name { are_named (record placed_unit {
+      classes = record placed_class { name = codes "class" } ∷ [];
+    } ∷ []) ≡ false }
+    ensures field_name { are_named (record placed_unit {
+      classes = record placed_class { members = Field (ints [] (absent (codes "int") 4 ∷ [])) ∷ [] } ∷ [];
+    } ∷ []) ≡ false }
+{}
+
+/// What every program of units keeps, whichever methods are taken for recursive. Whatever the units, the code of all
+/// methods is kinded, pops no empty stack and calls rightly, that of an analysed method ends by a return alone, and
+/// analysed methods differ. Numbers are in range where the places of the units are in the files, names are identifiers
+/// where those of the units are, and classes and fields differ where the units are not refused.
 pub fn facts_of_programs()
     ensures kinded { (files : List (List ℕ)) (units : List Unit) (is_recursive : MethodId → Bool) →
         IsTrue (are_kinded (program_of files units is_recursive)) }
@@ -89,4 +117,14 @@ pub fn facts_of_programs()
         IsTrue (are_entries_analysed (program_of files units is_recursive)) }
     ensures ends { (files : List (List ℕ)) (units : List Unit) (is_recursive : MethodId → Bool) →
         IsTrue (do_end_by_return (program_of files units is_recursive)) }
+    ensures methods { (files : List (List ℕ)) (units : List Unit) (is_recursive : MethodId → Bool) →
+        IsTrue (do_methods_differ (program_of files units is_recursive)) }
+    ensures numbers { (files : List (List ℕ)) (units : List Unit) (is_recursive : MethodId → Bool) →
+        IsTrue (are_in_files files units) → IsTrue (are_numbers_in_range (program_of files units is_recursive)) }
+    ensures identifiers { (files : List (List ℕ)) (units : List Unit) (is_recursive : MethodId → Bool) →
+        IsTrue (are_named units) → IsTrue (are_identifiers (program_of files units is_recursive)) }
+    ensures classes { (files : List (List ℕ)) (units : List Unit) (is_recursive : MethodId → Bool) →
+        refusal units ≡ None → IsTrue (do_classes_differ (program_of files units is_recursive)) }
+    ensures fields { (files : List (List ℕ)) (units : List Unit) (is_recursive : MethodId → Bool) →
+        refusal units ≡ None → IsTrue (do_fields_differ (program_of files units is_recursive)) }
 {}

@@ -1,6 +1,8 @@
 use Rattle.java_lowering.proofs.KindedPrograms.{program-kinded}
 use Rattle.java_lowering.proofs.ProgramFacts.{stacks-enough, calls-right, sites-in_order, entries-analysed}
 use Rattle.java_lowering.proofs.ProgramFacts.{ends-by_return}
+use Rattle.java_lowering.proofs.ProgramNames.{identifiers-there, classes-differ, fields-differ, methods-differ}
+use Rattle.java_lowering.proofs.NumbersInRange.{numbers-in_range}
 use Rattle.java_lowering.proofs.laws.programs.facts_of_programs.Goals as goal
 
 pub returns-clause-kinded : goal.returns-clause-kinded
@@ -20,3 +22,18 @@ returns-clause-entries c files units is_recursive = entries-analysed files units
 
 pub returns-clause-ends : goal.returns-clause-ends
 returns-clause-ends c files units is_recursive = ends-by_return files units is_recursive
+
+pub returns-clause-methods : goal.returns-clause-methods
+returns-clause-methods c files units is_recursive = methods-differ files units is_recursive
+
+pub returns-clause-numbers : goal.returns-clause-numbers
+returns-clause-numbers c files units is_recursive placed = numbers-in_range files units is_recursive placed
+
+pub returns-clause-identifiers : goal.returns-clause-identifiers
+returns-clause-identifiers c files units is_recursive named = identifiers-there files units is_recursive named
+
+pub returns-clause-classes : goal.returns-clause-classes
+returns-clause-classes c files units is_recursive accepted = classes-differ units accepted files is_recursive
+
+pub returns-clause-fields : goal.returns-clause-fields
+returns-clause-fields c files units is_recursive accepted = fields-differ units accepted files is_recursive
