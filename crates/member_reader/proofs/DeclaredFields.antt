@@ -168,11 +168,11 @@ each_begins (t ∷ ts) vs z =
       named = between_begins t k.front (signed (codes ",") (t ∷ k.front)) (between_commas k.others) vs here;
     }
 
-variables_begin : (ts : List Token) (vs : List FieldVariable) → AreVariables ts vs → BeginsName ts
+pub variables_begin : (ts : List Token) (vs : List FieldVariable) → AreVariables ts vs → BeginsName ts
 variables_begin ts vs (inl h) = read_begins ts h.0 vs h.1.divided h.1.variables
 variables_begin ts vs (inr h) = each_begins ts vs h.variables
 
-ends_type_here : (ts : List Token) → BeginsName ts → EndsTy (map spelled ts)
+pub ends_type_here : (ts : List Token) → BeginsName ts → EndsTy (map spelled ts)
 ends_type_here ts b =
     let e : map spelled ts ≡ identifier b.first.text ∷ map spelled b.others =
     ap (map spelled) b.is ∙ ap (λ (s : Spelled). s ∷ map spelled b.others) (name_is (spelled b.first) b.named) in
@@ -187,8 +187,8 @@ module _ (ts : List Token) (f : FieldTree) (d : AreDeclared ts f) where
   abbrev ms : List Modifier
   ms = map modifier_of f.modifiers
 
-  spells : Spells (map spelled ts) ms (ty_onto kind (map spelled d.variables))
-  spells = record {
+  pub declaration_spells : Spells (map spelled ts) ms (ty_onto kind (map spelled d.variables))
+  declaration_spells = record {
     formed = d.modifiers;
     spelled = ap (map spelled) d.parts ∙ plain_append d.front d.variables
         ∙ ap (λ l. l ++ map spelled d.variables) (sym d.spelled)
@@ -196,18 +196,18 @@ module _ (ts : List Token) (f : FieldTree) (d : AreDeclared ts f) where
   }
 
   pub some_modifiers : NoModifiers (map spelled ts) → ⊥
-  some_modifiers none = none ms (ty_onto kind (map spelled d.variables)) spells (ends_type kind (map spelled
-      d.variables) d.formed)
+  some_modifiers none = none ms (ty_onto kind (map spelled d.variables)) declaration_spells
+      (ends_type kind (map spelled d.variables) d.formed)
 
   pub type_there : (ns : List Modifier) (rest : List Token) → AreModifiers ns (map spelled ts) (map spelled rest)
       → ty_at MAX_NESTING (map spelled rest) ≡ Some (kind, map spelled d.variables)
   type_there ns rest modifiers =
       let ends = ends_type_here d.variables (variables_begin d.variables f.variables d.divided) in
-      ap (ty_at MAX_NESTING) (modifiers.only ms (ty_onto kind (map spelled d.variables)) spells
+      ap (ty_at MAX_NESTING) (modifiers.only ms (ty_onto kind (map spelled d.variables)) declaration_spells
       (ends_type kind (map spelled d.variables) d.formed))
       ∙ ty_found kind d.formed MAX_NESTING (map spelled d.variables) d.nested ends
 
-abbrev left_of : Option (Ty × List Spelled) → List Spelled
+abbrev pub left_of : Option (Ty × List Spelled) → List Spelled
 left_of None = []
 left_of (Some x) = x.1
 
@@ -233,7 +233,7 @@ no_variables ts rest left ns t ps modifiers words read front none f d =
 
 -- ---- with the `;`
 
-push_ends : {A : Type 0} (a b : List A) (x y : A) → a ++ x ∷ [] ≡ b ++ y ∷ [] → (a ≡ b) × (x ≡ y)
+pub push_ends : {A : Type 0} (a b : List A) (x y : A) → a ++ x ∷ [] ≡ b ++ y ∷ [] → (a ≡ b) × (x ≡ y)
 push_ends a b x y e =
     let k = same_ends a b (x ∷ []) (y ∷ []) e refl in
     let end : x ∷ [] ≡ y ∷ [] = k.end in

@@ -36,7 +36,7 @@ modifier_found : (m : Modifier) (rest : List Spelled) → FormedFieldModifier m 
 modifier_found (Word text) rest f e = rw f refl
 modifier_found (Annotated n) rest f e = rw (annotation_found n rest f e) refl
 
-first_found : (ts : List Spelled) (m : Modifier) (ms : List Modifier) (end : List Spelled) → Spells ts (m ∷ ms) end
+pub first_found : (ts : List Spelled) (m : Modifier) (ms : List Modifier) (end : List Spelled) → Spells ts (m ∷ ms) end
     → EndsModifiers end → field_modifier_at ts ≡ Some (Some (m, modifiers_onto ms end))
 first_found ts m ms end s ends =
     ap field_modifier_at s.spelled ∙ modifier_found m (modifiers_onto ms end) s.formed.0 (modifiers_end ms end (record {

@@ -114,7 +114,7 @@ has_token NoResult f some = absurd (some refl)
 has_token VoidResult f some = omega arith
 has_token (TypeResult t) f some = omega (arith, formed_longer t f [])
 
-head_read : (front : List Token) (r : Result) → (r ≡ NoResult → ⊥) → (h : HasHead front r)
+pub head_read : (front : List Token) (r : Result) → (r ≡ NoResult → ⊥) → (h : HasHead front r)
     → modifiers_at (length (plain_all front)) (plain_all front) ≡ Some (h.0, result_onto r [])
 head_read front r some h =
     let k = h.1 in
@@ -124,7 +124,7 @@ head_read front r some h =
     ap (modifiers_at (length (plain_all front))) (sym k.spelled)
     ∙ modifiers_found h.0 (length (plain_all front)) rest k.formed (ends_here r k.result_formed some) room
 
-abbrev behind : Option (List Modifier × List Spelled) → List Spelled
+abbrev pub behind : Option (List Modifier × List Spelled) → List Spelled
 behind None = []
 behind (Some x) = x.1
 

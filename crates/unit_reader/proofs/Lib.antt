@@ -1,3 +1,6 @@
 pub mod ClassNameSteps
 pub mod AnnotationSteps
 pub mod UnitSteps
+pub mod SameFields
+pub mod SameHeads
+pub mod SameClasses

@@ -1,3 +1,4 @@
 pub mod ClassNames
 pub mod NamesOfAnnotations
 pub mod ReadTypes
+pub mod SameUnits

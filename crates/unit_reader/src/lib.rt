@@ -3,6 +3,7 @@
 
 mod annotations;
 mod classes;
+pub mod laws;
 mod units;
 
 pub use units::parse_unit;
