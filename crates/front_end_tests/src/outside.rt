@@ -1,16 +1,16 @@
 //! The forms of the outside and the small types, as callers see them.
 use racer_base::{
-    DirFolder, Failed, Folder, FolderFault, Items, MemoryFolder, MemorySink, Sink, StdSink, Text,
+    DirFolder, Failed, Folder, FolderFault, Items, Memory, MemoryFolder, MemorySink, Sink, StdSink,
+    Text,
 };
-use std::alloc::Global;
+use std::alloc::{AllocError, Global};
 use std::fmt::Display;
 use std::os::unix::fs::symlink;
-use std::process::Abort;
 use std::test::Fail;
 use std::{env, fs, io, process};
 
 /// A call on a folder.
-#[derive(Clone, Copy, Debug)]
+#[derive(Clone, Copy)]
 enum Call {
     Enter(&'static str),
     Names,
@@ -43,23 +43,28 @@ fn joined(alloc: Global, mut names: Vec<String>) -> Result<String, FolderFault> 
     Ok(text)
 }
 
-/// Whether each call gives its text, or fails where none is given.
-fn try_calls<F: Folder>(
-    rt: &impl Abort,
+/// Whether a call gives this text, or fails where none is given.
+fn holds<F: Folder>(alloc: Global, folder: &mut F, call: Call, wanted: Option<&str>) -> bool {
+    match made(alloc, folder, call) {
+        Ok(text) => wanted == Some(text.as_str()),
+        Err(fault) => wanted.is_none() && fault == FolderFault::Failed,
+    }
+}
+
+/// How many calls hold before the first that does not.
+fn calls_that_hold<F: Folder>(
     alloc: Global,
     folder: &mut F,
     rows: &[(Call, Option<&str>)],
-) -> Result<(), Fail> {
+) -> usize {
+    let mut count = 0usize;
     for (call, wanted) in rows {
-        match made(alloc, folder, *call) {
-            Ok(text) => assert_eq!(rt; Some(text.as_str()), *wanted, "{call:?}"),
-            Err(fault) => {
-                assert_eq!(rt; fault, FolderFault::Failed, "{call:?}");
-                assert!(rt; wanted.is_none(), "{call:?}");
-            }
+        if !holds(alloc, folder, *call, *wanted) {
+            return count;
         }
+        count = count.saturating_add(1);
     }
-    Ok(())
+    count
 }
 
 /// The calls on a folder in memory whose calls 3 and 9 fail, and what they give.
@@ -74,37 +79,73 @@ const IN_MEMORY: &[(Call, Option<&str>)] = &[
     (Call::Read("b.java", 5), None),
 ];
 
-#[test]
-fn folder_in_memory(rt: HostRuntime) -> Result<(), Fail> {
-    let alloc = rt.alloc();
+/// The files of the folder in memory.
+const FILES: &[(&str, &str)] = &[("a.txt", ""), ("B.java", "class B {}")];
+
+fn files(alloc: Global) -> Result<Vec<(String, Vec<u8>)>, AllocError> {
     let mut files = Vec::new(alloc);
-    for (name, bytes) in [("a.txt", ""), ("B.java", "class B {}")] {
-        let bytes = bytes.as_bytes().to_vec(alloc)?;
-        files.push((String::from_str(alloc, name)?, bytes))?;
+    for (name, text) in FILES {
+        files.push(file(alloc, name, text)?)?;
     }
+    Ok(files)
+}
+
+fn file(alloc: Global, name: &str, text: &str) -> Result<(String, Vec<u8>), AllocError> {
+    let name = String::from_str(alloc, name)?;
+    let bytes = text.as_bytes().to_vec(alloc)?;
+    Ok((name, bytes))
+}
+
+fn memory_folder(alloc: Global) -> Result<MemoryFolder, Fail> {
+    let name = String::from_str(alloc, "src")?;
+    let failing = [3, 9].to_vec(alloc)?;
+    let files = files(alloc)?;
     if !MemoryFolder::names_differ(files.as_slice()) {
         return Err(Fail::from("two files of one name"));
     }
-    let name = String::from_str(alloc, "src")?;
-    let mut folder = MemoryFolder::new(name, files, [3, 9].to_vec(alloc)?);
-    try_calls(&rt, alloc, &mut folder, IN_MEMORY)
+    Ok(MemoryFolder::new(name, files, failing))
+}
+
+#[test]
+fn folder_in_memory(rt: HostRuntime) -> Result<(), Fail> {
+    let mut folder = memory_folder(rt.alloc())?;
+    let count = calls_that_hold(rt.alloc(), &mut folder, IN_MEMORY);
+    assert!(rt; count == IN_MEMORY.len());
+    Ok(())
+}
+
+/// A path in a folder.
+fn path(alloc: Global, root: &str, name: &str) -> Result<String, AllocError> {
+    let mut path = String::from_str(alloc, root)?;
+    path.push('/')?;
+    path.push_str(name)?;
+    Ok(path)
+}
+
+fn write_file(rt: &HostRuntime, root: &str, name: &str, text: &str) -> Result<(), Fail> {
+    let path = path(rt.alloc(), root, name)?;
+    Ok(fs::write(rt, path.as_str(), text)?)
+}
+
+fn link(rt: &HostRuntime, root: &str, name: &str, target: &str) -> Result<(), Fail> {
+    let path = path(rt.alloc(), root, name)?;
+    Ok(symlink(rt, target, path.as_str())?)
+}
+
+/// Makes a folder in another, and those that the other stands in.
+fn make_folder(rt: &HostRuntime, root: &str, name: &str) -> Result<(), Fail> {
+    let path = path(rt.alloc(), root, name)?;
+    Ok(fs::create_dir_all(rt, path.as_str())?)
 }
 
 /// Writes a folder with two files, a folder with a file, and symbolic links to a file and to a folder.
 fn lay_out(rt: &HostRuntime, root: &str) -> Result<(), Fail> {
-    let alloc = rt.alloc();
-    fs::create_dir_all(rt, format!(in alloc; "{root}/inner")?.as_str())?;
-    for (name, text) in [
-        ("a.txt", ""),
-        ("B.java", "class B {}"),
-        ("inner/C.java", "class C {}"),
-    ] {
-        fs::write(rt, format!(in alloc; "{root}/{name}")?.as_str(), text)?;
-    }
-    for (name, target) in [("link.java", "B.java"), ("linked", "inner")] {
-        symlink(rt, target, format!(in alloc; "{root}/{name}")?.as_str())?;
-    }
-    Ok(())
+    make_folder(rt, root, "inner")?;
+    write_file(rt, root, "a.txt", "")?;
+    write_file(rt, root, "B.java", "class B {}")?;
+    write_file(rt, root, "inner/C.java", "class C {}")?;
+    link(rt, root, "link.java", "B.java")?;
+    link(rt, root, "linked", "inner")
 }
 
 /// The calls before a folder is entered.
@@ -128,32 +169,50 @@ const ON_DISK: &[(Call, Option<&str>)] = &[
     (Call::Read("B.java/", 5), None),
 ];
 
-/// Makes subfolders, each in the one before.
+/// Makes so many subfolders, each in the one before.
 fn nest(rt: &HostRuntime, root: &str, nesting: usize) -> Result<(), Fail> {
-    let alloc = rt.alloc();
-    let mut path = String::from_str(alloc, root)?;
-    for _ in 0..nesting {
+    let mut path = String::from_str(rt.alloc(), "n")?;
+    for _ in 1..nesting {
         path.push_str("/n")?;
     }
-    Ok(fs::create_dir_all(rt, path.as_str())?)
+    make_folder(rt, root, path.as_str())
+}
+
+/// A folder of this process alone.
+fn own_folder(rt: &HostRuntime) -> Result<String, Fail> {
+    let parent = env::temp_dir(rt)?;
+    let number = process::id(rt.process());
+    Ok(format!(in rt.alloc(); "{}/racer_base_{number}", parent.as_str())?)
+}
+
+/// How many of the calls hold on a folder that is entered between them.
+fn tried(rt: &HostRuntime, folder: &mut DirFolder<HostRuntime>, root: &str) -> usize {
+    let before = calls_that_hold(rt.alloc(), folder, NOT_ENTERED);
+    if folder.enter(rt.alloc(), root).is_err() {
+        return before;
+    }
+    before.saturating_add(calls_that_hold(rt.alloc(), folder, ON_DISK))
+}
+
+/// Whether the folder has names where so many subfolders stand in one another.
+fn has_names(
+    rt: &HostRuntime,
+    folder: &mut DirFolder<HostRuntime>,
+    root: &str,
+    nesting: usize,
+) -> Result<bool, Fail> {
+    nest(rt, root, nesting)?;
+    Ok(folder.names(rt.alloc()).is_ok())
 }
 
 #[test]
 fn real_folder(rt: HostRuntime) -> Result<(), Fail> {
-    let alloc = rt.alloc();
-    let temporary = env::temp_dir(&rt)?;
-    let parent = temporary.as_str();
-    let number = process::id(rt.process());
-    let root = format!(in alloc; "{parent}/racer_base_{number}")?;
+    let root = own_folder(&rt)?;
     lay_out(&rt, root.as_str())?;
     let mut folder = DirFolder::new(rt.clone()?);
-    try_calls(&rt, alloc, &mut folder, NOT_ENTERED)?;
-    folder.enter(alloc, root.as_str())?;
-    try_calls(&rt, alloc, &mut folder, ON_DISK)?;
-    nest(&rt, root.as_str(), 64)?;
-    assert!(rt; folder.names(alloc).is_ok());
-    nest(&rt, root.as_str(), 65)?;
-    assert_eq!(rt; folder.names(alloc).is_ok(), false);
+    assert!(rt; tried(&rt, &mut folder, root.as_str()) == NOT_ENTERED.len() + ON_DISK.len());
+    assert!(rt; has_names(&rt, &mut folder, root.as_str(), 64)?);
+    assert!(rt; !has_names(&rt, &mut folder, root.as_str(), 65)?);
     fs::remove_dir_all(&rt, root.as_str())?;
     Ok(())
 }
@@ -193,32 +252,56 @@ const PRINTERS: &[(Printer, Result<usize, Failed>)] = &[
     (Printer(None), Err(Failed)),
 ];
 
+/// How many printers take as much of the piece as they should before the first that does not.
+fn printers_that_hold() -> usize {
+    let mut count = 0usize;
+    for (printer, wanted) in PRINTERS {
+        if StdSink::new(printer).write(PIECE) != *wanted {
+            return count;
+        }
+        count = count.saturating_add(1);
+    }
+    count
+}
+
 #[test]
 fn printers(rt: HostRuntime) {
-    for (printer, wanted) in PRINTERS {
-        assert_eq!(rt; StdSink::new(printer).write(PIECE), *wanted);
+    assert!(rt; printers_that_hold() == PRINTERS.len());
+    assert!(rt; StdSink::new(&Printer(Some(0))).write(b"") == Ok(0));
+    assert!(rt; StdSink::new(&rt).write(PIECE) == Ok(15));
+}
+
+/// How many writes of the piece are answered as they should be.
+fn writes_that_hold(sink: &mut MemorySink) -> usize {
+    let mut count = 0usize;
+    for wanted in &[Ok(15), Ok(5), Err(Failed)] {
+        if sink.write(PIECE) != *wanted {
+            return count;
+        }
+        count = count.saturating_add(1);
     }
-    assert_eq!(rt; StdSink::new(&Printer(Some(0))).write(b""), Ok(0));
-    assert_eq!(rt; StdSink::new(&rt).write(PIECE), Ok(15));
+    count
 }
 
 #[test]
 fn sink_in_memory(rt: HostRuntime) -> Result<(), Fail> {
     let mut sink = MemorySink::new(rt.alloc(), 20, 16, Vec::new(rt.alloc()))?;
-    for wanted in &[Ok(15), Ok(5), Err(Failed)] {
-        assert_eq!(rt; sink.write(PIECE), *wanted);
-    }
-    assert_eq!(rt; sink.taken(), b"racer report 1\nracer".as_slice());
+    assert!(rt; writes_that_hold(&mut sink) == 3);
+    assert!(rt; sink.taken() == b"racer report 1\nracer".as_slice());
     Ok(())
+}
+
+fn two_numbers(alloc: Global) -> Result<Items<u32>, Memory> {
+    let mut list = Items::new(alloc);
+    list.push(7)?;
+    list.push(5)?;
+    Ok(list)
 }
 
 #[test]
 fn lists(rt: HostRuntime) -> Result<(), Fail> {
-    let mut list = Items::new(rt.alloc());
-    assert!(rt; list.is_empty());
-    list.push(7)?;
-    list.push(5)?;
-    assert!(rt; list.as_slice() == [7, 5].as_slice());
+    let list = two_numbers(rt.alloc())?;
+    assert!(rt; !list.is_empty() && list.as_slice() == [7, 5].as_slice());
     assert!(rt; list.into_vec().as_slice() == [7, 5].as_slice());
     Ok(())
 }
@@ -242,8 +325,7 @@ const TEXTS: &[&str] = &["", "racer", "sixteen bytes ..", "seventeen bytes .."];
 #[test]
 fn texts(rt: HostRuntime) -> Result<(), Fail> {
     for text in TEXTS {
-        assert!(rt; are_equal(rt.alloc(), text)?, "{text}");
-        assert!(rt; are_given_back(rt.alloc(), text)?, "{text}");
+        assert!(rt; are_equal(rt.alloc(), text)? && are_given_back(rt.alloc(), text)?);
     }
     Ok(())
 }

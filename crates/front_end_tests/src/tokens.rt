@@ -1,26 +1,73 @@
 //! The tokens of texts, with values worked out by hand from the JLS.
-use java_lexer::{LexFault, Lexed, lex, lex_first};
+use java_lexer::{LexFault, Lexed, Token, lex, lex_first};
 use racer_base::FileId;
 use std::alloc::{AllocError, Global};
 use std::test::Fail;
+
+/// A token with its place, and a `+` before it where it is glued to the one before.
+fn put_token(all: &mut String, token: &Token) -> Result<(), AllocError> {
+    if token.glued {
+        all.push('+')?;
+    }
+    let text = token.text.as_str();
+    let place = token.place;
+    write!(
+        all,
+        "{:?} {text} {}:{}, ",
+        token.kind, place.line, place.column
+    )
+}
 
 /// The tokens with their places, and the end.
 fn shown(alloc: Global, lexed: &Lexed) -> Result<String, AllocError> {
     let mut all = String::new(alloc);
     for token in lexed.tokens.as_slice() {
-        let glue = if token.glued { "+" } else { "" };
-        let one = format!(in alloc;
-            "{glue}{:?} {} {}:{}, ",
-            token.kind,
-            token.text.as_str(),
-            token.place.line,
-            token.place.column
-        )?;
-        all.push_str(one.as_str())?;
+        put_token(&mut all, token)?;
     }
-    let end = format!(in alloc; "end {}:{}", lexed.end.line, lexed.end.column)?;
-    all.push_str(end.as_str())?;
+    write!(&mut all, "end {}:{}", lexed.end.line, lexed.end.column)?;
     Ok(all)
+}
+
+/// A fault with its file, line and column, or its offset.
+fn fault_shown(alloc: Global, fault: LexFault) -> Result<String, AllocError> {
+    let (name, place) = match fault {
+        LexFault::Memory => return String::from_str(alloc, "memory"),
+        LexFault::NotUtf8(offset) => return format!(in alloc; "NotUtf8 {offset}"),
+        LexFault::BadCharacter(place) => ("BadCharacter", place),
+        LexFault::Unclosed(place) => ("Unclosed", place),
+        LexFault::BadLiteral(place) => ("BadLiteral", place),
+    };
+    format!(in alloc; "{name} {}:{}:{}", place.file.0, place.line, place.column)
+}
+
+/// What is read of a text, in the first grammar or in all of Java.
+fn read(alloc: Global, first: bool, text: &[u8]) -> Result<Lexed, LexFault> {
+    if first {
+        Ok(lex_first(alloc, FileId(0), text)?)
+    } else {
+        lex(alloc, FileId(3), text)
+    }
+}
+
+/// Whether a text has these tokens, or this fault.
+fn holds(alloc: Global, first: bool, text: &[u8], wanted: &str) -> Result<bool, AllocError> {
+    let made = match read(alloc, first, text) {
+        Ok(lexed) => shown(alloc, &lexed)?,
+        Err(fault) => fault_shown(alloc, fault)?,
+    };
+    Ok(made.as_str() == wanted)
+}
+
+/// How many rows hold before the first that does not.
+fn rows_that_hold(alloc: Global, first: bool, rows: &[(&[u8], &str)]) -> Result<usize, AllocError> {
+    let mut count = 0usize;
+    for (text, wanted) in rows {
+        if !holds(alloc, first, text, wanted)? {
+            return Ok(count);
+        }
+        count = count.saturating_add(1);
+    }
+    Ok(count)
 }
 
 /// Texts, and their tokens in the first grammar.
@@ -66,10 +113,7 @@ const FIRST_TOKENS: &[(&[u8], &str)] = &[
 
 #[test]
 fn first_grammar(rt: HostRuntime) -> Result<(), Fail> {
-    for (text, tokens) in FIRST_TOKENS {
-        let lexed = lex_first(rt.alloc(), FileId(0), text)?;
-        assert_eq!(rt; shown(rt.alloc(), &lexed)?.as_str(), *tokens);
-    }
+    assert!(rt; rows_that_hold(rt.alloc(), true, FIRST_TOKENS)? == FIRST_TOKENS.len());
     Ok(())
 }
 
@@ -188,27 +232,11 @@ const TOKENS: &[(&[u8], &str)] = &[
 
 #[test]
 fn tokens(rt: HostRuntime) -> Result<(), Fail> {
-    for (text, tokens) in TOKENS {
-        let lexed = lex(rt.alloc(), FileId(0), text)?;
-        assert_eq!(rt; shown(rt.alloc(), &lexed)?.as_str(), *tokens);
-    }
+    assert!(rt; rows_that_hold(rt.alloc(), false, TOKENS)? == TOKENS.len());
     Ok(())
 }
 
-/// What `lex` answers of a text that has no tokens, with the file, the line and the column, or the offset.
-fn fault(alloc: Global, text: &[u8]) -> Result<String, AllocError> {
-    let (name, place) = match lex(alloc, FileId(3), text) {
-        Ok(_) => return String::from_str(alloc, "tokens"),
-        Err(LexFault::Memory) => return String::from_str(alloc, "memory"),
-        Err(LexFault::NotUtf8(offset)) => return format!(in alloc; "NotUtf8 {offset}"),
-        Err(LexFault::BadCharacter(place)) => ("BadCharacter", place),
-        Err(LexFault::Unclosed(place)) => ("Unclosed", place),
-        Err(LexFault::BadLiteral(place)) => ("BadLiteral", place),
-    };
-    format!(in alloc; "{name} {}:{}:{}", place.file.0, place.line, place.column)
-}
-
-/// Texts without tokens, and their faults.
+/// Texts without tokens, and their faults with the file, the line and the column, or the offset.
 const FAULTS: &[(&[u8], &str)] = &[
     (b"\xff", "NotUtf8 0"),
     (b"# ab\xc3", "NotUtf8 4"),
@@ -251,6 +279,7 @@ const FAULTS: &[(&[u8], &str)] = &[
     (b"'\\400'", "BadLiteral 3:1:1"),
     (b"'\\18'", "BadLiteral 3:1:1"),
     (b"\"\"\"a\"\"\"", "BadLiteral 3:1:1"),
+    (b"String s = \"\"\"\n  a\n  \"\"\";", "BadLiteral 3:1:12"),
     (b"'\\8'", "BadLiteral 3:1:1"),
     (b"\"\\a\"", "BadLiteral 3:1:1"),
     (b"\"\\u00g0\"", "BadLiteral 3:1:1"),
@@ -260,26 +289,23 @@ const FAULTS: &[(&[u8], &str)] = &[
 
 #[test]
 fn faults(rt: HostRuntime) -> Result<(), Fail> {
-    for (text, wanted) in FAULTS {
-        let answer = fault(rt.alloc(), text)?;
-        assert_eq!(rt; answer.as_str(), *wanted, "{text:?}");
-    }
+    assert!(rt; rows_that_hold(rt.alloc(), false, FAULTS)? == FAULTS.len());
     Ok(())
 }
 
-/// How many tokens are read of 1 MiB of a byte between other texts, and the column of the end.
-fn read_long(
-    alloc: Global,
-    before: &[u8],
-    byte: u8,
-    after: &[u8],
-) -> Result<(usize, u32), LexFault> {
-    let mut text = Vec::from_slice(alloc, before).map_err(|_| LexFault::Memory)?;
+/// 1 MiB of a byte between other texts.
+fn long_text(alloc: Global, before: &[u8], byte: u8, after: &[u8]) -> Result<Vec<u8>, AllocError> {
+    let mut text = Vec::from_slice(alloc, before)?;
     for _ in 0..1_048_576 {
-        text.push(byte).map_err(|_| LexFault::Memory)?;
+        text.push(byte)?;
     }
-    text.extend_from_slice(after).map_err(|_| LexFault::Memory)?;
-    let lexed = lex(alloc, FileId(0), text.as_slice())?;
+    text.extend_from_slice(after)?;
+    Ok(text)
+}
+
+/// How many tokens are read of a text, and the column of the end.
+fn size_read(alloc: Global, text: &[u8]) -> Result<(usize, u32), LexFault> {
+    let lexed = lex(alloc, FileId(0), text)?;
     Ok((lexed.tokens.len(), lexed.end.column))
 }
 
@@ -293,9 +319,10 @@ const LONG_FILES: &[(&[u8], u8, &[u8], usize, u32)] = &[
 ];
 
 #[test]
-fn long_files(rt: HostRuntime) {
+fn long_files(rt: HostRuntime) -> Result<(), Fail> {
     for (before, byte, after, tokens, column) in LONG_FILES {
-        let answer = read_long(rt.alloc(), before, *byte, after);
-        assert_eq!(rt; answer, Ok((*tokens, *column)));
+        let text = long_text(rt.alloc(), before, *byte, after)?;
+        assert!(rt; size_read(rt.alloc(), text.as_slice()) == Ok((*tokens, *column)));
     }
+    Ok(())
 }
