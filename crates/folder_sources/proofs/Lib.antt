@@ -1,0 +1,6 @@
+mod SortedNames
+mod Fronts
+mod Added
+mod Faults
+mod There
+mod Together

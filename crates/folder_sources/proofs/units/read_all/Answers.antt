@@ -1,0 +1,42 @@
+use Rattle.std.proofs.Common.{◌≡◌, ◌≤◌, ◌∙◌, ap, sym, subst, arith, length, List, ℕ, Option, string_bytes, get_or}
+use Rattle.std.specs.Option.{IfSome}
+use Rattle.racer_base.specs.Outside.{Told}
+use Rattle.folder_sources.specs.declared.fault.SourceFault.TheVariants.{Failed}
+use Rattle.folder_sources.specs.Sources.{bytes_of}
+use Rattle.folder_sources.specs.Reading.{IsAdded}
+use Rattle.folder_sources.proofs.Added.{steady_there, counted_more, somehow_more, leads_more, read_all_told}
+use Rattle.folder_sources.proofs.units.read_all.Goals as goal
+
+pub returns-in-Err-clause-steady : goal.returns-in-Err-clause-steady
+returns-in-Err-clause-steady g c = λ steady.
+    let name = c.name-item.result in
+    steady_there (g.F.Folder.told c.args.folder.now) (g.F.Folder.told c.loop-name.folder) c.args.names.now
+    c.loop-name.name-index name c.as_str.result.now (c.in-Err.fault ≡ Failed → ⊥) c.loop-name-test.true
+    (c.as_str.ensures.value ∙ ap string_bytes c.name-item.is) c.loop-name.invariant.told
+    (c.in-Err.ensures.steady (c.loop-name.invariant.stays steady))
+
+pub loop-name-preserved : goal.loop-name-preserved
+loop-name-preserved g c =
+    let name = c.name-item.result in
+    let before = c.loop-name.invariant in
+    let after = c.in_default.ensures in
+    let old = c.loop-name.read in
+    let new = c.add_source.new.read in
+    let text = c.as_str.ensures.value ∙ ap string_bytes c.name-item.is in
+    record {
+      few = after.few;
+      count = after.count ∙ before.count;
+      told = after.told ∙ before.told;
+      stays = λ steady. after.stays (before.stays steady);
+      counted = counted_more old new c.loop-name.name-index before.counted after.any;
+      any = somehow_more old new before.any after.any;
+      leads = leads_more (g.F.Folder.told c.args.folder.now) c.args.names.now c.loop-name.name-index name old new
+          c.loop-name-test.true before.leads
+          (subst (λ (o : Option Told). IfSome o (λ (t : Told). IsAdded (bytes_of t.files (string_bytes (get_or c.args.names.now c.loop-name.name-index name))) old new)) before.told
+          (subst (λ (bytes : List ℕ). IfSome (g.F.Folder.told c.loop-name.folder) (λ (t : Told). IsAdded (bytes_of t.files bytes) old new)) text after.read));
+    }
+
+pub returns-clause-read : goal.returns-clause-read
+returns-clause-read g c =
+    read_all_told (g.F.Folder.told c.args.folder.now) c.args.names.now c.loop-name.name-index c.loop-name.read
+    (let h = c.loop-name-test.false in omega arith) c.loop-name.invariant.leads

@@ -1,0 +1,51 @@
+//! Why no sources are given.
+use crate::refusal::Refusal;
+use racer_base::{FolderFault, Memory};
+use std::alloc::AllocFailed;
+
+/// Why no sources are given.
+#[derive(Clone, Copy, Debug, PartialEq, Eq)]
+pub enum SourceFault {
+    /// They are refused.
+    Refused(Refusal),
+    /// The folder failed, and its count of faults rose.
+    Failed,
+    /// Memory was refused.
+    Memory,
+}
+
+impl From<FolderFault> for SourceFault {
+    ghost use Rattle.std.specs.Prelude.{◌≡◌};
+    ghost use Rattle.folder_sources.specs.Reading.{as_source_fault};
+
+    ghost from_gives = { λ fault given. given ≡ as_source_fault fault };
+
+    fn from(fault: FolderFault) -> SourceFault {
+        match fault {
+            FolderFault::Failed => SourceFault::Failed,
+            FolderFault::Memory => SourceFault::Memory,
+        }
+    }
+}
+
+impl From<Memory> for SourceFault {
+    ghost use Rattle.std.specs.Prelude.{◌≡◌};
+    ghost use Rattle.folder_sources.specs.declared.fault.SourceFault.TheVariants as fault;
+
+    ghost from_gives = { λ _ given. given ≡ fault.Memory };
+
+    fn from(_error: Memory) -> SourceFault {
+        SourceFault::Memory
+    }
+}
+
+impl<T: Drop> From<AllocFailed<T>> for SourceFault {
+    ghost use Rattle.std.specs.Prelude.{◌≡◌};
+    ghost use Rattle.folder_sources.specs.declared.fault.SourceFault.TheVariants as fault;
+
+    ghost from_gives = { λ _ given. given ≡ fault.Memory };
+
+    fn from(_error: AllocFailed<T>) -> SourceFault {
+        SourceFault::Memory
+    }
+}
