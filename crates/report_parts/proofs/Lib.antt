@@ -1,0 +1,6 @@
+pub mod ReportOutcomes
+pub mod SiteTables
+pub mod SortedTexts
+pub mod WobblyTexts
+pub mod WarningSides
+pub mod PlaceSteps

@@ -1,0 +1,31 @@
+-- One place more, and then those of the callee's record.
+use Rattle.std.proofs.Common.{◌≡◌, ℕ, suc, List, [], ◌∷◌, ◌++◌, Option, None, Some, option_map, sym, ap, ◌∙◌, append_assoc}
+use Rattle.racer_base.specs.declared.ids.Place.{Place}
+use Rattle.core_code.specs.Core.{Core}
+use Rattle.core_code.specs.Tree.{Operation}
+use Rattle.report_parts.specs.declared.tables.Site.{Site}
+use Rattle.report_parts.specs.Places.{Held, operation_at, callee_of, record_below, places_within}
+use Rattle.report_parts.specs.Sites.{site_of}
+
+pub next_place : (core : Core) (held : Held) (o : Option Operation) (site : Site) (n k : ℕ) (old new : List Place)
+    (left : Option Held) → operation_at core held.method held.access.site ≡ o → option_map site_of o ≡ Some site →
+    n ≡ suc k → new ≡ old ++ site.place ∷ [] → left ≡ record_below core site.callee held.access.below →
+    new ++ places_within core left k ≡ old ++ places_within core (Some held) n
+next_place core held None site n k old new left is made long grown below = cc
+next_place core held (Some o) site n k old new left is made long grown below =
+    let same : site_of o ≡ site = cc in
+    let rest : List Place = places_within core (record_below core (callee_of o.op) held.access.below) k in
+    let step : places_within core (Some held) n ≡ o.place ∷ rest =
+    ap (places_within core (Some held)) long
+    ∙ ap (λ (p : Option Operation). elim p [
+      | None ↦ []
+      | Some q ↦ q.place ∷ places_within core (record_below core (callee_of q.op) held.access.below) k
+    ]) is in
+    let others : places_within core left k ≡ rest =
+    ap (λ (l : Option Held). places_within core l k)
+    (below ∙ ap (λ (s : Site). record_below core s.callee held.access.below) (sym same)) in
+    ap (λ (ps : List Place). ps ++ places_within core left k) grown
+    ∙ append_assoc old (site.place ∷ []) (places_within core left k)
+    ∙ ap (λ (s : Site). old ++ s.place ∷ places_within core left k) (sym same)
+    ∙ ap (λ (ps : List Place). old ++ o.place ∷ ps) others
+    ∙ ap (λ (ps : List Place). old ++ ps) (sym step)

@@ -1,0 +1,7 @@
+-- A contract of a public call rests on this: the list of files.
+pub mod ByteOrder
+pub mod Texts
+pub mod Places
+pub mod Told
+pub mod Sites
+pub mod Sides

@@ -1,0 +1,25 @@
+//! What a report tells of a program, before it is laid out: texts, places, the records of warnings, summaries.
+//!
+//! # The definitions
+//!
+//! - `specs/Texts.antt`: the texts of places, methods, paths, records, values and reasons.
+//! - `specs/ByteOrder.antt`: texts in byte order.
+//! - `specs/Places.antt`: the places of a record, from its site down to its access.
+//! - `specs/Told.antt`: why a method has no summary, what a summary tells, the two records of a warning.
+//! - `specs/Sites.antt`: the same as the code holds it.
+#![tactic(auto)]
+
+pub mod laws;
+mod methods;
+mod sides;
+mod tables;
+mod texts;
+mod wobbly;
+
+pub use methods::{outcome_of, reason_of, summary_of};
+pub use sides::{Side, Sides, sides_of};
+pub use tables::{Site, place_at, sites};
+pub use texts::{
+    push_access, push_line, push_method, push_path, push_place, push_record, push_value, touch_text,
+};
+pub use wobbly::wobbly_texts;
