@@ -1,0 +1,5 @@
+mod Parts
+mod TokenPlaces
+mod MemberPlaces
+mod UnitPlaces
+mod NamedTokens

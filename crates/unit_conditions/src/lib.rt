@@ -1,0 +1,8 @@
+//! Units that are read from tokens meet the conditions of their lowering: their places stand in their files, and their
+//! names are identifiers.
+#![tactic(auto)]
+
+pub mod laws;
+mod names;
+
+pub use names::are_named;
