@@ -1,0 +1,7 @@
+pub mod AccessParts
+pub mod CallParts
+pub mod Numbering
+pub mod Joined
+pub mod Made
+pub mod NamedVariables
+pub mod OtherForms

@@ -1,0 +1,392 @@
+//! What is called (JLS 15.9, 15.12).
+ghost use Rattle.std.specs.Prelude.{◌≡◌, ◌++◌, suc, OnOk, IfOk};
+ghost use Rattle.racer_base.specs.declared.ids.Kind.{Kind};
+ghost use Rattle.core_code.specs.declared.code.Op.TheVariants.{Outside};
+ghost use Rattle.java_tree.specs.View.{ty_of};
+ghost use Rattle.java_lowering.specs.ValueKinds.{Of};
+ghost use Rattle.java_lowering.specs.Around.{op, type_kind};
+ghost use Rattle.java_lowering.specs.Calls.{callee_in, callee_of, info_at, if_static, own_callee, callee_of_value};
+ghost use Rattle.java_lowering.specs.Calls.{result_kind, parameter_kinds, call_at, constructor_in, constructor_of};
+ghost use Rattle.java_lowering.specs.Calls.{result_of};
+ghost use Rattle.expression_lowering.specs.Drafts.{code_of};
+ghost use Rattle.expression_lowering.specs.Views.{value_kind};
+ghost use Rattle.expression_lowering.specs.Parts.{callee_seen, passed_kinds, call_front, call_end, value_call_front};
+ghost use Rattle.expression_lowering.specs.Parts.{value_call_end, maker_of, made_front, made_kinds, made_end};
+
+use crate::around::Around;
+use crate::draft::Draft;
+use crate::value_kind::ValueKind;
+use core_code::Op;
+use java_tree::{Ident, TypeTree};
+use racer_base::{ClassId, Kind, Memory, MethodId, Place};
+
+/// None of the folder's; a static method, or one of an object.
+#[derive(Clone, Copy, Debug, PartialEq, Eq)]
+pub enum Callee {
+    Missing,
+    OfClass(MethodId),
+    OfObject(MethodId),
+}
+
+impl Callee {
+    /// Where there is no object.
+    fn if_static(self) -> Callee
+        ensures { callee_seen result ≡ if_static (callee_seen self) }
+    {
+        match self {
+            Callee::OfClass(m) => Callee::OfClass(m),
+            Callee::OfObject(_) => Callee::Missing,
+            Callee::Missing => Callee::Missing,
+        }
+    }
+}
+
+/// How many there are.
+fn number_of(count: usize) -> Result<u32, Memory>
+    ensures { IfOk result (λ n. n ≡ count) }
+{
+    u32::try_from(count).map_err(|_| Memory)
+}
+
+/// A method of the folder.
+fn callee_of(around: &Around, m: MethodId) -> Callee
+    ensures { callee_seen result ≡ callee_of m (info_at around.now m) }
+{
+    match around.method(m) {
+        Some(info) => {
+            if info.is_static {
+                Callee::OfClass(m)
+            } else {
+                Callee::OfObject(m)
+            }
+        }
+        None => Callee::Missing,
+    }
+}
+
+/// The method of a class by its name and its number of arguments, of two the first.
+fn callee_in(around: &Around, c: ClassId, x: &Ident, count: usize) -> Result<Callee, Memory>
+    ensures { IfOk result (λ callee. callee_seen callee ≡ callee_in around.now c x.now.text count) }
+{
+    let count = number_of(count)?;
+    match around.find(c, x.text.as_str(), count) {
+        Some(m) => Ok(callee_of(around, m)),
+        None => Ok(Callee::Missing),
+    }
+}
+
+/// The callee of f(..).
+pub fn own_callee(around: &Around, x: &Ident, count: usize) -> Result<Callee, Memory>
+    ensures { IfOk result (λ callee. callee_seen callee ≡ own_callee around.now x.now count) }
+{
+    let callee = callee_in(around, around.class(), x, count)?;
+    if around.is_static() {
+        return Ok(callee.if_static());
+    }
+    Ok(callee)
+}
+
+/// The callee of C.f(..).
+pub fn callee_of_class(
+    around: &Around,
+    c: ClassId,
+    x: &Ident,
+    count: usize,
+) -> Result<Callee, Memory>
+    ensures { IfOk result (λ callee. callee_seen callee ≡ if_static (callee_in around.now c x.now.text count)) }
+{
+    let callee = callee_in(around, c, x, count)?;
+    Ok(callee.if_static())
+}
+
+/// The callee of e.f(..), where e has this kind.
+pub fn callee_of_value(
+    around: &Around,
+    kind: ValueKind,
+    x: &Ident,
+    count: usize,
+) -> Result<Callee, Memory>
+    ensures { IfOk result (λ callee. callee_seen callee
+        ≡ callee_of_value around.now (value_kind kind) x.now count) }
+{
+    let ValueKind::Of(Kind::Declared(c)) = kind else {
+        return Ok(Callee::Missing);
+    };
+    callee_in(around, c, x, count)
+}
+
+/// The kind of what a method gives.
+fn kind_given(around: &Around, m: MethodId) -> ValueKind
+    ensures { value_kind result ≡ result_of (info_at around.now m) }
+{
+    match around.method(m) {
+        Some(info) => ValueKind::Of(info.result),
+        None => ValueKind::Of(Kind::Other),
+    }
+}
+
+/// The kind of what a call gives.
+fn result_kind(around: &Around, callee: Callee) -> ValueKind
+    ensures { value_kind result ≡ result_kind around.now (callee_seen callee) }
+{
+    match callee {
+        Callee::Missing => ValueKind::Of(Kind::Other),
+        Callee::OfClass(m) => kind_given(around, m),
+        Callee::OfObject(m) => kind_given(around, m),
+    }
+}
+
+/// What arguments are converted to: those of a method that is not analysed to nothing.
+fn parameter_kinds<'b>(around: &'b Around, m: MethodId) -> &'b [Kind]
+    ensures { result.now ≡ parameter_kinds around.now m }
+{
+    if !around.is_analysed(m) {
+        return &[];
+    }
+    match around.method(m) {
+        Some(info) => info.parameters.as_slice(),
+        None => &[],
+    }
+}
+
+/// The same of a callee.
+pub fn passed_kinds<'b>(around: &'b Around, callee: Callee) -> &'b [Kind]
+    ensures { result.now ≡ passed_kinds around.now (callee_seen callee) }
+{
+    match callee {
+        Callee::Missing => &[],
+        Callee::OfClass(m) => parameter_kinds(around, m),
+        Callee::OfObject(m) => parameter_kinds(around, m),
+    }
+}
+
+/// The call with so many values, at the place of the name or of `new`.
+fn call_at(
+    around: &Around,
+    place: Place,
+    m: MethodId,
+    count: u32,
+    draft: &mut Draft,
+) -> Result<(), Memory>
+    ensures { OnOk result (code_of draft.new ≡ code_of draft.old ++ call_at around.now place m count) }
+{
+    if around.is_analysed(m) {
+        draft.op(place, Op::Call(m, count))
+    } else {
+        draft.op(place, Op::Unread(m, count))
+    }
+}
+
+/// The call with so many arguments and an object.
+fn call_object(
+    around: &Around,
+    place: Place,
+    m: MethodId,
+    count: u32,
+    draft: &mut Draft,
+) -> Result<(), Memory>
+    ensures { OnOk result (code_of draft.new ≡ code_of draft.old ++ call_at around.now place m (suc count)) }
+{
+    let all = count.checked_add(1).ok_or(Memory)?;
+    call_at(around, place, m, all, draft)
+}
+
+/// f(..) before its arguments.
+pub fn begin_call(around: &Around, callee: Callee, draft: &mut Draft) -> Result<(), Memory>
+    ensures { OnOk result (code_of draft.new ≡ code_of draft.old ++ call_front around.now (callee_seen callee)) }
+{
+    match callee {
+        Callee::OfObject(_) => around.push_this(draft),
+        Callee::OfClass(_) => Ok(()),
+        Callee::Missing => Ok(()),
+    }
+}
+
+/// f(..) behind its arguments.
+fn end_call(
+    around: &Around,
+    place: Place,
+    count: u32,
+    callee: Callee,
+    draft: &mut Draft,
+) -> Result<(), Memory>
+    ensures { OnOk result (code_of draft.new ≡ code_of draft.old
+        ++ call_end around.now place count (callee_seen callee)) }
+{
+    match callee {
+        Callee::Missing => around.op(draft, Op::Outside(count)),
+        Callee::OfClass(m) => call_at(around, place, m, count, draft),
+        Callee::OfObject(m) => call_object(around, place, m, count, draft),
+    }
+}
+
+/// f(..) behind its arguments, of which there are so many: the kind of its value.
+pub fn finish_call(
+    around: &Around,
+    place: Place,
+    count: usize,
+    callee: Callee,
+    draft: &mut Draft,
+) -> Result<ValueKind, Memory>
+    ensures code { OnOk result (code_of draft.new ≡ code_of draft.old
+        ++ call_end around.now place count (callee_seen callee)) }
+    ensures kind { IfOk result (λ k. value_kind k ≡ result_kind around.now (callee_seen callee)) }
+{
+    end_call(around, place, number_of(count)?, callee, draft)?;
+    Ok(result_kind(around, callee))
+}
+
+/// e.f(..) between e and the arguments.
+pub fn begin_value_call(around: &Around, callee: Callee, draft: &mut Draft) -> Result<(), Memory>
+    ensures { OnOk result (code_of draft.new ≡ code_of draft.old
+        ++ value_call_front around.now (callee_seen callee)) }
+{
+    match callee {
+        Callee::OfClass(_) => around.op(draft, Op::Drop),
+        Callee::OfObject(_) => Ok(()),
+        Callee::Missing => Ok(()),
+    }
+}
+
+/// A value of no method of the folder, with so many arguments and an object.
+fn call_outside(around: &Around, count: u32, draft: &mut Draft) -> Result<(), Memory>
+    ensures { OnOk result (code_of draft.new ≡ code_of draft.old ++ op around.now (Outside (suc count))) }
+{
+    let all = count.checked_add(1).ok_or(Memory)?;
+    around.op(draft, Op::Outside(all))
+}
+
+/// e.f(..) behind its arguments.
+fn end_value_call(
+    around: &Around,
+    place: Place,
+    count: u32,
+    callee: Callee,
+    draft: &mut Draft,
+) -> Result<(), Memory>
+    ensures { OnOk result (code_of draft.new ≡ code_of draft.old
+        ++ value_call_end around.now place count (callee_seen callee)) }
+{
+    match callee {
+        Callee::Missing => call_outside(around, count, draft),
+        Callee::OfClass(m) => call_at(around, place, m, count, draft),
+        Callee::OfObject(m) => call_object(around, place, m, count, draft),
+    }
+}
+
+/// e.f(..) behind its arguments, of which there are so many: the kind of its value.
+pub fn finish_value_call(
+    around: &Around,
+    place: Place,
+    count: usize,
+    callee: Callee,
+    draft: &mut Draft,
+) -> Result<ValueKind, Memory>
+    ensures code { OnOk result (code_of draft.new ≡ code_of draft.old
+        ++ value_call_end around.now place count (callee_seen callee)) }
+    ensures kind { IfOk result (λ k. value_kind k ≡ result_kind around.now (callee_seen callee)) }
+{
+    end_value_call(around, place, number_of(count)?, callee, draft)?;
+    Ok(result_kind(around, callee))
+}
+
+/// The method, if it is a constructor.
+fn if_constructor(around: &Around, m: MethodId) -> Option<MethodId>
+    ensures { result ≡ constructor_of m (info_at around.now m) }
+{
+    let info = around.method(m)?;
+    info.is_constructor.then_some(m)
+}
+
+/// The constructor of a class by its number of arguments, of two the first.
+fn constructor_in(around: &Around, c: ClassId, count: u32) -> Option<MethodId>
+    ensures { result ≡ constructor_in around.now c count }
+{
+    let m = around.find(c, "<new>", count)?;
+    if_constructor(around, m)
+}
+
+/// The class of new T(..) and its constructor, where T has this kind.
+fn maker_of(around: &Around, kind: Kind, count: u32) -> Option<(ClassId, MethodId)>
+    ensures { result ≡ maker_of around.now kind count }
+{
+    let Kind::Declared(c) = kind else {
+        return None;
+    };
+    let m = constructor_in(around, c, count)?;
+    Some((c, m))
+}
+
+/// The new object, if it is of a class of the folder.
+fn push_new(
+    place: Place,
+    maker: Option<(ClassId, MethodId)>,
+    draft: &mut Draft,
+) -> Result<(), Memory>
+    ensures { OnOk result (code_of draft.new ≡ code_of draft.old ++ made_front place maker) }
+{
+    match maker {
+        Some(made) => draft.op(place, Op::New(made.0)),
+        None => Ok(()),
+    }
+}
+
+/// new T(..) before its arguments, of which there are so many: the class and its constructor.
+pub fn begin_new(
+    around: &Around,
+    place: Place,
+    t: &TypeTree,
+    count: usize,
+    draft: &mut Draft,
+) -> Result<Option<(ClassId, MethodId)>, Memory>
+    ensures code { OnOk result (code_of draft.new ≡ code_of draft.old
+        ++ made_front place (maker_of around.now (type_kind around.now (ty_of t.now)) count)) }
+    ensures maker { IfOk result (λ maker. maker
+        ≡ maker_of around.now (type_kind around.now (ty_of t.now)) count) }
+{
+    let maker = maker_of(around, around.type_kind(t), number_of(count)?);
+    push_new(place, maker, draft)?;
+    Ok(maker)
+}
+
+/// What the arguments of new T(..) are converted to.
+pub fn made_kinds<'b>(around: &'b Around, maker: Option<(ClassId, MethodId)>) -> &'b [Kind]
+    ensures { result.now ≡ made_kinds around.now maker }
+{
+    match maker {
+        Some(made) => parameter_kinds(around, made.1),
+        None => &[],
+    }
+}
+
+/// new T(..) behind its arguments.
+fn end_new(
+    around: &Around,
+    place: Place,
+    count: u32,
+    maker: Option<(ClassId, MethodId)>,
+    draft: &mut Draft,
+) -> Result<(), Memory>
+    ensures { OnOk result (code_of draft.new ≡ code_of draft.old ++ made_end around.now place count maker) }
+{
+    match maker {
+        Some(made) => call_object(around, place, made.1, count, draft),
+        None => draft.op(place, Op::Outside(count)),
+    }
+}
+
+/// new T(..) behind its arguments, of which there are so many: the kind of T.
+pub fn finish_new(
+    around: &Around,
+    place: Place,
+    t: &TypeTree,
+    count: usize,
+    maker: Option<(ClassId, MethodId)>,
+    draft: &mut Draft,
+) -> Result<ValueKind, Memory>
+    ensures code { OnOk result (code_of draft.new ≡ code_of draft.old ++ made_end around.now place count maker) }
+    ensures kind { IfOk result (λ k. value_kind k ≡ Of (type_kind around.now (ty_of t.now))) }
+{
+    end_new(around, place, number_of(count)?, maker, draft)?;
+    Ok(ValueKind::Of(around.type_kind(t)))
+}

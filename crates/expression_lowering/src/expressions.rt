@@ -1,0 +1,610 @@
+//! The code of expressions (JLS 15) and array initialisers (JLS 10.6).
+ghost use Rattle.std.specs.Prelude.{◌≡◌, ◌++◌, map, drop, OnOk, IfOk};
+ghost use Rattle.racer_base.specs.declared.ids.Kind.TheVariants as kinds;
+ghost use Rattle.java_tree.specs.View.{ty_of};
+ghost use Rattle.java_lowering.specs.Trees.{Read, Unary, Cast, Binary, Logical, Conditional, Assign, Combine, Count};
+ghost use Rattle.java_lowering.specs.Trees.{Selected, Call, CallOn, New, NewArray, NewItems, pack_exprs, pack_inits};
+ghost use Rattle.java_lowering.specs.TreesOf.{access_of, expr_of, init_of, assignment, prefix, binary};
+ghost use Rattle.java_lowering.specs.ValueKinds.{Of};
+ghost use Rattle.java_lowering.specs.Calls.{result_kind};
+ghost use Rattle.java_lowering.specs.Expressions.{code, kind, storage, passed, init_code, init_kind, items_code};
+ghost use Rattle.expression_lowering.specs.Drafts.{code_of};
+ghost use Rattle.expression_lowering.specs.Views.{value_kind};
+ghost use Rattle.expression_lowering.specs.Parts.{base_of, without_base, converted_first, called_with};
+ghost use Rattle.expression_lowering.specs.Parts.{called_behind, callee_seen, class_call, class_call_kind, value_call};
+ghost use Rattle.expression_lowering.specs.Parts.{value_call_kind};
+ghost use Rattle.expression_lowering.specs.declared.storage.Storage.TheVariants.{Elsewhere as StoredElsewhere};
+
+use crate::around::Around;
+use crate::calls::{
+    Callee, begin_call, begin_new, begin_value_call, callee_of_class, callee_of_value, finish_call,
+    finish_new, finish_value_call, made_kinds, own_callee, passed_kinds,
+};
+use crate::draft::Draft;
+use crate::names::{class_before, this_object};
+use crate::operators::{is_assignment, is_count, is_logical, literal};
+use crate::storage::{Storage, fetch, named, of_class, of_value};
+use crate::value_kind::ValueKind;
+use crate::values::{
+    assign_value, begin_conditional, begin_logical, binary, cast_to, class_value, combine_value,
+    count_value, end_conditional, end_logical, new_array, read_value, unary,
+};
+use java_tree::{Expression, Ident, Initialiser, TypeTree};
+use racer_base::{ClassId, Kind, Memory, Place};
+use std::alloc::Global;
+
+/// What an argument goes through on its way to the kind with this index, if there is one.
+fn convert_at(
+    around: &Around,
+    kinds: &[Kind],
+    index: usize,
+    given: ValueKind,
+    draft: &mut Draft,
+) -> Result<(), Memory>
+    ensures { OnOk result (code_of draft.new ≡ code_of draft.old
+        ++ converted_first around.now (drop index kinds.now) (value_kind given)) }
+{
+    match kinds.get(index) {
+        Some(kind) => around.convert(draft, *kind, given),
+        None => Ok(()),
+    }
+}
+
+/// The code of an expression, which leaves one value, of this kind.
+#[cycle(lower_expressions)]
+pub fn lower_expression(
+    alloc: Global,
+    around: &Around,
+    e: &Expression,
+    draft: &mut Draft,
+) -> Result<ValueKind, Memory>
+    ensures code { OnOk result (code_of draft.new ≡ code_of draft.old ++ code around.now (expr_of e.now)) }
+    ensures kind { IfOk result (λ k. value_kind k ≡ kind around.now (expr_of e.now)) }
+{
+    match e {
+        Expression::Assign(a, op, b) => lower_assign(alloc, around, a, op.as_str(), b, draft),
+        Expression::Conditional(c, a, b) => lower_conditional(alloc, around, c, a, b, draft),
+        Expression::Binary(a, op, b) => lower_operator(alloc, around, a, op.as_str(), b, draft),
+        Expression::InstanceOf(a, _) => lower_unary(alloc, around, a, draft),
+        Expression::Prefix(op, a) => lower_prefix(alloc, around, a, op.as_str(), draft),
+        Expression::Cast(t, a) => lower_cast(alloc, around, a, t, draft),
+        Expression::Postfix(a, _) => lower_count(alloc, around, a, draft),
+        Expression::Literal(kind, text) => literal(around, *kind, text.as_str(), draft),
+        Expression::This => this_object(around, draft),
+        Expression::Paren(a) => lower_expression(alloc, around, a, draft),
+        Expression::Name(_) => lower_read(alloc, around, e, draft),
+        Expression::Field(_, _) => lower_read(alloc, around, e, draft),
+        Expression::Index(_, _) => lower_read(alloc, around, e, draft),
+        Expression::Call(None, x, all) => lower_own_call(alloc, around, all, x, draft),
+        Expression::Call(Some(a), x, all) => lower_call_on(alloc, around, a, x, all, draft),
+        Expression::ClassOf(names) => class_value(around, names, draft),
+        Expression::New(place, t, all) => lower_new(alloc, around, all, *place, t, draft),
+        Expression::NewArray(place, _, all, _) => lower_lengths(alloc, around, all, *place, draft),
+        Expression::NewItems(place, _, _, array) => {
+            lower_array(alloc, around, &array.items, *place, draft)
+        }
+    }
+}
+
+/// What an assignment stores to, behind the code of its operands.
+#[cycle(lower_expressions)]
+fn lower_storage(
+    alloc: Global,
+    around: &Around,
+    e: &Expression,
+    draft: &mut Draft,
+) -> Result<Storage, Memory>
+    ensures code { OnOk result (code_of draft.new ≡ code_of draft.old
+        ++ base_of (storage around.now (access_of (expr_of e.now)))) }
+    ensures storage { IfOk result (λ s. s ≡ without_base (storage around.now (access_of (expr_of e.now)))) }
+{
+    match e {
+        Expression::Name(x) => named(around, x, draft),
+        Expression::Field(a, x) => lower_selected(alloc, around, a, x, draft),
+        Expression::Index(a, i) => lower_element(alloc, around, a, i, draft),
+        _ => Ok(Storage::Elsewhere(0)),
+    }
+}
+
+/// a.x
+#[cycle(lower_expressions)]
+fn lower_selected(
+    alloc: Global,
+    around: &Around,
+    a: &Expression,
+    x: &Ident,
+    draft: &mut Draft,
+) -> Result<Storage, Memory>
+    ensures code { OnOk result (code_of draft.new ≡ code_of draft.old
+        ++ base_of (storage around.now (Selected (expr_of a.now) x.now))) }
+    ensures storage { IfOk result (λ s. s ≡ without_base (storage around.now (Selected (expr_of a.now) x.now))) }
+{
+    if let Some(c) = class_before(around, a) {
+        return of_class(around, c, x, draft);
+    }
+    let kind = lower_expression(alloc, around, a, draft)?;
+    of_value(around, kind, x, draft)
+}
+
+/// `a[i]`
+#[cycle(lower_expressions)]
+fn lower_element(
+    alloc: Global,
+    around: &Around,
+    a: &Expression,
+    i: &Expression,
+    draft: &mut Draft,
+) -> Result<Storage, Memory>
+    ensures code { OnOk result (code_of draft.new ≡ code_of draft.old
+        ++ (code around.now (expr_of a.now) ++ code around.now (expr_of i.now))) }
+    ensures storage { IfOk result (λ s. s ≡ StoredElsewhere 2) }
+{
+    lower_expression(alloc, around, a, draft)?;
+    lower_expression(alloc, around, i, draft)?;
+    Ok(Storage::Elsewhere(2))
+}
+
+/// A name, a field access or an array access as a value.
+#[cycle(lower_expressions)]
+fn lower_read(
+    alloc: Global,
+    around: &Around,
+    e: &Expression,
+    draft: &mut Draft,
+) -> Result<ValueKind, Memory>
+    ensures code { OnOk result (code_of draft.new ≡ code_of draft.old
+        ++ code around.now (Read (access_of (expr_of e.now)))) }
+    ensures kind { IfOk result (λ k. value_kind k ≡ kind around.now (Read (access_of (expr_of e.now)))) }
+{
+    let storage = lower_storage(alloc, around, e, draft)?;
+    read_value(around, storage, draft)
+}
+
+/// An assignment with this operator.
+#[cycle(lower_expressions)]
+fn lower_assign(
+    alloc: Global,
+    around: &Around,
+    a: &Expression,
+    op: &str,
+    b: &Expression,
+    draft: &mut Draft,
+) -> Result<ValueKind, Memory>
+    ensures code { OnOk result (code_of draft.new ≡ code_of draft.old
+        ++ code around.now (assignment op.now (access_of (expr_of a.now)) (expr_of b.now))) }
+    ensures kind { IfOk result (λ k. value_kind k
+        ≡ kind around.now (assignment op.now (access_of (expr_of a.now)) (expr_of b.now))) }
+{
+    if is_assignment(op) {
+        lower_assignment(alloc, around, a, b, draft)
+    } else {
+        lower_combination(alloc, around, a, b, draft)
+    }
+}
+
+/// `a = b`
+#[cycle(lower_expressions)]
+fn lower_assignment(
+    alloc: Global,
+    around: &Around,
+    a: &Expression,
+    b: &Expression,
+    draft: &mut Draft,
+) -> Result<ValueKind, Memory>
+    ensures code { OnOk result (code_of draft.new ≡ code_of draft.old
+        ++ code around.now (Assign (access_of (expr_of a.now)) (expr_of b.now))) }
+    ensures kind { IfOk result (λ k. value_kind k ≡ kind around.now
+        (Assign (access_of (expr_of a.now)) (expr_of b.now))) }
+{
+    let target = lower_storage(alloc, around, a, draft)?;
+    let given = lower_expression(alloc, around, b, draft)?;
+    assign_value(around, target, given, draft)
+}
+
+/// `a += b` and the like
+#[cycle(lower_expressions)]
+fn lower_combination(
+    alloc: Global,
+    around: &Around,
+    a: &Expression,
+    b: &Expression,
+    draft: &mut Draft,
+) -> Result<ValueKind, Memory>
+    ensures code { OnOk result (code_of draft.new ≡ code_of draft.old
+        ++ code around.now (Combine (access_of (expr_of a.now)) (expr_of b.now))) }
+    ensures kind { IfOk result (λ k. value_kind k ≡ kind around.now
+        (Combine (access_of (expr_of a.now)) (expr_of b.now))) }
+{
+    let storage = lower_storage(alloc, around, a, draft)?;
+    fetch(around, storage, draft)?;
+    lower_expression(alloc, around, b, draft)?;
+    combine_value(around, storage, draft)
+}
+
+/// A prefix operator.
+#[cycle(lower_expressions)]
+fn lower_prefix(
+    alloc: Global,
+    around: &Around,
+    a: &Expression,
+    op: &str,
+    draft: &mut Draft,
+) -> Result<ValueKind, Memory>
+    ensures code { OnOk result (code_of draft.new ≡ code_of draft.old
+        ++ code around.now (prefix op.now (expr_of a.now))) }
+    ensures kind { IfOk result (λ k. value_kind k ≡ kind around.now (prefix op.now (expr_of a.now))) }
+{
+    if is_count(op) {
+        lower_count(alloc, around, a, draft)
+    } else {
+        lower_unary(alloc, around, a, draft)
+    }
+}
+
+/// `++a`, `a++` and the like
+#[cycle(lower_expressions)]
+fn lower_count(
+    alloc: Global,
+    around: &Around,
+    a: &Expression,
+    draft: &mut Draft,
+) -> Result<ValueKind, Memory>
+    ensures code { OnOk result (code_of draft.new ≡ code_of draft.old
+        ++ code around.now (Count (access_of (expr_of a.now)))) }
+    ensures kind { IfOk result (λ k. value_kind k ≡ Of kinds.Plain) }
+{
+    let storage = lower_storage(alloc, around, a, draft)?;
+    count_value(around, storage, draft)
+}
+
+/// An operator with one operand.
+#[cycle(lower_expressions)]
+fn lower_unary(
+    alloc: Global,
+    around: &Around,
+    a: &Expression,
+    draft: &mut Draft,
+) -> Result<ValueKind, Memory>
+    ensures code { OnOk result (code_of draft.new ≡ code_of draft.old ++ code around.now (Unary (expr_of a.now))) }
+    ensures kind { IfOk result (λ k. value_kind k ≡ Of kinds.Plain) }
+{
+    lower_expression(alloc, around, a, draft)?;
+    unary(around, draft)
+}
+
+/// `(T) a`
+#[cycle(lower_expressions)]
+fn lower_cast(
+    alloc: Global,
+    around: &Around,
+    a: &Expression,
+    t: &TypeTree,
+    draft: &mut Draft,
+) -> Result<ValueKind, Memory>
+    ensures code { OnOk result (code_of draft.new ≡ code_of draft.old
+        ++ code around.now (Cast (ty_of t.now) (expr_of a.now))) }
+    ensures kind { IfOk result (λ k. value_kind k ≡ kind around.now (Cast (ty_of t.now) (expr_of a.now))) }
+{
+    lower_expression(alloc, around, a, draft)?;
+    cast_to(around, t, draft)
+}
+
+/// An operator with two operands.
+#[cycle(lower_expressions)]
+fn lower_operator(
+    alloc: Global,
+    around: &Around,
+    a: &Expression,
+    op: &str,
+    b: &Expression,
+    draft: &mut Draft,
+) -> Result<ValueKind, Memory>
+    ensures code { OnOk result (code_of draft.new ≡ code_of draft.old
+        ++ code around.now (binary op.now (expr_of a.now) (expr_of b.now))) }
+    ensures kind { IfOk result (λ k. value_kind k ≡ kind around.now
+        (binary op.now (expr_of a.now) (expr_of b.now))) }
+{
+    if is_logical(op) {
+        lower_logical(alloc, around, a, b, draft)
+    } else {
+        lower_binary(alloc, around, a, b, draft)
+    }
+}
+
+/// `a && b` and `a || b`
+#[cycle(lower_expressions)]
+fn lower_logical(
+    alloc: Global,
+    around: &Around,
+    a: &Expression,
+    b: &Expression,
+    draft: &mut Draft,
+) -> Result<ValueKind, Memory>
+    ensures code { OnOk result (code_of draft.new ≡ code_of draft.old
+        ++ code around.now (Logical (expr_of a.now) (expr_of b.now))) }
+    ensures kind { IfOk result (λ k. value_kind k ≡ Of kinds.Plain) }
+{
+    lower_expression(alloc, around, a, draft)?;
+    let at = begin_logical(around, draft)?;
+    lower_expression(alloc, around, b, draft)?;
+    end_logical(alloc, around, at, draft)
+}
+
+/// `a + b` and the like
+#[cycle(lower_expressions)]
+fn lower_binary(
+    alloc: Global,
+    around: &Around,
+    a: &Expression,
+    b: &Expression,
+    draft: &mut Draft,
+) -> Result<ValueKind, Memory>
+    ensures code { OnOk result (code_of draft.new ≡ code_of draft.old
+        ++ code around.now (Binary (expr_of a.now) (expr_of b.now))) }
+    ensures kind { IfOk result (λ k. value_kind k ≡ Of kinds.Plain) }
+{
+    lower_expression(alloc, around, a, draft)?;
+    lower_expression(alloc, around, b, draft)?;
+    binary(around, draft)
+}
+
+/// `c ? a : b`
+#[cycle(lower_expressions)]
+fn lower_conditional(
+    alloc: Global,
+    around: &Around,
+    c: &Expression,
+    a: &Expression,
+    b: &Expression,
+    draft: &mut Draft,
+) -> Result<ValueKind, Memory>
+    ensures code { OnOk result (code_of draft.new ≡ code_of draft.old
+        ++ code around.now (Conditional (expr_of c.now) (expr_of a.now) (expr_of b.now))) }
+    ensures kind { IfOk result (λ k. value_kind k ≡ kind around.now
+        (Conditional (expr_of c.now) (expr_of a.now) (expr_of b.now))) }
+{
+    lower_expression(alloc, around, c, draft)?;
+    let left = begin_conditional(around, draft)?;
+    let first = lower_expression(alloc, around, a, draft)?;
+    let right = draft.len();
+    let second = lower_expression(alloc, around, b, draft)?;
+    end_conditional(alloc, (left, right), (first, second), draft)
+}
+
+/// Arguments, converted to kinds as far as these go.
+#[cycle(lower_expressions)]
+fn lower_arguments(
+    alloc: Global,
+    around: &Around,
+    arguments: &[Expression],
+    kinds: &[Kind],
+    draft: &mut Draft,
+) -> Result<(), Memory>
+    ensures { OnOk result (code_of draft.new ≡ code_of draft.old
+        ++ passed around.now kinds.now (pack_exprs (map expr_of arguments.now))) }
+{
+    for (index, argument) in arguments.iter().enumerate() {
+        let given = lower_expression(alloc, around, argument, draft)?;
+        convert_at(around, kinds, index, given, draft)?;
+    }
+    Ok(())
+}
+
+/// f(..)
+#[cycle(lower_expressions)]
+fn lower_own_call(
+    alloc: Global,
+    around: &Around,
+    arguments: &[Expression],
+    x: &Ident,
+    draft: &mut Draft,
+) -> Result<ValueKind, Memory>
+    ensures code { OnOk result (code_of draft.new ≡ code_of draft.old
+        ++ code around.now (Call x.now (pack_exprs (map expr_of arguments.now)))) }
+    ensures kind { IfOk result (λ k. value_kind k ≡ kind around.now
+        (Call x.now (pack_exprs (map expr_of arguments.now)))) }
+{
+    let callee = own_callee(around, x, arguments.len())?;
+    lower_call(alloc, around, arguments, x.place, callee, draft)
+}
+
+/// f(..) and C.f(..), where this is the callee.
+#[cycle(lower_expressions)]
+fn lower_call(
+    alloc: Global,
+    around: &Around,
+    arguments: &[Expression],
+    place: Place,
+    callee: Callee,
+    draft: &mut Draft,
+) -> Result<ValueKind, Memory>
+    ensures code { OnOk result (code_of draft.new ≡ code_of draft.old
+        ++ called_with around.now place callee (pack_exprs (map expr_of arguments.now))) }
+    ensures kind { IfOk result (λ k. value_kind k ≡ result_kind around.now (callee_seen callee)) }
+{
+    begin_call(around, callee, draft)?;
+    lower_arguments(
+        alloc,
+        around,
+        arguments,
+        passed_kinds(around, callee),
+        draft,
+    )?;
+    finish_call(around, place, arguments.len(), callee, draft)
+}
+
+/// e.f(..)
+#[cycle(lower_expressions)]
+fn lower_call_on(
+    alloc: Global,
+    around: &Around,
+    e: &Expression,
+    x: &Ident,
+    arguments: &[Expression],
+    draft: &mut Draft,
+) -> Result<ValueKind, Memory>
+    ensures code { OnOk result (code_of draft.new ≡ code_of draft.old
+        ++ code around.now (CallOn (expr_of e.now) x.now (pack_exprs (map expr_of arguments.now)))) }
+    ensures kind { IfOk result (λ k. value_kind k ≡ kind around.now
+        (CallOn (expr_of e.now) x.now (pack_exprs (map expr_of arguments.now)))) }
+{
+    match class_before(around, e) {
+        Some(c) => lower_class_call(alloc, around, arguments, c, x, draft),
+        None => lower_object_call(alloc, around, e, x, arguments, draft),
+    }
+}
+
+/// C.f(..)
+#[cycle(lower_expressions)]
+fn lower_class_call(
+    alloc: Global,
+    around: &Around,
+    arguments: &[Expression],
+    c: ClassId,
+    x: &Ident,
+    draft: &mut Draft,
+) -> Result<ValueKind, Memory>
+    ensures code { OnOk result (code_of draft.new ≡ code_of draft.old
+        ++ class_call around.now c x.now (pack_exprs (map expr_of arguments.now))) }
+    ensures kind { IfOk result (λ k. value_kind k
+        ≡ class_call_kind around.now c x.now (pack_exprs (map expr_of arguments.now))) }
+{
+    let callee = callee_of_class(around, c, x, arguments.len())?;
+    lower_call(alloc, around, arguments, x.place, callee, draft)
+}
+
+/// e.f(..), where e names no class.
+#[cycle(lower_expressions)]
+fn lower_object_call(
+    alloc: Global,
+    around: &Around,
+    e: &Expression,
+    x: &Ident,
+    arguments: &[Expression],
+    draft: &mut Draft,
+) -> Result<ValueKind, Memory>
+    ensures code { OnOk result (code_of draft.new ≡ code_of draft.old
+        ++ value_call around.now (expr_of e.now) x.now (pack_exprs (map expr_of arguments.now))) }
+    ensures kind { IfOk result (λ k. value_kind k
+        ≡ value_call_kind around.now (expr_of e.now) x.now (pack_exprs (map expr_of arguments.now))) }
+{
+    let kind = lower_expression(alloc, around, e, draft)?;
+    let callee = callee_of_value(around, kind, x, arguments.len())?;
+    lower_value_call(alloc, around, arguments, x.place, callee, draft)
+}
+
+/// What stands behind e in e.f(..), where this is the callee.
+#[cycle(lower_expressions)]
+fn lower_value_call(
+    alloc: Global,
+    around: &Around,
+    arguments: &[Expression],
+    place: Place,
+    callee: Callee,
+    draft: &mut Draft,
+) -> Result<ValueKind, Memory>
+    ensures code { OnOk result (code_of draft.new ≡ code_of draft.old
+        ++ called_behind around.now place callee (pack_exprs (map expr_of arguments.now))) }
+    ensures kind { IfOk result (λ k. value_kind k ≡ result_kind around.now (callee_seen callee)) }
+{
+    begin_value_call(around, callee, draft)?;
+    lower_arguments(
+        alloc,
+        around,
+        arguments,
+        passed_kinds(around, callee),
+        draft,
+    )?;
+    finish_value_call(around, place, arguments.len(), callee, draft)
+}
+
+/// new T(..)
+#[cycle(lower_expressions)]
+fn lower_new(
+    alloc: Global,
+    around: &Around,
+    arguments: &[Expression],
+    place: Place,
+    t: &TypeTree,
+    draft: &mut Draft,
+) -> Result<ValueKind, Memory>
+    ensures code { OnOk result (code_of draft.new ≡ code_of draft.old
+        ++ code around.now (New place (ty_of t.now) (pack_exprs (map expr_of arguments.now)))) }
+    ensures kind { IfOk result (λ k. value_kind k ≡ kind around.now
+        (New place (ty_of t.now) (pack_exprs (map expr_of arguments.now)))) }
+{
+    let maker = begin_new(around, place, t, arguments.len(), draft)?;
+    lower_arguments(alloc, around, arguments, made_kinds(around, maker), draft)?;
+    finish_new(around, place, t, arguments.len(), maker, draft)
+}
+
+/// new T[a]..
+#[cycle(lower_expressions)]
+fn lower_lengths(
+    alloc: Global,
+    around: &Around,
+    lengths: &[Expression],
+    place: Place,
+    draft: &mut Draft,
+) -> Result<ValueKind, Memory>
+    ensures code { OnOk result (code_of draft.new ≡ code_of draft.old
+        ++ code around.now (NewArray place (pack_exprs (map expr_of lengths.now)))) }
+    ensures kind { IfOk result (λ k. value_kind k ≡ Of kinds.Other) }
+{
+    lower_arguments(alloc, around, lengths, &[], draft)?;
+    new_array(place, lengths.len(), draft)
+}
+
+/// The items of an array, and the array.
+#[cycle(lower_expressions)]
+fn lower_array(
+    alloc: Global,
+    around: &Around,
+    items: &[Initialiser],
+    place: Place,
+    draft: &mut Draft,
+) -> Result<ValueKind, Memory>
+    ensures code { OnOk result (code_of draft.new ≡ code_of draft.old
+        ++ code around.now (NewItems place (pack_inits (map init_of items.now)))) }
+    ensures kind { IfOk result (λ k. value_kind k ≡ Of kinds.Other) }
+{
+    lower_items(alloc, around, items, draft)?;
+    new_array(place, items.len(), draft)
+}
+
+/// What a variable or an element begins with.
+#[cycle(lower_expressions)]
+pub fn lower_initialiser(
+    alloc: Global,
+    around: &Around,
+    initialiser: &Initialiser,
+    draft: &mut Draft,
+) -> Result<ValueKind, Memory>
+    ensures code { OnOk result (code_of draft.new ≡ code_of draft.old
+        ++ init_code around.now (init_of initialiser.now)) }
+    ensures kind { IfOk result (λ k. value_kind k ≡ init_kind around.now (init_of initialiser.now)) }
+{
+    match initialiser {
+        Initialiser::Value(e) => lower_expression(alloc, around, e, draft),
+        Initialiser::Items(array) => {
+            lower_array(alloc, around, &array.items, around.place(), draft)
+        }
+    }
+}
+
+/// The items of an array.
+#[cycle(lower_expressions)]
+fn lower_items(
+    alloc: Global,
+    around: &Around,
+    items: &[Initialiser],
+    draft: &mut Draft,
+) -> Result<(), Memory>
+    ensures { OnOk result (code_of draft.new ≡ code_of draft.old
+        ++ items_code around.now (pack_inits (map init_of items.now))) }
+{
+    for item in items {
+        lower_initialiser(alloc, around, item, draft)?;
+    }
+    Ok(())
+}

@@ -1,0 +1,10 @@
+//! What a method gives to its caller.
+use racer_base::Kind;
+
+/// A constructor gives its object, another method nothing, or a value of a kind.
+#[derive(Clone, Copy, Debug, PartialEq, Eq)]
+pub enum Given {
+    Itself,
+    Nothing,
+    Value(Kind),
+}

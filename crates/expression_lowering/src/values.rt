@@ -1,0 +1,175 @@
+//! The ends of expressions: what makes a value of those of the parts.
+ghost use Rattle.std.specs.Prelude.{◌≡◌, ◌++◌, [], length, OnOk, IfOk};
+ghost use Rattle.racer_base.specs.declared.ids.Kind.TheVariants.{Plain, Other};
+ghost use Rattle.java_tree.specs.View.{ty_of};
+ghost use Rattle.core_code.specs.declared.code.Op.TheVariants.{Drop, Prim, Outside};
+ghost use Rattle.java_lowering.specs.ValueKinds.{Of, common_kind};
+ghost use Rattle.java_lowering.specs.Around.{Code, op, op_at, choice, type_kind};
+ghost use Rattle.java_lowering.specs.Expressions.{cast, class_object, class_written};
+ghost use Rattle.expression_lowering.specs.Drafts.{code_of};
+ghost use Rattle.expression_lowering.specs.Views.{value_kind};
+ghost use Rattle.expression_lowering.specs.Parts.{storage_kind, then_read, then_assigned, then_fetched, then_combined};
+ghost use Rattle.expression_lowering.specs.Parts.{then_counted};
+
+use crate::around::Around;
+use crate::draft::Draft;
+use crate::names::class_object;
+use crate::operators::cast;
+use crate::storage::{Storage, assign, combine, count, fetch, read};
+use crate::value_kind::{ValueKind, common_kind};
+use core_code::Op;
+use java_tree::{Ident, TypeTree};
+use racer_base::{Kind, Memory, Place};
+use std::alloc::Global;
+
+/// Behind the operand of an operator with one operand.
+pub fn unary(around: &Around, draft: &mut Draft) -> Result<ValueKind, Memory>
+    ensures code { OnOk result (code_of draft.new ≡ code_of draft.old ++ op around.now (Prim 1)) }
+    ensures kind { IfOk result (λ k. value_kind k ≡ Of Plain) }
+{
+    around.op(draft, Op::Prim(1))?;
+    Ok(ValueKind::Of(Kind::Plain))
+}
+
+/// Behind the operands of an operator with two operands.
+pub fn binary(around: &Around, draft: &mut Draft) -> Result<ValueKind, Memory>
+    ensures code { OnOk result (code_of draft.new ≡ code_of draft.old ++ op around.now (Prim 2)) }
+    ensures kind { IfOk result (λ k. value_kind k ≡ Of Plain) }
+{
+    around.op(draft, Op::Prim(2))?;
+    Ok(ValueKind::Of(Kind::Plain))
+}
+
+/// Behind what is cast to a type.
+pub fn cast_to(around: &Around, t: &TypeTree, draft: &mut Draft) -> Result<ValueKind, Memory>
+    ensures code { OnOk result (code_of draft.new ≡ code_of draft.old
+        ++ cast around.now (type_kind around.now (ty_of t.now))) }
+    ensures kind { IfOk result (λ k. value_kind k ≡ Of (type_kind around.now (ty_of t.now))) }
+{
+    let kind = around.type_kind(t);
+    cast(around, kind, draft)?;
+    Ok(ValueKind::Of(kind))
+}
+
+/// Behind the left operand of `&&` or `||`: where the right one begins.
+pub fn begin_logical(around: &Around, draft: &mut Draft) -> Result<usize, Memory>
+    ensures code { OnOk result (code_of draft.new ≡ code_of draft.old ++ op around.now (Prim 1)) }
+    ensures at { IfOk result (λ at. at ≡ length (code_of draft.new)) }
+{
+    around.op(draft, Op::Prim(1))?;
+    Ok(draft.len())
+}
+
+/// Behind the right operand of `&&` or `||`, which began here.
+pub fn end_logical(
+    alloc: Global,
+    around: &Around,
+    at: usize,
+    draft: &mut Draft,
+) -> Result<ValueKind, Memory>
+    ensures code { OnOk result ((left right : Code) → at ≡ length left → code_of draft.old ≡ left ++ right
+        → code_of draft.new ≡ left ++ choice (right ++ op around.now (Prim 2)) []) }
+    ensures kind { IfOk result (λ k. value_kind k ≡ Of Plain) }
+{
+    around.op(draft, Op::Prim(2))?;
+    let end = draft.len();
+    draft.choose(alloc, at, end)?;
+    Ok(ValueKind::Of(Kind::Plain))
+}
+
+/// Behind a condition: where the value for true begins.
+pub fn begin_conditional(around: &Around, draft: &mut Draft) -> Result<usize, Memory>
+    ensures code { OnOk result (code_of draft.new ≡ code_of draft.old ++ op around.now Drop) }
+    ensures at { IfOk result (λ at. at ≡ length (code_of draft.new)) }
+{
+    around.op(draft, Op::Drop)?;
+    Ok(draft.len())
+}
+
+/// Behind both values of a condition, which began here and there.
+pub fn end_conditional(
+    alloc: Global,
+    values: (usize, usize),
+    kinds: (ValueKind, ValueKind),
+    draft: &mut Draft,
+) -> Result<ValueKind, Memory>
+    ensures code { OnOk result ((start left right : Code) → values.0 ≡ length start
+        → values.1 ≡ length (start ++ left) → code_of draft.old ≡ start ++ left ++ right
+        → code_of draft.new ≡ start ++ choice left right) }
+    ensures kind { IfOk result (λ k. value_kind k ≡ common_kind (value_kind kinds.0) (value_kind kinds.1)) }
+{
+    draft.choose(alloc, values.0, values.1)?;
+    Ok(common_kind(kinds.0, kinds.1))
+}
+
+/// Behind an access: its value.
+pub fn read_value(around: &Around, storage: Storage, draft: &mut Draft) -> Result<ValueKind, Memory>
+    ensures code { OnOk result (code_of draft.new ≡ code_of draft.old ++ then_read around.now storage) }
+    ensures kind { IfOk result (λ k. value_kind k ≡ storage_kind storage) }
+{
+    read(around, storage, draft)?;
+    Ok(storage.kind())
+}
+
+/// Behind an access and a value of this kind: the value is stored.
+pub fn assign_value(
+    around: &Around,
+    storage: Storage,
+    given: ValueKind,
+    draft: &mut Draft,
+) -> Result<ValueKind, Memory>
+    ensures code { OnOk result (code_of draft.new ≡ code_of draft.old
+        ++ then_assigned around.now storage (value_kind given)) }
+    ensures kind { IfOk result (λ k. value_kind k ≡ storage_kind storage) }
+{
+    assign(around, storage, given, draft)?;
+    Ok(storage.kind())
+}
+
+/// Behind what was fetched and another value: what is made of the two is stored.
+pub fn combine_value(
+    around: &Around,
+    storage: Storage,
+    draft: &mut Draft,
+) -> Result<ValueKind, Memory>
+    ensures code { OnOk result (code_of draft.new ≡ code_of draft.old ++ then_combined around.now storage) }
+    ensures kind { IfOk result (λ k. value_kind k ≡ storage_kind storage) }
+{
+    combine(around, storage, draft)?;
+    Ok(storage.kind())
+}
+
+/// Behind an access: what is there is counted.
+pub fn count_value(
+    around: &Around,
+    storage: Storage,
+    draft: &mut Draft,
+) -> Result<ValueKind, Memory>
+    ensures code { OnOk result (code_of draft.new ≡ code_of draft.old
+        ++ (then_fetched around.now storage ++ then_counted around.now storage)) }
+    ensures kind { IfOk result (λ k. value_kind k ≡ Of Plain) }
+{
+    fetch(around, storage, draft)?;
+    count(around, storage, draft)?;
+    Ok(ValueKind::Of(Kind::Plain))
+}
+
+/// `x.class`
+pub fn class_value(around: &Around, names: &[Ident], draft: &mut Draft) -> Result<ValueKind, Memory>
+    ensures code { OnOk result (code_of draft.new ≡ code_of draft.old
+        ++ class_object around.now (class_written around.now names.now)) }
+    ensures kind { IfOk result (λ k. value_kind k ≡ Of Other) }
+{
+    class_object(around, names, draft)?;
+    Ok(ValueKind::Of(Kind::Other))
+}
+
+/// Behind so many lengths or items: the array.
+pub fn new_array(place: Place, count: usize, draft: &mut Draft) -> Result<ValueKind, Memory>
+    ensures code { OnOk result (code_of draft.new ≡ code_of draft.old ++ op_at place (Outside count)) }
+    ensures kind { IfOk result (λ k. value_kind k ≡ Of Other) }
+{
+    let count = u32::try_from(count).map_err(|_| Memory)?;
+    draft.op(place, Op::Outside(count))?;
+    Ok(ValueKind::Of(Kind::Other))
+}
