@@ -1,0 +1,11 @@
+pub mod Counting
+pub mod LocalCounts
+pub mod SameReasons
+pub mod SameSources
+pub mod SameCounts
+pub mod SameCalls
+pub mod RanksThere
+pub mod Ordered
+pub mod SamePrograms
+pub mod Loops
+pub mod MethodsMade

@@ -1,0 +1,9 @@
+use Rattle.std.proofs.Common.{map}
+use Rattle.program_lowering.specs.Parts.{part_of, class_parts}
+use Rattle.program_lowering.proofs.Loops.{flat_map-step}
+use Rattle.program_lowering.proofs.sources.push_classes.Goals as goal
+
+pub loop-class-preserved : goal.loop-class-preserved
+loop-class-preserved c =
+    flat_map-step class_parts c.args.classes.now c.loop-class.class-index _ (map part_of c.loop-class.parts.items) _ _
+    c.loop-class-test.true c.class-item.is c.in_ok-push_class.ensures c.loop-class.invariant

@@ -1,0 +1,11 @@
+use Rattle.java_resolver.specs.Table.{methods}
+use Rattle.program_lowering.specs.Reasons.{reason_of}
+use Rattle.program_lowering.proofs.Loops.{map-step}
+use Rattle.program_lowering.proofs.statuses.own_reasons.Goals as goal
+
+pub loop-source-preserved : goal.loop-source-preserved
+loop-source-preserved c =
+    map-step (reason_of (methods c.args.table.now)) c.args.sources.now c.loop-source.source-index _
+    c.loop-source.reasons.items _ _ _ c.loop-source-test.true c.source-item.is
+    c.in_ok-push.ensures.items c.in_ok-own_reason.ensures
+    c.loop-source.invariant

@@ -1,0 +1,10 @@
+-- A contract of a public call rests on this: the list of files.
+pub mod Parts
+pub mod Locals
+pub mod Counts
+pub mod Reasons
+pub mod Calls
+pub mod Skipped
+pub mod Ranks
+pub mod Lowered
+pub mod Entries
