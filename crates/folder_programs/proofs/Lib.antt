@@ -1,0 +1,3 @@
+mod OneRefusal
+mod OneSource
+mod Conditions

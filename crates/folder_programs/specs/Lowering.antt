@@ -1,0 +1,18 @@
+-- No public contract rests on this: what accepted units are lowered to.
+use Rattle.std.specs.Prelude.{◌≡◌, ℕ, ◌<◌, ◌≤◌, List}
+use Rattle.racer_base.specs.declared.limits.TheConstants.{MAX_CALL_EDGES}
+use Rattle.java_units.specs.declared.unit.Unit as unit
+use Rattle.java_lowering.specs.Programs.{IsLowered}
+use Rattle.program_lowering.specs.Lowered.{calls_of}
+use Rattle.core_code.specs.Program.{core}
+use Rattle.folder_sources.specs.declared.refusal.Refusal.TheVariants.{TooManyCalls}
+use Rattle.folder_sources.specs.Lines.{refusal_line}
+use Rattle.folder_programs.specs.declared.found.FoundProgram.{FoundProgram}
+use Rattle.folder_programs.specs.declared.found.FoundProgram.TheVariants.{Accepted, Refused}
+
+-- their program, or the line of their calls
+abbrev pub IsLoweredFrom : List (List ℕ) → List unit.Unit → FoundProgram → Type 0
+IsLoweredFrom names units (Accepted program) =
+    (calls_of units ≤ MAX_CALL_EDGES) × IsLowered names units (core program)
+IsLoweredFrom names units (Refused line) =
+    (n : ℕ) × (calls_of units ≡ n) × (MAX_CALL_EDGES < n) × (line ≡ refusal_line names (TooManyCalls n))
