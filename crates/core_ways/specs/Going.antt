@@ -1,0 +1,37 @@
+-- No public contract rests on this: going through one method towards a record.
+use Rattle.std.specs.Prelude.{◌≡◌, ℕ, ◌<◌, List, [], ◌∷◌, ◌++◌, Option, None, Some, slice_get}
+use Rattle.std.specs.Option.{option_and_then}
+use Rattle.racer_base.specs.declared.ids.MethodId.{MethodId}
+use Rattle.core_code.specs.declared.code.Op.{Op as CoreOp}
+use Rattle.core_code.specs.declared.code.Op.TheVariants.{Call}
+use Rattle.core_ways.specs.declared.part.WayPart.TheVariants.{Step}
+use Rattle.core_code.specs.Calls.{rank_of}
+use Rattle.core_code.specs.Core.{Core}
+use Rattle.access_domain.specs.declared.access.Access.{Access}
+use Rattle.access_domain.specs.declared.summary.Outcome.{Outcome}
+use Rattle.core_ways.specs.declared.part.WayPart.{WayPart}
+use Rattle.core_ways.specs.Ways.{entered, records_held, way_parts}
+
+-- the record of an index of a method, among these outcomes of all methods
+abbrev pub record_among : List (Option Outcome) → MethodId → ℕ → Option Access
+record_among outcomes m i =
+    slice_get (records_held (option_and_then (λ (o : Option Outcome). o) (slice_get outcomes m.0))) i
+
+-- the way goes on to a record of a callee, or ends here
+abbrev pub GoesOn : Core → MethodId → ℕ → List WayPart → List WayPart → Option (MethodId × ℕ) → Type 0
+GoesOn core m i old new None = new ≡ old ++ way_parts core m i
+GoesOn core m i old new (Some (n, j)) =
+    (new ++ way_parts core n j ≡ old ++ way_parts core m i) × (rank_of core n < rank_of core m)
+
+-- the call is entered towards the callee's record of this index, by one step
+pub record Enters (op : CoreOp) (towards : Option ℕ) (old new : List WayPart) (n : MethodId) (j : ℕ) : Type 0 where
+  pub count : ℕ
+  pub calls : op ≡ Call n count
+  pub below : towards ≡ Some j
+  pub step : new ≡ old ++ Step ∷ []
+
+-- what an operation calls is entered, or nothing is
+abbrev pub IsEntered : CoreOp → Option ℕ → List WayPart → List WayPart → Option (MethodId × ℕ) → Type 0
+IsEntered op below old new None =
+    (new ≡ old) × ((ways : MethodId → ℕ → List WayPart) → entered ways below op ≡ [])
+IsEntered op below old new (Some (n, j)) = Enters op below old new n j

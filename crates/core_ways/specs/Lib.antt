@@ -1,0 +1,10 @@
+-- A contract of a public call rests on this: the list of files.
+pub mod Ways
+pub mod Answers
+pub mod Paths
+pub mod Going
+pub mod Counts
+pub mod Passings
+pub mod Stable
+pub mod Marks
+pub mod Rows

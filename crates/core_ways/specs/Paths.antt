@@ -1,0 +1,51 @@
+-- No public contract rests on this: the path to a site, and code that is gone into along a path.
+use Rattle.std.specs.Prelude.{ℕ, suc, Bool, true, false, List, [], ◌∷◌, ◌++◌, Option, option_map, if◌then◌else◌}
+use Rattle.core_code.specs.declared.code.Op.{Op as CoreOp}
+use Rattle.racer_base.specs.declared.ids.SiteId.{SiteId}
+use Rattle.core_semantics.specs.declared.answer.Turn.TheVariants.{Left, Right}
+use Rattle.core_code.specs.Tree.{Tree, Step as Operate, Nothing, Then, Either, Again, Held, Operation, op_at}
+use Rattle.core_ways.specs.declared.part.WayPart.{WayPart}
+use Rattle.core_ways.specs.declared.part.WayPart.TheVariants.{Step, Turned}
+use Rattle.core_ways.specs.Ways.{has_site, passed, reached}
+
+-- the operation that has this site, where the code has one
+abbrev pub op_there : Tree → SiteId → Option CoreOp
+op_there code site = option_map (λ (o : Operation). o.op) (op_at code site)
+
+-- at each sequence and choice round a site, from the outside, whether it stands in the first part
+abbrev pub path_to : SiteId → Tree → List Bool
+path_to site (Operate at place op) = []
+path_to site Nothing = []
+path_to site (Then first rest) =
+    if has_site first site then true ∷ path_to site first else false ∷ path_to site rest
+path_to site (Either left right) =
+    if has_site left site then true ∷ path_to site left else false ∷ path_to site right
+path_to site (Again body) = path_to site body
+path_to site (Held place body) = path_to site body
+
+-- none where the code has no such site
+abbrev pub path_where : SiteId → Tree → List Bool
+path_where site code = if has_site code site then path_to site code else []
+
+-- what is reached towards a site; nothing where the code has no such site
+abbrev pub reached_where : SiteId → Tree → List WayPart
+reached_where site code = if has_site code site then reached 0 site code else []
+
+-- what is passed of code, and which turns it takes, along a path
+abbrev pub followed : ℕ → List Bool → Tree → List WayPart
+followed locks path (Operate at place op) = []
+followed locks path Nothing = []
+followed locks path (Then first rest) =
+    elim path [
+      | [] ↦ []
+      | ◌∷◌ is_first sides ↦
+          if is_first then followed locks sides first else passed locks first ++ followed locks sides rest
+    ]
+followed locks path (Either left right) =
+    elim path [
+      | [] ↦ []
+      | ◌∷◌ is_left sides ↦
+          if is_left then Turned Left ∷ followed locks sides left else Turned Right ∷ followed locks sides right
+    ]
+followed locks path (Again body) = Turned Left ∷ followed locks path body
+followed locks path (Held place body) = Step ∷ followed (suc locks) path body

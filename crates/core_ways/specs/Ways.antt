@@ -1,0 +1,134 @@
+-- A contract of a public call rests on this: the way of a record, from the entry of its method to just before the
+-- access. These fixed ways are this project's own.
+use Rattle.std.specs.Prelude.{ℕ, suc, ◌+◌, Bool, List, [], ◌∷◌, ◌++◌, Option, None, Some, is_some}
+use Rattle.std.specs.Prelude.{is_none, replicate, slice_get}
+use Rattle.std.specs.Option.{option_and_then}
+use Rattle.std.specs.Prelude.{if◌then◌else◌}
+use Rattle.racer_base.specs.declared.ids.MethodId.{MethodId}
+use Rattle.racer_base.specs.declared.ids.Place.{Place}
+use Rattle.racer_base.specs.declared.ids.SiteId.{SiteId}
+use Rattle.core_code.specs.declared.code.Op.{Op as CoreOp}
+use Rattle.core_code.specs.declared.code.Op.TheVariants.{Call, Unread as UnreadCall, Ret}
+use Rattle.core_code.specs.Tree.{Tree, Step as Operate, Nothing, Then, Either, Again, Held, can_end, op_at}
+use Rattle.core_code.specs.Core.{Core, Method}
+use Rattle.core_code.specs.Calls.{method_at, closed_by_rank}
+use Rattle.access_domain.specs.declared.access.Access.{Access}
+use Rattle.access_domain.specs.declared.summary.Outcome.{Outcome}
+use Rattle.access_domain.specs.Summaries.{accesses_of, outcome_of}
+use Rattle.core_semantics.specs.declared.answer.Turn.{Turn}
+use Rattle.core_semantics.specs.declared.answer.Turn.TheVariants.{Left, Right}
+use Rattle.core_ways.specs.declared.part.WayPart.{WayPart}
+use Rattle.core_ways.specs.declared.part.WayPart.TheVariants.{Step, Turned, Passed, Unread}
+
+-- Passing code, where the frame is within so many locks: a loop takes right at once; a choice takes right where its
+-- right side can end, else left; what stands behind code that cannot end is not done. A return unlocks first.
+
+abbrev pub passed_op : ℕ → Place → CoreOp → List WayPart
+passed_op locks place Ret = replicate (suc locks) Step
+passed_op locks place (Call m n) = Passed m ∷ []
+passed_op locks place (UnreadCall m n) = Unread place ∷ []
+passed_op locks place _ = Step ∷ []
+
+abbrev pub passed : ℕ → Tree → List WayPart
+passed locks (Operate site place op) = passed_op locks place op
+passed locks Nothing = []
+passed locks (Then first rest) = passed locks first ++ (if can_end first then passed locks rest else [])
+passed locks (Either left right) =
+    if can_end right then Turned Right ∷ passed locks right else Turned Left ∷ passed locks left
+passed locks (Again body) = Turned Right ∷ []
+passed locks (Held place body) =
+    Step ∷ passed (suc locks) body ++ (if can_end body then Step ∷ [] else [])
+
+-- Going towards a site: each choice and each loop round it is taken towards it, a loop once. What stands before it is
+-- passed.
+
+abbrev pub has_site : Tree → SiteId → Bool
+has_site code site = is_some (op_at code site)
+
+abbrev pub reached : ℕ → SiteId → Tree → List WayPart
+reached locks site (Operate at place op) = []
+reached locks site Nothing = []
+reached locks site (Then first rest) =
+    if has_site first site then reached locks site first else passed locks first ++ reached locks site rest
+reached locks site (Either left right) =
+    if has_site left site then Turned Left ∷ reached locks site left else Turned Right ∷ reached locks site right
+reached locks site (Again body) = Turned Left ∷ reached locks site body
+reached locks site (Held place body) = Step ∷ reached (suc locks) site body
+
+-- The turns of a way, how many steps it has, and the places of the calls on it that are not read.
+pub record Trip : Type 0 where
+  pub turns : List Turn
+  pub steps : ℕ
+  pub unread : List Place
+
+-- so many steps without a turn
+abbrev pub straight : ℕ → Trip
+straight n = record { turns = []; steps = n; unread = [] }
+
+abbrev pub joined : Trip → Trip → Trip
+joined a b = record { turns = a.turns ++ b.turns; steps = a.steps + b.steps; unread = a.unread ++ b.unread }
+
+-- what a part makes up, where this is what passing each method makes up
+abbrev pub trip_of_part : (MethodId → Trip) → WayPart → Trip
+trip_of_part trips Step = straight 1
+trip_of_part trips (Turned turn) = record { turns = turn ∷ []; steps = 1; unread = [] }
+trip_of_part trips (Passed m) = joined (straight 1) (trips m)
+trip_of_part trips (Unread place) = record { turns = []; steps = 1; unread = place ∷ [] }
+
+abbrev pub trip_along : (MethodId → Trip) → List WayPart → Trip
+trip_along trips [] = straight 0
+trip_along trips (part ∷ parts) = joined (trip_of_part trips part) (trip_along trips parts)
+
+-- Passing a method, from its entry to its first return, which is counted once a method.
+
+-- the code of a method, where it is analysed
+abbrev pub code_at : Core → MethodId → Option Tree
+code_at core m =
+    option_and_then (λ (method : Method). if is_none method.status then Some method.code else None) (method_at core m)
+
+abbrev pub parts_of : Core → MethodId → List WayPart
+parts_of core m = elim (code_at core m) [ None ↦ [] | Some code ↦ passed 0 code ]
+
+abbrev pub trip_given : Core → (MethodId → Trip) → MethodId → Trip
+trip_given core trips m = trip_along trips (parts_of core m)
+
+abbrev pub trip_of : Core → MethodId → Trip
+trip_of core = closed_by_rank (straight 0) (trip_given core) core
+
+-- The way to a record of a method, by the record's index. Where its site is a call, the callee is entered towards the
+-- callee's record.
+
+abbrev pub records_held : Option Outcome → List Access
+records_held None = []
+records_held (Some outcome) = accesses_of outcome
+
+-- the record of this index of a method; none where there are too many
+abbrev pub record_at : Core → MethodId → ℕ → Option Access
+record_at core m i = slice_get (records_held (outcome_of core m)) i
+
+abbrev pub entered_op : (MethodId → ℕ → List WayPart) → ℕ → CoreOp → List WayPart
+entered_op ways j (Call m n) = Step ∷ ways m j
+entered_op ways j _ = []
+
+abbrev pub entered : (MethodId → ℕ → List WayPart) → Option ℕ → CoreOp → List WayPart
+entered ways None op = []
+entered ways (Some j) op = entered_op ways j op
+
+-- to the operation at the site of a record, and from there on
+abbrev pub towards : (MethodId → ℕ → List WayPart) → Tree → Access → List WayPart
+towards ways code r =
+    elim (op_at code r.site) [ None ↦ [] | Some o ↦ reached 0 r.site code ++ entered ways r.below o.op ]
+
+abbrev pub towards_record : (MethodId → ℕ → List WayPart) → Option Access → Tree → List WayPart
+towards_record ways None code = []
+towards_record ways (Some r) code = towards ways code r
+
+abbrev pub way_given : Core → (MethodId → ℕ → List WayPart) → MethodId → ℕ → List WayPart
+way_given core ways m i =
+    elim (code_at core m) [ None ↦ [] | Some code ↦ towards_record ways (record_at core m i) code ]
+
+abbrev pub way_parts : Core → MethodId → ℕ → List WayPart
+way_parts core = closed_by_rank (λ i. []) (way_given core) core
+
+abbrev pub way_of : Core → MethodId → ℕ → Trip
+way_of core m i = trip_along (trip_of core) (way_parts core m i)
