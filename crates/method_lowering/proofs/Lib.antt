@@ -1,0 +1,4 @@
+pub mod Inside
+pub mod Pieces
+pub mod Composed
+pub mod Ends
