@@ -1,23 +1,22 @@
 -- The code of accesses is that of the base, and what comes behind it.
-use Rattle.std.proofs.Common.{◌≡◌, ℕ, Bool, true, false, cond, [], ◌∷◌, ◌++◌, Option, Some, None, refl, sym, ap, ◌∙◌}
-use Rattle.std.proofs.Common.{slice_get, append_assoc}
+use Rattle.std.proofs.Common.{◌≡◌, Bool, true, false, cond, [], ◌++◌, Option, Some, None, refl, sym, ap, ◌∙◌}
+use Rattle.std.proofs.Common.{append_assoc}
 use Rattle.std.proofs.lemmas.Option.{none-some}
 use Rattle.std.proofs.lemmas.List.{append-nil}
 use Rattle.racer_base.specs.declared.ids.ClassId.{ClassId}
 use Rattle.racer_base.specs.declared.ids.FieldId.{FieldId}
-use Rattle.racer_base.specs.declared.ids.Kind.{Kind}
 use Rattle.racer_base.specs.declared.ids.Kind.TheVariants.{Plain, Declared, Other}
 use Rattle.java_tree.specs.declared.words.Ident.{Ident}
 use Rattle.java_resolver.specs.declared.infos.FieldInfo.{FieldInfo}
 use Rattle.java_resolver.specs.Meanings.{field_named}
 use Rattle.core_code.specs.declared.code.Op.TheVariants.{Drop, PushClass}
-use Rattle.java_lowering.specs.Trees.{Expr, Access, Named, Selected, Element, NoAccess}
+use Rattle.java_lowering.specs.Trees.{Access, Named, Selected, Element, NoAccess}
 use Rattle.java_lowering.specs.ValueKinds.{ValueKind, Of, Null}
 use Rattle.java_lowering.specs.Around.{Around, Code, op}
 use Rattle.java_lowering.specs.Assignments.{Storage, InVariable, InField, Elsewhere, kind_in, in_field, read, assigned}
 use Rattle.java_lowering.specs.Assignments.{combined, counted, field_at, of_object, of_value, selected}
 use Rattle.java_lowering.specs.Expressions.{access_kind, storage, class_before, kind, code}
-use Rattle.java_lowering.proofs.FoundElements.{FieldThere, field-there}
+use Rattle.java_lowering.proofs.FoundElements.{field-there}
 use Rattle.expression_lowering.specs.Parts.{base_of, without_base, storage_kind, then_read, then_assigned, then_fetched}
 use Rattle.expression_lowering.specs.Parts.{then_combined, then_counted}
 

@@ -6,13 +6,12 @@ use Rattle.racer_base.specs.declared.ids.MethodId.{MethodId}
 use Rattle.racer_base.specs.declared.ids.Kind.{Kind}
 use Rattle.racer_base.specs.declared.ids.Kind.TheVariants.{Plain, Declared, Other}
 use Rattle.racer_base.specs.declared.ids.Place.{Place}
-use Rattle.java_lowering.specs.Trees.{Expr, Exprs, expr_then, Init, pack_exprs, pack_inits, count_exprs, count_inits}
+use Rattle.java_lowering.specs.Trees.{Expr, Init, pack_exprs, pack_inits, count_exprs, count_inits}
 use Rattle.java_lowering.specs.Around.{Around, Code}
 use Rattle.java_lowering.specs.Calls.{Callee, Missing, OfClass, OfObject, Passing, called, called_on_value, made_by}
 use Rattle.java_lowering.specs.Calls.{made, constructor_in}
-use Rattle.java_lowering.specs.Expressions.{code, kind, passed}
 use Rattle.expression_lowering.specs.Parts.{passed_kinds, call_front, call_end, value_call_front, value_call_end}
-use Rattle.expression_lowering.specs.Parts.{maker_of, made_front, made_kinds, made_end, converted_first}
+use Rattle.expression_lowering.specs.Parts.{maker_of, made_front, made_kinds, made_end}
 
 pub called-parts : (around : Around) (place : Place) (n : ℕ) (arguments : Passing) (m : Callee) →
     called around place n arguments m

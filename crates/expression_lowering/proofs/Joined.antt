@@ -7,7 +7,7 @@ use Rattle.std.specs.List.{flat_map}
 use Rattle.racer_base.specs.declared.ids.Kind.{Kind}
 use Rattle.java_tree.specs.declared.expressions.Expression.{Expression}
 use Rattle.java_tree.specs.declared.expressions.Initialiser.{Initialiser}
-use Rattle.java_lowering.specs.Trees.{Expr, Exprs, no_expr, expr_then, Init, pack_exprs, pack_inits}
+use Rattle.java_lowering.specs.Trees.{Expr, Exprs, no_expr, expr_then, pack_exprs, pack_inits}
 use Rattle.java_lowering.specs.TreesOf.{expr_of, init_of}
 use Rattle.java_lowering.specs.ValueKinds.{ValueKind}
 use Rattle.java_lowering.specs.Around.{Around, Code, choice}

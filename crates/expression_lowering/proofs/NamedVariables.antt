@@ -1,5 +1,5 @@
 -- Variables found by their names, as variables come and go.
-use Rattle.std.proofs.Common.{◌≡◌, ℕ, suc, ◌+◌, ◌-◌, ◌<◌, ◌≤◌, Bool, true, false, cond, List, [], ◌∷◌, ◌++◌, Option}
+use Rattle.std.proofs.Common.{◌≡◌, ℕ, suc, ◌-◌, ◌<◌, ◌≤◌, Bool, true, false, cond, List, [], ◌∷◌, ◌++◌, Option}
 use Rattle.std.proofs.Common.{Some, None, length, map, take, refl, sym, ap, ◌∙◌, arith, length-append, drop, slice_get}
 use Rattle.std.specs.Prelude.{Vec, bytes_eq, option_map}
 use Rattle.std.specs.BTreeMap.{get_by_text}

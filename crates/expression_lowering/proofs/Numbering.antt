@@ -1,5 +1,5 @@
 -- Code whose sites count from 0, and the same code without sites.
-use Rattle.std.proofs.Common.{◌≡◌, ℕ, ◌+◌, Bool, true, ◌&&◌, ◌||◌, List, [], ◌∷◌, ◌++◌, length, map, take, drop}
+use Rattle.std.proofs.Common.{◌≡◌, ℕ, ◌+◌, true, ◌&&◌, ◌||◌, List, [], ◌∷◌, ◌++◌, length, map, take, drop}
 use Rattle.std.proofs.Common.{nat_eq, refl, sym, ap, ◌∙◌, append_assoc, length-append, zero-add}
 use Rattle.std.proofs.lemmas.List.{map-append, length-map, take-append-drop, append-nil, take-map, drop-map}
 use borrow.Author.Tests.{eqb-true}

@@ -1,26 +1,20 @@
 //! The code of expressions (JLS 15) and array initialisers (JLS 10.6).
-ghost use Rattle.std.specs.Prelude.{◌≡◌, ◌++◌, map, drop, OnOk, IfOk};
+ghost use Rattle.std.specs.Prelude.{◌≡◌, ◌++◌, map, OnOk, IfOk};
 ghost use Rattle.racer_base.specs.declared.ids.Kind.TheVariants as kinds;
 ghost use Rattle.java_tree.specs.View.{ty_of};
 ghost use Rattle.java_lowering.specs.Trees.{Read, Unary, Cast, Binary, Logical, Conditional, Assign, Combine, Count};
-ghost use Rattle.java_lowering.specs.Trees.{Selected, Call, CallOn, New, NewArray, NewItems, pack_exprs, pack_inits};
+ghost use Rattle.java_lowering.specs.Trees.{Selected, NewArray, NewItems, pack_exprs, pack_inits};
 ghost use Rattle.java_lowering.specs.TreesOf.{access_of, expr_of, init_of, assignment, prefix, binary};
 ghost use Rattle.java_lowering.specs.ValueKinds.{Of};
-ghost use Rattle.java_lowering.specs.Calls.{result_kind};
-ghost use Rattle.java_lowering.specs.Expressions.{code, kind, storage, passed, init_code, init_kind, items_code};
+ghost use Rattle.java_lowering.specs.Expressions.{code, kind, storage, init_code, init_kind, items_code};
 ghost use Rattle.expression_lowering.specs.Drafts.{code_of};
 ghost use Rattle.expression_lowering.specs.Views.{value_kind};
-ghost use Rattle.expression_lowering.specs.Parts.{base_of, without_base, converted_first, called_with};
-ghost use Rattle.expression_lowering.specs.Parts.{called_behind, callee_seen, class_call, class_call_kind, value_call};
-ghost use Rattle.expression_lowering.specs.Parts.{value_call_kind};
+ghost use Rattle.expression_lowering.specs.Parts.{base_of, without_base};
 ghost use Rattle.expression_lowering.specs.declared.storage.Storage.TheVariants.{Elsewhere as StoredElsewhere};
 
 use crate::around::Around;
-use crate::calls::{
-    Callee, begin_call, begin_new, begin_value_call, callee_of_class, callee_of_value, finish_call,
-    finish_new, finish_value_call, made_kinds, own_callee, passed_kinds,
-};
 use crate::draft::Draft;
+use crate::invocations::{lower_arguments, lower_call_on, lower_new, lower_own_call};
 use crate::names::{class_before, this_object};
 use crate::operators::{is_assignment, is_count, is_logical, literal};
 use crate::storage::{Storage, fetch, named, of_class, of_value};
@@ -30,25 +24,8 @@ use crate::values::{
     count_value, end_conditional, end_logical, new_array, read_value, unary,
 };
 use java_tree::{Expression, Ident, Initialiser, TypeTree};
-use racer_base::{ClassId, Kind, Memory, Place};
+use racer_base::{Memory, Place};
 use std::alloc::Global;
-
-/// What an argument goes through on its way to the kind with this index, if there is one.
-fn convert_at(
-    around: &Around,
-    kinds: &[Kind],
-    index: usize,
-    given: ValueKind,
-    draft: &mut Draft,
-) -> Result<(), Memory>
-    ensures { OnOk result (code_of draft.new ≡ code_of draft.old
-        ++ converted_first around.now (drop index kinds.now) (value_kind given)) }
-{
-    match kinds.get(index) {
-        Some(kind) => around.convert(draft, *kind, given),
-        None => Ok(()),
-    }
-}
 
 /// The code of an expression, which leaves one value, of this kind.
 #[cycle(lower_expressions)]
@@ -369,173 +346,6 @@ fn lower_conditional(
     let right = draft.len();
     let second = lower_expression(alloc, around, b, draft)?;
     end_conditional(alloc, (left, right), (first, second), draft)
-}
-
-/// Arguments, converted to kinds as far as these go.
-#[cycle(lower_expressions)]
-fn lower_arguments(
-    alloc: Global,
-    around: &Around,
-    arguments: &[Expression],
-    kinds: &[Kind],
-    draft: &mut Draft,
-) -> Result<(), Memory>
-    ensures { OnOk result (code_of draft.new ≡ code_of draft.old
-        ++ passed around.now kinds.now (pack_exprs (map expr_of arguments.now))) }
-{
-    for (index, argument) in arguments.iter().enumerate() {
-        let given = lower_expression(alloc, around, argument, draft)?;
-        convert_at(around, kinds, index, given, draft)?;
-    }
-    Ok(())
-}
-
-/// f(..)
-#[cycle(lower_expressions)]
-fn lower_own_call(
-    alloc: Global,
-    around: &Around,
-    arguments: &[Expression],
-    x: &Ident,
-    draft: &mut Draft,
-) -> Result<ValueKind, Memory>
-    ensures code { OnOk result (code_of draft.new ≡ code_of draft.old
-        ++ code around.now (Call x.now (pack_exprs (map expr_of arguments.now)))) }
-    ensures kind { IfOk result (λ k. value_kind k ≡ kind around.now
-        (Call x.now (pack_exprs (map expr_of arguments.now)))) }
-{
-    let callee = own_callee(around, x, arguments.len())?;
-    lower_call(alloc, around, arguments, x.place, callee, draft)
-}
-
-/// f(..) and C.f(..), where this is the callee.
-#[cycle(lower_expressions)]
-fn lower_call(
-    alloc: Global,
-    around: &Around,
-    arguments: &[Expression],
-    place: Place,
-    callee: Callee,
-    draft: &mut Draft,
-) -> Result<ValueKind, Memory>
-    ensures code { OnOk result (code_of draft.new ≡ code_of draft.old
-        ++ called_with around.now place callee (pack_exprs (map expr_of arguments.now))) }
-    ensures kind { IfOk result (λ k. value_kind k ≡ result_kind around.now (callee_seen callee)) }
-{
-    begin_call(around, callee, draft)?;
-    lower_arguments(
-        alloc,
-        around,
-        arguments,
-        passed_kinds(around, callee),
-        draft,
-    )?;
-    finish_call(around, place, arguments.len(), callee, draft)
-}
-
-/// e.f(..)
-#[cycle(lower_expressions)]
-fn lower_call_on(
-    alloc: Global,
-    around: &Around,
-    e: &Expression,
-    x: &Ident,
-    arguments: &[Expression],
-    draft: &mut Draft,
-) -> Result<ValueKind, Memory>
-    ensures code { OnOk result (code_of draft.new ≡ code_of draft.old
-        ++ code around.now (CallOn (expr_of e.now) x.now (pack_exprs (map expr_of arguments.now)))) }
-    ensures kind { IfOk result (λ k. value_kind k ≡ kind around.now
-        (CallOn (expr_of e.now) x.now (pack_exprs (map expr_of arguments.now)))) }
-{
-    match class_before(around, e) {
-        Some(c) => lower_class_call(alloc, around, arguments, c, x, draft),
-        None => lower_object_call(alloc, around, e, x, arguments, draft),
-    }
-}
-
-/// C.f(..)
-#[cycle(lower_expressions)]
-fn lower_class_call(
-    alloc: Global,
-    around: &Around,
-    arguments: &[Expression],
-    c: ClassId,
-    x: &Ident,
-    draft: &mut Draft,
-) -> Result<ValueKind, Memory>
-    ensures code { OnOk result (code_of draft.new ≡ code_of draft.old
-        ++ class_call around.now c x.now (pack_exprs (map expr_of arguments.now))) }
-    ensures kind { IfOk result (λ k. value_kind k
-        ≡ class_call_kind around.now c x.now (pack_exprs (map expr_of arguments.now))) }
-{
-    let callee = callee_of_class(around, c, x, arguments.len())?;
-    lower_call(alloc, around, arguments, x.place, callee, draft)
-}
-
-/// e.f(..), where e names no class.
-#[cycle(lower_expressions)]
-fn lower_object_call(
-    alloc: Global,
-    around: &Around,
-    e: &Expression,
-    x: &Ident,
-    arguments: &[Expression],
-    draft: &mut Draft,
-) -> Result<ValueKind, Memory>
-    ensures code { OnOk result (code_of draft.new ≡ code_of draft.old
-        ++ value_call around.now (expr_of e.now) x.now (pack_exprs (map expr_of arguments.now))) }
-    ensures kind { IfOk result (λ k. value_kind k
-        ≡ value_call_kind around.now (expr_of e.now) x.now (pack_exprs (map expr_of arguments.now))) }
-{
-    let kind = lower_expression(alloc, around, e, draft)?;
-    let callee = callee_of_value(around, kind, x, arguments.len())?;
-    lower_value_call(alloc, around, arguments, x.place, callee, draft)
-}
-
-/// What stands behind e in e.f(..), where this is the callee.
-#[cycle(lower_expressions)]
-fn lower_value_call(
-    alloc: Global,
-    around: &Around,
-    arguments: &[Expression],
-    place: Place,
-    callee: Callee,
-    draft: &mut Draft,
-) -> Result<ValueKind, Memory>
-    ensures code { OnOk result (code_of draft.new ≡ code_of draft.old
-        ++ called_behind around.now place callee (pack_exprs (map expr_of arguments.now))) }
-    ensures kind { IfOk result (λ k. value_kind k ≡ result_kind around.now (callee_seen callee)) }
-{
-    begin_value_call(around, callee, draft)?;
-    lower_arguments(
-        alloc,
-        around,
-        arguments,
-        passed_kinds(around, callee),
-        draft,
-    )?;
-    finish_value_call(around, place, arguments.len(), callee, draft)
-}
-
-/// new T(..)
-#[cycle(lower_expressions)]
-fn lower_new(
-    alloc: Global,
-    around: &Around,
-    arguments: &[Expression],
-    place: Place,
-    t: &TypeTree,
-    draft: &mut Draft,
-) -> Result<ValueKind, Memory>
-    ensures code { OnOk result (code_of draft.new ≡ code_of draft.old
-        ++ code around.now (New place (ty_of t.now) (pack_exprs (map expr_of arguments.now)))) }
-    ensures kind { IfOk result (λ k. value_kind k ≡ kind around.now
-        (New place (ty_of t.now) (pack_exprs (map expr_of arguments.now)))) }
-{
-    let maker = begin_new(around, place, t, arguments.len(), draft)?;
-    lower_arguments(alloc, around, arguments, made_kinds(around, maker), draft)?;
-    finish_new(around, place, t, arguments.len(), maker, draft)
 }
 
 /// new T[a]..

@@ -9,6 +9,7 @@ mod calls;
 mod draft;
 mod expressions;
 mod given;
+mod invocations;
 mod names;
 mod operators;
 mod storage;

@@ -1,5 +1,4 @@
 use Rattle.expression_lowering.proofs.Joined.{chosen}
-use Rattle.expression_lowering.proofs.Made.{read-made}
 use Rattle.expression_lowering.specs.Drafts.{code_of}
 use Rattle.expression_lowering.proofs.values.end_conditional.Goals as goal
 

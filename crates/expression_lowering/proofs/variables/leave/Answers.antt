@@ -1,6 +1,4 @@
-use Rattle.std.proofs.Common.{◌≡◌, ◌<◌, length, take, ap, sym, ◌∙◌, arith, rules}
-use Rattle.std.proofs.lemmas.List.{take_all}
-use Rattle.expression_lowering.specs.Seen.{front_of}
+use Rattle.std.proofs.Common.{◌<◌, length, take, ap, ◌∙◌, arith}
 use Rattle.expression_lowering.proofs.NamedVariables.{front-taken}
 use Rattle.expression_lowering.proofs.variables.leave.Goals as goal
 

@@ -1,4 +1,4 @@
-use Rattle.std.proofs.Common.{◌∷◌, [], ◌++◌, ap, sym, subst, ◌∙◌}
+use Rattle.std.proofs.Common.{subst}
 use Rattle.expression_lowering.specs.Seen.{FindsAll, ChangesAt, seen_at, front_of}
 use Rattle.expression_lowering.proofs.NamedVariables.{finds-removed}
 use Rattle.expression_lowering.proofs.variables.remove.Goals as goal

@@ -1,4 +1,3 @@
-use Rattle.std.proofs.Common.{◌≡◌, ◌++◌, ◌∙◌}
 use Rattle.java_lowering.specs.Statements.{cleared}
 use Rattle.expression_lowering.specs.Drafts.{code_of}
 use Rattle.expression_lowering.proofs.Joined.{mapped-next, mapped-done}

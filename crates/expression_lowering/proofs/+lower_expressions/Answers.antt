@@ -24,10 +24,10 @@ use Rattle.expression_lowering.proofs.Made.{call-made, value-call-made, own-call
 use Rattle.expression_lowering.proofs.Made.{class-call-kind-made, object-call-made, object-call-kind, on-class}
 use Rattle.expression_lowering.proofs.Made.{on-class-kind, on-object, on-object-kind, new-made, lengths-made}
 use Rattle.expression_lowering.proofs.Made.{items-made}
-use Rattle.expression_lowering.proofs.expressions.+lower_expressions.Goals as goal
+use Rattle.expression_lowering.proofs.+lower_expressions.Goals as goal
 
-pub lower_read-returns-clause-code : goal.lower_read-returns-clause-code
-lower_read-returns-clause-code t c =
+pub expressions::lower_read-returns-clause-code : goal.expressions::lower_read-returns-clause-code
+expressions::lower_read-returns-clause-code t c =
     let around = c.args.around.now in
     on_ok_weaker c.read_value.result
     (read-made around (storage around (access_of (expr_of c.args.e.now))) c.in_ok-storage.storage
@@ -35,8 +35,8 @@ lower_read-returns-clause-code t c =
     c.in_ok-storage.ensures.code c.in_ok-storage.ensures.storage)
     c.read_value.ensures.code
 
-pub lower_read-returns-clause-kind : goal.lower_read-returns-clause-kind
-lower_read-returns-clause-kind t c =
+pub expressions::lower_read-returns-clause-kind : goal.expressions::lower_read-returns-clause-kind
+expressions::lower_read-returns-clause-kind t c =
     let around = c.args.around.now in
     let access = access_of (expr_of c.args.e.now) in
     IfOk-weaker c.read_value.result (λ k. value_kind k ≡ storage_kind c.in_ok-storage.storage)
@@ -44,8 +44,8 @@ lower_read-returns-clause-kind t c =
     (λ k. kind-made around access c.in_ok-storage.storage (value_kind k) c.in_ok-storage.ensures.storage)
     c.read_value.ensures.kind
 
-pub lower_assignment-returns-clause-code : goal.lower_assignment-returns-clause-code
-lower_assignment-returns-clause-code t c =
+pub expressions::lower_assignment-returns-clause-code : goal.expressions::lower_assignment-returns-clause-code
+expressions::lower_assignment-returns-clause-code t c =
     let around = c.args.around.now in
     let b = expr_of c.args.b.now in
     on_ok_weaker c.assign_value.result
@@ -55,8 +55,8 @@ lower_assignment-returns-clause-code t c =
     c.in_ok-target.ensures.code c.in_ok-target.ensures.storage c.in_ok-given.ensures.code c.in_ok-given.ensures.kind)
     c.assign_value.ensures.code
 
-pub lower_assignment-returns-clause-kind : goal.lower_assignment-returns-clause-kind
-lower_assignment-returns-clause-kind t c =
+pub expressions::lower_assignment-returns-clause-kind : goal.expressions::lower_assignment-returns-clause-kind
+expressions::lower_assignment-returns-clause-kind t c =
     let around = c.args.around.now in
     let access = access_of (expr_of c.args.a.now) in
     IfOk-weaker c.assign_value.result (λ k. value_kind k ≡ storage_kind c.in_ok-target.target)
@@ -64,8 +64,8 @@ lower_assignment-returns-clause-kind t c =
     (λ k. kind-made around access c.in_ok-target.target (value_kind k) c.in_ok-target.ensures.storage)
     c.assign_value.ensures.kind
 
-pub lower_combination-returns-clause-code : goal.lower_combination-returns-clause-code
-lower_combination-returns-clause-code t c =
+pub expressions::lower_combination-returns-clause-code : goal.expressions::lower_combination-returns-clause-code
+expressions::lower_combination-returns-clause-code t c =
     let around = c.args.around.now in
     let b = expr_of c.args.b.now in
     on_ok_weaker c.combine_value.result
@@ -76,8 +76,8 @@ lower_combination-returns-clause-code t c =
     c.in_ok-lower_expression.ensures.code)
     c.combine_value.ensures.code
 
-pub lower_combination-returns-clause-kind : goal.lower_combination-returns-clause-kind
-lower_combination-returns-clause-kind t c =
+pub expressions::lower_combination-returns-clause-kind : goal.expressions::lower_combination-returns-clause-kind
+expressions::lower_combination-returns-clause-kind t c =
     let around = c.args.around.now in
     let access = access_of (expr_of c.args.a.now) in
     IfOk-weaker c.combine_value.result (λ k. value_kind k ≡ storage_kind c.in_ok-storage.storage)
@@ -85,8 +85,8 @@ lower_combination-returns-clause-kind t c =
     (λ k. kind-made around access c.in_ok-storage.storage (value_kind k) c.in_ok-storage.ensures.storage)
     c.combine_value.ensures.kind
 
-pub lower_count-returns-clause-code : goal.lower_count-returns-clause-code
-lower_count-returns-clause-code t c =
+pub expressions::lower_count-returns-clause-code : goal.expressions::lower_count-returns-clause-code
+expressions::lower_count-returns-clause-code t c =
     let around = c.args.around.now in
     on_ok_weaker c.count_value.result
     (counted-made around (storage around (access_of (expr_of c.args.a.now))) c.in_ok-storage.storage
@@ -94,8 +94,8 @@ lower_count-returns-clause-code t c =
     c.in_ok-storage.ensures.code c.in_ok-storage.ensures.storage)
     c.count_value.ensures.code
 
-pub lower_logical-returns-clause-code : goal.lower_logical-returns-clause-code
-lower_logical-returns-clause-code t c =
+pub expressions::lower_logical-returns-clause-code : goal.expressions::lower_logical-returns-clause-code
+expressions::lower_logical-returns-clause-code t c =
     on_ok_weaker c.end_logical.result
     (logical-made c.args.around.now (expr_of c.args.a.now) (expr_of c.args.b.now) (code_of c.args.draft.now)
     (code_of c.lower_expression.new.draft) (code_of c.begin_logical.new.draft)
@@ -104,8 +104,8 @@ lower_logical-returns-clause-code t c =
     c.in_ok-lower_expression-2.ensures.code)
     c.end_logical.ensures.code
 
-pub lower_conditional-returns-clause-code : goal.lower_conditional-returns-clause-code
-lower_conditional-returns-clause-code t c =
+pub expressions::lower_conditional-returns-clause-code : goal.expressions::lower_conditional-returns-clause-code
+expressions::lower_conditional-returns-clause-code t c =
     on_ok_weaker c.end_conditional.result
     (conditional-made c.args.around.now (expr_of c.args.c.now) (expr_of c.args.a.now) (expr_of c.args.b.now)
     (code_of c.args.draft.now) (code_of c.lower_expression.new.draft) (code_of c.begin_conditional.new.draft)
@@ -115,32 +115,32 @@ lower_conditional-returns-clause-code t c =
     c.in_ok-second.ensures.code)
     c.end_conditional.ensures.code
 
-pub lower_arguments-loop-index-preserved : goal.lower_arguments-loop-index-preserved
-lower_arguments-loop-index-preserved t c =
+pub invocations::lower_arguments-loop-index-preserved : goal.invocations::lower_arguments-loop-index-preserved
+invocations::lower_arguments-loop-index-preserved t c =
     arguments-next c.args.around.now c.args.kinds.now c.args.arguments.now c.loop-index.index
     c.index-arguments-index.result (code_of c.loop-index.draft) (code_of c.lower_expression.new.draft)
     (code_of c.convert_at.new.draft) _ (value_kind c.in_ok-given.given) c.loop-index-test.true
     c.index-arguments-index.is c.in_ok-given.ensures.code c.in_ok-given.ensures.kind c.in_ok-convert_at.ensures
     c.loop-index.invariant
 
-pub lower_arguments-returns : goal.lower_arguments-returns
-lower_arguments-returns t c =
+pub invocations::lower_arguments-returns : goal.invocations::lower_arguments-returns
+invocations::lower_arguments-returns t c =
     arguments-done c.args.around.now c.args.kinds.now c.args.arguments.now (code_of c.loop-index.draft) _
     c.loop-index.index c.loop-index-test.false c.loop-index.invariant
 
-pub lower_items-loop-item-preserved : goal.lower_items-loop-item-preserved
-lower_items-loop-item-preserved t c =
+pub expressions::lower_items-loop-item-preserved : goal.expressions::lower_items-loop-item-preserved
+expressions::lower_items-loop-item-preserved t c =
     items-next c.args.around.now c.args.items.now c.loop-item.item-index c.item-item.result
     (code_of c.loop-item.draft) (code_of c.lower_initialiser.new.draft) _ c.loop-item-test.true
     c.item-item.is c.in_ok-lower_initialiser.ensures.code c.loop-item.invariant
 
-pub lower_items-returns : goal.lower_items-returns
-lower_items-returns t c =
+pub expressions::lower_items-returns : goal.expressions::lower_items-returns
+expressions::lower_items-returns t c =
     items-done c.args.around.now c.args.items.now (code_of c.loop-item.draft) _ c.loop-item.item-index
     c.loop-item-test.false c.loop-item.invariant
 
-pub lower_call-returns-clause-code : goal.lower_call-returns-clause-code
-lower_call-returns-clause-code t c =
+pub invocations::lower_call-returns-clause-code : goal.invocations::lower_call-returns-clause-code
+invocations::lower_call-returns-clause-code t c =
     on_ok_weaker c.finish_call.result
     (call-made c.args.around.now c.args.place c.args.callee c.args.arguments.now c.passed_kinds.result.now
     (length c.args.arguments.now)
@@ -149,8 +149,8 @@ lower_call-returns-clause-code t c =
     c.in_ok-lower_arguments.ensures refl)
     c.finish_call.ensures.code
 
-pub lower_value_call-returns-clause-code : goal.lower_value_call-returns-clause-code
-lower_value_call-returns-clause-code t c =
+pub invocations::lower_value_call-returns-clause-code : goal.invocations::lower_value_call-returns-clause-code
+invocations::lower_value_call-returns-clause-code t c =
     on_ok_weaker c.finish_value_call.result
     (value-call-made c.args.around.now c.args.place c.args.callee c.args.arguments.now c.passed_kinds.result.now
     (length c.args.arguments.now) (code_of c.args.draft.now) (code_of c.begin_value_call.new.draft)
@@ -158,16 +158,16 @@ lower_value_call-returns-clause-code t c =
     c.passed_kinds.ensures c.in_ok-lower_arguments.ensures refl)
     c.finish_value_call.ensures.code
 
-pub lower_own_call-returns-clause-code : goal.lower_own_call-returns-clause-code
-lower_own_call-returns-clause-code t c =
+pub invocations::lower_own_call-returns-clause-code : goal.invocations::lower_own_call-returns-clause-code
+invocations::lower_own_call-returns-clause-code t c =
     on_ok_weaker c.lower_call.result
     (own-call-made c.args.around.now c.args.x.now c.in_ok-callee.callee c.args.arguments.now (length
     c.args.arguments.now)
     (code_of c.args.draft.now) (code_of c.lower_call.new.draft) refl c.in_ok-callee.ensures)
     c.lower_call.ensures.code
 
-pub lower_own_call-returns-clause-kind : goal.lower_own_call-returns-clause-kind
-lower_own_call-returns-clause-kind t c =
+pub invocations::lower_own_call-returns-clause-kind : goal.invocations::lower_own_call-returns-clause-kind
+invocations::lower_own_call-returns-clause-kind t c =
     let around = c.args.around.now in
     IfOk-weaker c.lower_call.result (λ k. value_kind k ≡ result_kind around (callee_seen c.in_ok-callee.callee))
     (λ k. value_kind k ≡ kind around (Call c.args.x.now (pack_exprs (map expr_of c.args.arguments.now))))
@@ -176,16 +176,16 @@ lower_own_call-returns-clause-kind t c =
     refl c.in_ok-callee.ensures)
     c.lower_call.ensures.kind
 
-pub lower_class_call-returns-clause-code : goal.lower_class_call-returns-clause-code
-lower_class_call-returns-clause-code t c =
+pub invocations::lower_class_call-returns-clause-code : goal.invocations::lower_class_call-returns-clause-code
+invocations::lower_class_call-returns-clause-code t c =
     on_ok_weaker c.lower_call.result
     (class-call-made c.args.around.now c.args.c c.args.x.now c.in_ok-callee.callee c.args.arguments.now (length
     c.args.arguments.now)
     (code_of c.args.draft.now) (code_of c.lower_call.new.draft) refl c.in_ok-callee.ensures)
     c.lower_call.ensures.code
 
-pub lower_class_call-returns-clause-kind : goal.lower_class_call-returns-clause-kind
-lower_class_call-returns-clause-kind t c =
+pub invocations::lower_class_call-returns-clause-kind : goal.invocations::lower_class_call-returns-clause-kind
+invocations::lower_class_call-returns-clause-kind t c =
     let around = c.args.around.now in
     let es = pack_exprs (map expr_of c.args.arguments.now) in
     IfOk-weaker c.lower_call.result (λ k. value_kind k ≡ result_kind around (callee_seen c.in_ok-callee.callee))
@@ -195,8 +195,8 @@ lower_class_call-returns-clause-kind t c =
     (value_kind k) refl c.in_ok-callee.ensures)
     c.lower_call.ensures.kind
 
-pub lower_object_call-returns-clause-code : goal.lower_object_call-returns-clause-code
-lower_object_call-returns-clause-code t c =
+pub invocations::lower_object_call-returns-clause-code : goal.invocations::lower_object_call-returns-clause-code
+invocations::lower_object_call-returns-clause-code t c =
     on_ok_weaker c.lower_value_call.result
     (object-call-made c.args.around.now (expr_of c.args.e.now) c.args.x.now (value_kind c.in_ok-kind.kind)
     c.in_ok-callee.callee c.args.arguments.now (length c.args.arguments.now) (code_of c.args.draft.now)
@@ -204,8 +204,8 @@ lower_object_call-returns-clause-code t c =
     c.in_ok-kind.ensures.kind refl c.in_ok-callee.ensures)
     c.lower_value_call.ensures.code
 
-pub lower_object_call-returns-clause-kind : goal.lower_object_call-returns-clause-kind
-lower_object_call-returns-clause-kind t c =
+pub invocations::lower_object_call-returns-clause-kind : goal.invocations::lower_object_call-returns-clause-kind
+invocations::lower_object_call-returns-clause-kind t c =
     let around = c.args.around.now in
     let es = pack_exprs (map expr_of c.args.arguments.now) in
     IfOk-weaker c.lower_value_call.result
@@ -217,16 +217,16 @@ lower_object_call-returns-clause-kind t c =
     c.in_ok-callee.ensures)
     c.lower_value_call.ensures.kind
 
-pub lower_call_on-returns-in-Some-clause-code : goal.lower_call_on-returns-in-Some-clause-code
-lower_call_on-returns-in-Some-clause-code t c =
+pub invocations::lower_call_on-returns-in-Some-clause-code : goal.invocations::lower_call_on-returns-in-Some-clause-code
+invocations::lower_call_on-returns-in-Some-clause-code t c =
     let es = pack_exprs (map expr_of c.args.arguments.now) in
     on_ok_weaker c.lower_class_call.result
     (λ made. made ∙ ap (λ x. code_of c.args.draft.now ++ x)
     (on-class c.args.around.now (expr_of c.args.e.now) c.args.x.now es c.in-Some.c c.in-Some.ensures))
     c.lower_class_call.ensures.code
 
-pub lower_call_on-returns-in-Some-clause-kind : goal.lower_call_on-returns-in-Some-clause-kind
-lower_call_on-returns-in-Some-clause-kind t c =
+pub invocations::lower_call_on-returns-in-Some-clause-kind : goal.invocations::lower_call_on-returns-in-Some-clause-kind
+invocations::lower_call_on-returns-in-Some-clause-kind t c =
     let around = c.args.around.now in
     let e = expr_of c.args.e.now in
     let es = pack_exprs (map expr_of c.args.arguments.now) in
@@ -235,16 +235,16 @@ lower_call_on-returns-in-Some-clause-kind t c =
     (λ k is. is ∙ on-class-kind around e c.args.x.now es c.in-Some.c c.in-Some.ensures)
     c.lower_class_call.ensures.kind
 
-pub lower_call_on-returns-in-None-clause-code : goal.lower_call_on-returns-in-None-clause-code
-lower_call_on-returns-in-None-clause-code t c =
+pub invocations::lower_call_on-returns-in-None-clause-code : goal.invocations::lower_call_on-returns-in-None-clause-code
+invocations::lower_call_on-returns-in-None-clause-code t c =
     let es = pack_exprs (map expr_of c.args.arguments.now) in
     on_ok_weaker c.lower_object_call.result
     (λ made. made ∙ ap (λ x. code_of c.args.draft.now ++ x)
     (on-object c.args.around.now (expr_of c.args.e.now) c.args.x.now es c.in-None.ensures))
     c.lower_object_call.ensures.code
 
-pub lower_call_on-returns-in-None-clause-kind : goal.lower_call_on-returns-in-None-clause-kind
-lower_call_on-returns-in-None-clause-kind t c =
+pub invocations::lower_call_on-returns-in-None-clause-kind : goal.invocations::lower_call_on-returns-in-None-clause-kind
+invocations::lower_call_on-returns-in-None-clause-kind t c =
     let around = c.args.around.now in
     let e = expr_of c.args.e.now in
     let es = pack_exprs (map expr_of c.args.arguments.now) in
@@ -253,8 +253,8 @@ lower_call_on-returns-in-None-clause-kind t c =
     (λ k is. is ∙ on-object-kind around e c.args.x.now es c.in-None.ensures)
     c.lower_object_call.ensures.kind
 
-pub lower_new-returns-clause-code : goal.lower_new-returns-clause-code
-lower_new-returns-clause-code t c =
+pub invocations::lower_new-returns-clause-code : goal.invocations::lower_new-returns-clause-code
+invocations::lower_new-returns-clause-code t c =
     on_ok_weaker c.finish_new.result
     (new-made c.args.around.now c.args.place (ty_of c.args.t.now) c.in_ok-maker.maker c.args.arguments.now
     c.made_kinds.result.now (length c.args.arguments.now) (length c.args.arguments.now) (code_of
@@ -263,8 +263,8 @@ lower_new-returns-clause-code t c =
     c.in_ok-maker.ensures.maker c.in_ok-maker.ensures.code c.made_kinds.ensures c.in_ok-lower_arguments.ensures)
     c.finish_new.ensures.code
 
-pub lower_lengths-returns-clause-code : goal.lower_lengths-returns-clause-code
-lower_lengths-returns-clause-code t c =
+pub expressions::lower_lengths-returns-clause-code : goal.expressions::lower_lengths-returns-clause-code
+expressions::lower_lengths-returns-clause-code t c =
     on_ok_weaker c.new_array.result
     (lengths-made c.args.around.now c.args.place c.args.lengths.now (length c.args.lengths.now) (code_of
     c.args.draft.now)
@@ -272,22 +272,22 @@ lower_lengths-returns-clause-code t c =
     c.in_ok-lower_arguments.ensures)
     c.new_array.ensures.code
 
-pub lower_array-returns-clause-code : goal.lower_array-returns-clause-code
-lower_array-returns-clause-code t c =
+pub expressions::lower_array-returns-clause-code : goal.expressions::lower_array-returns-clause-code
+expressions::lower_array-returns-clause-code t c =
     on_ok_weaker c.new_array.result
     (items-made c.args.around.now c.args.place c.args.items.now (length c.args.items.now) (code_of c.args.draft.now)
     (code_of c.lower_items.new.draft) (code_of c.new_array.new.draft) refl c.in_ok-lower_items.ensures)
     c.new_array.ensures.code
 
-pub lower_selected-returns-in-Some-clause-code : goal.lower_selected-returns-in-Some-clause-code
-lower_selected-returns-in-Some-clause-code t c =
+pub expressions::lower_selected-returns-in-Some-clause-code : goal.expressions::lower_selected-returns-in-Some-clause-code
+expressions::lower_selected-returns-in-Some-clause-code t c =
     on_ok_weaker c.of_class.result
     (λ made. made ∙ ap (λ s. code_of c.args.draft.now ++ base_of s)
     (class-selected c.args.around.now (expr_of c.args.a.now) c.args.x.now c.in-Some.c c.in-Some.ensures))
     c.of_class.ensures.code
 
-pub lower_selected-returns-in-Some-clause-storage : goal.lower_selected-returns-in-Some-clause-storage
-lower_selected-returns-in-Some-clause-storage t c =
+pub expressions::lower_selected-returns-in-Some-clause-storage : goal.expressions::lower_selected-returns-in-Some-clause-storage
+expressions::lower_selected-returns-in-Some-clause-storage t c =
     let around = c.args.around.now in
     let a = expr_of c.args.a.now in
     let x = c.args.x.now in
@@ -298,16 +298,16 @@ lower_selected-returns-in-Some-clause-storage t c =
     (λ s is. is ∙ ap without_base (class-selected around a x c.in-Some.c c.in-Some.ensures))
     c.of_class.ensures.storage
 
-pub lower_selected-returns-clause-code : goal.lower_selected-returns-clause-code
-lower_selected-returns-clause-code t c =
+pub expressions::lower_selected-returns-clause-code : goal.expressions::lower_selected-returns-clause-code
+expressions::lower_selected-returns-clause-code t c =
     on_ok_weaker c.of_value.result
     (selected-made c.args.around.now (expr_of c.args.a.now) c.args.x.now (value_kind c.in_ok-kind.kind)
     (code_of c.args.draft.now) (code_of c.lower_expression.new.draft) (code_of c.of_value.new.draft)
     c.in_default.ensures c.in_ok-kind.ensures.code c.in_ok-kind.ensures.kind)
     c.of_value.ensures.code
 
-pub lower_selected-returns-clause-storage : goal.lower_selected-returns-clause-storage
-lower_selected-returns-clause-storage t c =
+pub expressions::lower_selected-returns-clause-storage : goal.expressions::lower_selected-returns-clause-storage
+expressions::lower_selected-returns-clause-storage t c =
     let around = c.args.around.now in
     let a = expr_of c.args.a.now in
     let x = c.args.x.now in
@@ -317,14 +317,14 @@ lower_selected-returns-clause-storage t c =
     (λ s. selected-same around a x k s c.in_default.ensures c.in_ok-kind.ensures.kind)
     c.of_value.ensures.storage
 
-pub lower_storage-returns-in_default-clause-code : goal.lower_storage-returns-in_default-clause-code
-lower_storage-returns-in_default-clause-code t c =
+pub expressions::lower_storage-returns-in_default-clause-code : goal.expressions::lower_storage-returns-in_default-clause-code
+expressions::lower_storage-returns-in_default-clause-code t c =
     let other : is_access (view.expr_of c.args.e.now) ≡ false = search (rules, the_lemmas) in
     let old = code_of c.args.draft.now in
     sym (append-nil old)
     ∙ ap (λ a. old ++ base_of (storage c.args.around.now a)) (no-access c.args.e.now other)
 
-pub lower_storage-returns-in_default-clause-storage : goal.lower_storage-returns-in_default-clause-storage
-lower_storage-returns-in_default-clause-storage t c =
+pub expressions::lower_storage-returns-in_default-clause-storage : goal.expressions::lower_storage-returns-in_default-clause-storage
+expressions::lower_storage-returns-in_default-clause-storage t c =
     let other : is_access (view.expr_of c.args.e.now) ≡ false = search (rules, the_lemmas) in
     ap (λ a. without_base (storage c.args.around.now a)) (no-access c.args.e.now other)
