@@ -7,5 +7,6 @@ ghost use Rattle.report_parts.specs.Told.{Sides, sides_of};
 
 /// Each warning of a program has its two records.
 pub fn each_warning_has_two_records()
-    ensures { (core : Core) (w : Warning) → Contains (warnings core) w → (sides : Sides) × (sides_of core w ≡ Some sides) }
+    ensures { (core : Core) (w : Warning) → Contains (warnings core) w →
+        (sides : Sides) × (sides_of core w ≡ Some sides) }
 {}

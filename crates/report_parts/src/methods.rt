@@ -37,7 +37,8 @@ pub fn summary_of<'a>(
     number: usize,
 ) -> Option<&'a Summary>
     requires { AreOutcomes (core program.now) outcomes.now }
-    ensures { option_copied result ≡ option_map summary_from (told.found_of (core program.now) (record { 0 = number })) }
+    ensures { option_copied result
+        ≡ option_map summary_from (told.found_of (core program.now) (record { 0 = number })) }
 {
     match outcome_of(program, outcomes, number) {
         Some(Outcome::Summary(summary)) => Some(summary),

@@ -63,6 +63,20 @@ pub fn sites(alloc: Global, program: &Program) -> Result<Vec<Vec<Site>>, Memory>
     Ok(tables)
 }
 
+/// The operation that has this site, of the method of this number, where there is one.
+fn numbered_site(
+    program: &Program,
+    sites: &[Vec<Site>],
+    number: usize,
+    site: SiteId,
+) -> Option<Site>
+    requires { AreSites (core program.now) sites.now }
+    ensures { result ≡ option_map site_of (operation_at (core program.now) (record { 0 = number }) site) }
+{
+    let table = sites.get(number)?;
+    table.get(site.0 as usize).copied()
+}
+
 /// The operation of a method that has this site, where there is one.
 pub(crate) fn site_at(
     program: &Program,
@@ -73,21 +87,21 @@ pub(crate) fn site_at(
     requires { AreSites (core program.now) sites.now }
     ensures { result ≡ option_map site_of (operation_at (core program.now) method site) }
 {
-    let table = sites.get(method.0 as usize)?;
-    table.get(site.0 as usize).copied()
+    numbered_site(program, sites, method.0 as usize, site)
 }
 
-/// The place of that operation.
+/// The place of the operation that has this site, of the method of this number.
 pub fn place_at(
     program: &Program,
     sites: &[Vec<Site>],
-    method: MethodId,
+    number: usize,
     site: SiteId,
 ) -> Option<Place>
     requires { AreSites (core program.now) sites.now }
-    ensures { result ≡ option_map (λ (o : Operation). o.place) (operation_at (core program.now) method site) }
+    ensures { result ≡ option_map (λ (o : Operation). o.place)
+        (operation_at (core program.now) (record { 0 = number }) site) }
 {
-    match site_at(program, sites, method, site) {
+    match numbered_site(program, sites, number, site) {
         None => None,
         Some(site) => Some(site.place),
     }

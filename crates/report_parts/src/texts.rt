@@ -90,7 +90,8 @@ fn push_root(text: &mut String, program: &Program, root: Root) -> Result<(), Mem
 
 /// Puts a root and `.f` for each field behind a text.
 pub fn push_path(text: &mut String, program: &Program, path: &Path) -> Result<(), Memory>
-    ensures { OnOk result (string_bytes text.new ≡ string_bytes text.old ++ said.path_text (core program.now) path.now) }
+    ensures { OnOk result (string_bytes text.new
+        ≡ string_bytes text.old ++ said.path_text (core program.now) path.now) }
 {
     push_root(text, program, path.root)?;
     for field in path.fields.as_slice() {
