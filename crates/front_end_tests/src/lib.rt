@@ -5,8 +5,6 @@
 #[cfg(test)]
 mod cuts;
 #[cfg(test)]
-mod first_grammar;
-#[cfg(test)]
 mod methods;
 #[cfg(test)]
 mod outside;

@@ -1,4 +1,2 @@
 mod Written
-mod SortedNames
-mod SourceLemmas
 mod OneStatus

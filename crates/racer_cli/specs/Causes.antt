@@ -7,8 +7,9 @@ use Rattle.racer_cli.specs.declared.said.Said.{Said}
 use Rattle.racer_cli.specs.declared.status.Status.{Status}
 use Rattle.racer_cli.specs.declared.status.Status.TheVariants.{Clean, Warned, Usage, FolderFault, SinkFault, Refused}
 use Rattle.racer_cli.specs.declared.status.Status.TheVariants.{Memory, NoRace, NotAWitness}
-use Rattle.racer_cli.specs.Words.{Request, request_of}
-use Rattle.racer_cli.specs.Said.{usage_text, fault_text, Says}
+use Rattle.race_report.specs.declared.mode.Mode.{Mode}
+use Rattle.racer_cli.specs.Words.{Wanted, ReportOn, NotBuilt, request_of}
+use Rattle.racer_cli.specs.Said.{usage_text, fault_text, not_built_text, Says}
 
 -- What can be seen of a call's words and folder: the words, what the folder tells, and its counts of faults.
 pub record Asked : Type 0 where
@@ -24,7 +25,8 @@ asked_of told faults words old new =
 
 -- the words ask for a report on the folder that tells itself so
 abbrev pub AsksFor : List (String Global) → Told → Type 0
-AsksFor words told = request_of (map string_bytes words) ≡ Some (record { folder = told.name })
+AsksFor words told =
+    (mode : Mode) × (request_of (map string_bytes words) ≡ Some (ReportOn (record { folder = told.name; mode = mode })))
 
 -- What can be seen of its sink: the counts of faults, and the bytes taken where it tells them.
 pub record Wrote : Type 0 where
@@ -61,19 +63,25 @@ pub record IsUsage (asked : Asked) (text : List ℕ) : Type 0 where
   pub line : text ≡ usage_text
   pub no_fault : asked.after ≡ asked.before
 
--- the words ask for a folder, and its count of faults rose
+-- the words ask for what is not built yet, and the folder was left alone
+pub record IsNotBuilt (asked : Asked) (text : List ℕ) : Type 0 where
+  pub asks : request_of asked.words ≡ Some NotBuilt
+  pub line : text ≡ not_built_text
+  pub no_fault : asked.after ≡ asked.before
+
+-- the words ask for a report on a folder, and its count of faults rose
 pub record IsFault (asked : Asked) (text : List ℕ) : Type 0 where
-  pub request : Request
-  pub asks : request_of asked.words ≡ Some request
+  pub wanted : Wanted
+  pub asks : request_of asked.words ≡ Some (ReportOn wanted)
   pub line : text ≡ fault_text
   pub fault : asked.before < asked.after
 
--- the words ask for this folder, which did not fail, and this is what is said of its files
+-- the words ask for a report on this folder, which did not fail, and this is what is said of its files
 pub record IsSaid (status : Status) (asked : Asked) (text : List ℕ) : Type 0 where
-  pub request : Request
-  pub asks : request_of asked.words ≡ Some request
-  pub entered : IfSome asked.told (λ told. request.folder ≡ told.name)
-  pub said : IfSome asked.told (λ told. Says request told.files (record { status = status; text = text }))
+  pub wanted : Wanted
+  pub asks : request_of asked.words ≡ Some (ReportOn wanted)
+  pub entered : IfSome asked.told (λ told. wanted.folder ≡ told.name)
+  pub said : IfSome asked.told (λ told. Says wanted told.files (record { status = status; text = text }))
   pub no_fault : asked.after ≡ asked.before
 
 -- the statuses of what is said of a folder's files
@@ -92,7 +100,7 @@ IsDue Warned asked text = IsSaid Warned asked text
 IsDue Usage asked text = IsUsage asked text
 IsDue FolderFault asked text = IsFault asked text
 IsDue SinkFault asked text = ⊥
-IsDue Refused asked text = IsSaid Refused asked text
+IsDue Refused asked text = IsNotBuilt asked text ⊎ IsSaid Refused asked text
 IsDue Memory asked text = ⊥
 IsDue NoRace asked text = IsSaid NoRace asked text
 IsDue NotAWitness asked text = IsSaid NotAWitness asked text
@@ -126,17 +134,18 @@ IsCause Memory asked wrote = IsNothing wrote
 IsCause NoRace asked wrote = IsAnswer NoRace asked wrote
 IsCause NotAWitness asked wrote = IsAnswer NotAWitness asked wrote
 
--- what is said to the request was written whole, and gives the status
-pub record IsWholeAnswer (request : Request) (files : Files) (status : Status) (wrote : Wrote) : Type 0 where
+-- what is said to one who wants this was written whole, and gives the status
+pub record IsWholeAnswer (wanted : Wanted) (files : Files) (status : Status) (wrote : Wrote) : Type 0 where
   pub said : Said
-  pub says : Says request files said
+  pub says : Says wanted files said
   pub gives : status ≡ said.status
   pub whole : IsWhole wrote said.text
 
--- where the words ask for the folder that tells itself, and no count rose, the answer is whole, or memory
+-- where the words ask for a report on the folder that tells itself, and no count rose, the answer is whole, or memory
 -- was refused
 abbrev pub IsComplete : Status → Asked → Wrote → Type 0
 IsComplete status asked wrote =
-    (told : Told) → asked.told ≡ Some told → request_of asked.words ≡ Some (record { folder = told.name })
+    (told : Told) (mode : Mode) → asked.told ≡ Some told
+    → request_of asked.words ≡ Some (ReportOn (record { folder = told.name; mode = mode }))
     → asked.after ≡ asked.before → wrote.after ≡ wrote.before
-    → (status ≡ Memory) ⊎ IsWholeAnswer (record { folder = told.name }) told.files status wrote
+    → (status ≡ Memory) ⊎ IsWholeAnswer (record { folder = told.name; mode = mode }) told.files status wrote

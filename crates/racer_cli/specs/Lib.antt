@@ -1,8 +1,6 @@
 -- A contract of a public call rests on this: the list of files.
 pub mod Number
 pub mod Words
-pub mod Source
-pub mod Counted
 pub mod Said
 pub mod Causes
-pub mod FolderCalls
+pub mod Requests

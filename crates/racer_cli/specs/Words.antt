@@ -1,17 +1,25 @@
--- A contract of a public call rests on this: what the words of a command line ask for.
-use Rattle.std.specs.Prelude.{ℕ, Bool, false, not, List, [], ◌∷◌, Option, None, Some, nat_eq, if◌then◌else◌}
+-- A contract of a public call rests on this: what the words of a command line ask for, of what the program can do yet.
+use Rattle.std.specs.Prelude.{ℕ, List, Option, option_map, if◌then◌else◌}
+use Rattle.race_report.specs.declared.mode.Mode.{Mode}
+use Rattle.command_line.specs.Words.{Asked, Report, Replay, Made, asked}
 
 -- a report on the folder of this name
-pub record Request : Type 0 where
+pub record Wanted : Type 0 where
   pub folder : List ℕ
+  pub mode : Mode
 
--- a word that is not empty and does not begin with a minus sign
-abbrev pub is_plain_word : List ℕ → Bool
-is_plain_word [] = false
-is_plain_word (b ∷ bs) = not (nat_eq b 45)
+-- a history, a replay and a made folder are not built yet, and the number of workers has no effect
+pub data Request : Type 0 where
+  ReportOn : Wanted → Request
+  NotBuilt : Request
 
--- one plain word asks for a report on the folder of that name, and other words ask for nothing
+abbrev pub request_for : Asked → Request
+request_for (Report folder workers json summaries history) =
+    if history then NotBuilt
+    else ReportOn (record { folder = folder; mode = record { json = json; summaries = summaries } })
+request_for (Replay folder witness) = NotBuilt
+request_for (Made count workers) = NotBuilt
+
+-- what the words ask for, if they are those of a command line
 abbrev pub request_of : List (List ℕ) → Option Request
-request_of [] = None
-request_of (word ∷ []) = if is_plain_word word then Some (record { folder = word }) else None
-request_of (word ∷ other ∷ words) = None
+request_of words = option_map request_for (asked words)

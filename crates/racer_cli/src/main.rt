@@ -5,8 +5,6 @@ mod laws;
 mod request;
 mod run;
 mod said;
-mod source;
-mod sources;
 mod status;
 #[cfg(test)]
 mod tests;

@@ -1,21 +1,50 @@
 //! What the words of a command line ask for.
-ghost use Rattle.std.specs.Prelude.{◌≡◌, map, string_bytes, option_map};
-ghost use Rattle.racer_cli.specs.Words.{request_of};
+ghost use Rattle.std.specs.Prelude.{◌≡◌, map, string_bytes, option_map, IfOk};
+ghost use Rattle.command_line.specs.Requests.{asked_of};
+ghost use Rattle.racer_cli.specs.Words.{request_for, request_of};
+ghost use Rattle.racer_cli.specs.Requests.{seen};
 
-/// The folder that the words ask for a report on: they are one word, which is not empty and does not
-/// begin with a minus sign.
-pub fn requested_folder(words: &[String]) -> Option<&str>
-    ensures { option_map (λ word. record { folder = word.now }) result ≡ request_of (map string_bytes words.now) }
+use command_line::read_words;
+use race_report::Mode;
+use racer_base::{Memory, Text};
+use std::alloc::Global;
+
+/// A report on the folder of this name.
+#[derive(Drop)]
+pub struct Wanted {
+    pub folder: Text,
+    pub mode: Mode,
+}
+
+/// What is asked for, of what the program can do yet.
+#[derive(Drop)]
+pub enum Request {
+    ReportOn(Wanted),
+    NotBuilt,
+}
+
+/// What a request of the command line asks the program for.
+fn request_for(asked: command_line::Request) -> Request
+    ensures { seen result ≡ request_for (asked_of asked) }
 {
-    match words {
-        [word] => {
-            let text = word.as_str();
-            match text.as_bytes() {
-                [] => None,
-                [b'-', ..] => None,
-                _ => Some(text),
-            }
-        }
-        _ => None,
+    match asked {
+        command_line::Request::Report(report) if !report.history => Request::ReportOn(Wanted {
+            folder: report.folder,
+            mode: Mode {
+                json: report.json,
+                summaries: report.summaries,
+            },
+        }),
+        _ => Request::NotBuilt,
+    }
+}
+
+/// What the words ask for, where they are those of a command line.
+pub fn requested(alloc: Global, words: &[String]) -> Result<Option<Request>, Memory>
+    ensures { IfOk result (λ r. option_map seen r ≡ request_of (map string_bytes words.now)) }
+{
+    match read_words(alloc, words)? {
+        Some(asked) => Ok(Some(request_for(asked))),
+        None => Ok(None),
     }
 }

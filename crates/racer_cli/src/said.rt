@@ -1,28 +1,28 @@
 //! What a run has to say.
 ghost use Rattle.std.specs.Prelude.{◌≡◌, ◌≢◌, ◌<◌, IfOk, IfSome, OnOk, true};
-ghost use Rattle.std.specs.FinMap as finite;
 ghost use Rattle.racer_base.specs.Outside.{last_count};
 ghost use Rattle.core_code.specs.Program.{core};
 ghost use Rattle.access_domain.specs.Outcomes.{AreOutcomes};
-ghost use Rattle.racer_cli.specs.Source.{IsOneSource, Accepted, count_of, no_program, refusal_line};
-ghost use Rattle.racer_cli.specs.Source.{source_names, Source};
+ghost use Rattle.folder_sources.specs.Finding.{CountsFaults, FailsByMemory};
+ghost use Rattle.folder_programs.specs.Programs.{Accepted, source_of};
 ghost use Rattle.racer_cli.specs.Said.{said_from, Says};
-ghost use Rattle.racer_cli.specs.Counted.{count_told};
 ghost use Rattle.racer_cli.specs.Causes.{asked_of, AsksFor, IsDue, is_said};
-ghost use Rattle.racer_cli.specs.FolderCalls.{CountsFaults, FailsByMemory, IsSaidOfFile, IsSaidOfCount};
 
-use crate::request::requested_folder;
-use crate::source::source_program;
-use crate::sources::{Counted, count, sources};
+use crate::request::{Request, Wanted, requested};
 use crate::status::Status;
 use access_domain::Outcomes;
-use core_code::{Parts, Program};
+use core_code::Program;
+use folder_programs::{FoundProgram, folder_program};
 use race_pairs::warnings;
-use race_report::report;
-use racer_base::{Folder, FolderFault, Items, MAX_FILE_BYTES, Memory, Text};
+use race_report::{Mode, report_text};
+use racer_base::{Folder, FolderFault, Memory, Text};
 use std::alloc::Global;
 use std::sync::Arc;
 use transfer::outcomes;
+
+/// The usage line.
+const USAGE: &str =
+    "usage: racer (FOLDER | --made N) [--workers N] [--json] [--summaries] [--history] [--replay NAME]\n";
 
 /// The text that a run writes, and the status that it has once the text is written.
 #[derive(Drop)]
@@ -31,25 +31,19 @@ pub struct Said {
     pub text: Text,
 }
 
-/// The line of the sources that are refused for this one.
-fn refused(alloc: Global, name: &str) -> Result<Said, Memory>
-    ensures { IfOk result (λ said. said ≡ record { status = Status.Refused; text = refusal_line name.now }) }
-{
-    let line = format!(in alloc; "refused {name} not built yet\n")?;
-    Ok(Said {
-        status: Status::Refused,
-        text: Text::from(line),
-    })
-}
-
 /// The report on a program whose methods have these outcomes.
-fn said_of(alloc: Global, program: &Program, outcomes: &Outcomes) -> Result<Said, Memory>
+fn said_of(
+    alloc: Global,
+    mode: Mode,
+    program: &Program,
+    outcomes: &Outcomes,
+) -> Result<Said, Memory>
     requires { AreOutcomes (core program.now) outcomes.now.items }
     ensures status { IfOk result (λ said. is_said said.status ≡ true) }
-    ensures said { IfOk result (λ said. said ≡ said_from (Accepted (core program.now))) }
+    ensures said { IfOk result (λ said. said ≡ said_from mode (Accepted (core program.now))) }
 {
     let found = warnings(alloc, program, outcomes)?;
-    let text = report(alloc, program, outcomes.as_slice(), found.as_slice())?;
+    let text = report_text(alloc, mode, program, outcomes.as_slice(), found.as_slice())?;
     let status = if found.is_empty() {
         Status::Clean
     } else {
@@ -62,87 +56,51 @@ fn said_of(alloc: Global, program: &Program, outcomes: &Outcomes) -> Result<Said
 }
 
 /// The report on a program.
-fn reported(alloc: Global, program: Program) -> Result<Said, Memory>
+fn reported(alloc: Global, mode: Mode, program: Program) -> Result<Said, Memory>
     ensures status { IfOk result (λ said. is_said said.status ≡ true) }
-    ensures said { IfOk result (λ said. said ≡ said_from (Accepted (core program))) }
+    ensures said { IfOk result (λ said. said ≡ said_from mode (Accepted (core program))) }
 {
     let program = Arc::new(alloc, program)?;
     let outcomes = outcomes(alloc, &program)?;
-    said_of(alloc, &*program, &outcomes)
+    said_of(alloc, mode, &*program, &outcomes)
 }
 
-/// The program of no source.
-fn nothing(alloc: Global) -> Program
-    ensures { core result ≡ no_program }
-{
-    Program::of(Parts {
-        files: Items::new(alloc),
-        skipped: Items::new(alloc),
-        classes: Items::new(alloc),
-        fields: Items::new(alloc),
-        methods: Items::new(alloc),
-    })
-}
-
-/// The report on no source.
-fn reported_nothing(alloc: Global) -> Result<Said, Memory>
+/// What is said of what was found in a folder.
+fn said_of_found(alloc: Global, mode: Mode, found: FoundProgram) -> Result<Said, Memory>
     ensures status { IfOk result (λ said. is_said said.status ≡ true) }
-    ensures said { IfOk result (λ said. said ≡ said_from (Accepted no_program)) }
+    ensures said { IfOk result (λ said. said ≡ said_from mode (source_of found)) }
 {
-    reported(alloc, nothing(alloc))
-}
-
-/// What is said of a source of this name and these bytes.
-fn said_of_source(alloc: Global, name: &str, bytes: &[u8]) -> Result<Said, Memory>
-    ensures status { IfOk result (λ said. is_said said.status ≡ true) }
-    ensures said { IfOk result (λ said.
-        (source : Source) × IsOneSource name.now bytes.now source × (said ≡ said_from source)) }
-{
-    match source_program(alloc, name, bytes)? {
-        Some(program) => reported(alloc, program),
-        None => refused(alloc, name),
+    match found {
+        FoundProgram::Accepted(program) => reported(alloc, mode, program),
+        FoundProgram::Refused(text) => Ok(Said {
+            status: Status::Refused,
+            text,
+        }),
     }
 }
 
-/// What is said of the one source of this name.
-fn one_source<F: Folder>(alloc: Global, folder: &mut F, name: &str) -> Result<Said, FolderFault>
+/// What is said to one who wants a report on a folder.
+fn answered<F: Folder>(alloc: Global, folder: &mut F, wanted: &Wanted) -> Result<Said, FolderFault>
     ensures status { IfOk result (λ said. is_said said.status ≡ true) }
     ensures count { CountsFaults result (F.faults folder.old) (F.faults folder.new) }
-    ensures said { IfOk result (IsSaidOfFile (F.told folder.old) name.now) }
-    ensures steady { F.steady folder.old → IfSome (F.told folder.old) (λ told.
-        IfSome (finite.get told.files name.now) (λ _. FailsByMemory result)) }
-{
-    let bytes = folder.read(alloc, name, MAX_FILE_BYTES + 1)?;
-    Ok(said_of_source(alloc, name, bytes.as_slice())?)
-}
-
-/// What is said of so many sources.
-fn judged<F: Folder>(alloc: Global, folder: &mut F, counted: Counted) -> Result<Said, FolderFault>
-    ensures count { CountsFaults result (F.faults folder.old) (F.faults folder.new) }
-    ensures status { IfOk result (λ said. is_said said.status ≡ true) }
-    ensures said { IfOk result (IsSaidOfCount (F.told folder.old) (count_told counted.entry)) }
-    ensures steady { F.steady folder.old → IfSome (F.told folder.old) (λ told.
-        count_told counted.entry ≡ count_of (source_names told.files) → FailsByMemory result) }
-{
-    match counted {
-        Counted::Nothing => Ok(reported_nothing(alloc)?),
-        Counted::One(name) => one_source(alloc, folder, name),
-        Counted::More(second) => Ok(refused(alloc, second)?),
-    }
-}
-
-/// What is said of the folder of this name.
-fn answered<F: Folder>(alloc: Global, folder: &mut F, name: &str) -> Result<Said, FolderFault>
-    ensures status { IfOk result (λ said. is_said said.status ≡ true) }
-    ensures count { CountsFaults result (F.faults folder.old) (F.faults folder.new) }
-    ensures entered { OnOk result (IfSome (F.told folder.old) (λ told. name.now ≡ told.name)) }
-    ensures said { IfOk result (λ said.
-        IfSome (F.told folder.old) (λ told. Says (record { folder = name.now }) told.files said)) }
+    ensures entered { OnOk result (IfSome (F.told folder.old) (λ told. wanted.now.folder ≡ told.name)) }
+    ensures said { IfOk result (λ said. IfSome (F.told folder.old) (λ told.
+        Says (record { folder = wanted.now.folder; mode = wanted.now.mode }) told.files said)) }
     ensures steady { F.steady folder.old →
-        IfSome (F.told folder.old) (λ told. name.now ≡ told.name → FailsByMemory result) }
+        IfSome (F.told folder.old) (λ told. wanted.now.folder ≡ told.name → FailsByMemory result) }
 {
-    let names = sources(alloc, folder, name)?;
-    judged(alloc, folder, count(names.as_slice()))
+    let found = folder_program(alloc, folder, wanted.folder.as_str())?;
+    Ok(said_of_found(alloc, wanted.mode, found)?)
+}
+
+/// A line with its status.
+fn line(alloc: Global, status: Status, text: &str) -> Result<Said, Memory>
+    ensures { IfOk result (λ said. said ≡ record { status = status; text = text.now }) }
+{
+    Ok(Said {
+        status,
+        text: Text::from_str(alloc, text)?,
+    })
 }
 
 /// What is to be said to these words, over this folder.
@@ -157,18 +115,16 @@ pub fn what_to_say<F: Folder>(
     ensures steady { F.steady folder.old → IfSome (F.told folder.old) (λ told.
         AsksFor words.now told → IfOk result (λ said. said.status ≢ Status.FolderFault)) }
 {
-    let Some(name) = requested_folder(words) else {
-        return Ok(Said {
-            status: Status::Usage,
-            text: Text::from_str(alloc, "usage: racer FOLDER\n")?,
-        });
+    let wanted = match requested(alloc, words)? {
+        None => return line(alloc, Status::Usage, USAGE),
+        Some(Request::NotBuilt) => {
+            return line(alloc, Status::Refused, "refused not built yet\n");
+        }
+        Some(Request::ReportOn(wanted)) => wanted,
     };
-    match answered(alloc, folder, name) {
+    match answered(alloc, folder, &wanted) {
         Err(FolderFault::Memory) => Err(Memory),
-        Err(FolderFault::Failed) => Ok(Said {
-            status: Status::FolderFault,
-            text: Text::from_str(alloc, "folder fault\n")?,
-        }),
+        Err(FolderFault::Failed) => line(alloc, Status::FolderFault, "folder fault\n"),
         Ok(said) => Ok(said),
     }
 }

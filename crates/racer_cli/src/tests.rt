@@ -27,20 +27,19 @@ struct Row<'a> {
 
 const EMPTY: &[u8] = b"racer report 1\nfiles 0 classes 0 methods 0\nwarnings 0 confirmed 0\n";
 
-const USAGE: &[u8] = b"usage: racer FOLDER\n";
+const USAGE: &[u8] =
+    b"usage: racer (FOLDER | --made N) [--workers N] [--json] [--summaries] [--history] [--replay NAME]\n";
 
 /// A report on an empty folder, into a sink that takes all at once.
 const PLAIN: Row = Row {
     words: &["src"],
     files: &[],
     folder_fails: &[],
-    most: 1_000,
+    most: 10_000,
     sink_fails: &[],
     status: Status::Clean,
     text: EMPTY,
 };
-
-const TWO_METHODS: &[u8] = b"racer report 1\nfiles 1 classes 1 methods 2\nwarnings 0 confirmed 0\n";
 
 /// Words that ask for nothing.
 const WRONG: Row = Row {
@@ -57,63 +56,96 @@ const FAULT: Row = Row {
     ..PLAIN
 };
 
-/// Two sources.
-const TWO: Row = Row {
+/// What is not built yet.
+const NOT_BUILT: Row = Row {
+    folder_fails: &[0],
     status: Status::Refused,
-    text: b"refused B.java not built yet\n",
+    text: b"refused not built yet\n",
     ..PLAIN
 };
 
-/// A source that is refused.
+/// Sources that are refused.
 const REFUSED: Row = Row {
     status: Status::Refused,
-    text: b"refused A.java not built yet\n",
     ..PLAIN
 };
+
+/// Two files without a fault.
+const TWO: &[(&str, &[u8])] = &[("A.java", b"class A { }"), ("B.java", b"class B { }")];
 
 /// Words, folders, and calls that fail.
 const CALLS: &[Row] = &[
     WRONG,
     Row {
-        words: &[""],
+        words: &["src", "--workers", "0"],
         ..WRONG
     },
     Row {
-        words: &["-x"],
+        words: &["src", "--workers", "65"],
         ..WRONG
     },
     Row {
-        words: &["src", "src"],
+        words: &["src", "--workers", "08"],
         ..WRONG
+    },
+    Row {
+        words: &["src", "--made", "3"],
+        ..WRONG
+    },
+    Row {
+        words: &["--made", "801"],
+        ..WRONG
+    },
+    Row {
+        words: &["--replay", "w.json"],
+        ..WRONG
+    },
+    Row {
+        words: &["src", "--replay", "w.json", "--json"],
+        ..WRONG
+    },
+    Row {
+        words: &["src", "--what"],
+        ..WRONG
+    },
+    Row {
+        words: &["src", "lib"],
+        ..WRONG
+    },
+    Row {
+        words: &["src", "--replay", "w.json"],
+        ..NOT_BUILT
+    },
+    Row {
+        words: &["--made", "800"],
+        ..NOT_BUILT
+    },
+    Row {
+        words: &["src", "--history"],
+        ..NOT_BUILT
     },
     PLAIN,
     Row {
-        files: &[("notes.txt", b"java"), ("java", b"")],
+        words: &["src", "--workers", "64"],
         ..PLAIN
     },
     Row {
-        files: &[("B.java", b""), ("notes.txt", b""), ("A.java", b"")],
-        ..TWO
+        words: &["src", "--json"],
+        text: b"{\"classes\":0,\"files\":0,\"methods\":0,\"not_analysed\":[],\"profile\":1,\"skipped\":[],\"warnings\":[]}\n",
+        ..PLAIN
     },
     Row {
-        files: &[("C.java", b""), ("B.java", b""), ("A.java", b"")],
-        ..TWO
+        files: TWO,
+        text: b"racer report 1\nfiles 2 classes 2 methods 2\nwarnings 0 confirmed 0\n",
+        ..PLAIN
     },
     Row {
         words: &["lib"],
         ..FAULT
     },
     Row {
-        folder_fails: &[0],
-        ..FAULT
-    },
-    Row {
-        folder_fails: &[1],
-        ..FAULT
-    },
-    Row {
-        files: &[("A.java", b"")],
-        folder_fails: &[2],
+        files: TWO,
+        folder_fails: &[3],
         ..FAULT
     },
     Row {
@@ -132,22 +164,8 @@ const CALLS: &[Row] = &[
     },
 ];
 
-/// One source: with warnings, without, and refused.
+/// Folders that are accepted and that are refused.
 const SOURCES: &[Row] = &[
-    Row {
-        files: &[(
-            "Pair.java",
-            b"class Pair {\n  int a;\n  int b;\n  void put() { this.a = 1; }\n\
-          \x20 void both() { synchronized (this) { this.a = 2; this.b = 3; } }\n}\n",
-        )],
-        status: Status::Warned,
-        text: b"racer report 1\nfiles 1 classes 1 methods 3\n\
-          warning Pair.put/0 write this.a\n at Pair.java:4:21\n\
-          \x20with Pair.put/0 write this.a\n at Pair.java:4:21\n\
-          warning Pair.both/0 write this.a locked\n at Pair.java:5:44\n\
-          \x20with Pair.put/0 write this.a\n at Pair.java:4:21\nwarnings 2 confirmed 0\n",
-        ..PLAIN
-    },
     Row {
         files: &[(
             "A.java",
@@ -163,88 +181,39 @@ const SOURCES: &[Row] = &[
     Row {
         files: &[(
             "Two.java",
-            b"@ThreadSafe class B { int x; void f() { this.x = 1; } }\r\n\
-          \tclass A { int x; int y; void f() { this.x = 1; }\r\
-          void g() { synchronized (this) { synchronized (this) { this.y = 2; this.x = 3; } } }\n}",
+            b"@ThreadSafe class Two { int n; final Object k = new Object(); \
+              void a() { synchronized (k) { n = 1; } } synchronized void b() { n = 2; } }",
         )],
-        status: Status::Warned,
-        text: b"racer report 1\nfiles 1 classes 2 methods 5\n\
-          warning B.f/0 write this.x\n at Two.java:1:46\n with B.f/0 write this.x\n at Two.java:1:46\n\
-          warning A.f/0 write this.x\n at Two.java:2:42\n with A.f/0 write this.x\n at Two.java:2:42\n\
-          warning A.g/0 write this.x locked\n at Two.java:3:73\n with A.f/0 write this.x\n at Two.java:2:42\n\
-          warnings 3 confirmed 0\n",
+        text: b"racer report 1\nfiles 1 classes 1 methods 3\nwarnings 0 confirmed 0\n",
         ..PLAIN
     },
     Row {
-        files: &[("A.java", b"class A { int x; void f() { this.x = 1; } }")],
-        text: TWO_METHODS,
-        ..PLAIN
-    },
-    Row {
-        files: &[("A.java", b"@ThreadSafe class A { int x; void f() { } }")],
-        text: TWO_METHODS,
+        files: &[("A.java", b"class A { interface I { } static { } }")],
+        text: b"racer report 1\nfiles 1 classes 1 methods 1\n\
+          skipped A.java:1:11\nskipped A.java:1:27\nwarnings 0 confirmed 0\n",
         ..PLAIN
     },
     Row {
         files: &[(
-            "A.java",
-            b"class A { int x; void f() { \
-          synchronized (this) { synchronized (this) { synchronized (this) { synchronized (this) { \
-          synchronized (this) { synchronized (this) { synchronized (this) { synchronized (this) { \
-          synchronized (this) { synchronized (this) { synchronized (this) { synchronized (this) { \
-          synchronized (this) { synchronized (this) { synchronized (this) { synchronized (this) { \
-          this.x = 1; } } } } } } } } } } } } } } } } } }",
+            "Loop.java",
+            b"@ThreadSafe\nclass Loop {\n  int c;\n  void m() { n(); }\n  void n() { m(); }\n\
+              \x20 void k() { m(); this.c = 1; }\n}\n",
         )],
-        text: TWO_METHODS,
+        status: Status::Warned,
+        text: b"racer report 1\nfiles 1 classes 1 methods 4\n\
+          not analysed Loop.m/0 Loop.java:4:8 recursive\nnot analysed Loop.n/0 Loop.java:5:8 recursive\n\
+          warning Loop.k/0 write this.c\n at Loop.java:6:24\n with Loop.k/0 write this.c\n at Loop.java:6:24\n\
+          warnings 1 confirmed 0\n",
         ..PLAIN
     },
     Row {
-        files: &[("A.java", b"")],
-        text: b"racer report 1\nfiles 1 classes 0 methods 0\nwarnings 0 confirmed 0\n",
-        ..PLAIN
-    },
-    Row {
-        files: &[("A.java", b"class A { int x; long y; }")],
-        ..REFUSED
-    },
-    Row {
-        files: &[("A.java", b"class A {")],
-        ..REFUSED
-    },
-    Row {
-        files: &[("A.java", b"class A { int x; void f() { this.y = 1; } }")],
+        files: &[("A.java", b"class A {}"), ("B.java", b"class B {}\n/* x")],
+        text: b"refused B.java:2:1 unclosed\n",
         ..REFUSED
     },
     Row {
         files: &[("A.java", b"class A { int x; int x; }")],
-        ..REFUSED
-    },
-    Row {
-        files: &[("A.java", b"class A { } class A { }")],
-        ..REFUSED
-    },
-    Row {
-        files: &[("A.java", b"class A { void f() { } int x; }")],
-        ..REFUSED
-    },
-    Row {
-        files: &[("A.java", b"class A { int x; void f() { x = 1; } }")],
-        ..REFUSED
-    },
-    Row {
-        files: &[("A.java", b"class A { int x; void f() { this.x = 0x1; } }")],
-        ..REFUSED
-    },
-    Row {
-        files: &[(
-            "A.java",
-            b"class A { int x; void f() { \
-          synchronized (this) { synchronized (this) { synchronized (this) { synchronized (this) { \
-          synchronized (this) { synchronized (this) { synchronized (this) { synchronized (this) { \
-          synchronized (this) { synchronized (this) { synchronized (this) { synchronized (this) { \
-          synchronized (this) { synchronized (this) { synchronized (this) { synchronized (this) { synchronized (this) { \
-          this.x = 1; } } } } } } } } } } } } } } } } } } }",
-        )],
+        text: b"refused A.java:1:22 duplicate field, first A.java:1:15\n",
         ..REFUSED
     },
 ];
@@ -323,7 +292,7 @@ fn calls(rt: HostRuntime) -> Result<(), Fail> {
 }
 
 #[test]
-fn one_source(rt: HostRuntime) -> Result<(), Fail> {
+fn sources(rt: HostRuntime) -> Result<(), Fail> {
     assert_eq!(rt; held(&rt, rt.alloc(), SOURCES)?, SOURCES.len());
     Ok(())
 }

@@ -1,9 +1,0 @@
-pub mod Texts
-pub mod FrontTokens
-pub mod FoundClasses
-pub mod Sound
-pub mod Fronts
-pub mod Loops
-pub mod SameNames
-pub mod OneReading
-pub mod AllTokens

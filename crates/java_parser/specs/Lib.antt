@@ -1,9 +1,0 @@
-pub mod Tree
-pub mod Spelling
-pub mod Conditions
-pub mod View
-pub mod Files
-pub mod Places
-pub mod Examples
-pub mod Reading
-pub mod Answer

@@ -1,6 +1,0 @@
-use Rattle.racer_cli.proofs.SortedNames.{sorted_sources}
-use Rattle.racer_cli.proofs.sources.sources.Goals as goal
-
-pub returns-clause-names : goal.returns-clause-names
-returns-clause-names g c =
-    sorted_sources _ (g.F.Folder.told c.enter.new.self) c.in_ok-names.names.items c.sort.new.self.items _ c.enter.ensures.told c.in_ok-names.ensures.names c.sort.ensures.permutation c.in_ok-sort.ensures.sorted c.keep_sources.ensures
