@@ -1,0 +1,5 @@
+package library.people;
+
+public class Owner {
+  public String name;
+}
