@@ -1,2 +1,5 @@
-pub mod ReportOutcomes
-pub mod PlaceTables
+pub mod JsonPieces
+pub mod PlainValues
+pub mod SummaryTold
+pub mod Digits
+pub mod Chains

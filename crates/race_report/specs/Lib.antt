@@ -1,3 +1,5 @@
 -- A contract of a public call rests on this: the list of files.
 pub mod Report
-pub mod Places
+pub mod Json
+pub mod Modes
+pub mod Pieces

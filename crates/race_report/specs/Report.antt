@@ -1,74 +1,20 @@
--- A contract of a public call rests on this: the text of a report, without marks, over a program, the outcomes of its
--- methods and its warnings.
-use Rattle.std.specs.Prelude.{ℕ, List, [], ◌++◌, Option, None, Some, codes, length, map, option_map, slice_get}
-use Rattle.std.specs.Prelude.{if◌then◌else◌}
+-- A contract of a public call rests on this: the text of a report, a line a function, without marks.
+use Rattle.std.specs.Prelude.{ℕ, List, [], ◌++◌, Option, None, Some, Bool, codes, length, if◌then◌else◌}
 use Rattle.std.specs.List.{flat_map, enumerate_from}
 use Rattle.std.specs.Fmt.{decimal}
 use Rattle.racer_base.specs.declared.ids.MethodId.{MethodId}
-use Rattle.racer_base.specs.declared.ids.SiteId.{SiteId}
 use Rattle.racer_base.specs.declared.ids.Place.{Place}
-use Rattle.racer_base.specs.declared.ids.Touch.{Touch}
-use Rattle.racer_base.specs.declared.ids.Touch.TheVariants.{Read, Write}
-use Rattle.core_code.specs.declared.code.Reason.{Reason}
-use Rattle.core_code.specs.declared.code.Reason.TheVariants.{Overload, Outside, Parameters, Locals, Recursive}
-use Rattle.core_code.specs.declared.parts.ClassCore.{ClassCore}
-use Rattle.core_code.specs.declared.parts.FieldCore.{FieldCore}
-use Rattle.core_code.specs.Tree.{Tree, Operation, op_at}
+use Rattle.owner_domain.specs.declared.value.Value.{Value}
 use Rattle.core_code.specs.Core.{Core, Method}
-use Rattle.access_paths.specs.Text.{name_at, path_text}
 use Rattle.access_domain.specs.declared.access.Access.{Access}
-use Rattle.access_domain.specs.declared.summary.Outcome.{Outcome}
-use Rattle.access_domain.specs.declared.summary.Outcome.TheVariants.{Summary as Whole, Large}
-use Rattle.access_domain.specs.Summaries.{outcome_of}
+use Rattle.access_domain.specs.Findings.{Findings}
 use Rattle.race_pairs.specs.declared.warning.Warning.{Warning}
-use Rattle.race_pairs.specs.Warnings.{records_of, warnings}
+use Rattle.race_pairs.specs.Warnings.{warnings}
+use Rattle.report_parts.specs.Texts.{place_text, method_text, record_text, value_text}
+use Rattle.report_parts.specs.Told.{reason_of, found_of, access_text, wobbly_texts, Side, Sides, sides_of}
 
 abbrev pub line : List ℕ → List ℕ
 line text = text ++ codes "\n"
-
--- ---- texts of places, methods and records
-
-abbrev pub class_names : Core → List (List ℕ)
-class_names core = map (λ (c : ClassCore). c.name) core.classes
-
-abbrev pub field_names : Core → List (List ℕ)
-field_names core = map (λ (f : FieldCore). f.name) core.fields
-
--- FILE:LINE:COLUMN
-abbrev pub place_text : Core → Place → List ℕ
-place_text core place =
-    name_at core.files place.file.0 ++ codes ":" ++ decimal place.line ++ codes ":" ++ decimal place.column
-
--- CLASS.NAME/PARAMETERS
-abbrev pub method_text : Core → Method → List ℕ
-method_text core method =
-    let class = name_at (class_names core) method.class.0 in
-    class ++ codes "." ++ method.name ++ codes "/" ++ decimal (length method.parameters)
-
-abbrev pub touch_text : Touch → List ℕ
-touch_text Read = codes "read"
-touch_text Write = codes "write"
-
--- KIND PATH, and then `locked` and `main` where the record is
-abbrev pub record_text : Core → Access → List ℕ
-record_text core access =
-    touch_text access.kind ++ codes " " ++ path_text (class_names core) (field_names core) access.path
-    ++ (if access.locked then codes " locked" else []) ++ (if access.main then codes " main" else [])
-
-abbrev pub reason_text : Reason → List ℕ
-reason_text Overload = codes "overload"
-reason_text Outside = codes "outside"
-reason_text Parameters = codes "parameters"
-reason_text Locals = codes "locals"
-reason_text Recursive = codes "recursive"
-
--- ---- the place of a site
-
--- the place of the operation that has this site, where the code has one
-abbrev pub place_at : Tree → SiteId → Option Place
-place_at code site = option_map (λ (o : Operation). o.place) (op_at code site)
-
--- ---- lines
 
 -- files N classes N methods N
 abbrev pub counts_line : Core → List ℕ
@@ -82,67 +28,88 @@ counts_line core =
 abbrev pub skipped_line : Core → Place → List ℕ
 skipped_line core place = line (codes "skipped " ++ place_text core place)
 
--- why a method has no summary; none where it has one
-abbrev pub reason_from : Option Reason → Option Outcome → Option (List ℕ)
-reason_from (Some reason) outcome = Some (reason_text reason)
-reason_from None None = None
-reason_from None (Some Large) = Some (codes "large")
-reason_from None (Some (Whole summary)) = None
+-- METHOD PLACE
+abbrev pub method_place : Core → Method → List ℕ
+method_place core method = method_text core method ++ codes " " ++ place_text core method.place
 
 -- not analysed METHOD PLACE REASON, where there is a reason
 abbrev pub reason_line : Core → Method → Option (List ℕ) → List ℕ
 reason_line core method None = []
 reason_line core method (Some reason) =
-    let place = place_text core method.place in
-    line (codes "not analysed " ++ method_text core method ++ codes " " ++ place ++ codes " " ++ reason)
+    line (codes "not analysed " ++ method_place core method ++ codes " " ++ reason)
 
--- the same of a method with its number
 abbrev pub not_analysed_line : Core → ℕ × Method → List ℕ
-not_analysed_line core e = reason_line core e.1 (reason_from e.1.status (outcome_of core (record { 0 = e.0 })))
+not_analysed_line core e = reason_line core e.1 (reason_of core e)
 
---  at PLACE, where there is one
-abbrev pub at_line : Core → Option Place → List ℕ
-at_line core None = []
-at_line core (Some place) = line (codes " at " ++ place_text core place)
+--  RECORD at LINE:COLUMN
+abbrev pub access_line : Core → MethodId → Access → List ℕ
+access_line core m access = line (codes " " ++ access_text core m access)
 
--- METHOD RECORD, and below it the place of the record's site
-abbrev pub side_of_record : Core → Method → Access → List ℕ
-side_of_record core method access =
-    line (method_text core method ++ codes " " ++ record_text core access)
-    ++ at_line core (place_at method.code access.site)
+--  wobbly PATH
+abbrev pub wobbly_line : List ℕ → List ℕ
+wobbly_line path = line (codes " wobbly " ++ path)
 
--- the same of a method's record by its index
-abbrev pub side : Core → MethodId → ℕ → List ℕ
-side core m index =
-    elim (slice_get core.methods m.0) [
-      | None ↦ []
-      | Some method ↦
-          elim (slice_get (records_of core m) index) [
-            | None ↦ []
-            | Some access ↦ side_of_record core method access
-          ]
-    ]
+-- summary METHOD
+--  RECORD at LINE:COLUMN
+--  wobbly PATH
+--  result VALUE
+abbrev pub summary_text : Core → ℕ × Method → List Access → List (List ℕ) → Value → List ℕ
+summary_text core e records wobbly result =
+    line (codes "summary " ++ method_text core e.1)
+    ++ flat_map (access_line core (record { 0 = e.0 })) records
+    ++ flat_map wobbly_line wobbly
+    ++ line (codes " result " ++ value_text core result)
+
+-- the same of a method that has a summary
+abbrev pub found_lines : Core → ℕ × Method → Option Findings → List ℕ
+found_lines core e None = []
+found_lines core e (Some found) = summary_text core e found.records (wobbly_texts core found) found.result
+
+abbrev pub summary_lines : Core → ℕ × Method → List ℕ
+summary_lines core e = found_lines core e (found_of core (record { 0 = e.0 }))
+
+--  at PLACE
+abbrev pub at_line : Core → Place → List ℕ
+at_line core place = line (codes " at " ++ place_text core place)
+
+-- METHOD RECORD, and below it the places from the record's site down to its access
+abbrev pub side_lines : Core → Side → List ℕ
+side_lines core side =
+    line (method_text core side.method ++ codes " " ++ record_text core side.access)
+    ++ flat_map (at_line core) side.places
 
 -- warning METHOD RECORD
 --  at PLACE
 --  with METHOD RECORD
 --  at PLACE
+abbrev pub sides_lines : Core → Option Sides → List ℕ
+sides_lines core None = []
+sides_lines core (Some sides) =
+    codes "warning " ++ side_lines core sides.first ++ codes " with " ++ side_lines core sides.partner
+
 abbrev pub warning_lines : Core → Warning → List ℕ
-warning_lines core w =
-    codes "warning " ++ side core w.entry w.access ++ codes " with " ++ side core w.partner w.partner_access
+warning_lines core w = sides_lines core (sides_of core w)
 
 -- warnings N confirmed N
 abbrev pub last_line : List Warning → List ℕ
 last_line found = line (codes "warnings " ++ decimal (length found) ++ codes " confirmed 0")
 
--- what stands below the first line, where these are the warnings
-abbrev pub report_below : Core → List Warning → List ℕ
-report_below core found =
-    counts_line core
-    ++ flat_map (skipped_line core) core.skipped
-    ++ flat_map (not_analysed_line core) (enumerate_from 0 core.methods)
-    ++ flat_map (warning_lines core) found
-    ++ last_line found
+-- the summaries, where they are asked for
+abbrev pub summaries_lines : Bool → Core → List ℕ
+summaries_lines asked core = if asked then flat_map (summary_lines core) (enumerate_from 0 core.methods) else []
 
-abbrev pub report_text : Core → List ℕ
-report_text core = line (codes "racer report 1") ++ report_below core (warnings core)
+-- racer report 1, and the counts
+abbrev pub head_lines : Core → List ℕ
+head_lines core = line (codes "racer report 1") ++ counts_line core
+
+-- what stands of places and methods
+abbrev pub method_lines : Bool → Core → List ℕ
+method_lines summaries core =
+    flat_map (skipped_line core) core.skipped
+    ++ flat_map (not_analysed_line core) (enumerate_from 0 core.methods)
+    ++ summaries_lines summaries core
+
+abbrev pub report_text : Bool → Core → List ℕ
+report_text summaries core =
+    head_lines core ++ method_lines summaries core ++ flat_map (warning_lines core) (warnings core)
+    ++ last_line (warnings core)

@@ -1,11 +1,20 @@
-//! The text of a report.
+//! The report on a program, as text and as JSON.
 //!
-//! `specs/Report.antt` says what text it is, over a program, the outcomes of its methods and its warnings; `report`
-//! makes it.
+//! # The definitions
+//!
+//! - `specs/Report.antt`: the text, a line a function.
+//! - `specs/Json.antt`: the object.
+//! - `specs/Modes.antt`: which of the two a report is.
+//!
+//! What either tells stands in `report_parts`.
 #![tactic(auto)]
 
+mod json;
 pub mod laws;
-mod places;
+mod mode;
+mod reports;
 mod text;
+mod values;
 
-pub use text::report;
+pub use mode::Mode;
+pub use reports::{report, report_text};

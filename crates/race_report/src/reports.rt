@@ -1,0 +1,139 @@
+//! The report on a program.
+ghost use Rattle.std.specs.Prelude.{◌≡◌, ◌++◌, IfOk, OnOk, string_bytes};
+ghost use Rattle.serde_json.specs.Written.{compact_text};
+ghost use Rattle.core_code.specs.Program.{core};
+ghost use Rattle.access_domain.specs.Outcomes.{AreOutcomes};
+ghost use Rattle.race_pairs.specs.Warnings as pairs;
+ghost use Rattle.race_report.specs.Json.{report_value};
+ghost use Rattle.race_report.specs.Modes as said;
+ghost use Rattle.race_report.specs.Report as lines;
+
+use crate::text::{
+    push_counts, push_last, push_not_analysed, push_skipped, push_summaries, push_warnings,
+};
+use crate::{Mode, json};
+use access_domain::Outcome;
+use core_code::Program;
+use race_pairs::Warning;
+use racer_base::Memory;
+use std::alloc::Global;
+use std::sync::Arc;
+
+/// Puts the lines of the summaries behind a text, where they are asked for.
+fn push_asked(
+    alloc: Global,
+    text: &mut String,
+    summaries: bool,
+    program: &Program,
+    outcomes: &[Option<Arc<Outcome>>],
+) -> Result<(), Memory>
+    requires { AreOutcomes (core program.now) outcomes.now }
+    ensures { OnOk result (string_bytes text.new
+        ≡ string_bytes text.old ++ lines.summaries_lines summaries (core program.now)) }
+{
+    if !summaries {
+        return Ok(());
+    }
+    push_summaries(alloc, text, program, outcomes)
+}
+
+/// Puts the first lines behind a text.
+fn push_head(text: &mut String, program: &Program) -> Result<(), Memory>
+    ensures { OnOk result (string_bytes text.new ≡ string_bytes text.old ++ lines.head_lines (core program.now)) }
+{
+    text.push_str("racer report 1\n")?;
+    push_counts(text, program)
+}
+
+/// Puts the lines on places and methods behind a text.
+fn push_methods(
+    alloc: Global,
+    text: &mut String,
+    summaries: bool,
+    program: &Program,
+    outcomes: &[Option<Arc<Outcome>>],
+) -> Result<(), Memory>
+    requires { AreOutcomes (core program.now) outcomes.now }
+    ensures { OnOk result (string_bytes text.new
+        ≡ string_bytes text.old ++ lines.method_lines summaries (core program.now)) }
+{
+    push_skipped(text, program)?;
+    push_not_analysed(text, program, outcomes)?;
+    push_asked(alloc, text, summaries, program, outcomes)
+}
+
+/// Puts a report of lines behind a text.
+fn push_lines(
+    alloc: Global,
+    text: &mut String,
+    summaries: bool,
+    program: &Program,
+    outcomes: &[Option<Arc<Outcome>>],
+    found: &[Warning],
+) -> Result<(), Memory>
+    requires outcomes { AreOutcomes (core program.now) outcomes.now }
+    requires found { found.now ≡ pairs.warnings (core program.now) }
+    ensures { OnOk result (string_bytes text.new
+        ≡ string_bytes text.old ++ lines.report_text summaries (core program.now)) }
+{
+    push_head(text, program)?;
+    push_methods(alloc, text, summaries, program, outcomes)?;
+    push_warnings(alloc, text, program, outcomes, found)?;
+    push_last(text, found)
+}
+
+/// Puts a report that is an object behind a text, and a line feed.
+fn push_object(
+    alloc: Global,
+    text: &mut String,
+    summaries: bool,
+    program: &Program,
+    outcomes: &[Option<Arc<Outcome>>],
+    found: &[Warning],
+) -> Result<(), Memory>
+    requires outcomes { AreOutcomes (core program.now) outcomes.now }
+    requires found { found.now ≡ pairs.warnings (core program.now) }
+    ensures { OnOk result (string_bytes text.new
+        ≡ string_bytes text.old ++ lines.line (compact_text (report_value summaries (core program.now)))) }
+{
+    json::push_report(alloc, text, summaries, program, outcomes, found)?;
+    text.push_str("\n")?;
+    Ok(())
+}
+
+/// The report of a program, of the outcomes of its methods and of its warnings, as a text.
+pub fn report_text(
+    alloc: Global,
+    mode: Mode,
+    program: &Program,
+    outcomes: &[Option<Arc<Outcome>>],
+    found: &[Warning],
+) -> Result<String, Memory>
+    requires outcomes { AreOutcomes (core program.now) outcomes.now }
+    requires found { found.now ≡ pairs.warnings (core program.now) }
+    ensures { IfOk result (λ text. string_bytes text ≡ said.report mode (core program.now)) }
+{
+    let mut text = String::new(alloc);
+    if mode.json {
+        push_object(alloc, &mut text, mode.summaries, program, outcomes, found)?;
+    } else {
+        push_lines(alloc, &mut text, mode.summaries, program, outcomes, found)?;
+    }
+    Ok(text)
+}
+
+/// The report of a program, of the outcomes of its methods and of its warnings.
+pub fn report(
+    alloc: Global,
+    mode: Mode,
+    program: &Program,
+    outcomes: &[Option<Arc<Outcome>>],
+    found: &[Warning],
+) -> Result<Vec<u8>, Memory>
+    requires outcomes { AreOutcomes (core program.now) outcomes.now }
+    requires found { found.now ≡ pairs.warnings (core program.now) }
+    ensures { IfOk result (λ bytes. bytes.items ≡ said.report mode (core program.now)) }
+{
+    let text = report_text(alloc, mode, program, outcomes, found)?;
+    Ok(text.into_bytes())
+}
