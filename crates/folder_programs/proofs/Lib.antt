@@ -1,3 +1,4 @@
 mod OneRefusal
 mod OneSource
+mod OneReading
 mod Conditions
