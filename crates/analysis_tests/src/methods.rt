@@ -255,7 +255,7 @@ fn holds(
 /// How many rows hold before the first that does not.
 fn rows_that_hold(alloc: Global, program: &Program) -> Result<usize, Fail> {
     let mut count = 0usize;
-    for (words, expected) in ROWS.iter() {
+    for (words, expected) in ROWS {
         if !holds(alloc, program, &[], words, expected)? {
             return Ok(count);
         }
@@ -268,7 +268,7 @@ fn rows_that_hold(alloc: Global, program: &Program) -> Result<usize, Fail> {
 fn methods_without_calls(rt: HostRuntime) -> Result<(), Fail> {
     let program = small(rt.alloc())?;
     let count = rows_that_hold(rt.alloc(), &program)?;
-    assert_eq!(rt; count, ROWS.len());
+    assert!(rt; count == ROWS.len());
     Ok(())
 }
 
@@ -299,7 +299,7 @@ fn call_holds(
 /// How many rows of calls hold before the first that does not.
 fn calls_that_hold(alloc: Global, program: &Program) -> Result<usize, Fail> {
     let mut count = 0usize;
-    for (below, above, expected) in CALLS.iter() {
+    for (below, above, expected) in CALLS {
         if !call_holds(alloc, program, below, above, expected)? {
             return Ok(count);
         }
@@ -312,7 +312,7 @@ fn calls_that_hold(alloc: Global, program: &Program) -> Result<usize, Fail> {
 fn methods_with_calls(rt: HostRuntime) -> Result<(), Fail> {
     let program = small(rt.alloc())?;
     let count = calls_that_hold(rt.alloc(), &program)?;
-    assert_eq!(rt; count, CALLS.len());
+    assert!(rt; count == CALLS.len());
     Ok(())
 }
 
@@ -320,12 +320,10 @@ fn methods_with_calls(rt: HostRuntime) -> Result<(), Fail> {
 fn read_each(alloc: Global, count: u32) -> Result<Vec<Word>, Fail> {
     let mut words = Vec::new(alloc);
     for number in 0..count {
-        words.push(Do(Op::Push(VarId(number.saturating_add(1)))))?;
-        words.push(READ_F)?;
-        words.push(DROP)?;
+        let parameter = Do(Op::Push(VarId(number.saturating_add(1))));
+        words.extend_from_slice(&[parameter, READ_F, DROP])?;
     }
-    words.push(PRIM)?;
-    words.push(RET)?;
+    words.extend_from_slice(&[PRIM, RET])?;
     Ok(words)
 }
 
@@ -353,8 +351,8 @@ fn a_summary_has_at_most_so_many_keys(rt: HostRuntime) -> Result<(), Fail> {
     let program = small(rt.alloc())?;
     let most = records_of(rt.alloc(), &program, 1_024)?;
     let more = records_of(rt.alloc(), &program, 1_025)?;
-    assert_eq!(rt; most, Some(1_024));
-    assert_eq!(rt; more, None);
+    assert!(rt; most == Some(1_024));
+    assert!(rt; more == None);
     Ok(())
 }
 
@@ -372,7 +370,7 @@ const LARGE: &[(&[Word], &str)] = &[
 fn large_calls_that_hold(alloc: Global, program: &Program) -> Result<usize, Fail> {
     let callees = known(alloc, Outcome::Large)?;
     let mut count = 0usize;
-    for (words, expected) in LARGE.iter() {
+    for (words, expected) in LARGE {
         if !holds(alloc, program, callees.as_slice(), words, expected)? {
             return Ok(count);
         }
@@ -385,7 +383,7 @@ fn large_calls_that_hold(alloc: Global, program: &Program) -> Result<usize, Fail
 fn a_reached_call_of_a_large_method_makes_its_caller_large(rt: HostRuntime) -> Result<(), Fail> {
     let program = small(rt.alloc())?;
     let count = large_calls_that_hold(rt.alloc(), &program)?;
-    assert_eq!(rt; count, LARGE.len());
+    assert!(rt; count == LARGE.len());
     Ok(())
 }
 
@@ -444,7 +442,7 @@ fn long_rows_that_hold(alloc: Global, program: &Program) -> Result<usize, Fail> 
     let low = found(alloc, program, &[], LOW)?;
     let callees = known(alloc, low)?;
     let mut count = 0usize;
-    for row in LONG.iter() {
+    for row in LONG {
         if !long_holds(alloc, program, callees.as_slice(), row)? {
             return Ok(count);
         }
@@ -457,6 +455,6 @@ fn long_rows_that_hold(alloc: Global, program: &Program) -> Result<usize, Fail> 
 fn paths_have_at_most_sixteen_fields(rt: HostRuntime) -> Result<(), Fail> {
     let program = small(rt.alloc())?;
     let count = long_rows_that_hold(rt.alloc(), &program)?;
-    assert_eq!(rt; count, LONG.len());
+    assert!(rt; count == LONG.len());
     Ok(())
 }

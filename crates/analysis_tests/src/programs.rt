@@ -157,13 +157,21 @@ pub fn one_field(alloc: Global) -> Result<Program, Fail>
     }))
 }
 
+/// Whether a program has one file and nothing skipped, and its first class and field these names.
+fn is_named(program: &Program, class: &str, field: &str) -> bool
+    requires classes { length (class_names program.now) ≡ 1 }
+    requires fields { length (field_names program.now) ≡ 1 }
+{
+    program.files().len() == 1
+        && program.skipped().is_empty()
+        && program.methods().is_empty()
+        && program.class_name(ClassId(0)) == class
+        && program.field_name(FieldId(0)) == field
+}
+
 #[test]
 fn makes_a_program(rt: HostRuntime) -> Result<(), Fail> {
     let program = one_field(rt.alloc())?;
-    assert_eq!(rt; program.files().len(), 1);
-    assert_eq!(rt; program.skipped().len(), 0);
-    assert_eq!(rt; program.methods().len(), 0);
-    assert_eq!(rt; program.class_name(ClassId(0)), "Pair");
-    assert_eq!(rt; program.field_name(FieldId(0)), "a");
+    assert!(rt; is_named(&program, "Pair", "a"));
     Ok(())
 }

@@ -20,7 +20,7 @@ enum Passed {
 
 /// What is passed for parameter 0, and the path that a write of its field has then: a root and the number of its
 /// fields, or none; and how many paths are wobbly then.
-const ROWS: [(Passed, Option<(Root, usize)>, usize); 5] = [
+const ROWS: &[(Passed, Option<(Root, usize)>, usize)] = &[
     (Passed::Owned, None, 0),
     (Passed::Unnamed, Some((Root::Some(ClassId(0)), 1)), 0),
     (Passed::Named(0), Some((Root::This, 1)), 1),
@@ -32,7 +32,7 @@ const ROWS: [(Passed, Option<(Root, usize)>, usize); 5] = [
 fn path(alloc: Global, root: Root, count: usize) -> Result<Path, Fail> {
     let mut fields = Items::new(alloc);
     for _ in 0..count {
-        fields.push(FieldId(0)).ok().ok_or("memory")?;
+        fields.push(FieldId(0))?;
     }
     Ok(Path { root, fields })
 }
@@ -66,49 +66,83 @@ fn callee(alloc: Global) -> Result<Summary, Fail> {
     })
 }
 
-/// The callee's summary where this is passed.
-fn made(alloc: Global, program: &Program, passed: Passed) -> Result<Summary, Fail> {
+/// The callee's summary where these are passed.
+fn substituted(alloc: Global, program: &Program, actuals: &[Value]) -> Result<Summary, Fail> {
     let summary = callee(alloc)?;
-    let actuals = vec![in alloc; value(alloc, passed)?]?;
-    substitute(
+    let site = SiteId(7);
+    Ok(substitute(
         alloc,
         program,
         MethodId(0),
         &summary,
-        actuals.as_slice(),
+        actuals,
         true,
         false,
-        SiteId(7),
-    )
-    .ok()
-    .ok_or("memory")
-    .map_err(Fail::from)
+        site,
+    )?)
+}
+
+/// The callee's summary where this is passed.
+fn made(alloc: Global, program: &Program, passed: Passed) -> Result<Summary, Fail> {
+    let actuals = vec![in alloc; value(alloc, passed)?]?;
+    substituted(alloc, program, actuals.as_slice())
+}
+
+/// The root and the number of fields of the first record's path.
+fn first_path(summary: &Summary) -> Option<(Root, usize)> {
+    let first = summary.accesses.as_slice().first()?;
+    Some((first.path.root, first.path.fields.len()))
+}
+
+/// Whether a summary has this first path, so many wobbly paths, and this result.
+fn is_as(
+    alloc: Global,
+    summary: &Summary,
+    found: Option<(Root, usize)>,
+    wobbly: usize,
+    result_is: Passed,
+) -> Result<bool, Fail> {
+    let paths = summary.wobbly.paths(alloc)?;
+    let same = paths.len() == wobbly && first_path(summary) == found;
+    Ok(same && summary.result == value(alloc, result_is)?)
+}
+
+/// Whether this becomes of the callee's summary.
+fn holds(
+    alloc: Global,
+    program: &Program,
+    passed: Passed,
+    found: Option<(Root, usize)>,
+    wobbly: usize,
+) -> Result<bool, Fail> {
+    let made = made(alloc, program, passed)?;
+    is_as(alloc, &made, found, wobbly, passed)
 }
 
 #[test]
 fn records_and_paths_of_a_parameter(rt: HostRuntime) -> Result<(), Fail> {
-    let alloc = rt.alloc();
-    let program = one_field(alloc)?;
-    for (passed, found, wobbly) in ROWS.iter() {
-        let made = made(alloc, &program, *passed)?;
-        let roots = made
-            .accesses
-            .as_slice()
-            .first()
-            .map(|a| (a.path.root, a.path.fields.len()));
-        assert!(rt; roots == *found);
-        assert_eq!(rt; made.wobbly.paths(alloc)?.len(), *wobbly);
-        assert!(rt; made.result == value(alloc, *passed)?);
+    let program = one_field(rt.alloc())?;
+    for (passed, found, wobbly) in ROWS {
+        assert!(rt; holds(rt.alloc(), &program, *passed, *found, *wobbly)?);
     }
     Ok(())
 }
 
+/// Whether the first record has the flags and the site of the call.
+fn is_of_the_call(summary: &Summary) -> bool {
+    match summary.accesses.as_slice().first() {
+        Some(first) => first.locked
+            && !first.main
+            && first.site == SiteId(7)
+            && first.below == Some(0),
+        None => false,
+    }
+}
+
 #[test]
 fn a_record_has_the_flags_and_the_site_of_the_call(rt: HostRuntime) -> Result<(), Fail> {
-    let alloc = rt.alloc();
-    let program = one_field(alloc)?;
-    let made = made(alloc, &program, Passed::Unnamed)?;
-    let first = made.accesses.as_slice().first().ok_or("a record")?;
-    assert!(rt; first.locked && !first.main && first.site == SiteId(7) && first.below == Some(0));
+    let program = one_field(rt.alloc())?;
+    let made = made(rt.alloc(), &program, Passed::Unnamed)?;
+    assert!(rt; is_of_the_call(&made));
     Ok(())
 }

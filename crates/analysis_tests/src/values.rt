@@ -3,12 +3,13 @@ ghost use Rattle.std.specs.Prelude.{◌≡◌, IfOk, ◌∷◌, []};
 
 use access_paths::{Path, Root};
 use owner_domain::{State, Value, join};
-use racer_base::Items;
+use racer_base::{Items, Memory};
+use std::alloc::Global;
 use std::test::Fail;
 
 /// What is known of two values, of the value that they join to, and how many paths the join loses: `o` is owned, `u`
 /// unnamed, and any other letter a parameter of its own.
-const JOINS: [(char, char, char, usize); 10] = [
+const JOINS: &[(char, char, char, usize)] = &[
     ('o', 'o', 'o', 0),
     ('u', 'u', 'u', 0),
     ('p', 'p', 'p', 0),
@@ -21,43 +22,41 @@ const JOINS: [(char, char, char, usize); 10] = [
     ('u', 'o', 'u', 0),
 ];
 
-fn value(rt: &HostRuntime, letter: char) -> Value {
+fn value(alloc: Global, letter: char) -> Value {
     match letter {
         'o' => Value::Owned,
         'u' => Value::Unnamed,
         _ => Value::Named(Path {
             root: Root::Formal(letter as u32),
-            fields: Items::new(rt.alloc()),
+            fields: Items::new(alloc),
         }),
     }
 }
 
 /// A state with one variable and nothing on its stack.
-fn state(rt: &HostRuntime, letter: char) -> Result<State, Fail>
+fn state(alloc: Global, letter: char) -> Result<State, Memory>
     ensures { IfOk result (λ made. (value : _) × (made ≡ record { vars = value ∷ []; stack = [] })) }
 {
-    let mut vars = Items::new(rt.alloc());
-    vars.push(value(rt, letter)).ok().ok_or("memory")?;
+    let mut vars = Items::new(alloc);
+    vars.push(value(alloc, letter))?;
     Ok(State {
         vars,
-        stack: Items::new(rt.alloc()),
+        stack: Items::new(alloc),
     })
 }
 
-/// How many paths the join of two values loses, if it makes the third.
-fn lost(rt: &HostRuntime, left: char, right: char, joined: char) -> Result<Option<usize>, Fail> {
-    let (made, names) = join(rt.alloc(), &state(rt, left)?, &state(rt, right)?)?;
-    if made.vars.as_slice() == [value(rt, joined)].as_slice() {
-        Ok(Some(names.len()))
-    } else {
-        Ok(None)
-    }
+/// Whether two values join to this one, and the join loses so many paths.
+fn holds(alloc: Global, row: (char, char, char, usize)) -> Result<bool, Memory> {
+    let left = state(alloc, row.0)?;
+    let right = state(alloc, row.1)?;
+    let (made, lost) = join(alloc, &left, &right)?;
+    Ok(lost.len() == row.3 && made.vars.as_slice() == [value(alloc, row.2)].as_slice())
 }
 
 #[test]
 fn joins_of_kinds(rt: HostRuntime) -> Result<(), Fail> {
-    for (left, right, joined, paths) in JOINS.iter() {
-        assert_eq!(rt; lost(&rt, *left, *right, *joined)?, Some(*paths));
+    for row in JOINS {
+        assert!(rt; holds(rt.alloc(), *row)?);
     }
     Ok(())
 }
