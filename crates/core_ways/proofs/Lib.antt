@@ -5,3 +5,7 @@ pub mod Counted
 pub mod Callees
 pub mod Going
 pub mod Tables
+pub mod Alone
+pub mod AloneMethods
+pub mod AloneTo
+pub mod Beside

@@ -8,3 +8,4 @@ pub mod Passings
 pub mod Stable
 pub mod Marks
 pub mod Rows
+pub mod Alone

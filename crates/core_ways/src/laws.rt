@@ -1,14 +1,25 @@
 //! Values of ways and marks on small programs.
-ghost use Rattle.std.specs.Prelude.{◌≡◌, [], ◌∷◌};
+ghost use Rattle.std.specs.Prelude.{◌≡◌, ℕ, List, [], ◌∷◌, IsTrue, Some};
+ghost use Rattle.racer_base.specs.declared.ids.MethodId.{MethodId};
+ghost use Rattle.racer_base.specs.declared.ids.SiteId.{SiteId};
 ghost use Rattle.access_paths.specs.declared.path.Root.TheVariants.{This, Some as SomeOf};
+ghost use Rattle.core_code.specs.declared.program.Program.{Program};
+ghost use Rattle.core_code.specs.Calls.{is_analysed, method_at};
+ghost use Rattle.core_code.specs.Core.{Core, Method};
 ghost use Rattle.core_code.specs.Pair.{at};
+ghost use Rattle.core_code.specs.Program.{core};
+ghost use Rattle.core_code.specs.Tree.{Operation, op_at};
+ghost use Rattle.core_semantics.specs.declared.answer.Turn.{Turn};
 ghost use Rattle.core_semantics.specs.declared.answer.Turn.TheVariants.{Left, Right};
 ghost use Rattle.core_semantics.specs.declared.object.StartRoot.TheVariants.{This as StartThis};
+ghost use Rattle.core_semantics.specs.Legs.{runs};
+ghost use Rattle.core_semantics.specs.State.{State, other_of};
 ghost use Rattle.core_semantics.specs.Rows.{early, field, gate, method, null};
 ghost use Rattle.core_ways.specs.Marks.{mark_of, Unnamed, Unread, Unstable, Blocked, Confirmed};
 ghost use Rattle.core_ways.specs.Rows.{with_sites, card, circle, doubling, turning, storing};
 ghost use Rattle.core_ways.specs.Rows.{pair_of, leg_of, this_path};
-ghost use Rattle.core_ways.specs.Ways.{way_of};
+ghost use Rattle.core_ways.specs.Alone.{IsSeen, MethodRuns, RunsTo, alone, do_end_before, part_of};
+ghost use Rattle.core_ways.specs.Ways.{trip_of, way_of};
 
 /// The way to a write behind a lock inside which a method may return.
 pub fn early_row()
@@ -66,4 +77,21 @@ pub fn turning_row()
 /// The shortest prefix that is stored or assigned, the root alone among them.
 pub fn storing_row()
     ensures { mark_of storing (pair_of 0 2 0 2) (this_path (1 ∷ 0 ∷ [])) ≡ Unstable (this_path []) }
+{}
+
+/// The parts of ways, run by one thread beside one that holds no monitor, where it is not stuck. A method that is
+/// passed uses the turns of its trip in as many steps, and comes to its return with the monitors that it had. Code that
+/// is gone into up to a site comes to the operation there, with as many monitors more as there are locks round it.
+pub fn parts_run()
+    ensures methods { (p : Program) (m : MethodId) → IsTrue (is_analysed (core p) m) →
+        MethodRuns (core p) (trip_of (core p)) m }
+    ensures sites { (p : Program) (m : MethodId) (method : Method) (site : SiteId) (o : Operation) →
+        method_at (core p) m ≡ Some method → IsTrue (is_analysed (core p) m) → op_at method.code site ≡ Some o →
+        IsTrue (do_end_before site method.code) → RunsTo (core p) (trip_of (core p)) site method.code o }
+{}
+
+/// A thread beside one that holds no monitor is run as if it were alone.
+pub fn alone_beside_another()
+    ensures { (core : Core) (t n : ℕ) (turns : List Turn) (s : State) → (other_of s t).locks ≡ [] →
+        IsSeen s t (alone core n turns (part_of s t)) (runs core t n turns s) }
 {}
