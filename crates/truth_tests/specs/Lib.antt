@@ -1,2 +1,4 @@
 -- No public contract rests on this: the list of files.
 pub mod Gate
+pub mod Long
+pub mod Rows

@@ -22,13 +22,13 @@ pub fn at(column: u32) -> Place
     }
 }
 
-fn step(site: u32, op: Op) -> Code
+pub fn step(site: u32, op: Op) -> Code
     ensures { tree_of result ≡ defined.step site op }
 {
     Code::Op(SiteId(site), at(site), op)
 }
 
-fn push(site: u32, v: u32) -> Code
+pub fn push(site: u32, v: u32) -> Code
     ensures { tree_of result ≡ defined.step site (Push (record { 0 = v })) }
 {
     step(site, Op::Push(VarId(v)))
@@ -41,7 +41,7 @@ fn locked(alloc: Global, body: Code) -> Result<Code, Fail>
 }
 
 /// `this.f = 1;`
-fn write(alloc: Global, site: u32, f: u32) -> Result<Code, Fail>
+pub fn write(alloc: Global, site: u32, f: u32) -> Result<Code, Fail>
     requires { site < 100 }
     ensures { IfOk result (λ code. tree_of code ≡ defined.write site f) }
 {
@@ -54,7 +54,7 @@ fn write(alloc: Global, site: u32, f: u32) -> Result<Code, Fail>
     Ok(Code::Seq(parts))
 }
 
-fn ending(alloc: Global, site: u32) -> Result<Code, Fail>
+pub fn ending(alloc: Global, site: u32) -> Result<Code, Fail>
     requires { site < 100 }
     ensures { IfOk result (λ code. tree_of code ≡ defined.ending site) }
 {
@@ -193,7 +193,7 @@ fn method(
     })
 }
 
-fn field(alloc: Global, name: &str, kind: Kind) -> Result<FieldCore, Fail>
+pub fn field(alloc: Global, name: &str, kind: Kind) -> Result<FieldCore, Fail>
     ensures { IfOk result (λ made. made ≡ defined.field name.now kind) }
 {
     Ok(FieldCore {
