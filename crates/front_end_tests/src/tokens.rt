@@ -1,5 +1,5 @@
 //! The tokens of texts, with values worked out by hand from the JLS.
-use java_lexer::{LexFault, Lexed, Token, lex, lex_first};
+use java_lexer::{LexFault, Lexed, Token, lex};
 use racer_base::FileId;
 use std::alloc::{AllocError, Global};
 use std::test::Fail;
@@ -40,18 +40,9 @@ fn fault_shown(alloc: Global, fault: LexFault) -> Result<String, AllocError> {
     format!(in alloc; "{name} {}:{}:{}", place.file.0, place.line, place.column)
 }
 
-/// What is read of a text, in the first grammar or in all of Java.
-fn read(alloc: Global, first: bool, text: &[u8]) -> Result<Lexed, LexFault> {
-    if first {
-        Ok(lex_first(alloc, FileId(0), text)?)
-    } else {
-        lex(alloc, FileId(3), text)
-    }
-}
-
 /// Whether a text has these tokens, or this fault.
-fn holds(alloc: Global, first: bool, text: &[u8], wanted: &str) -> Result<bool, AllocError> {
-    let made = match read(alloc, first, text) {
+fn holds(alloc: Global, text: &[u8], wanted: &str) -> Result<bool, AllocError> {
+    let made = match lex(alloc, FileId(3), text) {
         Ok(lexed) => shown(alloc, &lexed)?,
         Err(fault) => fault_shown(alloc, fault)?,
     };
@@ -59,62 +50,15 @@ fn holds(alloc: Global, first: bool, text: &[u8], wanted: &str) -> Result<bool, 
 }
 
 /// How many rows hold before the first that does not.
-fn rows_that_hold(alloc: Global, first: bool, rows: &[(&[u8], &str)]) -> Result<usize, AllocError> {
+fn rows_that_hold(alloc: Global, rows: &[(&[u8], &str)]) -> Result<usize, AllocError> {
     let mut count = 0usize;
     for (text, wanted) in rows {
-        if !holds(alloc, first, text, wanted)? {
+        if !holds(alloc, text, wanted)? {
             return Ok(count);
         }
         count = count.saturating_add(1);
     }
     Ok(count)
-}
-
-/// Texts, and their tokens in the first grammar.
-const FIRST_TOKENS: &[(&[u8], &str)] = &[
-    (b"", "end 1:1"),
-    (b" \t\x0c", "end 1:4"),
-    (
-        b"class A {",
-        "Keyword class 1:1, Name A 1:7, Sign { 1:9, end 1:10",
-    ),
-    (
-        b"class A { int x; long y; }",
-        "Keyword class 1:1, Name A 1:7, Sign { 1:9, Keyword int 1:11, Name x 1:15, Sign ; 1:16, Keyword long 1:18, Name y 1:23, Sign ; 1:24, Sign } 1:26, end 1:27",
-    ),
-    (
-        b"void put() { this.a = 1; }",
-        "Keyword void 1:1, Name put 1:6, Sign ( 1:9, Sign ) 1:10, Sign { 1:12, Keyword this 1:14, Sign . 1:18, Name a 1:19, Sign = 1:21, Number 1 1:23, Sign ; 1:24, Sign } 1:26, end 1:27",
-    ),
-    (b"@ThreadSafe", "Sign @ 1:1, Name ThreadSafe 1:2, end 1:12"),
-    (
-        b"true falsey null",
-        "Fixed true 1:1, Name falsey 1:6, Fixed null 1:13, end 1:17",
-    ),
-    (b"1a_2$b", "Number 1a_2 1:1, Name $b 1:5, end 1:7"),
-    (
-        b"a1_$ 0x1p+3",
-        "Name a1_$ 1:1, Number 0x1p 1:6, Sign  1:10, Number 3 1:11, end 1:12",
-    ),
-    (b"// a", "Sign  1:1, Sign  1:2, Name a 1:4, end 1:5"),
-    (b"a\rb", "Name a 1:1, Name b 2:1, end 2:2"),
-    (b"a\nb\n", "Name a 1:1, Name b 2:1, end 3:1"),
-    (
-        b"a\r\n b\r\n\n\rc",
-        "Name a 1:1, Name b 2:2, Name c 5:1, end 5:2",
-    ),
-    (b"\ta\r", "Name a 1:2, end 2:1"),
-    (b"\xc3\xa9a", "Sign  1:1, Sign  1:2, Name a 1:3, end 1:4"),
-    (
-        b"..==",
-        "Sign . 1:1, Sign . 1:2, Sign = 1:3, Sign = 1:4, end 1:5",
-    ),
-];
-
-#[test]
-fn first_grammar(rt: HostRuntime) -> Result<(), Fail> {
-    assert!(rt; rows_that_hold(rt.alloc(), true, FIRST_TOKENS)? == FIRST_TOKENS.len());
-    Ok(())
 }
 
 /// Texts, and their tokens.
@@ -232,7 +176,7 @@ const TOKENS: &[(&[u8], &str)] = &[
 
 #[test]
 fn tokens(rt: HostRuntime) -> Result<(), Fail> {
-    assert!(rt; rows_that_hold(rt.alloc(), false, TOKENS)? == TOKENS.len());
+    assert!(rt; rows_that_hold(rt.alloc(), TOKENS)? == TOKENS.len());
     Ok(())
 }
 
@@ -289,7 +233,7 @@ const FAULTS: &[(&[u8], &str)] = &[
 
 #[test]
 fn faults(rt: HostRuntime) -> Result<(), Fail> {
-    assert!(rt; rows_that_hold(rt.alloc(), false, FAULTS)? == FAULTS.len());
+    assert!(rt; rows_that_hold(rt.alloc(), FAULTS)? == FAULTS.len());
     Ok(())
 }
 

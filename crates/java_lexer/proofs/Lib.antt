@@ -21,6 +21,4 @@ pub mod TokenTexts
 pub mod JavaReading
 pub mod Whole
 pub mod Forward
-pub mod FirstScans
 pub mod Ascii
-pub mod FirstTexts

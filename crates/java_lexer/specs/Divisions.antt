@@ -1,4 +1,4 @@
--- A contract of a public call rests on this: `lex` and `lex_first`. The division of a text into longest pieces (JLS
+-- A contract of a public call rests on this: `lex`. The division of a text into longest pieces (JLS
 -- 3.2).
 use Rattle.std.specs.Prelude.{◌≡◌, ℕ, zero, suc, ◌≤◌, List, [], ◌∷◌, ◌++◌, length, take, drop, Option, Some, None}
 use Rattle.std.specs.Prelude.{IsSome}

@@ -1,4 +1,4 @@
--- A contract of a public call rests on this: `lex` and `lex_first`. What one piece of a text is, as a test of all of
+-- A contract of a public call rests on this: `lex`. What one piece of a text is, as a test of all of
 -- its bytes.
 use Rattle.std.specs.Prelude.{ℕ, Bool, true, false, not, ◌&&◌, ◌||◌, List, [], ◌∷◌, ◌==◌, if◌then◌else◌}
 use Rattle.std.specs.Str.{byte}

@@ -12,6 +12,3 @@ pub mod JavaKinds
 pub mod JavaTokens
 pub mod JavaExample
 pub mod Scanning
-pub mod FirstKinds
-pub mod FirstTokens
-pub mod FirstExample

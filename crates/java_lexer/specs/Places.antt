@@ -1,4 +1,4 @@
--- A contract of a public call rests on this: `lex` and `lex_first`. Places in a text: lines and columns from 1,
+-- A contract of a public call rests on this: `lex`. Places in a text: lines and columns from 1,
 -- columns in bytes. A CR, an LF and a CR LF each end a line (JLS 3.4).
 use Rattle.std.specs.Prelude.{◌≡◌, ◌≤◌, ℕ, ◌+◌, Bool, true, false, List, ◌==◌, if◌then◌else◌}
 use Rattle.std.specs.Str.{byte}

@@ -1,4 +1,4 @@
--- A contract of a public call rests on this: `lex` and `lex_first`. The tokens of pieces.
+-- A contract of a public call rests on this: `lex`. The tokens of pieces.
 use Rattle.std.specs.Prelude.{ℕ, List, [], ◌∷◌, ◌++◌, map}
 use Rattle.std.specs.List.{fold, AllPairs}
 use Rattle.java_lexer.specs.declared.piece.PieceKind.{PieceKind}

@@ -3,9 +3,6 @@ ghost use Rattle.std.specs.Prelude.{◌≡◌, ◌≢◌, ◌↔◌, ◌≤◌, 
 ghost use Rattle.racer_base.specs.declared.ids.FileId.{FileId};
 ghost use Rattle.java_lexer.specs.Divisions.{Piece, Divides, IsDivision, pieces, joined, undivided};
 ghost use Rattle.java_lexer.specs.Tokens.{GoForward, texts};
-ghost use Rattle.java_lexer.specs.FirstKinds.{first_lexis};
-ghost use Rattle.java_lexer.specs.FirstTokens.{first_tokens};
-ghost use Rattle.java_lexer.specs.FirstExample.{first_example, first_example_tokens};
 ghost use Rattle.java_lexer.specs.JavaKinds.{java_kind, java_fault, java_lexis};
 ghost use Rattle.java_lexer.specs.JavaTokens.{java_tokens};
 ghost use Rattle.java_lexer.specs.JavaExample.{java_example, java_example_tokens};
@@ -14,18 +11,6 @@ ghost use Rattle.java_lexer.specs.Items.{QuotedOfItems, TextOfItems};
 
 use crate::TokenKind;
 use crate::piece::{LexicalFault, PieceKind};
-
-/// A text is divided whole, and in one way, into the pieces of the first grammar.
-pub fn one_first_division()
-    ensures whole { (text : List ℕ) → IsDivision first_lexis (pieces first_lexis text) text [] }
-    ensures only { (ps : List Piece) (text rest : List ℕ)
-        → IsDivision first_lexis ps text rest → ps ≡ pieces first_lexis text }
-{}
-
-/// The tokens of two lines, computed from the definition.
-pub fn first_grammar_example()
-    ensures { (file : FileId) → first_tokens file first_example ≡ first_example_tokens file }
-{}
 
 /// Up to the first place where no piece stands, a text is divided in one way into the pieces of Java, and no
 /// longer front of it has a division. Where no fault is named there, nothing is left.

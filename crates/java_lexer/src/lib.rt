@@ -4,8 +4,6 @@
 mod comments;
 mod escapes;
 mod fault;
-mod first;
-mod first_scan;
 mod java;
 pub mod laws;
 mod literals;
@@ -18,6 +16,5 @@ mod token;
 mod words;
 
 pub use fault::LexFault;
-pub use first::lex_first;
 pub use java::lex;
 pub use token::{Lexed, Token, TokenKind};

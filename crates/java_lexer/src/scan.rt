@@ -5,12 +5,11 @@ ghost use Rattle.java_lexer.specs.JavaKinds.{java_lexis};
 
 use crate::TokenKind;
 use crate::comments::{block_comment, line_comment};
-use crate::first_scan::word_len;
 use crate::literals::{character, text};
 use crate::numbers::{begins_hex, begins_number, number_len};
 use crate::piece::{LexicalFault, PieceKind};
 use crate::signs::sign_len;
-use crate::words::{is_letter, is_white, word_kind};
+use crate::words::{is_letter, is_white, word_kind, word_len};
 
 /// The length and the kind of the piece in front, or the fault that is named there.
 pub fn next_piece(bytes: &[u8]) -> Result<(usize, PieceKind), LexicalFault>

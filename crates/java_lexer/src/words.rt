@@ -1,5 +1,6 @@
 //! Keywords and fixed words, and the texts of tokens.
-ghost use Rattle.std.specs.Prelude.{◌≡◌, IfOk, map, Bool};
+ghost use Rattle.std.specs.Prelude.{◌≡◌, ◌≤◌, IfOk, map, length, Bool};
+ghost use Rattle.std.specs.List.{prefix_len};
 ghost use Rattle.std.specs.Str.{IsUtf8};
 ghost use Rattle.racer_base.specs.Name.{is_listed, is_letter, is_digit, is_word_byte, keywords, fixed_words};
 ghost use Rattle.java_lexer.specs.Kinds.{is_white, is_number_byte, word_kind};
@@ -39,6 +40,14 @@ pub fn is_number_byte(byte: u8) -> bool
     ensures { result ≡ is_number_byte byte }
 {
     is_word_byte(byte) && byte != b'$'
+}
+
+/// How many of the bytes go on a word.
+pub fn word_len(bytes: &[u8]) -> usize
+    ensures gives { result ≡ prefix_len is_word_byte bytes.now }
+    ensures fits { result ≤ length bytes.now }
+{
+    bytes.iter().take_while(|byte| is_word_byte(**byte)).count()
 }
 
 /// Whether a text is one of these.

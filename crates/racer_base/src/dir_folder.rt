@@ -3,7 +3,7 @@ ghost use Rattle.std.specs.Prelude.{◌≡◌, ◌≤◌, IfOk, vec_len};
 
 use crate::{Folder, FolderFault, MAX_FOLDER_ENTRIES, MAX_FOLDER_NESTING};
 use std::alloc::Global;
-use std::fs::File;
+use std::fs::{DirEntry, File};
 use std::io::{ErrorKind, Read};
 use std::rt::Files;
 use std::{fs, io};
@@ -92,17 +92,10 @@ impl<R: Files + AllocGlobal + Clone + Drop> DirFolder<R> {
 
     /// Lists what stands in a folder itself. The answer is its subfolders' names, with a `/` behind each.
     fn list(&self, alloc: Global, folder: &str, listing: &mut Listing) -> io::Result<Vec<String>> {
+        let path = self.path_of(alloc, folder)?;
         let mut subfolders = Vec::new(alloc);
-        for entry in fs::read_dir(&self.rt, self.path_of(alloc, folder)?.as_str())? {
-            let entry = entry?;
-            let kind = entry.file_type()?;
-            let name = entry.file_name();
-            listing.count()?;
-            if kind.is_file() {
-                listing.names.push(format!(in alloc; "{folder}{name}")?)?;
-            } else if kind.is_dir() {
-                subfolders.push(format!(in alloc; "{folder}{name}/")?)?;
-            }
+        for entry in fs::read_dir(&self.rt, path.as_str())? {
+            listing.put(alloc, folder, &entry?, &mut subfolders)?;
         }
         Ok(subfolders)
     }
@@ -111,16 +104,21 @@ impl<R: Files + AllocGlobal + Clone + Drop> DirFolder<R> {
     fn leads_down(&self, alloc: Global, name: &str) -> io::Result<bool> {
         let mut path = String::new(alloc);
         for word in name.split('/') {
-            if word.is_empty() || word == "." || word == ".." {
-                return Ok(false);
-            }
-            if !path.is_empty() && !self.is_folder(alloc, path.as_str())? {
+            if !self.goes_down(alloc, path.as_str(), word)? {
                 return Ok(false);
             }
             path.push_str(word)?;
             path.push('/')?;
         }
         Ok(true)
+    }
+
+    /// Whether a word leads down from what stands before it, which is no symbolic link.
+    fn goes_down(&self, alloc: Global, before: &str, word: &str) -> io::Result<bool> {
+        if word.is_empty() || word == "." || word == ".." {
+            return Ok(false);
+        }
+        Ok(before.is_empty() || self.is_folder(alloc, before)?)
     }
 
     /// Whether a relative name, with a `/` behind it, is that of a subfolder and not of a link to one.
@@ -169,6 +167,26 @@ impl Listing {
             return Err(io::Error::from(ErrorKind::Unsupported));
         }
         self.entries += 1;
+        Ok(())
+    }
+
+    /// Puts an entry of a folder where it belongs: a file among the names, a subfolder among these with a `/` behind
+    /// it, and a link nowhere.
+    fn put<R: Files + AllocGlobal + Clone + Drop>(
+        &mut self,
+        alloc: Global,
+        folder: &str,
+        entry: &DirEntry<R>,
+        subfolders: &mut Vec<String>,
+    ) -> io::Result<()> {
+        let kind = entry.file_type()?;
+        self.count()?;
+        if kind.is_file() {
+            self.names
+                .push(format!(in alloc; "{folder}{}", entry.file_name())?)?;
+        } else if kind.is_dir() {
+            subfolders.push(format!(in alloc; "{folder}{}/", entry.file_name())?)?;
+        }
         Ok(())
     }
 }

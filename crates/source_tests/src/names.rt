@@ -23,58 +23,52 @@ fn put_word(out: &mut String, word: &str, is_due: bool) -> Result<(), AllocError
     Ok(())
 }
 
-fn put_kind(alloc: Global, out: &mut String, kind: Kind) -> Result<(), AllocError> {
-    let text = match kind {
-        Kind::Plain => format!(in alloc; " plain")?,
-        Kind::Other => format!(in alloc; " other")?,
-        Kind::Declared(class) => format!(in alloc; " of {}", class.0)?,
-    };
-    out.push_str(text.as_str())
+fn put_kind(out: &mut String, kind: Kind) -> Result<(), AllocError> {
+    match kind {
+        Kind::Plain => out.push_str(" plain"),
+        Kind::Other => out.push_str(" other"),
+        Kind::Declared(class) => write!(out, " of {}", class.0),
+    }
 }
 
 /// A name with the class that it belongs to and its place.
-fn put_name(
-    alloc: Global,
-    out: &mut String,
-    class: ClassId,
-    name: &str,
-    place: Place,
-) -> Result<(), AllocError> {
-    let text = format!(in alloc;
-        "{}.{name} {}:{}:{}",
-        class.0, place.file.0, place.line, place.column
-    )?;
-    out.push_str(text.as_str())
+fn put_name(out: &mut String, class: ClassId, name: &str, place: Place) -> Result<(), AllocError> {
+    let number = class.0;
+    let file = place.file.0;
+    write!(
+        out,
+        "{number}.{name} {file}:{}:{}",
+        place.line, place.column
+    )
 }
 
-fn put_class(
-    alloc: Global,
-    out: &mut String,
-    index: u32,
-    class: &ClassInfo,
-) -> Result<(), AllocError> {
-    put_name(alloc, out, ClassId(index), class.name.as_str(), class.place)?;
+fn put_class(out: &mut String, index: u32, class: &ClassInfo) -> Result<(), AllocError> {
+    put_name(out, ClassId(index), class.name.as_str(), class.place)?;
     put_word(out, "checked", class.checked)?;
     out.push_str("\n")
 }
 
-fn put_field(alloc: Global, out: &mut String, field: &FieldInfo) -> Result<(), AllocError> {
-    put_name(alloc, out, field.class, field.name.as_str(), field.place)?;
-    put_kind(alloc, out, field.kind)?;
+fn put_field(out: &mut String, field: &FieldInfo) -> Result<(), AllocError> {
+    put_name(out, field.class, field.name.as_str(), field.place)?;
+    put_kind(out, field.kind)?;
     put_word(out, "static", field.is_static)?;
     put_word(out, "final", field.is_final)?;
     put_word(out, "volatile", field.is_volatile)?;
     out.push_str("\n")
 }
 
-fn put_method(alloc: Global, out: &mut String, method: &MethodInfo) -> Result<(), AllocError> {
-    put_name(alloc, out, method.class, method.name.as_str(), method.place)?;
-    put_kind(alloc, out, method.result)?;
+fn put_parameters(out: &mut String, kinds: &[Kind]) -> Result<(), AllocError> {
     out.push_str(" (")?;
-    for kind in method.parameters.as_slice() {
-        put_kind(alloc, out, *kind)?;
+    for kind in kinds {
+        put_kind(out, *kind)?;
     }
-    out.push_str(" )")?;
+    out.push_str(" )")
+}
+
+fn put_method(out: &mut String, method: &MethodInfo) -> Result<(), AllocError> {
+    put_name(out, method.class, method.name.as_str(), method.place)?;
+    put_kind(out, method.result)?;
+    put_parameters(out, method.parameters.as_slice())?;
     put_word(out, "static", method.is_static)?;
     put_word(out, "private", method.is_private)?;
     put_word(out, "constructor", method.is_constructor)?;
@@ -83,53 +77,95 @@ fn put_method(alloc: Global, out: &mut String, method: &MethodInfo) -> Result<()
     out.push_str("\n")
 }
 
+fn put_classes(out: &mut String, classes: &[ClassInfo]) -> Result<(), AllocError> {
+    let mut index = 0u32;
+    for class in classes {
+        put_class(out, index, class)?;
+        index = index.saturating_add(1);
+    }
+    Ok(())
+}
+
+fn put_fields(out: &mut String, fields: &[FieldInfo]) -> Result<(), AllocError> {
+    for field in fields {
+        put_field(out, field)?;
+    }
+    Ok(())
+}
+
+fn put_methods(out: &mut String, methods: &[MethodInfo]) -> Result<(), AllocError> {
+    for method in methods {
+        put_method(out, method)?;
+    }
+    Ok(())
+}
+
 /// The classes, fields and methods of a table, a line each.
-fn shown(alloc: Global, table: &Table) -> Result<String, AllocError> {
-    let mut out = String::new(alloc);
-    for (index, class) in table.classes().iter().enumerate() {
-        put_class(alloc, &mut out, u32::try_from(index).unwrap_or(0), class)?;
-    }
-    for field in table.fields() {
-        put_field(alloc, &mut out, field)?;
-    }
-    for method in table.methods() {
-        put_method(alloc, &mut out, method)?;
-    }
-    Ok(out)
+fn put_table(out: &mut String, table: &Table) -> Result<(), AllocError> {
+    put_classes(out, table.classes())?;
+    put_fields(out, table.fields())?;
+    put_methods(out, table.methods())
 }
 
-fn place_shown(alloc: Global, place: Place) -> Result<String, AllocError> {
-    format!(in alloc; "{}:{}:{}", place.file.0, place.line, place.column)
+/// Two places: a repeat and what it repeats.
+fn put_repeat(out: &mut String, what: &str, second: Place, first: Place) -> Result<(), AllocError> {
+    out.push_str(what)?;
+    put_place(out, second)?;
+    out.push_str(", first ")?;
+    put_place(out, first)
 }
 
-fn fault_shown(alloc: Global, fault: ResolveFault) -> Result<String, AllocError> {
+fn put_place(out: &mut String, place: Place) -> Result<(), AllocError> {
+    write!(out, "{}:{}:{}", place.file.0, place.line, place.column)
+}
+
+fn put_fault(out: &mut String, fault: ResolveFault) -> Result<(), AllocError> {
     match fault {
-        ResolveFault::DuplicateClass(second, first) => {
-            let second = place_shown(alloc, second)?;
-            let first = place_shown(alloc, first)?;
-            format!(in alloc; "class {}, first {}", second.as_str(), first.as_str())
-        }
-        ResolveFault::DuplicateField(second, first) => {
-            let second = place_shown(alloc, second)?;
-            let first = place_shown(alloc, first)?;
-            format!(in alloc; "field {}, first {}", second.as_str(), first.as_str())
-        }
-        ResolveFault::TooManyClasses(count) => format!(in alloc; "{count} classes"),
-        ResolveFault::TooManyMethods(count) => format!(in alloc; "{count} methods"),
-        ResolveFault::Memory => format!(in alloc; "memory"),
+        ResolveFault::DuplicateClass(second, first) => put_repeat(out, "class ", second, first),
+        ResolveFault::DuplicateField(second, first) => put_repeat(out, "field ", second, first),
+        ResolveFault::TooManyClasses(count) => write!(out, "{count} classes"),
+        ResolveFault::TooManyMethods(count) => write!(out, "{count} methods"),
+        ResolveFault::Memory => out.push_str("memory"),
     }
 }
 
-/// What the table of these files is, or why there is none.
-fn answer(alloc: Global, files: &[&str]) -> Result<String, Fail> {
-    let mut units: Vec<Unit> = Vec::new(alloc);
-    for (index, text) in files.iter().enumerate() {
-        units.push(unit(alloc, u32::try_from(index).unwrap_or(0), text)?)?;
+/// The units of these files.
+fn units(alloc: Global, files: &[&str]) -> Result<Vec<Unit>, Fail> {
+    let mut units = Vec::new(alloc);
+    let mut index = 0u32;
+    for text in files {
+        units.push(unit(alloc, index, text)?)?;
+        index = index.saturating_add(1);
     }
-    match resolve(alloc, units.as_slice()) {
-        Ok(table) => Ok(shown(alloc, &table)?),
-        Err(fault) => Ok(fault_shown(alloc, fault)?),
+    Ok(units)
+}
+
+/// What the table of these units is, or why there is none.
+fn put_answer(alloc: Global, out: &mut String, units: &[Unit]) -> Result<(), AllocError> {
+    match resolve(alloc, units) {
+        Ok(table) => put_table(out, &table),
+        Err(fault) => put_fault(out, fault),
     }
+}
+
+/// Whether this is the table of these files, or why there is none.
+fn holds(alloc: Global, files: &[&str], wanted: &str) -> Result<bool, Fail> {
+    let units = units(alloc, files)?;
+    let mut out = String::new(alloc);
+    put_answer(alloc, &mut out, units.as_slice())?;
+    Ok(out.as_str() == wanted)
+}
+
+/// How many rows hold before the first that does not.
+fn rows_that_hold(alloc: Global, rows: &[(&[&str], &str)]) -> Result<usize, Fail> {
+    let mut count = 0usize;
+    for (files, wanted) in rows {
+        if !holds(alloc, files, wanted)? {
+            return Ok(count);
+        }
+        count = count.saturating_add(1);
+    }
+    Ok(count)
 }
 
 const KINDS: &str = "@ThreadSafe class A {
@@ -192,51 +228,56 @@ const TWO_FILES_SHOWN: &str = "0.A 0:1:7
 1.<new> 1:1:7 of 1 ( ) constructor
 ";
 
+const TABLES: &[(&[&str], &str)] = &[
+    (&[KINDS], KINDS_SHOWN),
+    (&[METHODS], METHODS_SHOWN),
+    (
+        &["class A { B b; }", "class B { A a; static B b; }"],
+        TWO_FILES_SHOWN,
+    ),
+];
+
 #[test]
 fn tables(rt: HostRuntime) -> Result<(), Fail> {
-    let alloc = rt.alloc();
-    assert_eq!(rt; answer(alloc, &[KINDS])?.as_str(), KINDS_SHOWN);
-    assert_eq!(rt; answer(alloc, &[METHODS])?.as_str(), METHODS_SHOWN);
-    let files = ["class A { B b; }", "class B { A a; static B b; }"];
-    assert_eq!(rt; answer(alloc, &files)?.as_str(), TWO_FILES_SHOWN);
+    assert!(rt; rows_that_hold(rt.alloc(), TABLES)? == TABLES.len());
     Ok(())
 }
+
+const REPEATS: &[(&[&str], &str)] = &[
+    (&["class A {}", "class A {}"], "class 1:1:7, first 0:1:7"),
+    (&["class A { int x; int x; }"], "field 0:1:22, first 0:1:15"),
+    (
+        &["class A { int x, y, y; } class A { int x; }"],
+        "class 0:1:32, first 0:1:7",
+    ),
+    (
+        &["class A { int x; } class B { int y; A x, y; }"],
+        "field 0:1:42, first 0:1:34",
+    ),
+    (
+        &["class A { int x; static A x; }", "class B { int y, y; }"],
+        "field 0:1:27, first 0:1:15",
+    ),
+];
 
 #[test]
 fn repeats_are_refused(rt: HostRuntime) -> Result<(), Fail> {
-    let alloc = rt.alloc();
-    let rows: [(&[&str], &str); 5] = [
-        (&["class A {}", "class A {}"], "class 1:1:7, first 0:1:7"),
-        (&["class A { int x; int x; }"], "field 0:1:22, first 0:1:15"),
-        (
-            &["class A { int x, y, y; } class A { int x; }"],
-            "class 0:1:32, first 0:1:7",
-        ),
-        (
-            &["class A { int x; } class B { int y; A x, y; }"],
-            "field 0:1:42, first 0:1:34",
-        ),
-        (
-            &["class A { int x; static A x; }", "class B { int y, y; }"],
-            "field 0:1:27, first 0:1:15",
-        ),
-    ];
-    for (files, expected) in rows {
-        assert_eq!(rt; answer(alloc, files)?.as_str(), expected);
-    }
+    assert!(rt; rows_that_hold(rt.alloc(), REPEATS)? == REPEATS.len());
     Ok(())
 }
 
-/// The names of the checked classes of a file.
-fn checked(alloc: Global, text: &str) -> Result<String, Fail> {
-    let mut units: Vec<Unit> = Vec::new(alloc);
-    units.push(unit(alloc, 0, text)?)?;
-    let table = resolve(alloc, units.as_slice())?;
-    let mut out = String::new(alloc);
+/// The table of a file.
+fn table(alloc: Global, text: &str) -> Result<Table, Fail> {
+    let units = units(alloc, &[text])?;
+    Ok(resolve(alloc, units.as_slice())?)
+}
+
+/// The names of the checked classes of a table.
+fn put_checked(out: &mut String, table: &Table) -> Result<(), AllocError> {
     for class in table.classes() {
-        put_word(&mut out, class.name.as_str(), class.checked)?;
+        put_word(out, class.name.as_str(), class.checked)?;
     }
-    Ok(out)
+    Ok(())
 }
 
 const CHECKED: &str = "@javax.ThreadSafe class A { }
@@ -254,7 +295,10 @@ class K { K() { synchronized (K.class) { } } }
 
 #[test]
 fn checked_classes(rt: HostRuntime) -> Result<(), Fail> {
-    assert_eq!(rt; checked(rt.alloc(), CHECKED)?.as_str(), " A D E G K L");
+    let table = table(rt.alloc(), CHECKED)?;
+    let mut out = String::new(rt.alloc());
+    put_checked(&mut out, &table)?;
+    assert!(rt; out.as_str() == " A D E G K L");
     Ok(())
 }
 
@@ -263,21 +307,29 @@ const SHARED: &str =
 class B { int b; void f(int x) { } void f(B y) { } int f() { return 1; } }
 class v { }";
 
-/// A parameter `p`, a parameter `v` and a local `v` of the class B.
-fn scope(alloc: Global, is_static: bool) -> Result<Scope, Memory> {
+/// A parameter `p`, a parameter `v` and a local `v` of the class B, in order.
+const VARIABLES: &[(&str, u32, Kind)] = &[
+    ("p", 0, Kind::Plain),
+    ("v", 1, Kind::Plain),
+    ("v", 2, Kind::Declared(ClassId(1))),
+];
+
+fn variables(alloc: Global) -> Result<Items<ScopeVariable>, Memory> {
     let mut variables = Items::new(alloc);
-    let rows = [
-        ("p", Kind::Plain),
-        ("v", Kind::Plain),
-        ("v", Kind::Declared(ClassId(1))),
-    ];
-    for (index, (name, kind)) in rows.into_iter().enumerate() {
+    for (name, id, kind) in VARIABLES {
+        let name = Text::from_str(alloc, name)?;
         variables.push(ScopeVariable {
-            name: Text::from_str(alloc, name)?,
-            id: VarId(u32::try_from(index).unwrap_or(0)),
-            kind,
+            name,
+            id: VarId(*id),
+            kind: *kind,
         })?;
     }
+    Ok(variables)
+}
+
+/// A place of the class A with these variables.
+fn scope(alloc: Global, is_static: bool) -> Result<Scope, Memory> {
+    let variables = variables(alloc)?;
     Ok(Scope {
         class: ClassId(0),
         is_static,
@@ -285,92 +337,126 @@ fn scope(alloc: Global, is_static: bool) -> Result<Scope, Memory> {
     })
 }
 
+/// What is to be told of a name in an instance method and in a static one.
+const MEANINGS: &[(&str, Meaning, Meaning)] = &[
+    (
+        "v",
+        Meaning::Variable(VarId(2), Kind::Declared(ClassId(1))),
+        Meaning::Variable(VarId(2), Kind::Declared(ClassId(1))),
+    ),
+    (
+        "p",
+        Meaning::Variable(VarId(0), Kind::Plain),
+        Meaning::Variable(VarId(0), Kind::Plain),
+    ),
+    ("a", Meaning::Field(FieldId(0)), Meaning::Opaque),
+    ("s", Meaning::Field(FieldId(1)), Meaning::Field(FieldId(1))),
+    ("B", Meaning::Field(FieldId(2)), Meaning::Class(ClassId(1))),
+    ("b", Meaning::Opaque, Meaning::Opaque),
+    ("C", Meaning::Opaque, Meaning::Opaque),
+    ("A", Meaning::Class(ClassId(0)), Meaning::Class(ClassId(0))),
+];
+
+/// How many names have their meanings before the first that has not.
+fn meanings_that_hold(table: &Table, instance: &Scope, in_static: &Scope) -> usize {
+    let mut count = 0usize;
+    for (name, first, second) in MEANINGS {
+        if table.meaning(instance, name) != *first || table.meaning(in_static, name) != *second {
+            return count;
+        }
+        count = count.saturating_add(1);
+    }
+    count
+}
+
 #[test]
 fn names_have_meanings(rt: HostRuntime) -> Result<(), Fail> {
-    let alloc = rt.alloc();
-    let mut units: Vec<Unit> = Vec::new(alloc);
-    units.push(unit(alloc, 0, SHARED)?)?;
-    let table = resolve(alloc, units.as_slice())?;
-    let local = Meaning::Variable(VarId(2), Kind::Declared(ClassId(1)));
-    let rows = [
-        ("v", local, local),
-        (
-            "p",
-            Meaning::Variable(VarId(0), Kind::Plain),
-            Meaning::Variable(VarId(0), Kind::Plain),
-        ),
-        ("a", Meaning::Field(FieldId(0)), Meaning::Opaque),
-        ("s", Meaning::Field(FieldId(1)), Meaning::Field(FieldId(1))),
-        ("B", Meaning::Field(FieldId(2)), Meaning::Class(ClassId(1))),
-        ("b", Meaning::Opaque, Meaning::Opaque),
-        ("C", Meaning::Opaque, Meaning::Opaque),
-        ("A", Meaning::Class(ClassId(0)), Meaning::Class(ClassId(0))),
-    ];
-    let instance = scope(alloc, false)?;
-    let in_static = scope(alloc, true)?;
-    for (name, first, second) in rows {
-        assert_eq!(rt; table.meaning(&instance, name), first);
-        assert_eq!(rt; table.meaning(&in_static, name), second);
-    }
+    let instance = scope(rt.alloc(), false)?;
+    let in_static = scope(rt.alloc(), true)?;
+    let table = table(rt.alloc(), SHARED)?;
+    assert!(rt; meanings_that_hold(&table, &instance, &in_static) == MEANINGS.len());
     Ok(())
+}
+
+/// A class, a name and a number of parameters, and the method that is called.
+const CALLED: &[(u32, &str, u32, Option<u32>)] = &[
+    (0, "<new>", 0, Some(0)),
+    (0, "C", 0, Some(1)),
+    (0, "f", 1, Some(2)),
+    (0, "f", 0, None),
+    (0, "<new>", 1, None),
+    (1, "<new>", 0, Some(3)),
+    (1, "f", 1, Some(4)),
+    (1, "f", 0, Some(6)),
+    (1, "C", 0, None),
+    (2, "<new>", 0, Some(7)),
+];
+
+/// How many methods are found before the first that is not.
+fn methods_found(table: &Table) -> usize {
+    let mut count = 0usize;
+    for (class, name, parameters, wanted) in CALLED {
+        if table.find(ClassId(*class), name, *parameters) != wanted.map(MethodId) {
+            return count;
+        }
+        count = count.saturating_add(1);
+    }
+    count
 }
 
 #[test]
 fn methods_are_found(rt: HostRuntime) -> Result<(), Fail> {
-    let alloc = rt.alloc();
-    let mut units: Vec<Unit> = Vec::new(alloc);
-    units.push(unit(alloc, 0, SHARED)?)?;
-    let table = resolve(alloc, units.as_slice())?;
-    let rows = [
-        (0, "<new>", 0, Some(0)),
-        (0, "C", 0, Some(1)),
-        (0, "f", 1, Some(2)),
-        (0, "f", 0, None),
-        (0, "<new>", 1, None),
-        (1, "<new>", 0, Some(3)),
-        (1, "f", 1, Some(4)),
-        (1, "f", 0, Some(6)),
-        (1, "C", 0, None),
-        (2, "<new>", 0, Some(7)),
-    ];
-    for (class, name, count, expected) in rows {
-        assert_eq!(rt;
-            table.find(ClassId(class), name, count),
-            expected.map(MethodId)
-        );
-    }
+    let table = table(rt.alloc(), SHARED)?;
+    assert!(rt; methods_found(&table) == CALLED.len());
     Ok(())
 }
 
-/// The answer at a file of so many classes, of which the last has so many methods `f` beside its constructor.
-fn many(alloc: Global, classes: u32, methods: u32) -> Result<String, Fail> {
+/// A file of so many classes, of which the last has so many methods `f` beside its constructor.
+fn many(alloc: Global, classes: u32, methods: u32) -> Result<String, AllocError> {
     let mut text = String::new(alloc);
     for index in 1..classes {
-        text.push_str(format!(in alloc; "class C{index} {{ }} ")?.as_str())?;
+        write!(&mut text, "class C{index} {{ }} ")?;
     }
     text.push_str("class C { ")?;
     for _ in 0..methods {
         text.push_str("void f() { } ")?;
     }
     text.push_str("}")?;
-    let mut units: Vec<Unit> = Vec::new(alloc);
-    units.push(unit(alloc, 0, text.as_str())?)?;
-    match resolve(alloc, units.as_slice()) {
-        Ok(table) => Ok(format!(in alloc;
+    Ok(text)
+}
+
+/// How many classes and methods there are, or why there is no table.
+fn put_size(alloc: Global, out: &mut String, units: &[Unit]) -> Result<(), AllocError> {
+    match resolve(alloc, units) {
+        Ok(table) => write!(
+            out,
             "{} and {}",
             table.classes().len(),
             table.methods().len()
-        )?),
-        Err(fault) => Ok(fault_shown(alloc, fault)?),
+        ),
+        Err(fault) => put_fault(out, fault),
     }
+}
+
+const LIMITS: &[(u32, u32, &str)] = &[
+    (2048, 0, "2048 and 2048"),
+    (2049, 5000, "2049 classes"),
+    (1, 4095, "1 and 4096"),
+    (2, 4095, "4097 methods"),
+];
+
+fn limit_holds(alloc: Global, classes: u32, methods: u32, wanted: &str) -> Result<bool, Fail> {
+    let text = many(alloc, classes, methods)?;
+    let units = units(alloc, &[text.as_str()])?;
+    let mut out = String::new(alloc);
+    put_size(alloc, &mut out, units.as_slice())?;
+    Ok(out.as_str() == wanted)
 }
 
 #[test]
 fn limits(rt: HostRuntime) -> Result<(), Fail> {
-    let alloc = rt.alloc();
-    assert_eq!(rt; many(alloc, 2048, 0)?.as_str(), "2048 and 2048");
-    assert_eq!(rt; many(alloc, 2049, 5000)?.as_str(), "2049 classes");
-    assert_eq!(rt; many(alloc, 1, 4095)?.as_str(), "1 and 4096");
-    assert_eq!(rt; many(alloc, 2, 4095)?.as_str(), "4097 methods");
+    for (classes, methods, wanted) in LIMITS {
+        assert!(rt; limit_holds(rt.alloc(), *classes, *methods, wanted)?);
+    }
     Ok(())
 }

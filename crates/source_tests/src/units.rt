@@ -1,15 +1,14 @@
 //! Files as units, with values worked out by hand.
-use java_lexer::lex;
-use java_tree::{FieldInitialiser, FieldVariable};
+use java_lexer::{Lexed, lex};
+use java_tree::{AnnotationTree, FieldInitialiser, FieldVariable, Ident};
 use java_units::{ClassTree, HeadResult, Member, OutsideHead, ParseFault, Unit};
 use racer_base::{FileId, Place};
 use std::alloc::{AllocError, Global};
 use std::test::Fail;
 use unit_reader::parse_unit;
 
-fn put_place(alloc: Global, all: &mut String, place: Place) -> Result<(), AllocError> {
-    let text = format!(in alloc; "@{}:{} ", place.line, place.column)?;
-    all.push_str(text.as_str())
+fn put_place(all: &mut String, place: Place) -> Result<(), AllocError> {
+    write!(all, "@{}:{} ", place.line, place.column)
 }
 
 /// A variable's name, with `=` behind it where it begins with a tree and `?` where with tokens that have none.
@@ -22,17 +21,17 @@ fn put_variable(all: &mut String, variable: &FieldVariable) -> Result<(), AllocE
     }
 }
 
-fn put_head(alloc: Global, all: &mut String, head: &OutsideHead) -> Result<(), AllocError> {
-    let text = format!(in alloc; "{}/{}", head.name.as_str(), head.parameters)?;
-    all.push_str(text.as_str())?;
-    put_place(alloc, all, head.place)?;
-    if head.is_static {
-        all.push_str("static ")?;
+/// A word with a space behind it, where it is due.
+fn put_word(all: &mut String, word: &str, is_due: bool) -> Result<(), AllocError> {
+    if is_due {
+        all.push_str(word)?;
+        all.push_str(" ")?;
     }
-    if head.has_synchronized {
-        all.push_str("synchronized ")?;
-    }
-    match head.result {
+    Ok(())
+}
+
+fn put_result(all: &mut String, kind: &HeadResult) -> Result<(), AllocError> {
+    match kind {
         HeadResult::Void => all.push_str("void "),
         HeadResult::Formed(_) => all.push_str("type "),
         HeadResult::Constructor => all.push_str("constructor "),
@@ -40,76 +39,107 @@ fn put_head(alloc: Global, all: &mut String, head: &OutsideHead) -> Result<(), A
     }
 }
 
-fn put_member(alloc: Global, all: &mut String, member: &Member) -> Result<(), AllocError> {
+fn put_head(all: &mut String, head: &OutsideHead) -> Result<(), AllocError> {
+    write!(all, "{}/{}", head.name.as_str(), head.parameters)?;
+    put_place(all, head.place)?;
+    put_word(all, "static", head.is_static)?;
+    put_word(all, "synchronized", head.has_synchronized)?;
+    put_result(all, &head.result)
+}
+
+fn put_variables(all: &mut String, variables: &[FieldVariable]) -> Result<(), AllocError> {
+    for variable in variables {
+        put_variable(all, variable)?;
+    }
+    Ok(())
+}
+
+fn put_named(all: &mut String, name: &Ident) -> Result<(), AllocError> {
+    all.push_str(name.text.as_str())?;
+    put_place(all, name.place)
+}
+
+fn put_member(all: &mut String, member: &Member) -> Result<(), AllocError> {
+    all.push_str("; ")?;
     match member {
-        Member::Field(field) => {
-            for variable in field.variables.as_slice() {
-                put_variable(all, variable)?;
-            }
-            Ok(())
-        }
-        Member::Method(tree) => {
-            all.push_str(tree.name.text.as_str())?;
-            put_place(alloc, all, tree.name.place)
-        }
-        Member::Outside(head) => put_head(alloc, all, head),
-        Member::Skipped(place) => put_place(alloc, all, *place),
+        Member::Field(field) => put_variables(all, field.variables.as_slice()),
+        Member::Method(tree) => put_named(all, &tree.name),
+        Member::Outside(head) => put_head(all, head),
+        Member::Skipped(place) => put_place(all, *place),
     }
 }
 
-/// A class with its annotations, each with the number of the tokens of its arguments, and its members.
-fn put_class(alloc: Global, all: &mut String, class: &ClassTree) -> Result<(), AllocError> {
+/// The names of an annotation, and the number of the tokens of its arguments.
+fn put_annotation(all: &mut String, annotation: &AnnotationTree) -> Result<(), AllocError> {
+    for name in annotation.names.as_slice() {
+        write!(all, ".{}", name.as_str())?;
+    }
+    write!(all, "({}) ", annotation.arguments.len())
+}
+
+fn put_annotations(all: &mut String, annotations: &[AnnotationTree]) -> Result<(), AllocError> {
+    for annotation in annotations {
+        put_annotation(all, annotation)?;
+    }
+    Ok(())
+}
+
+fn put_members(all: &mut String, members: &[Member]) -> Result<(), AllocError> {
+    for member in members {
+        put_member(all, member)?;
+    }
+    Ok(())
+}
+
+/// A class with its annotations and its members.
+fn put_class(all: &mut String, class: &ClassTree) -> Result<(), AllocError> {
     all.push_str(class.name.as_str())?;
-    put_place(alloc, all, class.place)?;
-    for annotation in class.annotations.as_slice() {
-        for name in annotation.names.as_slice() {
-            let text = format!(in alloc; ".{}", name.as_str())?;
-            all.push_str(text.as_str())?;
-        }
-        let text = format!(in alloc; "({}) ", annotation.arguments.len())?;
-        all.push_str(text.as_str())?;
-    }
-    for member in class.members.as_slice() {
-        all.push_str("; ")?;
-        put_member(alloc, all, member)?;
+    put_place(all, class.place)?;
+    put_annotations(all, class.annotations.as_slice())?;
+    put_members(all, class.members.as_slice())?;
+    all.push_str("| ")
+}
+
+fn put_classes(all: &mut String, classes: &[ClassTree]) -> Result<(), AllocError> {
+    for class in classes {
+        put_class(all, class)?;
     }
     Ok(())
 }
 
-fn put_unit(alloc: Global, all: &mut String, unit: &Unit) -> Result<(), AllocError> {
-    for class in unit.classes.as_slice() {
-        put_class(alloc, all, class)?;
-        all.push_str("| ")?;
-    }
+fn put_unit(all: &mut String, unit: &Unit) -> Result<(), AllocError> {
+    put_classes(all, unit.classes.as_slice())?;
     for place in unit.skipped.as_slice() {
-        put_place(alloc, all, *place)?;
+        put_place(all, *place)?;
     }
     Ok(())
 }
 
-/// What a file is read as, or its fault.
-fn shown(alloc: Global, text: &str) -> Result<String, AllocError> {
-    let mut all = String::new(alloc);
-    let Ok(lexed) = lex(alloc, FileId(0), text.as_bytes()) else {
-        return Ok(all);
+fn put_fault(all: &mut String, fault: ParseFault) -> Result<(), AllocError> {
+    let (what, place) = match fault {
+        ParseFault::Unbalanced(place) => ("unbalanced ", place),
+        ParseFault::TooDeep(place) => ("too deep ", place),
+        ParseFault::NotAUnit(place) => ("not a unit ", place),
+        ParseFault::Memory => return all.push_str("memory "),
     };
-    match parse_unit(alloc, &lexed) {
-        Ok(unit) => put_unit(alloc, &mut all, &unit)?,
-        Err(ParseFault::Unbalanced(place)) => {
-            all.push_str("unbalanced ")?;
-            put_place(alloc, &mut all, place)?;
-        }
-        Err(ParseFault::TooDeep(place)) => {
-            all.push_str("too deep ")?;
-            put_place(alloc, &mut all, place)?;
-        }
-        Err(ParseFault::NotAUnit(place)) => {
-            all.push_str("not a unit ")?;
-            put_place(alloc, &mut all, place)?;
-        }
-        Err(ParseFault::Memory) => all.push_str("memory ")?,
+    all.push_str(what)?;
+    put_place(all, place)
+}
+
+/// What these tokens are read as, or their fault.
+fn put_answer(alloc: Global, all: &mut String, lexed: &Lexed) -> Result<(), AllocError> {
+    match parse_unit(alloc, lexed) {
+        Ok(unit) => put_unit(all, &unit),
+        Err(fault) => put_fault(all, fault),
     }
-    Ok(all)
+}
+
+/// Whether a file is read as this.
+fn holds(alloc: Global, text: &str, wanted: &str) -> Result<bool, Fail> {
+    let lexed = lex(alloc, FileId(0), text.as_bytes())?;
+    let mut all = String::new(alloc);
+    put_answer(alloc, &mut all, &lexed)?;
+    Ok(all.as_str() == wanted)
 }
 
 /// A realistic class.
@@ -217,12 +247,20 @@ const ROWS: &[(&str, &str)] = &[
     ),
 ];
 
+/// How many rows hold before the first that does not.
+fn rows_that_hold(alloc: Global) -> Result<usize, Fail> {
+    let mut count = 0usize;
+    for (text, wanted) in ROWS {
+        if !holds(alloc, text, wanted)? {
+            return Ok(count);
+        }
+        count = count.saturating_add(1);
+    }
+    Ok(count)
+}
+
 #[test]
 fn units(rt: HostRuntime) -> Result<(), Fail> {
-    let alloc = rt.alloc();
-    for (text, expected) in ROWS {
-        let found = shown(alloc, text)?;
-        assert_eq!(rt; found.as_str(), *expected);
-    }
+    assert!(rt; rows_that_hold(rt.alloc())? == ROWS.len());
     Ok(())
 }

@@ -1,40 +1,50 @@
 //! What the words of a command line ask for, with values worked out by hand from its usage line.
-use command_line::{Request, read_words};
+use command_line::{ReportRequest, Request, read_words};
 use racer_base::Memory;
-use std::alloc::Global;
+use std::alloc::{AllocError, Global};
 use std::test::Fail;
 
-/// What is asked for, as a text.
-fn shown(alloc: Global, request: &Option<Request>) -> Result<String, Memory> {
-    let text = match request {
-        None => format!(in alloc; "-")?,
-        Some(Request::Report(r)) => format!(in alloc;
-            "report {} {} {} {} {}",
-            r.folder.as_str(),
-            r.workers,
-            r.json,
-            r.summaries,
-            r.history
-        )?,
-        Some(Request::Replay(r)) => format!(in alloc;
-            "replay {} {}",
-            r.folder.as_str(),
-            r.witness.as_str()
-        )?,
-        Some(Request::Made(r)) => format!(in alloc; "made {} {}", r.count, r.workers)?,
-    };
-    Ok(text)
+fn put_report(out: &mut String, report: &ReportRequest) -> Result<(), AllocError> {
+    let folder = report.folder.as_str();
+    let workers = report.workers;
+    write!(
+        out,
+        "report {folder} {workers} {} {} {}",
+        report.json, report.summaries, report.history
+    )
 }
 
-/// What these words ask for, which are parted by one space each.
-fn asked(alloc: Global, line: &str) -> Result<String, Memory> {
-    let mut words: Vec<String> = Vec::new(alloc);
-    if !line.is_empty() {
-        for word in line.split(' ') {
-            words.push(String::from_str(alloc, word)?)?;
+/// What is asked for, as a text.
+fn put_request(out: &mut String, request: &Option<Request>) -> Result<(), AllocError> {
+    match request {
+        None => out.push_str("-"),
+        Some(Request::Report(report)) => put_report(out, report),
+        Some(Request::Replay(r)) => {
+            write!(out, "replay {} {}", r.folder.as_str(), r.witness.as_str())
         }
+        Some(Request::Made(made)) => write!(out, "made {} {}", made.count, made.workers),
     }
-    shown(alloc, &read_words(alloc, words.as_slice())?)
+}
+
+/// The words of a line, which are parted by one space each.
+fn words_of(alloc: Global, line: &str) -> Result<Vec<String>, AllocError> {
+    let mut words = Vec::new(alloc);
+    if line.is_empty() {
+        return Ok(words);
+    }
+    for word in line.split(' ') {
+        words.push(String::from_str(alloc, word)?)?;
+    }
+    Ok(words)
+}
+
+/// Whether this is what the words of a line ask for.
+fn holds(alloc: Global, line: &str, wanted: &str) -> Result<bool, Memory> {
+    let words = words_of(alloc, line)?;
+    let request = read_words(alloc, words.as_slice())?;
+    let mut out = String::new(alloc);
+    put_request(&mut out, &request)?;
+    Ok(out.as_str() == wanted)
 }
 
 const ROWS: &[(&str, &str)] = &[
@@ -78,11 +88,20 @@ const ROWS: &[(&str, &str)] = &[
     ("src --replay w.json --workers 2", "-"),
 ];
 
+/// How many rows hold before the first that does not.
+fn rows_that_hold(alloc: Global) -> Result<usize, Memory> {
+    let mut count = 0usize;
+    for (line, wanted) in ROWS {
+        if !holds(alloc, line, wanted)? {
+            return Ok(count);
+        }
+        count = count.saturating_add(1);
+    }
+    Ok(count)
+}
+
 #[test]
 fn words(rt: HostRuntime) -> Result<(), Fail> {
-    let alloc = rt.alloc();
-    for (line, expected) in ROWS {
-        assert_eq!(rt; asked(alloc, line)?.as_str(), *expected, "{line}");
-    }
+    assert!(rt; rows_that_hold(rt.alloc())? == ROWS.len());
     Ok(())
 }
