@@ -1,0 +1,1 @@
+//! Laws of the quiet paths of a warning.

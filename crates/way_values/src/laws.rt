@@ -1,0 +1,1 @@
+//! Laws of ways that are run.
