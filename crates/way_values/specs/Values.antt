@@ -57,13 +57,13 @@ values_passed at n = reverse (take n at.stack)
 
 -- what comes with a value that is an object
 abbrev pub on_ok : {X : Type 0} {E : Type 0} {Y : Type 0} → Result X E → Option Y → Option Y
-on_ok (Ok x) then = then
-on_ok (Err e) then = None
+on_ok (Ok x) onward = onward
+on_ok (Err e) onward = None
 
 -- what is entered where the receiver of an instance method is an object
 abbrev pub received : {Y : Type 0} → Method → List Value → Option Y → Option Y
-received method values then =
-    if method.is_static then then else on_ok (base_of (slice_index_or values 0 Null)) then
+received method values onward =
+    if method.is_static then onward else on_ok (base_of (slice_index_or values 0 Null)) onward
 
 -- the caller goes on with the value that is returned in place of what it passed
 abbrev pub returned_to : Point → ℕ → Option (Store × Value) → Option End
