@@ -25,8 +25,8 @@ use Rattle.core_semantics.specs.declared.object.Object.TheVariants.{Start as Sta
 use Rattle.core_semantics.specs.declared.object.Value.{Value}
 use Rattle.core_semantics.specs.declared.object.Value.TheVariants.{Plain, Opaque, Null, Object as Ref}
 use Rattle.core_semantics.specs.Objects.{root_path, same_start_path, same_object}
-use Rattle.core_semantics.specs.State.{Todo, Operate, Choose, Repeat, Lock, Unlock, Frame, Thread, State, thread_of}
-use Rattle.core_semantics.specs.Steps.{entered, top, slot_of}
+use Rattle.core_semantics.specs.State.{Todo, Operate, Choose, Repeat, Lock, Unlock, Frame, Thread, State, Store, thread_of}
+use Rattle.core_semantics.specs.Steps.{entered, read, top, slot_of}
 
 -- The beginning: two entries with one shared `this`, each with parameters of its own. Nothing is stored, and no monitor
 -- is held.
@@ -124,6 +124,16 @@ frame_touch f = option_and_then (todo_touch f) (next_of f)
 -- the object and the field that the next step of a thread reads or writes
 abbrev pub next_touch : State → ℕ → Option Access
 next_touch s t = option_and_then frame_touch (innermost s t)
+
+-- the value that an access reads; a write reads none
+abbrev pub value_read : Core → Store → Option Access → Option Value
+value_read core s None = None
+value_read core s (Some (o, f, Read)) = Some (read core s o f)
+value_read core s (Some (o, f, Write)) = None
+
+-- the value that the next step of a thread reads from a field of an object
+abbrev pub next_value : Core → State → ℕ → Option Value
+next_value core s t = value_read core s.store (next_touch s t)
 
 -- The race: both next steps touch one field of one object, and at least one writes it.
 

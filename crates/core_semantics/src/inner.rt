@@ -46,7 +46,7 @@ fn unstored(
 }
 
 /// What a field of an object holds.
-fn read(
+pub(crate) fn read(
     alloc: Global,
     program: &Program,
     store: &Store,

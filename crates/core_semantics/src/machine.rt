@@ -23,8 +23,8 @@ use std::alloc::Global;
 /// Two threads that run methods of a program.
 #[derive(Drop)]
 pub struct Machine<'a> {
-    alloc: Global,
-    store: Store,
+    pub(crate) alloc: Global,
+    pub(crate) store: Store,
     pub(crate) first: Thread<'a>,
     pub(crate) second: Thread<'a>,
 }

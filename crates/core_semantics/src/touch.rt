@@ -1,18 +1,20 @@
 //! What a machine is about to do.
-ghost use Rattle.std.specs.Prelude.{◌≡◌, option_map};
+ghost use Rattle.std.specs.Prelude.{◌≡◌, IfOk, option_map};
+ghost use Rattle.core_code.specs.Program.{core};
 ghost use Rattle.core_semantics.specs.Runs.{access_of, frame_touch, is_turn, next_todo, next_touch, place, place_of};
-ghost use Rattle.core_semantics.specs.Runs.{races, wants_turn, writes};
+ghost use Rattle.core_semantics.specs.Runs.{next_value, races, value_read, wants_turn, writes};
 ghost use Rattle.core_semantics.specs.State.{thread_of};
 ghost use Rattle.core_semantics.specs.Steps.{slot_of};
-ghost use Rattle.core_semantics.specs.View.{frame_of, seen_access, seen_of, state_of, step_of};
+ghost use Rattle.core_semantics.specs.View.{frame_of, seen_access, seen_of, state_of, step_of, store_of};
 
 use crate::ahead::ahead;
 use crate::frame::Frame;
+use crate::inner::read;
 use crate::later::NextStep;
 use crate::thread::Thread;
-use crate::{Machine, Object};
-use core_code::Op;
-use racer_base::{FieldId, Place, Touch};
+use crate::{Machine, Object, Value};
+use core_code::{Op, Program};
+use racer_base::{FieldId, Memory, Place, Touch};
 
 /// The place of an operation or a lock.
 fn place_of(next: NextStep) -> Option<Place>
@@ -120,6 +122,33 @@ impl Machine<'_> {
             Some(running) => running.frame.touch(),
             None => None,
         }
+    }
+
+    /// The value that an access reads; none where it is a write.
+    fn value_read(
+        &self,
+        program: &Program,
+        access: Option<(&Object, FieldId, Touch)>,
+    ) -> Result<Option<Value>, Memory>
+        ensures { IfOk result (λ value. value ≡
+            value_read (core program.now) (store_of self.now.store) (option_map seen_access access.entry)) }
+    {
+        match access {
+            Some((object, f, Touch::Read)) => {
+                let value = read(self.alloc, program, &self.store, object, f)?;
+                Ok(Some(value))
+            }
+            Some((_, _, Touch::Write)) => Ok(None),
+            None => Ok(None),
+        }
+    }
+
+    /// The value that the next step of a thread reads from a field of an object. The program is the one that the
+    /// machine began with.
+    pub fn next_value(&self, program: &Program, thread: u32) -> Result<Option<Value>, Memory>
+        ensures { IfOk result (λ value. value ≡ next_value (core program.now) (state_of self.now) thread) }
+    {
+        self.value_read(program, self.next_touch(thread))
     }
 
     /// Whether the next steps of both threads touch one field of one object, and at least one writes it.

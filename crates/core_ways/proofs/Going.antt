@@ -57,21 +57,23 @@ none-of core m none =
     cond (is_none method.status) (Some (known_given core (known_of_callees core m) method)) None) o))
     none
 
-pub same-record : (core : Core) (m : MethodId) (i : ℕ) → record_among (outcomes_of core) m i ≡ record_at core m i
-same-record core m i =
+-- what is found at the number of a method
+pub same-outcome : (core : Core) (m : MethodId) →
+    option_and_then (λ (x : Option Outcome). x) (slice_get (outcomes_of core) m.0) ≡ outcome_of core m
+same-outcome core m =
     elim (cases_lt m.0 (length core.methods)) [
       | inl within ↦
-          ap (λ (o : Option (Option Outcome)).
-          slice_get (records_held (option_and_then (λ (x : Option Outcome). x) o)) i)
+          ap (λ (o : Option (Option Outcome)). option_and_then (λ (x : Option Outcome). x) o)
           (outcome-at core 0 (length core.methods) m.0 within
           ∙ ap (λ (j : ℕ). Some (outcome_of core (record { 0 = j }))) (zero-add m.0))
       | inr past ↦
-          ap (λ (o : Option (Option Outcome)).
-          slice_get (records_held (option_and_then (λ (x : Option Outcome). x) o)) i)
+          ap (λ (o : Option (Option Outcome)). option_and_then (λ (x : Option Outcome). x) o)
           (outcome-past core 0 (length core.methods) m.0 past)
-          ∙ ap (λ (o : Option Outcome). slice_get (records_held o) i)
-          (sym (none-of core m (past-end core.methods m.0 past)))
+          ∙ sym (none-of core m (past-end core.methods m.0 past))
     ]
+
+pub same-record : (core : Core) (m : MethodId) (i : ℕ) → record_among (outcomes_of core) m i ≡ record_at core m i
+same-record core m i = ap (λ (o : Option Outcome). slice_get (records_held o) i) (same-outcome core m)
 
 -- ---- one method after another
 

@@ -1,0 +1,89 @@
+//! The two ways of a warning.
+ghost use Rattle.std.specs.Prelude.{IfOk};
+ghost use Rattle.core_code.specs.Program.{core};
+ghost use Rattle.access_domain.specs.Outcomes.{AreOutcomes};
+ghost use Rattle.core_ways.specs.Answers.{IsLong, IsTaken, IsWay};
+ghost use Rattle.core_ways.specs.Ways.{Trip, way_of};
+ghost use Rattle.witness_build.specs.Both.{AreBoth};
+
+use access_domain::Outcomes;
+use core_code::Program;
+use core_ways::{WayFault, WayTaken, way};
+use racer_base::{Memory, MethodId, Place};
+use std::alloc::Global;
+
+/// Two ways, in running order; or what is known in their place.
+#[derive(Drop)]
+pub(crate) enum Both {
+    Taken(WayTaken, WayTaken),
+    /// One of them comes to a call, at this place, of a method that is not analysed.
+    Unread(Place),
+    /// One of them has so many steps.
+    Long(u32),
+}
+
+/// A record, by its method and its index there.
+#[derive(Clone, Copy)]
+pub(crate) struct Target {
+    pub method: MethodId,
+    pub access: u32,
+}
+
+/// The way to a record.
+fn way_to(
+    alloc: Global,
+    program: &Program,
+    outcomes: &Outcomes,
+    target: Target,
+) -> Result<WayTaken, WayFault>
+    requires { AreOutcomes (core program.now) outcomes.now.items }
+    ensures { IsWay (way_of (core program.now) target.method target.access) result }
+{
+    way(alloc, program, outcomes, target.method, target.access)
+}
+
+/// What is known where the first way is taken.
+fn behind_taken(first: WayTaken, second: Result<WayTaken, WayFault>) -> Result<Both, Memory>
+    ensures { (a b : Trip) → IsTaken a first → IsWay b second → IfOk result (λ both. AreBoth a b both) }
+{
+    match second {
+        Ok(second) => Ok(Both::Taken(first, second)),
+        Err(WayFault::Unread(place)) => Ok(Both::Unread(place)),
+        Err(WayFault::Long(steps)) => Ok(Both::Long(steps)),
+        Err(WayFault::Memory) => Err(Memory),
+    }
+}
+
+/// What is known where the first way has so many steps.
+fn behind_long(steps: u32, second: Result<WayTaken, WayFault>) -> Result<Both, Memory>
+    ensures { (a b : Trip) → IsLong a steps → IsWay b second → IfOk result (λ both. AreBoth a b both) }
+{
+    match second {
+        Ok(_) => Ok(Both::Long(steps)),
+        Err(WayFault::Unread(place)) => Ok(Both::Unread(place)),
+        Err(WayFault::Long(_)) => Ok(Both::Long(steps)),
+        Err(WayFault::Memory) => Err(Memory),
+    }
+}
+
+/// The ways to two records, in running order.
+pub(crate) fn ways(
+    alloc: Global,
+    program: &Program,
+    outcomes: &Outcomes,
+    first: Target,
+    second: Target,
+) -> Result<Both, Memory>
+    requires { AreOutcomes (core program.now) outcomes.now.items }
+    ensures { IfOk result (λ both. AreBoth (way_of (core program.now) first.method first.access)
+        (way_of (core program.now) second.method second.access) both) }
+{
+    match way_to(alloc, program, outcomes, first) {
+        Ok(first) => behind_taken(first, way_to(alloc, program, outcomes, second)),
+        Err(WayFault::Unread(place)) => Ok(Both::Unread(place)),
+        Err(WayFault::Long(steps)) => {
+            behind_long(steps, way_to(alloc, program, outcomes, second))
+        }
+        Err(WayFault::Memory) => Err(Memory),
+    }
+}

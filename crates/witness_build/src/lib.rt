@@ -1,0 +1,14 @@
+//! The mark of a warning: what is known of it, with a run that ends in a race where it is confirmed.
+//!
+//! The definition stands in `specs/Marks.antt` of `core_ways`, over the two entries of a warning and the numbers of
+//! their records; `specs/Warned.antt` says which these are.
+#![tactic(auto)]
+
+mod both;
+mod driving;
+mod found;
+mod marking;
+mod objects;
+mod prefixes;
+
+pub use marking::mark;

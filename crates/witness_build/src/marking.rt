@@ -1,0 +1,159 @@
+//! The mark of a warning.
+ghost use Rattle.std.specs.Prelude.{◌≡◌, ◌+◌, ◌<◌, ◌∷◌, [], IfOk, unwrap_or};
+ghost use Rattle.core_code.specs.Program.{core};
+ghost use Rattle.access_domain.specs.Outcomes.{AreOutcomes};
+ghost use Rattle.core_semantics.specs.declared.object.Start.TheVariants.{All};
+ghost use Rattle.core_semantics.specs.Runs.{begun, place};
+ghost use Rattle.core_semantics.specs.View.{state_of};
+ghost use Rattle.core_ways.specs.Marks.{Blocked, is_locked, leg_of, mark_by_calls, mark_by_run, said_by};
+ghost use Rattle.core_ways.specs.Ways.{Trip, way_of};
+ghost use Rattle.witness_build.specs.Both.{AreBoth, AreShort, IsShort, said_of};
+ghost use Rattle.witness_build.specs.Ends.{nowhere};
+ghost use Rattle.witness_build.specs.Warned.{pair_of, warning_mark};
+
+use crate::both::{Both, Target, ways};
+use crate::driving::run_leg;
+use crate::found::record_of;
+use crate::objects::Objects;
+use crate::prefixes::unstable_prefix;
+use access_domain::Outcomes;
+use core_code::Program;
+use core_semantics::{Machine, Start, begin};
+use core_ways::{Leg, Mark, WayTaken, Witness};
+use race_pairs::Warning;
+use racer_base::{FileId, Items, Memory, Place};
+use std::alloc::Global;
+
+/// A thread that cannot make its leg, and where it is then.
+fn blocked(machine: &Machine, thread: u32) -> Mark
+    ensures { said_by result ≡ Blocked thread (unwrap_or (place (state_of machine.now) thread) nowhere) }
+{
+    let nowhere = Place {
+        file: FileId(0),
+        line: 0,
+        column: 0,
+    };
+    Mark::Blocked(thread, machine.place(thread).unwrap_or(nowhere))
+}
+
+/// A way as the leg of a thread.
+fn leg(thread: u32, taken: WayTaken) -> Leg
+    requires thread { thread < 2 }
+    requires short { IsShort taken }
+    ensures thread { result.thread ≡ thread }
+    ensures turns { result.turns ≡ taken.turns }
+    ensures steps { result.steps ≡ taken.steps }
+{
+    Leg {
+        thread,
+        turns: taken.turns,
+        steps: taken.steps,
+    }
+}
+
+/// Runs both legs, one after the other, with all start paths as objects.
+fn mark_by_run(
+    alloc: Global,
+    program: &Program,
+    warning: &Warning,
+    first: Leg,
+    second: Leg,
+) -> Result<Mark, Memory>
+    requires { first.thread + second.thread ≡ 1 }
+    ensures { IfOk result (λ mark. said_by mark ≡ mark_by_run (core program.now) (leg_of first ∷ leg_of second ∷ [])
+        (begun (core program.now) warning.now.entry warning.now.partner All)) }
+{
+    let mut machine = begin(alloc, program, warning.entry, warning.partner, Start::All)?;
+    let mut objects = Objects::new(alloc);
+    let turns = first.turns.as_slice();
+    if !run_leg(program, &mut machine, &mut objects, first.thread, turns, first.steps)? {
+        return Ok(blocked(&machine, first.thread));
+    }
+    let turns = second.turns.as_slice();
+    if !run_leg(program, &mut machine, &mut objects, second.thread, turns, second.steps)? {
+        return Ok(blocked(&machine, second.thread));
+    }
+    Ok(Mark::Confirmed(Witness {
+        objects: Items::from(objects.into_vec()),
+        first,
+        second,
+    }))
+}
+
+/// The mark where these are the ways of these threads, in running order.
+fn mark_along(
+    alloc: Global,
+    program: &Program,
+    warning: &Warning,
+    first: u32,
+    second: u32,
+    both: Both,
+) -> Result<Mark, Memory>
+    requires threads { first + second ≡ 1 }
+    requires short { AreShort both }
+    ensures { (a b : Trip) → AreBoth a b both → IfOk result (λ mark.
+        said_by mark ≡ said_of (core program.now) (pair_of warning.now) first second a b) }
+{
+    match both {
+        Both::Taken(one, other) => {
+            mark_by_run(alloc, program, warning, leg(first, one), leg(second, other))
+        }
+        Both::Unread(place) => Ok(Mark::Unread(place)),
+        Both::Long(steps) => Ok(Mark::Long(steps)),
+    }
+}
+
+/// The mark of a warning on a path that is stable. Where its record is locked, the partner goes first.
+fn mark_by_ways(
+    alloc: Global,
+    program: &Program,
+    outcomes: &Outcomes,
+    warning: &Warning,
+    locked: bool,
+) -> Result<Mark, Memory>
+    requires outcomes { AreOutcomes (core program.now) outcomes.now.items }
+    requires locked { is_locked (core program.now) warning.now.entry warning.now.access ≡ locked }
+    ensures { IfOk result (λ mark. said_by mark ≡ mark_by_calls (core program.now) (pair_of warning.now)) }
+{
+    let entry = Target {
+        method: warning.entry,
+        access: warning.access,
+    };
+    let partner = Target {
+        method: warning.partner,
+        access: warning.partner_access,
+    };
+    if locked {
+        let both = ways(alloc, program, outcomes, partner, entry)?;
+        mark_along(alloc, program, warning, 1, 0, both)
+    } else {
+        let both = ways(alloc, program, outcomes, entry, partner)?;
+        mark_along(alloc, program, warning, 0, 1, both)
+    }
+}
+
+/// The mark of a warning, with a run that ends in its race where it is confirmed.
+///
+/// The time grows with the code that the two ways pass, and with their steps.
+pub fn mark(
+    alloc: Global,
+    program: &Program,
+    outcomes: &Outcomes,
+    warning: &Warning,
+) -> Result<Mark, Memory>
+    requires { AreOutcomes (core program.now) outcomes.now.items }
+    ensures { IfOk result (λ mark. said_by mark ≡ warning_mark (core program.now) warning.now) }
+{
+    let Some(record) = record_of(outcomes, warning.entry, warning.access) else {
+        return Ok(Mark::Unnamed);
+    };
+    if record.path.root.is_some() {
+        return Ok(Mark::Unnamed);
+    }
+    let path = &record.path;
+    let prefix = unstable_prefix(alloc, program, outcomes, warning.entry, warning.partner, path)?;
+    if let Some(prefix) = prefix {
+        return Ok(Mark::Unstable(prefix));
+    }
+    mark_by_ways(alloc, program, outcomes, warning, record.locked)
+}

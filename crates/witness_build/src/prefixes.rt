@@ -1,0 +1,83 @@
+//! The shortest prefix of a path that may name another object later.
+ghost use Rattle.std.specs.Prelude.{◌≡◌, ◌≤◌, IfOk, length};
+ghost use Rattle.std.specs.Option.{option_copied};
+ghost use Rattle.core_code.specs.Program.{core};
+ghost use Rattle.access_domain.specs.Outcomes.{AreOutcomes};
+ghost use Rattle.racer_base.specs.declared.limits.TheConstants.{MAX_PATH_FIELDS};
+ghost use Rattle.access_paths.specs.Paths.{front};
+ghost use Rattle.core_ways.specs.Stable.{unstable_prefix};
+ghost use Rattle.witness_build.specs.Found.{IsLeast, holds_front, least};
+
+use crate::found::wobbly_of;
+use access_domain::Outcomes;
+use access_paths::Path;
+use core_code::Program;
+use racer_base::{Items, MAX_PATH_FIELDS, Memory, MethodId};
+use std::alloc::Global;
+use wobbly_paths::Wobbly;
+
+/// How many fields the shortest proper prefix of a path has that is among these.
+fn prefix_in(wobbly: Option<&Wobbly>, path: &Path) -> Option<u32>
+    requires { length path.now.fields ≤ MAX_PATH_FIELDS }
+    ensures { IsLeast (holds_front (option_copied wobbly) path.now) (length path.now.fields) result }
+{
+    match wobbly {
+        Some(wobbly) => wobbly.unstable_prefix(path),
+        None => None,
+    }
+}
+
+/// The smaller of two numbers, of those that there are.
+fn least(a: Option<u32>, b: Option<u32>) -> Option<u32>
+    ensures { result ≡ least a b }
+{
+    match a {
+        None => b,
+        Some(j) => match b {
+            None => Some(j),
+            Some(k) => {
+                if j < k {
+                    Some(j)
+                } else {
+                    Some(k)
+                }
+            }
+        },
+    }
+}
+
+/// The path of the first so many fields.
+fn front(alloc: Global, path: &Path, fields: u32) -> Result<Path, Memory>
+    ensures { IfOk result (λ made. made ≡ front fields path.now) }
+{
+    let all = path.fields.as_slice();
+    let kept = all.get(..fields as usize).unwrap_or(all);
+    Ok(Path {
+        root: path.root,
+        fields: Items::from(Vec::from_slice(alloc, kept)?),
+    })
+}
+
+/// The shortest proper prefix of a path that is wobbly in one of two methods. No path of a record has more fields than
+/// a path may have.
+pub(crate) fn unstable_prefix(
+    alloc: Global,
+    program: &Program,
+    outcomes: &Outcomes,
+    m1: MethodId,
+    m2: MethodId,
+    path: &Path,
+) -> Result<Option<Path>, Memory>
+    requires { AreOutcomes (core program.now) outcomes.now.items }
+    ensures { IfOk result (λ prefix. prefix ≡ unstable_prefix (core program.now) m1 m2 path.now) }
+{
+    if path.fields.len() > MAX_PATH_FIELDS {
+        return Err(Memory);
+    }
+    let first = prefix_in(wobbly_of(outcomes, m1), path);
+    let second = prefix_in(wobbly_of(outcomes, m2), path);
+    match least(first, second) {
+        Some(fields) => Ok(Some(front(alloc, path, fields)?)),
+        None => Ok(None),
+    }
+}
