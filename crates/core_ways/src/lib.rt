@@ -16,4 +16,5 @@ mod taken;
 mod turns;
 
 pub use mark::{Leg, Mark, Witness};
+pub use part::WayPart;
 pub use taken::{WayFault, WayTaken, way};

@@ -4,7 +4,7 @@ use racer_base::{MethodId, Place};
 
 /// A part of a way through one method.
 #[derive(Clone, Copy)]
-pub(crate) enum WayPart {
+pub enum WayPart {
     /// One step that takes no turn.
     Step,
     /// One step at a choice or a loop, with the turn that it takes.
