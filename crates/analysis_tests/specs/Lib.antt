@@ -1,4 +1,3 @@
 -- No public contract rests on this: the list of files.
 pub mod Loops
 pub mod Small
-pub mod Shop

@@ -1,5 +1,5 @@
-//! The tests of the analysis: graphs of calls, programs, paths, values, records, substitution, methods, warnings,
-//! reports. They stand here, over public calls alone, since a crate with tests is proved twice. There is no code.
+//! The tests of the analysis: graphs of calls, programs, paths, values, records, substitution, methods, warnings.
+//! They stand here, over public calls alone, since a crate with tests is proved twice. There is no code.
 #![tactic(auto)]
 
 #[cfg(test)]
@@ -14,8 +14,6 @@ mod programs;
 mod records;
 #[cfg(test)]
 mod recursion;
-#[cfg(test)]
-mod shop;
 #[cfg(test)]
 mod substitution;
 #[cfg(test)]
