@@ -1,15 +1,7 @@
 //! Reads a folder of Java sources and reports the data races in it.
 #![tactic(auto)]
 
-#[cfg(test)]
-mod folders;
-#[cfg(test)]
-mod json_reports;
-#[cfg(test)]
-mod large;
 mod laws;
-#[cfg(test)]
-mod reports;
 mod request;
 mod run;
 mod said;

@@ -12,17 +12,17 @@ use std::thread::Threads;
 
 /// One call of `run` on a folder of the name `src`, and what it answers and writes.
 #[derive(Clone, Copy)]
-pub struct Row<'a> {
-    pub words: &'a [&'a str],
-    pub files: &'a [(&'a str, &'a [u8])],
+struct Row<'a> {
+    words: &'a [&'a str],
+    files: &'a [(&'a str, &'a [u8])],
     /// The calls on the folder that fail, by their numbers from 0.
-    pub folder_fails: &'a [u32],
+    folder_fails: &'a [u32],
     /// How many bytes the sink takes at most in one call.
-    pub most: usize,
+    most: usize,
     /// The calls on the sink that fail.
-    pub sink_fails: &'a [u32],
-    pub status: Status,
-    pub text: &'a [u8],
+    sink_fails: &'a [u32],
+    status: Status,
+    text: &'a [u8],
 }
 
 const EMPTY: &[u8] = b"racer report 1\nfiles 0 classes 0 methods 0\nwarnings 0 confirmed 0\n";
@@ -31,7 +31,7 @@ const USAGE: &[u8] =
     b"usage: racer (FOLDER | --made N) [--workers N] [--json] [--summaries] [--history] [--replay NAME]\n";
 
 /// A report on an empty folder, into a sink that takes all at once.
-pub const PLAIN: Row = Row {
+const PLAIN: Row = Row {
     words: &["src"],
     files: &[],
     folder_fails: &[],
@@ -261,11 +261,11 @@ fn sink(alloc: Global, row: &Row) -> Result<MemorySink, Fail>
         return Err(Fail::from("a sink that takes nothing"));
     }
     let failing = row.sink_fails.to_vec(alloc)?;
-    Ok(MemorySink::new(alloc, 300_000, row.most, failing)?)
+    Ok(MemorySink::new(alloc, 100_000, row.most, failing)?)
 }
 
 /// Whether a call of `run` answers and writes what the row says.
-pub fn holds<R: Threads + Wait + Sync>(rt: &R, alloc: Global, row: &Row) -> Result<bool, Fail> {
+fn holds<R: Threads + Wait + Sync>(rt: &R, alloc: Global, row: &Row) -> Result<bool, Fail> {
     let words = strings(alloc, row.words)?;
     let mut folder = folder(alloc, row)?;
     let mut sink = sink(alloc, row)?;
@@ -275,7 +275,7 @@ pub fn holds<R: Threads + Wait + Sync>(rt: &R, alloc: Global, row: &Row) -> Resu
 }
 
 /// How many rows hold before the first that does not.
-pub fn held<R: Threads + Wait + Sync>(rt: &R, alloc: Global, rows: &[Row]) -> Result<usize, Fail> {
+fn held<R: Threads + Wait + Sync>(rt: &R, alloc: Global, rows: &[Row]) -> Result<usize, Fail> {
     for (i, row) in rows.iter().enumerate() {
         if !holds(rt, alloc, row)? {
             return Ok(i);
