@@ -1,16 +1,11 @@
-//! The tests of whole sources: the words of a command line, folders, files as units, names, the code of methods. They stand
-//! here, over public calls alone, since a crate with tests is proved twice. There is no code.
+//! The tests of whole sources that the stored run of `front_end_rows` has not: the words of a command line, folders in
+//! memory, and the limits of names. They stand here, over public calls alone, since a crate with tests is proved twice.
+//! There is no code.
 #![tactic(auto)]
 
 #[cfg(test)]
 mod folders;
 #[cfg(test)]
-mod forms;
-#[cfg(test)]
-mod lowering;
-#[cfg(test)]
 mod names;
-#[cfg(test)]
-mod units;
 #[cfg(test)]
 mod words;

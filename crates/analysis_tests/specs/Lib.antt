@@ -1,3 +1,0 @@
--- No public contract rests on this: the list of files.
-pub mod Loops
-pub mod Small

@@ -1,0 +1,1 @@
+class A { int x, y, y; } class A { int x; }

@@ -1,0 +1,1 @@
+class A { int x; } class B { int y; A x, y; }

@@ -1,0 +1,1 @@
+class B { int y, y; }

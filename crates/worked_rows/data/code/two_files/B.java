@@ -1,0 +1,1 @@
+class B { A a; static B b; }

@@ -1,0 +1,1 @@
+@ThreadSafe class Ui { int c; @MainThread void a() { c = 1; } @MainThread void b() { c = 2; } }

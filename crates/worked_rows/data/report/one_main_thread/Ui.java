@@ -1,0 +1,1 @@
+@ThreadSafe class Ui { int c; @MainThread void a() { c = 1; } void b() { c = 2; } }

@@ -1,0 +1,6 @@
+@ThreadSafe
+class Meter {
+  int n;
+  synchronized int read() { return n; }
+  void write() { n = 1; }
+}

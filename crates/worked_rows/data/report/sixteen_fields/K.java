@@ -1,0 +1,1 @@
+class N { N n; int v; } @ThreadSafe class K { N n; void set() { this.n.n.n.n.n.n.n.n.n.n.n.n.n.n.n.v = 1; } }

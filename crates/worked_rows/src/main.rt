@@ -1,0 +1,27 @@
+//! Prints what is read of texts of Java and reported of folders, for each word that it is given: of the rows of the file
+//! `tokens.rows` their tokens, of those of `units.rows` their classes with their members, of a folder `report/NAME` its
+//! reports, and of any other folder its program. The stored run compares what it prints with what it must print.
+#![tactic(auto)]
+
+mod methods;
+mod reports;
+mod shown;
+mod tokens;
+mod trees;
+mod units;
+
+use racer_base::DirFolder;
+use shown::put_shown;
+use std::io;
+use std::env;
+
+fn main(rt: HostRuntime) -> io::Result<()> {
+    let alloc = rt.alloc();
+    let mut folder = DirFolder::new(rt.clone()?);
+    for word in env::args(&rt)?.skip(1) {
+        let mut out = String::new(alloc);
+        put_shown(alloc, &mut folder, &mut out, word.as_str())?;
+        print!(rt; "{out}")?;
+    }
+    Ok(())
+}
