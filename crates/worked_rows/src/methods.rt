@@ -106,9 +106,6 @@ pub fn put_program(out: &mut String, found: &FoundProgram) -> Result<(), AllocEr
             put_classes(out, program)?;
             put_methods(out, program)
         }
-        FoundProgram::Refused(line) => {
-            out.push_str(line.as_str())?;
-            out.push('\n')
-        }
+        FoundProgram::Refused(line) => out.push_str(line.as_str()),
     }
 }
