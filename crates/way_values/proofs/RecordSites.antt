@@ -246,12 +246,12 @@ touch-record g kind locked site op base f a touches field h =
 -- ---- the records of a callee
 
 record Brought (g : Given) (actuals : Actuals) (locked : Bool) (there : SiteId) (e : ℕ × Access) (a : Access) : Type 0
-    where
-  site : there ≡ a.site
-  kind : a.kind ≡ e.1.kind
-  below : a.below ≡ Some e.0
-  field : last_of a.path.fields ≡ last_of e.1.path.fields
-  held : a.locked ≡ (e.1.locked || locked)
+  where
+    site : there ≡ a.site
+    kind : a.kind ≡ e.1.kind
+    below : a.below ≡ Some e.0
+    field : last_of a.path.fields ≡ last_of e.1.path.fields
+    held : a.locked ≡ (e.1.locked || locked)
 
 brought : (g : Given) (actuals : Actuals) (locked : Bool) (site : SiteId) (e : ℕ × Access) (a : Access) →
     In (substituted_record g actuals locked site e) a → Brought g actuals locked site e a
@@ -402,7 +402,7 @@ module _ (g : Given) where
       record {
         operation = o;
         at = ap (λ (b : Bool). cond b (Some o) None)
-        (ap (λ (s : SiteId). nat_eq s.0 a.site.0) at.site_is ∙ eq-eqb a.site.0 a.site.0 refl);
+            (ap (λ (s : SiteId). nat_eq s.0 a.site.0) at.site_is ∙ eq-eqb a.site.0 a.site.0 refl);
         ends = refl;
         from = subst (λ (b : Bool). ComesBy g op b a) (or-false locked) at.from;
       }
@@ -492,23 +492,23 @@ closed core m main code a c =
       at = c.at;
       ends = c.ends;
       from = ⊎_elim
-      (λ (own : IsTouch c.operation.op (false || nat_lt 0 (locks_round a.site code)) a). inl own)
-      (λ (of : IsThrough (given_of core (known_of_callees core m) main) c.operation.op
-      (false || nat_lt 0 (locks_round a.site code)) a).
-      inr (record {
-        callee = of.callee;
-        count = of.count;
-        calls = of.calls;
-        found = of.found;
-        known = known_below-some (known_at core) core (rank_of core m) of.callee (Whole of.found) of.known;
-        index = of.index;
-        below = of.below;
-        inner = of.inner;
-        has = of.has;
-        kind = of.kind;
-        field = of.field;
-        held = of.held;
-      })) c.from;
+          (λ (own : IsTouch c.operation.op (false || nat_lt 0 (locks_round a.site code)) a). inl own)
+          (λ (of : IsThrough (given_of core (known_of_callees core m) main) c.operation.op
+          (false || nat_lt 0 (locks_round a.site code)) a).
+          inr (record {
+            callee = of.callee;
+            count = of.count;
+            calls = of.calls;
+            found = of.found;
+            known = known_below-some (known_at core) core (rank_of core m) of.callee (Whole of.found) of.known;
+            index = of.index;
+            below = of.below;
+            inner = of.inner;
+            has = of.has;
+            kind = of.kind;
+            field = of.field;
+            held = of.held;
+          })) c.from;
     }
 
 -- the findings are those of the effects

@@ -245,11 +245,10 @@ module _ (core : Core) (n : MethodId) (j : ℕ) (inner : Access) (has : record_a
 
 arrives-here : (core : Core) (op : CoreOp) →
     Arrives core (trip_of core) (way_parts core) None op (top_at core (top_of core) None op)
-arrives-here core op place locked at todo callers locks = λ rest.
-    (
-      refl,
-      record { place = place; todo = todo; locked = locked; callers = callers; monitors = []; count = refl; is = refl },
-    )
+arrives-here core op place locked at todo callers locks = λ rest. (
+  refl,
+  record { place = place; todo = todo; locked = locked; callers = callers; monitors = []; count = refl; is = refl },
+)
 
 -- ---- ways to records
 
@@ -354,7 +353,7 @@ one-deeper : (flag : Bool) (kind : Touch) (field : Option FieldId) (n : ℕ) (to
     IsSo flag kind field (suc n) (one_lock_more top)
 one-deeper flag kind field n top so = (
   lt-ltb 0 (suc top.locks) (omega arith)
-  ∙ sym (ap (λ (b : Bool). flag || b) (lt-ltb 0 (suc n) (omega arith)) ∙ or-true flag),
+      ∙ sym (ap (λ (b : Bool). flag || b) (lt-ltb 0 (suc n) (omega arith)) ∙ or-true flag),
   so.1,
   so.2,
 )

@@ -1,4 +1,5 @@
--- No public contract rests on this: where runs of one thread alone lead, as the values of ways say.
+-- A contract of a public call rests on this: the law `methods_give_their_values`. Where runs of one thread alone lead,
+-- as the values of ways say.
 use Rattle.std.specs.Prelude.{◌≡◌, ℕ, List, [], ◌∷◌, ◌++◌, Option, None, Some, drop, length, nat_lt}
 use Rattle.racer_base.specs.declared.ids.MethodId.{MethodId}
 use Rattle.racer_base.specs.declared.ids.Place.{Place}

@@ -1,4 +1,5 @@
--- No public contract rests on this: where the way to a record leads, just before the access.
+-- A contract of a public call rests on this: the law `ways_end_at_their_access`. Where the way to a record leads, just
+-- before the access.
 use Rattle.std.specs.Prelude.{ℕ, suc, List, [], ◌∷◌, Option, None, Some, option_map, if◌then◌else◌}
 use Rattle.racer_base.specs.declared.ids.MethodId.{MethodId}
 use Rattle.racer_base.specs.declared.ids.SiteId.{SiteId}

@@ -1,5 +1,6 @@
--- No public contract rests on this: what the parts of ways do with the variables and the stack of a frame and with what
--- is stored, by cases on code; threads, turns and monitors play no part.
+-- A contract of a public call rests on this: the law `methods_give_their_values`. What the parts of ways do with the
+-- variables and the stack of a frame and with what is stored, by cases on code; threads, turns and monitors play no
+-- part.
 use Rattle.std.specs.Prelude.{ℕ, ◌-◌, List, [], ◌∷◌, ◌++◌, Option, None, Some, Bool, Result, Ok, Err}
 use Rattle.std.specs.Prelude.{drop, length, replicate, reverse, slice_index_or, take, if◌then◌else◌}
 use Rattle.racer_base.specs.declared.ids.MethodId.{MethodId}
