@@ -12,8 +12,7 @@ mod units;
 
 use racer_base::DirFolder;
 use shown::put_shown;
-use std::io;
-use std::env;
+use std::{env, io};
 
 fn main(rt: HostRuntime) -> io::Result<()> {
     let alloc = rt.alloc();

@@ -1,10 +1,9 @@
 //! The program of a folder: its classes, fields and methods with their code, a line each.
+use crate::tokens::put_named;
 use core_code::{ClassCore, Code, FieldCore, MethodCore, Program};
 use folder_programs::FoundProgram;
 use racer_base::Kind;
 use std::alloc::AllocError;
-
-use crate::tokens::put_named;
 
 /// The operations with their places, the sides of a choice in `( | )`, a loop in `{ }`, what is held in `[ ]`.
 fn put_code(out: &mut String, code: &Code) -> Result<(), AllocError> {
@@ -57,7 +56,13 @@ fn put_kinds(out: &mut String, kinds: &[Kind]) -> Result<(), AllocError> {
 
 fn put_head(out: &mut String, method: &MethodCore) -> Result<(), AllocError> {
     let (class, place, result) = (method.class.0, method.place, method.result);
-    write!(out, "method {}:{} {class}.{}", place.line, place.column, method.name.as_str())?;
+    write!(
+        out,
+        "method {}:{} {class}.{}",
+        place.line,
+        place.column,
+        method.name.as_str()
+    )?;
     put_kinds(out, method.parameters.as_slice())?;
     write!(out, " to {result:?} variables")?;
     put_kinds(out, method.variables.as_slice())

@@ -30,7 +30,12 @@ fn error_of(fault: FolderFault) -> io::Error {
     }
 }
 
-fn put_lexed(alloc: Global, out: &mut String, shows: Shows, lexed: &Lexed) -> Result<(), AllocError> {
+fn put_lexed(
+    alloc: Global,
+    out: &mut String,
+    shows: Shows,
+    lexed: &Lexed,
+) -> Result<(), AllocError> {
     match shows {
         Shows::Tokens => put_tokens(out, lexed),
         Shows::Units => put_unit(alloc, out, lexed),

@@ -1,6 +1,8 @@
 //! The parts of members, as one line says them.
-use java_tree::{AnnotationTree, BaseType, FieldInitialiser, FieldVariable, ModifierTree, ResultTree};
-use java_tree::{ParameterTree, TypeTree};
+use java_tree::{
+    AnnotationTree, BaseType, FieldInitialiser, FieldVariable, ModifierTree, ParameterTree,
+    ResultTree, TypeTree,
+};
 use java_units::HeadResult;
 use racer_base::Text;
 use std::alloc::AllocError;

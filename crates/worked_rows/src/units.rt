@@ -1,7 +1,9 @@
 //! Classes with their members, a line each.
 use crate::tokens::{put_named, put_place};
-use crate::trees::{put_annotation, put_head_result, put_modifiers, put_parameters, put_result};
-use crate::trees::{put_type, put_variables};
+use crate::trees::{
+    put_annotation, put_head_result, put_modifiers, put_parameters, put_result, put_type,
+    put_variables,
+};
 use java_lexer::Lexed;
 use java_tree::{FieldTree, MethodTree};
 use java_units::{ClassTree, Member, OutsideHead, ParseFault, Unit};
