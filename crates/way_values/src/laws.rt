@@ -1,5 +1,5 @@
 //! What the ways to accesses do with values, and that a way that is run ends just before its access.
-ghost use Rattle.std.specs.Prelude.{◌≡◌, ℕ, List, [], ◌∷◌, IsTrue, Some};
+ghost use Rattle.std.specs.Prelude.{◌≡◌, ℕ, List, [], false, IsTrue, Some, ◌∷◌};
 ghost use Rattle.racer_base.specs.declared.ids.MethodId.{MethodId};
 ghost use Rattle.core_code.specs.declared.program.Program.{Program};
 ghost use Rattle.core_code.specs.Calls.{is_analysed, method_at};
