@@ -1,5 +1,9 @@
 -- No public contract rests on this: the list of files.
 pub mod Names
+pub mod Longer
+pub mod Weaker
 pub mod Quiet
+pub mod Quiets
 pub mod Places
 pub mod Meets
+pub mod Kept

@@ -1,5 +1,5 @@
 -- No public contract rests on this: the access at the end of a leg is that of its record.
-use Rattle.std.specs.Prelude.{◌≡◌, ℕ, Bool, true, false, List, [], ◌∷◌, Option, None, Some, IsTrue, slice_index_or}
+use Rattle.std.specs.Prelude.{◌≡◌, ℕ, false, Some, IsTrue, slice_index_or}
 use Rattle.racer_base.specs.declared.ids.FieldId.{FieldId}
 use Rattle.racer_base.specs.declared.ids.Touch.{Touch}
 use Rattle.racer_base.specs.declared.ids.Touch.TheVariants.{Read, Write}

@@ -1,5 +1,5 @@
 -- No public contract rests on this: the invariant that the legs of a warning keep.
-use Rattle.std.specs.Prelude.{◌≡◌, ℕ, Bool, true, false, List, [], ◌∷◌, Option, None, Some, Contains, IsTrue, map}
+use Rattle.std.specs.Prelude.{◌≡◌, Bool, true, false, List, [], ◌∷◌, Option, None, Some, Contains, IsTrue, map}
 use Rattle.racer_base.specs.declared.ids.ClassId.{ClassId}
 use Rattle.racer_base.specs.declared.ids.FieldId.{FieldId}
 use Rattle.racer_base.specs.declared.ids.Kind.TheVariants.{Declared as DeclaredKind}
@@ -9,7 +9,7 @@ use Rattle.owner_domain.specs.declared.value.Value.{Value as Called}
 use Rattle.owner_domain.specs.declared.value.Value.TheVariants.{Named}
 use Rattle.owner_domain.specs.declared.value.State.{State}
 use Rattle.core_code.specs.Core.{Core, Method}
-use Rattle.core_code.specs.Kinds.{StackKind, Plain, Declared, Class, Null, Opaque, Other, kind_of}
+use Rattle.core_code.specs.Kinds.{StackKind, Plain, Other, kind_of}
 use Rattle.core_semantics.specs.declared.object.Object.{Object}
 use Rattle.core_semantics.specs.declared.object.Object.TheVariants.{Start}
 use Rattle.core_semantics.specs.declared.object.StartPath.{StartPath}
@@ -33,13 +33,13 @@ is_strong _ = true
 
 -- a place of this kind, which is called by this name or by none, and holds this value
 pub record IsPlace (core : Core) (quiet : Quietness core) (kind : StackKind) (name : Option Path) (x : Value) : Type 0
-    where
-  -- what is called by a quiet path holds its object
-  pub held : (q : Path) → name ≡ Some q → quiet.IsIn q → x ≡ start_object q
-  -- the object of a quiet path is called by it
-  pub called : IsTrue (is_strong kind) → (q : Path) → x ≡ start_object q → quiet.IsIn q → name ≡ Some q
-  -- all fields of the name have classes of the program as their kinds
-  pub declared : IsTrue (is_strong kind) → (q : Path) → name ≡ Some q → IsTrue (are_declared core q)
+  where
+    -- what is called by a quiet path holds its object
+    pub held : (q : Path) → name ≡ Some q → quiet.IsIn q → x ≡ start_object q
+    -- the object of a quiet path is called by it
+    pub called : IsTrue (is_strong kind) → (q : Path) → x ≡ start_object q → quiet.IsIn q → name ≡ Some q
+    -- all fields of the name have classes of the program as their kinds
+    pub declared : IsTrue (is_strong kind) → (q : Path) → name ≡ Some q → IsTrue (are_declared core q)
 
 -- places, one after another: their kinds, what the analysis calls them, and what they hold
 abbrev pub ArePlaces : (core : Core) → Quietness core → Naming → List StackKind → List Called → List Value → Type 0
