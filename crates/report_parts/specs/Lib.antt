@@ -5,3 +5,4 @@ pub mod Places
 pub mod Told
 pub mod Sites
 pub mod Sides
+pub mod Marks

@@ -1,4 +1,5 @@
-//! What a report tells of a program, before it is laid out: texts, places, the records of warnings, summaries.
+//! What a report tells of a program, before it is laid out: texts, places, the records of warnings, marks,
+//! summaries.
 //!
 //! # The definitions
 //!
@@ -6,16 +7,19 @@
 //! - `specs/ByteOrder.antt`: texts in byte order.
 //! - `specs/Places.antt`: the places of a record, from its site down to its access.
 //! - `specs/Told.antt`: why a method has no summary, what a summary tells, the two records of a warning.
+//! - `specs/Marks.antt`: the texts of a mark, of a start path and of the leg of a run.
 //! - `specs/Sites.antt`: the same as the code holds it.
 #![tactic(auto)]
 
 pub mod laws;
+mod marks;
 mod methods;
 mod sides;
 mod tables;
 mod texts;
 mod wobbly;
 
+pub use marks::{mark_word, push_leg, push_mark, push_start};
 pub use methods::{outcome_of, reason_of, summary_of};
 pub use sides::{Side, Sides, sides_of};
 pub use tables::{Site, place_at, sites};

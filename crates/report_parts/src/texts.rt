@@ -22,7 +22,7 @@ fn name_at(names: &[Text], number: u32) -> &str
     }
 }
 
-fn class_name(program: &Program, class: ClassId) -> &str
+pub(crate) fn class_name(program: &Program, class: ClassId) -> &str
     ensures { result.now ≡ paths.name_at (said.class_names (core program.now)) class.0 }
 {
     match program.classes().get(class.0 as usize) {
@@ -88,17 +88,29 @@ fn push_root(text: &mut String, program: &Program, root: Root) -> Result<(), Mem
     Ok(())
 }
 
+/// Puts `.f` for each of these fields behind a text.
+pub(crate) fn push_fields(
+    text: &mut String,
+    program: &Program,
+    fields: &[FieldId],
+) -> Result<(), Memory>
+    ensures { OnOk result (string_bytes text.new
+        ≡ string_bytes text.old ++ paths.fields_text (said.field_names (core program.now)) fields.now) }
+{
+    for field in fields {
+        text.push_str(".")?;
+        text.push_str(field_name(program, *field))?;
+    }
+    Ok(())
+}
+
 /// Puts a root and `.f` for each field behind a text.
 pub fn push_path(text: &mut String, program: &Program, path: &Path) -> Result<(), Memory>
     ensures { OnOk result (string_bytes text.new
         ≡ string_bytes text.old ++ said.path_text (core program.now) path.now) }
 {
     push_root(text, program, path.root)?;
-    for field in path.fields.as_slice() {
-        text.push_str(".")?;
-        text.push_str(field_name(program, *field))?;
-    }
-    Ok(())
+    push_fields(text, program, path.fields.as_slice())
 }
 
 pub fn touch_text(kind: Touch) -> &'static str
