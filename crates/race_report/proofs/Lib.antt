@@ -3,3 +3,4 @@ pub mod PlainValues
 pub mod SummaryTold
 pub mod Digits
 pub mod Chains
+pub mod MarkedWarnings

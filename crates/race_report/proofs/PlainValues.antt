@@ -7,10 +7,12 @@ use Rattle.serde_json.specs.Data.{Data, Members, member, no_members, put, string
 use Rattle.serde_json.specs.Written.{has_float, members_have_float}
 use Rattle.core_code.specs.Core.{Core, Method}
 use Rattle.access_domain.specs.Findings.{Findings}
+use Rattle.core_ways.specs.Marks.{Said, Unnamed, Unstable, Unread, Long, Blocked, Confirmed}
+use Rattle.report_parts.specs.Marks.{mark_word}
 use Rattle.report_parts.specs.Texts.{place_text, method_text, path_text, touch_text, value_text}
 use Rattle.report_parts.specs.Told.{found_of, access_text, wobbly_texts, Side, Sides}
-use Rattle.race_report.specs.Json.{texts, found_values, summary_values, side_members}
-use Rattle.race_report.specs.Json.{sides_values}
+use Rattle.race_report.specs.Json.{count, texts, found_values, place_value, summary_values, side_members}
+use Rattle.race_report.specs.Json.{detail_members, mark_value, marked_values}
 
 neither : (a b : Bool) → a ≡ false → b ≡ false → (a || b) ≡ false
 neither true b p q = p
@@ -58,15 +60,35 @@ side_plain core side others p =
 head_of : (d e : Data) → d ∷ [] ≡ e ∷ [] → d ≡ e
 head_of d e is = cc
 
+detail_plain : (core : Core) (mark : Said) (others : Members) → members_have_float others ≡ false →
+    members_have_float (detail_members core mark others) ≡ false
+detail_plain core Unnamed others p = p
+detail_plain core (Unstable before) others p = put_plain (codes "path") (string (path_text core before)) others refl p
+detail_plain core (Unread at) others p = put_plain (codes "place") (place_value core at) others refl p
+detail_plain core (Long steps) others p = put_plain (codes "steps") (count steps) others refl p
+detail_plain core (Blocked thread at) others p =
+    put_plain (codes "place") (place_value core at) (put (codes "thread") (count thread) others) refl
+    (put_plain (codes "thread") (count thread) others refl p)
+detail_plain core (Confirmed objects legs) others p = p
+
+mark_plain : (core : Core) (mark : Said) (others : Members) → members_have_float others ≡ false →
+    members_have_float (put (codes "mark") (mark_value core mark) others) ≡ false
+mark_plain core mark others p =
+    let word : Members = put (codes "word") (string (mark_word mark)) no_members in
+    put_plain (codes "mark") (mark_value core mark) others
+    (detail_plain core mark word (put_plain (codes "word") (string (mark_word mark)) no_members refl refl)) p
+
 -- the object of a warning
-pub sides_plain : (core : Core) (sides : Sides) (d : Data) → d ∷ [] ≡ sides_values core (Some sides) →
-    has_float d ≡ false
-sides_plain core sides d is =
+pub marked_plain : (core : Core) (mark : Said) (sides : Sides) (d : Data) →
+    d ∷ [] ≡ marked_values core mark (Some sides) → has_float d ≡ false
+marked_plain core mark sides d is =
     let partner : Data = object (side_members core sides.partner no_members) in
     let last : Members = put (codes "with") partner no_members in
-    ap has_float (head_of d (object (side_members core sides.first last)) is)
-    ∙ side_plain core sides.first last
-    (put_plain (codes "with") partner no_members (side_plain core sides.partner no_members refl) refl)
+    let marked : Members = put (codes "mark") (mark_value core mark) last in
+    ap has_float (head_of d (object (side_members core sides.first marked)) is)
+    ∙ side_plain core sides.first marked
+    (mark_plain core mark last
+    (put_plain (codes "with") partner no_members (side_plain core sides.partner no_members refl) refl))
 
 found_plain : (core : Core) (e : ℕ × Method) (found : Option Findings) (d : Data) →
     d ∷ [] ≡ found_values core e found → has_float d ≡ false

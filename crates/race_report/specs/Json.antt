@@ -1,4 +1,4 @@
--- A contract of a public call rests on this: the object of a report, without marks.
+-- A contract of a public call rests on this: the object of a report.
 use Rattle.std.specs.Prelude.{ℕ, List, [], ◌∷◌, Option, None, Some, Bool, codes, length, map, if◌then◌else◌}
 use Rattle.std.specs.List.{flat_map, enumerate_from}
 use Rattle.serde_json.specs.Data.{Data, boolean, number, string, array, object, unsigned}
@@ -9,6 +9,9 @@ use Rattle.core_code.specs.Core.{Core, Method}
 use Rattle.access_domain.specs.Findings.{Findings}
 use Rattle.race_pairs.specs.declared.warning.Warning.{Warning}
 use Rattle.race_pairs.specs.Warnings.{warnings}
+use Rattle.core_ways.specs.Marks.{Said, Unstable, Unread, Long, Blocked}
+use Rattle.witness_build.specs.Warned.{warning_mark}
+use Rattle.report_parts.specs.Marks.{mark_word}
 use Rattle.report_parts.specs.Texts.{place_text, method_text, path_text, touch_text, value_text}
 use Rattle.report_parts.specs.Told.{reason_of, found_of, access_text, wobbly_texts, Side, Sides, sides_of}
 
@@ -59,15 +62,30 @@ side_members core side others =
     (put (codes "method") (string (method_text core side.method))
     (put (codes "path") (string (path_text core side.access.path)) others)))))
 
-abbrev pub sides_values : Core → Option Sides → List Data
-sides_values core None = []
-sides_values core (Some sides) =
+-- the members of a mark beside its word, and others
+abbrev pub detail_members : Core → Said → Members → Members
+detail_members core (Unstable before) others = put (codes "path") (string (path_text core before)) others
+detail_members core (Unread at) others = put (codes "place") (place_value core at) others
+detail_members core (Long steps) others = put (codes "steps") (count steps) others
+detail_members core (Blocked thread at) others =
+    put (codes "place") (place_value core at) (put (codes "thread") (count thread) others)
+detail_members core _ others = others
+
+abbrev pub mark_value : Core → Said → Data
+mark_value core said =
+    object (detail_members core said (put (codes "word") (string (mark_word said)) no_members))
+
+-- the object of a warning with these records and this mark
+abbrev pub marked_values : Core → Said → Option Sides → List Data
+marked_values core mark None = []
+marked_values core mark (Some sides) =
     object
     (side_members core sides.first
-    (put (codes "with") (object (side_members core sides.partner no_members)) no_members)) ∷ []
+    (put (codes "mark") (mark_value core mark)
+    (put (codes "with") (object (side_members core sides.partner no_members)) no_members))) ∷ []
 
 abbrev pub warning_values : Core → Warning → List Data
-warning_values core w = sides_values core (sides_of core w)
+warning_values core w = marked_values core (warning_mark core w) (sides_of core w)
 
 -- the summaries, where they are asked for, before other members
 abbrev pub with_summaries : Bool → Core → Members → Members

@@ -1,5 +1,6 @@
--- A contract of a public call rests on this: the text of a report, a line a function, without marks.
-use Rattle.std.specs.Prelude.{ℕ, List, [], ◌++◌, Option, None, Some, Bool, codes, length, if◌then◌else◌}
+-- A contract of a public call rests on this: the text of a report, a line a function.
+use Rattle.std.specs.Prelude.{ℕ, List, [], ◌∷◌, ◌++◌, Option, None, Some, Bool, true, false, codes, count_by, length}
+use Rattle.std.specs.Prelude.{if◌then◌else◌}
 use Rattle.std.specs.List.{flat_map, enumerate_from}
 use Rattle.std.specs.Fmt.{decimal}
 use Rattle.racer_base.specs.declared.ids.MethodId.{MethodId}
@@ -10,6 +11,11 @@ use Rattle.access_domain.specs.declared.access.Access.{Access}
 use Rattle.access_domain.specs.Findings.{Findings}
 use Rattle.race_pairs.specs.declared.warning.Warning.{Warning}
 use Rattle.race_pairs.specs.Warnings.{warnings}
+use Rattle.core_semantics.specs.declared.object.StartPath.{StartPath}
+use Rattle.core_semantics.specs.Legs.{Leg}
+use Rattle.core_ways.specs.Marks.{Said, Confirmed}
+use Rattle.witness_build.specs.Warned.{warning_mark}
+use Rattle.report_parts.specs.Marks.{mark_text, start_text, leg_text}
 use Rattle.report_parts.specs.Texts.{place_text, method_text, record_text, value_text}
 use Rattle.report_parts.specs.Told.{reason_of, found_of, access_text, wobbly_texts, Side, Sides, sides_of}
 
@@ -87,12 +93,45 @@ sides_lines core None = []
 sides_lines core (Some sides) =
     codes "warning " ++ side_lines core sides.first ++ codes " with " ++ side_lines core sides.partner
 
+--  mark MARK
+abbrev pub mark_line : Core → Said → List ℕ
+mark_line core said = line (codes " mark " ++ mark_text core said)
+
+--  object PATH
+abbrev pub object_line : Core → StartPath → List ℕ
+object_line core start = line (codes " object " ++ start_text core start)
+
+--  first THREAD turns TURNS steps N
+--  second THREAD turns TURNS steps N
+abbrev pub legs_lines : List Leg → List ℕ
+legs_lines [] = []
+legs_lines (first ∷ later) =
+    line (codes " first " ++ leg_text first) ++ flat_map (λ leg. line (codes " second " ++ leg_text leg)) later
+
+-- what confirms a warning: the objects and the legs of a run
+abbrev pub run_lines : Core → Said → List ℕ
+run_lines core (Confirmed objects legs) = flat_map (object_line core) objects ++ legs_lines legs
+run_lines core _ = []
+
+abbrev pub mark_lines : Core → Said → List ℕ
+mark_lines core said = mark_line core said ++ run_lines core said
+
+-- the records of a warning, and its mark
 abbrev pub warning_lines : Core → Warning → List ℕ
-warning_lines core w = sides_lines core (sides_of core w)
+warning_lines core w = sides_lines core (sides_of core w) ++ mark_lines core (warning_mark core w)
+
+abbrev pub is_confirmed : Said → Bool
+is_confirmed (Confirmed objects legs) = true
+is_confirmed _ = false
+
+-- how many of these warnings are confirmed
+abbrev pub confirmed : Core → List Warning → ℕ
+confirmed core found = count_by (λ w. is_confirmed (warning_mark core w)) found
 
 -- warnings N confirmed N
-abbrev pub last_line : List Warning → List ℕ
-last_line found = line (codes "warnings " ++ decimal (length found) ++ codes " confirmed 0")
+abbrev pub last_line : Core → List Warning → List ℕ
+last_line core found =
+    line (codes "warnings " ++ decimal (length found) ++ codes " confirmed " ++ decimal (confirmed core found))
 
 -- the summaries, where they are asked for
 abbrev pub summaries_lines : Bool → Core → List ℕ
@@ -112,4 +151,4 @@ method_lines summaries core =
 abbrev pub report_text : Bool → Core → List ℕ
 report_text summaries core =
     head_lines core ++ method_lines summaries core ++ flat_map (warning_lines core) (warnings core)
-    ++ last_line (warnings core)
+    ++ last_line core (warnings core)

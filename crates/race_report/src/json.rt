@@ -9,14 +9,18 @@ ghost use Rattle.serde_json.specs.Written.{has_float, comma_if, compact_text, it
 ghost use Rattle.core_code.specs.Core.{method_of};
 ghost use Rattle.core_code.specs.Program.{core};
 ghost use Rattle.access_domain.specs.Outcomes.{AreOutcomes};
+ghost use Rattle.core_ways.specs.Marks.{said_by};
+ghost use Rattle.witness_build.specs.Warned.{warning_mark};
 ghost use Rattle.report_parts.specs.Sites.{AreSites};
 ghost use Rattle.race_pairs.specs.Warnings as pairs;
 ghost use Rattle.race_report.specs.Json as said;
 ghost use Rattle.race_report.specs.Pieces as pieces;
 
+use crate::marks::mark_at;
 use crate::values::{place_value, reason_value, summary_value, warning_value};
 use access_domain::Outcome;
 use core_code::{MethodCore, Program};
+use core_ways::Mark;
 use race_pairs::Warning;
 use racer_base::Memory;
 use report_parts::{Site, reason_of, sides_of, sites, summary_of};
@@ -172,9 +176,11 @@ fn push_warning(
     outcomes: &[Option<Arc<Outcome>>],
     sites: &[Vec<Site>],
     warning: Warning,
+    mark: &Mark,
 ) -> Result<bool, Memory>
     requires outcomes { AreOutcomes (core program.now) outcomes.now }
     requires sites { AreSites (core program.now) sites.now }
+    requires mark { said_by mark.now ≡ warning_mark (core program.now) warning }
     ensures { IfOk result (λ behind. (rest : List Data) →
         string_bytes text.new ++ items_text behind (items_of rest) ≡ string_bytes text.old ++ items_text later
         (items_of (said.warning_values (core program.now) warning ++ rest))) }
@@ -182,7 +188,8 @@ fn push_warning(
     match sides_of(alloc, program, outcomes, sites, warning)? {
         None => Ok(later),
         Some(sides) => {
-            push_item(alloc, text, later, &warning_value(alloc, program, &sides)?)?;
+            let value = warning_value(alloc, program, &sides, mark)?;
+            push_item(alloc, text, later, &value)?;
             Ok(true)
         }
     }
@@ -194,15 +201,18 @@ fn push_warnings(
     program: &Program,
     outcomes: &[Option<Arc<Outcome>>],
     found: &[Warning],
+    marks: &[Mark],
 ) -> Result<(), Memory>
-    requires { AreOutcomes (core program.now) outcomes.now }
+    requires outcomes { AreOutcomes (core program.now) outcomes.now }
+    requires marks { map said_by marks.now ≡ map (warning_mark (core program.now)) found.now }
     ensures { OnOk result (string_bytes text.new ≡ string_bytes text.old ++ compact_text (said.values
         (flat_map (said.warning_values (core program.now)) found.now))) }
 {
     let sites = sites(alloc, program)?;
     text.push_str("[")?;
     let mut later = false;
-    for warning in found {
+    for (number, warning) in found.iter().enumerate() {
+        let mark = mark_at(marks, number);
         later = push_warning(
             alloc,
             text,
@@ -211,6 +221,7 @@ fn push_warnings(
             outcomes,
             sites.as_slice(),
             *warning,
+            mark,
         )?;
     }
     text.push_str("]")?;
@@ -301,13 +312,15 @@ fn push_last(
     program: &Program,
     outcomes: &[Option<Arc<Outcome>>],
     found: &[Warning],
+    marks: &[Mark],
 ) -> Result<(), Memory>
-    requires { AreOutcomes (core program.now) outcomes.now }
+    requires outcomes { AreOutcomes (core program.now) outcomes.now }
+    requires marks { map said_by marks.now ≡ map (warning_mark (core program.now)) found.now }
     ensures { OnOk result (string_bytes text.new
         ≡ string_bytes text.old ++ pieces.last_text (core program.now) found.now) }
 {
     text.push_str(",\"warnings\":")?;
-    push_warnings(alloc, text, program, outcomes, found)?;
+    push_warnings(alloc, text, program, outcomes, found, marks)?;
     text.push_str("}")?;
     Ok(())
 }
@@ -320,14 +333,16 @@ pub(crate) fn push_report(
     program: &Program,
     outcomes: &[Option<Arc<Outcome>>],
     found: &[Warning],
+    marks: &[Mark],
 ) -> Result<(), Memory>
     requires outcomes { AreOutcomes (core program.now) outcomes.now }
     requires found { found.now ≡ pairs.warnings (core program.now) }
+    requires marks { map said_by marks.now ≡ map (warning_mark (core program.now)) found.now }
     ensures { OnOk result (string_bytes text.new
         ≡ string_bytes text.old ++ compact_text (said.report_value summaries (core program.now))) }
 {
     push_first(alloc, text, program, outcomes)?;
     push_asked(alloc, text, summaries, program, outcomes)?;
-    push_last(alloc, text, program, outcomes, found)?;
+    push_last(alloc, text, program, outcomes, found, marks)?;
     Ok(())
 }

@@ -11,6 +11,7 @@
 
 mod json;
 pub mod laws;
+mod marks;
 mod mode;
 mod reports;
 mod text;

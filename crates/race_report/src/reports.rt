@@ -1,19 +1,23 @@
 //! The report on a program.
-ghost use Rattle.std.specs.Prelude.{◌≡◌, ◌++◌, IfOk, OnOk, string_bytes};
+ghost use Rattle.std.specs.Prelude.{◌≡◌, ◌++◌, IfOk, OnOk, map, string_bytes};
 ghost use Rattle.serde_json.specs.Written.{compact_text};
 ghost use Rattle.core_code.specs.Program.{core};
 ghost use Rattle.access_domain.specs.Outcomes.{AreOutcomes};
 ghost use Rattle.race_pairs.specs.Warnings as pairs;
+ghost use Rattle.core_ways.specs.Marks.{said_by};
+ghost use Rattle.witness_build.specs.Warned.{warning_mark};
 ghost use Rattle.race_report.specs.Json.{report_value};
 ghost use Rattle.race_report.specs.Modes as said;
 ghost use Rattle.race_report.specs.Report as lines;
 
+use crate::marks::push_last;
 use crate::text::{
-    push_counts, push_last, push_not_analysed, push_skipped, push_summaries, push_warnings,
+    push_counts, push_not_analysed, push_skipped, push_summaries, push_warnings,
 };
 use crate::{Mode, json};
 use access_domain::Outcome;
 use core_code::Program;
+use core_ways::Mark;
 use race_pairs::Warning;
 use racer_base::Memory;
 use std::alloc::Global;
@@ -70,16 +74,18 @@ fn push_lines(
     program: &Program,
     outcomes: &[Option<Arc<Outcome>>],
     found: &[Warning],
+    marks: &[Mark],
 ) -> Result<(), Memory>
     requires outcomes { AreOutcomes (core program.now) outcomes.now }
     requires found { found.now ≡ pairs.warnings (core program.now) }
+    requires marks { map said_by marks.now ≡ map (warning_mark (core program.now)) found.now }
     ensures { OnOk result (string_bytes text.new
         ≡ string_bytes text.old ++ lines.report_text summaries (core program.now)) }
 {
     push_head(text, program)?;
     push_methods(alloc, text, summaries, program, outcomes)?;
-    push_warnings(alloc, text, program, outcomes, found)?;
-    push_last(text, found)
+    push_warnings(alloc, text, program, outcomes, found, marks)?;
+    push_last(text, program, found, marks)
 }
 
 /// Puts a report that is an object behind a text, and a line feed.
@@ -90,50 +96,73 @@ fn push_object(
     program: &Program,
     outcomes: &[Option<Arc<Outcome>>],
     found: &[Warning],
+    marks: &[Mark],
 ) -> Result<(), Memory>
     requires outcomes { AreOutcomes (core program.now) outcomes.now }
     requires found { found.now ≡ pairs.warnings (core program.now) }
+    requires marks { map said_by marks.now ≡ map (warning_mark (core program.now)) found.now }
     ensures { OnOk result (string_bytes text.new
         ≡ string_bytes text.old ++ lines.line (compact_text (report_value summaries (core program.now)))) }
 {
-    json::push_report(alloc, text, summaries, program, outcomes, found)?;
+    json::push_report(alloc, text, summaries, program, outcomes, found, marks)?;
     text.push_str("\n")?;
     Ok(())
 }
 
-/// The report of a program, of the outcomes of its methods and of its warnings, as a text.
+/// The report of a program, of the outcomes of its methods, of its warnings and of their marks, one a warning, as a
+/// text.
 pub fn report_text(
     alloc: Global,
     mode: Mode,
     program: &Program,
     outcomes: &[Option<Arc<Outcome>>],
     found: &[Warning],
+    marks: &[Mark],
 ) -> Result<String, Memory>
     requires outcomes { AreOutcomes (core program.now) outcomes.now }
     requires found { found.now ≡ pairs.warnings (core program.now) }
+    requires marks { map said_by marks.now ≡ map (warning_mark (core program.now)) found.now }
     ensures { IfOk result (λ text. string_bytes text ≡ said.report mode (core program.now)) }
 {
     let mut text = String::new(alloc);
     if mode.json {
-        push_object(alloc, &mut text, mode.summaries, program, outcomes, found)?;
+        push_object(
+            alloc,
+            &mut text,
+            mode.summaries,
+            program,
+            outcomes,
+            found,
+            marks,
+        )?;
     } else {
-        push_lines(alloc, &mut text, mode.summaries, program, outcomes, found)?;
+        push_lines(
+            alloc,
+            &mut text,
+            mode.summaries,
+            program,
+            outcomes,
+            found,
+            marks,
+        )?;
     }
     Ok(text)
 }
 
-/// The report of a program, of the outcomes of its methods and of its warnings.
+/// The report of a program, of the outcomes of its methods, of its warnings and of their marks, one a warning.
 pub fn report(
     alloc: Global,
     mode: Mode,
     program: &Program,
     outcomes: &[Option<Arc<Outcome>>],
     found: &[Warning],
+    marks: &[Mark],
 ) -> Result<Vec<u8>, Memory>
     requires outcomes { AreOutcomes (core program.now) outcomes.now }
     requires found { found.now ≡ pairs.warnings (core program.now) }
+    requires marks { map said_by marks.now ≡ map (warning_mark (core program.now)) found.now }
     ensures { IfOk result (λ bytes. bytes.items ≡ said.report mode (core program.now)) }
 {
-    let text = report_text(alloc, mode, program, outcomes, found)?;
+    let text = report_text(alloc, mode, program, outcomes, found, marks)?;
     Ok(text.into_bytes())
 }

@@ -9,10 +9,14 @@ ghost use Rattle.report_parts.specs.Sides.{side_told, sides_told};
 ghost use Rattle.report_parts.specs.Sites.{AreSites};
 ghost use Rattle.report_parts.specs.Texts.{method_text, value_text};
 ghost use Rattle.report_parts.specs.Told as told;
+ghost use Rattle.core_ways.specs.Marks.{said_by};
+ghost use Rattle.witness_build.specs.Warned.{warning_mark};
 ghost use Rattle.race_report.specs.Report as said;
 
+use crate::marks::{mark_at, push_mark_lines};
 use access_domain::{Access, Outcome, Summary};
 use core_code::{MethodCore, Program};
+use core_ways::Mark;
 use owner_domain::Value;
 use race_pairs::Warning;
 use racer_base::{Memory, Place};
@@ -164,7 +168,8 @@ fn push_sides(text: &mut String, program: &Program, sides: &Sides<'_>) -> Result
     push_side(text, program, &sides.partner)
 }
 
-fn push_warning(
+/// The lines of the two records of a warning, where it has them.
+fn push_sides_of(
     alloc: Global,
     text: &mut String,
     program: &Program,
@@ -175,12 +180,31 @@ fn push_warning(
     requires outcomes { AreOutcomes (core program.now) outcomes.now }
     requires sites { AreSites (core program.now) sites.now }
     ensures { OnOk result (string_bytes text.new ≡ string_bytes text.old
-        ++ said.warning_lines (core program.now) warning) }
+        ++ said.sides_lines (core program.now) (told.sides_of (core program.now) warning)) }
 {
     match sides_of(alloc, program, outcomes, sites, warning)? {
         None => Ok(()),
         Some(sides) => push_sides(text, program, &sides),
     }
+}
+
+fn push_warning(
+    alloc: Global,
+    text: &mut String,
+    program: &Program,
+    outcomes: &[Option<Arc<Outcome>>],
+    sites: &[Vec<Site>],
+    warning: Warning,
+    mark: &Mark,
+) -> Result<(), Memory>
+    requires outcomes { AreOutcomes (core program.now) outcomes.now }
+    requires sites { AreSites (core program.now) sites.now }
+    requires mark { said_by mark.now ≡ warning_mark (core program.now) warning }
+    ensures { OnOk result (string_bytes text.new ≡ string_bytes text.old
+        ++ said.warning_lines (core program.now) warning) }
+{
+    push_sides_of(alloc, text, program, outcomes, sites, warning)?;
+    push_mark_lines(text, program, mark)
 }
 
 pub(crate) fn push_warnings(
@@ -189,8 +213,10 @@ pub(crate) fn push_warnings(
     program: &Program,
     outcomes: &[Option<Arc<Outcome>>],
     found: &[Warning],
+    marks: &[Mark],
 ) -> Result<(), Memory>
-    requires { AreOutcomes (core program.now) outcomes.now }
+    requires outcomes { AreOutcomes (core program.now) outcomes.now }
+    requires marks { map said_by marks.now ≡ map (warning_mark (core program.now)) found.now }
     ensures { OnOk result (string_bytes text.new ≡ string_bytes text.old
         ++ flat_map (said.warning_lines (core program.now)) found.now) }
 {
@@ -198,18 +224,18 @@ pub(crate) fn push_warnings(
         return Ok(());
     }
     let sites = sites(alloc, program)?;
-    for warning in found {
-        push_warning(alloc, text, program, outcomes, sites.as_slice(), *warning)?;
+    for (number, warning) in found.iter().enumerate() {
+        let mark = mark_at(marks, number);
+        push_warning(
+            alloc,
+            text,
+            program,
+            outcomes,
+            sites.as_slice(),
+            *warning,
+            mark,
+        )?;
     }
-    Ok(())
-}
-
-/// `warnings N confirmed N`
-pub(crate) fn push_last(text: &mut String, found: &[Warning]) -> Result<(), Memory>
-    ensures { OnOk result (string_bytes text.new ≡ string_bytes text.old ++ said.last_line found.now) }
-{
-    let count = found.len();
-    write!(text, "warnings {count} confirmed 0\n")?;
     Ok(())
 }
 

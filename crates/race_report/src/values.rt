@@ -1,11 +1,13 @@
 //! The values of a report's object.
-ghost use Rattle.std.specs.Prelude.{◌≡◌, IfOk, OnOk, Some, ◌∷◌, [], false, map, option_map, string_bytes};
+ghost use Rattle.std.specs.Prelude.{◌≡◌, IfOk, OnOk, Some, ◌∷◌, [], codes, false, map, option_map, string_bytes};
 ghost use Rattle.serde_json.specs.Data.{string, object, no_members};
+ghost use Rattle.serde_json.specs.Data.{put as data_put};
 ghost use Rattle.serde_json.specs.View.{view, items_view, members_view, items_of};
 ghost use Rattle.serde_json.specs.Written.{has_float, items_have_float, members_have_float};
 ghost use Rattle.core_code.specs.Core.{method_of};
 ghost use Rattle.core_code.specs.Program.{core};
 ghost use Rattle.access_domain.specs.Findings.{summary_from};
+ghost use Rattle.core_ways.specs.Marks.{said_by};
 ghost use Rattle.report_parts.specs.Sides.{side_told, sides_told};
 ghost use Rattle.report_parts.specs.Sites.{AreSites};
 ghost use Rattle.report_parts.specs.Texts as parts;
@@ -15,10 +17,11 @@ ghost use Rattle.race_report.specs.Json as said;
 use access_domain::{Access, Summary};
 use access_paths::Path;
 use core_code::{MethodCore, Program};
+use core_ways::Mark;
 use owner_domain::Value as Returned;
 use racer_base::{Memory, Place};
 use report_parts::{
-    Side, Sides, Site, place_at, push_access, push_method, push_path, push_place, push_value,
+    Side, Sides, Site, mark_word, place_at, push_access, push_method, push_path, push_place, push_value,
     touch_text, wobbly_texts,
 };
 use serde_json::{Map, Value, put};
@@ -246,14 +249,72 @@ fn side_value(alloc: Global, program: &Program, side: &Side<'_>) -> Result<Value
     Ok(Value::from(members))
 }
 
-/// The object of a warning.
+/// Puts the place of a mark into an object.
+fn put_place(
+    alloc: Global,
+    members: &mut Map<String, Value>,
+    program: &Program,
+    place: Place,
+) -> Result<(), Memory>
+    ensures { OnOk result (members_view members.new.entries
+        ≡ data_put (codes "place") (said.place_value (core program.now) place) (members_view members.old.entries)) }
+{
+    put(members, alloc, "place", place_value(alloc, program, place)?)?;
+    Ok(())
+}
+
+/// Puts the members of a mark beside its word into an object.
+fn put_detail(
+    alloc: Global,
+    members: &mut Map<String, Value>,
+    program: &Program,
+    mark: &Mark,
+) -> Result<(), Memory>
+    ensures { OnOk result (members_view members.new.entries
+        ≡ said.detail_members (core program.now) (said_by mark.now) (members_view members.old.entries)) }
+{
+    match mark {
+        Mark::Unnamed | Mark::Confirmed(_) => Ok(()),
+        Mark::Unstable(before) => {
+            put(members, alloc, "path", path_value(alloc, program, before)?)?;
+            Ok(())
+        }
+        Mark::Unread(at) => put_place(alloc, members, program, *at),
+        Mark::Long(steps) => {
+            put(members, alloc, "steps", Value::from(*steps))?;
+            Ok(())
+        }
+        Mark::Blocked(thread, at) => {
+            put(members, alloc, "thread", Value::from(*thread))?;
+            put_place(alloc, members, program, *at)
+        }
+    }
+}
+
+/// The object of a mark.
+fn mark_value(alloc: Global, program: &Program, mark: &Mark) -> Result<Value, Memory>
+    ensures { IfOk result (λ value. view value ≡ said.mark_value (core program.now) (said_by mark.now)) }
+{
+    let mut members = Map::new(alloc);
+    put(
+        &mut members,
+        alloc,
+        "word",
+        Value::try_from_str(alloc, mark_word(mark))?,
+    )?;
+    put_detail(alloc, &mut members, program, mark)?;
+    Ok(Value::from(members))
+}
+
+/// The object of a warning with this mark.
 pub(crate) fn warning_value(
     alloc: Global,
     program: &Program,
     sides: &Sides<'_>,
+    mark: &Mark,
 ) -> Result<Value, Memory>
     ensures { IfOk result (λ value. view value ∷ []
-        ≡ said.sides_values (core program.now) (Some (sides_told sides.now))) }
+        ≡ said.marked_values (core program.now) (said_by mark.now) (Some (sides_told sides.now))) }
 {
     let mut members = Map::new(alloc);
     put(
@@ -261,6 +322,12 @@ pub(crate) fn warning_value(
         alloc,
         "with",
         side_value(alloc, program, &sides.partner)?,
+    )?;
+    put(
+        &mut members,
+        alloc,
+        "mark",
+        mark_value(alloc, program, mark)?,
     )?;
     put_side(alloc, &mut members, program, &sides.first)?;
     Ok(Value::from(members))

@@ -19,6 +19,7 @@ use racer_base::{Folder, FolderFault, Memory, Text};
 use std::alloc::Global;
 use std::sync::Arc;
 use transfer::outcomes;
+use warning_marks::marks_of;
 
 /// The usage line.
 const USAGE: &str =
@@ -43,7 +44,15 @@ fn said_of(
     ensures said { IfOk result (λ said. said ≡ said_from mode (Accepted (core program.now))) }
 {
     let found = warnings(alloc, program, outcomes)?;
-    let text = report_text(alloc, mode, program, outcomes.as_slice(), found.as_slice())?;
+    let marks = marks_of(alloc, program, outcomes, found.as_slice())?;
+    let text = report_text(
+        alloc,
+        mode,
+        program,
+        outcomes.as_slice(),
+        found.as_slice(),
+        marks.as_slice(),
+    )?;
     let status = if found.is_empty() {
         Status::Clean
     } else {

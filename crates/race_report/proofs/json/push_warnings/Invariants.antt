@@ -6,7 +6,7 @@ use Rattle.serde_json.specs.View.{items_of}
 use Rattle.race_report.specs.Json as said
 use Rattle.race_report.proofs.json.push_warnings.Given as goal
 
-abbrev pub invariant-loop-warning : goal.invariant-loop-warning
-invariant-loop-warning l =
-    string_bytes l.text ++ items_text l.later (items_of (flat_map (said.warning_values (core l.program)) (drop l.warning-index l.found)))
+abbrev pub invariant-loop-number : goal.invariant-loop-number
+invariant-loop-number l =
+    string_bytes l.text ++ items_text l.later (items_of (flat_map (said.warning_values (core l.program)) (drop l.number l.found)))
     ≡ string_bytes l.fn.text ++ 91 ∷ items_text false (items_of (flat_map (said.warning_values (core l.program)) l.found))

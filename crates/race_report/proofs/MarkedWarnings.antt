@@ -1,0 +1,47 @@
+-- Marks of warnings, one by one.
+use Rattle.std.proofs.Common.{◌≡◌, ℕ, ◌<◌, Bool, List, [], ◌∷◌, Option, None, Some, option_map, length, map, slice_get}
+use Rattle.std.proofs.Common.{sym, ap, refl, subst, ◌∙◌}
+use Rattle.std.specs.List.{count_by}
+use Rattle.std.proofs.lemmas.List.{length-map}
+use Rattle.std.proofs.lemmas.Option.{slice_get-map}
+use Rattle.core_code.specs.Core.{Core}
+use Rattle.race_pairs.specs.declared.warning.Warning.{Warning}
+use Rattle.core_ways.specs.declared.mark.Mark.{Mark}
+use Rattle.core_ways.specs.Marks.{Said, said_by}
+use Rattle.witness_build.specs.Warned.{warning_mark}
+use Rattle.race_report.specs.Report.{is_confirmed}
+
+-- there are as many marks as warnings
+pub as_long : (core : Core) (found : List Warning) (marks : List Mark) →
+    map said_by marks ≡ map (warning_mark core) found → length marks ≡ length found
+as_long core found marks are =
+    sym (length-map marks said_by)
+    ∙ ap (λ (ms : List Said). length ms) are
+    ∙ length-map found (warning_mark core)
+
+-- the mark of a number says what the mark of the warning of this number says
+pub mark_there : (core : Core) (found : List Warning) (marks : List Mark) (i : ℕ) (w : Warning) (mark : Mark) →
+    map said_by marks ≡ map (warning_mark core) found → slice_get found i ≡ Some w → slice_get marks i ≡ Some mark →
+    said_by mark ≡ warning_mark core w
+mark_there core found marks i w mark are there here =
+    let both : Some (said_by mark) ≡ Some (warning_mark core w) =
+    sym (ap (λ o. option_map said_by o) here)
+    ∙ sym (slice_get-map said_by marks i)
+    ∙ ap (λ (ms : List Said). slice_get ms i) are
+    ∙ slice_get-map (warning_mark core) found i
+    ∙ ap (λ o. option_map (warning_mark core) o) there in
+    cc
+
+count_mapped : {X Y : Type 0} (f : X → Y) (p : Y → Bool) (xs : List X) →
+    count_by (λ x. p (f x)) xs ≡ count_by p (map f xs)
+count_mapped f p [] = refl
+count_mapped f p (x ∷ xs) = rw (count_mapped f p xs) refl
+
+-- as many marks confirm as warnings are confirmed
+pub as_many : (core : Core) (found : List Warning) (marks : List Mark) →
+    map said_by marks ≡ map (warning_mark core) found →
+    count_by (λ mark. is_confirmed (said_by mark)) marks ≡ count_by (λ w. is_confirmed (warning_mark core w)) found
+as_many core found marks are =
+    count_mapped said_by is_confirmed marks
+    ∙ ap (λ (ms : List Said). count_by is_confirmed ms) are
+    ∙ sym (count_mapped (warning_mark core) is_confirmed found)

@@ -1,0 +1,11 @@
+use Rattle.std.proofs.Common.{◌≡◌, ◌++◌, drop, map}
+use Rattle.core_code.specs.Program.{core}
+use Rattle.core_ways.specs.Marks.{said_by}
+use Rattle.witness_build.specs.Warned.{warning_mark}
+use Rattle.warning_marks.proofs.marks.marks_of.Given as goal
+
+-- the marks so far, and those of the warnings that are left
+abbrev pub invariant-loop-warning : goal.invariant-loop-warning
+invariant-loop-warning l =
+    map said_by l.marks.items ++ map (warning_mark (core l.program)) (drop l.warning-index l.found)
+    ≡ map (warning_mark (core l.program)) l.found
