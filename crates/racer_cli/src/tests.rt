@@ -174,8 +174,10 @@ const SOURCES: &[Row] = &[
         status: Status::Warned,
         text: b"racer report 1\nfiles 1 classes 1 methods 2\n\
           warning A.f/0 write this.x\n at A.java:1:46\n with A.f/0 write this.x\n at A.java:1:46\n\
+          \x20mark confirmed\n first 0 turns - steps 2\n second 1 turns - steps 2\n\
           warning A.f/0 write this.x locked\n at A.java:1:80\n with A.f/0 write this.x\n at A.java:1:46\n\
-          warnings 2 confirmed 0\n",
+          \x20mark confirmed\n first 1 turns - steps 2\n second 0 turns - steps 8\n\
+          warnings 2 confirmed 2\n",
         ..PLAIN
     },
     Row {
@@ -203,7 +205,7 @@ const SOURCES: &[Row] = &[
         text: b"racer report 1\nfiles 1 classes 1 methods 4\n\
           not analysed Loop.m/0 Loop.java:4:8 recursive\nnot analysed Loop.n/0 Loop.java:5:8 recursive\n\
           warning Loop.k/0 write this.c\n at Loop.java:6:24\n with Loop.k/0 write this.c\n at Loop.java:6:24\n\
-          warnings 1 confirmed 0\n",
+          \x20mark unread Loop.java:6:14\nwarnings 1 confirmed 0\n",
         ..PLAIN
     },
     Row {
