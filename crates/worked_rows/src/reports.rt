@@ -11,6 +11,7 @@ use racer_base::{Folder, FolderFault, Memory};
 use std::alloc::Global;
 use std::sync::Arc;
 use transfer::outcomes;
+use warning_marks::marks_of;
 
 /// Puts the report in this mode.
 fn put_report(
@@ -27,7 +28,15 @@ fn put_report(
         json,
         summaries: true,
     };
-    let text = report_text(alloc, mode, program, outcomes.as_slice(), found.as_slice())?;
+    let marks = marks_of(alloc, program, outcomes, found.as_slice())?;
+    let text = report_text(
+        alloc,
+        mode,
+        program,
+        outcomes.as_slice(),
+        found.as_slice(),
+        marks.as_slice(),
+    )?;
     out.push_str(text.as_str())?;
     Ok(())
 }
