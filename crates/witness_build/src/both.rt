@@ -60,7 +60,7 @@ fn behind_long(steps: u32, second: Result<WayTaken, WayFault>) -> Result<Both, M
 {
     match second {
         Ok(_) => Ok(Both::Long(steps)),
-        Err(WayFault::Unread(place)) => Ok(Both::Unread(place)),
+        Err(WayFault::Unread(at)) => Ok(Both::Unread(at)),
         Err(WayFault::Long(_)) => Ok(Both::Long(steps)),
         Err(WayFault::Memory) => Err(Memory),
     }

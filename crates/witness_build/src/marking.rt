@@ -66,11 +66,25 @@ fn mark_by_run(
     let mut machine = begin(alloc, program, warning.entry, warning.partner, Start::All)?;
     let mut objects = Objects::new(alloc);
     let turns = first.turns.as_slice();
-    if !run_leg(program, &mut machine, &mut objects, first.thread, turns, first.steps)? {
+    if !run_leg(
+        program,
+        &mut machine,
+        &mut objects,
+        first.thread,
+        turns,
+        first.steps,
+    )? {
         return Ok(blocked(&machine, first.thread));
     }
     let turns = second.turns.as_slice();
-    if !run_leg(program, &mut machine, &mut objects, second.thread, turns, second.steps)? {
+    if !run_leg(
+        program,
+        &mut machine,
+        &mut objects,
+        second.thread,
+        turns,
+        second.steps,
+    )? {
         return Ok(blocked(&machine, second.thread));
     }
     Ok(Mark::Confirmed(Witness {
@@ -151,7 +165,14 @@ pub fn mark(
         return Ok(Mark::Unnamed);
     }
     let path = &record.path;
-    let prefix = unstable_prefix(alloc, program, outcomes, warning.entry, warning.partner, path)?;
+    let prefix = unstable_prefix(
+        alloc,
+        program,
+        outcomes,
+        warning.entry,
+        warning.partner,
+        path,
+    )?;
     if let Some(prefix) = prefix {
         return Ok(Mark::Unstable(prefix));
     }

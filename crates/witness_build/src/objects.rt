@@ -5,7 +5,8 @@ ghost use Rattle.core_semantics.specs.declared.object.Object.TheVariants.{Start 
 ghost use Rattle.core_semantics.specs.declared.object.Value.TheVariants.{Object as Ref};
 ghost use Rattle.core_semantics.specs.Order.{object_cmp};
 ghost use Rattle.core_ways.specs.Marks.{paths_in};
-ghost use Rattle.witness_build.specs.Gathered.{gathered, path_added, paths_of};
+ghost use Rattle.core_semantics.specs.declared.object.StartPath.{StartPath};
+ghost use Rattle.witness_build.specs.Gathered.{gathered, is_among, path_added, paths_of};
 
 use core_semantics::{Object, StartPath, Value};
 use racer_base::Memory;
@@ -64,16 +65,27 @@ impl Objects {
         }
     }
 
+    /// Whether a path is there, by its object.
+    fn has(&self, object: &Object) -> bool
+        ensures { (p : StartPath) → object.now ≡ StartOf p → result ≡ is_among self.now p }
+    {
+        self.index.contains(object)
+    }
+
     /// Adds a path, unless it is there.
     fn add(&mut self, path: StartPath) -> Result<(), Memory>
         ensures { OnOk result (self.new ≡ path_added self.old path) }
     {
         let copy = path.copied(self.alloc)?;
         let object = Object::Start(path);
-        if self.index.contains(&object) {
+        let there = self.has(&object);
+        if there {
             return Ok(());
         }
-        put(&mut self.paths, &mut self.index, copy, object)
+        let Ok(()) = put(&mut self.paths, &mut self.index, copy, object) else {
+            return Err(Memory);
+        };
+        Ok(())
     }
 
     /// Adds a path that has a field.

@@ -19,7 +19,7 @@ use wobbly_paths::Wobbly;
 /// How many fields the shortest proper prefix of a path has that is among these.
 fn prefix_in(wobbly: Option<&Wobbly>, path: &Path) -> Option<u32>
     requires { length path.now.fields ≤ MAX_PATH_FIELDS }
-    ensures { IsLeast (holds_front (option_copied wobbly) path.now) (length path.now.fields) result }
+    ensures { IsLeast (holds_front (option_copied wobbly.entry) path.now) (length path.now.fields) result }
 {
     match wobbly {
         Some(wobbly) => wobbly.unstable_prefix(path),
@@ -35,13 +35,7 @@ fn least(a: Option<u32>, b: Option<u32>) -> Option<u32>
         None => b,
         Some(j) => match b {
             None => Some(j),
-            Some(k) => {
-                if j < k {
-                    Some(j)
-                } else {
-                    Some(k)
-                }
-            }
+            Some(k) => { if j < k { Some(j) } else { Some(k) } }
         },
     }
 }

@@ -1,0 +1,3 @@
+pub mod SameSteps
+pub mod SameRuns
+pub mod Legs

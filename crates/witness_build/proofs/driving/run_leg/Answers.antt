@@ -1,0 +1,33 @@
+use Rattle.std.proofs.Common.{◌≡◌, ◌+◌, ◌-◌, suc, ◌∙◌, arith}
+use Rattle.core_code.specs.Program.{core}
+use Rattle.core_semantics.specs.View.{state_of}
+use Rattle.witness_build.proofs.LegSteps.{end-on, reads-here, reads-on}
+use Rattle.witness_build.proofs.driving.run_leg.Goals as goal
+
+pub loop-step-preserved : goal.loop-step-preserved
+loop-step-preserved c =
+    let at = c.loop-step in
+    let n = c.args.steps in
+    let count : n - at.step ≡ suc (n - (at.step + 1)) = omega (arith, c.loop-step-test.true) in
+    record {
+      end =
+          end-on (core c.args.program.now) c.args.thread (n - at.step) (n - (at.step + 1)) at.turns.now
+          (state_of at.machine) (state_of c.advance.new.machine) c.in_ok-rest.field-0 c.in-Some.rest count
+          c.in_ok-rest.ensures.step c.in-Some.is
+          ∙ at.invariant.end;
+      reads =
+          reads-on (core c.args.program.now) c.args.thread (n - at.step) (n - (at.step + 1)) at.turns.now
+          (state_of at.machine) (state_of c.advance.new.machine) c.in_ok-rest.field-0 c.in-Some.rest at.objects
+          c.advance.new.objects count c.in_ok-rest.ensures.step c.in-Some.is c.in_ok-rest.ensures.reads
+          ∙ at.invariant.reads;
+    }
+
+pub returns-in_default-clause-reads : goal.returns-in_default-clause-reads
+returns-in_default-clause-reads c =
+    let at = c.loop-step in
+    let n = c.args.steps in
+    let count : n - at.step ≡ suc (n - (at.step + 1)) = omega (arith, c.loop-step-test.true) in
+    reads-here (core c.args.program.now) c.args.thread (n - at.step) (n - (at.step + 1)) at.turns.now
+    (state_of at.machine) (state_of c.advance.new.machine) c.in_ok-rest.field-0 at.objects c.advance.new.objects count
+    c.in_ok-rest.ensures.step c.in_default.is c.in_ok-rest.ensures.reads
+    ∙ at.invariant.reads
