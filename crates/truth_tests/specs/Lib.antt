@@ -1,4 +1,2 @@
 -- No public contract rests on this: the list of files.
 pub mod Gate
-pub mod Long
-pub mod Rows

@@ -1,16 +1,8 @@
-//! The tests of the machine of two threads, and of ways. They stand here, over public calls alone, since a crate with
-//! tests is proved twice. There is no code.
+//! The tests of the machine of two threads that the stored run of `worked_rows` has not: answers that no mark needs. They
+//! stand here, over public calls alone, since a crate with tests is proved twice. There is no code.
 #![tactic(auto)]
 
 #[cfg(test)]
 mod gate;
 #[cfg(test)]
-mod long;
-#[cfg(test)]
 mod machine;
-#[cfg(test)]
-mod row_class;
-#[cfg(test)]
-mod rows;
-#[cfg(test)]
-mod ways;
