@@ -1,14 +1,14 @@
 -- Methods that are passed, by rank, run alone: they come back with what their calls give.
-use Rattle.std.proofs.Common.{◌≡◌, ℕ, zero, suc, ◌+◌, ◌<◌, Bool, true, false, cond, ◌&&◌, List, [], ◌∷◌, ◌++◌}
-use Rattle.std.proofs.Common.{Option, None, Some, refl, sym, ap, ◌∙◌, subst, drop, arith, nat_lt, is_none, is_some, not, ◌||◌}
+use Rattle.std.proofs.Common.{◌≡◌, ℕ, zero, suc, ◌<◌, Bool, true, false, cond, List, [], ◌∷◌, ◌++◌}
+use Rattle.std.proofs.Common.{Option, None, Some, refl, sym, ap, ◌∙◌, subst, drop, arith, nat_lt, is_none, is_some}
+use Rattle.std.proofs.Common.{not, ◌||◌}
 use Rattle.std.proofs.Common.{slice_get}
 use Rattle.std.proofs.lemmas.Bool.{ltb-true}
 use Rattle.std.specs.List.{list_all}
 use Rattle.racer_base.specs.declared.ids.MethodId.{MethodId}
 use Rattle.core_code.specs.declared.code.Op.{Op as CoreOp}
 use Rattle.core_code.specs.declared.code.Reason.{Reason}
-use Rattle.core_code.specs.declared.code.Op.TheVariants.{Push, PushClass, PushPrim, PushNull, New, Dup, Drop, Get, Put}
-use Rattle.core_code.specs.declared.code.Op.TheVariants.{Set, Prim, Outside, Call, Unread as UnreadCall, Ret}
+use Rattle.core_code.specs.declared.code.Op.TheVariants.{Prim, Call}
 use Rattle.core_code.specs.Calls.{called_by, is_analysed, known_below, method_at, rank_of}
 use Rattle.core_code.specs.CallFacts.{ends_by_return, has_ranks}
 use Rattle.core_code.specs.Core.{Core, Method}
@@ -26,7 +26,8 @@ use Rattle.core_ways.proofs.Alone.{Leads, weaker}
 use Rattle.core_ways.proofs.AloneMethods.{AreRight, calls-pass, code-there, may_call}
 use Rattle.core_ways.proofs.Callees.{do_pass, lower-calls, lower-parts, pass-both}
 use Rattle.core_ways.proofs.Trips.{trip_of-parts}
-use Rattle.way_values.specs.Values.{Behind, Back, Calls, End, Point, call_given, call_of, entry_point, go, go_on, go_op}
+use Rattle.way_values.specs.Values.{Behind, Back, Calls, End, Point, call_given, call_of, entry_point, go, go_on}
+use Rattle.way_values.specs.Values.{go_op}
 use Rattle.way_values.specs.Values.{on_ok, point_popped, received, returned_to, top_value, value_back, values_passed}
 use Rattle.way_values.specs.Led.{GoesPast, IsBack, IsEnd, MethodGoes, at_point, back_at}
 use Rattle.way_values.proofs.PassedValues.{EndsAs, go-ends, goes-past}

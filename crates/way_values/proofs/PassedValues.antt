@@ -1,6 +1,7 @@
 -- Code that is passed, run alone, leads where it goes.
 use Rattle.std.proofs.Common.{◌≡◌, ℕ, zero, suc, ◌+◌, ◌-◌, Bool, true, false, cond, ◌&&◌, ◌||◌, not, List, [], ◌∷◌}
-use Rattle.std.proofs.Common.{◌++◌, Option, None, Some, refl, sym, ap, ◌∙◌, subst, drop, replicate, slice_index_or, arith}
+use Rattle.std.proofs.Common.{◌++◌, Option, None, Some, refl, sym, ap, ◌∙◌, subst, drop, replicate, slice_index_or}
+use Rattle.std.proofs.Common.{arith}
 use Rattle.std.proofs.lemmas.Bool.{lt-ltb}
 use Rattle.std.proofs.lemmas.List.{append-nil}
 use Rattle.std.specs.List.{list_all}
@@ -9,11 +10,12 @@ use Rattle.racer_base.specs.declared.ids.MethodId.{MethodId}
 use Rattle.racer_base.specs.declared.ids.Place.{Place}
 use Rattle.racer_base.specs.declared.ids.SiteId.{SiteId}
 use Rattle.core_code.specs.declared.code.Op.{Op as CoreOp}
-use Rattle.core_code.specs.declared.code.Op.TheVariants.{Push, PushClass, PushPrim, PushNull, New, Dup, Drop, Get, Put}
-use Rattle.core_code.specs.declared.code.Op.TheVariants.{Set, Prim, Outside, Call, Unread as UnreadCall, Ret}
+use Rattle.core_code.specs.declared.code.Op.TheVariants.{Get, Put}
+use Rattle.core_code.specs.declared.code.Op.TheVariants.{Prim, Call, Unread as UnreadCall, Ret}
 use Rattle.core_code.specs.Calls.{called_by, method_at}
 use Rattle.core_code.specs.Core.{Core, Method}
-use Rattle.core_code.specs.Tree.{Tree, Step as Operate, Nothing, Then, Either, Again, Held, can_end, is_return, steps_of}
+use Rattle.core_code.specs.Tree.{Tree, Step as Operate, Nothing, Then, Either, Again, Held, can_end, is_return}
+use Rattle.core_code.specs.Tree.{steps_of}
 use Rattle.core_code.proofs.BoolParts.{first_part, last_part}
 use Rattle.core_semantics.specs.declared.answer.Holder.{Holder}
 use Rattle.core_semantics.specs.declared.answer.Turn.{Turn}
@@ -24,13 +26,14 @@ use Rattle.core_semantics.specs.declared.object.Object.{Object}
 use Rattle.core_semantics.specs.declared.object.Value.{Value}
 use Rattle.core_semantics.specs.declared.object.Value.TheVariants.{Null}
 use Rattle.core_semantics.specs.State.{Frame, Store, Todo, Operate as DoOp, Choose, Lock, Unlock, before}
-use Rattle.core_semantics.specs.Steps.{After, Inner, Next, Spot, Goes, Sticks, Waits, Ends, after, base_of, called_method}
+use Rattle.core_semantics.specs.Steps.{After, Inner, Next, Spot, Goes, Sticks, Waits, Ends, after, base_of}
+use Rattle.core_semantics.specs.Steps.{called_method}
 use Rattle.core_semantics.specs.Steps.{entering, going, inner, inner_step, lock_with, monitor_of, on_base, on_object}
 use Rattle.core_semantics.specs.Steps.{op_step, passed_from, put, read, replaced, returned, slot_of, top, unlocked}
 use Rattle.core_semantics.specs.Steps.{with_inner, with_todo, within}
 use Rattle.core_ways.specs.declared.part.WayPart.{WayPart}
 use Rattle.core_ways.specs.declared.part.WayPart.TheVariants.{Step, Turned}
-use Rattle.core_ways.specs.Alone.{Alone, Came, ComesTo, LeadsTo, alone, here, onward}
+use Rattle.core_ways.specs.Alone.{Alone, Came, ComesTo, LeadsTo, alone, onward}
 use Rattle.core_ways.specs.Ways.{Trip, joined, passed, straight, trip_along}
 use Rattle.core_ways.proofs.Alone.{Leads, along-both, leads-on, one-more, past-turn, spot, weaker}
 use Rattle.core_ways.proofs.Callees.{do_pass, pass-both}
@@ -182,7 +185,8 @@ enters : (core : Core) (trips : MethodId → Trip) (calls : Calls) (m : MethodId
 enters core trips calls m n at todo locked callers locks rest method is goes =
     let back : Frame = record { vars = at.vars; stack = drop n at.stack; todo = todo; locked = locked } in
     let given_back = calls m (values_passed at n) at.store in
-    weaker (IsBack given_back (back ∷ callers) locks) (IsEnd (returned_to at n given_back) todo locked callers locks) rest
+    weaker (IsBack given_back (back ∷ callers) locks)
+    (IsEnd (returned_to at n given_back) todo locked callers locks) rest
     (alone core (trips m).steps ((trips m).turns ++ rest)
     (at_point (entry_point method (values_passed at n) at.store) (before method.code []) 0 (back ∷ callers) locks))
     (comes-back at n todo locked callers locks given_back)
@@ -432,8 +436,8 @@ module _ (core : Core) (trips : MethodId → Trip) (calls : Calls) (test : Metho
       let early = goes-past first (first_part (do_pass test (steps_of first)) (do_pass test (steps_of rest)) both) in
       let late = goes-past rest (last_part (do_pass test (steps_of first)) (do_pass test (steps_of rest)) both) in
       λ locked at todo callers locks.
-      goes-then first rest locked (at_point at (before first (before rest todo)) locked callers locks) todo callers locks
-      (can_end first) (go core calls first at) (go-ends core calls first at) late
+      goes-then first rest locked (at_point at (before first (before rest todo)) locked callers locks) todo callers
+      locks (can_end first) (go core calls first at) (go-ends core calls first at) late
       (early locked at (before rest todo) callers locks)
   goes-past (Either left right) all =
       let both = pass-both test (steps_of left) (steps_of right) all in

@@ -1,8 +1,7 @@
 -- Code that is gone into towards a site, run alone, leads where it goes.
-use Rattle.std.proofs.Common.{◌≡◌, ℕ, suc, ◌+◌, Bool, true, false, cond, ◌&&◌, ◌||◌, List, [], ◌∷◌, ◌++◌, nat_lt}
-use Rattle.std.proofs.Common.{Option, None, Some, is_some, length, nat_eq, option_map, drop, refl, sym, ap, subst, ◌∙◌}
+use Rattle.std.proofs.Common.{◌≡◌, ℕ, suc, ◌+◌, Bool, true, false, cond, ◌&&◌, List, [], ◌∷◌, ◌++◌}
+use Rattle.std.proofs.Common.{Option, None, Some, is_some, length, nat_eq, option_map, refl, sym, ap, subst, ◌∙◌}
 use Rattle.std.proofs.Common.{append_assoc, arith}
-use Rattle.std.proofs.lemmas.Bool.{lt-ltb}
 use Rattle.std.proofs.lemmas.List.{length-append}
 use Rattle.std.proofs.lemmas.List.Folds.{find-append}
 use Rattle.std.specs.Option.{option_or}
@@ -22,14 +21,14 @@ use Rattle.core_semantics.specs.declared.answer.Why.{Why}
 use Rattle.core_semantics.specs.State.{Frame, Todo, Operate as DoOp, Choose, Repeat, Lock, Unlock, before}
 use Rattle.core_semantics.specs.Steps.{After, lock_with, monitor_of}
 use Rattle.core_ways.specs.declared.part.WayPart.{WayPart}
-use Rattle.core_ways.specs.declared.part.WayPart.TheVariants.{Step, Turned}
-use Rattle.core_ways.specs.Alone.{ComesTo, LeadsTo, alone, do_end_before, locks_round, onward}
+use Rattle.core_ways.specs.declared.part.WayPart.TheVariants.{Turned}
+use Rattle.core_ways.specs.Alone.{ComesTo, alone, do_end_before, locks_round, onward}
 use Rattle.core_ways.specs.Ways.{Trip, entered, has_site, passed, reached, trip_along}
 use Rattle.core_ways.proofs.Alone.{Leads, along-both, leads-on, one-more, past-turn, weaker}
 use Rattle.core_ways.proofs.Callees.{do_pass, pass-both}
 use Rattle.way_values.specs.Values.{Behind, Back, Calls, End, Point, go, on_ok, point_popped, top_value}
 use Rattle.way_values.specs.Tops.{Top, Tops, behind_first, one_lock_more, to, top_at}
-use Rattle.way_values.specs.Led.{Arrives, GoesPast, GoesTo, IsAtTop, IsEnd, IsTop, MethodGoes, at_point}
+use Rattle.way_values.specs.Led.{Arrives, GoesPast, GoesTo, IsEnd, IsTop, MethodGoes, at_point}
 use Rattle.way_values.proofs.PassedValues.{EndsAs, go-ends, goes-past, spot_at}
 
 -- ---- the operation at a site
@@ -158,8 +157,8 @@ module _ (core : Core) (trips : MethodId → Trip) (calls : Calls) (tops : Tops)
   to-lock : (body : Tree) (locked : ℕ) (at : Point) (todo : List Todo) (callers : List Frame) (locks : List Holder)
       (r : Result Holder Why) → Goes body → (rest : List Turn) →
       let trip = trip_along trips (reached (suc locked) site body ++ more) in
-      ComesTo (IsTop (on_ok r (option_map one_lock_more (to core calls tops site below body (point_popped at 1)))) locks)
-      rest
+      let o : Option Top = to core calls tops site below body (point_popped at 1) in
+      ComesTo (IsTop (on_ok r (option_map one_lock_more o)) locks) rest
       (onward (λ a. alone core trip.steps (trip.turns ++ rest) a)
       (lock_with [] (spot_at at todo locked callers locks) body r))
   to-lock body locked at todo callers locks (Err why) goes rest = tt

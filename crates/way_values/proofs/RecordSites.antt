@@ -1,105 +1,49 @@
 -- Where a record of code comes from, with what stands before its site and the locks round it.
-use Rattle.std.proofs.Common.{◌≡◌, ℕ, zero, suc, ◌+◌, ◌<◌, ◌≤◌, Bool, true, false, cond, ◌&&◌, ◌||◌, not, List, []}
-use Rattle.std.proofs.Common.{◌∷◌, ◌++◌, Option, None, Some, is_none, is_some, length, map, filter, nat_eq, nat_lt}
+use Rattle.std.proofs.Common.{◌≡◌, ℕ, suc, ◌+◌, Bool, true, false, cond, ◌&&◌, ◌||◌, not, List, []}
+use Rattle.std.proofs.Common.{◌∷◌, Option, None, Some, is_none, is_some, length, filter, nat_eq, nat_lt}
 use Rattle.std.proofs.Common.{slice_get, ◌⊎◌, inl, inr, ⊎_elim, refl, sym, ap, subst, ◌∙◌, arith, zero-add}
 use Rattle.std.proofs.lemmas.Bool.{eq-eqb, lt-ltb}
 use Rattle.std.proofs.lemmas.List.Folds.{find-append}
-use Rattle.std.specs.List.{Contains, enumerate_from, find, flat_map}
+use Rattle.std.specs.List.{enumerate_from, flat_map}
 use Rattle.std.specs.Option.{option_and_then, option_or}
-use borrow.Author.Tests.{eqb-true}
 use Rattle.racer_base.specs.declared.ids.FieldId.{FieldId}
 use Rattle.racer_base.specs.declared.ids.MethodId.{MethodId}
 use Rattle.racer_base.specs.declared.ids.Place.{Place}
 use Rattle.racer_base.specs.declared.ids.SiteId.{SiteId}
 use Rattle.racer_base.specs.declared.ids.Touch.{Touch}
 use Rattle.racer_base.specs.declared.ids.Touch.TheVariants.{Read, Write}
-use Rattle.racer_base.specs.declared.limits.TheConstants.{MAX_PATH_FIELDS}
 use Rattle.access_paths.specs.declared.path.Path.{Path}
-use Rattle.access_paths.specs.Paths.{extended, front_of, is_some_root, last_of, some_path}
+use Rattle.access_paths.specs.Paths.{last_of}
 use Rattle.owner_domain.specs.declared.value.State.{State}
 use Rattle.owner_domain.specs.declared.value.Value.{Value}
-use Rattle.owner_domain.specs.declared.value.Value.TheVariants.{Owned, Named, Unnamed}
-use Rattle.owner_domain.specs.Values.{along}
 use Rattle.core_code.specs.declared.code.Op.{Op as CoreOp}
-use Rattle.core_code.specs.declared.code.Op.TheVariants.{Push, PushClass, PushPrim, PushNull, New, Dup, Drop, Get, Put}
+use Rattle.core_code.specs.declared.code.Op.TheVariants.{Push, PushClass, PushPrim, PushNull, New, Dup, Drop, Get}
+use Rattle.core_code.specs.declared.code.Op.TheVariants.{Put}
 use Rattle.core_code.specs.declared.code.Op.TheVariants.{Set, Prim, Outside, Call, Unread, Ret}
 use Rattle.core_code.specs.Calls.{method_at, rank_of}
 use Rattle.core_code.specs.Core.{Core, Method}
 use Rattle.core_code.specs.Facts.{counts_from, sites_of}
 use Rattle.core_code.specs.Tree.{Tree, Step, Nothing, Then, Either, Again, Held, Operation, can_end, op_at, steps_of}
-use Rattle.core_code.proofs.BoolParts.{both, first_part, last_part}
+use Rattle.core_code.proofs.BoolParts.{both}
 use Rattle.core_code.proofs.ByRank.{known_below-some}
-use Rattle.core_code.proofs.Membership.{In, in_append, in_enumerate_from, in_flat_map, in_from_Contains}
-use Rattle.core_code.proofs.Sites.{counts_from-append, sites_of-then}
+use Rattle.core_code.proofs.Membership.{In, in_append, in_enumerate_from, in_flat_map}
 use Rattle.access_domain.specs.declared.access.Access.{Access}
 use Rattle.access_domain.specs.Findings.{Findings, Known, Large, Table, Whole}
 use Rattle.access_domain.specs.Flow.{after, both as both_effects, flow, joined_next, rounds}
 use Rattle.access_domain.specs.Given.{Given, given_of}
-use Rattle.access_domain.specs.Operations.{Effects, call_effects, op_effects, passed_from, popped, record_of, slot_of, top}
+use Rattle.access_domain.specs.Operations.{Effects, call_effects, op_effects, passed_from, popped, record_of, slot_of}
+use Rattle.access_domain.specs.Operations.{top}
 use Rattle.access_domain.specs.Origins.{touch_of}
 use Rattle.access_domain.specs.Records.{first_of_keys, firsts, same_key}
-use Rattle.access_domain.specs.Substitution.{Actuals, actuals_from, root_value, substituted, substituted_path}
+use Rattle.access_domain.specs.Substitution.{Actuals, actuals_from, substituted, substituted_path}
 use Rattle.access_domain.specs.Substitution.{substituted_record, touched}
 use Rattle.access_domain.specs.Summaries.{effects_given, findings_from, is_large, known_at, known_given, known_of}
 use Rattle.access_domain.specs.Summaries.{known_of_callees, start_of}
 use Rattle.core_ways.specs.Alone.{do_end_before, locks_round}
 use Rattle.core_ways.specs.Ways.{has_site}
 use Rattle.way_values.specs.Sites.{Comes, ComesBy, IsThrough, IsTouch, field_of}
-
--- ---- sites
-
--- the site of an operation among those that count from n on
-site-within : (n : ℕ) (ops : List Operation) (site : SiteId) (o : Operation) →
-    counts_from n (map (λ (x : Operation). x.site) ops) ≡ true →
-    find (λ (x : Operation). nat_eq x.site.0 site.0) ops ≡ Some o →
-    (n ≤ site.0) × (site.0 < n + length ops)
-site-within n [] site o counts is = absurd cc
-site-within n (x ∷ ops) site o counts is =
-    let here : x.site.0 ≡ n = eqb-true x.site.0 n
-    (first_part (nat_eq x.site.0 n) (counts_from (suc n) (map (λ (y : Operation). y.site) ops)) counts) in
-    let later = last_part (nat_eq x.site.0 n) (counts_from (suc n) (map (λ (y : Operation). y.site) ops)) counts in
-    elim (nat_eq x.site.0 site.0) as (λ b. nat_eq x.site.0 site.0 ≡ b →
-    cond b (Some x) (find (λ (y : Operation). nat_eq y.site.0 site.0) ops) ≡ Some o →
-    (n ≤ site.0) × (site.0 < n + suc (length ops))) [
-      | true ↦ λ e k. let same : x.site.0 ≡ site.0 = eqb-true x.site.0 site.0 e in (omega arith, omega arith)
-      | false ↦ λ e k.
-          let rest = site-within (suc n) ops site o later k in
-          let low = rest.0 in
-          let high = rest.1 in
-          (omega arith, omega arith)
-    ] refl is
-
-length-sites : (ops : List Operation) → length (map (λ (x : Operation). x.site) ops) ≡ length ops
-length-sites [] = refl
-length-sites (x ∷ ops) = ap suc (length-sites ops)
-
-counts-first : (n : ℕ) (a b : Tree) → counts_from n (sites_of (Then a b)) ≡ true → counts_from n (sites_of a) ≡ true
-counts-first n a b counts =
-    first_part (counts_from n (sites_of a)) (counts_from (n + length (sites_of a)) (sites_of b))
-    (sym (ap (counts_from n) (sites_of-then a b) ∙ counts_from-append n (sites_of a) (sites_of b)) ∙ counts)
-
-counts-second : (n : ℕ) (a b : Tree) → counts_from n (sites_of (Then a b)) ≡ true →
-    counts_from (n + length (sites_of a)) (sites_of b) ≡ true
-counts-second n a b counts =
-    last_part (counts_from n (sites_of a)) (counts_from (n + length (sites_of a)) (sites_of b))
-    (sym (ap (counts_from n) (sites_of-then a b) ∙ counts_from-append n (sites_of a) (sites_of b)) ∙ counts)
-
--- of two parts whose sites count up, the first lacks the sites of the second
-first-lacks : (n : ℕ) (a b : Tree) (site : SiteId) (o : Operation) → counts_from n (sites_of (Then a b)) ≡ true →
-    op_at b site ≡ Some o → has_site a site ≡ false
-first-lacks n a b site o counts is =
-    let first = counts-first n a b counts in
-    let second = counts-second n a b counts in
-    let from = site-within (n + length (sites_of a)) (steps_of b) site o second is in
-    let many = length-sites (steps_of a) in
-    elim (op_at a site) as (λ p. op_at a site ≡ p → is_some p ≡ false) [
-      | None ↦ λ e. refl
-      | Some x ↦ λ e.
-          let within = site-within n (steps_of a) site x first e in
-          let low = from.0 in
-          let high = within.1 in
-          absurd (omega arith)
-    ] refl
+use Rattle.way_values.proofs.LastFields.{substituted-last, touched-last}
+use Rattle.way_values.proofs.SiteOrder.{counts-first, counts-second, first-lacks}
 
 -- ---- a flow that goes on ends code that can end
 
@@ -138,58 +82,6 @@ goes-on-ends g (Either left right) locked s t e =
     ] refl e
 goes-on-ends g (Again body) locked s t e = refl
 goes-on-ends g (Held place body) locked s t e = goes-on-ends g body true (popped s 1) t e
-
--- ---- the last field
-
-last-added : (fs : List FieldId) (f : FieldId) → Some f ≡ last_of (fs ++ f ∷ [])
-last-added [] f = refl
-last-added (g ∷ []) f = refl
-last-added (g ∷ h ∷ fs) f = last-added (h ∷ fs) f
-
-extended-last : (p : Path) (f : FieldId) (q : Path) → extended p f ≡ Some q → Some f ≡ last_of q.fields
-extended-last p f q is =
-    elim (nat_lt (length p.fields) MAX_PATH_FIELDS) as (λ b.
-    cond b (Some (record { root = p.root; fields = p.fields ++ f ∷ [] })) None ≡ Some q → Some f ≡ last_of q.fields) [
-      | true ↦ λ e.
-          last-added p.fields f
-          ∙ ap (λ (o : Option Path). elim o as (λ _. Option FieldId) [ None ↦ None | Some x ↦ last_of x.fields ]) e
-      | false ↦ λ e. absurd cc
-    ] is
-
-last-of-some : (p q : Path) → Some p ≡ Some q → last_of p.fields ≡ last_of q.fields
-last-of-some p q e =
-    ap (λ (o : Option Path). elim o as (λ _. Option FieldId) [ None ↦ None | Some x ↦ last_of x.fields ]) e
-
-touched-last : (g : Given) (base : Value) (f : FieldId) (q : Path) → touched g base f ≡ Some q →
-    Some f ≡ last_of q.fields
-touched-last g Owned f q is = absurd cc
-touched-last g Unnamed f q is = last-of-some (some_path (g.class_of f) f) q is
-touched-last g (Named p) f q is =
-    elim (extended p f) as (λ o. extended p f ≡ o →
-    elim o as (λ _. Option Path) [ None ↦ Some (some_path (g.class_of f) f) | Some x ↦ Some x ] ≡ Some q →
-    Some f ≡ last_of q.fields) [
-      | None ↦ λ e k. last-of-some (some_path (g.class_of f) f) q k
-      | Some x ↦ λ e k. extended-last p f x e ∙ last-of-some x q k
-    ] refl is
-
-substituted-last : (g : Given) (actuals : Actuals) (p q : Path) → substituted_path g actuals p ≡ Some q →
-    last_of q.fields ≡ last_of p.fields
-substituted-last g actuals p q is =
-    elim (is_some_root p.root) as (λ b.
-    cond b (Some p) (elim (last_of p.fields) as (λ _. Option Path) [
-      | None ↦ None
-      | Some f ↦ touched g (along (root_value actuals p.root) (front_of p.fields)) f
-    ]) ≡ Some q → last_of q.fields ≡ last_of p.fields) [
-      | true ↦ λ e. sym (last-of-some p q e)
-      | false ↦ λ e.
-          elim (last_of p.fields) as (λ o. elim o as (λ _. Option Path) [
-            | None ↦ None
-            | Some f ↦ touched g (along (root_value actuals p.root) (front_of p.fields)) f
-          ] ≡ Some q → last_of q.fields ≡ o) [
-            | None ↦ λ k. absurd cc
-            | Some f ↦ λ k. sym (touched-last g (along (root_value actuals p.root) (front_of p.fields)) f q k)
-          ] e
-    ] is
 
 -- ---- the records of an operation
 

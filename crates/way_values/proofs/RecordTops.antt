@@ -1,6 +1,7 @@
 -- Going towards a record, by rank, run alone: the thread comes to where the record's way leads.
-use Rattle.std.proofs.Common.{◌≡◌, ℕ, zero, suc, ◌+◌, ◌<◌, Bool, true, false, cond, ◌&&◌, ◌||◌, List, [], ◌∷◌, ◌++◌}
-use Rattle.std.proofs.Common.{Option, None, Some, is_none, nat_lt, option_map, slice_get, slice_index_or, drop, ◌⊎◌, inl, inr}
+use Rattle.std.proofs.Common.{◌≡◌, ℕ, zero, suc, ◌+◌, ◌<◌, Bool, true, false, cond, ◌||◌, List, [], ◌∷◌, ◌++◌}
+use Rattle.std.proofs.Common.{Option, None, Some, is_none, nat_lt, option_map, slice_get, slice_index_or, drop, inl}
+use Rattle.std.proofs.Common.{inr}
 use Rattle.std.proofs.Common.{⊎_elim, refl, sym, ap, subst, ◌∙◌, arith}
 use Rattle.std.proofs.lemmas.Bool.{lt-ltb, ltb-true}
 use Rattle.std.specs.List.{list_all}
@@ -8,28 +9,25 @@ use Rattle.std.specs.Option.{option_and_then}
 use Rattle.std.specs.Prelude.{Result, Ok, Err}
 use Rattle.racer_base.specs.declared.ids.FieldId.{FieldId}
 use Rattle.racer_base.specs.declared.ids.MethodId.{MethodId}
-use Rattle.racer_base.specs.declared.ids.Place.{Place}
 use Rattle.racer_base.specs.declared.ids.SiteId.{SiteId}
 use Rattle.racer_base.specs.declared.ids.Touch.{Touch}
 use Rattle.access_paths.specs.Paths.{last_of}
 use Rattle.core_code.specs.declared.code.Op.{Op as CoreOp}
-use Rattle.core_code.specs.declared.code.Op.TheVariants.{Push, PushClass, PushPrim, PushNull, New, Dup, Drop, Get, Put}
-use Rattle.core_code.specs.declared.code.Op.TheVariants.{Set, Prim, Outside, Call, Unread as UnreadCall, Ret}
+use Rattle.core_code.specs.declared.code.Op.TheVariants.{Prim, Call}
 use Rattle.core_code.specs.Calls.{called_by, is_analysed, known_below, method_at, rank_of}
 use Rattle.core_code.specs.CallFacts.{has_ranks}
 use Rattle.core_code.specs.Core.{Core, Method}
-use Rattle.core_code.specs.Facts.{are_sites_in_order, counts_from, is_in_order, sites_of}
-use Rattle.core_code.specs.Tree.{Tree, Step as Operate, Nothing, Then, Either, Again, Held, Operation, can_end, op_at}
+use Rattle.core_code.specs.Facts.{are_sites_in_order, is_in_order}
+use Rattle.core_code.specs.Tree.{Tree, Step as Operate, Nothing, Then, Either, Again, Held, Operation, op_at}
 use Rattle.core_code.specs.Tree.{steps_of}
 use Rattle.core_code.proofs.BoolParts.{first_part, last_part}
 use Rattle.core_code.proofs.ByRank.{known_below-lower}
 use Rattle.core_code.proofs.Membership.{In}
 use Rattle.access_domain.specs.declared.access.Access.{Access}
-use Rattle.access_domain.specs.declared.summary.Outcome.{Outcome}
 use Rattle.access_domain.specs.Findings.{Findings, Known, Large, Table, Whole, outcome_from}
 use Rattle.access_domain.specs.Given.{Given, given_of}
 use Rattle.access_domain.specs.Origins.{touch_of}
-use Rattle.access_domain.specs.Summaries.{known_given, known_of, known_of_callees, outcome_of}
+use Rattle.access_domain.specs.Summaries.{known_given, known_of, known_of_callees}
 use Rattle.core_semantics.specs.declared.answer.Holder.{Holder}
 use Rattle.core_semantics.specs.declared.answer.Turn.{Turn}
 use Rattle.core_semantics.specs.declared.answer.Why.{Why}
@@ -38,12 +36,13 @@ use Rattle.core_semantics.specs.declared.object.Object.{Object}
 use Rattle.core_semantics.specs.declared.object.Value.{Value}
 use Rattle.core_semantics.specs.declared.object.Value.TheVariants.{Null}
 use Rattle.core_semantics.specs.State.{Frame, Store, Todo, Operate as DoOp, before}
-use Rattle.core_semantics.specs.Steps.{After, Next, Spot, Sticks, base_of, called_method, entering, monitor_of, on_base}
+use Rattle.core_semantics.specs.Steps.{After, Next, Spot, Sticks, base_of, called_method, entering, monitor_of}
+use Rattle.core_semantics.specs.Steps.{on_base}
 use Rattle.core_semantics.specs.Steps.{on_object, passed_from}
 use Rattle.core_ways.specs.declared.part.WayPart.{WayPart}
 use Rattle.core_ways.specs.declared.part.WayPart.TheVariants.{Step}
-use Rattle.core_ways.specs.Alone.{Alone, ComesTo, LeadsTo, alone, do_end_before, locks_round, onward}
-use Rattle.core_ways.specs.Ways.{Trip, code_at, entered, entered_op, has_site, reached, record_at, records_held}
+use Rattle.core_ways.specs.Alone.{Alone, ComesTo, alone, do_end_before, locks_round, onward}
+use Rattle.core_ways.specs.Ways.{code_at, entered, has_site, reached, record_at, records_held}
 use Rattle.core_ways.specs.Ways.{towards_record, trip_along, trip_of, way_given, way_of, way_parts}
 use Rattle.core_ways.proofs.Alone.{Leads, one-more}
 use Rattle.core_ways.proofs.AloneMethods.{AreRight, calls-pass, code-there, may_call}
@@ -51,7 +50,7 @@ use Rattle.core_ways.proofs.Callees.{do_pass, lower-calls, lower-site, pass-both
 use Rattle.way_values.specs.Values.{Calls, Point, call_of, entry_point, go, on_ok, point_popped, received, top_value}
 use Rattle.way_values.specs.Values.{values_passed}
 use Rattle.way_values.specs.Tops.{Top, Tops, behind_first, one_lock_more, to, to_record, top_at, top_given, top_of}
-use Rattle.way_values.specs.Led.{Arrives, IsAtTop, IsOfRecord, IsTop, MethodGoes, RecordGoes, at_point}
+use Rattle.way_values.specs.Led.{Arrives, IsOfRecord, IsTop, RecordGoes, at_point}
 use Rattle.way_values.specs.Sites.{Comes, IsThrough, IsTouch, field_of}
 use Rattle.way_values.proofs.CalledValues.{each-method, method-goes}
 use Rattle.way_values.proofs.PassedValues.{spot_at}
@@ -239,7 +238,8 @@ module _ (core : Core) (n : MethodId) (j : ℕ) (inner : Access) (has : record_a
       (top_at core (top_of core) (Some j) (Call n count))
   arrives-through count place locked at todo callers locks =
       let way = way_of core n j in
-      one-more core way.turns way.steps (1 + way.steps) (at_point at (DoOp place (Call n count) ∷ todo) locked callers locks)
+      one-more core way.turns way.steps (1 + way.steps)
+      (at_point at (DoOp place (Call n count) ∷ todo) locked callers locks)
       (IsTop (top_at core (top_of core) (Some j) (Call n count) at) locks) (omega arith)
       (λ rest. enters count at todo locked callers locks rest (method_at core n) refl)
 

@@ -1,6 +1,6 @@
 -- Ways in the machine of two threads end just before their access.
-use Rattle.std.proofs.Common.{◌≡◌, ℕ, suc, ◌+◌, ◌<◌, Bool, true, false, cond, List, [], ◌∷◌, ◌++◌, Option, None, Some}
-use Rattle.std.proofs.Common.{length, nat_eq, nat_lt, slice_get, refl, sym, ap, subst, ◌∙◌, arith}
+use Rattle.std.proofs.Common.{◌≡◌, ℕ, suc, true, false, cond, List, [], ◌∷◌, ◌++◌, Option, None, Some}
+use Rattle.std.proofs.Common.{length, nat_eq, slice_get, refl, sym, ap, subst, ◌∙◌, arith}
 use Rattle.std.proofs.lemmas.List.{append-nil}
 use Rattle.racer_base.specs.declared.ids.MethodId.{MethodId}
 use Rattle.core_code.specs.declared.program.Program.{Program}
@@ -9,15 +9,12 @@ use Rattle.core_code.specs.Core.{Core, Method}
 use Rattle.core_code.specs.Program.{core as core_of}
 use Rattle.access_domain.specs.declared.access.Access.{Access}
 use Rattle.core_semantics.specs.declared.answer.Turn.{Turn}
-use Rattle.core_semantics.specs.declared.answer.Why.{Why}
 use Rattle.core_semantics.specs.declared.object.Value.{Value}
-use Rattle.core_semantics.specs.Legs.{Ran, Came as CameTo, Broke, StuckFor, runs}
-use Rattle.core_semantics.specs.Runs.{innermost}
-use Rattle.core_semantics.specs.State.{Frame, State, Store, Thread, Operate, before, other_of, thread_of, with_thread}
+use Rattle.core_semantics.specs.Legs.{Ran, runs}
+use Rattle.core_semantics.specs.State.{Frame, State, Thread, Operate, before, other_of, thread_of, with_thread}
 use Rattle.core_semantics.specs.Steps.{After, entered}
 use Rattle.core_ways.specs.Alone.{Alone, Came, Stuck, Broken, ComesTo, IsSeen, alone, part_of}
 use Rattle.core_ways.specs.Ways.{record_at, way_of}
-use Rattle.core_ways.proofs.AloneMethods.{AreRight}
 use Rattle.core_ways.proofs.Beside.{beside}
 use Rattle.way_values.specs.Ends.{EndsAtAccess, IsAtAccess}
 use Rattle.way_values.specs.Led.{IsAtTop, IsOfRecord, IsTop, at_point}

@@ -1,6 +1,6 @@
 -- A contract of a public call rests on this: the law `ways_end_at_their_access`. Where the way to a record ends in the
 -- machine of two threads.
-use Rattle.std.specs.Prelude.{◌≡◌, ℕ, List, [], Option, Some, length, nat_lt}
+use Rattle.std.specs.Prelude.{◌≡◌, ℕ, List, [], Some, length, nat_lt}
 use Rattle.racer_base.specs.declared.ids.MethodId.{MethodId}
 use Rattle.racer_base.specs.declared.ids.Place.{Place}
 use Rattle.access_paths.specs.Paths.{last_of}
@@ -16,8 +16,8 @@ use Rattle.way_values.specs.Sites.{field_of}
 use Rattle.way_values.specs.Tops.{Top, top_of}
 
 -- A thread has come just before the access of a record, from a state in which it was at the entry of the record's
--- method with these values. The next operation touches the field of the record's path in the way of its kind; the thread
--- holds a monitor exactly where the record is locked; and the other thread is as it was. What is stored, and the
+-- method with these values. The next operation touches the last field of the record's path in the way of its kind; the
+-- thread holds a monitor exactly where the record is locked; and the other thread is as it was. What is stored, and the
 -- innermost frame's variables and stack, are what the way leads to.
 pub record IsAtAccess (core : Core) (m : MethodId) (i : ℕ) (r : Access) (values : List Value) (s : State) (t : ℕ)
     (to : State) : Type 0 where

@@ -1,6 +1,6 @@
 -- A contract of a public call rests on this: the law `ways_end_at_their_access`. Where the way to a record leads, just
 -- before the access.
-use Rattle.std.specs.Prelude.{ℕ, suc, List, [], ◌∷◌, Option, None, Some, option_map, if◌then◌else◌}
+use Rattle.std.specs.Prelude.{ℕ, suc, List, Option, None, Some, option_map, if◌then◌else◌}
 use Rattle.racer_base.specs.declared.ids.MethodId.{MethodId}
 use Rattle.racer_base.specs.declared.ids.SiteId.{SiteId}
 use Rattle.access_domain.specs.declared.access.Access.{Access}
@@ -13,7 +13,8 @@ use Rattle.core_semantics.specs.declared.object.Value.{Value}
 use Rattle.core_semantics.specs.State.{Store}
 use Rattle.core_semantics.specs.Steps.{monitor_of}
 use Rattle.core_ways.specs.Ways.{has_site, record_at}
-use Rattle.way_values.specs.Values.{Point, End, Behind, Back, Calls, go, received, values_passed, entry_point, call_of}
+use Rattle.way_values.specs.Values.{Point, End, Behind, Back, Calls, go, received, values_passed, entry_point}
+use Rattle.way_values.specs.Values.{call_of}
 use Rattle.way_values.specs.Values.{on_ok, point_popped, top_value}
 
 -- the operation that comes next, at this point, and how many locks the thread has gone into since its entry

@@ -1,7 +1,7 @@
 -- A contract of a public call rests on this: the law `methods_give_their_values`. What the parts of ways do with the
 -- variables and the stack of a frame and with what is stored, by cases on code; threads, turns and monitors play no
 -- part.
-use Rattle.std.specs.Prelude.{ℕ, ◌-◌, List, [], ◌∷◌, ◌++◌, Option, None, Some, Bool, Result, Ok, Err}
+use Rattle.std.specs.Prelude.{ℕ, ◌-◌, List, [], ◌∷◌, ◌++◌, Option, None, Some, Result, Ok, Err}
 use Rattle.std.specs.Prelude.{drop, length, replicate, reverse, slice_index_or, take, if◌then◌else◌}
 use Rattle.racer_base.specs.declared.ids.MethodId.{MethodId}
 use Rattle.core_code.specs.declared.code.Op.{Op as CoreOp}
@@ -9,12 +9,10 @@ use Rattle.core_code.specs.declared.code.Op.TheVariants.{Call, Ret}
 use Rattle.core_code.specs.Calls.{method_at, closed_by_rank}
 use Rattle.core_code.specs.Core.{Core, Method}
 use Rattle.core_code.specs.Tree.{Tree, Step as Operate, Nothing, Then, Either, Again, Held, can_end}
-use Rattle.core_semantics.specs.declared.object.Object.{Object}
 use Rattle.core_semantics.specs.declared.object.Value.{Value}
 use Rattle.core_semantics.specs.declared.object.Value.TheVariants.{Null}
 use Rattle.core_semantics.specs.State.{Store}
 use Rattle.core_semantics.specs.Steps.{Inner, Next, Goes, Sticks, Waits, Ends, base_of, inner_step, monitor_of}
-use Rattle.core_ways.specs.Ways.{code_at}
 
 -- what is stored, and the variables and the stack of the innermost frame, the stack's top first
 pub record Point : Type 0 where

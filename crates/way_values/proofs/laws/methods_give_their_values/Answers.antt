@@ -1,7 +1,6 @@
-use Rattle.std.proofs.Common.{◌+◌, ◌<◌, suc, arith}
+use Rattle.std.proofs.Common.{suc, arith}
 use Rattle.core_code.specs.Calls.{rank_of}
 use Rattle.core_code.specs.Program.{core}
-use Rattle.core_ways.proofs.AloneMethods.{AreRight}
 use Rattle.way_values.proofs.CalledValues.{method-goes}
 use Rattle.way_values.proofs.laws.methods_give_their_values.Goals as goal
 
