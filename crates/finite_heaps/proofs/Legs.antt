@@ -1,6 +1,6 @@
 -- Legs from the beginning, in the heap of all start paths and in that of the objects read.
-use Rattle.std.proofs.Common.{◌≡◌, ℕ, Bool, true, false, cond, ◌||◌, List, [], ◌∷◌, ◌++◌, Option, None, Some, refl, sym, ap}
-use Rattle.std.proofs.Common.{◌∙◌, subst, option_map}
+use Rattle.std.proofs.Common.{◌≡◌, Bool, true, false, ◌||◌, List, [], ◌∷◌, Option, refl, sym, ap}
+use Rattle.std.proofs.Common.{◌∙◌, option_map}
 use Rattle.std.specs.List.{list_any}
 use Rattle.std.specs.Option.{option_and_then}
 use Rattle.racer_base.specs.declared.ids.MethodId.{MethodId}
@@ -8,11 +8,10 @@ use Rattle.access_domain.specs.Records.{firsts}
 use Rattle.access_domain.proofs.Different.{list_any-firsts}
 use Rattle.core_code.specs.Core.{Core}
 use Rattle.core_semantics.specs.declared.answer.Turn.{Turn}
-use Rattle.core_semantics.specs.declared.object.Object.{Object}
 use Rattle.core_semantics.specs.declared.object.Object.TheVariants.{Start as StartOf}
 use Rattle.core_semantics.specs.declared.object.Start.TheVariants.{All, Only}
 use Rattle.core_semantics.specs.declared.object.StartPath.{StartPath}
-use Rattle.core_semantics.specs.Legs.{Leg, Ran, Came, Broke, run, run_leg, runs, whole}
+use Rattle.core_semantics.specs.Legs.{Leg, Ran, Came, Broke, run, runs, whole}
 use Rattle.core_semantics.specs.Objects.{same_start_path}
 use Rattle.core_semantics.specs.Runs.{begun, is_in}
 use Rattle.core_semantics.specs.Same.{equal_of_same, same_object-itself}
@@ -44,8 +43,8 @@ has-all : (heap : Heap) (xs : List StartPath) →
     ((p : StartPath) → list_any (λ q. same_start_path q p) xs ≡ true → heap p ≡ true) → HasAll heap xs
 has-all heap [] has = tt
 has-all heap (x ∷ xs) has = (
-    has x (first-of (same_start_path x x) (list_any (λ q. same_start_path q x) xs) (same_object-itself (StartOf x))),
-    has-all heap xs (λ p e. has p (last-of (same_start_path x p) (list_any (λ q. same_start_path q p) xs) e)),
+  has x (first-of (same_start_path x x) (list_any (λ q. same_start_path q x) xs) (same_object-itself (StartOf x))),
+  has-all heap xs (λ p e. has p (last-of (same_start_path x p) (list_any (λ q. same_start_path q p) xs) e)),
 )
 
 pub objects-read : (objects xs : List StartPath) → objects ≡ firsts same_start_path xs →

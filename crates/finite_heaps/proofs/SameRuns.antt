@@ -1,7 +1,7 @@
 -- Steps in two heaps, one after another.
-use Rattle.std.proofs.Common.{◌≡◌, ℕ, zero, suc, Bool, true, false, cond, ◌||◌, List, [], ◌∷◌, ◌++◌, Option, None, Some}
+use Rattle.std.proofs.Common.{◌≡◌, ℕ, zero, suc, Bool, true, false, cond, List, [], ◌∷◌, ◌++◌, Option, None, Some}
 use Rattle.std.proofs.Common.{refl, sym, ap, subst, ◌∙◌, slice_get}
-use Rattle.std.specs.Prelude.{Result, Ok, Err}
+use Rattle.std.specs.Prelude.{Ok}
 use Rattle.std.specs.Option.{option_and_then}
 use Rattle.racer_base.specs.declared.ids.FieldId.{FieldId}
 use Rattle.racer_base.specs.declared.ids.Kind.{Kind}
@@ -12,16 +12,14 @@ use Rattle.core_code.specs.declared.code.Op.TheVariants.{Get}
 use Rattle.core_code.specs.Core.{Core}
 use Rattle.core_semantics.specs.declared.answer.Turn.{Turn}
 use Rattle.core_semantics.specs.declared.answer.Turn.TheVariants.{Right}
-use Rattle.core_semantics.specs.declared.answer.Why.{Why}
 use Rattle.core_semantics.specs.declared.object.Object.{Object}
 use Rattle.core_semantics.specs.declared.object.Object.TheVariants.{Start as StartOf, Fresh}
-use Rattle.core_semantics.specs.declared.object.Start.TheVariants.{All}
 use Rattle.core_semantics.specs.declared.object.StartPath.{StartPath}
 use Rattle.core_semantics.specs.declared.object.Value.{Value}
 use Rattle.core_semantics.specs.declared.object.Value.TheVariants.{Plain, Opaque, Null, Object as Ref}
 use Rattle.core_semantics.specs.Legs.{Ran, Came, Broke, NoTurn, later, runs, went}
 use Rattle.core_semantics.specs.Objects.{lengthened}
-use Rattle.core_semantics.specs.Runs.{Access as Touching, access_of, frame_touch, is_in, is_turn, next_of, next_touch}
+use Rattle.core_semantics.specs.Runs.{Access as Touching, access_of, frame_touch, is_turn, next_of}
 use Rattle.core_semantics.specs.Runs.{op_touch, todo_touch, wants_turn}
 use Rattle.core_semantics.specs.State.{Frame, State, Store, Todo, Operate, Choose, Repeat, Lock, Unlock, thread_of}
 use Rattle.core_semantics.specs.Steps.{Next, Goes, Sticks, Waits, Ends, base_of, kind_of, read, step, top, unstored, within}

@@ -1,10 +1,9 @@
 -- One step in two heaps.
-use Rattle.std.proofs.Common.{◌≡◌, ℕ, zero, suc, Bool, true, false, cond, ◌&&◌, List, [], ◌∷◌, ◌++◌, Option, None, Some}
-use Rattle.std.proofs.Common.{refl, sym, ap, subst, ◌∙◌, nat_eq, nat_lt, slice_get, slice_index_or, drop}
+use Rattle.std.proofs.Common.{◌≡◌, ℕ, suc, true, false, cond, ◌&&◌, List, [], ◌∷◌, Option, None, Some}
+use Rattle.std.proofs.Common.{refl, ap, ◌∙◌, nat_eq, nat_lt, slice_index_or, drop}
 use Rattle.std.specs.Prelude.{Result, Ok, Err}
 use Rattle.std.specs.List.{list_any}
 use Rattle.racer_base.specs.declared.ids.FieldId.{FieldId}
-use Rattle.racer_base.specs.declared.ids.MethodId.{MethodId}
 use Rattle.core_code.specs.declared.code.Op.{Op as CoreOp}
 use Rattle.core_code.specs.declared.code.Op.TheVariants.{Push, PushClass, PushPrim, PushNull, New, Dup, Drop, Get, Put}
 use Rattle.core_code.specs.declared.code.Op.TheVariants.{Set, Prim, Outside, Call, Unread, Ret}
@@ -16,13 +15,12 @@ use Rattle.core_semantics.specs.declared.answer.Turn.{Turn}
 use Rattle.core_semantics.specs.declared.answer.Why.{Why}
 use Rattle.core_semantics.specs.declared.answer.Why.TheVariants.{UnreadCall as UnreadWhy}
 use Rattle.core_semantics.specs.declared.object.Object.{Object}
-use Rattle.core_semantics.specs.declared.object.Value.{Value}
 use Rattle.core_semantics.specs.declared.object.Value.TheVariants.{Null}
 use Rattle.core_semantics.specs.Objects.{same_monitor}
 use Rattle.core_semantics.specs.State.{Frame, State, Store, Thread, Todo, Operate, Choose, Repeat, Lock, Unlock}
 use Rattle.core_semantics.specs.State.{before, thread_of, other_of, with_thread}
 use Rattle.core_semantics.specs.Steps.{After, Inner, Next, Goes, Sticks, Waits, Ends, Spot, base_of, called_method}
-use Rattle.core_semantics.specs.Steps.{entering, frame_step, going, inner, inner_step, lock_with, locking, monitor_of}
+use Rattle.core_semantics.specs.Steps.{entering, going, inner, inner_step, lock_with, locking, monitor_of}
 use Rattle.core_semantics.specs.Steps.{on_base, op_step, operated, passed_from, put, read, replaced, returned, slot_of}
 use Rattle.core_semantics.specs.Steps.{after, step, thread_step, todo_step, top, unlocked, with_inner, with_todo, within}
 use Rattle.finite_heaps.specs.Heaps.{Heap, after_in, state_in, store_in}
