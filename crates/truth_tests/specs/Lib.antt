@@ -1,2 +1,0 @@
--- No public contract rests on this: the list of files.
-pub mod Gate
