@@ -146,14 +146,6 @@ module _ (core : Core) (quiet : Quietness core) (n : Naming) where
         declared = λ strong q e. place.declared strong q (weak.named q e);
       }
 
-  pub place-first : (k : StackKind) (a b : Value) (x : Held) → AreHushed core quiet n (lost a b) →
-      IsPlace core quiet k (name_of n a) x → IsPlace core quiet k (name_of n (joined a b)) x
-  place-first k a b x hush place = place-weaker k a (joined a b) x (joined-first a b hush) place
-
-  pub place-second : (k : StackKind) (a b : Value) (x : Held) → AreHushed core quiet n (lost a b) →
-      IsPlace core quiet k (name_of n b) x → IsPlace core quiet k (name_of n (joined a b)) x
-  place-second k a b x hush place = place-weaker k b (joined a b) x (joined-second a b hush) place
-
   pub places-weaker : (ks : List StackKind) (vs ws : List Value) (xs : List Held) → AreWeaker core quiet n vs ws →
       ArePlaces core quiet n ks vs xs → ArePlaces core quiet n ks ws xs
   places-weaker [] [] [] [] weak places = tt

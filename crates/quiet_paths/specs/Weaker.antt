@@ -1,13 +1,11 @@
 -- No public contract rests on this: when a value of the analysis may stand in place of another.
-use Rattle.std.specs.Prelude.{◌≡◌, List, [], ◌∷◌, Some, IsTrue}
+use Rattle.std.specs.Prelude.{◌≡◌, List, [], ◌∷◌, Some}
 use Rattle.access_paths.specs.declared.path.Path.{Path}
 use Rattle.owner_domain.specs.declared.value.Value.{Value}
 use Rattle.owner_domain.specs.declared.value.State.{State}
 use Rattle.core_code.specs.Core.{Core}
-use Rattle.core_code.specs.Kinds.{StackKind}
 use Rattle.quiet_paths.specs.Names.{Naming, name_of}
 use Rattle.quiet_paths.specs.Quiet.{Quietness}
-use Rattle.quiet_paths.specs.Places.{is_strong}
 
 -- the second value says no more than the first, and both are called the same where that is a quiet path
 pub record IsWeaker (core : Core) (quiet : Quietness core) (n : Naming) (v w : Value) : Type 0 where
@@ -24,9 +22,3 @@ AreWeaker core quiet n _ _ = ⊥
 pub record IsWeakerState (core : Core) (quiet : Quietness core) (n : Naming) (s t : State) : Type 0 where
   pub vars : AreWeaker core quiet n s.vars t.vars
   pub stack : AreWeaker core quiet n s.stack t.stack
-
--- lists of kinds slot by slot: the object of a place of the first kind is known where that of the second is
-abbrev pub AreStronger : List StackKind → List StackKind → Type 0
-AreStronger [] [] = Unit {0}
-AreStronger (k ∷ ks) (l ∷ ls) = (IsTrue (is_strong l) → IsTrue (is_strong k)) × AreStronger ks ls
-AreStronger _ _ = ⊥
