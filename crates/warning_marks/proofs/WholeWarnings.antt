@@ -1,5 +1,6 @@
 -- A warning with a stable path and whole ways is confirmed.
-use Rattle.std.proofs.Common.{◌≡◌, ℕ, ◌≤◌, Bool, true, false, List, [], ◌∷◌, Option, None, Some, IsSome, nat_lt, refl, ap, ◌∙◌, true≢false}
+use Rattle.std.proofs.Common.{◌≡◌, ℕ, ◌≤◌, Bool, true, false, List, [], ◌∷◌, Option, None, Some, IsSome, nat_lt, refl}
+use Rattle.std.proofs.Common.{arith, ◌∙◌, if◌then◌else◌}
 use Rattle.std.specs.Option.{option_and_then}
 use Rattle.racer_base.specs.declared.ids.Place.{Place}
 use Rattle.racer_base.specs.declared.limits.TheConstants.{MAX_WAY_STEPS}
@@ -45,10 +46,10 @@ in_either_order P false a b x y = x
 none_after : (core : Core) (leg : Leg) (legs : List Leg) (r : Ran) →
     ((to : State) → IsSome (run core legs to) → first_halt core legs to ≡ None) →
     IsSome (option_and_then (run core legs) (whole r)) →
-    (elim r [
+    ◌≡◌ {A = Option (ℕ × Option Place)} (elim r [
       | Came to left ↦ first_halt core legs to
       | Broke halt at steps ↦ Some (leg.thread, place at leg.thread)
-    ]) ≡ None
+    ]) None
 none_after core leg legs (Came to []) rest comes = rest to comes
 none_after core leg legs (Came to (turn ∷ turns)) rest comes = absurd comes
 none_after core leg legs (Broke halt at steps) rest comes = absurd comes
@@ -60,34 +61,34 @@ none_halts core (leg ∷ legs) s comes =
 
 by_run : (core : Core) (legs : List Leg) (s : State) → first_halt core legs s ≡ None →
     mark_by_run core legs s ≡ Confirmed (objects_of core legs s) legs
-by_run core legs s none = rw none refl
+by_run core legs s none = rw (mark_by_run, none) refl
 
 by_length : (core : Core) (w : Pair) → first_long (ways_in_order core w) ≡ None →
     mark_by_length core w ≡ mark_by_run core (legs_of core w) (begun core w.m1 w.m2 All)
-by_length core w none = rw none refl
+by_length core w none = rw (mark_by_length, none) refl
 
 by_calls : (core : Core) (w : Pair) → first_unread (ways_in_order core w) ≡ None →
     mark_by_calls core w ≡ mark_by_length core w
-by_calls core w none = rw none refl
+by_calls core w none = rw (mark_by_calls, none) refl
 
 by_path : (core : Core) (w : Pair) (p : Path) → IsStable core w.m1 w.m2 p → mark_of core w p ≡ mark_by_calls core w
 by_path core w p stable = rw (not_some p.root stable.root, stable.prefixes) refl
 
 confirmed : (core : Core) (w : Pair) (p : Path) → IsStable core w.m1 w.m2 p → IsWhole core w →
     mark_of core w p ≡ Confirmed (objects_of core (legs_of core w) (begun core w.m1 w.m2 All)) (legs_of core w)
-confirmed core w p stable whole =
+confirmed core w p stable ways =
     let a : Trip = way_of core w.m1 w.i in
     let b : Trip = way_of core w.m2 w.j in
     by_path core w p stable
     ∙ by_calls core w (in_either_order (λ ts. first_unread ts ≡ None) (is_locked core w.m1 w.i) a b
-    (none_unread a b whole.read_first whole.read_second) (none_unread b a whole.read_second whole.read_first))
+    (none_unread a b ways.read_first ways.read_second) (none_unread b a ways.read_second ways.read_first))
     ∙ by_length core w (in_either_order (λ ts. first_long ts ≡ None) (is_locked core w.m1 w.i) a b
-    (none_long a b whole.short_first whole.short_second) (none_long b a whole.short_second whole.short_first))
+    (none_long a b ways.short_first ways.short_second) (none_long b a ways.short_second ways.short_first))
     ∙ by_run core (legs_of core w) (begun core w.m1 w.m2 All)
-    (none_halts core (legs_of core w) (begun core w.m1 w.m2 All) whole.runs)
+    (none_halts core (legs_of core w) (begun core w.m1 w.m2 All) ways.runs)
 
 pub whole_confirmed : (core : Core) (w : Warning) (r : Access) → record_at core w.entry w.access ≡ Some r →
     IsStable core w.entry w.partner r.path → IsWhole core (pair_of w) →
     warning_mark core w ≡ Confirmed
     (objects_of core (legs_of core (pair_of w)) (begun core w.entry w.partner All)) (legs_of core (pair_of w))
-whole_confirmed core w r there stable whole = rw there (confirmed core (pair_of w) r.path stable whole)
+whole_confirmed core w r there stable ways = rw (warning_mark, there) (confirmed core (pair_of w) r.path stable ways)
