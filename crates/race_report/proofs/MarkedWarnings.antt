@@ -1,6 +1,6 @@
 -- Marks of warnings, one by one.
-use Rattle.std.proofs.Common.{◌≡◌, ℕ, ◌<◌, Bool, List, [], ◌∷◌, Option, None, Some, option_map, length, map, slice_get}
-use Rattle.std.proofs.Common.{sym, ap, refl, subst, ◌∙◌}
+use Rattle.std.proofs.Common.{◌≡◌, ℕ, ◌+◌, Bool, cond, List, [], ◌∷◌, Option, None, Some, option_map, length, map, slice_get}
+use Rattle.std.proofs.Common.{sym, ap, refl, ◌∙◌}
 use Rattle.std.specs.List.{count_by}
 use Rattle.std.proofs.lemmas.List.{length-map}
 use Rattle.std.proofs.lemmas.Option.{slice_get-map}
@@ -35,7 +35,10 @@ mark_there core found marks i w mark are there here =
 count_mapped : {X Y : Type 0} (f : X → Y) (p : Y → Bool) (xs : List X) →
     count_by (λ x. p (f x)) xs ≡ count_by p (map f xs)
 count_mapped f p [] = refl
-count_mapped f p (x ∷ xs) = rw (count_mapped f p xs) refl
+count_mapped f p (x ∷ xs) =
+    sum_by-cons (λ y. cond (p (f y)) 1 0) x xs
+    ∙ ap (λ (n : ℕ). cond (p (f x)) 1 0 + n) (count_mapped f p xs)
+    ∙ sym (sum_by-cons (λ y. cond (p y) 1 0) (f x) (map f xs))
 
 -- as many marks confirm as warnings are confirmed
 pub as_many : (core : Core) (found : List Warning) (marks : List Mark) →

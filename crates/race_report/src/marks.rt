@@ -108,10 +108,18 @@ fn is_confirmed(mark: &Mark) -> bool
 }
 
 /// How many of these marks are of confirmed warnings.
-fn confirmed(marks: &[Mark]) -> usize
+fn count_confirmed(marks: &[Mark]) -> usize
     ensures { result ≡ count_by (λ mark. said.is_confirmed (said_by mark)) marks.now }
 {
     marks.iter().filter(|mark| is_confirmed(mark)).count()
+}
+
+/// How many of these warnings with these marks are confirmed.
+fn confirmed(program: &Program, found: &[Warning], marks: &[Mark]) -> usize
+    requires { map said_by marks.now ≡ map (warning_mark (core program.now)) found.now }
+    ensures { result ≡ said.confirmed (core program.now) found.now }
+{
+    count_confirmed(marks)
 }
 
 /// `warnings N confirmed N`
@@ -126,7 +134,7 @@ pub(crate) fn push_last(
         ≡ string_bytes text.old ++ said.last_line (core program.now) found.now) }
 {
     let count = found.len();
-    let confirmed = confirmed(marks);
+    let confirmed = confirmed(program, found, marks);
     write!(text, "warnings {count} confirmed {confirmed}\n")?;
     Ok(())
 }
