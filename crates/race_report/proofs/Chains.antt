@@ -15,3 +15,8 @@ six old t1 t2 t3 t4 t5 t6 a b c d e f e1 e2 e3 e4 e5 e6 =
     ∙ ap (λ t. t ++ f) (e5
     ∙ ap (λ t. t ++ e) (e4 ∙ ap (λ t. t ++ d) (e3 ∙ ap (λ t. t ++ c) (e2 ∙ ap (λ t. t ++ b) e1))))
     ∙ simp append_assoc
+
+pub four : (old t1 t2 t3 t4 a b c d : List ℕ) → t1 ≡ old ++ a → t2 ≡ t1 ++ b → t3 ≡ t2 ++ c → t4 ≡ t3 ++ d →
+    t4 ≡ old ++ (a ++ b ++ c ++ d)
+four old t1 t2 t3 t4 a b c d e1 e2 e3 e4 =
+    e4 ∙ ap (λ t. t ++ d) (e3 ∙ ap (λ t. t ++ c) (e2 ∙ ap (λ t. t ++ b) e1)) ∙ simp append_assoc

@@ -3,4 +3,5 @@ pub mod PlainValues
 pub mod SummaryTold
 pub mod Digits
 pub mod Chains
+pub mod ReportLines
 pub mod MarkedWarnings

@@ -1,9 +1,10 @@
 -- Marks of warnings, one by one.
-use Rattle.std.proofs.Common.{◌≡◌, ℕ, ◌+◌, Bool, cond, List, [], ◌∷◌, Option, None, Some, option_map, length, map, slice_get}
+use Rattle.std.proofs.Common.{◌≡◌, ℕ, ◌+◌, ◌<◌, Bool, cond, get_or, List, [], ◌∷◌, Some, option_map, length, map, slice_get}
 use Rattle.std.proofs.Common.{sym, ap, refl, ◌∙◌}
 use Rattle.std.specs.List.{count_by}
 use Rattle.std.proofs.lemmas.List.{length-map}
-use Rattle.std.proofs.lemmas.Option.{slice_get-map}
+use Rattle.std.proofs.lemmas.List.Sums.{sum_by-cons}
+use Rattle.std.proofs.lemmas.Option.{slice_get-get_or, slice_get-map}
 use Rattle.core_code.specs.Core.{Core}
 use Rattle.race_pairs.specs.declared.warning.Warning.{Warning}
 use Rattle.core_ways.specs.declared.mark.Mark.{Mark}
@@ -20,7 +21,7 @@ as_long core found marks are =
     ∙ length-map found (warning_mark core)
 
 -- the mark of a number says what the mark of the warning of this number says
-pub mark_there : (core : Core) (found : List Warning) (marks : List Mark) (i : ℕ) (w : Warning) (mark : Mark) →
+mark_there : (core : Core) (found : List Warning) (marks : List Mark) (i : ℕ) (w : Warning) (mark : Mark) →
     map said_by marks ≡ map (warning_mark core) found → slice_get found i ≡ Some w → slice_get marks i ≡ Some mark →
     said_by mark ≡ warning_mark core w
 mark_there core found marks i w mark are there here =
@@ -31,6 +32,13 @@ mark_there core found marks i w mark are there here =
     ∙ slice_get-map (warning_mark core) found i
     ∙ ap (λ o. option_map (warning_mark core) o) there in
     cc
+
+-- the same of a warning that is read
+pub mark_read : (core : Core) (found : List Warning) (marks : List Mark) (i : ℕ) (none : Warning) (mark : Mark) →
+    map said_by marks ≡ map (warning_mark core) found → i < length found → slice_get marks i ≡ Some mark →
+    said_by mark ≡ warning_mark core (get_or found i none)
+mark_read core found marks i none mark are within here =
+    mark_there core found marks i (get_or found i none) mark are (slice_get-get_or found i none within) here
 
 count_mapped : {X Y : Type 0} (f : X → Y) (p : Y → Bool) (xs : List X) →
     count_by (λ x. p (f x)) xs ≡ count_by p (map f xs)

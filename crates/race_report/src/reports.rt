@@ -11,9 +11,7 @@ ghost use Rattle.race_report.specs.Modes as said;
 ghost use Rattle.race_report.specs.Report as lines;
 
 use crate::marks::push_last;
-use crate::text::{
-    push_counts, push_not_analysed, push_skipped, push_summaries, push_warnings,
-};
+use crate::text::{push_counts, push_not_analysed, push_skipped, push_summaries, push_warnings};
 use crate::{Mode, json};
 use access_domain::Outcome;
 use core_code::Program;

@@ -21,8 +21,8 @@ use core_ways::Mark;
 use owner_domain::Value as Returned;
 use racer_base::{Memory, Place};
 use report_parts::{
-    Side, Sides, Site, mark_word, place_at, push_access, push_method, push_path, push_place, push_value,
-    touch_text, wobbly_texts,
+    Side, Sides, Site, mark_word, place_at, push_access, push_method, push_path, push_place,
+    push_value, touch_text, wobbly_texts,
 };
 use serde_json::{Map, Value, put};
 use std::alloc::Global;
