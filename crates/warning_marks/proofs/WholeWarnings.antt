@@ -2,6 +2,7 @@
 use Rattle.std.proofs.Common.{◌≡◌, ℕ, ◌≤◌, Bool, true, false, List, [], ◌∷◌, Option, None, Some, IsSome, nat_lt, refl}
 use Rattle.std.proofs.Common.{arith, ◌∙◌, if◌then◌else◌}
 use Rattle.std.specs.Option.{option_and_then}
+use Rattle.std.proofs.lemmas.Bool.{false≢true}
 use Rattle.racer_base.specs.declared.ids.Place.{Place}
 use Rattle.racer_base.specs.declared.limits.TheConstants.{MAX_WAY_STEPS}
 use Rattle.access_paths.specs.declared.path.Path.{Path}
@@ -51,8 +52,8 @@ none_after : (core : Core) (leg : Leg) (legs : List Leg) (r : Ran) →
       | Broke halt at steps ↦ Some (leg.thread, place at leg.thread)
     ]) None
 none_after core leg legs (Came to []) rest comes = rest to comes
-none_after core leg legs (Came to (turn ∷ turns)) rest comes = absurd comes
-none_after core leg legs (Broke halt at steps) rest comes = absurd comes
+none_after core leg legs (Came to (turn ∷ turns)) rest comes = absurd (false≢true comes)
+none_after core leg legs (Broke halt at steps) rest comes = absurd (false≢true comes)
 
 none_halts : (core : Core) (legs : List Leg) (s : State) → IsSome (run core legs s) → first_halt core legs s ≡ None
 none_halts core [] s comes = refl
