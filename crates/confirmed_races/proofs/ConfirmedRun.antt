@@ -1,5 +1,6 @@
 -- The run of a confirmed warning races, where each way leads to the object of its record's path.
-use Rattle.std.proofs.Common.{◌≡◌, ℕ, Bool, true, false, cond, not, ◌&&◌, ◌||◌, List, [], ◌∷◌, Option, None, Some, refl, sym}
+use Rattle.std.proofs.Common.{◌≡◌, ℕ, Bool, true, false, cond, not, ◌&&◌, ◌||◌, List, [], ◌∷◌, Option, None, Some}
+use Rattle.std.proofs.Common.{refl, sym}
 use Rattle.std.proofs.Common.{ap, subst, ◌∙◌, slice_get, ◌⊎◌, inl, inr}
 use Rattle.std.specs.List.{Contains}
 use Rattle.racer_base.specs.declared.ids.MethodId.{MethodId}
@@ -36,7 +37,8 @@ use Rattle.witness_build.specs.Warned.{pair_of, warning_mark}
 use Rattle.confirmed_races.specs.Races.{RacesOn, Touches}
 use Rattle.confirmed_races.proofs.LegPairs.{AreOthers, LegLeads, TouchesAs, both-touch, unlocked-free}
 use Rattle.confirmed_races.proofs.MarkParts.{IsConfirmedBy, mark-parts}
-use Rattle.confirmed_races.proofs.WitnessRuns.{EndsFrom, LegsCome, LegsComeIn, both-race, legs-come, legs-come-in, two_legs}
+use Rattle.confirmed_races.proofs.WitnessRuns.{EndsFrom, LegsCome, LegsComeIn, both-race, legs-come, legs-come-in}
+use Rattle.confirmed_races.proofs.WitnessRuns.{two_legs}
 
 -- ---- both threads
 
@@ -172,8 +174,10 @@ entry-first core w a b f g objects legs ready unlocked are made is =
     (ap (λ (x : Thread). x.locks) other_entered))
     (λ to at. ready.ends w.partner g w.partner_access b to 1 ready.partner ready.of_partner (at.other ∙ other_entered)
     (unlocked-free core w.entry w.access a (given_to 0 f) s 0 to at unlocked)) made in
-    let finite = legs-come-in core w.entry w.partner 0 1 w.entry w.partner w.access w.partner_access a b f g objects is come in
-    let touch = both-touch core ready.Good 0 1 zero-one w.entry w.partner w.access w.partner_access a b f g s come.to come.end
+    let finite = legs-come-in core w.entry w.partner 0 1 w.entry w.partner w.access w.partner_access a b f g objects
+    is come in
+    let touch = both-touch core ready.Good 0 1 zero-one w.entry w.partner w.access w.partner_access a b f g s come.to
+    come.end
     ready.leads_entry ready.leads_partner ready.begins come.at_first come.at_second in
     let partner : TouchesAs come.end 1 a.path b.kind =
     subst (λ (p : Path). TouchesAs come.end 1 p b.kind) ready.conflict.path touch.1 in
@@ -203,12 +207,15 @@ partner-first core w a b f g objects legs ready unlocked are made is =
     let other_entered : thread_of s 0 ≡ at_entry 0 f = first-entered core w f ready.entry in
     let come : LegsCome core 1 0 w.partner w.entry w.partner_access w.access b a g f s =
     legs-come core 1 0 w.partner w.entry w.partner_access w.access b a g f s
-    (ready.ends w.partner g w.partner_access b s 1 ready.partner ready.of_partner (second-entered core w g ready.partner)
+    (ready.ends w.partner g w.partner_access b s 1 ready.partner ready.of_partner (second-entered core w g
+    ready.partner)
     (ap (λ (x : Thread). x.locks) other_entered))
     (λ to at. ready.ends w.entry f w.access a to 0 ready.entry ready.of_entry (at.other ∙ other_entered)
     (unlocked-free core w.partner w.partner_access b (given_to 1 g) s 1 to at unlocked)) made in
-    let finite = legs-come-in core w.entry w.partner 1 0 w.partner w.entry w.partner_access w.access b a g f objects is come in
-    let touch = both-touch core ready.Good 1 0 one-zero w.partner w.entry w.partner_access w.access b a g f s come.to come.end
+    let finite = legs-come-in core w.entry w.partner 1 0 w.partner w.entry w.partner_access w.access b a g f objects
+    is come in
+    let touch = both-touch core ready.Good 1 0 one-zero w.partner w.entry w.partner_access w.access b a g f s come.to
+    come.end
     ready.leads_partner ready.leads_entry ready.begins come.at_first come.at_second in
     let partner : TouchesAs come.end 1 a.path b.kind =
     subst (λ (p : Path). TouchesAs come.end 1 p b.kind) ready.conflict.path touch.0 in
@@ -242,7 +249,8 @@ by-order : (core : Core) (w : Warning) (a b : Access) (f g : Method) (objects : 
     first_halt core (legs_by core w locked) (full core w) ≡ None →
     objects ≡ objects_of core (legs_by core w locked) (full core w) → RacesOn core w objects legs a.path
 by-order core w a b f g objects legs true e ready are made is =
-    partner-first core w a b f g objects legs ready (unlocked-second a.locked b.locked e ready.conflict.locks) are made is
+    partner-first core w a b f g objects legs ready (unlocked-second a.locked b.locked e ready.conflict.locks) are
+    made is
 by-order core w a b f g objects legs false e ready are made is =
     entry-first core w a b f g objects legs ready e are made is
 
@@ -251,7 +259,8 @@ pub confirmed-race : (core : Core) (w : Warning) (a b : Access) (f g : Method) (
     RacesOn core w objects legs a.path
 confirmed-race core w a b f g objects legs ready by =
     let locked : Bool = is_locked core w.entry w.access in
-    by-order core w a b f g objects legs locked (sym (locked-is core w a ready.of_entry)) ready by.legs by.made by.objects
+    by-order core w a b f g objects legs locked (sym (locked-is core w a ready.of_entry)) ready by.legs by.made
+    by.objects
 
 -- ---- a confirmed warning
 

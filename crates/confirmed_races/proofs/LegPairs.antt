@@ -1,5 +1,6 @@
 -- Two legs, one after the other, in the heap of all start paths.
-use Rattle.std.proofs.Common.{◌≡◌, ℕ, zero, suc, ◌<◌, Bool, true, false, List, [], ◌∷◌, Option, None, Some, length, nat_lt}
+use Rattle.std.proofs.Common.{◌≡◌, ℕ, zero, suc, ◌<◌, Bool, true, false, List, [], ◌∷◌, Option, None, Some, length}
+use Rattle.std.proofs.Common.{nat_lt}
 use Rattle.std.proofs.Common.{refl, sym, ap, subst, ◌∙◌, slice_get, slice_index_or, arith}
 use Rattle.std.proofs.lemmas.Bool.{lt-ltb}
 use Rattle.std.specs.Option.{option_and_then}
@@ -21,7 +22,8 @@ use Rattle.core_semantics.specs.declared.object.Object.{Object}
 use Rattle.core_semantics.specs.declared.object.Object.TheVariants.{Start as StartOf}
 use Rattle.core_semantics.specs.declared.object.Value.{Value}
 use Rattle.core_semantics.specs.declared.object.Value.TheVariants.{Null, Object as Ref}
-use Rattle.core_semantics.specs.Runs.{Access as Touching, access_of, frame_touch, given_to, innermost, next_of, next_touch}
+use Rattle.core_semantics.specs.Runs.{Access as Touching, access_of, frame_touch, given_to, innermost, next_of}
+use Rattle.core_semantics.specs.Runs.{next_touch}
 use Rattle.core_semantics.specs.Runs.{op_touch, todo_touch}
 use Rattle.core_semantics.specs.State.{Frame, State, Store, Thread, Todo, Operate, other_of, thread_of}
 use Rattle.core_semantics.specs.Steps.{entered, slot_of, top as top_value}

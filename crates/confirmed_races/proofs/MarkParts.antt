@@ -11,7 +11,8 @@ use Rattle.core_semantics.specs.declared.object.StartPath.{StartPath}
 use Rattle.core_semantics.specs.Legs.{Leg, Ran, Came, Broke, runs}
 use Rattle.core_semantics.specs.Runs.{begun, place}
 use Rattle.core_semantics.specs.State.{State}
-use Rattle.core_ways.specs.Marks.{Pair, Said, Unnamed, Unstable, Unread, Long, Blocked, Confirmed, first_halt, first_long}
+use Rattle.core_ways.specs.Marks.{Pair, Said, Unnamed, Unstable, Unread, Long, Blocked, Confirmed, first_halt}
+use Rattle.core_ways.specs.Marks.{first_long}
 use Rattle.core_ways.specs.Marks.{first_unread, legs_of, mark_by_calls, mark_by_length, mark_by_run, mark_of}
 use Rattle.core_ways.specs.Marks.{objects_of, ways_in_order}
 use Rattle.core_ways.specs.Stable.{unstable_prefix}
@@ -42,7 +43,8 @@ RunParts core legs s objects given =
 run-parts : (core : Core) (legs given : List Leg) (s : State) (objects : List StartPath) →
     mark_by_run core legs s ≡ Confirmed objects given → RunParts core legs s objects given
 run-parts core legs given s objects is =
-    elim (first_halt core legs s) as (λ o. first_halt core legs s ≡ o → by_halt core legs s o ≡ Confirmed objects given →
+    elim (first_halt core legs s) as (λ o. first_halt core legs s ≡ o → by_halt core legs s o ≡ Confirmed objects
+    given →
     RunParts core legs s objects given) [
       | None ↦ λ e c. (e, cc, cc)
       | Some halted ↦ λ e c. absurd cc

@@ -1,5 +1,6 @@
 -- The run of a witness, in the heap of all start paths and in that of its objects.
-use Rattle.std.proofs.Common.{◌≡◌, ℕ, Bool, true, false, cond, ◌&&◌, ◌||◌, List, [], ◌∷◌, Option, None, Some, refl, sym, ap}
+use Rattle.std.proofs.Common.{◌≡◌, ℕ, Bool, true, false, cond, ◌&&◌, ◌||◌, List, [], ◌∷◌, Option, None, Some, refl}
+use Rattle.std.proofs.Common.{sym, ap}
 use Rattle.std.proofs.Common.{◌∙◌, subst, option_map, nat_eq}
 use Rattle.std.proofs.lemmas.Bool.{eq-eqb}
 use Rattle.std.specs.Option.{option_and_then}
@@ -42,14 +43,16 @@ meets o f g k l same write =
 pub both-race : (end : State) (p : Path) (k l : Touch) → (writes k || writes l) ≡ true → TouchesAs end 0 p k →
     TouchesAs end 1 p l → races end ≡ true
 both-race end p k l write one other =
-    let same : one.field ≡ other.field = let both : Some one.field ≡ Some other.field = sym one.last ∙ other.last in cc in
+    let same : one.field ≡ other.field = let both : Some one.field ≡ Some other.field = sym one.last ∙ other.last in
+    cc in
     (λ i. do_meet (one.is i) (other.is i))
     ∙ meets (start_of (base_path p)) one.field other.field k l same write
 
 -- ---- two legs, in the heap of all start paths
 
 -- where both legs come to, in running order
-pub record LegsCome (core : Core) (t u : ℕ) (m n : MethodId) (i j : ℕ) (a b : Access) (f g : Method) (s : State) : Type 0
+pub record LegsCome (core : Core) (t u : ℕ) (m n : MethodId) (i j : ℕ) (a b : Access) (f g : Method) (s : State) :
+    Type 0
   where
     pub to : State
     pub end : State
@@ -109,7 +112,8 @@ legs-come-in core m1 m2 t u m n i j a b f g objects is come =
     let reads_all : HasAll heap (reads_of_legs core legs s) = objects-read objects (reads_of_legs core legs s) is in
     let first_in : runs core t one.steps one.turns (state_in heap s) ≡ Came (state_in heap come.to) [] =
     runs-same core heap t one.steps one.turns s (λ p. refl)
-    (all-first heap (reads core t one.steps one.turns s) (reads_behind_first core u other (runs core t one.steps one.turns s))
+    (all-first heap (reads core t one.steps one.turns s) (reads_behind_first core u other (runs core t one.steps
+    one.turns s))
     reads_all)
     ∙ ap (ran_in heap) come.first in
     let whole_run : run core legs s ≡ Some come.end =
