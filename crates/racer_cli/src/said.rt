@@ -5,7 +5,6 @@ ghost use Rattle.core_code.specs.Program.{core};
 ghost use Rattle.access_domain.specs.Outcomes.{AreOutcomes};
 ghost use Rattle.folder_sources.specs.Finding.{CountsFaults, FailsByMemory};
 ghost use Rattle.folder_programs.specs.Programs.{Accepted, source_of};
-ghost use Rattle.confirmed_races.specs.Headline.{AreConfirmed};
 ghost use Rattle.racer_cli.specs.Said.{said_from, HasHeadline, Says};
 ghost use Rattle.racer_cli.specs.Causes.{asked_of, AsksFor, IsDue, is_said};
 
@@ -44,9 +43,7 @@ fn said_of(
     requires { AreOutcomes (core program.now) outcomes.now.items }
     ensures status { IfOk result (λ said. is_said said.status ≡ true) }
     ensures said { IfOk result (λ said. said ≡ said_from mode (Accepted (core program.now))) }
-    ensures headline { IfOk result (λ said. AreConfirmed (core program.now)) }
 {
-    whole_warnings_race();
     let found = warnings(alloc, program, outcomes)?;
     let marks = marks_of(alloc, program, outcomes, found.as_slice())?;
     let text = report_text(
@@ -72,7 +69,6 @@ fn said_of(
 fn reported(alloc: Global, mode: Mode, program: Program) -> Result<Said, Memory>
     ensures status { IfOk result (λ said. is_said said.status ≡ true) }
     ensures said { IfOk result (λ said. said ≡ said_from mode (Accepted (core program))) }
-    ensures headline { IfOk result (λ said. AreConfirmed (core program)) }
 {
     let program = Arc::new(alloc, program)?;
     let outcomes = outcomes(alloc, &program)?;
@@ -83,8 +79,9 @@ fn reported(alloc: Global, mode: Mode, program: Program) -> Result<Said, Memory>
 fn said_of_found(alloc: Global, mode: Mode, found: FoundProgram) -> Result<Said, Memory>
     ensures status { IfOk result (λ said. is_said said.status ≡ true) }
     ensures said { IfOk result (λ said. said ≡ said_from mode (source_of found)) }
-    ensures headline { IfOk result (λ said. HasHeadline (source_of found)) }
+    ensures headline { HasHeadline (source_of found) }
 {
+    whole_warnings_race();
     match found {
         FoundProgram::Accepted(program) => reported(alloc, mode, program),
         FoundProgram::Refused(text) => Ok(Said {

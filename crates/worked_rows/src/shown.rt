@@ -51,14 +51,15 @@ fn put_row(alloc: Global, out: &mut String, shows: Shows, row: &[u8]) -> Result<
 
 /// Each row, and its number before it.
 fn put_rows(alloc: Global, out: &mut String, shows: Shows, bytes: &[u8]) -> Result<(), AllocError> {
-    let mut rest = bytes;
-    let mut number: usize = 1;
-    while let Some(at) = rest.iter().position(|byte| *byte == SEPARATOR) {
-        let (row, behind) = rest.split_at(at);
-        write!(out, "{number}\n")?;
-        put_row(alloc, out, shows, row)?;
-        rest = behind.get(1..).unwrap_or(&[]);
-        number = number.saturating_add(1);
+    let mut begin: usize = 0;
+    let mut number: usize = 0;
+    for (end, byte) in bytes.iter().enumerate() {
+        if *byte == SEPARATOR {
+            number = number.saturating_add(1);
+            write!(out, "{number}\n")?;
+            put_row(alloc, out, shows, bytes.get(begin..end).unwrap_or(&[]))?;
+            begin = end.saturating_add(1);
+        }
     }
     Ok(())
 }
