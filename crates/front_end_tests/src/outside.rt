@@ -1,8 +1,5 @@
-//! The forms of the outside and the small types, as callers see them.
-use racer_base::{
-    DirFolder, Failed, Folder, FolderFault, Items, Memory, MemoryFolder, MemorySink, Sink, StdSink,
-    Text,
-};
+//! The forms of the outside, as callers see them.
+use racer_base::{DirFolder, Failed, Folder, FolderFault, MemoryFolder, MemorySink, Sink, StdSink};
 use std::alloc::{AllocError, Global};
 use std::fmt::Display;
 use std::os::unix::fs::symlink;
@@ -288,44 +285,5 @@ fn sink_in_memory(rt: HostRuntime) -> Result<(), Fail> {
     let mut sink = MemorySink::new(rt.alloc(), 20, 16, Vec::new(rt.alloc()))?;
     assert!(rt; writes_that_hold(&mut sink) == 3);
     assert!(rt; sink.taken() == b"racer report 1\nracer".as_slice());
-    Ok(())
-}
-
-fn two_numbers(alloc: Global) -> Result<Items<u32>, Memory> {
-    let mut list = Items::new(alloc);
-    list.push(7)?;
-    list.push(5)?;
-    Ok(list)
-}
-
-#[test]
-fn lists(rt: HostRuntime) -> Result<(), Fail> {
-    let list = two_numbers(rt.alloc())?;
-    assert!(rt; !list.is_empty() && list.as_slice() == [7, 5].as_slice());
-    assert!(rt; list.into_vec().as_slice() == [7, 5].as_slice());
-    Ok(())
-}
-
-/// Whether two texts of these bytes, and a copy of one of them, are equal and have the bytes.
-fn are_equal(alloc: Global, bytes: &str) -> Result<bool, Fail> {
-    let text = Text::from_str(alloc, bytes)?;
-    let made = Text::from(String::from_str(alloc, bytes)?);
-    Ok(text == made && made.as_str() == bytes && text.clone()?.as_str() == bytes)
-}
-
-/// Whether a text of these bytes, made in each of two ways, gives them back.
-fn are_given_back(alloc: Global, bytes: &str) -> Result<bool, Fail> {
-    let copied = Text::from_str(alloc, bytes)?.into_string(alloc)?;
-    let moved = Text::from(String::from_str(alloc, bytes)?).into_string(alloc)?;
-    Ok(copied.as_str() == bytes && moved.as_str() == bytes)
-}
-
-const TEXTS: &[&str] = &["", "racer", "sixteen bytes ..", "seventeen bytes .."];
-
-#[test]
-fn texts(rt: HostRuntime) -> Result<(), Fail> {
-    for text in TEXTS {
-        assert!(rt; are_equal(rt.alloc(), text)? && are_given_back(rt.alloc(), text)?);
-    }
     Ok(())
 }

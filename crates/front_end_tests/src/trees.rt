@@ -32,18 +32,27 @@ fn empty_method(alloc: Global, column: u32) -> Result<MethodTree, Memory>
     })
 }
 
+/// Whether the tree spells the tokens of this text.
+fn spells(alloc: Global, tree: &MethodTree, text: &[u8]) -> Result<bool, Fail> {
+    let spelled = spell(alloc, tree)?;
+    let lexed = lex(alloc, FileId(0), text)?;
+    let mut words = spelled.iter();
+    for token in lexed.tokens.as_slice() {
+        let Some(word) = words.next() else {
+            return Ok(false);
+        };
+        if word.text != token.text || word.kind != token.kind || word.glued != token.glued {
+            return Ok(false);
+        }
+    }
+    Ok(words.next().is_none())
+}
+
 #[test]
 fn a_method_spells_the_tokens_of_its_text(rt: HostRuntime) -> Result<(), Fail> {
     let alloc = rt.alloc();
     let tree = empty_method(alloc, 6)?;
-    let spelled = spell(alloc, &tree)?;
-    let lexed = lex(alloc, FileId(0), b"void m() { }")?;
-    assert_eq!(rt; spelled.len(), lexed.tokens.len());
-    for (word, token) in spelled.iter().zip(lexed.tokens.as_slice()) {
-        assert_eq!(rt; word.kind, token.kind);
-        assert_eq!(rt; word.text.as_str(), token.text.as_str());
-        assert_eq!(rt; word.glued, token.glued);
-    }
+    assert!(rt; spells(alloc, &tree, b"void m() { }")?);
     assert!(rt; spell_the_same(alloc, &tree, &empty_method(alloc, 7)?)?);
     Ok(())
 }
