@@ -1,4 +1,4 @@
--- No public contract rests on this: runs of the machine, leg by leg.
+-- A contract of a public call rests on this: runs of the machine, leg by leg.
 use Rattle.std.specs.Prelude.{ℕ, zero, suc, List, [], ◌∷◌, Option, None, Some, if◌then◌else◌}
 use Rattle.std.specs.Option.{option_and_then}
 use Rattle.core_code.specs.Core.{Core}

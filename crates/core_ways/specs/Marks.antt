@@ -1,5 +1,5 @@
--- No public contract rests on this: when two ways are whole, and the mark of a warning. A warning is named by its two
--- entries and the numbers of their records.
+-- A contract of a public call rests on this: when two ways are whole, and the mark of a warning. A warning is named by
+-- its two entries and the numbers of their records.
 use Rattle.std.specs.Prelude.{◌≡◌, ℕ, zero, suc, ◌≤◌, Bool, false, List, [], ◌∷◌, ◌++◌, Option, None, Some}
 use Rattle.std.specs.Prelude.{IsSome, nat_lt, unwrap_or, if◌then◌else◌}
 use Rattle.racer_base.specs.declared.ids.MethodId.{MethodId}

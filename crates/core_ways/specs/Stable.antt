@@ -1,5 +1,5 @@
--- No public contract rests on this: when a path names the same object all through two runs. This condition is this
--- project's own.
+-- A contract of a public call rests on this: when a path names the same object all through two runs. This condition
+-- is this project's own.
 use Rattle.std.specs.Prelude.{◌≡◌, ℕ, zero, suc, Bool, true, false, ◌||◌, List, [], ◌∷◌, Option, None, Some, length}
 use Rattle.std.specs.Prelude.{map}
 use Rattle.std.specs.List.{list_any, find}

@@ -46,27 +46,27 @@ pub for-around : {T E : Type 0} (r : Result T E) (a c d : Around) (n : ℕ) (i :
     OnOk r (d ≡ after a (For i e updates s))
 for-around r a c d n i e updates s k p = left-then r a (after (started a i) s) c d n k p (inside-for a i s)
 
-pub for-code : {T E : Type 0} (r : Result T E) (a b c : Around) (d0 d1 d2 d3 d4 : Code) (n m : ℕ) (i : Start)
+pub for-code : {T E : Type 0} (r : Result T E) (a b c : Around) (code_a code_b code_c code_d code_e : Code) (n m : ℕ) (i : Start)
     (e : Option Expr) (updates : Exprs) (s : Stmt) →
-    n ≡ length a.scope.variables → b ≡ started a i → d1 ≡ d0 ++ entered_for a i e → m ≡ length d1 →
-    c ≡ after b s → d2 ≡ d1 ++ stmt b s → d3 ≡ repeated_from m (d2 ++ turned c e updates) →
-    OnOk r (d4 ≡ d3 ++ closed_from n c) → OnOk r (d4 ≡ d0 ++ stmt a (For i e updates s))
-for-code r a b c d0 d1 d2 d3 d4 n m i e updates s k p q l u v w =
+    n ≡ length a.scope.variables → b ≡ started a i → code_b ≡ code_a ++ entered_for a i e → m ≡ length code_b →
+    c ≡ after b s → code_c ≡ code_b ++ stmt b s → code_d ≡ repeated_from m (code_c ++ turned c e updates) →
+    OnOk r (code_e ≡ code_d ++ closed_from n c) → OnOk r (code_e ≡ code_a ++ stmt a (For i e updates s))
+for-code r a b c code_a code_b code_c code_d code_e n m i e updates s k p q l u v w =
     let inside = started a i in
     let behind = after inside s in
     let last : c ≡ behind = u ∙ ap (λ x. after x s) p in
     let body : Code = stmt inside s in
     let rest = turned behind e updates in
-    let parts : d3 ≡ d0 ++ (entered_for a i e ++ repeated (body ++ rest)) =
-    w ∙ ap (λ x. repeated_from x (d2 ++ turned c e updates)) l
-    ∙ ap (λ x. repeated_from (length d1) (d2 ++ turned x e updates)) last
-    ∙ gathered repeated d0 d1 (d2 ++ rest) (entered_for a i e) (body ++ rest) q
-    (two_pieces d1 d2 (d2 ++ rest) body rest (v ∙ ap (λ x. d1 ++ stmt x s) p) refl) in
-    let grouped : d3 ≡ d0 ++ (entered_for a i e ++ repeated (body ++ run_all behind updates ++ run_some behind e)) =
+    let parts : code_d ≡ code_a ++ (entered_for a i e ++ repeated (body ++ rest)) =
+    w ∙ ap (λ x. repeated_from x (code_c ++ turned c e updates)) l
+    ∙ ap (λ x. repeated_from (length code_b) (code_c ++ turned x e updates)) last
+    ∙ gathered repeated code_a code_b (code_c ++ rest) (entered_for a i e) (body ++ rest) q
+    (two_pieces code_b code_c (code_c ++ rest) body rest (v ∙ ap (λ x. code_b ++ stmt x s) p) refl) in
+    let grouped : code_d ≡ code_a ++ (entered_for a i e ++ repeated (body ++ run_all behind updates ++ run_some behind e)) =
     parts
-    ∙ ap (λ x. d0 ++ (entered_for a i e ++ repeated x))
+    ∙ ap (λ x. code_a ++ (entered_for a i e ++ repeated x))
     (sym (append_assoc body (run_all behind updates) (run_some behind e))) in
-    closed-then r a behind c d0 d3 d4
+    closed-then r a behind c code_a code_d code_e
     (entered_for a i e ++ repeated (body ++ run_all behind updates ++ run_some behind e)) n k last
     (inside-for a i s) grouped
 
@@ -85,22 +85,22 @@ pub each-around : {T E : Type 0} (r : Result T E) (a c d : Around) (n : ℕ) (t 
 each-around r a c d n t x e s k p =
     left-then r a (after (declared a (type_kind a t) x) s) c d n k p (inside-each a t x s)
 
-pub each-code : {T E : Type 0} (r : Result T E) (a b c : Around) (d0 d1 d2 d3 d4 d5 : Code) (n m : ℕ) (v : VarId)
+pub each-code : {T E : Type 0} (r : Result T E) (a b c : Around) (code_a code_b code_c code_d code_e code_f : Code) (n m : ℕ) (v : VarId)
     (t : Ty) (x : Ident) (e : Expr) (s : Stmt) →
-    n ≡ length a.scope.variables → d1 ≡ d0 ++ run a e → m ≡ length d1 → v ≡ next_variable a →
-    b ≡ declared a (type_kind a t) x → d2 ≡ d1 ++ next_element b v → c ≡ after b s → d3 ≡ d2 ++ stmt b s →
-    d4 ≡ take m d3 ++ repeated (drop m d3) → OnOk r (d5 ≡ d4 ++ closed_from n c) →
-    OnOk r (d5 ≡ d0 ++ stmt a (ForEach t x e s))
-each-code r a b c d0 d1 d2 d3 d4 d5 n m v t x e s k q l h p u w z y =
+    n ≡ length a.scope.variables → code_b ≡ code_a ++ run a e → m ≡ length code_b → v ≡ next_variable a →
+    b ≡ declared a (type_kind a t) x → code_c ≡ code_b ++ next_element b v → c ≡ after b s → code_d ≡ code_c ++ stmt b s →
+    code_e ≡ take m code_d ++ repeated (drop m code_d) → OnOk r (code_f ≡ code_e ++ closed_from n c) →
+    OnOk r (code_f ≡ code_a ++ stmt a (ForEach t x e s))
+each-code r a b c code_a code_b code_c code_d code_e code_f n m v t x e s k q l h p u w z y =
     let inside = declared a (type_kind a t) x in
     let behind = after inside s in
     let last : c ≡ behind = w ∙ ap (λ i. after i s) p in
     let next = next_element inside (next_variable a) in
     let body : Code = stmt inside s in
-    let second : d2 ≡ d1 ++ next =
-    u ∙ ap (λ i. d1 ++ next_element i v) p ∙ ap (λ i. d1 ++ next_element inside i) h in
-    let third : d3 ≡ d2 ++ body = z ∙ ap (λ i. d2 ++ stmt i s) p in
-    let parts : d4 ≡ d0 ++ (run a e ++ repeated (next ++ body)) =
-    y ∙ ap (λ i. take i d3 ++ repeated (drop i d3)) l
-    ∙ gathered repeated d0 d1 d3 (run a e) (next ++ body) q (two_pieces d1 d2 d3 next body second third) in
-    closed-then r a behind c d0 d4 d5 (run a e ++ repeated (next ++ body)) n k last (inside-each a t x s) parts
+    let second : code_c ≡ code_b ++ next =
+    u ∙ ap (λ i. code_b ++ next_element i v) p ∙ ap (λ i. code_b ++ next_element inside i) h in
+    let third : code_d ≡ code_c ++ body = z ∙ ap (λ i. code_c ++ stmt i s) p in
+    let parts : code_e ≡ code_a ++ (run a e ++ repeated (next ++ body)) =
+    y ∙ ap (λ i. take i code_d ++ repeated (drop i code_d)) l
+    ∙ gathered repeated code_a code_b code_d (run a e) (next ++ body) q (two_pieces code_b code_c code_d next body second third) in
+    closed-then r a behind c code_a code_e code_f (run a e ++ repeated (next ++ body)) n k last (inside-each a t x s) parts

@@ -37,18 +37,18 @@ inside-block : (a : Around) (m : MethodTree) → Inside a (block_end a (body_of 
 inside-block a m = inside-back a (after_all a (body_of m)) (inside-after_all a (body_of m))
 
 -- a tree, its fields lowered where no variable is in scope
-pub tree-code : {T E : Type 0} (r : Result T E) (a b bare : Around) (d0 d1 d2 : Code) (members : List Member)
+pub tree-code : {T E : Type 0} (r : Result T E) (a b bare : Around) (code_a code_b code_c : Code) (members : List Member)
     (m : MethodTree) →
-    bare ≡ left_at 0 a → d0 ≡ [] → b ≡ block_end a (body_of m) →
-    d1 ≡ d0 ++ (fields_first bare members m ++ body_code a m) → OnOk r (d2 ≡ ended b d1) →
-    OnOk r (d2 ≡ ended a (spelled_code a members m))
-tree-code r a b bare d0 d1 d2 members m p q u v =
-    let whole : d1 ≡ spelled_code a members m =
+    bare ≡ left_at 0 a → code_a ≡ [] → b ≡ block_end a (body_of m) →
+    code_b ≡ code_a ++ (fields_first bare members m ++ body_code a m) → OnOk r (code_c ≡ ended b code_b) →
+    OnOk r (code_c ≡ ended a (spelled_code a members m))
+tree-code r a b bare code_a code_b code_c members m p q u v =
+    let whole : code_b ≡ spelled_code a members m =
     v ∙ ap (λ x. x ++ (fields_first bare members m ++ body_code a m)) q
     ∙ ap (λ x. fields_first x members m ++ body_code a m) p
     ∙ cond-front (is_constructor m.result) (fields_begun a members) (body_code a m) in
     on_ok_weaker r
-    (λ e. e ∙ ap (λ x. ended x d1) u ∙ ended-there a (block_end a (body_of m)) d1 (inside-block a m)
+    (λ e. e ∙ ap (λ x. ended x code_b) u ∙ ended-there a (block_end a (body_of m)) code_b (inside-block a m)
     ∙ ap (ended a) whole)
 
 pub spelled-code : (f : Folder) (s : Source) (m : MethodTree) (b : Around) (d : Code) (t : Tree) →
@@ -61,10 +61,10 @@ spelled-code f s m b d t p q u =
     ∙ ended-there (entered f s) behind (spelled_code behind s.members m)
     (inside-parameters (entered f s) m.parameters))
 
-pub default-code : (f : Folder) (s : Source) (a : Around) (d0 d1 d2 : Code) (t : Tree) →
-    a ≡ entered f s → d0 ≡ [] → d1 ≡ d0 ++ flat_map (member_begun a) s.members → d2 ≡ ended a d1 →
-    t ≡ numbered 0 (in_sequence d2) → t ≡ numbered 0 (in_sequence (code_in (entered f s) s Default))
-default-code f s a d0 d1 d2 t p q u v w =
-    let fields : d1 ≡ fields_begun (entered f s) s.members =
+pub default-code : (f : Folder) (s : Source) (a : Around) (code_a code_b code_c : Code) (t : Tree) →
+    a ≡ entered f s → code_a ≡ [] → code_b ≡ code_a ++ flat_map (member_begun a) s.members → code_c ≡ ended a code_b →
+    t ≡ numbered 0 (in_sequence code_c) → t ≡ numbered 0 (in_sequence (code_in (entered f s) s Default))
+default-code f s a code_a code_b code_c t p q u v w =
+    let fields : code_b ≡ fields_begun (entered f s) s.members =
     u ∙ ap (λ x. x ++ flat_map (member_begun a) s.members) q ∙ ap (λ x. flat_map (member_begun x) s.members) p in
-    w ∙ ap (λ x. numbered 0 (in_sequence x)) (v ∙ ap (λ x. ended x d1) p ∙ ap (ended (entered f s)) fields)
+    w ∙ ap (λ x. numbered 0 (in_sequence x)) (v ∙ ap (λ x. ended x code_b) p ∙ ap (ended (entered f s)) fields)

@@ -1,4 +1,4 @@
--- No public contract rests on this: the access at the end of a leg is that of its record.
+-- A contract of a public call rests on this: the access at the end of a leg is that of its record.
 use Rattle.std.specs.Prelude.{◌≡◌, ℕ, false, Some, IsTrue, slice_index_or}
 use Rattle.racer_base.specs.declared.ids.FieldId.{FieldId}
 use Rattle.racer_base.specs.declared.ids.Touch.{Touch}

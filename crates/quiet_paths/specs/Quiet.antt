@@ -1,4 +1,4 @@
--- No public contract rests on this: paths that name one object all through the two legs of a warning.
+-- A contract of a public call rests on this: paths that name one object all through the two legs of a warning.
 use Rattle.std.specs.Prelude.{◌≡◌, ℕ, ◌≤◌, Bool, true, false, Some, length}
 use Rattle.std.specs.Prelude.{IsTrue}
 use Rattle.std.specs.List.{list_all}
