@@ -3,3 +3,7 @@ pub mod OneCut
 pub mod Appended
 pub mod OneDivision
 mod NoTrees
+pub mod ItemLetters
+pub mod Fronts
+pub mod OneDeclaration
+pub mod WalkedFiles
