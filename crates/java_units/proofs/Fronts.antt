@@ -1,10 +1,10 @@
 -- What stands behind annotations and words, item by item.
-use Rattle.std.proofs.Common.{◌≡◌, ℕ, zero, suc, Bool, true, false, cond, ◌&&◌, List, [], ◌∷◌, refl, ap, sym, ◌∙◌}
+use Rattle.std.proofs.Common.{◌≡◌, ℕ, suc, Bool, true, false, ◌&&◌, List, [], ◌∷◌, refl, ap, ◌∙◌}
 use Rattle.std.proofs.Common.{codes, arith}
 use Rattle.std.specs.Prelude.{◌==◌, if◌then◌else◌}
 use Rattle.java_lexer.specs.declared.token.Token.{Token}
 use Rattle.java_units.specs.Tokens.{is_name, begins, signed}
-use Rattle.java_units.specs.Cuts.{onto_first, with_cut, joined}
+use Rattle.java_units.specs.Cuts.{onto_first, with_cut}
 use Rattle.java_units.specs.Pieces.{Item, more_of_annotation, cut_pieces}
 use Rattle.java_units.specs.Declarations.{leads, behind_front}
 use Rattle.java_units.proofs.Joined.{joined_cut_pieces}

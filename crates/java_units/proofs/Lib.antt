@@ -7,3 +7,5 @@ pub mod ItemLetters
 pub mod Fronts
 pub mod OneDeclaration
 pub mod WalkedFiles
+pub mod Misfits
+mod UnfitRows

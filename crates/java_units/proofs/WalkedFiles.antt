@@ -1,19 +1,19 @@
 -- The walk over the items of a file gives the declarations of the file, or stops at what does not fit.
-use Rattle.std.proofs.Common.{◌≡◌, ◌⊎◌, inl, inr, Bool, true, false, not, ◌&&◌, List, [], ◌∷◌, ◌++◌, Option, Some, None}
-use Rattle.std.proofs.Common.{Result, Ok, Err, filter, refl, ap, sym, subst, ◌∙◌, codes, append_assoc}
+use Rattle.std.proofs.Common.{◌≡◌, Bool, true, false, not, ◌&&◌, List, [], ◌∷◌, ◌++◌, Option, Some, None}
+use Rattle.std.proofs.Common.{Result, Ok, Err, filter, refl, ap, sym, subst, ◌∙◌, codes}
 use Rattle.std.specs.Prelude.{if◌then◌else◌, option_map}
 use Rattle.std.specs.List.{list_all}
 use Rattle.std.proofs.lemmas.Bool.{true≢false, and_parts}
-use Rattle.java_tree.specs.Words.{keyword, identifier, sign}
-use Rattle.java_units.specs.Cuts.{with_cut, onto_first, joined}
-use Rattle.java_units.specs.Pieces.{Item}
-use Rattle.java_units.specs.UnitExamples.{placed}
-use Rattle.java_units.specs.Declarations.{is_semicolon, is_package, is_import, is_type, behind_one, behind_all, is_file}
-use Rattle.java_units.specs.Declarations.{AreDeclarations, CanBegin, GoesOn, IsMisfit}
-use Rattle.java_units.specs.DeclarationWalk.{Seen, Whole, Modifiers, AtSign, AnnotationName, AnnotationPoint, TypeWord}
-use Rattle.java_units.specs.DeclarationWalk.{TypeName, Directive, seen_with, is_whole, and_before, declarations}
+use Rattle.java_units.specs.Tokens.{signed, worded}
+use Rattle.java_units.specs.Cuts.{onto_first, joined, ends}
+use Rattle.java_units.specs.Pieces.{Item, cut_pieces}
+use Rattle.java_units.specs.Declarations.{is_type_modifier, leads, ends_first, behind_front, names_type, is_semicolon}
+use Rattle.java_units.specs.Declarations.{is_package, is_import, is_type, behind_one, behind_all, is_file}
+use Rattle.java_units.specs.Declarations.{AreDeclarations}
+use Rattle.java_units.specs.DeclarationWalk.{Seen, Whole, seen_with, is_whole, and_before, declarations}
+use Rattle.java_units.proofs.ItemLetters.{Letter, Semicolon, Reads, reads}
 use Rattle.java_units.proofs.OneCut.{joined_declarations}
-use Rattle.java_units.proofs.OneDeclaration.{ended, run, go, run_is, tested, run_is_tested}
+use Rattle.java_units.proofs.OneDeclaration.{ended, run, go, run_is, run_is_tested}
 
 abbrev Declared : Type 0
 Declared = Result (List (List Item)) (List Item)
@@ -180,10 +180,158 @@ abbrev fit_behind : Option Stage → List (List Item) → Bool
 fit_behind None ds = false
 fit_behind (Some s) ds = fits s ds
 
-types_with : (d : List Item) (ds : List (List Item)) (a b : Bool)
-    → (if a then fits Types ds else (b && fits Types ds)) ≡ fit_behind (next_stage Types a false false b) ds
-types_with d ds a b = ?
+abbrev kept_behind : (lone : Bool) → List Item → List (List Item) → List (List Item)
+kept_behind lone d ds = if not lone then d ∷ some_of ds else some_of ds
 
-fits_next : (s : Stage) (d : List Item) (ds : List (List Item)) → fits s (d ∷ ds)
-    ≡ fit_behind (stage_behind s d) ds
-fits_next s d ds = ?
+types_by : (d : List Item) (ds : List (List Item)) (a b c e : Bool) → is_type d ≡ e
+    → list_all is_type (kept_behind a d ds) ≡ fit_behind (next_stage Types a b c e) ds
+types_by d ds true b c e h = refl
+types_by d ds false b c true h = ap (λ x. x && list_all is_type (some_of ds)) h
+types_by d ds false b c false h = ap (λ x. x && list_all is_type (some_of ds)) h
+
+imports_by : (d : List Item) (ds : List (List Item)) (a b c e : Bool) → is_import d ≡ b → is_type d ≡ e
+    → list_all is_type (behind_all is_import (kept_behind a d ds)) ≡ fit_behind (next_stage Imports a b c e) ds
+imports_by d ds true b c e g h = refl
+imports_by d ds false true c e g h =
+    ap (λ x. list_all is_type (if x then behind_all is_import (some_of ds) else d ∷ some_of ds)) g
+imports_by d ds false false c true g h =
+    ap (λ x. list_all is_type (if x then behind_all is_import (some_of ds) else d ∷ some_of ds)) g
+    ∙ types_by d ds false false c true h
+imports_by d ds false false c false g h =
+    ap (λ x. list_all is_type (if x then behind_all is_import (some_of ds) else d ∷ some_of ds)) g
+    ∙ types_by d ds false false c false h
+
+first_by_kind : (d : List Item) (ds : List (List Item)) (a b c e : Bool) → is_import d ≡ b → is_package d ≡ c
+    → is_type d ≡ e → list_all is_type (behind_all is_import (behind_one is_package (kept_behind a d ds)))
+    ≡ fit_behind (next_stage First a b c e) ds
+first_by_kind d ds true b c e g p h = refl
+first_by_kind d ds false true true e g p h =
+    ap (λ x. list_all is_type (behind_all is_import (if x then some_of ds else d ∷ some_of ds))) p
+first_by_kind d ds false false true e g p h =
+    ap (λ x. list_all is_type (behind_all is_import (if x then some_of ds else d ∷ some_of ds))) p
+first_by_kind d ds false true false e g p h =
+    ap (λ x. list_all is_type (behind_all is_import (if x then some_of ds else d ∷ some_of ds))) p
+    ∙ imports_by d ds false true false e g h
+first_by_kind d ds false false false true g p h =
+    ap (λ x. list_all is_type (behind_all is_import (if x then some_of ds else d ∷ some_of ds))) p
+    ∙ imports_by d ds false false false true g h
+first_by_kind d ds false false false false g p h =
+    ap (λ x. list_all is_type (behind_all is_import (if x then some_of ds else d ∷ some_of ds))) p
+    ∙ imports_by d ds false false false false g h
+
+fits_next : (s : Stage) (d : List Item) (ds : List (List Item)) → fits s (d ∷ ds) ≡ fit_behind (stage_behind s d) ds
+fits_next First d ds =
+    first_by_kind d ds (is_semicolon d) (is_import d) (is_package d) (is_type d) refl refl refl
+fits_next Imports d ds =
+    imports_by d ds (is_semicolon d) (is_import d) (is_package d) (is_type d) refl refl
+fits_next Types d ds = types_by d ds (is_semicolon d) (is_import d) (is_package d) (is_type d) refl
+
+fit_runs_by : (s : Stage) (d : List Item) (ds : List (List Item)) (o : Option Stage) → stage_behind s d ≡ o
+    → fit_behind o ds ≡ true → ((t : Stage) → fits t ds ≡ true → Runs (seen_at t) ds) → Runs (seen_at s) (d ∷ ds)
+fit_runs_by s d ds None n h all = absurd (true≢false (sym h))
+fit_runs_by s d ds (Some t) n h all = (seen_at t, run_at s d ∙ ap (option_map seen_at) n, all t h)
+
+fit_runs : (ds : List (List Item)) (s : Stage) → fits s ds ≡ true → Runs (seen_at s) ds
+fit_runs [] First h = refl
+fit_runs [] Imports h = refl
+fit_runs [] Types h = refl
+fit_runs (d ∷ ds) s h =
+    fit_runs_by s d ds (stage_behind s d) refl (sym (fits_next s d ds) ∙ h) (λ t k. fit_runs ds t k)
+
+runs_fit_by : (s : Stage) (d : List Item) (ds : List (List Item)) (o : Option Stage) (m : Seen)
+    → option_map seen_at o ≡ Some m → Runs m ds → ((t : Stage) → Runs (seen_at t) ds → fits t ds ≡ true)
+    → fit_behind o ds ≡ true
+runs_fit_by s d ds None m e h all = absurd cc
+runs_fit_by s d ds (Some t) m e h all =
+    let same : m ≡ seen_at t = cc in all t (subst (λ m. Runs m ds) same h)
+
+runs_fit : (ds : List (List Item)) (s : Stage) → Runs (seen_at s) ds → fits s ds ≡ true
+runs_fit [] First h = refl
+runs_fit [] Imports h = refl
+runs_fit [] Types h = refl
+runs_fit (d ∷ ds) s h =
+    fits_next s d ds
+    ∙ runs_fit_by s d ds (stage_behind s d) h.0 (sym (run_at s d) ∙ h.1) h.2 (λ t k. runs_fit ds t k)
+
+-- the walk gives the declarations of a file, and those of each file
+pub walk_is_file : (is : List Item) (ds : List (List Item)) → declarations (Whole true true) is ≡ Ok ds
+    → AreDeclarations is ds
+walk_is_file is ds e = record {
+  together = joined_declarations (Whole true true) is ds e;
+  file = runs_fit ds First (walk_runs is (Whole true true) ds e);
+}
+
+pub file_is_walk : (is : List Item) (ds : List (List Item)) → AreDeclarations is ds
+    → declarations (Whole true true) is ≡ Ok ds
+file_is_walk is ds h =
+    ap (declarations (Whole true true)) (sym h.together)
+    ∙ runs_cut ds (Whole true true) (fit_runs ds First h.file)
+
+-- ---- in a file the types are what ends with braces
+
+abbrev braces : Item → Bool
+braces i = signed (codes "{") i
+
+abbrev line_end : Item → Bool
+line_end i = signed (codes ";") i
+
+last_of : (test : Item → Bool) (d : List Item) → ends_first test d ≡ true → ends test d ≡ true
+last_of test [] e = e
+last_of test (i ∷ []) e = e
+last_of test (i ∷ j ∷ is) e = last_of test (j ∷ is) (and_parts (not (test i)) (ends_first test (j ∷ is)) e).1
+
+no_braces : (i : Item) (l : Letter) → Reads i l → line_end i ≡ true → braces i ≡ false
+no_braces i Semicolon k e = k.braces
+no_braces i l k e = absurd (true≢false (sym e ∙ k.semicolon))
+
+ends_apart : (d : List Item) → ends line_end d ≡ true → ends braces d ≡ false
+ends_apart [] e = refl
+ends_apart (i ∷ []) e = let l = reads i in no_braces i l.0 l.1 e
+ends_apart (i ∷ j ∷ is) e = ends_apart (j ∷ is) e
+
+lone_ends : (d : List Item) → is_semicolon d ≡ true → ends line_end d ≡ true
+lone_ends [] e = absurd cc
+lone_ends (i ∷ []) e = e
+lone_ends (i ∷ j ∷ is) e = absurd cc
+
+import_ends : (d : List Item) → is_import d ≡ true → ends line_end d ≡ true
+import_ends d e = last_of line_end d (and_parts (leads (worded (codes "import")) d) (ends_first line_end d) e).1
+
+package_ends : (d : List Item) → is_package d ≡ true → ends line_end d ≡ true
+package_ends d e =
+    last_of line_end d (and_parts (leads (worded (codes "package")) (behind_front (λ t. false) (cut_pieces 0 d)))
+    (ends_first line_end d) e).1
+
+type_ends : (d : List Item) → is_type d ≡ true → ends braces d ≡ true
+type_ends d e =
+    last_of braces d (and_parts (names_type (behind_front is_type_modifier (cut_pieces 0 d))) (ends_first braces d) e).1
+
+ends_as : (d : List Item) (a b c e : Bool) (s t : Stage) → is_semicolon d ≡ a → is_import d ≡ b → is_package d ≡ c
+    → is_type d ≡ e → next_stage s a b c e ≡ Some t → e ≡ ends braces d
+ends_as d a b c true s t f g h i n = sym (type_ends d i)
+ends_as d true b c false s t f g h i n = sym (ends_apart d (lone_ends d f))
+ends_as d false true c false s t f g h i n = sym (ends_apart d (import_ends d g))
+ends_as d false false true false s t f g h i n = sym (ends_apart d (package_ends d h))
+ends_as d false false false false First t f g h i n = absurd cc
+ends_as d false false false false Imports t f g h i n = absurd cc
+ends_as d false false false false Types t f g h i n = absurd cc
+
+types_by_ends : (s : Stage) (d : List Item) (ds : List (List Item)) (o : Option Stage) → stage_behind s d ≡ o
+    → fit_behind o ds ≡ true
+    → ((t : Stage) → fits t ds ≡ true → filter is_type ds ≡ filter (λ d. ends braces d) ds)
+    → filter is_type (d ∷ ds) ≡ filter (λ d. ends braces d) (d ∷ ds)
+types_by_ends s d ds None n h all = absurd (true≢false (sym h))
+types_by_ends s d ds (Some t) n h all =
+    ap (λ b. if b then d ∷ filter is_type ds else filter is_type ds)
+    (ends_as d (is_semicolon d) (is_import d) (is_package d) (is_type d) s t refl refl refl refl n)
+    ∙ ap (λ es. if ends braces d then d ∷ es else es) (all t h)
+
+types_end : (ds : List (List Item)) (s : Stage) → fits s ds ≡ true
+    → filter is_type ds ≡ filter (λ d. ends braces d) ds
+types_end [] s h = refl
+types_end (d ∷ ds) s h =
+    types_by_ends s d ds (stage_behind s d) refl (sym (fits_next s d ds) ∙ h) (λ t k. types_end ds t k)
+
+pub types_end_with_braces : (is : List Item) (ds : List (List Item)) → AreDeclarations is ds
+    → filter is_type ds ≡ filter (λ d. ends (signed (codes "{")) d) ds
+types_end_with_braces is ds h = types_end ds First h.file

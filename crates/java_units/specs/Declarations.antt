@@ -1,6 +1,6 @@
 -- A contract of a public call rests on this: the declarations of a file (JLS 7.3): at most one package (JLS 7.4), then
 -- imports (JLS 7.5), then types (JLS 7.6), with lone `;` among them; and the first token that does not fit.
-use Rattle.std.specs.Prelude.{◌≡◌, Bool, true, false, not, ◌&&◌, ◌||◌, List, [], ◌∷◌, ◌++◌, IsTrue, codes}
+use Rattle.std.specs.Prelude.{◌≡◌, Bool, false, not, ◌&&◌, ◌||◌, List, [], ◌∷◌, ◌++◌, IsTrue, codes}
 use Rattle.std.specs.Prelude.{filter, map, if◌then◌else◌}
 use Rattle.std.specs.List.{list_all}
 use Rattle.java_lexer.specs.declared.token.Token.{Token}
@@ -43,11 +43,10 @@ behind_front is_word (p ∷ ps) = behind_front is_word ps
 
 -- whether `class`, `interface`, `enum` or `@ interface` stands first, and then a name
 abbrev pub names_type : List Item → Bool
-names_type [] = false
-names_type (i ∷ []) = false
 names_type (i ∷ j ∷ is) =
     (begins is_type_word i && begins is_name j)
     || (signed (codes "@") i && (worded (codes "interface") j && leads (begins is_name) is))
+names_type _ = false
 
 -- `;` alone
 abbrev pub is_semicolon : List Item → Bool
@@ -103,7 +102,7 @@ abbrev pub GoesOn : (before rest : List Item) → Type 0
 GoesOn before [] = (ds : List (List Item)) × AreDeclarations before ds
 GoesOn before (i ∷ is) = CanBegin (before ++ i ∷ [])
 
--- a file begins with the items before the rest, and goes on with none of it
+-- a file begins with the items before the rest, and does not go on with the first of it, or does not end there
 pub record IsMisfit (is rest : List Item) : Type 0 where
   pub before : List Item
   pub parts : before ++ rest ≡ is

@@ -3,7 +3,7 @@ use Rattle.std.proofs.Common.{◌≡◌, Bool, true, false, List, [], ◌∷◌,
 use Rattle.std.proofs.Common.{codes}
 use Rattle.java_units.specs.Tokens.{signed}
 use Rattle.java_units.specs.Pieces.{Item}
-use Rattle.java_units.specs.Declarations.{Seen, seen_with, is_whole, and_before, declarations}
+use Rattle.java_units.specs.DeclarationWalk.{Seen, seen_with, is_whole, and_before, declarations}
 use Rattle.unit_cuts.specs.FirstDeclaration.{First, Misfit, Declared, first_by, first_declared}
 
 -- by what is seen with the next item

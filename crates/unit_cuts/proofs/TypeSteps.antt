@@ -9,11 +9,11 @@ use Rattle.java_tree.specs.Formed.{has_some}
 use Rattle.java_units.specs.Tokens.{signed}
 use Rattle.java_units.specs.Cuts.{joined, ends}
 use Rattle.java_units.specs.Pieces.{Item, items_of}
-use Rattle.java_units.specs.Declarations.{Seen, seen_with, is_whole, and_before, declarations, types_among}
+use Rattle.java_units.specs.DeclarationWalk.{Seen, seen_with, is_whole, and_before, declarations}
 use Rattle.java_units.proofs.Joined.{joined_append, joined_items}
 use Rattle.unit_cuts.specs.Sizes.{item_size}
 use Rattle.unit_cuts.specs.FirstDeclaration.{First, Misfit, Declared, first_by, first_declared, IsMisfit}
-use Rattle.unit_cuts.specs.DeclaredTypes.{typed, types_from, with_types, type_if, IsMisfitAt}
+use Rattle.unit_cuts.specs.WalkedTypes.{typed, types_from, with_types, type_if, IsMisfitAt}
 use Rattle.unit_cuts.proofs.FirstItem.{first_of}
 use Rattle.unit_cuts.proofs.FirstMember.{drop_front}
 use Rattle.unit_cuts.proofs.DeclarationSteps.{first_from, first_is, declared_from, declared_is}

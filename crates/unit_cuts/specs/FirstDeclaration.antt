@@ -5,8 +5,8 @@ use Rattle.java_lexer.specs.declared.token.Token.{Token}
 use Rattle.java_units.specs.Tokens.{signed, first_place}
 use Rattle.java_units.specs.Cuts.{joined}
 use Rattle.java_units.specs.Pieces.{Item, items_of}
-use Rattle.java_units.specs.Declarations.{Seen, Whole, Modifiers, AtSign, AnnotationName, AnnotationPoint, TypeWord}
-use Rattle.java_units.specs.Declarations.{TypeName, Directive, seen_with, is_whole}
+use Rattle.java_units.specs.DeclarationWalk.{Seen, Whole, Modifiers, AtSign, AnnotationName, AnnotationPoint, TypeWord}
+use Rattle.java_units.specs.DeclarationWalk.{TypeName, Directive, seen_with, is_whole}
 use Rattle.unit_cuts.specs.declared.declarations.Declaration.{Declaration}
 use Rattle.unit_cuts.specs.declared.declarations.Seen as code
 use Rattle.unit_cuts.specs.declared.declarations.Seen.TheVariants as seen

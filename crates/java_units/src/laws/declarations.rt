@@ -87,8 +87,8 @@ pub fn unfit_ends()
     ensures unclosed_type { UnfitAt (codes "class A") 8 }
     ensures line { UnfitAt (codes "class A ;") 10 }
     ensures bracketed { UnfitAt (codes "class A ( { } )") 16 }
-    ensures package { UnfitAt (codes "package a") 10 }
-    ensures import { UnfitAt (codes "import { ; }") 13 }
+    ensures unclosed_package { UnfitAt (codes "package a") 10 }
+    ensures unclosed_import { UnfitAt (codes "import { ; }") 13 }
     ensures annotation { UnfitAt (codes "@ A") 4 }
     ensures word { UnfitAt (codes "public") 7 }
 {}
