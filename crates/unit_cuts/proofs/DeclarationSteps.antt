@@ -1,5 +1,5 @@
 -- One step of the walk to the end of a declaration.
-use Rattle.std.proofs.Common.{◌≡◌, Bool, true, false, List, [], ◌∷◌, Option, Some, None, Result, Err, refl, ap, sym, ◌∙◌}
+use Rattle.std.proofs.Common.{◌≡◌, Bool, true, false, List, ◌∷◌, Option, Some, None, Result, Err, refl, ap, sym, ◌∙◌}
 use Rattle.std.proofs.Common.{codes}
 use Rattle.java_units.specs.Tokens.{signed}
 use Rattle.java_units.specs.Pieces.{Item}

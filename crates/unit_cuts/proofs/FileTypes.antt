@@ -1,5 +1,6 @@
 -- What the walk over a file finds are the types of the file, or what does not fit.
-use Rattle.std.proofs.Common.{◌≡◌, Bool, true, List, [], ◌∷◌, ◌++◌, Result, Ok, Err, map, filter, refl, ap, sym, ◌∙◌, codes}
+use Rattle.std.proofs.Common.{◌≡◌, true, List, [], ◌∷◌, Result, Ok, Err, map, filter, refl, ap, sym, ◌∙◌, codes}
+use Rattle.std.proofs.Common.{length, ◌≤◌, arith}
 use Rattle.std.specs.Prelude.{if◌then◌else◌}
 use Rattle.std.proofs.lemmas.List.{append-nil}
 use Rattle.racer_base.specs.declared.ids.Place.{Place}
@@ -26,12 +27,13 @@ walked_types is types e = by_walk (declarations (Whole true true) is) refl e whe
   by_walk (Err rest) w h = absurd cc
 
 -- at the end of the walk
-pub all_walked : (is : List Item) (front : List (List Token)) (seen : Seen) (left : List Token) → left ≡ []
+pub all_walked : (is : List Item) (front : List (List Token)) (seen : Seen) (left : List Token) → length left ≤ 0
     → is_whole seen ≡ true → with_types front (types_from seen (items_of left)) ≡ types_from (Whole true true) is
     → AreTypes is front
-all_walked is front seen left n w h =
-    walked_types is front (sym h ∙ ap (λ ts. with_types front (types_from seen (items_of ts))) n
-    ∙ ap (λ b. with_types front (typed (if b then Ok [] else Err []))) w ∙ ap Ok (append-nil front))
+all_walked is front seen [] n w h =
+    walked_types is front (sym h ∙ ap (λ b. with_types front (typed (if b then Ok [] else Err []))) w
+    ∙ ap Ok (append-nil front))
+all_walked is front seen (t ∷ ts) n w h = absurd (omega arith)
 
 pub walked_fault : (is : List Item) (end place : Place) → IsMisfitAt end place (types_from (Whole true true) is)
     → IsNoUnit end (NotAUnit place) is

@@ -1,7 +1,7 @@
 -- The types of a file, from one declaration to the next.
 use Rattle.std.proofs.Common.{◌≡◌, ℕ, Bool, true, false, List, [], ◌∷◌, ◌++◌, Option, Some, None, Result, Ok, Err}
 use Rattle.std.proofs.Common.{map, take, drop, refl, ap, sym, ◌∙◌, subst, codes, take-append-drop, ◌≤◌, length}
-use Rattle.std.specs.Prelude.{IsTrue, filter, if◌then◌else◌}
+use Rattle.std.specs.Prelude.{IsTrue, if◌then◌else◌}
 use Rattle.std.proofs.lemmas.List.{append_assoc}
 use Rattle.racer_base.specs.declared.ids.Place.{Place}
 use Rattle.java_lexer.specs.declared.token.Token.{Token}

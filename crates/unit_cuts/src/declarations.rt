@@ -159,7 +159,11 @@ fn is_whole(seen: Seen) -> bool
 }
 
 /// The first declaration, or the place of what does not fit.
-pub(crate) fn first_declaration(seen: Seen, tokens: &[Token], end: Place) -> Result<Declaration, Place>
+pub(crate) fn first_declaration(
+    seen: Seen,
+    tokens: &[Token],
+    end: Place,
+) -> Result<Declaration, Place>
     ensures first { IsFirst tokens.now end result (first_declared (seen_of seen) (items_of tokens.now)) }
     ensures whole { IfOk result (λ declared. is_whole (seen_of declared.seen) ≡ true) }
     ensures some { IfOk result (λ declared. 0 < declared.size) }

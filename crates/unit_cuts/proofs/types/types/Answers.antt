@@ -1,10 +1,10 @@
-use Rattle.std.proofs.Common.{◌≡◌, ◌≤◌, [], ◌∷◌, ◌++◌, true, map, length, take, drop, arith, ap, sym, ◌∙◌, refl, subst}
+use Rattle.std.proofs.Common.{◌≤◌, [], ◌∷◌, ◌++◌, true, map, length, take, drop, arith, ap, sym, ◌∙◌}
 use Rattle.std.proofs.lemmas.List.{append-nil}
 use Rattle.java_units.specs.Pieces.{items_of}
 use Rattle.java_units.specs.DeclarationWalk.{Whole}
 use Rattle.unit_cuts.specs.FirstDeclaration.{seen_of}
 use Rattle.unit_cuts.specs.WalkedTypes.{types_from, with_types, type_if}
-use Rattle.unit_cuts.proofs.FileTypes.{walked_types, walked_fault}
+use Rattle.unit_cuts.proofs.FileTypes.{all_walked, walked_fault}
 use Rattle.unit_cuts.proofs.TypeSteps.{walk_fails, walk_goes_on, has_items, map_push}
 use Rattle.unit_cuts.proofs.types.types.Goals as goal
 
@@ -18,7 +18,9 @@ returns-in-Err-clause-fault c =
     c.loop-rest.invariant.gives c.in-Err.ensures.first)
 
 pub returns-clause-ok : goal.returns-clause-ok
-returns-clause-ok c = ?
+returns-clause-ok c =
+    all_walked (items_of c.args.tokens.now) (map (λ t. t.now) c.loop-rest.types.items) (seen_of c.loop-rest.seen)
+    c.loop-rest.rest.now c.loop-rest-test.false c.loop-rest.invariant.whole c.loop-rest.invariant.gives
 
 pub loop-rest-preserved-in_ok-push : goal.loop-rest-preserved-in_ok-push
 loop-rest-preserved-in_ok-push c =
