@@ -3,9 +3,10 @@ pub mod OneCut
 pub mod Appended
 pub mod OneDivision
 mod NoTrees
-pub mod ItemLetters
-pub mod Fronts
-pub mod OneDeclaration
+mod ItemLetters
+mod Fronts
+mod SeenLetters
+mod OneDeclaration
 pub mod WalkedFiles
 pub mod Misfits
 mod UnfitRows

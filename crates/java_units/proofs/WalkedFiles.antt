@@ -13,7 +13,8 @@ use Rattle.java_units.specs.Declarations.{AreDeclarations}
 use Rattle.java_units.specs.DeclarationWalk.{Seen, Whole, seen_with, is_whole, and_before, declarations}
 use Rattle.java_units.proofs.ItemLetters.{Letter, Semicolon, Reads, reads}
 use Rattle.java_units.proofs.OneCut.{joined_declarations}
-use Rattle.java_units.proofs.OneDeclaration.{ended, run, go, run_is, run_is_tested}
+use Rattle.java_units.proofs.SeenLetters.{ended, run, go, run_is}
+use Rattle.java_units.proofs.OneDeclaration.{run_is_tested}
 
 abbrev Declared : Type 0
 Declared = Result (List (List Item)) (List Item)
@@ -33,15 +34,15 @@ declarations_are s i is = by_next (seen_with s i) where
   by_next None = refl
   by_next (Some m) = refl
 
-abbrev and_whole : List Item → Declared → Declared
+abbrev pub and_whole : List Item → Declared → Declared
 and_whole d (Ok ds) = Ok (d ∷ ds)
 and_whole d (Err rest) = Err rest
 
-alone : (i : Item) (r : Declared) → and_before true i r ≡ and_whole (i ∷ []) r
+pub alone : (i : Item) (r : Declared) → and_before true i r ≡ and_whole (i ∷ []) r
 alone i (Ok ds) = refl
 alone i (Err rest) = refl
 
-longer : (i : Item) (d : List Item) (r : Declared) → and_before false i (and_whole d r) ≡ and_whole (i ∷ d) r
+pub longer : (i : Item) (d : List Item) (r : Declared) → and_before false i (and_whole d r) ≡ and_whole (i ∷ d) r
 longer i d (Ok ds) = refl
 longer i d (Err rest) = refl
 

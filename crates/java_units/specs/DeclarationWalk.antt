@@ -1,5 +1,6 @@
 -- No public contract rests on this: a walk over the items of a file that cuts it into its declarations, or stops at the
--- first item that does not fit; what it finds is the file of specs/Declarations.antt (proofs/WalkedFiles.antt).
+-- first item that does not fit. It finds the declarations of each file, and what does not fit of other items
+-- (proofs/WalkedFiles.antt, proofs/Misfits.antt).
 use Rattle.std.specs.Prelude.{Bool, true, false, ◌&&◌, List, [], ◌∷◌, Option, Some, None, Result, Ok, Err}
 use Rattle.std.specs.Prelude.{codes, if◌then◌else◌}
 use Rattle.java_units.specs.Tokens.{is_name, begins, signed, worded}

@@ -78,7 +78,7 @@ abbrev pub behind_all : (List Item → Bool) → List (List Item) → List (List
 behind_all test [] = []
 behind_all test (d ∷ ds) = if test d then behind_all test ds else d ∷ ds
 
--- lone `;` left out, there are types behind at most one package and all imports
+-- lone `;` left out, all are types behind a package, or none, and imports
 abbrev pub is_file : List (List Item) → Bool
 is_file ds = list_all is_type (behind_all is_import (behind_one is_package (filter (λ d. not (is_semicolon d)) ds)))
 

@@ -28,6 +28,9 @@ pub fn other_lists()
     ensures semicolons { is_file (file (codes "; ;" ∷ [])) ≡ false }
     ensures imports { is_file (file (codes "import a ; import b ;" ∷ [])) ≡ false }
     ensures nothing { is_file ([] ∷ []) ≡ false }
+    ensures nameless { is_file (file (codes "@ interface { }" ∷ [])) ≡ false }
+    ensures annotated_import { is_file (file (codes "@ A import b ;" ∷ [])) ≡ false }
+    ensures package_with_word { is_file (file (codes "public package a ;" ∷ [])) ≡ false }
     ensures packages { is_file (file (codes "package a ;" ∷ codes "package b ;" ∷ [])) ≡ false }
     ensures late_package { is_file (file (codes "import a ;" ∷ codes "package b ;" ∷ [])) ≡ false }
     ensures late_import { is_file (file (codes "class A { }" ∷ codes "import a ;" ∷ [])) ≡ false }
