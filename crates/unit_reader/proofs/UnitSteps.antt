@@ -1,6 +1,6 @@
 -- A file is read as its types, or has its first fault.
 use Rattle.std.proofs.Common.{◌≡◌, inl, inr, Bool, true, false, not, List, [], ◌∷◌, Some, None}
-use Rattle.std.proofs.Common.{Result, Ok, Err, filter, refl, ap, sym, subst}
+use Rattle.std.proofs.Common.{filter, ap, sym, subst}
 use Rattle.std.specs.Prelude.{is_some}
 use Rattle.std.specs.List.{AllZip}
 use Rattle.racer_base.specs.declared.ids.Place.{Place}
@@ -9,9 +9,7 @@ use Rattle.java_units.specs.declared.unit.ClassTree.{ClassTree}
 use Rattle.java_units.specs.declared.unit.Unit as unit
 use Rattle.java_units.specs.declared.unit.ParseFault.{ParseFault}
 use Rattle.java_units.specs.declared.unit.ParseFault.TheVariants.{Unbalanced, TooDeep, NotAUnit, Memory}
-use Rattle.java_units.specs.Cuts.{joined}
-use Rattle.java_units.specs.Tokens.{first_place}
-use Rattle.java_units.specs.Pieces.{Item, items_of}
+use Rattle.java_units.specs.Pieces.{items_of}
 use Rattle.java_units.specs.Units.{BeginsAt, read_name, is_read, IsClass, IsUnit, IsFault}
 use Rattle.unit_cuts.specs.DeclaredTypes.{AreTypes, IsNoUnit}
 use Rattle.unit_cuts.specs.OpenBrackets.{IsBalanced, IsBracketFault}
