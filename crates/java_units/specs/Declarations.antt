@@ -97,12 +97,12 @@ pub record AreDeclarations (is : List Item) (ds : List (List Item)) : Type 0 whe
 abbrev pub CanBegin : List Item → Type 0
 CanBegin before = (more : List Item) × (ds : List (List Item)) × AreDeclarations (before ++ more) ds
 
--- the items before are a file, or a file begins with them and the next one
+-- a file begins with the items before and the first of the rest; with no rest, they are a file
 abbrev pub GoesOn : (before rest : List Item) → Type 0
 GoesOn before [] = (ds : List (List Item)) × AreDeclarations before ds
 GoesOn before (i ∷ is) = CanBegin (before ++ i ∷ [])
 
--- a file begins with the items before the rest, and does not go on with the first of it, or does not end there
+-- a file begins with the items before the rest, and none goes on with the first of it; with no rest, they are no file
 pub record IsMisfit (is rest : List Item) : Type 0 where
   pub before : List Item
   pub parts : before ++ rest ≡ is
