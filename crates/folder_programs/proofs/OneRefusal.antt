@@ -15,8 +15,8 @@ use Rattle.java_units.specs.declared.unit.ParseFault.TheVariants as parse
 use Rattle.java_units.specs.Cuts.{joined}
 use Rattle.java_units.specs.Tokens.{first_place}
 use Rattle.java_units.specs.Pieces.{Item, items_of}
-use Rattle.java_units.specs.Declarations.{Whole, declarations}
 use Rattle.java_units.specs.Units.{IsUnit, IsFault}
+use Rattle.java_units.proofs.Misfits.{not_both, one_misfit}
 use Rattle.folder_sources.specs.declared.refusal.Refusal.{Refusal}
 use Rattle.folder_sources.specs.declared.refusal.Refusal.TheVariants.{TooManyFiles, TooLong, TooManyBytes, NotUtf8}
 use Rattle.folder_sources.specs.declared.refusal.Refusal.TheVariants.{BadCharacter, Unclosed, BadLiteral, Unbalanced}
@@ -98,12 +98,6 @@ same_place o p q d e = let both : ◌≡◌ {A = Option Place} (Some p) (Some q)
 no_place : (o : Option Place) (p : Place) → o ≡ None → o ≡ Some p → ⊥
 no_place o p d e = let bad : ◌≡◌ {A = Option Place} None (Some p) = sym d ∙ e in cc
 
-same_rest : (a : Result (List (List Item)) (List Item)) (r s : List Item) → a ≡ Err r → a ≡ Err s → r ≡ s
-same_rest a r s d e = let both : ◌≡◌ {A = Result (List (List Item)) (List Item)} (Err r) (Err s) = sym d ∙ e in cc
-
-fits : (a : Result (List (List Item)) (List Item)) (all : List (List Item)) (r : List Item) → a ≡ Ok all → a ≡ Err r → ⊥
-fits a all r d e = let bad : ◌≡◌ {A = Result (List (List Item)) (List Item)} (Ok all) (Err r) = sym d ∙ e in cc
-
 module _ (ts : List Token) (end : Place) where
   one_fault : (f g : UnitFault) → IsFault ts end (fault_of f) → IsFault ts end (fault_of g) → unit_refusal f ≡ unit_refusal g
   one_fault (unbalanced_at p) (unbalanced_at q) h k = ap Unbalanced (same_place _ p q h k)
@@ -115,12 +109,12 @@ module _ (ts : List Token) (end : Place) where
   one_fault (unfit_at p) (unbalanced_at q) h k = absurd (no_place _ q h.0 k)
   one_fault (unfit_at p) (deep_at q) h k = absurd (no_place _ q h.1 k.1)
   one_fault (unfit_at p) (unfit_at q) h k =
-      ap NotAUnit (sym h.4 ∙ ap (λ (r : List Item). first_place end (joined r)) (same_rest _ h.2 k.2 h.3 k.3) ∙ k.4)
+      ap NotAUnit (sym h.4 ∙ ap (λ (r : List Item). first_place end (joined r)) (one_misfit (items_of ts) h.2 k.2 h.3 k.3) ∙ k.4)
 
   not_unit : (f : UnitFault) (u : unit.Unit) → IsFault ts end (fault_of f) → IsUnit ts u → ⊥
   not_unit (unbalanced_at p) u h is = no_place _ p is.balanced h
   not_unit (deep_at p) u h is = no_place _ p is.flat h.1
-  not_unit (unfit_at p) u h is = fits _ is.all h.2 is.fit h.3
+  not_unit (unfit_at p) u h is = not_both (items_of ts) h.2 is.all is.fit h.3
 
 module _ (file : FileId) (sum : ℕ) (bytes : List ℕ) where
   by_kinds : (r q : Refusal) → Kind file sum bytes r → Kind file sum bytes q → r ≡ q

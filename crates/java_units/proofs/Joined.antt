@@ -26,7 +26,7 @@ joined_items n (t ∷ ts) =
     joined_one (depth_behind n t == 0) t (items_from (depth_behind n t) ts)
     ∙ ap (λ l. t ∷ l) (joined_items (depth_behind n t) ts)
 
-joined_cut_pieces : (more : ℕ) (is : List Item) → joined (cut_pieces more is) ≡ is
+pub joined_cut_pieces : (more : ℕ) (is : List Item) → joined (cut_pieces more is) ≡ is
 joined_cut_pieces more [] = refl
 joined_cut_pieces more (i ∷ is) =
     let behind = left_behind more (i ∷ is) in

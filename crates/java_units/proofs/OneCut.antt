@@ -8,7 +8,7 @@ use Rattle.java_tree.specs.Formed.{has_some}
 use Rattle.java_units.specs.Pieces.{Item}
 use Rattle.java_units.specs.Tokens.{signed}
 use Rattle.java_units.specs.Cuts.{onto_first, with_cut, joined}
-use Rattle.java_units.specs.Declarations.{Seen, seen_with, is_whole, and_before, declarations}
+use Rattle.java_units.specs.DeclarationWalk.{Seen, seen_with, is_whole, and_before, declarations}
 use Rattle.java_units.specs.Members.{ends_member, cut_members, is_endless}
 use Rattle.java_units.specs.MemberCuts.{is_ended, IsCut}
 use Rattle.java_units.proofs.Joined.{joined_one}

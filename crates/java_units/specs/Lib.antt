@@ -3,6 +3,7 @@ pub mod Cuts
 pub mod Brackets
 pub mod Pieces
 pub mod Declarations
+pub mod DeclarationWalk
 pub mod Members
 pub mod MemberCuts
 pub mod Heads

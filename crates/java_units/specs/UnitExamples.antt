@@ -1,16 +1,16 @@
 -- A contract of a public call rests on this: worked readings, tokens as a reader writes them, in a line with one space
 -- between two.
-use Rattle.std.specs.Prelude.{ℕ, ◌+◌, true, List, [], ◌∷◌, ◌++◌, Option, Some, None, Ok, Err, map, length}
+use Rattle.std.specs.Prelude.{ℕ, ◌+◌, List, [], ◌∷◌, ◌++◌, map, length}
 use Rattle.std.specs.Prelude.{replicate}
 use Rattle.racer_base.specs.declared.ids.Place.{Place}
 use Rattle.java_lexer.specs.declared.token.Token.{Token}
 use Rattle.java_tree.specs.declared.words.Spelled.{Spelled}
 use Rattle.java_tree.specs.Words.{sign}
 use Rattle.java_tree.specs.Examples.{space, between_spaces, token_of}
-use Rattle.java_units.specs.Tokens.{first_place}
-use Rattle.java_units.specs.Cuts.{joined}
-use Rattle.java_units.specs.Pieces.{items_of, inside, pieces_of}
-use Rattle.java_units.specs.Declarations.{Whole, declarations, types_among}
+use Rattle.java_units.specs.declared.unit.ParseFault.TheVariants.{NotAUnit}
+use Rattle.java_units.specs.Pieces.{Item, items_of, inside, pieces_of}
+use Rattle.java_units.specs.Units.{IsFault}
+use Rattle.java_units.specs.Declarations.{types_among}
 use Rattle.java_units.specs.Members.{members_of, Form, SkippedForm, MethodForm, FieldForm, form_of}
 use Rattle.java_units.specs.Heads.{parameters_among}
 
@@ -58,21 +58,17 @@ pieces text = map shown (pieces_of (line text))
 
 -- ---- files and members
 
--- the place of what does not fit, or none
-abbrev pub unfit : List ℕ → Option Place
-unfit text =
-    elim (declarations (Whole true true) (items_of (line text))) [
-      | (Ok ds) ↦ None
-      | (Err rest) ↦ Some (first_place (end_of text) (joined rest))
-    ]
+-- a file cut in declarations, each as a line
+abbrev pub file : List (List ℕ) → List (List Item)
+file texts = map (λ text. items_of (line text)) texts
 
 -- the types of a file
-abbrev pub types : List ℕ → List (List ℕ)
-types text =
-    elim (declarations (Whole true true) (items_of (line text))) [
-      | (Ok ds) ↦ map shown (types_among ds)
-      | (Err rest) ↦ []
-    ]
+abbrev pub types : List (List ℕ) → List (List ℕ)
+types texts = map shown (types_among (file texts))
+
+-- the first token that does not fit stands here
+abbrev pub UnfitAt : List ℕ → ℕ → Type 0
+UnfitAt text column = IsFault (line text) (end_of text) (NotAUnit (at column))
 
 -- the members of a class with this body
 abbrev pub members : List ℕ → List (List ℕ)

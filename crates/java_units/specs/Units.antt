@@ -1,6 +1,6 @@
 -- A contract of a public call rests on this: what a file is read as (JLS 7.3), its classes with their members (JLS 8.1)
 -- and the types that are skipped, or its first fault.
-use Rattle.std.specs.Prelude.{◌≡◌, ℕ, Bool, true, not, List, [], ◌∷◌, Option, Some, None, Ok, Err, is_some}
+use Rattle.std.specs.Prelude.{◌≡◌, ℕ, Bool, not, List, [], ◌∷◌, Option, Some, None, is_some}
 use Rattle.std.specs.Prelude.{◌||◌, ◌&&◌, IsTrue, codes, filter, if◌then◌else◌}
 use Rattle.std.specs.List.{AllZip}
 use Rattle.racer_base.specs.declared.ids.Place.{Place}
@@ -24,7 +24,7 @@ use Rattle.java_units.specs.Tokens.{plain_all, begins, signed, worded, first_pla
 use Rattle.java_units.specs.Cuts.{joined}
 use Rattle.java_units.specs.Brackets.{unbalanced, too_deep}
 use Rattle.java_units.specs.Pieces.{Item, items_of, Piece, pieces_of, is_annotation, inside}
-use Rattle.java_units.specs.Declarations.{is_type_modifier, Whole, declarations, types_among}
+use Rattle.java_units.specs.Declarations.{is_type_modifier, types_among, AreDeclarations, IsMisfit}
 use Rattle.java_units.specs.Members.{members_of, behind_words, Form, SkippedForm, MethodForm, FieldForm, form_of}
 use Rattle.java_units.specs.Heads.{IsMethod, IsOutside}
 use Rattle.java_units.specs.FieldDivisions.{AreFields}
@@ -100,7 +100,7 @@ pub record IsUnit (ts : List Token) (u : unit.Unit) : Type 0 where
   pub balanced : unbalanced [] ts ≡ None
   pub flat : too_deep 0 ts ≡ None
   pub all : List (List Item)
-  pub fit : declarations (Whole true true) (items_of ts) ≡ Ok all
+  pub fit : AreDeclarations (items_of ts) all
   pub classes : AllZip IsClass (filter is_read (types_among all)) u.classes
   pub skipped : AllZip BeginsAt (filter (λ type. not (is_read type)) (types_among all)) u.skipped
 
@@ -110,6 +110,6 @@ abbrev pub IsFault : List Token → (end : Place) → ParseFault → Type 0
 IsFault ts end (Unbalanced place) = unbalanced [] ts ≡ Some place
 IsFault ts end (TooDeep place) = (unbalanced [] ts ≡ None) × (too_deep 0 ts ≡ Some place)
 IsFault ts end (NotAUnit place) =
-    (unbalanced [] ts ≡ None) × (too_deep 0 ts ≡ None) × (rest : List Item)
-    × (declarations (Whole true true) (items_of ts) ≡ Err rest) × (first_place end (joined rest) ≡ place)
+    (unbalanced [] ts ≡ None) × (too_deep 0 ts ≡ None) × (rest : List Item) × IsMisfit (items_of ts) rest
+    × (first_place end (joined rest) ≡ place)
 IsFault ts end Memory = Unit {0}

@@ -16,10 +16,10 @@ pub use answers::{
 pub use brackets::{deep_brackets, unbalanced_brackets};
 pub use classes::{annotations_of_classes, read_classes, skipped_types};
 pub use cuts::{
-    items_are_the_tokens, members_are_cut_once, one_division_of_fields, types_are_the_declarations,
+    declarations_are_cut_once, items_are_the_tokens, members_are_cut_once, one_division_of_fields,
 };
 pub use declarations::{
-    types_of_units, unfit_annotations, unfit_ends, unfit_orders, unfit_tokens, units,
+    other_lists, types_of_units, unfit_annotations, unfit_ends, unfit_orders, unfit_tokens, units,
 };
 pub use heads::{parameters, static_heads, synchronized_members};
 pub use members::{

@@ -1,6 +1,6 @@
 -- The places that a unit keeps are those of its tokens.
 use Rattle.std.proofs.Common.{◌≡◌, ℕ, suc, ◌+◌, ◌<◌, ◌≤◌, ◌-◌, Bool, true, false, cond, ◌&&◌, ◌||◌, not, List, [], ◌∷◌, ◌++◌, map, filter, length}
-use Rattle.std.proofs.Common.{Option, Some, None, Ok, codes, refl, sym, ap, subst, ◌∙◌, arith, take}
+use Rattle.std.proofs.Common.{Option, Some, None, codes, refl, sym, ap, subst, ◌∙◌, arith, take}
 use Rattle.std.specs.Prelude.{nat_lt}
 use Rattle.std.proofs.lemmas.Bool.{false≢true, lt-ltb}
 use Rattle.std.specs.List.{AllZip, flat_map, list_all}
@@ -11,13 +11,13 @@ use Rattle.java_units.specs.declared.unit.ClassTree.{ClassTree}
 use Rattle.java_units.specs.declared.unit.Member.{Member}
 use Rattle.java_units.specs.declared.unit.Unit as unit
 use Rattle.java_units.specs.Tokens.{signed, worded, begins}
-use Rattle.java_units.specs.Cuts.{joined, ends}
+use Rattle.java_units.specs.Cuts.{joined}
 use Rattle.java_units.specs.Pieces.{Item, items_of, Piece, pieces_of, is_annotation, inside}
-use Rattle.java_units.specs.Declarations.{is_type_modifier, Whole, declarations, types_among}
+use Rattle.java_units.specs.Declarations.{is_type_modifier, is_type, types_among, AreDeclarations}
 use Rattle.java_units.specs.Members.{cut_members, is_lone, members_of, behind_words}
 use Rattle.java_units.specs.Units.{BeginsAt, IsClass, IsMember, IsUnit, name_in, read_name, body_among, is_read}
 use Rattle.java_units.proofs.Joined.{joined_items, joined_pieces}
-use Rattle.java_units.proofs.OneCut.{joined_cut, joined_declarations}
+use Rattle.java_units.proofs.OneCut.{joined_cut}
 use Rattle.java_lowering.specs.Conditions.{member_places, class_places, unit_places, is_in_files, are_in_files}
 use Rattle.unit_conditions.specs.FromTokens.{IsFromTokens, AreFromTokens}
 use Rattle.unit_conditions.proofs.Parts.{each_append, each_take, each_filter, each_cut, each_map_joined}
@@ -113,11 +113,11 @@ module _ (n : ℕ) where
   skipped_in (t ∷ ts) (p ∷ ps) h all = (begins_in n t p h.0 all.0, skipped_in ts ps h.1 all.1)
 
   types_in : (ts : List Token) (all : List (List Item)) → Each (StandsIn n) ts
-      → declarations (Whole true true) (items_of ts) ≡ Ok all → Each (Each (StandsIn n)) (types_among all)
+      → AreDeclarations (items_of ts) all → Each (Each (StandsIn n)) (types_among all)
   types_in ts all h e =
-      each_map_joined (StandsIn n) (filter (ends (signed (codes "{"))) all)
-      (each_filter (Each (Each (StandsIn n))) (ends (signed (codes "{"))) all
-      (each_cut (Each (StandsIn n)) all (items_of ts) (joined_declarations (Whole true true) (items_of ts) all e) (items_in ts h)))
+      each_map_joined (StandsIn n) (filter is_type all)
+      (each_filter (Each (Each (StandsIn n))) is_type all
+      (each_cut (Each (StandsIn n)) all (items_of ts) e.together (items_in ts h)))
 
   unit_in : (u : unit.Unit) → IsFromTokens n u → Each (IsIn n) (unit_places u)
   unit_in u is =

@@ -1,9 +1,9 @@
 -- One step of the walk to the end of a declaration.
-use Rattle.std.proofs.Common.{◌≡◌, Bool, true, false, List, [], ◌∷◌, Option, Some, None, Result, Err, refl, ap, sym, ◌∙◌}
+use Rattle.std.proofs.Common.{◌≡◌, Bool, true, false, List, ◌∷◌, Option, Some, None, refl, ap, sym, ◌∙◌}
 use Rattle.std.proofs.Common.{codes}
 use Rattle.java_units.specs.Tokens.{signed}
 use Rattle.java_units.specs.Pieces.{Item}
-use Rattle.java_units.specs.Declarations.{Seen, seen_with, is_whole, and_before, declarations}
+use Rattle.java_units.specs.DeclarationWalk.{Seen, seen_with, is_whole}
 use Rattle.unit_cuts.specs.FirstDeclaration.{First, Misfit, Declared, first_by, first_declared}
 
 -- by what is seen with the next item
@@ -18,21 +18,6 @@ first_is seen i is = by_next (seen_with seen i) where
     | (Some m) ↦ first_by (is_whole m) m i is (first_declared m is)
   ])
       ≡ first_from o i is
-  by_next None = refl
-  by_next (Some m) = refl
-
-abbrev pub declared_from : Option Seen → Item → List Item → Result (List (List Item)) (List Item)
-declared_from None i is = Err (i ∷ is)
-declared_from (Some m) i is = and_before (is_whole m) i (declarations m is)
-
-pub declared_is : (seen : Seen) (i : Item) (is : List Item) → declarations seen (i ∷ is)
-    ≡ declared_from (seen_with seen i) i is
-declared_is seen i is = by_next (seen_with seen i) where
-  by_next : (o : Option Seen) → (elim o as (λ _. Result (List (List Item)) (List Item)) [
-    | None ↦ Err (i ∷ is)
-    | (Some m) ↦ and_before (is_whole m) i (declarations m is)
-  ])
-      ≡ declared_from o i is
   by_next None = refl
   by_next (Some m) = refl
 

@@ -6,3 +6,4 @@ pub mod Walks
 mod DeclarationSteps
 pub mod HeadSteps
 mod TypeSteps
+mod FileTypes

@@ -1,7 +1,7 @@
 -- The types of a file, from one declaration to the next.
 use Rattle.std.proofs.Common.{◌≡◌, ℕ, Bool, true, false, List, [], ◌∷◌, ◌++◌, Option, Some, None, Result, Ok, Err}
 use Rattle.std.proofs.Common.{map, take, drop, refl, ap, sym, ◌∙◌, subst, codes, take-append-drop, ◌≤◌, length}
-use Rattle.std.specs.Prelude.{IsTrue, filter, if◌then◌else◌}
+use Rattle.std.specs.Prelude.{IsTrue, if◌then◌else◌}
 use Rattle.std.proofs.lemmas.List.{append_assoc}
 use Rattle.racer_base.specs.declared.ids.Place.{Place}
 use Rattle.java_lexer.specs.declared.token.Token.{Token}
@@ -9,21 +9,18 @@ use Rattle.java_tree.specs.Formed.{has_some}
 use Rattle.java_units.specs.Tokens.{signed}
 use Rattle.java_units.specs.Cuts.{joined, ends}
 use Rattle.java_units.specs.Pieces.{Item, items_of}
-use Rattle.java_units.specs.Declarations.{Seen, seen_with, is_whole, and_before, declarations, types_among}
+use Rattle.java_units.specs.DeclarationWalk.{Seen, seen_with, is_whole, and_before, declarations}
 use Rattle.java_units.proofs.Joined.{joined_append, joined_items}
+use Rattle.java_units.proofs.WalkedFiles.{from, declarations_are, and_whole, alone, longer}
 use Rattle.unit_cuts.specs.Sizes.{item_size}
 use Rattle.unit_cuts.specs.FirstDeclaration.{First, Misfit, Declared, first_by, first_declared, IsMisfit}
-use Rattle.unit_cuts.specs.DeclaredTypes.{typed, types_from, with_types, type_if, IsMisfitAt}
+use Rattle.unit_cuts.specs.WalkedTypes.{typed, types_from, with_types, type_if, IsMisfitAt}
 use Rattle.unit_cuts.proofs.FirstItem.{first_of}
 use Rattle.unit_cuts.proofs.FirstMember.{drop_front}
-use Rattle.unit_cuts.proofs.DeclarationSteps.{first_from, first_is, declared_from, declared_is}
+use Rattle.unit_cuts.proofs.DeclarationSteps.{first_from, first_is}
 
 abbrev Declarations : Type 0
 Declarations = Result (List (List Item)) (List Item)
-
-abbrev and_whole : List Item → Declarations → Declarations
-and_whole d (Ok ds) = Ok (d ∷ ds)
-and_whole d (Err rest) = Err rest
 
 -- the first declaration, and what is declared behind it
 record Split (seen : Seen) (is : List Item) (braces : Bool) (more : Seen) (behind : List Item) : Type 0 where
@@ -32,14 +29,6 @@ record Split (seen : Seen) (is : List Item) (braces : Bool) (more : Seen) (behin
   pub whole : declarations seen is ≡ and_whole front (declarations more behind)
   pub parts : front ++ behind ≡ is
   pub ended : ends (signed (codes "{")) front ≡ braces
-
-alone : (i : Item) (r : Declarations) → and_before true i r ≡ and_whole (i ∷ []) r
-alone i (Ok ds) = refl
-alone i (Err rest) = refl
-
-longer : (i : Item) (d : List Item) (r : Declarations) → and_before false i (and_whole d r) ≡ and_whole (i ∷ d) r
-longer i d (Ok ds) = refl
-longer i d (Err rest) = refl
 
 same_end : (i : Item) (d : List Item) → IsTrue (has_some d) → ends (signed (codes "{")) (i ∷ d)
     ≡ ends (signed (codes "{")) d
@@ -93,8 +82,8 @@ split_by None seen i is braces more behind n e others =
 split_by (Some m) seen i is braces more behind n e others =
     let found : first_by (is_whole m) m i is (first_declared m is) ≡ Declared braces more behind = sym (ap (λ o.
     first_from o i is) n) ∙ sym (first_is seen i is) ∙ e in
-    let whole : declarations seen (i ∷ is) ≡ and_before (is_whole m) i (declarations m is) = declared_is seen i is
-    ∙ ap (λ o. declared_from o i is) n in
+    let whole : declarations seen (i ∷ is) ≡ and_before (is_whole m) i (declarations m is) = declarations_are seen i is
+    ∙ ap (λ o. from o i is) n in
     let k = by_whole (is_whole m) m i is braces more behind found (others m) in
     record { front = k.0; some = k.1; whole = whole ∙ k.2; parts = k.3; ended = k.4 }
 
@@ -148,11 +137,11 @@ misfit_next : (o : Option Seen) (seen : Seen) (i : Item) (is rest : List Item) �
 misfit_next None seen i is rest n e others =
     let same : Misfit (i ∷ is) ≡ Misfit rest = sym (ap (λ o. first_from o i is) n) ∙ sym (first_is seen i is) ∙ e in
     let items : i ∷ is ≡ rest = cc in
-    declared_is seen i is ∙ ap (λ o. declared_from o i is) n ∙ ap Err items
+    declarations_are seen i is ∙ ap (λ o. from o i is) n ∙ ap Err items
 misfit_next (Some m) seen i is rest n e others =
     let found : first_by (is_whole m) m i is (first_declared m is) ≡ Misfit rest = sym (ap (λ o. first_from o i is) n)
     ∙ sym (first_is seen i is) ∙ e in
-    declared_is seen i is ∙ ap (λ o. declared_from o i is) n ∙ by_end (is_whole m) refl found where
+    declarations_are seen i is ∙ ap (λ o. from o i is) n ∙ by_end (is_whole m) refl found where
       by_end : (b : Bool) → is_whole m ≡ b → first_by (is_whole m) m i is (first_declared m is) ≡ Misfit rest
           → and_before (is_whole m) i (declarations m is) ≡ Err rest
       by_end true w h = let no : first_by true m i is (first_declared m is) ≡ Misfit rest = ap (λ b. first_by b m i is

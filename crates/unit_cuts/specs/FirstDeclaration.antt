@@ -1,12 +1,12 @@
 -- No public contract rests on this: the first declaration of a file, and what stands behind it.
-use Rattle.std.specs.Prelude.{◌≡◌, Bool, true, false, List, [], ◌∷◌, Result, Ok, Err, codes, drop, Option, Some, None}
+use Rattle.std.specs.Prelude.{◌≡◌, Bool, true, false, List, [], ◌∷◌, Result, Ok, Err, codes, drop, Some, None}
 use Rattle.racer_base.specs.declared.ids.Place.{Place}
 use Rattle.java_lexer.specs.declared.token.Token.{Token}
 use Rattle.java_units.specs.Tokens.{signed, first_place}
 use Rattle.java_units.specs.Cuts.{joined}
 use Rattle.java_units.specs.Pieces.{Item, items_of}
-use Rattle.java_units.specs.Declarations.{Seen, Whole, Modifiers, AtSign, AnnotationName, AnnotationPoint, TypeWord}
-use Rattle.java_units.specs.Declarations.{TypeName, Directive, seen_with, is_whole}
+use Rattle.java_units.specs.DeclarationWalk.{Seen, Whole, Modifiers, AtSign, AnnotationName, AnnotationPoint, TypeWord}
+use Rattle.java_units.specs.DeclarationWalk.{TypeName, Directive, seen_with, is_whole}
 use Rattle.unit_cuts.specs.declared.declarations.Declaration.{Declaration}
 use Rattle.unit_cuts.specs.declared.declarations.Seen as code
 use Rattle.unit_cuts.specs.declared.declarations.Seen.TheVariants as seen

@@ -5,3 +5,4 @@ pub mod FirstDeclaration
 pub mod PieceSizes
 pub mod FormView
 pub mod DeclaredTypes
+pub mod WalkedTypes

@@ -2,7 +2,7 @@
 ghost use Rattle.std.specs.Prelude.{◌≡◌, ◌<◌, ◌≤◌, true, length, option_map, IfOk};
 ghost use Rattle.java_units.specs.Tokens.{first_place};
 ghost use Rattle.java_units.specs.Pieces.{items_of};
-ghost use Rattle.java_units.specs.Declarations.{modified, seen_with, is_whole, Whole, AtSign, AnnotationName};
+ghost use Rattle.java_units.specs.DeclarationWalk.{modified, seen_with, is_whole, Whole, AtSign, AnnotationName};
 ghost use Rattle.unit_cuts.specs.FirstDeclaration.{seen_of, first_declared, IsFirst};
 
 use super::items::next_item;
@@ -159,7 +159,11 @@ fn is_whole(seen: Seen) -> bool
 }
 
 /// The first declaration, or the place of what does not fit.
-pub fn first_declaration(seen: Seen, tokens: &[Token], end: Place) -> Result<Declaration, Place>
+pub(crate) fn first_declaration(
+    seen: Seen,
+    tokens: &[Token],
+    end: Place,
+) -> Result<Declaration, Place>
     ensures first { IsFirst tokens.now end result (first_declared (seen_of seen) (items_of tokens.now)) }
     ensures whole { IfOk result (λ declared. is_whole (seen_of declared.seen) ≡ true) }
     ensures some { IfOk result (λ declared. 0 < declared.size) }

@@ -1,10 +1,9 @@
 //! The types of a file, and the members of a class.
-ghost use Rattle.std.specs.Prelude.{◌≡◌, Some, None, map, true, IfOk, IfErr, MatchOption, Ok};
+ghost use Rattle.std.specs.Prelude.{◌≡◌, Some, None, map, IfOk, IfErr, MatchOption};
 ghost use Rattle.java_units.specs.Pieces.{items_of};
-ghost use Rattle.java_units.specs.Declarations.{Whole};
 ghost use Rattle.java_units.specs.Members.{members_of};
 ghost use Rattle.java_units.specs.Units.{read_name};
-ghost use Rattle.unit_cuts.specs.DeclaredTypes.{types_from, IsNoUnit};
+ghost use Rattle.unit_cuts.specs.DeclaredTypes.{AreTypes, IsNoUnit};
 
 use super::bodies::{is_lone, next_member};
 use super::declarations::{Seen, first_declaration};
@@ -19,9 +18,8 @@ pub fn types<'a>(
     tokens: &'a [Token],
     end: Place,
 ) -> Result<Vec<&'a [Token]>, ParseFault>
-    ensures ok { IfOk result (λ types. types_from (Whole true true) (items_of tokens.now)
-        ≡ Ok (map (λ t. t.now) types.items)) }
-    ensures fault { IfErr result (λ fault. IsNoUnit end fault (types_from (Whole true true) (items_of tokens.now))) }
+    ensures ok { IfOk result (λ types. AreTypes (items_of tokens.now) (map (λ t. t.now) types.items)) }
+    ensures fault { IfErr result (λ fault. IsNoUnit end fault (items_of tokens.now)) }
 {
     let mut types = Vec::new(alloc);
     let mut seen = Seen::Whole(true, true);

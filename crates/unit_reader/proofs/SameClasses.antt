@@ -1,5 +1,5 @@
 -- A file is one unit at most.
-use Rattle.std.proofs.Common.{◌≡◌, ℕ, not, List, [], ◌∷◌, ◌++◌, Option, Some, None, Result, Ok, Err}
+use Rattle.std.proofs.Common.{◌≡◌, ℕ, not, List, [], ◌∷◌, ◌++◌, Option, Some, None}
 use Rattle.std.proofs.Common.{IsTrue, codes, filter, refl, ap, sym, ◌∙◌, subst, append-nil}
 use Rattle.std.specs.Prelude.{◌||◌}
 use Rattle.std.specs.List.{AllZip}
@@ -27,6 +27,7 @@ use Rattle.java_units.specs.Pieces.{Item, items_of, pieces_of}
 use Rattle.java_units.specs.Declarations.{types_among}
 use Rattle.java_units.specs.Units.{BeginsAt, HasForm, IsMember, annotations_before, IsAnnotation, body_among, is_read}
 use Rattle.java_units.specs.Units.{IsClass, IsUnit}
+use Rattle.java_units.proofs.Misfits.{one_cut}
 use Rattle.method_reader.specs.PlacedMethods.{IsPlacedMethod}
 use Rattle.unit_reader.specs.SameUnits.{SameAnnotation, SameMethod, SameMember, SameClass, SameUnit}
 use Rattle.unit_reader.proofs.SameFields.{two_zips, same_field}
@@ -171,13 +172,9 @@ same_starts (t ∷ ts) (p ∷ ps) [] h k = absurd k
 same_starts (t ∷ ts) (p ∷ ps) (q ∷ qs) h k =
     ap (λ l. p ∷ l) (same_starts ts ps qs h.1 k.1) ∙ ap (λ x. x ∷ qs) (same_start t p q h.0 k.0)
 
-abbrev parts_of : Result (List (List Item)) (List Item) → List (List Item)
-parts_of (Ok ds) = ds
-parts_of (Err rest) = []
-
 pub same_unit : OnePlaced → (ts : List Token) (u v : unit.Unit) → IsUnit ts u → IsUnit ts v → SameUnit u v
 same_unit one ts u v h k =
-    let all : k.all ≡ h.all = ap parts_of (sym k.fit ∙ h.fit) in
+    let all : k.all ≡ h.all = one_cut (items_of ts) k.all h.all k.fit h.fit in
     let types = types_among h.all in
     record {
       classes = two_zips IsClass IsClass SameClass (same_class one) (filter is_read types) u.classes v.classes h.classes

@@ -1,6 +1,6 @@
 -- A file is read as its types, or has its first fault.
 use Rattle.std.proofs.Common.{◌≡◌, inl, inr, Bool, true, false, not, List, [], ◌∷◌, Some, None}
-use Rattle.std.proofs.Common.{Result, Ok, Err, filter, refl, ap, sym, subst}
+use Rattle.std.proofs.Common.{filter, ap, sym, subst}
 use Rattle.std.specs.Prelude.{is_some}
 use Rattle.std.specs.List.{AllZip}
 use Rattle.racer_base.specs.declared.ids.Place.{Place}
@@ -9,12 +9,9 @@ use Rattle.java_units.specs.declared.unit.ClassTree.{ClassTree}
 use Rattle.java_units.specs.declared.unit.Unit as unit
 use Rattle.java_units.specs.declared.unit.ParseFault.{ParseFault}
 use Rattle.java_units.specs.declared.unit.ParseFault.TheVariants.{Unbalanced, TooDeep, NotAUnit, Memory}
-use Rattle.java_units.specs.Cuts.{joined}
-use Rattle.java_units.specs.Tokens.{first_place}
-use Rattle.java_units.specs.Declarations.{Seen, Whole, declarations, types_among}
-use Rattle.java_units.specs.Pieces.{Item, items_of}
+use Rattle.java_units.specs.Pieces.{items_of}
 use Rattle.java_units.specs.Units.{BeginsAt, read_name, is_read, IsClass, IsUnit, IsFault}
-use Rattle.unit_cuts.specs.DeclaredTypes.{typed, types_from, IsMisfitAt, IsNoUnit}
+use Rattle.unit_cuts.specs.DeclaredTypes.{AreTypes, IsNoUnit}
 use Rattle.unit_cuts.specs.OpenBrackets.{IsBalanced, IsBracketFault}
 use Rattle.member_reader.proofs.Zips.{Zips, zips_one, zips_done, filter_keeps, filter_drops}
 use Rattle.unit_reader.specs.ReadTypes.{AddsType, AreRead}
@@ -67,31 +64,18 @@ read_more all a b type rest h (inr s) = record {
 
 -- ---- files
 
-record Typed (seen : Seen) (is : List Item) (types : List (List Token)) : Type 0 where
-  pub all : List (List Item)
-  pub fit : declarations seen is ≡ Ok all
-  pub among : types_among all ≡ types
-
-by_answer : (seen : Seen) (is : List Item) (types : List (List Token)) (r : Result (List (List Item)) (List Item))
-    → declarations seen is ≡ r → typed r ≡ Ok types → Typed seen is types
-by_answer seen is types (Ok ds) e h =
-    let same : types_among ds ≡ types = cc in record { all = ds; fit = e; among = same }
-by_answer seen is types (Err rest) e h = absurd cc
-
 pub is_unit : (ts : List Token) (types : List (List Token)) (u : unit.Unit) → IsBalanced ts
-    → types_from (Whole true true) (items_of ts) ≡ Ok types → AreRead types u → IsUnit ts u
-is_unit ts types u balanced found read =
-    let k = by_answer (Whole true true) (items_of ts) types (declarations (Whole true true) (items_of ts)) refl found in
-    record {
-      balanced = balanced.balanced;
-      flat = balanced.flat;
-      all = k.all;
-      fit = k.fit;
-      classes = subst (λ (l : List (List Token)). AllZip IsClass (filter is_read l) u.classes) (sym k.among)
-          read.classes;
-      skipped = subst (λ (l : List (List Token)). AllZip BeginsAt (filter is_other l) u.skipped) (sym k.among)
-          read.skipped;
-    }
+    → AreTypes (items_of ts) types → AreRead types u → IsUnit ts u
+is_unit ts types u balanced found read = record {
+  balanced = balanced.balanced;
+  flat = balanced.flat;
+  all = found.all;
+  fit = found.fit;
+  classes = subst (λ (l : List (List Token)). AllZip IsClass (filter is_read l) u.classes) (sym found.among)
+      read.classes;
+  skipped = subst (λ (l : List (List Token)). AllZip BeginsAt (filter is_other l) u.skipped) (sym found.among)
+      read.skipped;
+}
 
 pub bracket_fault : (ts : List Token) (end : Place) (fault : ParseFault) → IsBracketFault ts fault
     → IsFault ts end fault
@@ -100,16 +84,9 @@ bracket_fault ts end (TooDeep place) h = h
 bracket_fault ts end (NotAUnit place) h = absurd h
 bracket_fault ts end Memory h = tt
 
-misfit : (end place : Place) (r : Result (List (List Item)) (List Item)) → IsMisfitAt end place (typed r)
-    → (rest : List Item) × (r ≡ Err rest) × (first_place end (joined rest) ≡ place)
-misfit end place (Ok ds) h = absurd h
-misfit end place (Err rest) h = (rest, refl, h)
-
 pub no_unit : (ts : List Token) (end : Place) (fault : ParseFault) → IsBalanced ts
-    → IsNoUnit end fault (types_from (Whole true true) (items_of ts)) → IsFault ts end fault
+    → IsNoUnit end fault (items_of ts) → IsFault ts end fault
 no_unit ts end (Unbalanced place) balanced h = absurd h
 no_unit ts end (TooDeep place) balanced h = absurd h
-no_unit ts end (NotAUnit place) balanced h =
-    let k = misfit end place (declarations (Whole true true) (items_of ts)) h in
-    (balanced.balanced, balanced.flat, k.0, k.1, k.2)
+no_unit ts end (NotAUnit place) balanced h = (balanced.balanced, balanced.flat, h.0, h.1, h.2)
 no_unit ts end Memory balanced h = tt

@@ -1,10 +1,10 @@
 //! Items, members, variables and types are found in one way.
-ghost use Rattle.std.specs.Prelude.{◌≡◌, List, false, true, Ok, map};
+ghost use Rattle.std.specs.Prelude.{◌≡◌, ◌⊎◌, List, false, map};
 ghost use Rattle.java_lexer.specs.declared.token.Token.{Token};
 ghost use Rattle.java_tree.specs.declared.methods.FieldVariable.{FieldVariable};
 ghost use Rattle.java_units.specs.Cuts.{joined};
 ghost use Rattle.java_units.specs.Pieces.{Item, items_of, pieces_of};
-ghost use Rattle.java_units.specs.Declarations.{declarations, Whole};
+ghost use Rattle.java_units.specs.Declarations.{AreDeclarations, IsMisfit};
 ghost use Rattle.java_units.specs.FieldDivisions.{AreRead};
 ghost use Rattle.java_units.specs.Members.{cut_members};
 ghost use Rattle.java_units.specs.ReadVariables.{read_of};
@@ -26,10 +26,14 @@ pub fn members_are_cut_once()
     ensures once { (pieces : List (List Item)) → IsCut pieces → cut_members false (joined pieces) ≡ pieces }
 {}
 
-/// The declarations of a file are together its items.
-pub fn types_are_the_declarations()
-    ensures { (all : List Item) (ds : List (List Item)) → declarations (Whole true true) all ≡ Ok ds
-        → joined ds ≡ all }
+/// A file is cut into declarations in one way, and then no token of it does not fit; where one does not, it is one alone.
+pub fn declarations_are_cut_once()
+    ensures once { (all : List Item) (ds es : List (List Item)) → AreDeclarations all ds → AreDeclarations all es
+        → ds ≡ es }
+    ensures fits { (all rest : List Item) (ds : List (List Item)) → AreDeclarations all ds → ¬ IsMisfit all rest }
+    ensures misfit { (all rest other : List Item) → IsMisfit all rest → IsMisfit all other → rest ≡ other }
+    ensures either { (all : List Item) → ((ds : List (List Item)) × AreDeclarations all ds)
+        ⊎ ((rest : List Item) × IsMisfit all rest) }
 {}
 
 /// Of the tokens behind a field's type, two divisions in which each initialiser has a tree are one, and its variables are

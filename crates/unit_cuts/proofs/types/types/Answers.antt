@@ -1,9 +1,10 @@
-use Rattle.std.proofs.Common.{◌≡◌, ◌≤◌, [], ◌∷◌, ◌++◌, true, map, length, take, drop, arith, ap, sym, ◌∙◌, refl, subst}
+use Rattle.std.proofs.Common.{◌≤◌, [], ◌∷◌, ◌++◌, true, map, length, take, drop, arith, ap, sym, ◌∙◌}
 use Rattle.std.proofs.lemmas.List.{append-nil}
 use Rattle.java_units.specs.Pieces.{items_of}
-use Rattle.java_units.specs.Declarations.{Whole}
+use Rattle.java_units.specs.DeclarationWalk.{Whole}
 use Rattle.unit_cuts.specs.FirstDeclaration.{seen_of}
-use Rattle.unit_cuts.specs.DeclaredTypes.{types_from, with_types, type_if}
+use Rattle.unit_cuts.specs.WalkedTypes.{types_from, with_types, type_if}
+use Rattle.unit_cuts.proofs.FileTypes.{all_walked, walked_fault}
 use Rattle.unit_cuts.proofs.TypeSteps.{walk_fails, walk_goes_on, has_items, map_push}
 use Rattle.unit_cuts.proofs.types.types.Goals as goal
 
@@ -11,9 +12,15 @@ pub returns-in-Err-clause-fault : goal.returns-in-Err-clause-fault
 returns-in-Err-clause-fault c =
     let rest = c.loop-rest.rest.now in
     let some : 1 ≤ length rest = omega (arith, c.loop-rest-test.true) in
-    walk_fails c.args.end c.in-Err.place (map (λ t. t.now) c.loop-rest.types.items) (seen_of c.loop-rest.seen)
-    (items_of rest) (types_from (Whole true true) (items_of c.args.tokens.now)) (λ n. absurd (has_items rest some n))
-    c.loop-rest.invariant.gives c.in-Err.ensures.first
+    walked_fault (items_of c.args.tokens.now) c.args.end c.in-Err.place (walk_fails c.args.end c.in-Err.place
+    (map (λ t. t.now) c.loop-rest.types.items) (seen_of c.loop-rest.seen) (items_of rest)
+    (types_from (Whole true true) (items_of c.args.tokens.now)) (λ n. absurd (has_items rest some n))
+    c.loop-rest.invariant.gives c.in-Err.ensures.first)
+
+pub returns-clause-ok : goal.returns-clause-ok
+returns-clause-ok c =
+    all_walked (items_of c.args.tokens.now) (map (λ t. t.now) c.loop-rest.types.items) (seen_of c.loop-rest.seen)
+    c.loop-rest.rest.now c.loop-rest-test.false c.loop-rest.invariant.whole c.loop-rest.invariant.gives
 
 pub loop-rest-preserved-in_ok-push : goal.loop-rest-preserved-in_ok-push
 loop-rest-preserved-in_ok-push c =

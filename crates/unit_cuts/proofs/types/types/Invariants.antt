@@ -1,8 +1,8 @@
 use Rattle.std.proofs.Common.{◌≡◌, true, map, length}
 use Rattle.java_units.specs.Pieces.{items_of}
-use Rattle.java_units.specs.Declarations.{Whole, is_whole}
+use Rattle.java_units.specs.DeclarationWalk.{Whole, is_whole}
 use Rattle.unit_cuts.specs.FirstDeclaration.{seen_of}
-use Rattle.unit_cuts.specs.DeclaredTypes.{types_from, with_types}
+use Rattle.unit_cuts.specs.WalkedTypes.{types_from, with_types}
 use Rattle.unit_cuts.proofs.types.types.Given as goal
 
 abbrev pub invariant-loop-rest : goal.invariant-loop-rest
