@@ -1,14 +1,17 @@
 //! The tokens of expressions (JLS 15) and array initialisers (JLS 10.6).
 ghost use Rattle.std.specs.Prelude.{◌∷◌, ◌++◌, map};
 ghost use Rattle.java_tree.specs.Words.{sign};
-ghost use Rattle.java_tree.specs.Trees.{Assign, Conditional, Binary, InstanceOf, Prefix, Cast, Paren, Field, Index};
-ghost use Rattle.java_tree.specs.Trees.{Call, CallOn, ClassOf, New, NewArray, NewItems, pack_exprs, pack_inits};
+ghost use Rattle.java_tree.specs.Trees.{Conditional, Binary, InstanceOf, Cast, Paren, Field, Call, ClassOf};
+ghost use Rattle.java_tree.specs.Trees.{New, NewArray, NewItems, pack_exprs, pack_inits};
 ghost use Rattle.java_tree.specs.Spelling.{operator_onto, last_comma_onto, names_onto, expr_onto, exprs_onto};
 ghost use Rattle.java_tree.specs.Spelling.{lengths_onto, array_onto, inits_onto, init_onto};
 ghost use Rattle.java_tree.specs.View.{name_of, ty_of, expr_of, init_of, array_of};
 ghost use Rattle.tree_spelling.specs.Puts.{Lasts, Puts};
 
-use super::put::{put_above, put_brackets, put_keyword, put_name, put_sign, put_word};
+use super::put::{
+    put_above, put_brackets, put_close, put_comma, put_keyword, put_name, put_new, put_open,
+    put_point, put_sign, put_word,
+};
 use super::tokens::Tokens;
 use super::types::spell_type;
 use java_tree::{ArrayTree, Expression, Ident, Initialiser, TypeTree};
@@ -42,7 +45,7 @@ fn put_names(out: &mut Tokens, names: &[Ident])
     };
     put_name(out, first.text.as_str());
     for other in others {
-        put_sign(out, ".");
+        put_point(out);
         put_name(out, other.text.as_str());
     }
 }
@@ -53,7 +56,7 @@ fn put_last_comma(out: &mut Tokens, stands: bool)
     ensures puts { Puts (last_comma_onto stands) out.old out.new }
 {
     if stands {
-        put_sign(out, ",");
+        put_comma(out);
     }
 }
 
@@ -63,7 +66,7 @@ fn put_class_of(out: &mut Tokens, names: &[Ident])
     ensures puts { Puts (expr_onto (ClassOf (map name_of names.now))) out.old out.new }
 {
     put_names(out, names);
-    put_sign(out, ".");
+    put_point(out);
     put_keyword(out, "class")
 }
 
@@ -73,11 +76,17 @@ pub fn spell_expression(out: &mut Tokens, tree: &Expression)
     ensures puts { Puts (expr_onto (expr_of tree.now)) out.old out.new }
 {
     match tree {
-        Expression::Assign(a, operator, b) => spell_assignment(out, a, operator, b),
+        Expression::Assign(a, operator, b) => {
+            spell_before(out, a, operator.as_str());
+            spell_expression(out, b)
+        }
         Expression::Conditional(a, b, c) => spell_conditional(out, a, b, c),
         Expression::Binary(a, operator, b) => spell_binary(out, a, operator, b),
         Expression::InstanceOf(a, kind) => spell_instance_of(out, a, kind),
-        Expression::Prefix(operator, a) => spell_prefix(out, operator, a),
+        Expression::Prefix(operator, a) => {
+            put_sign(out, operator.as_str());
+            spell_expression(out, a)
+        }
         Expression::Cast(kind, a) => spell_cast(out, a, kind),
         Expression::Postfix(a, operator) => spell_before(out, a, operator.as_str()),
         Expression::Literal(kind, text) => put_word(out, *kind, text.as_str()),
@@ -85,9 +94,15 @@ pub fn spell_expression(out: &mut Tokens, tree: &Expression)
         Expression::Name(name) => put_name(out, name.text.as_str()),
         Expression::Paren(a) => spell_parentheses(out, a),
         Expression::Field(a, name) => spell_field(out, a, name),
-        Expression::Index(a, index) => spell_index(out, a, index),
+        Expression::Index(a, index) => {
+            spell_before(out, a, "[");
+            spell_before(out, index, "]")
+        }
         Expression::Call(None, name, all) => spell_call(out, all, name),
-        Expression::Call(Some(a), name, all) => spell_call_on(out, a, name, all),
+        Expression::Call(Some(a), name, all) => {
+            spell_before(out, a, ".");
+            spell_call(out, all, name)
+        }
         Expression::ClassOf(names) => put_class_of(out, names),
         Expression::New(_, kind, all) => spell_new(out, all, kind),
         Expression::NewArray(_, kind, all, n) => spell_new_array(out, all, kind, *n),
@@ -103,15 +118,6 @@ pub fn spell_before(out: &mut Tokens, a: &Expression, text: &str)
 {
     spell_expression(out, a);
     put_sign(out, text)
-}
-
-#[cycle(spell_expressions)]
-fn spell_assignment(out: &mut Tokens, a: &Expression, operator: &Text, b: &Expression)
-    ensures lasts { Lasts out.old out.new }
-    ensures puts { Puts (expr_onto (Assign (expr_of a.now) operator.now (expr_of b.now))) out.old out.new }
-{
-    spell_before(out, a, operator.as_str());
-    spell_expression(out, b)
 }
 
 #[cycle(spell_expressions)]
@@ -145,22 +151,13 @@ fn spell_instance_of(out: &mut Tokens, a: &Expression, kind: &TypeTree)
 }
 
 #[cycle(spell_expressions)]
-fn spell_prefix(out: &mut Tokens, operator: &Text, a: &Expression)
-    ensures lasts { Lasts out.old out.new }
-    ensures puts { Puts (expr_onto (Prefix operator.now (expr_of a.now))) out.old out.new }
-{
-    put_sign(out, operator.as_str());
-    spell_expression(out, a)
-}
-
-#[cycle(spell_expressions)]
 fn spell_cast(out: &mut Tokens, a: &Expression, kind: &TypeTree)
     ensures lasts { Lasts out.old out.new }
     ensures puts { Puts (expr_onto (Cast (ty_of kind.now) (expr_of a.now))) out.old out.new }
 {
-    put_sign(out, "(");
+    put_open(out);
     spell_type(out, kind);
-    put_sign(out, ")");
+    put_close(out);
     spell_expression(out, a)
 }
 
@@ -169,7 +166,7 @@ fn spell_parentheses(out: &mut Tokens, a: &Expression)
     ensures lasts { Lasts out.old out.new }
     ensures puts { Puts (expr_onto (Paren (expr_of a.now))) out.old out.new }
 {
-    put_sign(out, "(");
+    put_open(out);
     spell_before(out, a, ")")
 }
 
@@ -183,32 +180,14 @@ fn spell_field(out: &mut Tokens, a: &Expression, name: &Ident)
 }
 
 #[cycle(spell_expressions)]
-fn spell_index(out: &mut Tokens, a: &Expression, index: &Expression)
-    ensures lasts { Lasts out.old out.new }
-    ensures puts { Puts (expr_onto (Index (expr_of a.now) (expr_of index.now))) out.old out.new }
-{
-    spell_before(out, a, "[");
-    spell_before(out, index, "]")
-}
-
-#[cycle(spell_expressions)]
 fn spell_call(out: &mut Tokens, all: &[Expression], name: &Ident)
     ensures lasts { Lasts out.old out.new }
     ensures puts { Puts (expr_onto (Call (name_of name.now) (pack_exprs (map expr_of all.now)))) out.old out.new }
 {
     put_name(out, name.text.as_str());
-    put_sign(out, "(");
+    put_open(out);
     spell_list(out, all);
-    put_sign(out, ")")
-}
-
-#[cycle(spell_expressions)]
-fn spell_call_on(out: &mut Tokens, a: &Expression, name: &Ident, all: &[Expression])
-    ensures lasts { Lasts out.old out.new }
-    ensures puts { Puts (expr_onto (CallOn (expr_of a.now) (name_of name.now) (pack_exprs (map expr_of all.now)))) out.old out.new }
-{
-    spell_before(out, a, ".");
-    spell_call(out, all, name)
+    put_close(out)
 }
 
 #[cycle(spell_expressions)]
@@ -216,11 +195,11 @@ fn spell_new(out: &mut Tokens, all: &[Expression], kind: &TypeTree)
     ensures lasts { Lasts out.old out.new }
     ensures puts { Puts (expr_onto (New (ty_of kind.now) (pack_exprs (map expr_of all.now)))) out.old out.new }
 {
-    put_keyword(out, "new");
+    put_new(out);
     spell_type(out, kind);
-    put_sign(out, "(");
+    put_open(out);
     spell_list(out, all);
-    put_sign(out, ")")
+    put_close(out)
 }
 
 #[cycle(spell_expressions)]
@@ -228,7 +207,7 @@ fn spell_new_array(out: &mut Tokens, lengths: &[Expression], kind: &TypeTree, co
     ensures lasts { Lasts out.old out.new }
     ensures puts { Puts (expr_onto (NewArray (ty_of kind.now) (pack_exprs (map expr_of lengths.now)) count)) out.old out.new }
 {
-    put_keyword(out, "new");
+    put_new(out);
     spell_type(out, kind);
     spell_lengths(out, lengths);
     put_brackets(out, count)
@@ -239,7 +218,7 @@ fn spell_new_items(out: &mut Tokens, items: &ArrayTree, kind: &TypeTree, count: 
     ensures lasts { Lasts out.old out.new }
     ensures puts { Puts (expr_onto (NewItems (ty_of kind.now) count (array_of items.now))) out.old out.new }
 {
-    put_keyword(out, "new");
+    put_new(out);
     spell_type(out, kind);
     put_brackets(out, count);
     spell_array(out, items)
@@ -256,7 +235,7 @@ pub fn spell_list(out: &mut Tokens, all: &[Expression])
     };
     spell_expression(out, first);
     for other in others {
-        put_sign(out, ",");
+        put_comma(out);
         spell_expression(out, other);
     }
 }
@@ -295,7 +274,7 @@ fn spell_items(out: &mut Tokens, all: &[Initialiser])
     };
     spell_initialiser(out, first);
     for other in others {
-        put_sign(out, ",");
+        put_comma(out);
         spell_initialiser(out, other);
     }
 }

@@ -6,7 +6,10 @@ ghost use Rattle.java_tree.specs.Spelling.{method_onto};
 ghost use Rattle.java_tree.specs.View.{ty_of, annotation_of, modifier_of, result_of, parameter_of, method_of};
 ghost use Rattle.tree_spelling.specs.Puts.{Lasts, Puts};
 
-use super::put::{put_final, put_keyword, put_name, put_sign, put_token};
+use super::put::{
+    put_close, put_comma, put_final, put_keyword, put_name, put_open, put_point, put_sign,
+    put_token,
+};
 use super::statements::spell_block;
 use super::tokens::Tokens;
 use super::types::spell_type;
@@ -25,7 +28,7 @@ fn put_texts(out: &mut Tokens, names: &[Text])
     };
     put_name(out, first.as_str());
     for other in others {
-        put_sign(out, ".");
+        put_point(out);
         put_name(out, other.as_str());
     }
 }
@@ -109,7 +112,7 @@ fn spell_parameters(out: &mut Tokens, parameters: &[ParameterTree])
     };
     spell_parameter(out, first);
     for other in others {
-        put_sign(out, ",");
+        put_comma(out);
         spell_parameter(out, other);
     }
 }
@@ -125,7 +128,7 @@ fn spell_throws(out: &mut Tokens, throws: &[TypeTree])
     put_keyword(out, "throws");
     spell_type(out, first);
     for other in others {
-        put_sign(out, ",");
+        put_comma(out);
         spell_type(out, other);
     }
 }
@@ -137,9 +140,9 @@ pub fn spell_method(out: &mut Tokens, tree: &MethodTree)
     spell_modifiers(out, tree.modifiers.as_slice());
     spell_result(out, &tree.result);
     put_name(out, tree.name.text.as_str());
-    put_sign(out, "(");
+    put_open(out);
     spell_parameters(out, tree.parameters.as_slice());
-    put_sign(out, ")");
+    put_close(out);
     spell_throws(out, tree.throws.as_slice());
     spell_block(out, tree.body.as_slice())
 }

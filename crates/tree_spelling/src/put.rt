@@ -67,6 +67,52 @@ pub fn put_sign(out: &mut Tokens, text: &str)
     put_token(out, TokenKind::Sign, text, false)
 }
 
+/// An opening parenthesis.
+pub fn put_open(out: &mut Tokens)
+    ensures lasts { Lasts out.old out.new }
+    ensures puts { Puts (λ rest. sign (codes "(") ∷ rest) out.old out.new }
+{
+    put_sign(out, "(")
+}
+
+/// A closing parenthesis.
+pub fn put_close(out: &mut Tokens)
+    ensures lasts { Lasts out.old out.new }
+    ensures puts { Puts (λ rest. sign (codes ")") ∷ rest) out.old out.new }
+{
+    put_sign(out, ")")
+}
+
+pub fn put_comma(out: &mut Tokens)
+    ensures lasts { Lasts out.old out.new }
+    ensures puts { Puts (λ rest. sign (codes ",") ∷ rest) out.old out.new }
+{
+    put_sign(out, ",")
+}
+
+pub fn put_point(out: &mut Tokens)
+    ensures lasts { Lasts out.old out.new }
+    ensures puts { Puts (λ rest. sign (codes ".") ∷ rest) out.old out.new }
+{
+    put_sign(out, ".")
+}
+
+/// The end of a statement, and what stands between the parts of a `for`.
+pub fn put_end(out: &mut Tokens)
+    ensures lasts { Lasts out.old out.new }
+    ensures puts { Puts (λ rest. sign (codes ";") ∷ rest) out.old out.new }
+{
+    put_sign(out, ";")
+}
+
+/// The keyword `new`.
+pub fn put_new(out: &mut Tokens)
+    ensures lasts { Lasts out.old out.new }
+    ensures puts { Puts (λ rest. keyword (codes "new") ∷ rest) out.old out.new }
+{
+    put_keyword(out, "new")
+}
+
 /// A `>`, which may be glued to the one before it.
 pub fn put_above(out: &mut Tokens, glued: bool)
     ensures lasts { Lasts out.old out.new }

@@ -9,7 +9,9 @@ ghost use Rattle.java_tree.specs.View.{name_of, ty_of, expr_of, variable_of, loc
 ghost use Rattle.tree_spelling.specs.Puts.{Lasts, Puts};
 
 use super::expressions::{spell_before, spell_expression, spell_initialiser, spell_list};
-use super::put::{put_final, put_keyword, put_name, put_sign};
+use super::put::{
+    put_close, put_comma, put_end, put_final, put_keyword, put_name, put_open, put_sign,
+};
 use super::tokens::Tokens;
 use super::types::spell_type;
 use java_tree::{Expression, Ident, LocalsTree, StartTree, Statement, TypeTree, VariableTree};
@@ -36,7 +38,7 @@ fn spell_variables(out: &mut Tokens, variables: &[VariableTree])
     };
     spell_variable(out, first);
     for other in others {
-        put_sign(out, ",");
+        put_comma(out);
         spell_variable(out, other);
     }
 }
@@ -79,7 +81,7 @@ fn spell_head(out: &mut Tokens, word: &str, value: &Expression)
     ensures puts { Puts (λ rest. keyword word.now ∷ sign (codes "(") ∷ expr_onto (expr_of value.now) (sign (codes ")") ∷ rest)) out.old out.new }
 {
     put_keyword(out, word);
-    put_sign(out, "(");
+    put_open(out);
     spell_before(out, value, ")")
 }
 
@@ -94,13 +96,13 @@ fn spell_for_head(
     ensures puts { Puts (λ rest. keyword (codes "for") ∷ sign (codes "(") ∷ start_onto (start_of start.now) (sign (codes ";") ∷ maybe_expr_onto (option_map expr_of condition.now) (sign (codes ";") ∷ exprs_onto (pack_exprs (map expr_of updates.now)) (sign (codes ")") ∷ rest)))) out.old out.new }
 {
     put_keyword(out, "for");
-    put_sign(out, "(");
+    put_open(out);
     spell_start(out, start);
-    put_sign(out, ";");
+    put_end(out);
     spell_maybe(out, condition);
-    put_sign(out, ";");
+    put_end(out);
     spell_list(out, updates);
-    put_sign(out, ")")
+    put_close(out)
 }
 
 /// A `for` over all elements, up to its body.
@@ -115,7 +117,7 @@ fn spell_for_each_head(
     ensures puts { Puts (λ rest. keyword (codes "for") ∷ sign (codes "(") ∷ final_onto is_final (ty_onto (ty_of kind.now) (identifier (name_of name.now) ∷ sign (codes ":") ∷ expr_onto (expr_of value.now) (sign (codes ")") ∷ rest)))) out.old out.new }
 {
     put_keyword(out, "for");
-    put_sign(out, "(");
+    put_open(out);
     put_final(out, is_final);
     spell_type(out, kind);
     put_name(out, name.text.as_str());
@@ -128,7 +130,7 @@ fn spell_local(out: &mut Tokens, locals: &LocalsTree)
     ensures puts { Puts (stmt_onto (Local (locals_of locals.now))) out.old out.new }
 {
     spell_locals(out, locals);
-    put_sign(out, ";")
+    put_end(out)
 }
 
 fn spell_return(out: &mut Tokens, value: &Option<Expression>)
@@ -137,7 +139,7 @@ fn spell_return(out: &mut Tokens, value: &Option<Expression>)
 {
     put_keyword(out, "return");
     spell_maybe(out, value);
-    put_sign(out, ";")
+    put_end(out)
 }
 
 #[cycle(spell_statements)]
@@ -171,7 +173,7 @@ fn spell_statement(out: &mut Tokens, tree: &Statement)
         }
         Statement::Sync(_, value, block) => spell_sync(out, block, value),
         Statement::Return(value) => spell_return(out, value),
-        Statement::Empty => put_sign(out, ";"),
+        Statement::Empty => put_end(out),
     }
 }
 

@@ -6,7 +6,7 @@ ghost use Rattle.java_tree.specs.Spelling.{argument_onto};
 ghost use Rattle.java_tree.specs.View.{ty_of, base_of, part_of, angled_of, argument_of};
 ghost use Rattle.tree_spelling.specs.Puts.{Lasts, Puts};
 
-use super::put::{put_above, put_brackets, put_keyword, put_name, put_sign};
+use super::put::{put_above, put_brackets, put_comma, put_keyword, put_name, put_point, put_sign};
 use super::tokens::Tokens;
 use java_tree::{BaseType, TypeArgument, TypeArguments, TypePart, TypeTree};
 
@@ -41,7 +41,7 @@ fn spell_parts(out: &mut Tokens, parts: &[TypePart])
     };
     spell_part(out, first);
     for other in others {
-        put_sign(out, ".");
+        put_point(out);
         spell_part(out, other);
     }
 }
@@ -80,7 +80,7 @@ fn spell_arguments(out: &mut Tokens, arguments: &[TypeArgument])
     };
     spell_argument(out, first);
     for other in others {
-        put_sign(out, ",");
+        put_comma(out);
         spell_argument(out, other);
     }
 }

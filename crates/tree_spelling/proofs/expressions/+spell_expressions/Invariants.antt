@@ -1,5 +1,4 @@
 use Rattle.std.proofs.Common.{◌+◌, ◌*◌, max, map, drop}
-use denote.Param.Weighed.{most}
 use Rattle.java_tree.specs.declared.expressions.Expression.{size-Expression}
 use Rattle.java_tree.specs.Trees.{pack_exprs, pack_inits}
 use Rattle.java_tree.specs.Spelling.{more_exprs_onto, lengths_onto, more_inits_onto}
@@ -65,9 +64,6 @@ decreases-spell_initialiser l = 4 * goal.size-spell_initialiser l + 0
 abbrev pub decreases-spell_instance_of : goal.decreases-spell_instance_of
 decreases-spell_instance_of l = 4 * goal.size-spell_instance_of l + 1
 
-abbrev pub decreases-spell_prefix : goal.decreases-spell_prefix
-decreases-spell_prefix l = 4 * goal.size-spell_prefix l + 1
-
 abbrev pub decreases-spell_cast : goal.decreases-spell_cast
 decreases-spell_cast l = 4 * goal.size-spell_cast l + 1
 
@@ -77,18 +73,9 @@ decreases-spell_parentheses l = 4 * goal.size-spell_parentheses l + 2
 abbrev pub decreases-spell_field : goal.decreases-spell_field
 decreases-spell_field l = 4 * goal.size-spell_field l + 2
 
-abbrev pub decreases-spell_assignment : goal.decreases-spell_assignment
-decreases-spell_assignment l = 4 * (max (size-Expression l.a.now) (size-Expression l.b.now)) + 2
-
 abbrev pub decreases-spell_conditional : goal.decreases-spell_conditional
 decreases-spell_conditional l =
     4 * (max (size-Expression l.a.now) (max (size-Expression l.b.now) (size-Expression l.c.now))) + 2
 
 abbrev pub decreases-spell_binary : goal.decreases-spell_binary
 decreases-spell_binary l = 4 * (max (size-Expression l.a.now) (size-Expression l.b.now)) + 2
-
-abbrev pub decreases-spell_index : goal.decreases-spell_index
-decreases-spell_index l = 4 * (max (size-Expression l.a.now) (size-Expression l.index.now)) + 2
-
-abbrev pub decreases-spell_call_on : goal.decreases-spell_call_on
-decreases-spell_call_on l = 4 * (max (size-Expression l.a.now) (most size-Expression l.all.now)) + 3
