@@ -205,7 +205,8 @@ fn spell_new(out: &mut Tokens, all: &[Expression], kind: &TypeTree)
 #[cycle(spell_expressions)]
 fn spell_new_array(out: &mut Tokens, lengths: &[Expression], kind: &TypeTree, count: u32)
     ensures lasts { Lasts out.old out.new }
-    ensures puts { Puts (expr_onto (NewArray (ty_of kind.now) (pack_exprs (map expr_of lengths.now)) count)) out.old out.new }
+    ensures puts { Puts (expr_onto (NewArray (ty_of kind.now) (pack_exprs (map expr_of lengths.now)) count))
+        out.old out.new }
 {
     put_new(out);
     spell_type(out, kind);

@@ -36,7 +36,7 @@ fn put_texts(out: &mut Tokens, names: &[Text])
 /// Tokens as they stand.
 fn put_tokens(out: &mut Tokens, tokens: &[Spelled])
     ensures lasts { Lasts out.old out.new }
-    ensures puts { Puts (λ rest. (tokens.now ++ rest)) out.old out.new }
+    ensures puts { Puts (λ rest. tokens.now ++ rest) out.old out.new }
 {
     for token in tokens {
         put_token(out, token.kind, token.text.as_str(), token.glued);

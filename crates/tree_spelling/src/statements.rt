@@ -78,7 +78,8 @@ fn spell_maybe(out: &mut Tokens, value: &Option<Expression>)
 /// A keyword, and an expression in parentheses.
 fn spell_head(out: &mut Tokens, word: &str, value: &Expression)
     ensures lasts { Lasts out.old out.new }
-    ensures puts { Puts (λ rest. keyword word.now ∷ sign (codes "(") ∷ expr_onto (expr_of value.now) (sign (codes ")") ∷ rest)) out.old out.new }
+    ensures puts { Puts (λ rest. keyword word.now ∷ sign (codes "(") ∷ expr_onto (expr_of value.now)
+        (sign (codes ")") ∷ rest)) out.old out.new }
 {
     put_keyword(out, word);
     put_open(out);
@@ -93,7 +94,9 @@ fn spell_for_head(
     updates: &[Expression],
 )
     ensures lasts { Lasts out.old out.new }
-    ensures puts { Puts (λ rest. keyword (codes "for") ∷ sign (codes "(") ∷ start_onto (start_of start.now) (sign (codes ";") ∷ maybe_expr_onto (option_map expr_of condition.now) (sign (codes ";") ∷ exprs_onto (pack_exprs (map expr_of updates.now)) (sign (codes ")") ∷ rest)))) out.old out.new }
+    ensures puts { Puts (λ rest. keyword (codes "for") ∷ sign (codes "(") ∷ start_onto (start_of start.now)
+        (sign (codes ";") ∷ maybe_expr_onto (option_map expr_of condition.now) (sign (codes ";")
+        ∷ exprs_onto (pack_exprs (map expr_of updates.now)) (sign (codes ")") ∷ rest)))) out.old out.new }
 {
     put_keyword(out, "for");
     put_open(out);
@@ -114,7 +117,9 @@ fn spell_for_each_head(
     value: &Expression,
 )
     ensures lasts { Lasts out.old out.new }
-    ensures puts { Puts (λ rest. keyword (codes "for") ∷ sign (codes "(") ∷ final_onto is_final (ty_onto (ty_of kind.now) (identifier (name_of name.now) ∷ sign (codes ":") ∷ expr_onto (expr_of value.now) (sign (codes ")") ∷ rest)))) out.old out.new }
+    ensures puts { Puts (λ rest. keyword (codes "for") ∷ sign (codes "(") ∷ final_onto is_final
+        (ty_onto (ty_of kind.now) (identifier (name_of name.now) ∷ sign (codes ":")
+        ∷ expr_onto (expr_of value.now) (sign (codes ")") ∷ rest)))) out.old out.new }
 {
     put_keyword(out, "for");
     put_open(out);

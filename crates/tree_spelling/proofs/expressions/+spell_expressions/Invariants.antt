@@ -10,21 +10,24 @@ abbrev pub invariant-spell_list-loop-other : goal.invariant-spell_list-loop-othe
 invariant-spell_list-loop-other l =
     record {
       lasts : Lasts l.initial.out l.out;
-      leaves : Leaves (more_exprs_onto (pack_exprs (map expr_of l.others))) (more_exprs_onto (pack_exprs (map expr_of (drop l.other-index l.others)))) l.initial.out l.out;
+      leaves : Leaves (more_exprs_onto (pack_exprs (map expr_of l.others)))
+          (more_exprs_onto (pack_exprs (map expr_of (drop l.other-index l.others)))) l.initial.out l.out;
     }
 
 abbrev pub invariant-spell_lengths-loop-length : goal.invariant-spell_lengths-loop-length
 invariant-spell_lengths-loop-length l =
     record {
       lasts : Lasts l.initial.out l.out;
-      leaves : Leaves (lengths_onto (pack_exprs (map expr_of l.lengths))) (lengths_onto (pack_exprs (map expr_of (drop l.length-index l.lengths)))) l.initial.out l.out;
+      leaves : Leaves (lengths_onto (pack_exprs (map expr_of l.lengths)))
+          (lengths_onto (pack_exprs (map expr_of (drop l.length-index l.lengths)))) l.initial.out l.out;
     }
 
 abbrev pub invariant-spell_items-loop-other : goal.invariant-spell_items-loop-other
 invariant-spell_items-loop-other l =
     record {
       lasts : Lasts l.initial.out l.out;
-      leaves : Leaves (more_inits_onto (pack_inits (map init_of l.others))) (more_inits_onto (pack_inits (map init_of (drop l.other-index l.others)))) l.initial.out l.out;
+      leaves : Leaves (more_inits_onto (pack_inits (map init_of l.others)))
+          (more_inits_onto (pack_inits (map init_of (drop l.other-index l.others)))) l.initial.out l.out;
     }
 
 -- the deepest part comes first, and of functions on one part the outer one

@@ -6,5 +6,5 @@ abbrev pub invariant-loop-token : goal.invariant-loop-token
 invariant-loop-token l =
     record {
       lasts : Lasts l.initial.out l.out;
-      leaves : Leaves (λ rest. (l.tokens ++ rest)) (λ rest. ((drop l.token-index l.tokens) ++ rest)) l.initial.out l.out;
+      leaves : Leaves (λ rest. l.tokens ++ rest) (λ rest. drop l.token-index l.tokens ++ rest) l.initial.out l.out;
     }

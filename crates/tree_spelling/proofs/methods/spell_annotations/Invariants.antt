@@ -8,5 +8,6 @@ abbrev pub invariant-loop-annotation : goal.invariant-loop-annotation
 invariant-loop-annotation l =
     record {
       lasts : Lasts l.initial.out l.out;
-      leaves : Leaves (annotations_onto (map annotation_of l.annotations)) (annotations_onto (map annotation_of (drop l.annotation-index l.annotations))) l.initial.out l.out;
+      leaves : Leaves (annotations_onto (map annotation_of l.annotations))
+          (annotations_onto (map annotation_of (drop l.annotation-index l.annotations))) l.initial.out l.out;
     }

@@ -8,5 +8,6 @@ abbrev pub invariant-loop-modifier : goal.invariant-loop-modifier
 invariant-loop-modifier l =
     record {
       lasts : Lasts l.initial.out l.out;
-      leaves : Leaves (modifiers_onto (map modifier_of l.modifiers)) (modifiers_onto (map modifier_of (drop l.modifier-index l.modifiers))) l.initial.out l.out;
+      leaves : Leaves (modifiers_onto (map modifier_of l.modifiers))
+          (modifiers_onto (map modifier_of (drop l.modifier-index l.modifiers))) l.initial.out l.out;
     }

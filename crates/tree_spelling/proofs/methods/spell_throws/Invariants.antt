@@ -8,5 +8,6 @@ abbrev pub invariant-loop-other : goal.invariant-loop-other
 invariant-loop-other l =
     record {
       lasts : Lasts l.initial.out l.out;
-      leaves : Leaves (behind_commas ty_onto (map ty_of l.others)) (behind_commas ty_onto (map ty_of (drop l.other-index l.others))) l.initial.out l.out;
+      leaves : Leaves (behind_commas ty_onto (map ty_of l.others))
+          (behind_commas ty_onto (map ty_of (drop l.other-index l.others))) l.initial.out l.out;
     }

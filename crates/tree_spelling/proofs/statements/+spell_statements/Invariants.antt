@@ -9,5 +9,6 @@ abbrev pub invariant-spell_all-loop-statement : goal.invariant-spell_all-loop-st
 invariant-spell_all-loop-statement l =
     record {
       lasts : Lasts l.initial.out l.out;
-      leaves : Leaves (stmts_onto (pack_stmts (map stmt_of l.statements))) (stmts_onto (pack_stmts (map stmt_of (drop l.statement-index l.statements)))) l.initial.out l.out;
+      leaves : Leaves (stmts_onto (pack_stmts (map stmt_of l.statements)))
+          (stmts_onto (pack_stmts (map stmt_of (drop l.statement-index l.statements)))) l.initial.out l.out;
     }

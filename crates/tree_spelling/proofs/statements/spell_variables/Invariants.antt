@@ -8,5 +8,6 @@ abbrev pub invariant-loop-other : goal.invariant-loop-other
 invariant-loop-other l =
     record {
       lasts : Lasts l.initial.out l.out;
-      leaves : Leaves (behind_commas variable_onto (map variable_of l.others)) (behind_commas variable_onto (map variable_of (drop l.other-index l.others))) l.initial.out l.out;
+      leaves : Leaves (behind_commas variable_onto (map variable_of l.others))
+          (behind_commas variable_onto (map variable_of (drop l.other-index l.others))) l.initial.out l.out;
     }

@@ -9,12 +9,14 @@ abbrev pub invariant-spell_parts-loop-other : goal.invariant-spell_parts-loop-ot
 invariant-spell_parts-loop-other l =
     record {
       lasts : Lasts l.initial.out l.out;
-      leaves : Leaves (more_parts_onto (pack_parts (map part_of l.others))) (more_parts_onto (pack_parts (map part_of (drop l.other-index l.others)))) l.initial.out l.out;
+      leaves : Leaves (more_parts_onto (pack_parts (map part_of l.others)))
+          (more_parts_onto (pack_parts (map part_of (drop l.other-index l.others)))) l.initial.out l.out;
     }
 
 abbrev pub invariant-spell_arguments-loop-other : goal.invariant-spell_arguments-loop-other
 invariant-spell_arguments-loop-other l =
     record {
       lasts : Lasts l.initial.out l.out;
-      leaves : Leaves (more_arguments_onto (pack_arguments (map argument_of l.others))) (more_arguments_onto (pack_arguments (map argument_of (drop l.other-index l.others)))) l.initial.out l.out;
+      leaves : Leaves (more_arguments_onto (pack_arguments (map argument_of l.others)))
+          (more_arguments_onto (pack_arguments (map argument_of (drop l.other-index l.others)))) l.initial.out l.out;
     }
