@@ -1,11 +1,10 @@
 -- One piece of a spelling behind another.
-use Rattle.std.proofs.Common.{◌≡◌, ◌∙◌, List, ◌++◌, Result, Ok, Err, OnOk}
-use Rattle.racer_base.specs.declared.out_of_memory.Memory.{Memory}
+use Rattle.std.proofs.Common.{◌≡◌, ◌∙◌, List, ◌++◌, false}
 use Rattle.java_tree.specs.declared.words.Spelled.{Spelled}
+use Rattle.tree_spelling.specs.declared.tokens.Tokens.{Tokens}
+use Rattle.tree_spelling.specs.Puts.{Lasts, Puts}
 
--- the tokens of `first` were put, and then those of `second` were, if memory lasted
-pub behind : (r : Result (Unit {0}) Memory) (old mid new : List Spelled) (first second : List Spelled → List Spelled)
-    → ((rest : List Spelled) → old ++ first rest ≡ mid ++ rest) → OnOk r ((rest : List Spelled)
-    → mid ++ second rest ≡ new ++ rest) → OnOk r ((rest : List Spelled) → old ++ first (second rest) ≡ new ++ rest)
-behind (Ok u) old mid new first second e f = λ rest. e (second rest) ∙ f rest
-behind (Err m) old mid new first second e f = tt
+-- the tokens of `first` were put, and then those of `second`
+pub behind : (old mid new : Tokens) (first second : List Spelled → List Spelled) → Puts first old mid → Lasts mid new
+    → Puts second mid new → Puts (λ rest. first (second rest)) old new
+behind old mid new first second e l f = λ h rest. e (l h) (second rest) ∙ f h rest

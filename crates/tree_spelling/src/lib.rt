@@ -6,6 +6,7 @@ mod methods;
 mod put;
 mod spellings;
 mod statements;
+mod tokens;
 mod types;
 
 pub use spellings::{spell, spell_the_same};

@@ -5,6 +5,7 @@ ghost use Rattle.java_tree.specs.View.{method_of};
 ghost use Rattle.java_tree.specs.Formed.{FormedMethod};
 
 use crate::methods::spell_method;
+use crate::tokens::Tokens;
 use java_tree::{MethodTree, Spelled};
 use racer_base::{Items, Memory};
 use std::alloc::Global;
@@ -16,9 +17,16 @@ use std::alloc::Global;
 pub fn spell(alloc: Global, tree: &MethodTree) -> Result<Vec<Spelled>, Memory>
     ensures { IfOk result (λ tokens. tokens.items ≡ spelling (method_of tree.now)) }
 {
-    let mut out = Items::new(alloc);
-    spell_method(alloc, &mut out, tree)?;
-    Ok(out.into_vec())
+    let mut out = Tokens {
+        alloc,
+        items: Items::new(alloc),
+        is_cut: false,
+    };
+    spell_method(&mut out, tree);
+    if out.is_cut {
+        return Err(Memory);
+    }
+    Ok(out.items.into_vec())
 }
 
 /// Whether two formed methods spell the same tokens. They do where they are equal, places aside, and nowhere

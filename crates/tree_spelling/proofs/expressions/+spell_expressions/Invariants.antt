@@ -1,26 +1,34 @@
-use Rattle.std.proofs.Common.{◌≡◌, ◌+◌, ◌*◌, max, List, ◌++◌, map, drop}
-use denote.Param.Weighed.{most}
+use Rattle.std.proofs.Common.{◌+◌, ◌*◌, max, map, drop}
 use Rattle.java_tree.specs.declared.expressions.Expression.{size-Expression}
-use Rattle.java_tree.specs.declared.words.Spelled.{Spelled}
 use Rattle.java_tree.specs.Trees.{pack_exprs, pack_inits}
 use Rattle.java_tree.specs.Spelling.{more_exprs_onto, lengths_onto, more_inits_onto}
 use Rattle.java_tree.specs.View.{expr_of, init_of}
+use Rattle.tree_spelling.specs.Puts.{Lasts, Leaves}
 use Rattle.tree_spelling.proofs.expressions.+spell_expressions.Given as goal
 
 abbrev pub invariant-spell_list-loop-other : goal.invariant-spell_list-loop-other
 invariant-spell_list-loop-other l =
-    (rest : List Spelled) → l.initial.out ++ more_exprs_onto (pack_exprs (map expr_of l.others)) rest
-    ≡ l.out ++ more_exprs_onto (pack_exprs (map expr_of (drop l.other-index l.others))) rest
+    record {
+      lasts : Lasts l.initial.out l.out;
+      leaves : Leaves (more_exprs_onto (pack_exprs (map expr_of l.others)))
+          (more_exprs_onto (pack_exprs (map expr_of (drop l.other-index l.others)))) l.initial.out l.out;
+    }
 
 abbrev pub invariant-spell_lengths-loop-length : goal.invariant-spell_lengths-loop-length
 invariant-spell_lengths-loop-length l =
-    (rest : List Spelled) → l.initial.out ++ lengths_onto (pack_exprs (map expr_of l.lengths)) rest
-    ≡ l.out ++ lengths_onto (pack_exprs (map expr_of (drop l.length-index l.lengths))) rest
+    record {
+      lasts : Lasts l.initial.out l.out;
+      leaves : Leaves (lengths_onto (pack_exprs (map expr_of l.lengths)))
+          (lengths_onto (pack_exprs (map expr_of (drop l.length-index l.lengths)))) l.initial.out l.out;
+    }
 
 abbrev pub invariant-spell_items-loop-other : goal.invariant-spell_items-loop-other
 invariant-spell_items-loop-other l =
-    (rest : List Spelled) → l.initial.out ++ more_inits_onto (pack_inits (map init_of l.others)) rest
-    ≡ l.out ++ more_inits_onto (pack_inits (map init_of (drop l.other-index l.others))) rest
+    record {
+      lasts : Lasts l.initial.out l.out;
+      leaves : Leaves (more_inits_onto (pack_inits (map init_of l.others)))
+          (more_inits_onto (pack_inits (map init_of (drop l.other-index l.others)))) l.initial.out l.out;
+    }
 
 -- the deepest part comes first, and of functions on one part the outer one
 abbrev pub decreases-spell_expression : goal.decreases-spell_expression
@@ -59,9 +67,6 @@ decreases-spell_initialiser l = 4 * goal.size-spell_initialiser l + 0
 abbrev pub decreases-spell_instance_of : goal.decreases-spell_instance_of
 decreases-spell_instance_of l = 4 * goal.size-spell_instance_of l + 1
 
-abbrev pub decreases-spell_prefix : goal.decreases-spell_prefix
-decreases-spell_prefix l = 4 * goal.size-spell_prefix l + 1
-
 abbrev pub decreases-spell_cast : goal.decreases-spell_cast
 decreases-spell_cast l = 4 * goal.size-spell_cast l + 1
 
@@ -71,18 +76,9 @@ decreases-spell_parentheses l = 4 * goal.size-spell_parentheses l + 2
 abbrev pub decreases-spell_field : goal.decreases-spell_field
 decreases-spell_field l = 4 * goal.size-spell_field l + 2
 
-abbrev pub decreases-spell_assignment : goal.decreases-spell_assignment
-decreases-spell_assignment l = 4 * (max (size-Expression l.a.now) (size-Expression l.b.now)) + 2
-
 abbrev pub decreases-spell_conditional : goal.decreases-spell_conditional
 decreases-spell_conditional l =
     4 * (max (size-Expression l.a.now) (max (size-Expression l.b.now) (size-Expression l.c.now))) + 2
 
 abbrev pub decreases-spell_binary : goal.decreases-spell_binary
 decreases-spell_binary l = 4 * (max (size-Expression l.a.now) (size-Expression l.b.now)) + 2
-
-abbrev pub decreases-spell_index : goal.decreases-spell_index
-decreases-spell_index l = 4 * (max (size-Expression l.a.now) (size-Expression l.index.now)) + 2
-
-abbrev pub decreases-spell_call_on : goal.decreases-spell_call_on
-decreases-spell_call_on l = 4 * (max (size-Expression l.a.now) (most size-Expression l.all.now)) + 3

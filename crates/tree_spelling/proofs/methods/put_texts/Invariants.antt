@@ -1,9 +1,11 @@
-use Rattle.std.proofs.Common.{◌≡◌, List, ◌++◌, drop}
-use Rattle.java_tree.specs.declared.words.Spelled.{Spelled}
+use Rattle.std.proofs.Common.{drop}
 use Rattle.java_tree.specs.Spelling.{behind_points}
+use Rattle.tree_spelling.specs.Puts.{Lasts, Leaves}
 use Rattle.tree_spelling.proofs.methods.put_texts.Given as goal
 
 abbrev pub invariant-loop-other : goal.invariant-loop-other
 invariant-loop-other l =
-    (rest : List Spelled) → l.initial.out ++ behind_points l.others rest ≡ l.out ++ behind_points (drop l.other-index
-    l.others) rest
+    record {
+      lasts : Lasts l.initial.out l.out;
+      leaves : Leaves (behind_points l.others) (behind_points (drop l.other-index l.others)) l.initial.out l.out;
+    }

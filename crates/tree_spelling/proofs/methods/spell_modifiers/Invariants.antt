@@ -1,10 +1,13 @@
-use Rattle.std.proofs.Common.{◌≡◌, List, ◌++◌, map, drop}
-use Rattle.java_tree.specs.declared.words.Spelled.{Spelled}
+use Rattle.std.proofs.Common.{map, drop}
 use Rattle.java_tree.specs.Spelling.{modifiers_onto}
 use Rattle.java_tree.specs.View.{modifier_of}
+use Rattle.tree_spelling.specs.Puts.{Lasts, Leaves}
 use Rattle.tree_spelling.proofs.methods.spell_modifiers.Given as goal
 
 abbrev pub invariant-loop-modifier : goal.invariant-loop-modifier
 invariant-loop-modifier l =
-    (rest : List Spelled) → l.initial.out ++ modifiers_onto (map modifier_of l.modifiers) rest ≡ l.out
-    ++ modifiers_onto (map modifier_of (drop l.modifier-index l.modifiers)) rest
+    record {
+      lasts : Lasts l.initial.out l.out;
+      leaves : Leaves (modifiers_onto (map modifier_of l.modifiers))
+          (modifiers_onto (map modifier_of (drop l.modifier-index l.modifiers))) l.initial.out l.out;
+    }

@@ -6,15 +6,15 @@ use Rattle.java_tree.specs.View.{expr_of, stmt_of}
 use Rattle.tree_spelling.proofs.Chains.{behind}
 use Rattle.tree_spelling.proofs.statements.+spell_statements.Goals as goal
 
-pub spell_sync-returns : goal.spell_sync-returns
-spell_sync-returns t c =
+pub spell_sync-returns-clause-puts : goal.spell_sync-returns-clause-puts
+spell_sync-returns-clause-puts t c =
     behind
-    c.spell_block.result
     c.args.out.now
     c.spell_head.new.out
     c.spell_block.new.out
     (λ rest. keyword (codes "synchronized") ∷ sign (codes "(") ∷ expr_onto (expr_of c.args.value.now)
     (sign (codes ")") ∷ rest))
     (block_onto (pack_stmts (map stmt_of c.args.block.now)))
-    (λ rest. c.in_ok-spell_head.ensures rest)
-    c.spell_block.ensures
+    c.spell_head.ensures.puts
+    c.spell_block.ensures.lasts
+    c.spell_block.ensures.puts
