@@ -5,3 +5,4 @@ pub mod Frames
 pub mod Answered
 pub mod InnerSteps
 pub mod ThreadSteps
+pub mod Entries

@@ -44,13 +44,11 @@ fn enter<'a>(
         ∷ popped (behind running.old.frame) count ∷ callers_of running.old) }
     ensures err { OnErr result (frames_of running.new ≡ frames_of running.old) }
 {
-    let callee = Frame::entered(alloc, method, passed)?;
     running.callers.reserve(1)?;
+    let callee = Frame::entered(alloc, method, passed)?;
     running.frame.cut(count);
     let caller = mem::replace(&mut running.frame, callee);
-    let Ok(()) = running.callers.push(caller) else {
-        unreachable!()
-    };
+    put_back(running, caller);
     Ok(())
 }
 

@@ -2,17 +2,19 @@
 ghost use Rattle.std.specs.Prelude.{◌≡◌, ◌++◌, ◌-◌, [], length, replicate, slice_set, IfOk, OnOk, OnErr, MatchResult};
 ghost use Rattle.std.specs.Prelude.{slice_index_or};
 ghost use Rattle.core_code.specs.Core.{method_of};
+ghost use Rattle.core_code.specs.Tree.{tree_of};
 ghost use Rattle.core_semantics.specs.declared.object.Value.TheVariants.{Null as NullValue};
 ghost use Rattle.core_semantics.specs.declared.object.Object.{Object};
 ghost use Rattle.core_semantics.specs.declared.object.Value.{Value};
 ghost use Rattle.core_semantics.specs.Answers.{IsAnswer};
+ghost use Rattle.core_semantics.specs.State.{before};
 ghost use Rattle.core_semantics.specs.Steps.{Goes, base_of, entered, passed_from, popped, replaced, slot_of, top};
-ghost use Rattle.core_semantics.specs.View.{frame_of, behind};
+ghost use Rattle.core_semantics.specs.View.{frame_of, behind, todo_of};
 
 use crate::later::Later;
 use crate::pile::Pile;
 use crate::{Object, StepAnswer, Value, Why};
-use core_code::MethodCore;
+use core_code::{Code, MethodCore};
 use racer_base::{Memory, VarId};
 use std::alloc::Global;
 
@@ -37,6 +39,15 @@ fn with_nulls(mut values: Vec<Value>, count: usize) -> Result<Vec<Value>, Memory
     Ok(values)
 }
 
+/// Code that is still to be done, and nothing behind it.
+fn later_code<'a>(alloc: Global, code: &'a Code) -> Result<Pile<Later<'a>>, Memory>
+    ensures { IfOk result (λ laters. todo_of laters ≡ before (tree_of code.now) []) }
+{
+    let mut laters = Pile::new(alloc);
+    laters.replace(0, Later::One(code))?;
+    Ok(laters)
+}
+
 impl<'a> Frame<'a> {
     /// A method that is called with these values.
     pub(crate) fn entered(
@@ -46,10 +57,10 @@ impl<'a> Frame<'a> {
     ) -> Result<Frame<'a>, Memory>
         ensures { IfOk result (λ frame. frame_of frame ≡ entered (method_of method.now) passed.items) }
     {
-        let mut laters = Pile::new(alloc);
-        laters.replace(0, Later::One(&method.code))?;
+        let vars = with_nulls(passed, method.variables.len())?;
+        let laters = later_code(alloc, &method.code)?;
         Ok(Frame {
-            vars: with_nulls(passed, method.variables.len())?,
+            vars,
             stack: Pile::new(alloc),
             laters,
             locked: 0,

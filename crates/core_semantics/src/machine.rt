@@ -1,5 +1,5 @@
 //! The machine.
-ghost use Rattle.std.specs.Prelude.{◌≡◌, ◌++◌, IfOk, OnOk};
+ghost use Rattle.std.specs.Prelude.{◌≡◌, ◌++◌, ◌∷◌, [], None as NoneOf, IfOk, OnOk};
 ghost use Rattle.core_code.specs.Core.{method_of};
 ghost use Rattle.core_code.specs.Program.{core};
 ghost use Rattle.core_semantics.specs.declared.object.Object.TheVariants.{Start as StartOf};
@@ -7,8 +7,9 @@ ghost use Rattle.core_semantics.specs.declared.object.Value.TheVariants.{Object 
 ghost use Rattle.core_semantics.specs.Answers.{IsAnswer};
 ghost use Rattle.core_semantics.specs.Objects.{root_path};
 ghost use Rattle.core_semantics.specs.Runs.{begun, given_to, parameter, parameters_from, thread_at};
-ghost use Rattle.core_semantics.specs.Steps.{step};
-ghost use Rattle.core_semantics.specs.View.{seen_of, state_of};
+ghost use Rattle.core_semantics.specs.Steps.{entered, step};
+ghost use Rattle.core_semantics.specs.CellOrder.{heap_of};
+ghost use Rattle.core_semantics.specs.View.{frames_of, seen_of, state_of};
 
 use crate::frame::Frame;
 use crate::pile::Pile;
@@ -82,6 +83,19 @@ fn given_to(alloc: Global, thread: u32, method: &MethodCore) -> Result<Vec<Value
     Ok(values)
 }
 
+/// A method, at its entry.
+fn running_at<'a>(alloc: Global, thread: u32, method: &'a MethodCore) -> Result<Running<'a>, Memory>
+    ensures { IfOk result (λ running.
+        frames_of running ≡ entered (method_of method.now) (given_to thread (method_of method.now)) ∷ []) }
+{
+    let values = given_to(alloc, thread, method)?;
+    let frame = Frame::entered(alloc, method, values)?;
+    Ok(Running {
+        frame,
+        callers: Vec::new(alloc),
+    })
+}
+
 /// A thread at the entry of a method.
 fn thread_at<'a>(
     alloc: Global,
@@ -91,22 +105,38 @@ fn thread_at<'a>(
 ) -> Result<Thread<'a>, Memory>
     ensures { IfOk result (λ made. seen_of made ≡ thread_at (core program.now) thread method) }
 {
-    let locks = Pile::new(alloc);
     let Some(method) = program.methods().get(method.0 as usize) else {
         return Ok(Thread {
             running: None,
-            locks,
+            locks: Pile::new(alloc),
         });
     };
-    let frame = Frame::entered(alloc, method, given_to(alloc, thread, method)?)?;
-    let running = Running {
-        frame,
-        callers: Vec::new(alloc),
-    };
+    let running = running_at(alloc, thread, method)?;
     Ok(Thread {
         running: Some(running),
-        locks,
+        locks: Pile::new(alloc),
     })
+}
+
+/// A machine of two threads, with nothing stored.
+fn machine_of<'a>(alloc: Global, heap: Heap, first: Thread<'a>, second: Thread<'a>) -> Machine<'a>
+    ensures { state_of result ≡ record {
+      store = record { heap = heap_of heap; cells = λ o f. NoneOf; fresh = 0 };
+      first = seen_of first.entry;
+      second = seen_of second.entry;
+    } }
+{
+    let store = Store {
+        heap,
+        cells: Cells::new(alloc),
+        fresh: 0,
+    };
+    Machine {
+        alloc,
+        store,
+        first,
+        second,
+    }
 }
 
 /// Two threads at the entries of two methods of a program: the first at that of `m1`. Nothing is stored yet.
@@ -119,20 +149,10 @@ pub fn begin<'a>(
 ) -> Result<Machine<'a>, Memory>
     ensures { IfOk result (λ machine. state_of machine ≡ begun (core program.now) m1 m2 start) }
 {
+    let heap = Heap::of(alloc, start)?;
     let first = thread_at(alloc, program, 0, m1)?;
     let second = thread_at(alloc, program, 1, m2)?;
-    let heap = Heap::of(alloc, start)?;
-    let store = Store {
-        heap,
-        cells: Cells::new(alloc),
-        fresh: 0,
-    };
-    Ok(Machine {
-        alloc,
-        store,
-        first,
-        second,
-    })
+    Ok(machine_of(alloc, heap, first, second))
 }
 
 impl<'a> Machine<'a> {

@@ -6,7 +6,9 @@ use Rattle.std.proofs.Common.{option_map, nat_eq, is_none, is_some, All, slice_g
 use Rattle.std.proofs.Common.{slice_index_or, ◌⊎◌, inl, inr}
 use Rattle.std.proofs.Common.{append_assoc, add-one, replicate, get_or}
 use Rattle.std.specs.Arc.{arc_value}
-use Rattle.std.proofs.lemmas.Bool.{eq-eqb}
+use Rattle.std.proofs.Math.Dec.{ltb}
+use Rattle.std.proofs.lemmas.Bool.{eq-eqb, ltb-true, ltb-false}
+use Rattle.std.proofs.lemmas.Option.{slice_get_read, slice_get_past}
 use Rattle.std.proofs.lemmas.List.{at_drop_more, drop_all}
 use Rattle.std.specs.List.{list_any, list_all, flat_map}
 use Rattle.std.specs.Option.{IfSome, option_and_then}
@@ -30,7 +32,7 @@ use Rattle.call_subst.proofs.SameSets.{any-append}
 use Rattle.access_domain.specs.Summaries.{outcome_of, outcomes_from, known_given, known_of_callees}
 use Rattle.transfer.specs.declared.finished.Finished.{Finished}
 use Rattle.transfer.specs.Callees.{Held, AreCallees, outcome_in}
-use Rattle.transfer.specs.Tables.{IsFinished, IsTable}
+use Rattle.transfer.specs.Tables.{IsFinished, IsTable, finished_at}
 use Rattle.transfer.proofs.Handed.{nat_eq-same, both-true, analysed_at}
 use Rattle.transfer.proofs.Tables.{is_method, or-right, or-left}
 
@@ -67,6 +69,28 @@ empty_at (suc n) (suc i) = empty_at n i
 pub empty-table : (program : Core) (n : ℕ) → IsTable program (replicate n None)
 empty-table program n m =
     subst (λ (o : Option Finished). IfSome o (λ g. IsFinished program m g)) (sym (empty_at n m.0)) tt
+
+-- ---- looking a method up
+
+at_place : (table : List (Option Held)) (i : ℕ) (place : Option Held) → true ≡ ltb i (length table) →
+    place ≡ get_or table i place → slice_get table i ≡ Some place
+at_place table i place within at = slice_get_read table (length table) i place refl (ltb-true i (length table) (sym within)) at
+
+pub held-none : (table : List (Option Held)) (m : MethodId) (place : Option Held) → true ≡ ltb m.0 (length table) →
+    place ≡ get_or table m.0 place → place ≡ None → None ≡ finished_at table m
+held-none table m place within at none =
+    sym (ap place_of (at_place table m.0 place within at ∙ ap (λ (p : Option Held). Some p) none))
+
+pub held-some : (table : List (Option Held)) (m : MethodId) (place : Option Held) (g f : Held) →
+    true ≡ ltb m.0 (length table) → place ≡ get_or table m.0 place → place ≡ Some f → arc_value g ≡ arc_value f →
+    Some (arc_value g) ≡ finished_at table m
+held-some table m place g f within at is same =
+    ap (λ (x : Finished). Some x) same
+    ∙ sym (ap place_of (at_place table m.0 place within at ∙ ap (λ (p : Option Held). Some p) is))
+
+pub past-end : (table : List (Option Held)) (m : MethodId) → false ≡ ltb m.0 (length table) → None ≡ finished_at table m
+past-end table m past =
+    sym (ap place_of (slice_get_past table m.0 (ltb-false m.0 (length table) (sym past))))
 
 -- ---- rows
 

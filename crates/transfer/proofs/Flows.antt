@@ -96,6 +96,12 @@ pub flow-alike : (e f : Effects) (here : State) (old new : Found) (r : Result Bo
 flow-alike e f here old new (Ok goes_on) next same m = (sym next ∙ m.0, noted-alike old e f new same m.1)
 flow-alike e f here old new (Err stop) next same m = stopped-alike old e f stop same m
 
+-- what is found of code, whether it goes on or not
+pub marked-flow : (e : Effects) (here : State) (old new : Found) (r : Result Bool Stop) → IsFlow e here old new r →
+    IsMarked old e new r
+marked-flow e here old new (Ok goes_on) m = m.1
+marked-flow e here old new (Err stop) m = m
+
 -- ---- operations
 
 pub quiet-effects : (g : Given) (locked : Bool) (site : SiteId) (op : CoreOp) (s : State) → is_quiet op ≡ true →

@@ -1,5 +1,5 @@
 -- What is found behind a whole method is its outcome.
-use Rattle.std.proofs.Common.{◌≡◌, ◌≤◌, Bool, true, false, cond, ◌||◌, [], None, length, nat_lt, refl, sym, ap, ◌∙◌}
+use Rattle.std.proofs.Common.{◌≡◌, ◌≤◌, Bool, true, false, cond, ◌||◌, length, nat_lt, refl, sym, ap, ◌∙◌}
 use Rattle.std.proofs.Common.{unwrap_or}
 use Rattle.std.proofs.lemmas.Bool.{le-ltb}
 use Rattle.std.specs.FinSet as set
@@ -15,11 +15,7 @@ use Rattle.access_domain.proofs.AdditionLemmas.{keys_added-nil, paths_added-empt
 use Rattle.access_domain.proofs.Different.{from_list-different}
 use Rattle.transfer.specs.declared.found.Found.{Found}
 use Rattle.transfer.specs.declared.found.Stop.TheVariants as stop
-use Rattle.transfer.specs.Marks.{IsNoted, IsStopped, summary_held}
-
--- nothing was found
-abbrev pub nothing : Found
-nothing = record { noted = true; records = []; wobbly = set.empty; result = None }
+use Rattle.transfer.specs.Marks.{IsNoted, IsStopped, nothing, summary_held}
 
 or-assoc : (a b c : Bool) → (a || (b || c)) ≡ ((a || b) || c)
 or-assoc true b c = refl

@@ -24,6 +24,10 @@ marks records wobbly = record { next = None; records = records; wobbly = wobbly;
 abbrev pub returns_of : Value → Effects
 returns_of value = record { next = None; records = []; wobbly = []; result = Some value; large = false }
 
+-- nothing was found
+abbrev pub nothing : Found
+nothing = record { noted = true; records = []; wobbly = set.empty; result = None }
+
 -- the wobbly paths behind these effects
 abbrev pub paths_after : Found → Effects → PathSet
 paths_after found e = paths_added (paths_added found.wobbly e.wobbly) (lost_result found.result e.result)

@@ -8,10 +8,11 @@ ghost use Rattle.core_code.specs.Calls.{is_analysed};
 ghost use Rattle.core_code.specs.Core.{method_of};
 ghost use Rattle.core_code.specs.Program.{core};
 ghost use Rattle.access_domain.specs.Findings.{outcome_from};
-ghost use Rattle.access_domain.specs.Summaries.{parameter_value, passed_values, start_of, known_given};
+ghost use Rattle.access_domain.specs.Operations.{Effects};
+ghost use Rattle.access_domain.specs.Summaries.{parameter_value, passed_values, start_of, known_from, known_given};
 ghost use Rattle.transfer.specs.Callees.{AreCallees, outcome_in};
 ghost use Rattle.transfer.specs.Known.{outcome_among, table_of};
-ghost use Rattle.transfer.specs.Marks.{summary_held};
+ghost use Rattle.transfer.specs.Marks.{IsMarked, nothing, summary_held};
 
 use crate::Finished;
 use crate::calls::Callee;
@@ -82,6 +83,20 @@ fn summary_of(found: Found) -> Summary
     }
 }
 
+/// The outcome of a method whose code ends so, and of which this is found.
+fn outcome_found(walked: Result<bool, Stop>, found: Found) -> Result<Outcome, Memory>
+    ensures { (e : Effects) → IsMarked nothing e found walked →
+        IfOk result (λ outcome. outcome ≡ outcome_from (known_from e)) }
+{
+    match walked {
+        Ok(_) => Ok(Outcome::Summary(summary_of(found))),
+        Err(stop) => match stop {
+            Stop::Large => Ok(Outcome::Large),
+            Stop::Memory => Err(Memory),
+        },
+    }
+}
+
 /// The outcome of a method of this code, where this is known of the methods that it calls, and nothing of any other.
 pub fn outcome(
     alloc: Global,
@@ -99,11 +114,8 @@ pub fn outcome(
     };
     let mut here = Here::new(alloc, start(alloc, method)?);
     let mut found = Found::nothing(alloc);
-    match go(alloc, &frame, false, &method.code, &mut here, &mut found) {
-        Ok(_) => Ok(Outcome::Summary(summary_of(found))),
-        Err(Stop::Large) => Ok(Outcome::Large),
-        Err(Stop::Memory) => Err(Memory),
-    }
+    let walked = go(alloc, &frame, false, &method.code, &mut here, &mut found);
+    outcome_found(walked, found)
 }
 
 /// What is known of the methods that are finished.

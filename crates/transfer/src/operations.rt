@@ -1,9 +1,9 @@
 //! Operations.
 ghost use Rattle.std.specs.Prelude.{◌≡◌, ◌++◌, IfOk, OnOk, [], true, false, if◌then◌else◌};
 ghost use Rattle.owner_domain.specs.declared.value.Value.TheVariants.{Unnamed as NotNamed};
-ghost use Rattle.owner_domain.specs.Values.{names_of};
+ghost use Rattle.owner_domain.specs.Values.{field_value, names_of};
 ghost use Rattle.core_code.specs.declared.code.Op.TheVariants.{Get, Put};
-ghost use Rattle.access_domain.specs.Operations.{op_effects, top};
+ghost use Rattle.access_domain.specs.Operations.{op_effects, popped, top};
 ghost use Rattle.transfer.specs.Frames.{given, record_reached};
 ghost use Rattle.transfer.specs.Marks.{IsMarked, marks, returns_of};
 ghost use Rattle.transfer.specs.Walks.{IsFlow, is_quiet, moved, set_effects};
@@ -97,6 +97,14 @@ fn value_read(plain: bool, value: Value) -> Value
     if plain { Value::Unnamed } else { value }
 }
 
+/// Takes the top, and gives the value of its field.
+fn pop_field(alloc: Global, here: &mut Here, f: FieldId) -> Result<Value, Memory>
+    ensures value { IfOk result (λ value. value ≡ field_value (top here.old) f) }
+    ensures rest { here.new ≡ popped here.old 1 }
+{
+    here.pop().along(alloc, &[f])
+}
+
 /// Reads a field of the top.
 fn get(
     alloc: Global,
@@ -109,8 +117,7 @@ fn get(
 ) -> Result<bool, Stop>
     ensures { IsFlow (op_effects (given frame.now) locked site (Get f) here.old) here.new found.old found.new result }
 {
-    let base = here.pop();
-    let Ok(value) = base.along(alloc, &[f]) else {
+    let Ok(value) = pop_field(alloc, here, f) else {
         return Err(Stop::Memory);
     };
     match note_access(alloc, frame, Touch::Read, locked, site, &value, f, found) {
@@ -151,8 +158,7 @@ fn put(
     ensures { IsFlow (op_effects (given frame.now) locked site (Put f) here.old) here.new found.old found.new result }
 {
     let value = here.pop();
-    let base = here.pop();
-    let Ok(field) = base.along(alloc, &[f]) else {
+    let Ok(field) = pop_field(alloc, here, f) else {
         return Err(Stop::Memory);
     };
     match note_access(alloc, frame, Touch::Write, locked, site, &field, f, found) {

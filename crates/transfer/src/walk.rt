@@ -10,8 +10,10 @@ ghost use Rattle.transfer.specs.Walks.{IsFlow, next_of, round_next, round_lost};
 use crate::found::{Found, Stop};
 use crate::here::Here;
 use crate::operations::{Frame, step};
+use access_paths::Path;
 use core_code::Code;
-use owner_domain::join;
+use owner_domain::{State, join};
+use racer_base::Memory;
 use std::alloc::Global;
 
 /// Goes through a piece of code; whether it goes on behind it.
@@ -164,17 +166,21 @@ fn settle(
     }
 }
 
+/// The join of the values here with others, and the paths that are lost.
+fn joined(alloc: Global, here: &Here, other: Here) -> Result<(State, Vec<Path>), Memory>
+    ensures state { IfOk result (λ made. made.0 ≡ joined_state here.now other) }
+    ensures lost { IfOk result (λ made. made.1.items ≡ lost_state here.now other) }
+{
+    let left = here.copied(alloc)?.into_state();
+    join(alloc, &left, &other.into_state())
+}
+
 /// Joins the values here with others, and notes the paths that are lost.
 fn meet(alloc: Global, here: &mut Here, other: Here, found: &mut Found) -> Result<(), Stop>
     ensures state { OnOk result (here.new ≡ joined_state here.old other) }
     ensures found { IsMarked found.old (marks [] (lost_state here.old other)) found.new result }
 {
-    let Ok(left) = here.copied(alloc) else {
-        return Err(Stop::Memory);
-    };
-    let left = left.into_state();
-    let right = other.into_state();
-    let Ok((state, lost)) = join(alloc, &left, &right) else {
+    let Ok((state, lost)) = joined(alloc, here, other) else {
         return Err(Stop::Memory);
     };
     *here = Here::of_state(state);

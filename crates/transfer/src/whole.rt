@@ -6,6 +6,7 @@ ghost use Rattle.core_code.specs.Program.{core, methods};
 ghost use Rattle.core_code.specs.Rows.{AreRowsOf};
 ghost use Rattle.access_domain.specs.Outcomes.{AreOutcomes};
 ghost use Rattle.access_domain.specs.Summaries.{outcome_of};
+ghost use Rattle.transfer.specs.Callees.{AreCallees};
 ghost use Rattle.transfer.specs.Tables.{IsFinished, IsTable, finished_at};
 
 use crate::{Finished, analyse};
@@ -52,6 +53,25 @@ fn empty(alloc: Global, places: usize) -> Result<Table, Memory>
     Ok(table)
 }
 
+/// The method, finished, where those that it calls are.
+fn finish_itself(
+    alloc: Global,
+    program: &Arc<Program>,
+    method: MethodId,
+    callees: &[Arc<Finished>],
+    table: &mut Table,
+) -> Result<Arc<Finished>, Memory>
+    requires analysed { IsTrue (is_analysed (core (arc_value program.now)) method) }
+    requires callees { AreCallees (core (arc_value program.now)) method callees.now }
+    requires table { IsTable (core (arc_value program.now)) table.old.items }
+    ensures made { IfOk result (λ made. IsFinished (core (arc_value program.now)) method (arc_value made)) }
+    ensures table { OnOk result (IsTable (core (arc_value program.now)) table.new.items) }
+{
+    let finished = Arc::new(alloc, analyse(alloc, program, method, callees)?)?;
+    keep(table, method, finished.clone()?);
+    Ok(finished)
+}
+
 /// The method, finished: first those that it calls, and then itself. What is finished already is not done again.
 fn finish(
     alloc: Global,
@@ -74,10 +94,7 @@ fn finish(
         let finished = finish(alloc, program, rows, *callee, table)?;
         callees.push(finished)?;
     }
-    let finished = analyse(alloc, program, method, callees.as_slice())?;
-    let finished = Arc::new(alloc, finished)?;
-    keep(table, method, finished.clone()?);
-    Ok(finished)
+    finish_itself(alloc, program, method, callees.as_slice(), table)
 }
 
 /// The outcome of a method, none where it is not analysed.
@@ -110,17 +127,31 @@ fn numbered(number: usize) -> Result<MethodId, Memory>
     Ok(MethodId(number))
 }
 
+/// The outcomes of the methods of a program, one after another.
+fn gathered(
+    alloc: Global,
+    program: &Arc<Program>,
+    rows: &CallRows,
+    table: &mut Table,
+) -> Result<Outcomes, Memory>
+    requires rows { AreRowsOf (core (arc_value program.now)) rows.now }
+    requires table { IsTable (core (arc_value program.now)) table.old.items }
+    ensures { IfOk result (λ found. AreOutcomes (core (arc_value program.now)) found.items) }
+{
+    let mut outcomes = Vec::new(alloc);
+    for number in 0..program.methods().len() {
+        let method = numbered(number)?;
+        let outcome = outcome_at(alloc, program, rows, method, table)?;
+        outcomes.push(outcome)?;
+    }
+    Ok(outcomes)
+}
+
 /// The outcomes of the methods of a program, none for those that are not analysed.
 pub fn outcomes(alloc: Global, program: &Arc<Program>) -> Result<Outcomes, Memory>
     ensures { IfOk result (λ found. AreOutcomes (core (arc_value program.now)) found.items) }
 {
     let rows = call_rows(alloc, &**program)?;
     let mut table = empty(alloc, program.methods().len())?;
-    let mut outcomes = Vec::new(alloc);
-    for number in 0..program.methods().len() {
-        let method = numbered(number)?;
-        let outcome = outcome_at(alloc, program, &rows, method, &mut table)?;
-        outcomes.push(outcome)?;
-    }
-    Ok(outcomes)
+    gathered(alloc, program, &rows, &mut table)
 }

@@ -15,10 +15,8 @@ returns-in-Err c =
     let here = c.args.here.now in
     let frame = c.args.frame.now in
     let f = c.args.f in
-    let base : c.pop-base.result ≡ slot_of here 1 =
-    c.pop-base.ensures.value ∙ ap top c.pop-value.ensures.rest ∙ slot-below here in
     let field : c.in-Ok.field ≡ field_value (slot_of here 1) f =
-    c.in-Ok.ensures ∙ ap (λ (b : Value). field_value b f) base in
+    c.in-Ok.ensures.value ∙ ap (λ (b : Value). field_value b f) (ap top c.pop-value.ensures.rest ∙ slot-below here) in
     stopped-records c.args.found.now (record_reached frame Write c.args.locked c.args.site c.in-Ok.field f)
     (record_of (given frame) Write c.args.locked c.args.site (slot_of here 1) f)
     (stored_paths (slot_of here 1) f (top here)) c.in-Err.stop
@@ -31,10 +29,8 @@ returns-in-Err-note_store c =
     let here = c.args.here.now in
     let frame = c.args.frame.now in
     let f = c.args.f in
-    let base : c.pop-base.result ≡ slot_of here 1 =
-    c.pop-base.ensures.value ∙ ap top c.pop-value.ensures.rest ∙ slot-below here in
     let field : c.in-Ok.field ≡ field_value (slot_of here 1) f =
-    c.in-Ok.ensures ∙ ap (λ (b : Value). field_value b f) base in
+    c.in-Ok.ensures.value ∙ ap (λ (b : Value). field_value b f) (ap top c.pop-value.ensures.rest ∙ slot-below here) in
     stopped-paths c.args.found.now c.note_access.new.found
     (record_reached frame Write c.args.locked c.args.site c.in-Ok.field f)
     (record_of (given frame) Write c.args.locked c.args.site (slot_of here 1) f)
@@ -50,13 +46,11 @@ returns c =
     let here = c.args.here.now in
     let frame = c.args.frame.now in
     let f = c.args.f in
-    let base : c.pop-base.result ≡ slot_of here 1 =
-    c.pop-base.ensures.value ∙ ap top c.pop-value.ensures.rest ∙ slot-below here in
     let field : c.in-Ok.field ≡ field_value (slot_of here 1) f =
-    c.in-Ok.ensures ∙ ap (λ (b : Value). field_value b f) base in (
+    c.in-Ok.ensures.value ∙ ap (λ (b : Value). field_value b f) (ap top c.pop-value.ensures.rest ∙ slot-below here) in (
       ap Some (sym
           (c.in-Ok-push.ensures
-          ∙ (λ i. pushed (c.pop-base.ensures.rest i) (c.pop-value.ensures.value i))
+          ∙ (λ i. pushed (c.pop_field.ensures.rest i) (c.pop-value.ensures.value i))
           ∙ ap (λ (s : State). pushed (popped s 1) (top here)) c.pop-value.ensures.rest
           ∙ ap (λ (s : State). pushed s (top here)) (popped-twice here))),
       noted-parts c.args.found.now c.note_access.new.found c.note_store.new.found

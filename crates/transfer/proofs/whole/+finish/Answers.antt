@@ -12,9 +12,8 @@ use Rattle.core_code.specs.Calls.{is_analysed}
 use Rattle.core_code.specs.Program.{core}
 use Rattle.core_code.specs.Rows.{rows_in, rows_of, ranks_in}
 use Rattle.transfer.specs.Callees.{Held, AreCallees, outcome_in}
-use Rattle.transfer.specs.Tables.{IsFinished, IsTable}
 use Rattle.transfer.proofs.Tables.{is_method}
-use Rattle.transfer.proofs.Every.{read_at, read_any, row_analysed, one-fewer, row-done, kept-table}
+use Rattle.transfer.proofs.Every.{read_at, read_any, row_analysed, one-fewer, row-done}
 use Rattle.transfer.proofs.whole.+finish.Goals as goal
 
 pub finish-requires : goal.finish-requires
@@ -59,8 +58,8 @@ loop-callee-preserved t c =
           (one-fewer callees made row i n k at.0 at.1 c.in_ok-finished-2.ensures.made.method (inv.there k e));
     }
 
-pub analyse-requires-clause-callees : goal.analyse-requires-clause-callees
-analyse-requires-clause-callees t c =
+pub finish_itself-requires-clause-callees : goal.finish_itself-requires-clause-callees
+finish_itself-requires-clause-callees t c =
     let program = core (arc_value c.args.program.now) in
     let m = c.args.method in
     let row = row_of (rows_in c.args.rows.now) m in
@@ -71,15 +70,3 @@ analyse-requires-clause-callees t c =
     subst (AreCallees program m) (sym c.as_slice-2.ensures.value)
     (row-done program m c.loop-callee.callees.items row i c.requires.analysed
     (ap (λ (rows : List (List MethodId)). row_of rows m) c.requires.rows.rows_are) over inv.same_program inv.there)
-
-pub returns-clause-table : goal.returns-clause-table
-returns-clause-table t c =
-    let program = core (arc_value c.args.program.now) in
-    let m = c.args.method in
-    let made = c.in_ok-finished-3 in
-    let kept = c.in_ok-clone.field-0 in
-    let is : IsFinished program m made.finished =
-    record { method = made.ensures.method; program_is = ap core made.ensures.program } in
-    subst (IsTable program) (sym c.keep.ensures)
-    (kept-table program c.loop-callee.table.items m kept c.loop-callee.invariant.table
-    (subst (IsFinished program m) (sym (c.in_ok-clone.ensures.cases ∙ c.in_ok-finished-4.ensures.ok)) is))

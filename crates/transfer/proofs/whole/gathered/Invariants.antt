@@ -4,7 +4,7 @@ use Rattle.core_code.specs.Program.{core}
 use Rattle.access_domain.specs.Outcomes.{outcomes_held}
 use Rattle.access_domain.specs.Summaries.{outcomes_of, outcomes_from}
 use Rattle.transfer.specs.Tables.{IsTable}
-use Rattle.transfer.proofs.whole.outcomes.Given as goal
+use Rattle.transfer.proofs.whole.gathered.Given as goal
 
 abbrev pub invariant-loop-number : goal.invariant-loop-number
 invariant-loop-number l =

@@ -9,7 +9,7 @@ use Rattle.access_domain.specs.declared.summary.Outcome.{Outcome}
 use Rattle.access_domain.specs.Outcomes.{outcomes_held}
 use Rattle.access_domain.specs.Summaries.{outcome_of, outcomes_from}
 use Rattle.transfer.proofs.Every.{outcomes_turn}
-use Rattle.transfer.proofs.whole.outcomes.Goals as goal
+use Rattle.transfer.proofs.whole.gathered.Goals as goal
 
 pub loop-number-preserved : goal.loop-number-preserved
 loop-number-preserved c =
@@ -18,7 +18,7 @@ loop-number-preserved c =
     let n = length program.methods in
     let i = c.loop-number.number in
     let count : n ≡ length ms =
-    ap length (sym (c.methods-number-end.ensures ∙ ap methods c.deref-3.ensures)) ∙ length-map ms method_of in
+    ap length (sym (c.methods-number-end.ensures ∙ ap methods c.deref.ensures)) ∙ length-map ms method_of in
     let within : i < n = omega (arith, count, c.loop-number-test.true) in
     let outs = c.loop-number.outcomes.items in
     let outcome = c.in_ok-outcome.outcome in
@@ -42,7 +42,7 @@ returns c =
     let i = c.loop-number.number in
     let outs = outcomes_held c.loop-number.outcomes.items in
     let count : n ≡ length ms =
-    ap length (sym (c.methods-number-end.ensures ∙ ap methods c.deref-3.ensures)) ∙ length-map ms method_of in
+    ap length (sym (c.methods-number-end.ensures ∙ ap methods c.deref.ensures)) ∙ length-map ms method_of in
     let none : n - i ≡ 0 = omega (arith, count, c.loop-number-test.false) in
     sym (append-nil outs)
     ∙ ap (λ (k : ℕ). outs ++ outcomes_from program i k) (sym none)
