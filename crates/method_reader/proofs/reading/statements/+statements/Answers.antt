@@ -88,14 +88,6 @@ read_block-returns-clause-gives t c =
 pub by_lead-returns-in-Semicolon-clause-gives : goal.by_lead-returns-in-Semicolon-clause-gives
 by_lead-returns-in-Semicolon-clause-gives t c = ends_give _ c.empty.result (by_lead method_readers (stmt_at method_readers c.args.limit) (block_at method_readers c.args.limit) c.args.limit (statement_lead (map spelled c.args.tokens.now)) (map spelled c.args.tokens.now)) _ (ap (λ (l : StatementLead). by_lead method_readers (stmt_at method_readers c.args.limit) (block_at method_readers c.args.limit) c.args.limit l (map spelled c.args.tokens.now)) (sym c.in-Semicolon.ensures.gives)) c.empty.ensures.gives
 
-pub by_lead-returns-in_err-statements-clause-gives : goal.by_lead-returns-in_err-statements-clause-gives
-by_lead-returns-in_err-statements-clause-gives t c =
-    let p = err_from_is_err_and c.from_residual.result c.from_residual.ensures.1 in
-    rw (p.1, p.2) (part_fails c.in_err-statements.field-0.0 (braces_at method_readers (stmt_at method_readers c.args.limit) (map spelled c.in-Brace.rest.now)) (by_lead method_readers (stmt_at method_readers c.args.limit) (block_at method_readers c.args.limit) c.args.limit (statement_lead (map spelled c.args.tokens.now)) (map spelled c.args.tokens.now)) (λ n. ap (λ (l : StatementLead). by_lead method_readers (stmt_at method_readers c.args.limit) (block_at method_readers c.args.limit) c.args.limit l (map spelled c.args.tokens.now)) (sym c.in-Brace.ensures.gives) ∙ rw n refl) c.in_err-statements.ensures.gives)
-
-pub by_lead-returns-in-Brace-clause-gives : goal.by_lead-returns-in-Brace-clause-gives
-by_lead-returns-in-Brace-clause-gives t c = ends_give _ c.block.result (by_lead method_readers (stmt_at method_readers c.args.limit) (block_at method_readers c.args.limit) c.args.limit (statement_lead (map spelled c.args.tokens.now)) (map spelled c.args.tokens.now)) _ (ap (λ (l : StatementLead). by_lead method_readers (stmt_at method_readers c.args.limit) (block_at method_readers c.args.limit) c.args.limit l (map spelled c.args.tokens.now)) (sym c.in-Brace.ensures.gives) ∙ rw c.in_ok-statements.ensures.gives refl) c.block.ensures.gives
-
 pub by_lead-returns-in-IfWord-clause-gives : goal.by_lead-returns-in-IfWord-clause-gives
 by_lead-returns-in-IfWord-clause-gives t c = ends_give _ c.if_statement.result (by_lead method_readers (stmt_at method_readers c.args.limit) (block_at method_readers c.args.limit) c.args.limit (statement_lead (map spelled c.args.tokens.now)) (map spelled c.args.tokens.now)) _ (ap (λ (l : StatementLead). by_lead method_readers (stmt_at method_readers c.args.limit) (block_at method_readers c.args.limit) c.args.limit l (map spelled c.args.tokens.now)) (sym c.in-IfWord.ensures.gives)) c.if_statement.ensures.gives
 
