@@ -13,10 +13,10 @@ use Rattle.method_grammar.specs.TypeReading.{ty_at, made_base_at}
 use Rattle.method_grammar.specs.ExpressionReading.{operand_of, read_at, array_at, init_at, climb_with, lengths_with}
 use Rattle.method_grammar.specs.ExpressionReading.{items_with, assign_with, conditional_with, select_with}
 use Rattle.method_grammar.specs.ExpressionReading.{index_with, prefix_with, new_with, new_array_with, braces_with}
-use Rattle.method_grammar.specs.ExpressionReading.{call_arguments_with, turn_with, name_with}
+use Rattle.method_grammar.specs.ExpressionReading.{call_arguments_with, name_with}
 use Rattle.method_grammar.specs.Leads.{lead}
 use Rattle.expression_reader.specs.LeadView.{lead_of}
-use Rattle.expression_reader.proofs.TurnSteps.{turned, turn_goes, turn_stops}
+use Rattle.expression_reader.proofs.TurnSteps.{turn_given, turn_stops}
 use Rattle.expression_reader.proofs.CastChoice.{parens_alone}
 use Rattle.type_reader.specs.Tokens.{spelled}
 use Rattle.type_reader.specs.Finishing.{finished}
@@ -422,37 +422,37 @@ initialisers::braces-returns-clause-gives t c = rw (c.in_ok-rest.ensures.gives, 
 pub expressions::turn-returns-in-Assigns-clause-gives : goal.expressions::turn-returns-in-Assigns-clause-gives
 expressions::turn-returns-in-Assigns-clause-gives t c =
     let same : c.deref.result.now ≡ c.args.left.tree.value = search rules in
-    ends_give _ c.assign.result (turn_with (read_at c.args.limit) c.args.limit c.args.level (expr_of c.args.left.tree.value) (lead (map spelled c.args.tokens.now))) (turned (read_at c.args.limit) c.args.limit (expr_of c.args.left.tree.value) (lead_of c.lead_at-lead.result)) (turn_goes (read_at c.args.limit) c.args.limit c.args.level (expr_of c.args.left.tree.value) (lead_of c.lead_at-lead.result) (lead (map spelled c.args.tokens.now)) c.lead_at-lead.ensures.gives (rw same at (sym c.goes_on.ensures ∙ c.if-not-goes_on.false))) (rw c.in-Assigns.is c.assign.ensures.gives)
+    turn_given c.assign.result c.args.limit c.args.level (expr_of c.args.left.tree.value) (lead_of c.lead_at-lead.result) (lead (map spelled c.args.tokens.now)) c.lead_at-lead.ensures.gives (rw same at (sym c.goes_on.ensures ∙ c.if-not-goes_on.false)) (rw c.in-Assigns.is c.assign.ensures.gives)
 
 pub expressions::turn-returns-in-Asks-clause-gives : goal.expressions::turn-returns-in-Asks-clause-gives
 expressions::turn-returns-in-Asks-clause-gives t c =
     let same : c.deref.result.now ≡ c.args.left.tree.value = search rules in
-    ends_give _ c.conditional.result (turn_with (read_at c.args.limit) c.args.limit c.args.level (expr_of c.args.left.tree.value) (lead (map spelled c.args.tokens.now))) (turned (read_at c.args.limit) c.args.limit (expr_of c.args.left.tree.value) (lead_of c.lead_at-lead.result)) (turn_goes (read_at c.args.limit) c.args.limit c.args.level (expr_of c.args.left.tree.value) (lead_of c.lead_at-lead.result) (lead (map spelled c.args.tokens.now)) c.lead_at-lead.ensures.gives (rw same at (sym c.goes_on.ensures ∙ c.if-not-goes_on.false))) (rw c.in-Asks.is c.conditional.ensures.gives)
+    turn_given c.conditional.result c.args.limit c.args.level (expr_of c.args.left.tree.value) (lead_of c.lead_at-lead.result) (lead (map spelled c.args.tokens.now)) c.lead_at-lead.ensures.gives (rw same at (sym c.goes_on.ensures ∙ c.if-not-goes_on.false)) (rw c.in-Asks.is c.conditional.ensures.gives)
 
 pub expressions::turn-returns-in-Joins-clause-gives : goal.expressions::turn-returns-in-Joins-clause-gives
 expressions::turn-returns-in-Joins-clause-gives t c =
     let same : c.deref.result.now ≡ c.args.left.tree.value = search rules in
-    ends_give _ c.binary.result (turn_with (read_at c.args.limit) c.args.limit c.args.level (expr_of c.args.left.tree.value) (lead (map spelled c.args.tokens.now))) (turned (read_at c.args.limit) c.args.limit (expr_of c.args.left.tree.value) (lead_of c.lead_at-lead.result)) (turn_goes (read_at c.args.limit) c.args.limit c.args.level (expr_of c.args.left.tree.value) (lead_of c.lead_at-lead.result) (lead (map spelled c.args.tokens.now)) c.lead_at-lead.ensures.gives (rw same at (sym c.goes_on.ensures ∙ c.if-not-goes_on.false))) (rw c.in-Joins.is c.binary.ensures.gives)
+    turn_given c.binary.result c.args.limit c.args.level (expr_of c.args.left.tree.value) (lead_of c.lead_at-lead.result) (lead (map spelled c.args.tokens.now)) c.lead_at-lead.ensures.gives (rw same at (sym c.goes_on.ensures ∙ c.if-not-goes_on.false)) (rw c.in-Joins.is c.binary.ensures.gives)
 
 pub expressions::turn-returns-in-Tests-clause-gives : goal.expressions::turn-returns-in-Tests-clause-gives
 expressions::turn-returns-in-Tests-clause-gives t c =
     let same : c.deref.result.now ≡ c.args.left.tree.value = search rules in
-    ends_give _ c.tested.result (turn_with (read_at c.args.limit) c.args.limit c.args.level (expr_of c.args.left.tree.value) (lead (map spelled c.args.tokens.now))) (turned (read_at c.args.limit) c.args.limit (expr_of c.args.left.tree.value) (lead_of c.lead_at-lead.result)) (turn_goes (read_at c.args.limit) c.args.limit c.args.level (expr_of c.args.left.tree.value) (lead_of c.lead_at-lead.result) (lead (map spelled c.args.tokens.now)) c.lead_at-lead.ensures.gives (rw same at (sym c.goes_on.ensures ∙ c.if-not-goes_on.false))) (rw c.in-Tests.is c.tested.ensures.gives)
+    turn_given c.tested.result c.args.limit c.args.level (expr_of c.args.left.tree.value) (lead_of c.lead_at-lead.result) (lead (map spelled c.args.tokens.now)) c.lead_at-lead.ensures.gives (rw same at (sym c.goes_on.ensures ∙ c.if-not-goes_on.false)) (rw c.in-Tests.is c.tested.ensures.gives)
 
 pub expressions::turn-returns-in-Steps-clause-gives : goal.expressions::turn-returns-in-Steps-clause-gives
 expressions::turn-returns-in-Steps-clause-gives t c =
     let same : c.deref.result.now ≡ c.args.left.tree.value = search rules in
-    ends_give _ c.stepped.result (turn_with (read_at c.args.limit) c.args.limit c.args.level (expr_of c.args.left.tree.value) (lead (map spelled c.args.tokens.now))) (turned (read_at c.args.limit) c.args.limit (expr_of c.args.left.tree.value) (lead_of c.lead_at-lead.result)) (turn_goes (read_at c.args.limit) c.args.limit c.args.level (expr_of c.args.left.tree.value) (lead_of c.lead_at-lead.result) (lead (map spelled c.args.tokens.now)) c.lead_at-lead.ensures.gives (rw same at (sym c.goes_on.ensures ∙ c.if-not-goes_on.false))) (rw c.in-Steps.is c.stepped.ensures.gives)
+    turn_given c.stepped.result c.args.limit c.args.level (expr_of c.args.left.tree.value) (lead_of c.lead_at-lead.result) (lead (map spelled c.args.tokens.now)) c.lead_at-lead.ensures.gives (rw same at (sym c.goes_on.ensures ∙ c.if-not-goes_on.false)) (rw c.in-Steps.is c.stepped.ensures.gives)
 
 pub expressions::turn-returns-in-Selects-clause-gives : goal.expressions::turn-returns-in-Selects-clause-gives
 expressions::turn-returns-in-Selects-clause-gives t c =
     let same : c.deref.result.now ≡ c.args.left.tree.value = search rules in
-    ends_give _ c.select.result (turn_with (read_at c.args.limit) c.args.limit c.args.level (expr_of c.args.left.tree.value) (lead (map spelled c.args.tokens.now))) (turned (read_at c.args.limit) c.args.limit (expr_of c.args.left.tree.value) (lead_of c.lead_at-lead.result)) (turn_goes (read_at c.args.limit) c.args.limit c.args.level (expr_of c.args.left.tree.value) (lead_of c.lead_at-lead.result) (lead (map spelled c.args.tokens.now)) c.lead_at-lead.ensures.gives (rw same at (sym c.goes_on.ensures ∙ c.if-not-goes_on.false))) (rw c.in-Selects.is c.select.ensures.gives)
+    turn_given c.select.result c.args.limit c.args.level (expr_of c.args.left.tree.value) (lead_of c.lead_at-lead.result) (lead (map spelled c.args.tokens.now)) c.lead_at-lead.ensures.gives (rw same at (sym c.goes_on.ensures ∙ c.if-not-goes_on.false)) (rw c.in-Selects.is c.select.ensures.gives)
 
 pub expressions::turn-returns-in-Indexes-clause-gives : goal.expressions::turn-returns-in-Indexes-clause-gives
 expressions::turn-returns-in-Indexes-clause-gives t c =
     let same : c.deref.result.now ≡ c.args.left.tree.value = search rules in
-    ends_give _ c.index.result (turn_with (read_at c.args.limit) c.args.limit c.args.level (expr_of c.args.left.tree.value) (lead (map spelled c.args.tokens.now))) (turned (read_at c.args.limit) c.args.limit (expr_of c.args.left.tree.value) (lead_of c.lead_at-lead.result)) (turn_goes (read_at c.args.limit) c.args.limit c.args.level (expr_of c.args.left.tree.value) (lead_of c.lead_at-lead.result) (lead (map spelled c.args.tokens.now)) c.lead_at-lead.ensures.gives (rw same at (sym c.goes_on.ensures ∙ c.if-not-goes_on.false))) (rw c.in-Indexes.is c.index.ensures.gives)
+    turn_given c.index.result c.args.limit c.args.level (expr_of c.args.left.tree.value) (lead_of c.lead_at-lead.result) (lead (map spelled c.args.tokens.now)) c.lead_at-lead.ensures.gives (rw same at (sym c.goes_on.ensures ∙ c.if-not-goes_on.false)) (rw c.in-Indexes.is c.index.ensures.gives)
 
 pub expressions::turn-returns-then-not-goes_on-clause-gives : goal.expressions::turn-returns-then-not-goes_on-clause-gives
 expressions::turn-returns-then-not-goes_on-clause-gives t c =
