@@ -1,3 +1,4 @@
 pub mod ClassFacts
 pub mod ExpressionLoops
 pub mod CastChoice
+pub mod TurnSteps

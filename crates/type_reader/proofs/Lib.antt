@@ -4,3 +4,4 @@ pub mod MadePartLoop
 pub mod WholeTrees
 pub mod KeptTokens
 pub mod PutPlaces
+pub mod ReadParts

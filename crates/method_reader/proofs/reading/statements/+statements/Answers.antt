@@ -1,14 +1,17 @@
-use Rattle.std.proofs.Common.{◌≡◌, ℕ, suc, ◌-◌, ◌++◌, ◌∷◌, [], map, sym, ap, ◌∙◌, arith}
+use Rattle.std.proofs.Common.{◌≡◌, ℕ, suc, ◌-◌, ◌++◌, ◌∷◌, [], map, refl, sym, ap, ◌∙◌, arith}
 use Rattle.std.proofs.lemmas.Result.{err_from_is_err_and}
 use Rattle.std.proofs.lemmas.List.{map_push}
 use Rattle.java_tree.specs.KeptPlaces.{kept, stmt_places}
 use Rattle.type_reader.proofs.PutPlaces.{one_put}
 use Rattle.java_tree.specs.View.{stmt_of}
-use Rattle.method_grammar.specs.StatementReading.{braces_at, by_lead, stmt_at, block_at}
+use Rattle.method_grammar.specs.StatementReading.{braces_at, by_lead, stmt_at, block_at, body_at, condition_at}
+use Rattle.method_grammar.specs.StatementReading.{if_at, while_at, sync_at}
 use Rattle.method_grammar.specs.Lookahead.{StatementLead, statement_lead}
 use Rattle.method_grammar.specs.JavaReaders.{method_readers}
 use Rattle.type_reader.specs.Tokens.{spelled}
 use Rattle.type_reader.specs.Endings.{block_end}
+use Rattle.method_reader.specs.HeadReading.{head_at}
+use Rattle.type_reader.proofs.ReadParts.{part_fails}
 use Rattle.method_reader.proofs.ForHeads.{for_is_headed}
 use Rattle.type_reader.proofs.ReadLoops.{ends_give}
 use Rattle.method_reader.proofs.StatementLoops.{statement_goes_on, statement_fails, statements_end}
@@ -79,3 +82,143 @@ read_block-returns-clause-gives t c =
     let less : c.args.limit ≡ suc m = omega arith in
     ends_give _ c.braces.result (block_at method_readers c.args.limit ts) _ (block_within method_readers c.args.limit
     m ts less (map spelled c.in_ok-rest.rest.now) c.in_ok-rest.ensures.gives) c.braces.ensures.gives
+
+-- ---- what is read of parts
+
+pub by_lead-returns-in-Semicolon-clause-gives : goal.by_lead-returns-in-Semicolon-clause-gives
+by_lead-returns-in-Semicolon-clause-gives t c = ends_give _ c.empty.result (by_lead method_readers (stmt_at
+    method_readers c.args.limit) (block_at method_readers c.args.limit) c.args.limit (statement_lead (map spelled
+    c.args.tokens.now)) (map spelled c.args.tokens.now)) _ (ap (λ (l : StatementLead). by_lead method_readers
+    (stmt_at method_readers c.args.limit) (block_at method_readers c.args.limit) c.args.limit l (map spelled
+    c.args.tokens.now)) (sym c.in-Semicolon.ensures.gives)) c.empty.ensures.gives
+
+pub by_lead-returns-in-IfWord-clause-gives : goal.by_lead-returns-in-IfWord-clause-gives
+by_lead-returns-in-IfWord-clause-gives t c = ends_give _ c.if_statement.result (by_lead method_readers (stmt_at
+    method_readers c.args.limit) (block_at method_readers c.args.limit) c.args.limit (statement_lead (map spelled
+    c.args.tokens.now)) (map spelled c.args.tokens.now)) _ (ap (λ (l : StatementLead). by_lead method_readers
+    (stmt_at method_readers c.args.limit) (block_at method_readers c.args.limit) c.args.limit l (map spelled
+    c.args.tokens.now)) (sym c.in-IfWord.ensures.gives)) c.if_statement.ensures.gives
+
+pub by_lead-returns-in-WhileWord-clause-gives : goal.by_lead-returns-in-WhileWord-clause-gives
+by_lead-returns-in-WhileWord-clause-gives t c = ends_give _ c.while_statement.result (by_lead method_readers
+    (stmt_at method_readers c.args.limit) (block_at method_readers c.args.limit) c.args.limit (statement_lead (map
+    spelled c.args.tokens.now)) (map spelled c.args.tokens.now)) _ (ap (λ (l : StatementLead). by_lead
+    method_readers (stmt_at method_readers c.args.limit) (block_at method_readers c.args.limit) c.args.limit l (map
+    spelled c.args.tokens.now)) (sym c.in-WhileWord.ensures.gives)) c.while_statement.ensures.gives
+
+pub by_lead-returns-in-SynchronizedWord-clause-gives : goal.by_lead-returns-in-SynchronizedWord-clause-gives
+by_lead-returns-in-SynchronizedWord-clause-gives t c = ends_give _ c.synchronized.result (by_lead method_readers
+    (stmt_at method_readers c.args.limit) (block_at method_readers c.args.limit) c.args.limit (statement_lead (map
+    spelled c.args.tokens.now)) (map spelled c.args.tokens.now)) _ (ap (λ (l : StatementLead). by_lead
+    method_readers (stmt_at method_readers c.args.limit) (block_at method_readers c.args.limit) c.args.limit l (map
+    spelled c.args.tokens.now)) (sym c.in-SynchronizedWord.ensures.gives)) c.synchronized.ensures.gives
+
+pub by_lead-returns-in-ReturnWord-clause-gives : goal.by_lead-returns-in-ReturnWord-clause-gives
+by_lead-returns-in-ReturnWord-clause-gives t c = ends_give _ c.returned.result (by_lead method_readers (stmt_at
+    method_readers c.args.limit) (block_at method_readers c.args.limit) c.args.limit (statement_lead (map spelled
+    c.args.tokens.now)) (map spelled c.args.tokens.now)) _ (ap (λ (l : StatementLead). by_lead method_readers
+    (stmt_at method_readers c.args.limit) (block_at method_readers c.args.limit) c.args.limit l (map spelled
+    c.args.tokens.now)) (sym c.in-ReturnWord.ensures.gives)) c.returned.ensures.gives
+
+pub by_lead-returns-in-Other-clause-gives : goal.by_lead-returns-in-Other-clause-gives
+by_lead-returns-in-Other-clause-gives t c = ends_give _ c.simple.result (by_lead method_readers (stmt_at
+    method_readers c.args.limit) (block_at method_readers c.args.limit) c.args.limit (statement_lead (map spelled
+    c.args.tokens.now)) (map spelled c.args.tokens.now)) _ (ap (λ (l : StatementLead). by_lead method_readers
+    (stmt_at method_readers c.args.limit) (block_at method_readers c.args.limit) c.args.limit l (map spelled
+    c.args.tokens.now)) (sym c.in-Other.ensures.gives)) c.simple.ensures.gives
+
+pub body-returns-in_err-body-clause-gives : goal.body-returns-in_err-body-clause-gives
+body-returns-in_err-body-clause-gives t c =
+    let p = err_from_is_err_and c.from_residual.result c.from_residual.ensures.1 in
+    rw (p.1, p.2) (part_fails c.in_err-body.field-0.0 (stmt_at method_readers c.args.limit (map spelled
+    c.args.tokens.now)) _ (λ n. rw n refl) c.in_err-body.ensures.gives)
+
+pub if_statement-returns-in_err-condition-clause-gives : goal.if_statement-returns-in_err-condition-clause-gives
+unfolding if_at
+if_statement-returns-in_err-condition-clause-gives t c =
+    let p = err_from_is_err_and c.from_residual.result c.from_residual.ensures.1 in
+    rw (p.1, p.2) (part_fails c.in_err-condition.field-0.0 (condition_at method_readers c.args.limit (map spelled
+    c.args.tokens.now)) _ (λ n. rw n refl) c.in_err-condition.ensures.gives)
+
+pub if_statement-returns-in_err-then-clause-gives : goal.if_statement-returns-in_err-then-clause-gives
+unfolding if_at
+if_statement-returns-in_err-then-clause-gives t c =
+    let p = err_from_is_err_and c.from_residual-in_err-then.result c.from_residual-in_err-then.ensures.1 in
+    rw (p.1, p.2) (part_fails c.in_err-then.field-0.0 (body_at method_readers (stmt_at method_readers c.args.limit)
+    (map spelled c.in_ok-condition.rest.now)) _ (λ n. rw (c.in_ok-condition.ensures.gives, n) refl)
+    c.in_err-then.ensures.gives)
+
+pub if_statement-returns-clause-gives : goal.if_statement-returns-clause-gives
+unfolding if_at
+if_statement-returns-clause-gives t c = rw (c.in_ok-condition.ensures.gives, c.in_ok-then.ensures.gives)
+    c.otherwise.ensures.gives
+
+pub otherwise-returns-in_default-clause-gives : goal.otherwise-returns-in_default-clause-gives
+otherwise-returns-in_default-clause-gives t c = rw c.in_default.ensures.gives c.without_else.ensures.gives
+
+pub otherwise-returns-in_err-other-clause-gives : goal.otherwise-returns-in_err-other-clause-gives
+otherwise-returns-in_err-other-clause-gives t c =
+    let p = err_from_is_err_and c.from_residual.result c.from_residual.ensures.1 in
+    rw (p.1, p.2) (part_fails c.in_err-other.field-0.0 (body_at method_readers (stmt_at method_readers c.args.limit)
+    (map spelled c.in-Some.after.now)) _ (λ n. rw (c.in-Some.ensures.gives, n) refl) c.in_err-other.ensures.gives)
+
+pub otherwise-returns-clause-gives : goal.otherwise-returns-clause-gives
+otherwise-returns-clause-gives t c = rw (c.in-Some.ensures.gives, c.in_ok-other.ensures.gives)
+    c.with_else.ensures.gives
+
+pub while_statement-returns-in_err-condition-clause-gives : goal.while_statement-returns-in_err-condition-clause-gives
+unfolding while_at
+while_statement-returns-in_err-condition-clause-gives t c =
+    let p = err_from_is_err_and c.from_residual.result c.from_residual.ensures.1 in
+    rw (p.1, p.2) (part_fails c.in_err-condition.field-0.0 (condition_at method_readers c.args.limit (map spelled
+    c.args.tokens.now)) _ (λ n. rw n refl) c.in_err-condition.ensures.gives)
+
+pub while_statement-returns-in_err-body-clause-gives : goal.while_statement-returns-in_err-body-clause-gives
+unfolding while_at
+while_statement-returns-in_err-body-clause-gives t c =
+    let p = err_from_is_err_and c.from_residual-in_err-body.result c.from_residual-in_err-body.ensures.1 in
+    rw (p.1, p.2) (part_fails c.in_err-body.field-0.0 (body_at method_readers (stmt_at method_readers c.args.limit)
+    (map spelled c.in_ok-condition.rest.now)) _ (λ n. rw (c.in_ok-condition.ensures.gives, n) refl)
+    c.in_err-body.ensures.gives)
+
+pub while_statement-returns-clause-gives : goal.while_statement-returns-clause-gives
+unfolding while_at
+while_statement-returns-clause-gives t c = rw (c.in_ok-condition.ensures.gives, c.in_ok-body.ensures.gives)
+    c.repeated.ensures.gives
+
+pub for_statement-returns-in_err-head-clause-gives : goal.for_statement-returns-in_err-head-clause-gives
+for_statement-returns-in_err-head-clause-gives t c =
+    let p = err_from_is_err_and c.from_residual.result c.from_residual.ensures.1 in
+    rw (p.1, p.2) (part_fails c.in_err-head.field-0.0 (head_at method_readers c.args.limit (map spelled
+    c.args.tokens.now)) _ (λ n. rw n refl) c.in_err-head.ensures.gives)
+
+pub for_statement-returns-in_err-body-clause-gives : goal.for_statement-returns-in_err-body-clause-gives
+for_statement-returns-in_err-body-clause-gives t c =
+    let p = err_from_is_err_and c.from_residual-in_err-body.result c.from_residual-in_err-body.ensures.1 in
+    rw (p.1, p.2) (part_fails c.in_err-body.field-0.0 (body_at method_readers (stmt_at method_readers c.args.limit)
+    (map spelled c.in_ok-head.rest.now)) _ (λ n. rw (c.in_ok-head.ensures.gives, n) refl)
+    c.in_err-body.ensures.gives)
+
+pub for_statement-returns-clause-gives : goal.for_statement-returns-clause-gives
+for_statement-returns-clause-gives t c = rw (c.in_ok-head.ensures.gives, c.in_ok-body.ensures.gives)
+    c.headed.ensures.gives
+
+pub synchronized-returns-in_err-lock-clause-gives : goal.synchronized-returns-in_err-lock-clause-gives
+unfolding sync_at
+synchronized-returns-in_err-lock-clause-gives t c =
+    let p = err_from_is_err_and c.from_residual.result c.from_residual.ensures.1 in
+    rw (p.1, p.2) (part_fails c.in_err-lock.field-0.0 (condition_at method_readers c.args.limit (map spelled
+    c.args.tokens.now)) _ (λ n. rw n refl) c.in_err-lock.ensures.gives)
+
+pub synchronized-returns-in_err-statements-clause-gives : goal.synchronized-returns-in_err-statements-clause-gives
+unfolding sync_at
+synchronized-returns-in_err-statements-clause-gives t c =
+    let p = err_from_is_err_and c.from_residual-in_err-statements.result c.from_residual-in_err-statements.ensures.1
+    in
+    rw (p.1, p.2) (part_fails c.in_err-statements.field-0.0 (block_at method_readers c.args.limit (map spelled
+    c.in_ok-lock.rest.now)) _ (λ n. rw (c.in_ok-lock.ensures.gives, n) refl) c.in_err-statements.ensures.gives)
+
+pub synchronized-returns-clause-gives : goal.synchronized-returns-clause-gives
+unfolding sync_at
+synchronized-returns-clause-gives t c = rw (c.in_ok-lock.ensures.gives, c.in_ok-statements.ensures.gives)
+    c.locked.ensures.gives

@@ -1,14 +1,17 @@
-use Rattle.std.proofs.Common.{◌≡◌, ◌++◌, ◌∷◌, [], length, map, sym, ◌∙◌, arith}
+use Rattle.std.proofs.Common.{◌≡◌, ◌++◌, ◌∷◌, [], length, map, sym, refl, ◌∙◌, arith, rules}
 use Rattle.std.proofs.lemmas.Result.{err_from_is_err_and}
 use Rattle.std.proofs.lemmas.List.{map_push}
 use Rattle.java_tree.specs.View.{part_of, argument_of}
 use Rattle.java_tree.specs.KeptPlaces.{kept, part_places, argument_places}
-use Rattle.method_grammar.specs.Taking.{commas}
-use Rattle.method_grammar.specs.TypeReading.{points, part_with, argument_with, ty_at}
+use Rattle.java_tree.specs.Trees.{Plain}
+use Rattle.java_tree.specs.declared.types.BaseType.TheFolds.{the_lemmas}
+use Rattle.method_grammar.specs.Taking.{commas, after_name}
+use Rattle.method_grammar.specs.TypeReading.{points, part_with, argument_with, angled_with, base_with, ty_at}
 use Rattle.type_reader.specs.Tokens.{spelled}
 use Rattle.type_reader.specs.Finishing.{finished}
 use Rattle.type_reader.specs.Endings.{named_end, angled_end}
 use Rattle.type_reader.proofs.PutPlaces.{one_more}
+use Rattle.type_reader.proofs.ReadParts.{part_fails, making_fails, made_before}
 use Rattle.type_reader.proofs.PushedNesting.{parts_nesting_push, arguments_nesting_push}
 use Rattle.type_reader.proofs.ReadLoops.{comma_goes_on, comma_fails, comma_ends, comma_runs_out, point_goes_on}
 use Rattle.type_reader.proofs.ReadLoops.{point_fails, point_ends, point_runs_out, ends_give}
@@ -131,3 +134,112 @@ parts-returns-clause-gives t c =
     (map spelled c.args.tokens.now)) in
     point_runs_out read named_end total c.args.tokens.now c.loop.counter (map part_of c.loop.parts.items)
     (map spelled c.loop.rest.now) c.loop-test.false c.loop.invariant.gives ∙ sym c.named-2.ensures.gives
+
+-- ---- what is read of parts
+
+pub wildcard-returns-in_err-bound-clause-gives : goal.wildcard-returns-in_err-bound-clause-gives
+wildcard-returns-in_err-bound-clause-gives t c =
+    let p = err_from_is_err_and c.from_residual.result c.from_residual.ensures.1 in
+    rw (p.1, p.2) (part_fails c.in_err-bound.field-0.0 (ty_at c.args.limit (map spelled c.in-Some.rest.now)) _
+    (λ n. rw (c.in-Some.ensures.gives, n) refl) c.in_err-bound.ensures.gives)
+
+pub wildcard-returns-in-Some-clause-gives : goal.wildcard-returns-in-Some-clause-gives
+wildcard-returns-in-Some-clause-gives t c =
+    rw (c.in-Some.ensures.gives, c.in_ok-bound.ensures.gives) (search (rules, the_lemmas))
+
+pub wildcard-returns-in_err-bound-2-clause-gives : goal.wildcard-returns-in_err-bound-2-clause-gives
+wildcard-returns-in_err-bound-2-clause-gives t c =
+    let p = err_from_is_err_and c.from_residual-in_err-bound-2.result c.from_residual-in_err-bound-2.ensures.1 in
+    rw (p.1, p.2) (part_fails c.in_err-bound-2.field-0.0 (ty_at c.args.limit
+    (map spelled c.in-Some-after_keyword.rest.now)) _ (λ n. rw (
+      c.in_default.ensures.gives,
+      c.in-Some-after_keyword.ensures.gives,
+      n,
+    ) refl) c.in_err-bound-2.ensures.gives)
+
+pub wildcard-returns-in-Some-after_keyword-clause-gives : goal.wildcard-returns-in-Some-after_keyword-clause-gives
+wildcard-returns-in-Some-after_keyword-clause-gives t c = rw (
+  c.in_default.ensures.gives,
+  c.in-Some-after_keyword.ensures.gives,
+  c.in_ok-bound-2.ensures.gives,
+) (search (rules, the_lemmas))
+
+pub wildcard-returns-clause-gives : goal.wildcard-returns-clause-gives
+wildcard-returns-clause-gives t c =
+    rw (c.in_default.ensures.gives, c.in_default-after_keyword.ensures.gives) (search (rules, the_lemmas))
+
+pub argument-returns-in-Some-clause-gives : goal.argument-returns-in-Some-clause-gives
+argument-returns-in-Some-clause-gives t c = rw c.in-Some.ensures.gives c.wildcard.ensures.gives
+
+pub argument-returns-in_err-bound-clause-gives : goal.argument-returns-in_err-bound-clause-gives
+argument-returns-in_err-bound-clause-gives t c =
+    let p = err_from_is_err_and c.from_residual.result c.from_residual.ensures.1 in
+    rw (p.1, p.2) (part_fails c.in_err-bound.field-0.0 (ty_at c.args.limit (map spelled c.args.tokens.now)) _
+    (λ n. rw (c.in_default.ensures.gives, n) refl) c.in_err-bound.ensures.gives)
+
+pub argument-returns-clause-gives : goal.argument-returns-clause-gives
+argument-returns-clause-gives t c =
+    rw (c.in_default.ensures.gives, c.in_ok-bound.ensures.gives) (search (rules, the_lemmas))
+
+pub angled-returns-in_err-first-clause-gives : goal.angled-returns-in_err-first-clause-gives
+unfolding angled_with
+angled-returns-in_err-first-clause-gives t c =
+    let p = err_from_is_err_and c.from_residual.result c.from_residual.ensures.1 in
+    rw (p.1, p.2) (part_fails c.in_err-first.field-0.0 (argument_with (ty_at c.args.limit)
+    (map spelled c.args.tokens.now)) _ (λ n. rw n refl) c.in_err-first.ensures.gives)
+
+pub angled-returns-clause-gives : goal.angled-returns-clause-gives
+unfolding angled_with
+angled-returns-clause-gives t c = rw c.in_ok-first.ensures.gives c.arguments.ensures.gives
+
+pub part-returns-in_err-name-clause-gives : goal.part-returns-in_err-name-clause-gives
+unfolding part_with
+part-returns-in_err-name-clause-gives t c =
+    let p = err_from_is_err_and c.from_residual.result c.from_residual.ensures.1 in
+    rw (p.1, p.2) (part_fails c.in_err-name.field-0.0 (after_name (map spelled c.args.tokens.now)) _
+    (λ n. rw n refl) c.in_err-name.ensures.gives)
+
+pub part-returns-in_default-clause-gives : goal.part-returns-in_default-clause-gives
+unfolding part_with
+part-returns-in_default-clause-gives t c =
+    rw (c.in_ok-name.ensures.gives, c.in_default.ensures.gives) (search (rules, the_lemmas))
+
+pub part-returns-in_err-angled-clause-gives : goal.part-returns-in_err-angled-clause-gives
+unfolding part_with
+part-returns-in_err-angled-clause-gives t c =
+    let p = err_from_is_err_and c.from_residual-in_err-angled.result c.from_residual-in_err-angled.ensures.1 in
+    rw (p.1, p.2) (part_fails c.in_err-angled.field-0.0 (angled_with (ty_at c.args.limit)
+    (map spelled c.in-Some.inside.now)) _ (λ n. rw (
+      c.in_ok-name.ensures.gives,
+      c.in-Some.ensures.gives,
+      n,
+    ) refl) c.in_err-angled.ensures.gives)
+
+pub part-returns-clause-gives : goal.part-returns-clause-gives
+unfolding part_with
+part-returns-clause-gives t c = rw (
+  c.in_ok-name.ensures.gives,
+  c.in-Some.ensures.gives,
+  c.in_ok-angled.ensures.gives,
+) (search (rules, the_lemmas))
+
+pub base-returns-in_err-plain-clause-gives : goal.base-returns-in_err-plain-clause-gives
+base-returns-in_err-plain-clause-gives t c =
+    let p = err_from_is_err_and c.from_residual.result c.from_residual.ensures.1 in
+    rw (p.1, p.2) (making_fails c.in_err-plain.field-0.0 (Plain c.in-Some.word.now.text) _ c.in_err-plain.ensures.gives)
+
+pub base-returns-in-Some-clause-gives : goal.base-returns-in-Some-clause-gives
+unfolding base_with
+base-returns-in-Some-clause-gives t c =
+    rw c.in-Some.ensures.gives (made_before _ _ _ c.in_ok-plain.ensures.gives)
+
+pub base-returns-in_err-first-clause-gives : goal.base-returns-in_err-first-clause-gives
+unfolding base_with
+base-returns-in_err-first-clause-gives t c =
+    let p = err_from_is_err_and c.from_residual-in_err-first.result c.from_residual-in_err-first.ensures.1 in
+    rw (p.1, p.2) (part_fails c.in_err-first.field-0.0 (part_with (ty_at c.args.limit) (map spelled c.args.tokens.now))
+    _ (λ n. rw (c.in_default.ensures.gives, n) refl) c.in_err-first.ensures.gives)
+
+pub base-returns-clause-gives : goal.base-returns-clause-gives
+unfolding base_with
+base-returns-clause-gives t c = rw (c.in_default.ensures.gives, c.in_ok-first.ensures.gives) c.parts.ensures.gives
