@@ -1,9 +1,10 @@
 -- The code of expressions and their kinds, of what the parts made.
-use Rattle.std.proofs.Common.{◌≡◌, ℕ, List, [], ◌++◌, Option, Some, None, length, map, sym, ap, ◌∙◌}
-use Rattle.std.proofs.Common.{append_assoc}
-use Rattle.std.proofs.lemmas.List.{length-map}
+use Rattle.std.proofs.Common.{◌≡◌, ℕ, Bool, true, false, cond, List, [], ◌++◌, Option, Some, None, length, map, refl}
+use Rattle.std.proofs.Common.{sym, ap, ◌∙◌, append_assoc}
+use Rattle.std.proofs.lemmas.List.{length-map, append-nil}
 use Rattle.racer_base.specs.declared.ids.ClassId.{ClassId}
 use Rattle.racer_base.specs.declared.ids.Kind.{Kind}
+use Rattle.racer_base.specs.declared.ids.Kind.TheVariants.{Plain}
 use Rattle.racer_base.specs.declared.ids.MethodId.{MethodId}
 use Rattle.racer_base.specs.declared.ids.Place.{Place}
 use Rattle.java_tree.specs.Trees.{Ty}
@@ -11,26 +12,30 @@ use Rattle.java_tree.specs.declared.expressions.Expression.{Expression}
 use Rattle.java_tree.specs.declared.expressions.Initialiser.{Initialiser}
 use Rattle.java_tree.specs.declared.words.Ident.{Ident}
 use Rattle.java_resolver.specs.Meanings.{field_named}
-use Rattle.std.specs.Prelude.{true}
 use Rattle.core_code.specs.declared.code.Op.TheVariants.{Prim, Drop, Outside}
-use Rattle.java_lowering.specs.Trees.{Expr, Access, Selected, Logical, Conditional, Call, CallOn, New}
+use Rattle.java_lowering.specs.Trees.{Expr, Access, Selected, Unary, Count, Logical, Binary, Conditional}
+use Rattle.java_lowering.specs.Trees.{Assign, Combine, CallOn, New}
 use Rattle.java_lowering.specs.Trees.{NewArray, NewItems}
 use Rattle.java_lowering.specs.Trees.{Exprs, pack_exprs, pack_inits, count_exprs, count_inits}
-use Rattle.java_lowering.specs.TreesOf.{expr_of, init_of}
-use Rattle.java_lowering.specs.ValueKinds.{ValueKind}
+use Rattle.java_lowering.specs.TreesOf.{expr_of, init_of, access_of, is_assignment, assignment, is_logical, binary}
+use Rattle.java_lowering.specs.TreesOf.{is_count, prefix}
+use Rattle.java_lowering.specs.ValueKinds.{ValueKind, Of}
 use Rattle.java_lowering.specs.Around.{Around, Code, op, op_at, choice, type_kind}
-use Rattle.java_lowering.specs.Assignments.{Storage, read, assigned, combined, counted, selected, of_class, of_value}
-use Rattle.java_lowering.specs.Calls.{Callee, own_callee, callee_on, callee_in, callee_of_value, if_static}
-use Rattle.java_lowering.specs.Calls.{result_kind, called, called_on, called_on_value}
+use Rattle.java_lowering.specs.Assignments.{Storage, read, counted, selected, of_class, of_value}
+use Rattle.java_lowering.specs.Calls.{own_callee, callee_on, callee_of_value, result_kind, called_on}
 use Rattle.java_lowering.specs.Expressions.{code, kind, access_kind, storage, passed, items_code, class_before}
 use Rattle.expression_lowering.specs.declared.storage.Storage.{Storage as CodeStorage}
 use Rattle.expression_lowering.specs.declared.calls.Callee.{Callee as CodeCallee}
-use Rattle.expression_lowering.specs.Parts.{base_of, without_base, storage_kind, then_read, then_assigned, then_fetched}
-use Rattle.expression_lowering.specs.Parts.{then_combined, then_counted, callee_seen, passed_kinds, call_front}
-use Rattle.expression_lowering.specs.Parts.{call_end}
-use Rattle.expression_lowering.specs.Parts.{value_call_front, value_call_end, called_with, called_behind, class_call}
-use Rattle.expression_lowering.specs.Parts.{class_callee, value_call, value_callee, class_call_kind, value_call_kind}
+use Rattle.expression_lowering.specs.declared.calls.Target.{Target}
+use Rattle.expression_lowering.specs.declared.calls.Target.TheVariants as target
+use Rattle.expression_lowering.specs.declared.value_kind.ValueKind.{ValueKind as CodeKind}
+use Rattle.expression_lowering.specs.Views.{value_kind}
+use Rattle.expression_lowering.specs.Parts.{base_of, without_base, storage_kind, then_read, then_fetched, then_counted}
+use Rattle.expression_lowering.specs.Parts.{callee_seen, passed_kinds, call_front, call_end, value_call_front}
+use Rattle.expression_lowering.specs.Parts.{value_call_end, class_callee, class_call, class_call_kind}
 use Rattle.expression_lowering.specs.Parts.{maker_of, made_front, made_kinds, made_end}
+use Rattle.expression_lowering.specs.Together.{assign_front, assign_end, operator_front, operator_end, target_callee}
+use Rattle.expression_lowering.specs.Together.{target_front, target_end, target_call, target_kind, called_behind}
 use Rattle.expression_lowering.proofs.AccessParts.{read-parts, assigned-parts, combined-parts, counted-parts}
 use Rattle.expression_lowering.proofs.AccessParts.{kind-stored, value-behind, value-same}
 use Rattle.expression_lowering.proofs.CallParts.{called-parts, value-called-parts, made-parts, count-packed}
@@ -45,31 +50,36 @@ read-made around s t old one new p same q =
     two old one new (base_of s) (then_read around (without_base s)) p (q ∙ ap (λ u. one ++ then_read around u) same)
     ∙ ap (λ x. old ++ x) (sym (read-parts around s))
 
-pub assigned-made : (around : Around) (s : Storage) (t : CodeStorage) (k given : ValueKind)
-    (old one second new e : Code) →
-    one ≡ old ++ base_of s → t ≡ without_base s → second ≡ one ++ e → given ≡ k →
-    new ≡ second ++ then_assigned around t given → new ≡ old ++ assigned around s k e
-assigned-made around s t k given old one second new e p same q kinds r =
-    let last : new ≡ second ++ then_assigned around (without_base s) k =
-    r ∙ ap (λ u. second ++ then_assigned around u given) same
-    ∙ ap (λ g. second ++ then_assigned around (without_base s) g) kinds in
-    two old one new (base_of s) (e ++ then_assigned around (without_base s) k) p
-    (two one second new e (then_assigned around (without_base s) k) q last)
-    ∙ ap (λ x. old ++ x) (sym (assigned-parts around s k e))
+assign-parts : (around : Around) (c : Bool) (a : Access) (b : Expr) →
+    code around (cond c (Assign a b) (Combine a b))
+    ≡ base_of (storage around a)
+    ++ (assign_front around c (without_base (storage around a))
+    ++ (code around b ++ assign_end around c (without_base (storage around a)) (kind around b)))
+assign-parts around true a b = assigned-parts around (storage around a) (kind around b) (code around b)
+assign-parts around false a b = combined-parts around (storage around a) (code around b)
 
-pub combined-made : (around : Around) (s : Storage) (t : CodeStorage) (old one second third new e : Code) →
-    one ≡ old ++ base_of s → t ≡ without_base s → second ≡ one ++ then_fetched around t → third ≡ second ++ e →
-    new ≡ third ++ then_combined around t → new ≡ old ++ combined around s e
-combined-made around s t old one second third new e p same q r u =
-    let last : new ≡ third ++ then_combined around (without_base s) =
-    u ∙ ap (λ v. third ++ then_combined around v) same in
-    let fetched : second ≡ one ++ then_fetched around (without_base s) =
-    q ∙ ap (λ v. one ++ then_fetched around v) same in
-    let tail = e ++ then_combined around (without_base s) in
-    two old one new (base_of s) (then_fetched around (without_base s) ++ tail) p
-    (two one second new (then_fetched around (without_base s)) tail fetched
-    (two second third new e (then_combined around (without_base s)) r last))
-    ∙ ap (λ x. old ++ x) (sym (combined-parts around s e))
+pub assign-made : (around : Around) (op : List ℕ) (a : Access) (b : Expr) (t : CodeStorage) (given : ValueKind)
+    (old one second third new : Code) →
+    one ≡ old ++ base_of (storage around a) → t ≡ without_base (storage around a) →
+    second ≡ one ++ assign_front around (is_assignment op) t → third ≡ second ++ code around b →
+    given ≡ kind around b → new ≡ third ++ assign_end around (is_assignment op) t given →
+    new ≡ old ++ code around (assignment op a b)
+assign-made around op a b t given old one second third new p same q r kinds u =
+    let c = is_assignment op in
+    let s = without_base (storage around a) in
+    let end = assign_end around c s (kind around b) in
+    let last : new ≡ third ++ end =
+    u ∙ ap (λ v. third ++ assign_end around c v given) same ∙ ap (λ g. third ++ assign_end around c s g) kinds in
+    let fetched : second ≡ one ++ assign_front around c s = q ∙ ap (λ v. one ++ assign_front around c v) same in
+    two old one new (base_of (storage around a)) (assign_front around c s ++ (code around b ++ end)) p
+    (two one second new (assign_front around c s) (code around b ++ end) fetched
+    (two second third new (code around b) end r last))
+    ∙ ap (λ x. old ++ x) (sym (assign-parts around c a b))
+
+pub assign-kind : (around : Around) (c : Bool) (a : Access) (b : Expr) →
+    access_kind around a ≡ kind around (cond c (Assign a b) (Combine a b))
+assign-kind around true a b = refl
+assign-kind around false a b = refl
 
 pub counted-made : (around : Around) (s : Storage) (t : CodeStorage) (old one new : Code) → one ≡ old ++ base_of s →
     t ≡ without_base s → new ≡ one ++ (then_fetched around t ++ then_counted around t) → new ≡ old ++ counted around s
@@ -81,6 +91,16 @@ counted-made around s t old one new p same q =
 pub kind-made : (around : Around) (a : Access) (t : CodeStorage) (k : ValueKind) → t ≡ without_base (storage around a) →
     k ≡ storage_kind t → k ≡ access_kind around a
 kind-made around a t k same is = is ∙ ap storage_kind same ∙ sym (kind-stored around a)
+
+-- ---- prefix operators
+
+pub prefix-code : (around : Around) (op : List ℕ) (a : Expr) (b : Bool) → is_count op ≡ b →
+    code around (cond b (Count (access_of a)) (Unary a)) ≡ code around (prefix op a)
+prefix-code around op a b is = ap (λ t. code around (cond t (Count (access_of a)) (Unary a))) (sym is)
+
+pub prefix-kind : (around : Around) (c : Bool) (a : Expr) → Of Plain ≡ kind around (cond c (Count (access_of a)) (Unary a))
+prefix-kind around true a = refl
+prefix-kind around false a = refl
 
 -- ---- e.x
 
@@ -110,15 +130,29 @@ selected-same around e x k t is kinds same =
 
 -- ---- choices
 
-pub logical-made : (around : Around) (a b : Expr) (old one second third new : Code) (at : ℕ) →
-    one ≡ old ++ code around a → second ≡ one ++ op around (Prim 1) → at ≡ length second →
+operator-parts : (around : Around) (c : Bool) (a b : Expr) →
+    code around (cond c (Logical a b) (Binary a b))
+    ≡ code around a ++ operator_front around c ++ operator_end around c (code around b)
+operator-parts around true a b = refl
+operator-parts around false a b =
+    append_assoc (code around a) (code around b) (op around (Prim 2))
+    ∙ sym (ap (λ x. x ++ (code around b ++ op around (Prim 2))) (append-nil (code around a)))
+
+pub operator-made : (around : Around) (o : List ℕ) (a b : Expr) (old one second third new : Code) (at : ℕ) →
+    one ≡ old ++ code around a → second ≡ one ++ operator_front around (is_logical o) → at ≡ length second →
     third ≡ second ++ code around b →
     ((left right : Code) → at ≡ length left → third ≡ left ++ right →
-    new ≡ left ++ choice (right ++ op around (Prim 2)) []) →
-    new ≡ old ++ code around (Logical a b)
-logical-made around a b old one second third new at p q here r ends =
-    three old one second new (code around a) (op around (Prim 1)) (choice (code around b ++ op around (Prim 2)) []) p q
-    (ends second (code around b) here r)
+    new ≡ left ++ operator_end around (is_logical o) right) →
+    new ≡ old ++ code around (binary o a b)
+operator-made around o a b old one second third new at p q here r ends =
+    three old one second new (code around a) (operator_front around (is_logical o))
+    (operator_end around (is_logical o) (code around b)) p q (ends second (code around b) here r)
+    ∙ ap (λ x. old ++ x) (sym (operator-parts around (is_logical o) a b))
+
+pub operator-kind : (around : Around) (c : Bool) (a b : Expr) →
+    Of Plain ≡ kind around (cond c (Logical a b) (Binary a b))
+operator-kind around true a b = refl
+operator-kind around false a b = refl
 
 pub conditional-made : (around : Around) (c a b : Expr) (old one second third fourth new : Code) (l r : ℕ) →
     one ≡ old ++ code around c → second ≡ one ++ op around Drop → l ≡ length second →
@@ -139,104 +173,50 @@ counts all = sym (count-packed (map expr_of all) ∙ length-map all expr_of)
 pub counts-inits : (all : List Initialiser) → length all ≡ count_inits (pack_inits (map init_of all))
 counts-inits all = sym (count-packed-inits (map init_of all) ∙ length-map all init_of)
 
-pub call-made : (around : Around) (place : Place) (callee : CodeCallee) (all : List Expression) (kinds : List Kind)
-    (n : ℕ) (old one second new : Code) → one ≡ old ++ call_front around (callee_seen callee) →
-    kinds ≡ passed_kinds around (callee_seen callee) →
-    second ≡ one ++ passed around kinds (pack_exprs (map expr_of all)) → n ≡ length all →
-    new ≡ second ++ call_end around place n (callee_seen callee) →
-    new ≡ old ++ called_with around place callee (pack_exprs (map expr_of all))
-call-made around place callee all kinds n old one second new p same q many r =
+target-parts : (around : Around) (t : Target) (x : Ident) (es : Exprs) →
+    target_front around t (target_callee around t x (count_exprs es))
+    ++ passed around (passed_kinds around (target_callee around t x (count_exprs es))) es
+    ++ target_end around t x.place (count_exprs es) (target_callee around t x (count_exprs es))
+    ≡ target_call around t x es
+target-parts around target.Own x es =
+    let m = own_callee around x (count_exprs es) in
+    append_assoc (call_front around m) (passed around (passed_kinds around m) es)
+    (call_end around x.place (count_exprs es) m)
+    ∙ sym (called-parts around x.place (count_exprs es) (λ kinds. passed around kinds es) m)
+target-parts around (target.Class c) x es =
+    let m = class_callee around c x es in
+    append_assoc (call_front around m) (passed around (passed_kinds around m) es)
+    (call_end around x.place (count_exprs es) m)
+    ∙ sym (called-parts around x.place (count_exprs es) (λ kinds. passed around kinds es) m)
+target-parts around (target.Value k) x es =
+    let m = callee_of_value around (value_kind k) x (count_exprs es) in
+    append_assoc (value_call_front around m) (passed around (passed_kinds around m) es)
+    (value_call_end around x.place (count_exprs es) m)
+
+pub call-made : (around : Around) (t : Target) (x : Ident) (callee : CodeCallee) (all : List Expression)
+    (kinds : List Kind) (old one second new : Code) →
+    callee_seen callee ≡ target_callee around t x (length all) →
+    one ≡ old ++ target_front around t (callee_seen callee) → kinds ≡ passed_kinds around (callee_seen callee) →
+    second ≡ one ++ passed around kinds (pack_exprs (map expr_of all)) →
+    new ≡ second ++ target_end around t x.place (length all) (callee_seen callee) →
+    new ≡ old ++ target_call around t x (pack_exprs (map expr_of all))
+call-made around t x callee all kinds old one second new is p same q r =
     let es = pack_exprs (map expr_of all) in
-    three old one second new (call_front around (callee_seen callee))
-    (passed around (passed_kinds around (callee_seen callee)) es)
-    (call_end around place (count_exprs es) (callee_seen callee)) p (q ∙ ap (λ ks. one ++ passed around ks es) same)
-    (r ∙ ap (λ k. second ++ call_end around place k (callee_seen callee)) (many ∙ counts all))
+    let n = count_exprs es in
+    let m = target_callee around t x n in
+    let here : callee_seen callee ≡ m = is ∙ ap (target_callee around t x) (counts all) in
+    three old one second new (target_front around t m) (passed around (passed_kinds around m) es)
+    (target_end around t x.place n m) (p ∙ ap (λ c. old ++ target_front around t c) here)
+    (q ∙ ap (λ ks. one ++ passed around ks es) (same ∙ ap (passed_kinds around) here))
+    (r ∙ ap (λ k. second ++ target_end around t x.place k (callee_seen callee)) (counts all)
+    ∙ ap (λ c. second ++ target_end around t x.place n c) here)
+    ∙ ap (λ y. old ++ y) (target-parts around t x es)
 
-pub value-call-made : (around : Around) (place : Place) (callee : CodeCallee) (all : List Expression)
-    (kinds : List Kind) (n : ℕ) (old one second new : Code) →
-    one ≡ old ++ value_call_front around (callee_seen callee) → kinds ≡ passed_kinds around (callee_seen callee) →
-    second ≡ one ++ passed around kinds (pack_exprs (map expr_of all)) → n ≡ length all →
-    new ≡ second ++ value_call_end around place n (callee_seen callee) →
-    new ≡ old ++ called_behind around place callee (pack_exprs (map expr_of all))
-value-call-made around place callee all kinds n old one second new p same q many r =
-    let es = pack_exprs (map expr_of all) in
-    three old one second new (value_call_front around (callee_seen callee))
-    (passed around (passed_kinds around (callee_seen callee)) es)
-    (value_call_end around place (count_exprs es) (callee_seen callee)) p
-    (q ∙ ap (λ ks. one ++ passed around ks es) same)
-    (r ∙ ap (λ k. second ++ value_call_end around place k (callee_seen callee)) (many ∙ counts all))
-
--- where the callee is this
-pub called-as : (around : Around) (place : Place) (callee : CodeCallee) (m : Callee) (es : Exprs) →
-    callee_seen callee ≡ m →
-    called_with around place callee es ≡ called around place (count_exprs es) (λ kinds. passed around kinds es) m
-called-as around place callee m es same =
-    append_assoc (call_front around (callee_seen callee)) (passed around (passed_kinds around (callee_seen callee)) es)
-    (call_end around place (count_exprs es) (callee_seen callee))
-    ∙ sym (called-parts around place (count_exprs es) (λ kinds. passed around kinds es) (callee_seen callee))
-    ∙ ap (called around place (count_exprs es) (λ kinds. passed around kinds es)) same
-
-pub own-call-made : (around : Around) (x : Ident) (callee : CodeCallee) (all : List Expression) (n : ℕ)
-    (old new : Code) → n ≡ length all → callee_seen callee ≡ own_callee around x n →
-    new ≡ old ++ called_with around x.place callee (pack_exprs (map expr_of all)) →
-    new ≡ old ++ code around (Call x (pack_exprs (map expr_of all)))
-own-call-made around x callee all n old new many same p =
-    let es = pack_exprs (map expr_of all) in
-    p ∙ ap (λ y. old ++ y) (called-as around x.place callee (own_callee around x (count_exprs es)) es
-    (same ∙ ap (own_callee around x) (many ∙ counts all)))
-
-pub own-call-kind : (around : Around) (x : Ident) (callee : CodeCallee) (all : List Expression) (n : ℕ)
-    (k : ValueKind) → n ≡ length all → callee_seen callee ≡ own_callee around x n →
-    k ≡ result_kind around (callee_seen callee) → k ≡ kind around (Call x (pack_exprs (map expr_of all)))
-own-call-kind around x callee all n k many same is =
-    is ∙ ap (result_kind around) (same ∙ ap (own_callee around x) (many ∙ counts all))
-
-pub class-call-made : (around : Around) (c : ClassId) (x : Ident) (callee : CodeCallee) (all : List Expression)
-    (n : ℕ) (old new : Code) → n ≡ length all → callee_seen callee ≡ if_static (callee_in around c x.text n) →
-    new ≡ old ++ called_with around x.place callee (pack_exprs (map expr_of all)) →
-    new ≡ old ++ class_call around c x (pack_exprs (map expr_of all))
-class-call-made around c x callee all n old new many same p =
-    let es = pack_exprs (map expr_of all) in
-    p ∙ ap (λ y. old ++ y) (called-as around x.place callee (class_callee around c x es) es
-    (same ∙ ap (λ k. if_static (callee_in around c x.text k)) (many ∙ counts all)))
-
-pub class-call-kind-made : (around : Around) (c : ClassId) (x : Ident) (callee : CodeCallee) (all : List Expression)
-    (n : ℕ) (k : ValueKind) → n ≡ length all → callee_seen callee ≡ if_static (callee_in around c x.text n) →
-    k ≡ result_kind around (callee_seen callee) → k ≡ class_call_kind around c x (pack_exprs (map expr_of all))
-class-call-kind-made around c x callee all n k many same is =
-    is ∙ ap (result_kind around) (same ∙ ap (λ j. if_static (callee_in around c x.text j)) (many ∙ counts all))
-
-object-callee : (around : Around) (e : Expr) (x : Ident) (given : ValueKind) (m : Callee) (all : List Expression)
-    (n : ℕ) → given ≡ kind around e → n ≡ length all → m ≡ callee_of_value around given x n →
-    m ≡ value_callee around e x (pack_exprs (map expr_of all))
-object-callee around e x given m all n kinds many same =
-    same ∙ ap (λ g. callee_of_value around g x n) kinds
-    ∙ ap (callee_of_value around (kind around e) x) (many ∙ counts all)
-
-pub object-call-made : (around : Around) (e : Expr) (x : Ident) (given : ValueKind) (callee : CodeCallee)
-    (all : List Expression) (n : ℕ) (old one new : Code) → one ≡ old ++ code around e → given ≡ kind around e →
-    n ≡ length all → callee_seen callee ≡ callee_of_value around given x n →
-    new ≡ one ++ called_behind around x.place callee (pack_exprs (map expr_of all)) →
-    new ≡ old ++ value_call around e x (pack_exprs (map expr_of all))
-object-call-made around e x given callee all n old one new p kinds many same q =
-    let es = pack_exprs (map expr_of all) in
-    let m = callee_seen callee in
-    let k = count_exprs es in
-    two old one new (code around e) (called_behind around x.place callee es) p q
-    ∙ ap (λ y. old ++ (code around e ++ y))
-    (append_assoc (value_call_front around m) (passed around (passed_kinds around m) es)
-    (value_call_end around x.place k m))
-    ∙ ap (λ y. old ++ y)
-    (sym (value-called-parts around x.place (code around e) k (λ kinds. passed around kinds es) m))
-    ∙ ap (λ c. old ++ called_on_value around x.place (code around e) k (λ kinds. passed around kinds es) c)
-    (object-callee around e x given m all n kinds many same)
-
-pub object-call-kind : (around : Around) (e : Expr) (x : Ident) (given : ValueKind) (callee : CodeCallee)
-    (all : List Expression) (n : ℕ) (k : ValueKind) → given ≡ kind around e → n ≡ length all →
-    callee_seen callee ≡ callee_of_value around given x n → k ≡ result_kind around (callee_seen callee) →
-    k ≡ value_call_kind around e x (pack_exprs (map expr_of all))
-object-call-kind around e x given callee all n k kinds many same is =
-    is ∙ ap (result_kind around) (object-callee around e x given (callee_seen callee) all n kinds many same)
+pub call-kind : (around : Around) (t : Target) (x : Ident) (callee : CodeCallee) (all : List Expression)
+    (k : ValueKind) → callee_seen callee ≡ target_callee around t x (length all) →
+    k ≡ result_kind around (callee_seen callee) → k ≡ target_kind around t x (pack_exprs (map expr_of all))
+call-kind around t x callee all k is kinds =
+    kinds ∙ ap (result_kind around) (is ∙ ap (target_callee around t x) (counts all))
 
 pub on-class : (around : Around) (e : Expr) (x : Ident) (es : Exprs) (c : ClassId) → Some c ≡ class_before around e →
     class_call around c x es ≡ code around (CallOn e x es)
@@ -249,16 +229,24 @@ pub on-class-kind : (around : Around) (e : Expr) (x : Ident) (es : Exprs) (c : C
 on-class-kind around e x es c is =
     ap (λ o. result_kind around (callee_on around o (kind around e) x (count_exprs es))) is
 
-pub on-object : (around : Around) (e : Expr) (x : Ident) (es : Exprs) → None ≡ class_before around e →
-    value_call around e x es ≡ code around (CallOn e x es)
-on-object around e x es is =
-    ap (λ o. called_on around x.place o (code around e) (count_exprs es) (λ kinds. passed around kinds es)
-    (callee_on around o (kind around e) x (count_exprs es))) is
+pub on-object : (around : Around) (e : Expr) (x : Ident) (es : Exprs) (given : CodeKind) (old one new : Code) →
+    None ≡ class_before around e → one ≡ old ++ code around e → value_kind given ≡ kind around e →
+    new ≡ one ++ target_call around (target.Value given) x es → new ≡ old ++ code around (CallOn e x es)
+on-object around e x es given old one new is p kinds q =
+    let n = count_exprs es in
+    let m = callee_of_value around (kind around e) x n in
+    two old one new (code around e) (called_behind around x.place m es) p
+    (q ∙ ap (λ g. one ++ called_behind around x.place (callee_of_value around g x n) es) kinds)
+    ∙ ap (λ y. old ++ y) (sym (value-called-parts around x.place (code around e) n (λ ks. passed around ks es) m))
+    ∙ ap (λ o. old ++ called_on around x.place o (code around e) n (λ ks. passed around ks es)
+    (callee_on around o (kind around e) x n)) is
 
-pub on-object-kind : (around : Around) (e : Expr) (x : Ident) (es : Exprs) → None ≡ class_before around e →
-    value_call_kind around e x es ≡ kind around (CallOn e x es)
-on-object-kind around e x es is =
-    ap (λ o. result_kind around (callee_on around o (kind around e) x (count_exprs es))) is
+pub on-object-kind : (around : Around) (e : Expr) (x : Ident) (es : Exprs) (given : CodeKind) →
+    None ≡ class_before around e → value_kind given ≡ kind around e →
+    target_kind around (target.Value given) x es ≡ kind around (CallOn e x es)
+on-object-kind around e x es given is kinds =
+    ap (λ g. result_kind around (callee_of_value around g x (count_exprs es))) kinds
+    ∙ ap (λ o. result_kind around (callee_on around o (kind around e) x (count_exprs es))) is
 
 -- ---- object creations
 

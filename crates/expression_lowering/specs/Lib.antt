@@ -3,4 +3,5 @@ pub mod Erased
 pub mod Drafts
 pub mod Views
 pub mod Parts
+pub mod Together
 pub mod Seen

@@ -9,13 +9,13 @@ use Rattle.racer_base.specs.declared.ids.Place.{Place}
 use Rattle.core_code.specs.declared.code.Op.TheVariants.{Push, Dup, Drop, New, Get, Put, Set, Prim, Outside}
 use Rattle.core_code.specs.declared.code.Reason.{Reason}
 use Rattle.java_resolver.specs.declared.table.Table.{Table}
-use Rattle.java_lowering.specs.Trees.{Expr, Exprs, count_exprs}
-use Rattle.java_lowering.specs.Expressions.{kind, code, passed}
+use Rattle.java_lowering.specs.Trees.{Exprs, count_exprs}
+use Rattle.java_lowering.specs.Expressions.{passed}
 use Rattle.java_lowering.specs.ValueKinds.{ValueKind, Of}
 use Rattle.java_lowering.specs.Around.{Around, Result, Code, op, op_at, converted, push_this}
 use Rattle.java_lowering.specs.Assignments.{Storage, InVariable, InField, Elsewhere}
 use Rattle.java_lowering.specs.Calls.{Callee, Missing, OfClass, OfObject, parameter_kinds, call_at, constructor_in}
-use Rattle.java_lowering.specs.Calls.{callee_in, if_static, called, called_on_value, callee_of_value, result_kind}
+use Rattle.java_lowering.specs.Calls.{callee_in, if_static, called, result_kind}
 use Rattle.java_tree.specs.declared.words.Ident.{Ident}
 use Rattle.expression_lowering.specs.declared.storage.Storage.{Storage as CodeStorage}
 use Rattle.expression_lowering.specs.declared.storage.Storage.TheVariants as storage
@@ -146,17 +146,6 @@ abbrev pub converted_first : Around → List Kind → ValueKind → Code
 converted_first around [] given = []
 converted_first around (kind ∷ kinds) given = converted around kind given
 
--- f(..), where this is the callee; and what stands behind e in e.f(..)
-abbrev pub called_with : Around → Place → CodeCallee → Exprs → Code
-called_with around place m es =
-    call_front around (callee_seen m) ++ passed around (passed_kinds around (callee_seen m)) es
-    ++ call_end around place (count_exprs es) (callee_seen m)
-
-abbrev pub called_behind : Around → Place → CodeCallee → Exprs → Code
-called_behind around place m es =
-    value_call_front around (callee_seen m) ++ passed around (passed_kinds around (callee_seen m)) es
-    ++ value_call_end around place (count_exprs es) (callee_seen m)
-
 -- C.f(..)
 abbrev pub class_callee : Around → ClassId → Ident → Exprs → Callee
 class_callee around c x es = if_static (callee_in around c x.text (count_exprs es))
@@ -167,15 +156,3 @@ class_call around c x es =
 
 abbrev pub class_call_kind : Around → ClassId → Ident → Exprs → ValueKind
 class_call_kind around c x es = result_kind around (class_callee around c x es)
-
--- e.f(..), where e names no class
-abbrev pub value_callee : Around → Expr → Ident → Exprs → Callee
-value_callee around e x es = callee_of_value around (kind around e) x (count_exprs es)
-
-abbrev pub value_call : Around → Expr → Ident → Exprs → Code
-value_call around e x es =
-    called_on_value around x.place (code around e) (count_exprs es) (λ kinds. passed around kinds es)
-    (value_callee around e x es)
-
-abbrev pub value_call_kind : Around → Expr → Ident → Exprs → ValueKind
-value_call_kind around e x es = result_kind around (value_callee around e x es)

@@ -12,6 +12,7 @@ ghost use Rattle.expression_lowering.specs.Drafts.{code_of};
 ghost use Rattle.expression_lowering.specs.Views.{value_kind};
 ghost use Rattle.expression_lowering.specs.Parts.{callee_seen, passed_kinds, call_front, call_end, value_call_front};
 ghost use Rattle.expression_lowering.specs.Parts.{value_call_end, maker_of, made_front, made_kinds, made_end};
+ghost use Rattle.expression_lowering.specs.Together.{target_callee, target_front, target_end};
 
 use crate::around::Around;
 use crate::draft::Draft;
@@ -21,11 +22,19 @@ use java_tree::{Ident, TypeTree};
 use racer_base::{ClassId, Kind, Memory, MethodId, Place};
 
 /// None of the folder's; a static method, or one of an object.
-#[derive(Clone, Copy, Debug, PartialEq, Eq)]
+#[derive(Clone, Copy)]
 pub enum Callee {
     Missing,
     OfClass(MethodId),
     OfObject(MethodId),
+}
+
+/// What stands before the name of a method: nothing, the name of a class, or a value of this kind.
+#[derive(Clone, Copy)]
+pub enum Target {
+    Own,
+    Class(ClassId),
+    Value(ValueKind),
 }
 
 impl Callee {
@@ -76,7 +85,7 @@ fn callee_in(around: &Around, c: ClassId, x: &Ident, count: usize) -> Result<Cal
 }
 
 /// The callee of f(..).
-pub fn own_callee(around: &Around, x: &Ident, count: usize) -> Result<Callee, Memory>
+fn own_callee(around: &Around, x: &Ident, count: usize) -> Result<Callee, Memory>
     ensures { IfOk result (λ callee. callee_seen callee ≡ own_callee around.now x.now count) }
 {
     let callee = callee_in(around, around.class(), x, count)?;
@@ -87,12 +96,7 @@ pub fn own_callee(around: &Around, x: &Ident, count: usize) -> Result<Callee, Me
 }
 
 /// The callee of C.f(..).
-pub fn callee_of_class(
-    around: &Around,
-    c: ClassId,
-    x: &Ident,
-    count: usize,
-) -> Result<Callee, Memory>
+fn callee_of_class(around: &Around, c: ClassId, x: &Ident, count: usize) -> Result<Callee, Memory>
     ensures { IfOk result (λ callee. callee_seen callee ≡ if_static (callee_in around.now c x.now.text count)) }
 {
     let callee = callee_in(around, c, x, count)?;
@@ -100,7 +104,7 @@ pub fn callee_of_class(
 }
 
 /// The callee of e.f(..), where e has this kind.
-pub fn callee_of_value(
+fn callee_of_value(
     around: &Around,
     kind: ValueKind,
     x: &Ident,
@@ -113,6 +117,17 @@ pub fn callee_of_value(
         return Ok(Callee::Missing);
     };
     callee_in(around, c, x, count)
+}
+
+/// The callee, where this stands before the name.
+pub fn callee_on(around: &Around, target: Target, x: &Ident, count: usize) -> Result<Callee, Memory>
+    ensures { IfOk result (λ callee. callee_seen callee ≡ target_callee around.now target x.now count) }
+{
+    match target {
+        Target::Own => own_callee(around, x, count),
+        Target::Class(c) => callee_of_class(around, c, x, count),
+        Target::Value(kind) => callee_of_value(around, kind, x, count),
+    }
 }
 
 /// The kind of what a method gives.
@@ -192,7 +207,7 @@ fn call_object(
 }
 
 /// f(..) before its arguments.
-pub fn begin_call(around: &Around, callee: Callee, draft: &mut Draft) -> Result<(), Memory>
+fn begin_own_call(around: &Around, callee: Callee, draft: &mut Draft) -> Result<(), Memory>
     ensures { OnOk result (code_of draft.new ≡ code_of draft.old ++ call_front around.now (callee_seen callee)) }
 {
     match callee {
@@ -220,24 +235,8 @@ fn end_call(
     }
 }
 
-/// f(..) behind its arguments, of which there are so many: the kind of its value.
-pub fn finish_call(
-    around: &Around,
-    place: Place,
-    count: usize,
-    callee: Callee,
-    draft: &mut Draft,
-) -> Result<ValueKind, Memory>
-    ensures code { OnOk result (code_of draft.new ≡ code_of draft.old
-        ++ call_end around.now place count (callee_seen callee)) }
-    ensures kind { IfOk result (λ k. value_kind k ≡ result_kind around.now (callee_seen callee)) }
-{
-    end_call(around, place, number_of(count)?, callee, draft)?;
-    Ok(result_kind(around, callee))
-}
-
 /// e.f(..) between e and the arguments.
-pub fn begin_value_call(around: &Around, callee: Callee, draft: &mut Draft) -> Result<(), Memory>
+fn begin_value_call(around: &Around, callee: Callee, draft: &mut Draft) -> Result<(), Memory>
     ensures { OnOk result (code_of draft.new ≡ code_of draft.old
         ++ value_call_front around.now (callee_seen callee)) }
 {
@@ -274,19 +273,56 @@ fn end_value_call(
     }
 }
 
-/// e.f(..) behind its arguments, of which there are so many: the kind of its value.
-pub fn finish_value_call(
+/// What stands between the target and the arguments.
+pub fn begin_call(
     around: &Around,
+    target: Target,
+    callee: Callee,
+    draft: &mut Draft,
+) -> Result<(), Memory>
+    ensures { OnOk result (code_of draft.new ≡ code_of draft.old
+        ++ target_front around.now target (callee_seen callee)) }
+{
+    match target {
+        Target::Own => begin_own_call(around, callee, draft),
+        Target::Class(_) => begin_own_call(around, callee, draft),
+        Target::Value(_) => begin_value_call(around, callee, draft),
+    }
+}
+
+/// What stands behind the arguments.
+fn end_on(
+    around: &Around,
+    target: Target,
+    place: Place,
+    count: u32,
+    callee: Callee,
+    draft: &mut Draft,
+) -> Result<(), Memory>
+    ensures { OnOk result (code_of draft.new ≡ code_of draft.old
+        ++ target_end around.now target place count (callee_seen callee)) }
+{
+    match target {
+        Target::Own => end_call(around, place, count, callee, draft),
+        Target::Class(_) => end_call(around, place, count, callee, draft),
+        Target::Value(_) => end_value_call(around, place, count, callee, draft),
+    }
+}
+
+/// Behind the arguments, of which there are so many: the kind of the call's value.
+pub fn finish_call(
+    around: &Around,
+    target: Target,
     place: Place,
     count: usize,
     callee: Callee,
     draft: &mut Draft,
 ) -> Result<ValueKind, Memory>
     ensures code { OnOk result (code_of draft.new ≡ code_of draft.old
-        ++ value_call_end around.now place count (callee_seen callee)) }
+        ++ target_end around.now target place count (callee_seen callee)) }
     ensures kind { IfOk result (λ k. value_kind k ≡ result_kind around.now (callee_seen callee)) }
 {
-    end_value_call(around, place, number_of(count)?, callee, draft)?;
+    end_on(around, target, place, number_of(count)?, callee, draft)?;
     Ok(result_kind(around, callee))
 }
 

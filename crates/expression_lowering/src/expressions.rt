@@ -2,26 +2,27 @@
 ghost use Rattle.std.specs.Prelude.{◌≡◌, ◌++◌, map, OnOk, IfOk};
 ghost use Rattle.racer_base.specs.declared.ids.Kind.TheVariants as kinds;
 ghost use Rattle.java_tree.specs.View.{ty_of};
-ghost use Rattle.java_lowering.specs.Trees.{Read, Unary, Cast, Binary, Logical, Conditional, Assign, Combine, Count};
+ghost use Rattle.java_lowering.specs.Trees.{Read, Cast, Conditional};
 ghost use Rattle.java_lowering.specs.Trees.{Selected, NewArray, NewItems, pack_exprs, pack_inits};
 ghost use Rattle.java_lowering.specs.TreesOf.{access_of, expr_of, init_of, assignment, prefix, binary};
 ghost use Rattle.java_lowering.specs.ValueKinds.{Of};
-ghost use Rattle.java_lowering.specs.Expressions.{code, kind, storage, init_code, init_kind, items_code};
+ghost use Rattle.java_lowering.specs.Expressions.{code, kind, storage, init_code, init_kind};
 ghost use Rattle.expression_lowering.specs.Drafts.{code_of};
 ghost use Rattle.expression_lowering.specs.Views.{value_kind};
 ghost use Rattle.expression_lowering.specs.Parts.{base_of, without_base};
 ghost use Rattle.expression_lowering.specs.declared.storage.Storage.TheVariants.{Elsewhere as StoredElsewhere};
 
 use crate::around::Around;
+use crate::calls::Target;
 use crate::draft::Draft;
-use crate::invocations::{lower_arguments, lower_call_on, lower_new, lower_own_call};
+use crate::invocations::{lower_arguments, lower_call, lower_call_on, lower_new};
 use crate::names::{class_before, this_object};
-use crate::operators::{is_assignment, is_count, is_logical, literal};
-use crate::storage::{Storage, fetch, named, of_class, of_value};
+use crate::operators::{is_count, literal};
+use crate::storage::{Storage, named, of_class, of_value};
 use crate::value_kind::ValueKind;
 use crate::values::{
-    assign_value, begin_conditional, begin_logical, binary, cast_to, class_value, combine_value,
-    count_value, end_conditional, end_logical, new_array, read_value, unary,
+    begin_assign, begin_conditional, begin_operator, cast_to, class_value, count_value, end_assign,
+    end_conditional, end_operator, new_array, read_value, unary,
 };
 use java_tree::{Expression, Ident, Initialiser, TypeTree};
 use racer_base::{Memory, Place};
@@ -42,17 +43,17 @@ pub fn lower_expression(
         Expression::Assign(a, op, b) => lower_assign(alloc, around, a, op.as_str(), b, draft),
         Expression::Conditional(c, a, b) => lower_conditional(alloc, around, c, a, b, draft),
         Expression::Binary(a, op, b) => lower_operator(alloc, around, a, op.as_str(), b, draft),
-        Expression::InstanceOf(a, _) => lower_unary(alloc, around, a, draft),
+        Expression::InstanceOf(a, _) => lower_prefix(alloc, around, a, "instanceof", draft),
         Expression::Prefix(op, a) => lower_prefix(alloc, around, a, op.as_str(), draft),
         Expression::Cast(t, a) => lower_cast(alloc, around, a, t, draft),
-        Expression::Postfix(a, _) => lower_count(alloc, around, a, draft),
+        Expression::Postfix(a, _) => lower_prefix(alloc, around, a, "++", draft),
         Expression::Literal(kind, text) => literal(around, *kind, text.as_str(), draft),
         Expression::This => this_object(around, draft),
         Expression::Paren(a) => lower_expression(alloc, around, a, draft),
         Expression::Name(_) => lower_read(alloc, around, e, draft),
         Expression::Field(_, _) => lower_read(alloc, around, e, draft),
         Expression::Index(_, _) => lower_read(alloc, around, e, draft),
-        Expression::Call(None, x, all) => lower_own_call(alloc, around, all, x, draft),
+        Expression::Call(None, x, all) => { lower_call(alloc, around, all, Target::Own, x, draft) }
         Expression::Call(Some(a), x, all) => lower_call_on(alloc, around, a, x, all, draft),
         Expression::ClassOf(names) => class_value(around, names, draft),
         Expression::New(place, t, all) => lower_new(alloc, around, all, *place, t, draft),
@@ -152,53 +153,13 @@ fn lower_assign(
     ensures kind { IfOk result (λ k. value_kind k
         ≡ kind around.now (assignment op.now (access_of (expr_of a.now)) (expr_of b.now))) }
 {
-    if is_assignment(op) {
-        lower_assignment(alloc, around, a, b, draft)
-    } else {
-        lower_combination(alloc, around, a, b, draft)
-    }
-}
-
-/// `a = b`
-#[cycle(lower_expressions)]
-fn lower_assignment(
-    alloc: Global,
-    around: &Around,
-    a: &Expression,
-    b: &Expression,
-    draft: &mut Draft,
-) -> Result<ValueKind, Memory>
-    ensures code { OnOk result (code_of draft.new ≡ code_of draft.old
-        ++ code around.now (Assign (access_of (expr_of a.now)) (expr_of b.now))) }
-    ensures kind { IfOk result (λ k. value_kind k ≡ kind around.now
-        (Assign (access_of (expr_of a.now)) (expr_of b.now))) }
-{
     let target = lower_storage(alloc, around, a, draft)?;
+    begin_assign(around, op, target, draft)?;
     let given = lower_expression(alloc, around, b, draft)?;
-    assign_value(around, target, given, draft)
+    end_assign(around, op, target, given, draft)
 }
 
-/// `a += b` and the like
-#[cycle(lower_expressions)]
-fn lower_combination(
-    alloc: Global,
-    around: &Around,
-    a: &Expression,
-    b: &Expression,
-    draft: &mut Draft,
-) -> Result<ValueKind, Memory>
-    ensures code { OnOk result (code_of draft.new ≡ code_of draft.old
-        ++ code around.now (Combine (access_of (expr_of a.now)) (expr_of b.now))) }
-    ensures kind { IfOk result (λ k. value_kind k ≡ kind around.now
-        (Combine (access_of (expr_of a.now)) (expr_of b.now))) }
-{
-    let storage = lower_storage(alloc, around, a, draft)?;
-    fetch(around, storage, draft)?;
-    lower_expression(alloc, around, b, draft)?;
-    combine_value(around, storage, draft)
-}
-
-/// A prefix operator.
+/// A prefix operator, of which `++` and `--` store.
 #[cycle(lower_expressions)]
 fn lower_prefix(
     alloc: Global,
@@ -212,39 +173,9 @@ fn lower_prefix(
     ensures kind { IfOk result (λ k. value_kind k ≡ kind around.now (prefix op.now (expr_of a.now))) }
 {
     if is_count(op) {
-        lower_count(alloc, around, a, draft)
-    } else {
-        lower_unary(alloc, around, a, draft)
+        let storage = lower_storage(alloc, around, a, draft)?;
+        return count_value(around, storage, draft);
     }
-}
-
-/// `++a`, `a++` and the like
-#[cycle(lower_expressions)]
-fn lower_count(
-    alloc: Global,
-    around: &Around,
-    a: &Expression,
-    draft: &mut Draft,
-) -> Result<ValueKind, Memory>
-    ensures code { OnOk result (code_of draft.new ≡ code_of draft.old
-        ++ code around.now (Count (access_of (expr_of a.now)))) }
-    ensures kind { IfOk result (λ k. value_kind k ≡ Of kinds.Plain) }
-{
-    let storage = lower_storage(alloc, around, a, draft)?;
-    count_value(around, storage, draft)
-}
-
-/// An operator with one operand.
-#[cycle(lower_expressions)]
-fn lower_unary(
-    alloc: Global,
-    around: &Around,
-    a: &Expression,
-    draft: &mut Draft,
-) -> Result<ValueKind, Memory>
-    ensures code { OnOk result (code_of draft.new ≡ code_of draft.old ++ code around.now (Unary (expr_of a.now))) }
-    ensures kind { IfOk result (λ k. value_kind k ≡ Of kinds.Plain) }
-{
     lower_expression(alloc, around, a, draft)?;
     unary(around, draft)
 }
@@ -278,51 +209,13 @@ fn lower_operator(
 ) -> Result<ValueKind, Memory>
     ensures code { OnOk result (code_of draft.new ≡ code_of draft.old
         ++ code around.now (binary op.now (expr_of a.now) (expr_of b.now))) }
-    ensures kind { IfOk result (λ k. value_kind k ≡ kind around.now
-        (binary op.now (expr_of a.now) (expr_of b.now))) }
-{
-    if is_logical(op) {
-        lower_logical(alloc, around, a, b, draft)
-    } else {
-        lower_binary(alloc, around, a, b, draft)
-    }
-}
-
-/// `a && b` and `a || b`
-#[cycle(lower_expressions)]
-fn lower_logical(
-    alloc: Global,
-    around: &Around,
-    a: &Expression,
-    b: &Expression,
-    draft: &mut Draft,
-) -> Result<ValueKind, Memory>
-    ensures code { OnOk result (code_of draft.new ≡ code_of draft.old
-        ++ code around.now (Logical (expr_of a.now) (expr_of b.now))) }
-    ensures kind { IfOk result (λ k. value_kind k ≡ Of kinds.Plain) }
+    ensures kind { IfOk result (λ k. value_kind k
+        ≡ kind around.now (binary op.now (expr_of a.now) (expr_of b.now))) }
 {
     lower_expression(alloc, around, a, draft)?;
-    let at = begin_logical(around, draft)?;
+    let at = begin_operator(around, op, draft)?;
     lower_expression(alloc, around, b, draft)?;
-    end_logical(alloc, around, at, draft)
-}
-
-/// `a + b` and the like
-#[cycle(lower_expressions)]
-fn lower_binary(
-    alloc: Global,
-    around: &Around,
-    a: &Expression,
-    b: &Expression,
-    draft: &mut Draft,
-) -> Result<ValueKind, Memory>
-    ensures code { OnOk result (code_of draft.new ≡ code_of draft.old
-        ++ code around.now (Binary (expr_of a.now) (expr_of b.now))) }
-    ensures kind { IfOk result (λ k. value_kind k ≡ Of kinds.Plain) }
-{
-    lower_expression(alloc, around, a, draft)?;
-    lower_expression(alloc, around, b, draft)?;
-    binary(around, draft)
+    end_operator(alloc, around, op, at, draft)
 }
 
 /// `c ? a : b`
@@ -378,7 +271,9 @@ fn lower_array(
         ++ code around.now (NewItems place (pack_inits (map init_of items.now)))) }
     ensures kind { IfOk result (λ k. value_kind k ≡ Of kinds.Other) }
 {
-    lower_items(alloc, around, items, draft)?;
+    for item in items {
+        lower_initialiser(alloc, around, item, draft)?;
+    }
     new_array(place, items.len(), draft)
 }
 
@@ -400,21 +295,4 @@ pub fn lower_initialiser(
             lower_array(alloc, around, &array.items, around.place(), draft)
         }
     }
-}
-
-/// The items of an array.
-#[cycle(lower_expressions)]
-fn lower_items(
-    alloc: Global,
-    around: &Around,
-    items: &[Initialiser],
-    draft: &mut Draft,
-) -> Result<(), Memory>
-    ensures { OnOk result (code_of draft.new ≡ code_of draft.old
-        ++ items_code around.now (pack_inits (map init_of items.now))) }
-{
-    for item in items {
-        lower_initialiser(alloc, around, item, draft)?;
-    }
-    Ok(())
 }

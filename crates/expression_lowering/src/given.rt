@@ -2,7 +2,7 @@
 use racer_base::Kind;
 
 /// A constructor gives its object, another method nothing, or a value of a kind.
-#[derive(Clone, Copy, Debug, PartialEq, Eq)]
+#[derive(Clone, Copy)]
 pub enum Given {
     Itself,
     Nothing,

@@ -1,26 +1,24 @@
 //! The code of calls and object creations (JLS 15.9, 15.12).
 ghost use Rattle.std.specs.Prelude.{◌≡◌, ◌++◌, map, drop, OnOk, IfOk};
 ghost use Rattle.java_tree.specs.View.{ty_of};
-ghost use Rattle.java_lowering.specs.Trees.{Call, CallOn, New, pack_exprs};
+ghost use Rattle.java_lowering.specs.Trees.{CallOn, New, pack_exprs};
 ghost use Rattle.java_lowering.specs.TreesOf.{expr_of};
-ghost use Rattle.java_lowering.specs.Calls.{result_kind};
 ghost use Rattle.java_lowering.specs.Expressions.{code, kind, passed};
 ghost use Rattle.expression_lowering.specs.Drafts.{code_of};
 ghost use Rattle.expression_lowering.specs.Views.{value_kind};
-ghost use Rattle.expression_lowering.specs.Parts.{converted_first, called_with, called_behind, callee_seen};
-ghost use Rattle.expression_lowering.specs.Parts.{class_call, class_call_kind, value_call, value_call_kind};
+ghost use Rattle.expression_lowering.specs.Parts.{converted_first};
+ghost use Rattle.expression_lowering.specs.Together.{target_call, target_kind};
 
 use crate::around::Around;
 use crate::calls::{
-    Callee, begin_call, begin_new, begin_value_call, callee_of_class, callee_of_value, finish_call,
-    finish_new, finish_value_call, made_kinds, own_callee, passed_kinds,
+    Target, begin_call, begin_new, callee_on, finish_call, finish_new, made_kinds, passed_kinds,
 };
 use crate::draft::Draft;
 use crate::expressions::lower_expression;
 use crate::names::class_before;
 use crate::value_kind::ValueKind;
 use java_tree::{Expression, Ident, TypeTree};
-use racer_base::{ClassId, Kind, Memory, Place};
+use racer_base::{Kind, Memory, Place};
 use std::alloc::Global;
 
 /// What an argument goes through on its way to the kind with this index, if there is one.
@@ -59,39 +57,23 @@ pub fn lower_arguments(
     Ok(())
 }
 
-/// f(..)
+/// A method, where this stands before its name.
 #[cycle(lower_expressions)]
-pub fn lower_own_call(
+pub fn lower_call(
     alloc: Global,
     around: &Around,
     arguments: &[Expression],
+    target: Target,
     x: &Ident,
     draft: &mut Draft,
 ) -> Result<ValueKind, Memory>
     ensures code { OnOk result (code_of draft.new ≡ code_of draft.old
-        ++ code around.now (Call x.now (pack_exprs (map expr_of arguments.now)))) }
-    ensures kind { IfOk result (λ k. value_kind k ≡ kind around.now
-        (Call x.now (pack_exprs (map expr_of arguments.now)))) }
+        ++ target_call around.now target x.now (pack_exprs (map expr_of arguments.now))) }
+    ensures kind { IfOk result (λ k. value_kind k
+        ≡ target_kind around.now target x.now (pack_exprs (map expr_of arguments.now))) }
 {
-    let callee = own_callee(around, x, arguments.len())?;
-    lower_call(alloc, around, arguments, x.place, callee, draft)
-}
-
-/// f(..) and C.f(..), where this is the callee.
-#[cycle(lower_expressions)]
-fn lower_call(
-    alloc: Global,
-    around: &Around,
-    arguments: &[Expression],
-    place: Place,
-    callee: Callee,
-    draft: &mut Draft,
-) -> Result<ValueKind, Memory>
-    ensures code { OnOk result (code_of draft.new ≡ code_of draft.old
-        ++ called_with around.now place callee (pack_exprs (map expr_of arguments.now))) }
-    ensures kind { IfOk result (λ k. value_kind k ≡ result_kind around.now (callee_seen callee)) }
-{
-    begin_call(around, callee, draft)?;
+    let callee = callee_on(around, target, x, arguments.len())?;
+    begin_call(around, target, callee, draft)?;
     lower_arguments(
         alloc,
         around,
@@ -99,7 +81,7 @@ fn lower_call(
         passed_kinds(around, callee),
         draft,
     )?;
-    finish_call(around, place, arguments.len(), callee, draft)
+    finish_call(around, target, x.place, arguments.len(), callee, draft)
 }
 
 /// e.f(..)
@@ -117,74 +99,11 @@ pub fn lower_call_on(
     ensures kind { IfOk result (λ k. value_kind k ≡ kind around.now
         (CallOn (expr_of e.now) x.now (pack_exprs (map expr_of arguments.now)))) }
 {
-    match class_before(around, e) {
-        Some(c) => lower_class_call(alloc, around, arguments, c, x, draft),
-        None => lower_object_call(alloc, around, e, x, arguments, draft),
+    if let Some(c) = class_before(around, e) {
+        return lower_call(alloc, around, arguments, Target::Class(c), x, draft);
     }
-}
-
-/// C.f(..)
-#[cycle(lower_expressions)]
-fn lower_class_call(
-    alloc: Global,
-    around: &Around,
-    arguments: &[Expression],
-    c: ClassId,
-    x: &Ident,
-    draft: &mut Draft,
-) -> Result<ValueKind, Memory>
-    ensures code { OnOk result (code_of draft.new ≡ code_of draft.old
-        ++ class_call around.now c x.now (pack_exprs (map expr_of arguments.now))) }
-    ensures kind { IfOk result (λ k. value_kind k
-        ≡ class_call_kind around.now c x.now (pack_exprs (map expr_of arguments.now))) }
-{
-    let callee = callee_of_class(around, c, x, arguments.len())?;
-    lower_call(alloc, around, arguments, x.place, callee, draft)
-}
-
-/// e.f(..), where e names no class.
-#[cycle(lower_expressions)]
-fn lower_object_call(
-    alloc: Global,
-    around: &Around,
-    e: &Expression,
-    x: &Ident,
-    arguments: &[Expression],
-    draft: &mut Draft,
-) -> Result<ValueKind, Memory>
-    ensures code { OnOk result (code_of draft.new ≡ code_of draft.old
-        ++ value_call around.now (expr_of e.now) x.now (pack_exprs (map expr_of arguments.now))) }
-    ensures kind { IfOk result (λ k. value_kind k
-        ≡ value_call_kind around.now (expr_of e.now) x.now (pack_exprs (map expr_of arguments.now))) }
-{
     let kind = lower_expression(alloc, around, e, draft)?;
-    let callee = callee_of_value(around, kind, x, arguments.len())?;
-    lower_value_call(alloc, around, arguments, x.place, callee, draft)
-}
-
-/// What stands behind e in e.f(..), where this is the callee.
-#[cycle(lower_expressions)]
-fn lower_value_call(
-    alloc: Global,
-    around: &Around,
-    arguments: &[Expression],
-    place: Place,
-    callee: Callee,
-    draft: &mut Draft,
-) -> Result<ValueKind, Memory>
-    ensures code { OnOk result (code_of draft.new ≡ code_of draft.old
-        ++ called_behind around.now place callee (pack_exprs (map expr_of arguments.now))) }
-    ensures kind { IfOk result (λ k. value_kind k ≡ result_kind around.now (callee_seen callee)) }
-{
-    begin_value_call(around, callee, draft)?;
-    lower_arguments(
-        alloc,
-        around,
-        arguments,
-        passed_kinds(around, callee),
-        draft,
-    )?;
-    finish_value_call(around, place, arguments.len(), callee, draft)
+    lower_call(alloc, around, arguments, Target::Value(kind), x, draft)
 }
 
 /// new T(..)

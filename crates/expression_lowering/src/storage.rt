@@ -18,7 +18,7 @@ use java_tree::Ident;
 use racer_base::{ClassId, FieldId, Kind, Memory, Place, VarId};
 
 /// A variable; a field, with the place of its name; what is not the folder's, with the number of its operands.
-#[derive(Clone, Copy, Debug, PartialEq, Eq)]
+#[derive(Clone, Copy)]
 pub enum Storage {
     InVariable(VarId, Kind),
     InField(FieldId, Kind, Place),

@@ -6,7 +6,7 @@ ghost use Rattle.expression_lowering.specs.Views.{value_kind};
 use racer_base::Kind;
 
 /// A value of a kind, or `null`.
-#[derive(Clone, Copy, Debug, PartialEq, Eq)]
+#[derive(Clone, Copy)]
 pub enum ValueKind {
     Of(Kind),
     Null,

@@ -3,18 +3,19 @@ ghost use Rattle.std.specs.Prelude.{◌≡◌, ◌++◌, [], length, OnOk, IfOk}
 ghost use Rattle.racer_base.specs.declared.ids.Kind.TheVariants.{Plain, Other};
 ghost use Rattle.java_tree.specs.View.{ty_of};
 ghost use Rattle.core_code.specs.declared.code.Op.TheVariants.{Drop, Prim, Outside};
+ghost use Rattle.java_lowering.specs.TreesOf.{is_assignment, is_logical};
 ghost use Rattle.java_lowering.specs.ValueKinds.{Of, common_kind};
 ghost use Rattle.java_lowering.specs.Around.{Code, op, op_at, choice, type_kind};
 ghost use Rattle.java_lowering.specs.Expressions.{cast, class_object, class_written};
 ghost use Rattle.expression_lowering.specs.Drafts.{code_of};
 ghost use Rattle.expression_lowering.specs.Views.{value_kind};
-ghost use Rattle.expression_lowering.specs.Parts.{storage_kind, then_read, then_assigned, then_fetched, then_combined};
-ghost use Rattle.expression_lowering.specs.Parts.{then_counted};
+ghost use Rattle.expression_lowering.specs.Parts.{storage_kind, then_read, then_fetched, then_counted};
+ghost use Rattle.expression_lowering.specs.Together.{operator_front, operator_end, assign_front, assign_end};
 
 use crate::around::Around;
 use crate::draft::Draft;
 use crate::names::class_object;
-use crate::operators::cast;
+use crate::operators::{cast, is_assignment, is_logical};
 use crate::storage::{Storage, assign, combine, count, fetch, read};
 use crate::value_kind::{ValueKind, common_kind};
 use core_code::Op;
@@ -32,7 +33,7 @@ pub fn unary(around: &Around, draft: &mut Draft) -> Result<ValueKind, Memory>
 }
 
 /// Behind the operands of an operator with two operands.
-pub fn binary(around: &Around, draft: &mut Draft) -> Result<ValueKind, Memory>
+fn binary(around: &Around, draft: &mut Draft) -> Result<ValueKind, Memory>
     ensures code { OnOk result (code_of draft.new ≡ code_of draft.old ++ op around.now (Prim 2)) }
     ensures kind { IfOk result (λ k. value_kind k ≡ Of Plain) }
 {
@@ -52,7 +53,7 @@ pub fn cast_to(around: &Around, t: &TypeTree, draft: &mut Draft) -> Result<Value
 }
 
 /// Behind the left operand of `&&` or `||`: where the right one begins.
-pub fn begin_logical(around: &Around, draft: &mut Draft) -> Result<usize, Memory>
+fn begin_logical(around: &Around, draft: &mut Draft) -> Result<usize, Memory>
     ensures code { OnOk result (code_of draft.new ≡ code_of draft.old ++ op around.now (Prim 1)) }
     ensures at { IfOk result (λ at. at ≡ length (code_of draft.new)) }
 {
@@ -60,8 +61,21 @@ pub fn begin_logical(around: &Around, draft: &mut Draft) -> Result<usize, Memory
     Ok(draft.len())
 }
 
+/// Behind the left operand of an operator with two: where the right one begins.
+pub fn begin_operator(around: &Around, op: &str, draft: &mut Draft) -> Result<usize, Memory>
+    ensures code { OnOk result (code_of draft.new ≡ code_of draft.old
+        ++ operator_front around.now (is_logical op.now)) }
+    ensures at { IfOk result (λ at. at ≡ length (code_of draft.new)) }
+{
+    if is_logical(op) {
+        begin_logical(around, draft)
+    } else {
+        Ok(draft.len())
+    }
+}
+
 /// Behind the right operand of `&&` or `||`, which began here.
-pub fn end_logical(
+fn end_logical(
     alloc: Global,
     around: &Around,
     at: usize,
@@ -75,6 +89,25 @@ pub fn end_logical(
     let end = draft.len();
     draft.choose(alloc, at, end)?;
     Ok(ValueKind::Of(Kind::Plain))
+}
+
+/// Behind the right operand of an operator with two, which began here.
+pub fn end_operator(
+    alloc: Global,
+    around: &Around,
+    op: &str,
+    at: usize,
+    draft: &mut Draft,
+) -> Result<ValueKind, Memory>
+    ensures code { OnOk result ((left right : Code) → at ≡ length left → code_of draft.old ≡ left ++ right
+        → code_of draft.new ≡ left ++ operator_end around.now (is_logical op.now) right) }
+    ensures kind { IfOk result (λ k. value_kind k ≡ Of Plain) }
+{
+    if is_logical(op) {
+        end_logical(alloc, around, at, draft)
+    } else {
+        binary(around, draft)
+    }
 }
 
 /// Behind a condition: where the value for true begins.
@@ -111,31 +144,54 @@ pub fn read_value(around: &Around, storage: Storage, draft: &mut Draft) -> Resul
     Ok(storage.kind())
 }
 
-/// Behind an access and a value of this kind: the value is stored.
-pub fn assign_value(
+/// Behind an access that is assigned to with this operator: what all but `=` fetch.
+pub fn begin_assign(
     around: &Around,
+    op: &str,
+    storage: Storage,
+    draft: &mut Draft,
+) -> Result<(), Memory>
+    ensures { OnOk result (code_of draft.new ≡ code_of draft.old
+        ++ assign_front around.now (is_assignment op.now) storage) }
+{
+    if is_assignment(op) {
+        Ok(())
+    } else {
+        fetch(around, storage, draft)
+    }
+}
+
+/// Behind this and a value of this kind: the value, or what is made of the two, is stored.
+fn store(
+    around: &Around,
+    op: &str,
+    storage: Storage,
+    given: ValueKind,
+    draft: &mut Draft,
+) -> Result<(), Memory>
+    ensures { OnOk result (code_of draft.new ≡ code_of draft.old
+        ++ assign_end around.now (is_assignment op.now) storage (value_kind given)) }
+{
+    if is_assignment(op) {
+        assign(around, storage, given, draft)
+    } else {
+        combine(around, storage, draft)
+    }
+}
+
+/// The same, and the kind of the assignment.
+pub fn end_assign(
+    around: &Around,
+    op: &str,
     storage: Storage,
     given: ValueKind,
     draft: &mut Draft,
 ) -> Result<ValueKind, Memory>
     ensures code { OnOk result (code_of draft.new ≡ code_of draft.old
-        ++ then_assigned around.now storage (value_kind given)) }
+        ++ assign_end around.now (is_assignment op.now) storage (value_kind given)) }
     ensures kind { IfOk result (λ k. value_kind k ≡ storage_kind storage) }
 {
-    assign(around, storage, given, draft)?;
-    Ok(storage.kind())
-}
-
-/// Behind what was fetched and another value: what is made of the two is stored.
-pub fn combine_value(
-    around: &Around,
-    storage: Storage,
-    draft: &mut Draft,
-) -> Result<ValueKind, Memory>
-    ensures code { OnOk result (code_of draft.new ≡ code_of draft.old ++ then_combined around.now storage) }
-    ensures kind { IfOk result (λ k. value_kind k ≡ storage_kind storage) }
-{
-    combine(around, storage, draft)?;
+    store(around, op, storage, given, draft)?;
     Ok(storage.kind())
 }
 

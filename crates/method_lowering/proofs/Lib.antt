@@ -2,3 +2,4 @@ pub mod Inside
 pub mod Pieces
 pub mod Composed
 pub mod Ends
+pub mod FieldsBegun

@@ -1,7 +1,7 @@
 //! The code of statements (JLS 14).
 ghost use Rattle.std.specs.Prelude.{◌≡◌, ◌++◌, OnOk, map, option_map};
 ghost use Rattle.java_tree.specs.View.{ty_of};
-ghost use Rattle.java_lowering.specs.Trees.{If, While, For, ForEach, Sync, Block, pack_exprs, pack_stmts};
+ghost use Rattle.java_lowering.specs.Trees.{If, IfElse, While, For, ForEach, Sync, Block, pack_exprs, pack_stmts};
 ghost use Rattle.java_lowering.specs.TreesOf.{expr_of, start_of, stmt_of};
 ghost use Rattle.java_lowering.specs.Scopes.{after, after_all};
 ghost use Rattle.java_lowering.specs.Statements.{stmt, stmts};
@@ -32,14 +32,7 @@ fn lower_statement(
         Statement::Local(locals) => lower_locals(alloc, around, locals, draft),
         Statement::Expr(e) => lower_run(alloc, around, e, draft),
         Statement::If(e, s, None) => lower_if(alloc, around, s, e, draft),
-        Statement::If(e, s, Some(t)) => {
-            lower_run(alloc, around, e, draft)?;
-            let left = draft.len();
-            lower_statement(alloc, around, s, draft)?;
-            let right = draft.len();
-            lower_statement(alloc, around, t, draft)?;
-            draft.choose(alloc, left, right)
-        }
+        Statement::If(e, s, Some(t)) => lower_if_else(alloc, around, s, t, e, draft),
         Statement::While(e, s) => lower_while(alloc, around, s, e, draft),
         Statement::For(start, e, updates, s) => lower_for(
             alloc, around, s, start, e, updates, draft,
@@ -103,6 +96,28 @@ fn lower_if(
     let left = draft.len();
     lower_statement(alloc, around, s, draft)?;
     let right = draft.len();
+    draft.choose(alloc, left, right)
+}
+
+#[cycle(statements)]
+fn lower_if_else(
+    alloc: Global,
+    around: &mut Around,
+    s: &Statement,
+    t: &Statement,
+    e: &Expression,
+    draft: &mut Draft,
+) -> Result<(), Memory>
+    ensures around { OnOk result (around.new
+        ≡ after around.old (IfElse (expr_of e.now) (stmt_of s.now) (stmt_of t.now))) }
+    ensures code { OnOk result (code_of draft.new ≡ code_of draft.old
+        ++ stmt around.old (IfElse (expr_of e.now) (stmt_of s.now) (stmt_of t.now))) }
+{
+    lower_run(alloc, around, e, draft)?;
+    let left = draft.len();
+    lower_statement(alloc, around, s, draft)?;
+    let right = draft.len();
+    lower_statement(alloc, around, t, draft)?;
     draft.choose(alloc, left, right)
 }
 

@@ -1,29 +1,32 @@
-use Rattle.std.proofs.Common.{◌≡◌, false, [], ◌++◌, map, ◌∙◌, ap, sym, refl, length, rules}
+use Rattle.std.proofs.Common.{◌≡◌, true, false, [], ◌++◌, map, ◌∙◌, ap, sym, refl, length, rules}
 use Rattle.std.proofs.lemmas.List.{append-nil}
+use Rattle.std.proofs.lemmas.Result.{on_ok_weaker, IfOk-weaker}
+use Rattle.racer_base.specs.declared.ids.Kind.TheVariants.{Plain}
 use Rattle.java_tree.specs.declared.expressions.Expression.TheFolds.{the_lemmas}
 use Rattle.java_tree.specs.View as view
-use Rattle.expression_lowering.proofs.OtherForms.{is_access, no-access}
-use Rattle.std.proofs.lemmas.Result.{on_ok_weaker, IfOk-weaker}
 use Rattle.java_tree.specs.View.{ty_of}
-use Rattle.std.specs.Prelude.{true}
 use Rattle.java_resolver.specs.Meanings.{field_named}
-use Rattle.java_lowering.specs.Trees.{Selected, Call, CallOn, pack_exprs}
-use Rattle.java_lowering.specs.TreesOf.{access_of, expr_of}
+use Rattle.core_code.specs.declared.code.Op.TheVariants.{Prim}
+use Rattle.java_lowering.specs.Trees.{Selected, CallOn, pack_exprs}
+use Rattle.java_lowering.specs.TreesOf.{access_of, expr_of, is_assignment, assignment, is_logical, binary}
+use Rattle.java_lowering.specs.TreesOf.{is_count, prefix}
+use Rattle.java_lowering.specs.ValueKinds.{Of}
+use Rattle.java_lowering.specs.Around.{op}
 use Rattle.java_lowering.specs.Expressions.{code, kind, storage, access_kind}
-use Rattle.expression_lowering.specs.Drafts.{code_of}
-use Rattle.expression_lowering.specs.Views.{value_kind}
 use Rattle.java_lowering.specs.Assignments.{of_class, of_value}
 use Rattle.java_lowering.specs.Calls.{result_kind}
+use Rattle.expression_lowering.specs.declared.calls.Target.TheVariants as target
+use Rattle.expression_lowering.specs.Drafts.{code_of}
+use Rattle.expression_lowering.specs.Views.{value_kind}
 use Rattle.expression_lowering.specs.Parts.{storage_kind, callee_seen, base_of, without_base, class_call_kind}
-use Rattle.expression_lowering.specs.Parts.{value_call_kind}
-use Rattle.expression_lowering.proofs.Joined.{arguments-next, arguments-done, items-next, items-done}
-use Rattle.expression_lowering.proofs.Made.{read-made, assigned-made, combined-made, counted-made, kind-made}
-use Rattle.expression_lowering.proofs.Made.{selected-made, selected-same, class-selected, logical-made}
-use Rattle.expression_lowering.proofs.Made.{conditional-made}
-use Rattle.expression_lowering.proofs.Made.{call-made, value-call-made, own-call-made, own-call-kind, class-call-made}
-use Rattle.expression_lowering.proofs.Made.{class-call-kind-made, object-call-made, object-call-kind, on-class}
-use Rattle.expression_lowering.proofs.Made.{on-class-kind, on-object, on-object-kind, new-made, lengths-made}
-use Rattle.expression_lowering.proofs.Made.{items-made}
+use Rattle.expression_lowering.specs.Together.{target_kind}
+use Rattle.expression_lowering.proofs.OtherForms.{is_access, no-access}
+use Rattle.expression_lowering.proofs.Joined.{two, arguments-next, arguments-done, items-next, items-done}
+use Rattle.expression_lowering.proofs.Made.{read-made, assign-made, assign-kind, counted-made, kind-made}
+use Rattle.expression_lowering.proofs.Made.{prefix-code, prefix-kind, operator-made, operator-kind}
+use Rattle.expression_lowering.proofs.Made.{selected-made, selected-same, class-selected, conditional-made}
+use Rattle.expression_lowering.proofs.Made.{call-made, call-kind, on-class, on-class-kind, on-object, on-object-kind}
+use Rattle.expression_lowering.proofs.Made.{new-made, lengths-made, items-made}
 use Rattle.expression_lowering.proofs.+lower_expressions.Goals as goal
 
 pub expressions::lower_read-returns-clause-code : goal.expressions::lower_read-returns-clause-code
@@ -43,66 +46,6 @@ expressions::lower_read-returns-clause-kind t c =
     (λ k. value_kind k ≡ access_kind around access)
     (λ k. kind-made around access c.in_ok-storage.storage (value_kind k) c.in_ok-storage.ensures.storage)
     c.read_value.ensures.kind
-
-pub expressions::lower_assignment-returns-clause-code : goal.expressions::lower_assignment-returns-clause-code
-expressions::lower_assignment-returns-clause-code t c =
-    let around = c.args.around.now in
-    let b = expr_of c.args.b.now in
-    on_ok_weaker c.assign_value.result
-    (assigned-made around (storage around (access_of (expr_of c.args.a.now))) c.in_ok-target.target (kind around b)
-    (value_kind c.in_ok-given.given) (code_of c.args.draft.now) (code_of c.lower_storage.new.draft)
-    (code_of c.lower_expression.new.draft) (code_of c.assign_value.new.draft) (code around b)
-    c.in_ok-target.ensures.code c.in_ok-target.ensures.storage c.in_ok-given.ensures.code c.in_ok-given.ensures.kind)
-    c.assign_value.ensures.code
-
-pub expressions::lower_assignment-returns-clause-kind : goal.expressions::lower_assignment-returns-clause-kind
-expressions::lower_assignment-returns-clause-kind t c =
-    let around = c.args.around.now in
-    let access = access_of (expr_of c.args.a.now) in
-    IfOk-weaker c.assign_value.result (λ k. value_kind k ≡ storage_kind c.in_ok-target.target)
-    (λ k. value_kind k ≡ access_kind around access)
-    (λ k. kind-made around access c.in_ok-target.target (value_kind k) c.in_ok-target.ensures.storage)
-    c.assign_value.ensures.kind
-
-pub expressions::lower_combination-returns-clause-code : goal.expressions::lower_combination-returns-clause-code
-expressions::lower_combination-returns-clause-code t c =
-    let around = c.args.around.now in
-    let b = expr_of c.args.b.now in
-    on_ok_weaker c.combine_value.result
-    (combined-made around (storage around (access_of (expr_of c.args.a.now))) c.in_ok-storage.storage
-    (code_of c.args.draft.now) (code_of c.lower_storage.new.draft) (code_of c.fetch.new.draft)
-    (code_of c.lower_expression.new.draft) (code_of c.combine_value.new.draft) (code around b)
-    c.in_ok-storage.ensures.code c.in_ok-storage.ensures.storage c.in_ok-fetch.ensures
-    c.in_ok-lower_expression.ensures.code)
-    c.combine_value.ensures.code
-
-pub expressions::lower_combination-returns-clause-kind : goal.expressions::lower_combination-returns-clause-kind
-expressions::lower_combination-returns-clause-kind t c =
-    let around = c.args.around.now in
-    let access = access_of (expr_of c.args.a.now) in
-    IfOk-weaker c.combine_value.result (λ k. value_kind k ≡ storage_kind c.in_ok-storage.storage)
-    (λ k. value_kind k ≡ access_kind around access)
-    (λ k. kind-made around access c.in_ok-storage.storage (value_kind k) c.in_ok-storage.ensures.storage)
-    c.combine_value.ensures.kind
-
-pub expressions::lower_count-returns-clause-code : goal.expressions::lower_count-returns-clause-code
-expressions::lower_count-returns-clause-code t c =
-    let around = c.args.around.now in
-    on_ok_weaker c.count_value.result
-    (counted-made around (storage around (access_of (expr_of c.args.a.now))) c.in_ok-storage.storage
-    (code_of c.args.draft.now) (code_of c.lower_storage.new.draft) (code_of c.count_value.new.draft)
-    c.in_ok-storage.ensures.code c.in_ok-storage.ensures.storage)
-    c.count_value.ensures.code
-
-pub expressions::lower_logical-returns-clause-code : goal.expressions::lower_logical-returns-clause-code
-expressions::lower_logical-returns-clause-code t c =
-    on_ok_weaker c.end_logical.result
-    (logical-made c.args.around.now (expr_of c.args.a.now) (expr_of c.args.b.now) (code_of c.args.draft.now)
-    (code_of c.lower_expression.new.draft) (code_of c.begin_logical.new.draft)
-    (code_of c.lower_expression-2.new.draft) (code_of c.end_logical.new.draft) c.in_ok-at.at
-    c.in_ok-lower_expression.ensures.code c.in_ok-at.ensures.code c.in_ok-at.ensures.at
-    c.in_ok-lower_expression-2.ensures.code)
-    c.end_logical.ensures.code
 
 pub expressions::lower_conditional-returns-clause-code : goal.expressions::lower_conditional-returns-clause-code
 expressions::lower_conditional-returns-clause-code t c =
@@ -128,131 +71,6 @@ invocations::lower_arguments-returns t c =
     arguments-done c.args.around.now c.args.kinds.now c.args.arguments.now (code_of c.loop-index.draft) _
     c.loop-index.index c.loop-index-test.false c.loop-index.invariant
 
-pub expressions::lower_items-loop-item-preserved : goal.expressions::lower_items-loop-item-preserved
-expressions::lower_items-loop-item-preserved t c =
-    items-next c.args.around.now c.args.items.now c.loop-item.item-index c.item-item.result
-    (code_of c.loop-item.draft) (code_of c.lower_initialiser.new.draft) _ c.loop-item-test.true
-    c.item-item.is c.in_ok-lower_initialiser.ensures.code c.loop-item.invariant
-
-pub expressions::lower_items-returns : goal.expressions::lower_items-returns
-expressions::lower_items-returns t c =
-    items-done c.args.around.now c.args.items.now (code_of c.loop-item.draft) _ c.loop-item.item-index
-    c.loop-item-test.false c.loop-item.invariant
-
-pub invocations::lower_call-returns-clause-code : goal.invocations::lower_call-returns-clause-code
-invocations::lower_call-returns-clause-code t c =
-    on_ok_weaker c.finish_call.result
-    (call-made c.args.around.now c.args.place c.args.callee c.args.arguments.now c.passed_kinds.result.now
-    (length c.args.arguments.now)
-    (code_of c.args.draft.now) (code_of c.begin_call.new.draft) (code_of c.lower_arguments.new.draft)
-    (code_of c.finish_call.new.draft) c.in_ok-begin_call.ensures c.passed_kinds.ensures
-    c.in_ok-lower_arguments.ensures refl)
-    c.finish_call.ensures.code
-
-pub invocations::lower_value_call-returns-clause-code : goal.invocations::lower_value_call-returns-clause-code
-invocations::lower_value_call-returns-clause-code t c =
-    on_ok_weaker c.finish_value_call.result
-    (value-call-made c.args.around.now c.args.place c.args.callee c.args.arguments.now c.passed_kinds.result.now
-    (length c.args.arguments.now) (code_of c.args.draft.now) (code_of c.begin_value_call.new.draft)
-    (code_of c.lower_arguments.new.draft) (code_of c.finish_value_call.new.draft) c.in_ok-begin_value_call.ensures
-    c.passed_kinds.ensures c.in_ok-lower_arguments.ensures refl)
-    c.finish_value_call.ensures.code
-
-pub invocations::lower_own_call-returns-clause-code : goal.invocations::lower_own_call-returns-clause-code
-invocations::lower_own_call-returns-clause-code t c =
-    on_ok_weaker c.lower_call.result
-    (own-call-made c.args.around.now c.args.x.now c.in_ok-callee.callee c.args.arguments.now (length
-    c.args.arguments.now)
-    (code_of c.args.draft.now) (code_of c.lower_call.new.draft) refl c.in_ok-callee.ensures)
-    c.lower_call.ensures.code
-
-pub invocations::lower_own_call-returns-clause-kind : goal.invocations::lower_own_call-returns-clause-kind
-invocations::lower_own_call-returns-clause-kind t c =
-    let around = c.args.around.now in
-    IfOk-weaker c.lower_call.result (λ k. value_kind k ≡ result_kind around (callee_seen c.in_ok-callee.callee))
-    (λ k. value_kind k ≡ kind around (Call c.args.x.now (pack_exprs (map expr_of c.args.arguments.now))))
-    (λ k. own-call-kind around c.args.x.now c.in_ok-callee.callee c.args.arguments.now (length
-    c.args.arguments.now) (value_kind k)
-    refl c.in_ok-callee.ensures)
-    c.lower_call.ensures.kind
-
-pub invocations::lower_class_call-returns-clause-code : goal.invocations::lower_class_call-returns-clause-code
-invocations::lower_class_call-returns-clause-code t c =
-    on_ok_weaker c.lower_call.result
-    (class-call-made c.args.around.now c.args.c c.args.x.now c.in_ok-callee.callee c.args.arguments.now (length
-    c.args.arguments.now)
-    (code_of c.args.draft.now) (code_of c.lower_call.new.draft) refl c.in_ok-callee.ensures)
-    c.lower_call.ensures.code
-
-pub invocations::lower_class_call-returns-clause-kind : goal.invocations::lower_class_call-returns-clause-kind
-invocations::lower_class_call-returns-clause-kind t c =
-    let around = c.args.around.now in
-    let es = pack_exprs (map expr_of c.args.arguments.now) in
-    IfOk-weaker c.lower_call.result (λ k. value_kind k ≡ result_kind around (callee_seen c.in_ok-callee.callee))
-    (λ k. value_kind k ≡ class_call_kind around c.args.c c.args.x.now es)
-    (λ k. class-call-kind-made around c.args.c c.args.x.now c.in_ok-callee.callee c.args.arguments.now (length
-    c.args.arguments.now)
-    (value_kind k) refl c.in_ok-callee.ensures)
-    c.lower_call.ensures.kind
-
-pub invocations::lower_object_call-returns-clause-code : goal.invocations::lower_object_call-returns-clause-code
-invocations::lower_object_call-returns-clause-code t c =
-    on_ok_weaker c.lower_value_call.result
-    (object-call-made c.args.around.now (expr_of c.args.e.now) c.args.x.now (value_kind c.in_ok-kind.kind)
-    c.in_ok-callee.callee c.args.arguments.now (length c.args.arguments.now) (code_of c.args.draft.now)
-    (code_of c.lower_expression.new.draft) (code_of c.lower_value_call.new.draft) c.in_ok-kind.ensures.code
-    c.in_ok-kind.ensures.kind refl c.in_ok-callee.ensures)
-    c.lower_value_call.ensures.code
-
-pub invocations::lower_object_call-returns-clause-kind : goal.invocations::lower_object_call-returns-clause-kind
-invocations::lower_object_call-returns-clause-kind t c =
-    let around = c.args.around.now in
-    let es = pack_exprs (map expr_of c.args.arguments.now) in
-    IfOk-weaker c.lower_value_call.result
-    (λ k. value_kind k ≡ result_kind around (callee_seen c.in_ok-callee.callee))
-    (λ k. value_kind k ≡ value_call_kind around (expr_of c.args.e.now) c.args.x.now es)
-    (λ k. object-call-kind around (expr_of c.args.e.now) c.args.x.now (value_kind c.in_ok-kind.kind)
-    c.in_ok-callee.callee c.args.arguments.now (length c.args.arguments.now) (value_kind k)
-    c.in_ok-kind.ensures.kind refl
-    c.in_ok-callee.ensures)
-    c.lower_value_call.ensures.kind
-
-pub invocations::lower_call_on-returns-in-Some-clause-code : goal.invocations::lower_call_on-returns-in-Some-clause-code
-invocations::lower_call_on-returns-in-Some-clause-code t c =
-    let es = pack_exprs (map expr_of c.args.arguments.now) in
-    on_ok_weaker c.lower_class_call.result
-    (λ made. made ∙ ap (λ x. code_of c.args.draft.now ++ x)
-    (on-class c.args.around.now (expr_of c.args.e.now) c.args.x.now es c.in-Some.c c.in-Some.ensures))
-    c.lower_class_call.ensures.code
-
-pub invocations::lower_call_on-returns-in-Some-clause-kind : goal.invocations::lower_call_on-returns-in-Some-clause-kind
-invocations::lower_call_on-returns-in-Some-clause-kind t c =
-    let around = c.args.around.now in
-    let e = expr_of c.args.e.now in
-    let es = pack_exprs (map expr_of c.args.arguments.now) in
-    IfOk-weaker c.lower_class_call.result (λ k. value_kind k ≡ class_call_kind around c.in-Some.c c.args.x.now es)
-    (λ k. value_kind k ≡ kind around (CallOn e c.args.x.now es))
-    (λ k is. is ∙ on-class-kind around e c.args.x.now es c.in-Some.c c.in-Some.ensures)
-    c.lower_class_call.ensures.kind
-
-pub invocations::lower_call_on-returns-in-None-clause-code : goal.invocations::lower_call_on-returns-in-None-clause-code
-invocations::lower_call_on-returns-in-None-clause-code t c =
-    let es = pack_exprs (map expr_of c.args.arguments.now) in
-    on_ok_weaker c.lower_object_call.result
-    (λ made. made ∙ ap (λ x. code_of c.args.draft.now ++ x)
-    (on-object c.args.around.now (expr_of c.args.e.now) c.args.x.now es c.in-None.ensures))
-    c.lower_object_call.ensures.code
-
-pub invocations::lower_call_on-returns-in-None-clause-kind : goal.invocations::lower_call_on-returns-in-None-clause-kind
-invocations::lower_call_on-returns-in-None-clause-kind t c =
-    let around = c.args.around.now in
-    let e = expr_of c.args.e.now in
-    let es = pack_exprs (map expr_of c.args.arguments.now) in
-    IfOk-weaker c.lower_object_call.result (λ k. value_kind k ≡ value_call_kind around e c.args.x.now es)
-    (λ k. value_kind k ≡ kind around (CallOn e c.args.x.now es))
-    (λ k is. is ∙ on-object-kind around e c.args.x.now es c.in-None.ensures)
-    c.lower_object_call.ensures.kind
-
 pub invocations::lower_new-returns-clause-code : goal.invocations::lower_new-returns-clause-code
 invocations::lower_new-returns-clause-code t c =
     on_ok_weaker c.finish_new.result
@@ -270,13 +88,6 @@ expressions::lower_lengths-returns-clause-code t c =
     c.args.draft.now)
     (code_of c.lower_arguments.new.draft) (code_of c.new_array.new.draft) refl
     c.in_ok-lower_arguments.ensures)
-    c.new_array.ensures.code
-
-pub expressions::lower_array-returns-clause-code : goal.expressions::lower_array-returns-clause-code
-expressions::lower_array-returns-clause-code t c =
-    on_ok_weaker c.new_array.result
-    (items-made c.args.around.now c.args.place c.args.items.now (length c.args.items.now) (code_of c.args.draft.now)
-    (code_of c.lower_items.new.draft) (code_of c.new_array.new.draft) refl c.in_ok-lower_items.ensures)
     c.new_array.ensures.code
 
 pub expressions::lower_selected-returns-in-Some-clause-code : goal.expressions::lower_selected-returns-in-Some-clause-code
@@ -328,3 +139,158 @@ pub expressions::lower_storage-returns-in_default-clause-storage : goal.expressi
 expressions::lower_storage-returns-in_default-clause-storage t c =
     let other : is_access (view.expr_of c.args.e.now) ≡ false = search (rules, the_lemmas) in
     ap (λ a. without_base (storage c.args.around.now a)) (no-access c.args.e.now other)
+
+pub expressions::lower_assign-returns-clause-code : goal.expressions::lower_assign-returns-clause-code
+expressions::lower_assign-returns-clause-code t c =
+    on_ok_weaker c.end_assign.result
+    (assign-made c.args.around.now c.args.op.now (access_of (expr_of c.args.a.now)) (expr_of c.args.b.now)
+    c.in_ok-target.target (value_kind c.in_ok-given.given) (code_of c.args.draft.now)
+    (code_of c.lower_storage.new.draft) (code_of c.begin_assign.new.draft) (code_of c.lower_expression.new.draft)
+    (code_of c.end_assign.new.draft) c.in_ok-target.ensures.code c.in_ok-target.ensures.storage
+    c.in_ok-begin_assign.ensures c.in_ok-given.ensures.code c.in_ok-given.ensures.kind)
+    c.end_assign.ensures.code
+
+pub expressions::lower_assign-returns-clause-kind : goal.expressions::lower_assign-returns-clause-kind
+expressions::lower_assign-returns-clause-kind t c =
+    let around = c.args.around.now in
+    let access = access_of (expr_of c.args.a.now) in
+    let b = expr_of c.args.b.now in
+    IfOk-weaker c.end_assign.result (λ k. value_kind k ≡ storage_kind c.in_ok-target.target)
+    (λ k. value_kind k ≡ kind around (assignment c.args.op.now access b))
+    (λ k is. kind-made around access c.in_ok-target.target (value_kind k) c.in_ok-target.ensures.storage is
+    ∙ assign-kind around (is_assignment c.args.op.now) access b)
+    c.end_assign.ensures.kind
+
+pub expressions::lower_operator-returns-clause-code : goal.expressions::lower_operator-returns-clause-code
+expressions::lower_operator-returns-clause-code t c =
+    on_ok_weaker c.end_operator.result
+    (operator-made c.args.around.now c.args.op.now (expr_of c.args.a.now) (expr_of c.args.b.now)
+    (code_of c.args.draft.now) (code_of c.lower_expression.new.draft) (code_of c.begin_operator.new.draft)
+    (code_of c.lower_expression-2.new.draft) (code_of c.end_operator.new.draft) c.in_ok-at.at
+    c.in_ok-lower_expression.ensures.code c.in_ok-at.ensures.code c.in_ok-at.ensures.at
+    c.in_ok-lower_expression-2.ensures.code)
+    c.end_operator.ensures.code
+
+pub expressions::lower_operator-returns-clause-kind : goal.expressions::lower_operator-returns-clause-kind
+expressions::lower_operator-returns-clause-kind t c =
+    let around = c.args.around.now in
+    let a = expr_of c.args.a.now in
+    let b = expr_of c.args.b.now in
+    IfOk-weaker c.end_operator.result (λ k. value_kind k ≡ Of Plain)
+    (λ k. value_kind k ≡ kind around (binary c.args.op.now a b))
+    (λ k is. is ∙ operator-kind around (is_logical c.args.op.now) a b)
+    c.end_operator.ensures.kind
+
+pub expressions::lower_prefix-returns-then-is_count-clause-code : goal.expressions::lower_prefix-returns-then-is_count-clause-code
+expressions::lower_prefix-returns-then-is_count-clause-code t c =
+    let around = c.args.around.now in
+    let a = expr_of c.args.a.now in
+    on_ok_weaker c.count_value.result
+    (λ made. counted-made around (storage around (access_of a)) c.in_ok-storage.storage
+    (code_of c.args.draft.now) (code_of c.lower_storage.new.draft) (code_of c.count_value.new.draft)
+    c.in_ok-storage.ensures.code c.in_ok-storage.ensures.storage made
+    ∙ ap (λ x. code_of c.args.draft.now ++ x)
+    (prefix-code around c.args.op.now a true (sym c.is_count.ensures ∙ c.if-is_count.true)))
+    c.count_value.ensures.code
+
+pub expressions::lower_prefix-returns-then-is_count-clause-kind : goal.expressions::lower_prefix-returns-then-is_count-clause-kind
+expressions::lower_prefix-returns-then-is_count-clause-kind t c =
+    let around = c.args.around.now in
+    let a = expr_of c.args.a.now in
+    IfOk-weaker c.count_value.result (λ k. value_kind k ≡ Of Plain)
+    (λ k. value_kind k ≡ kind around (prefix c.args.op.now a))
+    (λ k is. is ∙ prefix-kind around (is_count c.args.op.now) a) c.count_value.ensures.kind
+
+pub expressions::lower_prefix-returns-clause-code : goal.expressions::lower_prefix-returns-clause-code
+expressions::lower_prefix-returns-clause-code t c =
+    let around = c.args.around.now in
+    let a = expr_of c.args.a.now in
+    let old = code_of c.args.draft.now in
+    on_ok_weaker c.unary.result
+    (λ made. two old (code_of c.lower_expression.new.draft) (code_of c.unary.new.draft) (code around a)
+    (op around (Prim 1)) c.in_ok-lower_expression.ensures.code made
+    ∙ ap (λ x. old ++ x) (prefix-code around c.args.op.now a false (sym c.is_count.ensures ∙ c.if-is_count.false)))
+    c.unary.ensures.code
+
+pub expressions::lower_prefix-returns-clause-kind : goal.expressions::lower_prefix-returns-clause-kind
+expressions::lower_prefix-returns-clause-kind t c =
+    let around = c.args.around.now in
+    let a = expr_of c.args.a.now in
+    IfOk-weaker c.unary.result (λ k. value_kind k ≡ Of Plain)
+    (λ k. value_kind k ≡ kind around (prefix c.args.op.now a))
+    (λ k is. is ∙ prefix-kind around (is_count c.args.op.now) a) c.unary.ensures.kind
+
+pub expressions::lower_array-loop-item-preserved : goal.expressions::lower_array-loop-item-preserved
+expressions::lower_array-loop-item-preserved t c =
+    items-next c.args.around.now c.args.items.now c.loop-item.item-index c.item-item.result
+    (code_of c.loop-item.draft) (code_of c.lower_initialiser.new.draft) _ c.loop-item-test.true
+    c.item-item.is c.in_ok-lower_initialiser.ensures.code c.loop-item.invariant
+
+pub expressions::lower_array-returns-clause-code : goal.expressions::lower_array-returns-clause-code
+expressions::lower_array-returns-clause-code t c =
+    let around = c.args.around.now in
+    let items = c.args.items.now in
+    let done = items-done around items (code_of c.loop-item.draft) _ c.loop-item.item-index
+    c.loop-item-test.false c.loop-item.invariant in
+    on_ok_weaker c.new_array.result
+    (items-made around c.args.place items (length items) (code_of c.args.draft.now) (code_of c.loop-item.draft)
+    (code_of c.new_array.new.draft) refl done)
+    c.new_array.ensures.code
+
+pub invocations::lower_call-returns-clause-code : goal.invocations::lower_call-returns-clause-code
+invocations::lower_call-returns-clause-code t c =
+    on_ok_weaker c.finish_call.result
+    (call-made c.args.around.now c.args.target c.args.x.now c.in_ok-callee.callee c.args.arguments.now
+    c.passed_kinds.result.now (code_of c.args.draft.now) (code_of c.begin_call.new.draft)
+    (code_of c.lower_arguments.new.draft) (code_of c.finish_call.new.draft) c.in_ok-callee.ensures
+    c.in_ok-begin_call.ensures c.passed_kinds.ensures c.in_ok-lower_arguments.ensures)
+    c.finish_call.ensures.code
+
+pub invocations::lower_call-returns-clause-kind : goal.invocations::lower_call-returns-clause-kind
+invocations::lower_call-returns-clause-kind t c =
+    let around = c.args.around.now in
+    let es = pack_exprs (map expr_of c.args.arguments.now) in
+    IfOk-weaker c.finish_call.result (λ k. value_kind k ≡ result_kind around (callee_seen c.in_ok-callee.callee))
+    (λ k. value_kind k ≡ target_kind around c.args.target c.args.x.now es)
+    (λ k. call-kind around c.args.target c.args.x.now c.in_ok-callee.callee c.args.arguments.now (value_kind k)
+    c.in_ok-callee.ensures)
+    c.finish_call.ensures.kind
+
+pub invocations::lower_call_on-returns-in-Some-clause-code : goal.invocations::lower_call_on-returns-in-Some-clause-code
+invocations::lower_call_on-returns-in-Some-clause-code t c =
+    let es = pack_exprs (map expr_of c.args.arguments.now) in
+    on_ok_weaker c.lower_call.result
+    (λ made. made ∙ ap (λ x. code_of c.args.draft.now ++ x)
+    (on-class c.args.around.now (expr_of c.args.e.now) c.args.x.now es c.in-Some.c c.in-Some.ensures))
+    c.lower_call.ensures.code
+
+pub invocations::lower_call_on-returns-in-Some-clause-kind : goal.invocations::lower_call_on-returns-in-Some-clause-kind
+invocations::lower_call_on-returns-in-Some-clause-kind t c =
+    let around = c.args.around.now in
+    let e = expr_of c.args.e.now in
+    let es = pack_exprs (map expr_of c.args.arguments.now) in
+    IfOk-weaker c.lower_call.result (λ k. value_kind k ≡ class_call_kind around c.in-Some.c c.args.x.now es)
+    (λ k. value_kind k ≡ kind around (CallOn e c.args.x.now es))
+    (λ k is. is ∙ on-class-kind around e c.args.x.now es c.in-Some.c c.in-Some.ensures)
+    c.lower_call.ensures.kind
+
+pub invocations::lower_call_on-returns-clause-code : goal.invocations::lower_call_on-returns-clause-code
+invocations::lower_call_on-returns-clause-code t c =
+    let es = pack_exprs (map expr_of c.args.arguments.now) in
+    on_ok_weaker c.lower_call-2.result
+    (on-object c.args.around.now (expr_of c.args.e.now) c.args.x.now es c.in_ok-kind.kind (code_of c.args.draft.now)
+    (code_of c.lower_expression.new.draft) (code_of c.lower_call-2.new.draft) c.in_default.ensures
+    c.in_ok-kind.ensures.code c.in_ok-kind.ensures.kind)
+    c.lower_call-2.ensures.code
+
+pub invocations::lower_call_on-returns-clause-kind : goal.invocations::lower_call_on-returns-clause-kind
+invocations::lower_call_on-returns-clause-kind t c =
+    let around = c.args.around.now in
+    let e = expr_of c.args.e.now in
+    let es = pack_exprs (map expr_of c.args.arguments.now) in
+    IfOk-weaker c.lower_call-2.result
+    (λ k. value_kind k ≡ target_kind around (target.Value c.in_ok-kind.kind) c.args.x.now es)
+    (λ k. value_kind k ≡ kind around (CallOn e c.args.x.now es))
+    (λ k is. is ∙ on-object-kind around e c.args.x.now es c.in_ok-kind.kind c.in_default.ensures
+    c.in_ok-kind.ensures.kind)
+    c.lower_call-2.ensures.kind

@@ -12,8 +12,8 @@ invariant-invocations::lower_arguments-loop-index l =
     code_of l.draft ++ passed l.around (drop l.index l.kinds) (pack_exprs (map expr_of (drop l.index l.arguments)))
     ≡ code_of l.initial.draft ++ passed l.around l.kinds (pack_exprs (map expr_of l.arguments))
 
-abbrev pub invariant-expressions::lower_items-loop-item : goal.invariant-expressions::lower_items-loop-item
-invariant-expressions::lower_items-loop-item l =
+abbrev pub invariant-expressions::lower_array-loop-item : goal.invariant-expressions::lower_array-loop-item
+invariant-expressions::lower_array-loop-item l =
     code_of l.draft ++ items_code l.around (pack_inits (map init_of (drop l.item-index l.items)))
     ≡ code_of l.initial.draft ++ items_code l.around (pack_inits (map init_of l.items))
 
@@ -30,12 +30,6 @@ decreases-expressions::lower_expression l = 8 * goal.size-expressions::lower_exp
 abbrev pub decreases-expressions::lower_selected : goal.decreases-expressions::lower_selected
 decreases-expressions::lower_selected l = 8 * goal.size-expressions::lower_selected l + 3
 
-abbrev pub decreases-expressions::lower_count : goal.decreases-expressions::lower_count
-decreases-expressions::lower_count l = 8 * goal.size-expressions::lower_count l + 3
-
-abbrev pub decreases-expressions::lower_unary : goal.decreases-expressions::lower_unary
-decreases-expressions::lower_unary l = 8 * goal.size-expressions::lower_unary l + 3
-
 abbrev pub decreases-expressions::lower_prefix : goal.decreases-expressions::lower_prefix
 decreases-expressions::lower_prefix l = 8 * goal.size-expressions::lower_prefix l + 4
 
@@ -48,15 +42,6 @@ decreases-invocations::lower_arguments l = 8 * goal.size-invocations::lower_argu
 abbrev pub decreases-invocations::lower_call : goal.decreases-invocations::lower_call
 decreases-invocations::lower_call l = 8 * goal.size-invocations::lower_call l + 4
 
-abbrev pub decreases-invocations::lower_value_call : goal.decreases-invocations::lower_value_call
-decreases-invocations::lower_value_call l = 8 * goal.size-invocations::lower_value_call l + 4
-
-abbrev pub decreases-invocations::lower_own_call : goal.decreases-invocations::lower_own_call
-decreases-invocations::lower_own_call l = 8 * goal.size-invocations::lower_own_call l + 5
-
-abbrev pub decreases-invocations::lower_class_call : goal.decreases-invocations::lower_class_call
-decreases-invocations::lower_class_call l = 8 * goal.size-invocations::lower_class_call l + 5
-
 abbrev pub decreases-invocations::lower_new : goal.decreases-invocations::lower_new
 decreases-invocations::lower_new l = 8 * goal.size-invocations::lower_new l + 4
 
@@ -66,29 +51,14 @@ decreases-expressions::lower_lengths l = 8 * goal.size-expressions::lower_length
 abbrev pub decreases-expressions::lower_initialiser : goal.decreases-expressions::lower_initialiser
 decreases-expressions::lower_initialiser l = 8 * goal.size-expressions::lower_initialiser l + 0
 
-abbrev pub decreases-expressions::lower_items : goal.decreases-expressions::lower_items
-decreases-expressions::lower_items l = 8 * goal.size-expressions::lower_items l + 1
-
 abbrev pub decreases-expressions::lower_array : goal.decreases-expressions::lower_array
 decreases-expressions::lower_array l = 8 * goal.size-expressions::lower_array l + 2
 
 abbrev pub decreases-expressions::lower_element : goal.decreases-expressions::lower_element
 decreases-expressions::lower_element l = 8 * (max (size-Expression l.a.now) (size-Expression l.i.now)) + 3
 
-abbrev pub decreases-expressions::lower_assignment : goal.decreases-expressions::lower_assignment
-decreases-expressions::lower_assignment l = 8 * (max (size-Expression l.a.now) (size-Expression l.b.now)) + 3
-
-abbrev pub decreases-expressions::lower_combination : goal.decreases-expressions::lower_combination
-decreases-expressions::lower_combination l = 8 * (max (size-Expression l.a.now) (size-Expression l.b.now)) + 3
-
 abbrev pub decreases-expressions::lower_assign : goal.decreases-expressions::lower_assign
 decreases-expressions::lower_assign l = 8 * (max (size-Expression l.a.now) (size-Expression l.b.now)) + 4
-
-abbrev pub decreases-expressions::lower_logical : goal.decreases-expressions::lower_logical
-decreases-expressions::lower_logical l = 8 * (max (size-Expression l.a.now) (size-Expression l.b.now)) + 3
-
-abbrev pub decreases-expressions::lower_binary : goal.decreases-expressions::lower_binary
-decreases-expressions::lower_binary l = 8 * (max (size-Expression l.a.now) (size-Expression l.b.now)) + 3
 
 abbrev pub decreases-expressions::lower_operator : goal.decreases-expressions::lower_operator
 decreases-expressions::lower_operator l = 8 * (max (size-Expression l.a.now) (size-Expression l.b.now)) + 4
@@ -96,9 +66,6 @@ decreases-expressions::lower_operator l = 8 * (max (size-Expression l.a.now) (si
 abbrev pub decreases-expressions::lower_conditional : goal.decreases-expressions::lower_conditional
 decreases-expressions::lower_conditional l =
     8 * (max (size-Expression l.c.now) (max (size-Expression l.a.now) (size-Expression l.b.now))) + 3
-
-abbrev pub decreases-invocations::lower_object_call : goal.decreases-invocations::lower_object_call
-decreases-invocations::lower_object_call l = 8 * (max (size-Expression l.e.now) (most size-Expression l.arguments.now)) + 5
 
 abbrev pub decreases-invocations::lower_call_on : goal.decreases-invocations::lower_call_on
 decreases-invocations::lower_call_on l = 8 * (max (size-Expression l.e.now) (most size-Expression l.arguments.now)) + 6
