@@ -9,18 +9,19 @@ use Rattle.std.specs.Arc.{arc_value}
 use Rattle.std.proofs.Math.Dec.{ltb}
 use Rattle.std.proofs.lemmas.Bool.{eq-eqb, ltb-true, ltb-false}
 use Rattle.std.proofs.lemmas.Option.{slice_get_read, slice_get_past}
-use Rattle.std.proofs.lemmas.List.{at_drop_more, drop_all}
+use Rattle.std.proofs.lemmas.List.{at_drop_more, drop_all, length-map}
 use Rattle.std.specs.List.{list_any, list_all, flat_map}
 use Rattle.std.specs.Option.{IfSome, option_and_then}
 use Rattle.racer_base.specs.declared.ids.MethodId.{MethodId}
 use Rattle.call_graph.specs.Chains.{row_of}
 use Rattle.core_code.specs.declared.code.Op.{Op as CoreOp}
+use Rattle.core_code.specs.declared.parts.MethodCore.{MethodCore}
 use Rattle.core_code.specs.declared.code.Op.TheVariants.{Push, PushClass, PushPrim, PushNull, New, Dup, Drop, Get, Put}
 use Rattle.core_code.specs.declared.code.Op.TheVariants.{Set, Prim, Outside, Call, Unread, Ret}
 use Rattle.core_code.specs.declared.code.Reason.{Reason}
 use Rattle.core_code.specs.Calls.{called_by, calls_in, calls_of, method_at, is_analysed}
 use Rattle.core_code.specs.CallFacts.{is_right_call, has_right_calls, are_calls_right, takes}
-use Rattle.core_code.specs.Core.{Core, Method}
+use Rattle.core_code.specs.Core.{Core, Method, method_of}
 use Rattle.core_code.specs.Program.{core}
 use Rattle.core_code.specs.Rows.{different, rows_of}
 use Rattle.core_code.specs.Tree.{Operation, steps_of}
@@ -33,7 +34,7 @@ use Rattle.access_domain.specs.Summaries.{outcome_of, outcomes_from, known_given
 use Rattle.transfer.specs.declared.finished.Finished.{Finished}
 use Rattle.transfer.specs.Callees.{Held, AreCallees, outcome_in}
 use Rattle.transfer.specs.Tables.{IsFinished, IsTable, finished_at}
-use Rattle.transfer.proofs.Handed.{nat_eq-same, both-true, analysed_at}
+use Rattle.transfer.proofs.Handed.{nat_eq-same, both-true, analysed_at, found_at}
 use Rattle.transfer.proofs.Tables.{is_method, or-right, or-left}
 
 -- ---- the table
@@ -293,6 +294,22 @@ without : (o : Option Reason) (x : Known) → is_some o ≡ true →
     None ≡ option_map outcome_from (cond (is_none o) (Some x) None)
 without None x e = absurd cc
 without (Some r) x e = refl
+
+-- the method of a number within the table
+pub method_found : (program : Core) (ms : List MethodCore) (m : MethodId) (x : MethodCore) →
+    map method_of ms ≡ program.methods → m.0 < length program.methods → x ≡ get_or ms m.0 x →
+    method_at program m ≡ Some (method_of x)
+method_found program ms m x all within at =
+    let here : m.0 < length ms = omega (arith, ap length all, length-map ms method_of, within) in
+    ap (λ (ys : List Method). slice_get ys m.0) (sym all) ∙ found_at ms m.0 x here at
+
+no_status : (o : Option Reason) → is_some o ≡ false → is_none o ≡ true
+no_status None e = refl
+no_status (Some r) e = absurd cc
+
+pub analysed_found : (program : Core) (m : MethodId) (method : Method) → method_at program m ≡ Some method →
+    is_some method.status ≡ false → is_analysed program m ≡ true
+analysed_found program m method is e = ap analysed_at is ∙ no_status method.status e
 
 -- a method that is not analysed has no outcome
 pub no_outcome : (program : Core) (m : MethodId) (method : Method) → method_at program m ≡ Some method →
