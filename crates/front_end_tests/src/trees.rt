@@ -48,11 +48,23 @@ fn spells(alloc: Global, tree: &MethodTree, text: &[u8]) -> Result<bool, Fail> {
     Ok(words.next().is_none())
 }
 
+/// Whether both trees, which differ in a place alone, spell `void m() { }`.
+fn spell_alike(alloc: Global, tree: &MethodTree, other: &MethodTree) -> Result<bool, Fail>
+    requires tree { FormedMethod (method_of tree.now) }
+    requires other { FormedMethod (method_of other.now) }
+{
+    Ok(spells(alloc, tree, b"void m() { }")? && spell_the_same(alloc, tree, other)?)
+}
+
+/// The same of trees that are made here.
+fn made_trees_spell_alike(alloc: Global) -> Result<bool, Fail> {
+    let tree = empty_method(alloc, 6)?;
+    let other = empty_method(alloc, 7)?;
+    spell_alike(alloc, &tree, &other)
+}
+
 #[test]
 fn a_method_spells_the_tokens_of_its_text(rt: HostRuntime) -> Result<(), Fail> {
-    let alloc = rt.alloc();
-    let tree = empty_method(alloc, 6)?;
-    assert!(rt; spells(alloc, &tree, b"void m() { }")?);
-    assert!(rt; spell_the_same(alloc, &tree, &empty_method(alloc, 7)?)?);
+    assert!(rt; made_trees_spell_alike(rt.alloc())?);
     Ok(())
 }

@@ -1,8 +1,7 @@
 -- A way has no more turns than steps.
-use Rattle.std.proofs.Common.{◌≡◌, ℕ, zero, suc, ◌+◌, ◌≤◌, Bool, true, false, cond, List, [], ◌∷◌, ◌++◌, length}
+use Rattle.std.proofs.Common.{ℕ, zero, suc, ◌≤◌, true, false, cond, List, [], ◌∷◌, length}
 use Rattle.std.proofs.Common.{nat_eq, arith, length-append, ap}
 use Rattle.racer_base.specs.declared.ids.MethodId.{MethodId}
-use Rattle.racer_base.specs.declared.limits.TheConstants.{MAX_WAY_STEPS}
 use Rattle.core_code.specs.Calls.{known_below, rank_of}
 use Rattle.core_code.specs.Core.{Core}
 use Rattle.core_ways.specs.declared.part.WayPart.{WayPart}

@@ -1,12 +1,11 @@
 -- The shortest unstable prefix, from what is found of both methods.
-use Rattle.std.proofs.Common.{◌≡◌, ℕ, ◌<◌, Bool, true, false, ◌||◌, List, Option, None, Some, length, refl, sym, ap, subst}
-use Rattle.std.proofs.Common.{◌∙◌, option_map, slice_get}
+use Rattle.std.proofs.Common.{◌≡◌, ℕ, Bool, ◌||◌, List, Option, None, Some, length, refl, sym, ap, subst}
+use Rattle.std.proofs.Common.{◌∙◌, option_map}
 use Rattle.std.specs.Prelude.{MatchOption}
 use Rattle.racer_base.specs.declared.ids.MethodId.{MethodId}
 use Rattle.access_paths.specs.declared.path.Path.{Path}
 use Rattle.access_paths.specs.Order.{PathSet}
 use Rattle.access_paths.specs.Paths.{front}
-use Rattle.access_domain.specs.declared.access.Access.{Access}
 use Rattle.access_domain.specs.declared.summary.Outcome.{Outcome}
 use Rattle.access_domain.specs.Summaries.{outcome_of, outcomes_of}
 use Rattle.core_code.specs.Core.{Core}
@@ -15,7 +14,7 @@ use Rattle.core_ways.specs.Stable.{is_wobbly, unstable_prefix}
 use Rattle.core_ways.specs.Ways.{record_at}
 use Rattle.core_ways.proofs.Going.{same-outcome, same-record}
 use Rattle.wobbly_paths.specs.Sets.{HasNoPrefix, IsShortestPrefix}
-use Rattle.witness_build.specs.Found.{IsLeast, holds_front, is_held, least, outcome_among, wobbly_held}
+use Rattle.witness_build.specs.Found.{IsLeast, holds_front, least, outcome_among, wobbly_held}
 use Rattle.witness_build.proofs.LeastPrefix.{either, first-prefix, least-both, wobbly-held}
 
 pub least-of-set : (paths : PathSet) (p : Path) (answer : Option ℕ) →

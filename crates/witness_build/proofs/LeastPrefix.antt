@@ -1,19 +1,18 @@
 -- The shortest prefix of a path that is wobbly in one of two methods.
-use Rattle.std.proofs.Common.{◌≡◌, ℕ, zero, suc, ◌+◌, ◌≤◌, ◌<◌, Bool, true, false, cond, ◌||◌, List, [], ◌∷◌, length, refl}
-use Rattle.std.proofs.Common.{sym, ap, subst, ◌∙◌, Option, None, Some, map, nat_lt, arith, inl, inr, option_map}
+use Rattle.std.proofs.Common.{◌≡◌, ℕ, zero, suc, ◌+◌, ◌≤◌, ◌<◌, Bool, true, false, cond, ◌||◌, length, refl}
+use Rattle.std.proofs.Common.{sym, ap, ◌∙◌, Option, None, Some, map, nat_lt, arith, inl, inr, option_map}
 use Rattle.std.proofs.lemmas.Bool.{cases_lt, false≢true, lt-ltb, ltb-true}
 use Rattle.std.specs.FinSet as set
 use Rattle.std.specs.List.{find, list_any}
 use Rattle.racer_base.specs.declared.ids.MethodId.{MethodId}
 use Rattle.access_paths.specs.declared.path.Path.{Path}
-use Rattle.access_paths.specs.Order.{path_cmp}
 use Rattle.access_paths.specs.Paths.{front, same_path}
 use Rattle.access_paths.specs.Same.{path_cmp-total, tied}
 use Rattle.access_domain.specs.Findings.{Known, Large, Whole, outcome_from}
-use Rattle.access_domain.specs.Summaries.{known_of, outcome_of, outcomes_of}
+use Rattle.access_domain.specs.Summaries.{known_of, outcome_of}
 use Rattle.core_code.specs.Core.{Core}
-use Rattle.core_ways.specs.Stable.{counting, is_wobbly, proper_prefixes, unstable_prefix, wobbly_in}
-use Rattle.witness_build.specs.Found.{IsFirst, IsLeast, PassesNone, holds_front, is_held, least, outcome_among, wobbly_held}
+use Rattle.core_ways.specs.Stable.{counting, is_wobbly, proper_prefixes, wobbly_in}
+use Rattle.witness_build.specs.Found.{IsFirst, IsLeast, is_held, least, wobbly_held}
 
 -- ---- the first of two tests
 

@@ -1,5 +1,5 @@
 -- Where a leg ends, and what it reads, step by step.
-use Rattle.std.proofs.Common.{◌≡◌, ℕ, zero, suc, ◌+◌, ◌≤◌, Bool, true, false, cond, List, [], ◌∷◌, ◌++◌, length, refl, sym, ap, ◌∙◌}
+use Rattle.std.proofs.Common.{◌≡◌, ℕ, zero, suc, ◌≤◌, true, false, cond, List, [], ◌∷◌, ◌++◌, length, refl, ap, ◌∙◌}
 use Rattle.std.proofs.Common.{Option, None, Some, arith, length-append}
 use Rattle.core_code.specs.Core.{Core}
 use Rattle.core_semantics.specs.declared.answer.Turn.{Turn}
@@ -16,7 +16,7 @@ use Rattle.racer_base.specs.declared.ids.Touch.TheVariants.{Read, Write}
 use Rattle.core_semantics.specs.Steps.{read}
 use Rattle.core_ways.specs.Marks.{given_by, next_read, paths_in, reads, reads_on}
 use Rattle.racer_base.specs.declared.ids.FieldId.{FieldId}
-use Rattle.witness_build.specs.Ends.{Ended, Past, Stopped, Going, end_behind, ended, leg_end, leg_reads, made_of}
+use Rattle.witness_build.specs.Ends.{Going, end_behind, ended, leg_end, leg_reads, made_of}
 use Rattle.witness_build.specs.Ends.{one_step, reads_behind, step_reads, straight, turned, with_turns}
 
 ended-later : (r : Ran) → ended (later r) ≡ ended r

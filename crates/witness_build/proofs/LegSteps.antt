@@ -1,12 +1,12 @@
 -- One more step of a leg.
-use Rattle.std.proofs.Common.{◌≡◌, ℕ, suc, List, [], ◌∷◌, ◌++◌, Option, None, Some, refl, sym, ap, subst, ◌∙◌}
+use Rattle.std.proofs.Common.{◌≡◌, ℕ, suc, List, ◌++◌, Option, None, Some, sym, ap, subst, ◌∙◌}
 use Rattle.std.proofs.lemmas.List.{append-nil}
 use Rattle.std.specs.Borrow.{Bor}
 use Rattle.core_code.specs.Core.{Core}
 use Rattle.core_semantics.specs.declared.answer.Turn.{Turn}
 use Rattle.core_semantics.specs.declared.object.StartPath.{StartPath}
 use Rattle.core_semantics.specs.State.{State}
-use Rattle.witness_build.specs.Ends.{Ended, Past, Stopped, Going, IsAdvance, end_behind, leg_end, leg_reads, one_step}
+use Rattle.witness_build.specs.Ends.{Past, Stopped, Going, IsAdvance, end_behind, leg_end, leg_reads, one_step}
 use Rattle.witness_build.specs.Ends.{reads_behind, step_reads}
 use Rattle.witness_build.specs.Gathered.{gathered}
 use Rattle.witness_build.proofs.Gathering.{gathered-append}

@@ -1,5 +1,5 @@
 -- What is said where both legs are run.
-use Rattle.std.proofs.Common.{◌≡◌, ℕ, ◌+◌, ◌*◌, ◌≤◌, Bool, true, false, List, [], ◌∷◌, ◌++◌, refl, sym, ap, subst, ◌∙◌}
+use Rattle.std.proofs.Common.{◌≡◌, ℕ, ◌*◌, ◌≤◌, Bool, true, false, List, [], ◌∷◌, ◌++◌, sym, ap, subst, ◌∙◌}
 use Rattle.std.proofs.Common.{Option, None, Some, unwrap_or, length, arith}
 use Rattle.racer_base.specs.declared.limits.TheConstants.{MAX_WAY_STEPS}
 use Rattle.std.proofs.lemmas.List.{append-nil}

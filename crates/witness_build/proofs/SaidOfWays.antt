@@ -1,17 +1,16 @@
 -- What is said of the two ways of a warning.
-use Rattle.std.proofs.Common.{◌≡◌, ℕ, ◌<◌, ◌≤◌, Bool, true, false, cond, List, [], ◌∷◌, refl, sym, ap, ◌∙◌, Option, None}
-use Rattle.std.proofs.Common.{Some, nat_lt, slice_get, arith, inl, inr}
+use Rattle.std.proofs.Common.{◌≡◌, ℕ, ◌<◌, ◌≤◌, Bool, true, false, cond, List, [], ◌∷◌, sym, ap, ◌∙◌, Option, None}
+use Rattle.std.proofs.Common.{Some, nat_lt, slice_get}
 use Rattle.std.proofs.lemmas.Bool.{lt-ltb, le-ltb}
 use Rattle.racer_base.specs.declared.ids.Place.{Place}
 use Rattle.racer_base.specs.declared.limits.TheConstants.{MAX_WAY_STEPS}
 use Rattle.core_code.specs.Core.{Core}
-use Rattle.core_semantics.specs.declared.answer.Turn.{Turn}
 use Rattle.core_semantics.specs.declared.object.Start.TheVariants.{All}
 use Rattle.core_semantics.specs.Legs.{Leg}
 use Rattle.core_semantics.specs.Runs.{begun}
-use Rattle.core_ways.specs.Answers.{IsLong, IsTaken, counted}
-use Rattle.core_ways.specs.Marks.{Pair, Said, Unread, Long, first_long, first_unread, is_locked, leg_along, legs_of}
-use Rattle.core_ways.specs.Marks.{mark_by_calls, mark_by_run, ways_in_order}
+use Rattle.core_ways.specs.Answers.{IsLong, counted}
+use Rattle.core_ways.specs.Marks.{Pair, Said, Unread, Long, first_long, first_unread, is_locked, leg_along}
+use Rattle.core_ways.specs.Marks.{mark_by_calls, mark_by_run}
 use Rattle.core_ways.specs.Ways.{Trip, way_of}
 use Rattle.witness_build.specs.declared.both.Both.TheVariants as code
 use Rattle.witness_build.specs.Both.{AreBoth, said_by_length, said_of}

@@ -4,3 +4,4 @@ pub mod Found
 pub mod Gathered
 pub mod Ends
 pub mod Both
+pub mod RunLegs

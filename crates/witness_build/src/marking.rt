@@ -1,5 +1,5 @@
 //! The mark of a warning.
-ghost use Rattle.std.specs.Prelude.{◌≡◌, ◌+◌, ◌<◌, ◌∷◌, [], IfOk, unwrap_or};
+ghost use Rattle.std.specs.Prelude.{◌≡◌, ◌+◌, ◌<◌, ◌∷◌, [], IfOk, option_map, unwrap_or};
 ghost use Rattle.core_code.specs.Program.{core};
 ghost use Rattle.access_domain.specs.Outcomes.{AreOutcomes};
 ghost use Rattle.core_semantics.specs.declared.object.Start.TheVariants.{All};
@@ -9,6 +9,7 @@ ghost use Rattle.core_ways.specs.Marks.{Blocked, is_locked, leg_of, mark_by_call
 ghost use Rattle.core_ways.specs.Ways.{Trip, way_of};
 ghost use Rattle.witness_build.specs.Both.{AreBoth, AreShort, IsShort, said_of};
 ghost use Rattle.witness_build.specs.Ends.{nowhere};
+ghost use Rattle.witness_build.specs.RunLegs.{IsSaid};
 ghost use Rattle.witness_build.specs.Warned.{pair_of, warning_mark};
 
 use crate::both::{Both, Target, ways};
@@ -51,6 +52,54 @@ fn leg(thread: u32, taken: WayTaken) -> Leg
     }
 }
 
+/// Runs both legs, one after the other; where one of them cannot be made, its mark.
+fn mark_of_stopped<'a>(
+    program: &'a Program,
+    machine: &mut Machine<'a>,
+    objects: &mut Objects,
+    first: &Leg,
+    second: &Leg,
+) -> Result<Option<Mark>, Memory>
+    requires { objects.old ≡ [] }
+    ensures { IfOk result (λ stopped. IsSaid (core program.now) (leg_of first.now) (leg_of second.now)
+        (state_of machine.old) objects.new (option_map said_by stopped)) }
+{
+    let turns = first.turns.as_slice();
+    if !run_leg(program, machine, objects, first.thread, turns, first.steps)? {
+        return Ok(Some(blocked(machine, first.thread)));
+    }
+    let turns = second.turns.as_slice();
+    if !run_leg(
+        program,
+        machine,
+        objects,
+        second.thread,
+        turns,
+        second.steps,
+    )? {
+        return Ok(Some(blocked(machine, second.thread)));
+    }
+    Ok(None)
+}
+
+/// The same from the begin of a run with all start paths as objects.
+fn mark_of_stopped_run(
+    alloc: Global,
+    program: &Program,
+    warning: &Warning,
+    objects: &mut Objects,
+    first: &Leg,
+    second: &Leg,
+) -> Result<Option<Mark>, Memory>
+    requires { objects.old ≡ [] }
+    ensures { IfOk result (λ stopped. IsSaid (core program.now) (leg_of first.now) (leg_of second.now)
+        (begun (core program.now) warning.now.entry warning.now.partner All) objects.new
+        (option_map said_by stopped)) }
+{
+    let mut machine = begin(alloc, program, warning.entry, warning.partner, Start::All)?;
+    mark_of_stopped(program, &mut machine, objects, first, second)
+}
+
 /// Runs both legs, one after the other, with all start paths as objects.
 fn mark_by_run(
     alloc: Global,
@@ -63,29 +112,10 @@ fn mark_by_run(
     ensures { IfOk result (λ mark. said_by mark ≡ mark_by_run (core program.now) (leg_of first ∷ leg_of second ∷ [])
         (begun (core program.now) warning.now.entry warning.now.partner All)) }
 {
-    let mut machine = begin(alloc, program, warning.entry, warning.partner, Start::All)?;
     let mut objects = Objects::new(alloc);
-    let turns = first.turns.as_slice();
-    if !run_leg(
-        program,
-        &mut machine,
-        &mut objects,
-        first.thread,
-        turns,
-        first.steps,
-    )? {
-        return Ok(blocked(&machine, first.thread));
-    }
-    let turns = second.turns.as_slice();
-    if !run_leg(
-        program,
-        &mut machine,
-        &mut objects,
-        second.thread,
-        turns,
-        second.steps,
-    )? {
-        return Ok(blocked(&machine, second.thread));
+    let stopped = mark_of_stopped_run(alloc, program, warning, &mut objects, &first, &second)?;
+    if let Some(mark) = stopped {
+        return Ok(mark);
     }
     Ok(Mark::Confirmed(Witness {
         objects: Items::from(objects.into_vec()),

@@ -1,81 +1,27 @@
-use Rattle.std.proofs.Common.{◌≡◌, List, [], ◌∷◌, ap, refl, ◌∙◌}
+use Rattle.std.proofs.Common.{◌*◌, ◌≤◌, List, length, option_map, subst, sym, ◌∙◌}
+use Rattle.racer_base.specs.declared.limits.TheConstants.{MAX_WAY_STEPS}
 use Rattle.core_code.specs.Program.{core}
 use Rattle.core_semantics.specs.declared.object.Start.TheVariants.{All}
 use Rattle.core_semantics.specs.declared.object.StartPath.{StartPath}
 use Rattle.core_semantics.specs.Runs.{begun}
-use Rattle.core_semantics.specs.View.{state_of}
-use Rattle.core_ways.specs.Marks.{Confirmed, leg_of}
-use Rattle.witness_build.proofs.SaidByRun.{both-gathered, few-gathered, leg-past, leg-stopped, said-both, said-first}
-use Rattle.witness_build.proofs.SaidByRun.{said-second}
+use Rattle.core_ways.specs.declared.mark.Mark.{Mark}
+use Rattle.core_ways.specs.Marks.{leg_of, said_by}
+use Rattle.std.proofs.Common.{Option}
+use Rattle.witness_build.specs.RunLegs.{IsSaid}
 use Rattle.witness_build.proofs.marking.mark_by_run.Goals as goal
-
-pub returns-then-not-branch : goal.returns-then-not-branch
-returns-then-not-branch c =
-    let program = core c.args.program.now in
-    let first = c.args.first in
-    let start = begun program c.args.warning.now.entry c.args.warning.now.partner All in
-    let to = state_of c.run_leg.new.machine in
-    c.blocked.ensures
-    ∙ said-first program (leg_of first) (leg_of c.args.second) start to
-    (leg-stopped program first.thread first.steps c.as_slice-turns.result.now first.turns
-    (state_of c.in_ok-machine.machine) start to c.in_ok-run_leg.field-0 c.as_slice-turns.ensures
-    c.in_ok-machine.ensures c.in_ok-run_leg.ensures.end c.if-not-branch.true)
-
-pub returns-then-not-branch-2 : goal.returns-then-not-branch-2
-returns-then-not-branch-2 c =
-    let program = core c.args.program.now in
-    let first = c.args.first in
-    let second = c.args.second in
-    let start = begun program c.args.warning.now.entry c.args.warning.now.partner All in
-    let to = state_of c.run_leg.new.machine in
-    let end = state_of c.run_leg-2.new.machine in
-    c.blocked-then-not-branch-2.ensures
-    ∙ said-second program (leg_of first) (leg_of second) start to end
-    (leg-past program first.thread first.steps c.as_slice-turns.result.now first.turns
-    (state_of c.in_ok-machine.machine) start to c.in_ok-run_leg.field-0 c.as_slice-turns.ensures
-    c.in_ok-machine.ensures c.in_ok-run_leg.ensures.end c.if-not-branch.false)
-    (leg-stopped program second.thread second.steps c.as_slice-turns-2.result.now second.turns to to end
-    c.in_ok-run_leg-2.field-0 c.as_slice-turns-2.ensures refl c.in_ok-run_leg-2.ensures.end c.if-not-branch-2.true)
 
 pub invariant_of-result : goal.invariant_of-result
 invariant_of-result c =
     let program = core c.args.program.now in
-    let first = c.args.first in
-    let second = c.args.second in
-    let start = begun program c.args.warning.now.entry c.args.warning.now.partner All in
-    let to = state_of c.run_leg.new.machine in
+    let read =
+    subst
+    (λ (found : Option Mark). IsSaid program (leg_of c.args.first) (leg_of c.args.second)
+    (begun program c.args.warning.now.entry c.args.warning.now.partner All) c.mark_of_stopped_run.new.objects
+    (option_map said_by found))
+    c.in_default.is c.in_ok-stopped.ensures in
     record {
       few_objects =
-          few-gathered program first.thread second.thread first.steps second.steps first.turns second.turns start to
-          c.from.result
-          (c.from.ensures ∙ c.into_vec.ensures
-          ∙ both-gathered program first.thread second.thread first.steps second.steps c.as_slice-turns.result.now
-          first.turns c.as_slice-turns-2.result.now second.turns (state_of c.in_ok-machine.machine) start to
-          c.new-objects.result c.run_leg.new.objects c.run_leg-2.new.objects c.new-objects.ensures
-          c.as_slice-turns.ensures c.as_slice-turns-2.ensures c.in_ok-machine.ensures c.in_ok-run_leg.ensures.reads
-          c.in_ok-run_leg-2.ensures.reads)
-          first.few_steps second.few_steps;
+          subst (λ (objects : List StartPath). length objects ≤ 2 * MAX_WAY_STEPS)
+          (sym (c.from.ensures ∙ c.into_vec.ensures)) read.few;
       both_threads = c.requires;
     }
-
-pub returns : goal.returns
-returns c =
-    let program = core c.args.program.now in
-    let first = c.args.first in
-    let second = c.args.second in
-    let start = begun program c.args.warning.now.entry c.args.warning.now.partner All in
-    let to = state_of c.run_leg.new.machine in
-    let end = state_of c.run_leg-2.new.machine in
-    ap (λ (objects : List StartPath). Confirmed objects (leg_of first ∷ leg_of second ∷ []))
-    (c.from.ensures ∙ c.into_vec.ensures
-    ∙ both-gathered program first.thread second.thread first.steps second.steps c.as_slice-turns.result.now
-    first.turns c.as_slice-turns-2.result.now second.turns (state_of c.in_ok-machine.machine) start to
-    c.new-objects.result c.run_leg.new.objects c.run_leg-2.new.objects c.new-objects.ensures
-    c.as_slice-turns.ensures c.as_slice-turns-2.ensures c.in_ok-machine.ensures c.in_ok-run_leg.ensures.reads
-    c.in_ok-run_leg-2.ensures.reads)
-    ∙ said-both program (leg_of first) (leg_of second) start to end
-    (leg-past program first.thread first.steps c.as_slice-turns.result.now first.turns
-    (state_of c.in_ok-machine.machine) start to c.in_ok-run_leg.field-0 c.as_slice-turns.ensures
-    c.in_ok-machine.ensures c.in_ok-run_leg.ensures.end c.if-not-branch.false)
-    (leg-past program second.thread second.steps c.as_slice-turns-2.result.now second.turns to to end
-    c.in_ok-run_leg-2.field-0 c.as_slice-turns-2.ensures refl c.in_ok-run_leg-2.ensures.end c.if-not-branch-2.false)
