@@ -11,7 +11,7 @@ use racer_base::{ClassId, FieldId, Kind, Memory};
 use std::alloc::Global;
 
 /// What the analysis asks of a field.
-#[derive(Clone, Copy, Debug, PartialEq, Eq)]
+#[derive(Clone, Copy)]
 pub struct Touched {
     /// The class that declares it.
     pub class: ClassId,

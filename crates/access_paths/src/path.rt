@@ -8,7 +8,7 @@ use std::alloc::Global;
 use std::cmp::Ordering;
 
 /// Where a path begins.
-#[derive(Clone, Copy, Debug, PartialEq, Eq)]
+#[derive(Clone, Copy, PartialEq, Eq)]
 pub enum Root {
     /// The receiver.
     This,

@@ -1,5 +1,6 @@
 //! The texts of paths.
-ghost use Rattle.std.specs.Prelude.{◌≡◌, IfOk, IsTrue, length, string_bytes};
+ghost use Rattle.std.specs.Prelude.{◌≡◌, ◌++◌, IfOk, IsTrue, codes, length, string_bytes};
+ghost use Rattle.std.specs.Fmt.{decimal};
 ghost use Rattle.access_paths.specs.Text.{root_text, path_text, is_named, is_named_root};
 
 use crate::{Path, Root};
@@ -27,11 +28,21 @@ fn root_text<N: Names>(alloc: Global, root: Root, names: &N) -> Result<String, M
     match root {
         Root::This => Ok(String::from_str(alloc, "this")?),
         Root::Class(class) => Ok(String::from_str(alloc, names.class_name(class))?),
-        Root::Formal(number) => Ok(format!(in alloc; "#{number}")?),
-        Root::Some(class) => {
-            let mut text = String::from_str(alloc, "some ")?;
-            text.push_str(names.class_name(class))?;
-            Ok(text)
-        }
+        Root::Formal(number) => formal_text(alloc, number),
+        Root::Some(class) => some_text(alloc, names.class_name(class)),
     }
+}
+
+fn formal_text(alloc: Global, number: u32) -> Result<String, Memory>
+    ensures { IfOk result (λ text. string_bytes text ≡ codes "#" ++ decimal number) }
+{
+    Ok(format!(in alloc; "#{number}")?)
+}
+
+fn some_text(alloc: Global, class: &str) -> Result<String, Memory>
+    ensures { IfOk result (λ text. string_bytes text ≡ codes "some " ++ class.now) }
+{
+    let mut text = String::from_str(alloc, "some ")?;
+    text.push_str(class)?;
+    Ok(text)
 }

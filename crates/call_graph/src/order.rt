@@ -4,7 +4,7 @@ use racer_base::{Items, Memory, MethodId};
 use std::alloc::Global;
 
 /// What a walk has still to do.
-#[derive(Clone, Copy, Debug)]
+#[derive(Clone, Copy)]
 enum Visit {
     Enter(MethodId),
     Leave(MethodId),

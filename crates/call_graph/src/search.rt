@@ -4,7 +4,7 @@ use racer_base::{Items, Memory, MethodId};
 use std::alloc::Global;
 
 /// A method that was reached, and the step that reached it: the entry at this place of the row of that method.
-#[derive(Clone, Copy, Debug)]
+#[derive(Clone, Copy)]
 pub(crate) struct Reach {
     pub method: MethodId,
     pub from: MethodId,

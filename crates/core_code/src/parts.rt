@@ -3,7 +3,7 @@ use crate::{Code, Reason};
 use racer_base::{ClassId, FieldId, Items, Kind, Place, Text};
 
 /// A class.
-#[derive(Debug, Drop)]
+#[derive(Drop)]
 pub struct ClassCore {
     pub name: Text,
     pub place: Place,
@@ -11,7 +11,7 @@ pub struct ClassCore {
 }
 
 /// A field of a class.
-#[derive(Debug, Drop)]
+#[derive(Drop)]
 pub struct FieldCore {
     pub class: ClassId,
     pub name: Text,

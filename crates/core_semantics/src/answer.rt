@@ -2,14 +2,14 @@
 use crate::Object;
 
 /// The side of a choice; at a loop, whether its body is done once more.
-#[derive(Clone, Copy, Debug, PartialEq, Eq)]
+#[derive(Clone, Copy)]
 pub enum Turn {
     Left,
     Right,
 }
 
 /// Why a thread cannot step.
-#[derive(Clone, Copy, Debug, PartialEq, Eq)]
+#[derive(Clone, Copy)]
 pub enum Why {
     /// The object of an access, a call or a lock is null.
     NullBase,

@@ -6,7 +6,7 @@ use racer_base::{ClassId, FieldId, Items, Memory};
 use std::alloc::Global;
 
 /// Where a start path begins.
-#[derive(Clone, Copy, Debug, PartialEq, Eq)]
+#[derive(Clone, Copy, PartialEq, Eq)]
 pub enum StartRoot {
     /// The `this` that both threads share.
     This,

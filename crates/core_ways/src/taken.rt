@@ -23,7 +23,7 @@ pub struct WayTaken {
 }
 
 /// Why a way is not to be taken.
-#[derive(Clone, Copy, Debug, PartialEq, Eq)]
+#[derive(Clone, Copy)]
 pub enum WayFault {
     /// It comes to a call, at this place, of a method that is not analysed.
     Unread(Place),

@@ -4,7 +4,7 @@ use racer_base::{FolderFault, Memory};
 use std::alloc::AllocFailed;
 
 /// Why no sources are given.
-#[derive(Clone, Copy, Debug, PartialEq, Eq)]
+#[derive(Clone, Copy)]
 pub enum SourceFault {
     /// They are refused.
     Refused(Refusal),

@@ -2,7 +2,7 @@
 use racer_base::{FileId, Place};
 
 /// Why sources are refused, a variant for each line.
-#[derive(Clone, Copy, Debug, PartialEq, Eq)]
+#[derive(Clone, Copy)]
 pub enum Refusal {
     /// How many there are.
     TooManyFiles(usize),

@@ -2,7 +2,7 @@
 use racer_base::{Memory, Place};
 
 /// Why a file has no tokens.
-#[derive(Clone, Copy, Debug, PartialEq, Eq)]
+#[derive(Clone, Copy)]
 pub enum LexFault {
     /// The first byte that is not part of valid UTF-8 has this offset.
     NotUtf8(usize),

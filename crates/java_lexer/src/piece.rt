@@ -2,7 +2,7 @@
 use crate::TokenKind;
 
 /// What a piece of a text is (JLS 3.2). White space and comments are no tokens.
-#[derive(Clone, Copy, Debug, PartialEq, Eq)]
+#[derive(Clone, Copy)]
 pub enum PieceKind {
     White,
     Comment,
@@ -10,7 +10,7 @@ pub enum PieceKind {
 }
 
 /// Why no piece begins at a place.
-#[derive(Clone, Copy, Debug, PartialEq, Eq)]
+#[derive(Clone, Copy)]
 pub enum LexicalFault {
     BadCharacter,
     Unclosed,

@@ -6,7 +6,7 @@ ghost use Rattle.java_lexer.specs.Places.{advance, begin, place_at};
 use racer_base::{FileId, Place};
 
 /// A line and a column, from 1, the column in bytes. An LF that follows a CR ends no further line.
-#[derive(Clone, Copy, Debug, PartialEq, Eq)]
+#[derive(Clone, Copy)]
 pub struct Spot {
     pub line: u32,
     pub column: u32,

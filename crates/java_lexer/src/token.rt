@@ -16,7 +16,7 @@ pub enum TokenKind {
 
 /// A token: its kind, its bytes, the place of its first byte, and whether it is the second or third `>`
 /// of a `>>` or `>>>`.
-#[derive(Debug, Drop)]
+#[derive(Drop)]
 pub struct Token {
     pub kind: TokenKind,
     pub text: Text,

@@ -2,7 +2,7 @@
 use racer_base::{Memory, Place};
 
 /// The first of these that holds, in their order.
-#[derive(Clone, Copy, Debug, PartialEq, Eq)]
+#[derive(Clone, Copy)]
 pub enum ResolveFault {
     /// The first class whose name an earlier one has, and the place of the first of that name.
     DuplicateClass(Place, Place),

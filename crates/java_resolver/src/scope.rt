@@ -19,7 +19,7 @@ pub struct Scope {
 }
 
 /// What a simple name means (JLS 6.5); `Opaque` where it is none of the folder's.
-#[derive(Clone, Copy, Debug, PartialEq, Eq)]
+#[derive(Clone, Copy)]
 pub enum Meaning {
     Variable(VarId, Kind),
     Field(FieldId),

@@ -55,7 +55,7 @@ pub enum HeadResult {
 }
 
 /// Why a file is no unit, with the place where it shows.
-#[derive(Clone, Copy, Debug, PartialEq, Eq)]
+#[derive(Clone, Copy)]
 pub enum ParseFault {
     /// The first closing bracket that does not match the innermost open one; where the file ends first, the
     /// innermost open one.

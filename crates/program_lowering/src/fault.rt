@@ -2,7 +2,7 @@
 use racer_base::Memory;
 
 /// The first of these that holds.
-#[derive(Clone, Copy, Debug, PartialEq, Eq)]
+#[derive(Clone, Copy)]
 pub enum LowerFault {
     /// How many different pairs of a method and one that it calls there are, where there are too many.
     TooManyCalls(u32),

@@ -1,7 +1,7 @@
 //! How a report is written.
 
 /// How a report is written.
-#[derive(Clone, Copy, Debug, PartialEq, Eq)]
+#[derive(Clone, Copy)]
 pub struct Mode {
     /// As one object, and not as lines.
     pub json: bool,

@@ -7,5 +7,4 @@ pub mod FileList
 pub mod Failing
 pub mod MemoryFolder
 pub mod MemorySink
-pub mod DirFolder
 pub mod StdSink

@@ -2,7 +2,6 @@
 //! contracts see as lists, the limits, the traits of the outside, and their forms in memory and for real.
 #![tactic(auto)]
 
-mod dir_folder;
 mod failing;
 mod ids;
 mod items;
@@ -16,7 +15,6 @@ mod outside;
 mod std_sink;
 mod text;
 
-pub use dir_folder::DirFolder;
 pub use ids::{ClassId, FieldId, FileId, Kind, MethodId, Moment, Place, SiteId, Touch, VarId};
 pub use items::Items;
 pub use laws::limit_numbers;

@@ -7,9 +7,11 @@ ghost use Rattle.racer_base.specs.Causes.{IsCause};
 
 use crate::{Memory, Moment};
 use std::alloc::{AllocError, AllocFailed, Global};
+use std::io;
+use std::io::ErrorKind;
 
 /// Why a call on a folder gives no answer.
-#[derive(Clone, Copy, Debug, PartialEq, Eq)]
+#[derive(Clone, Copy, PartialEq, Eq)]
 pub enum FolderFault {
     /// The folder failed, and its count of faults rose.
     Failed,
@@ -50,8 +52,17 @@ impl<T: Drop> From<AllocFailed<T>> for FolderFault {
     }
 }
 
+impl From<io::Error> for FolderFault {
+    fn from(error: io::Error) -> FolderFault {
+        match error.kind() {
+            ErrorKind::OutOfMemory => FolderFault::Memory,
+            _ => FolderFault::Failed,
+        }
+    }
+}
+
 /// A write failed, and the sink's count of faults rose.
-#[derive(Clone, Copy, Debug, PartialEq, Eq)]
+#[derive(Clone, Copy, PartialEq, Eq)]
 pub struct Failed;
 
 /// A folder of files.
@@ -139,7 +150,7 @@ pub trait Gate {
 }
 
 /// A gate that holds nobody up.
-#[derive(Clone, Copy, Debug)]
+#[derive(Clone, Copy)]
 pub struct OpenGate;
 
 impl Gate for OpenGate {

@@ -10,14 +10,14 @@ use std::marker::Model;
 const MOST_INSIDE: usize = 16;
 
 /// Where the bytes of a text lie. Most tokens are short, so that they take no memory of their own.
-#[derive(Debug, Drop)]
+#[derive(Drop)]
 enum Inner {
     Short(ArrayString<MOST_INSIDE>),
     Long(String),
 }
 
 /// A text, which contracts see as the list of its bytes and nothing more.
-#[derive(Debug, Drop)]
+#[derive(Drop)]
 pub struct Text {
     inner: Inner,
 }

@@ -2,6 +2,8 @@
 #![tactic(auto)]
 
 mod laws;
+#[cfg(test)]
+mod outside;
 mod request;
 mod run;
 mod said;
@@ -10,7 +12,8 @@ mod status;
 mod tests;
 mod writing;
 
-use racer_base::{DirFolder, OpenGate, StdSink};
+use disk_folder::DirFolder;
+use racer_base::{OpenGate, StdSink};
 use run::run;
 use status::Status;
 use std::io::ErrorKind;

@@ -6,7 +6,7 @@ ghost use Rattle.racer_cli.specs.Number.{number_of};
 use std::process::ExitCode;
 
 /// How a run ended.
-#[derive(Clone, Copy, Debug, PartialEq, Eq)]
+#[derive(Clone, Copy, PartialEq, Eq)]
 pub enum Status {
     /// A report without a warning was written whole.
     Clean,

@@ -288,19 +288,22 @@ fn held<R: Threads + Wait + Sync>(rt: &R, alloc: Global, rows: &[Row]) -> Result
 
 #[test]
 fn calls(rt: HostRuntime) -> Result<(), Fail> {
-    assert_eq!(rt; held(&rt, rt.alloc(), CALLS)?, CALLS.len());
+    assert!(rt; held(&rt, rt.alloc(), CALLS)? == CALLS.len());
     assert!(rt; Status::Usage.exit_code() == ExitCode::from(2));
     Ok(())
 }
 
 #[test]
 fn sources(rt: HostRuntime) -> Result<(), Fail> {
-    assert_eq!(rt; held(&rt, rt.alloc(), SOURCES)?, SOURCES.len());
+    assert!(rt; held(&rt, rt.alloc(), SOURCES)? == SOURCES.len());
     Ok(())
 }
 
-#[test]
-fn every_write_fails_once(rt: HostRuntime) -> Result<(), Fail> {
+/// How many writes of one byte, from the first, each end a run with what was written before where they fail.
+fn failing_writes_that_hold<R: Threads + Wait + Sync>(
+    rt: &R,
+    alloc: Global,
+) -> Result<usize, Fail> {
     for at in 0..EMPTY.len() {
         let failing = [at as u32];
         let row = Row {
@@ -310,7 +313,15 @@ fn every_write_fails_once(rt: HostRuntime) -> Result<(), Fail> {
             text: &EMPTY[..at],
             ..PLAIN
         };
-        assert!(rt; holds(&rt, rt.alloc(), &row)?, "write {at}");
+        if !holds(rt, alloc, &row)? {
+            return Ok(at);
+        }
     }
+    Ok(EMPTY.len())
+}
+
+#[test]
+fn every_write_fails_once(rt: HostRuntime) -> Result<(), Fail> {
+    assert!(rt; failing_writes_that_hold(&rt, rt.alloc())? == EMPTY.len());
     Ok(())
 }

@@ -12,7 +12,7 @@ use std::alloc::Global;
 use wobbly_paths::{Adding, Wobbly};
 
 /// Why going through code stops before its end.
-#[derive(Clone, Copy, Debug, PartialEq, Eq)]
+#[derive(Clone, Copy)]
 pub enum Stop {
     /// There are too many records or wobbly paths, or a call of a method that has too many is reached.
     Large,

@@ -1,3 +1,2 @@
 pub mod BracketPairs
 pub mod Chains
-pub mod SameSpellings

@@ -9,4 +9,4 @@ mod statements;
 mod tokens;
 mod types;
 
-pub use spellings::{spell, spell_the_same};
+pub use spellings::spell;

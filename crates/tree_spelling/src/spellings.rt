@@ -1,8 +1,7 @@
-//! The tokens of a method, and what those of two methods say of their trees.
-ghost use Rattle.std.specs.Prelude.{◌≡◌, ◌↔◌, IsTrue, IfOk};
+//! The tokens of a method.
+ghost use Rattle.std.specs.Prelude.{◌≡◌, IfOk};
 ghost use Rattle.java_tree.specs.Spelling.{spelling};
 ghost use Rattle.java_tree.specs.View.{method_of};
-ghost use Rattle.java_tree.specs.Formed.{FormedMethod};
 
 use crate::methods::spell_method;
 use crate::tokens::Tokens;
@@ -27,16 +26,4 @@ pub fn spell(alloc: Global, tree: &MethodTree) -> Result<Vec<Spelled>, Memory>
         return Err(Memory);
     }
     Ok(out.items.into_vec())
-}
-
-/// Whether two formed methods spell the same tokens. They do where they are equal, places aside, and nowhere
-/// else: the tokens of a method have one formed tree.
-pub fn spell_the_same(alloc: Global, a: &MethodTree, b: &MethodTree) -> Result<bool, Memory>
-    requires left { FormedMethod (method_of a.now) }
-    requires right { FormedMethod (method_of b.now) }
-    ensures { IfOk result (λ same. IsTrue same ↔ (method_of a.now ≡ method_of b.now)) }
-{
-    let left = spell(alloc, a)?;
-    let right = spell(alloc, b)?;
-    Ok(left.as_slice() == right.as_slice())
 }

@@ -13,7 +13,7 @@ use std::collections::BTreeSet;
 use std::marker::Model;
 
 /// What became of something that was to be added.
-#[derive(Clone, Copy, Debug, PartialEq, Eq)]
+#[derive(Clone, Copy)]
 pub enum Adding {
     Added,
     /// It was there already.

@@ -10,7 +10,7 @@ mod tokens;
 mod trees;
 mod units;
 
-use racer_base::DirFolder;
+use disk_folder::DirFolder;
 use shown::put_shown;
 use std::{env, io};
 

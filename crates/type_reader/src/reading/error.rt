@@ -5,7 +5,7 @@ ghost use Rattle.type_reader.specs.declared.reading.error.ReadError.TheVariants 
 use racer_base::Memory;
 use std::alloc::{AllocError, AllocFailed};
 
-#[derive(Clone, Copy, Debug, PartialEq, Eq)]
+#[derive(Clone, Copy)]
 pub enum ReadError {
     /// No formed tree of a nesting within the limit is spelled here.
     Unformed,
