@@ -20,7 +20,7 @@ use racer_base::{Folder, FolderFault, Memory, Text};
 use std::alloc::Global;
 use std::sync::Arc;
 use transfer::outcomes;
-use warning_marks::marks_of;
+use witness_build::marks_of;
 
 /// The usage line.
 const USAGE: &str =

@@ -7,3 +7,4 @@ pub mod SaidOfWays
 pub mod FoundPrefixes
 pub mod LegSteps
 pub mod WarningMarks
+pub mod WholeWarnings

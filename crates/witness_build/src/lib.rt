@@ -1,4 +1,4 @@
-//! The mark of a warning: what is known of it, with a run that ends in a race where it is confirmed.
+//! The marks of warnings: what is known of each, with a run that ends in a race where it is confirmed.
 //!
 //! The definition stands in `specs/Marks.antt` of `core_ways`, over the two entries of a warning and the numbers of
 //! their records; `specs/Warned.antt` says which these are.
@@ -7,8 +7,11 @@
 mod both;
 mod driving;
 mod found;
+pub mod laws;
 mod marking;
+mod marks;
 mod objects;
 mod prefixes;
 
 pub use marking::mark;
+pub use marks::marks_of;

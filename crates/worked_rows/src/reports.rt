@@ -11,7 +11,7 @@ use racer_base::{Folder, FolderFault, Memory};
 use std::alloc::Global;
 use std::sync::Arc;
 use transfer::outcomes;
-use warning_marks::marks_of;
+use witness_build::marks_of;
 
 /// Puts the report in this mode.
 fn put_report(

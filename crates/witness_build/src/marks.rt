@@ -5,13 +5,13 @@ ghost use Rattle.access_domain.specs.Outcomes.{AreOutcomes};
 ghost use Rattle.core_ways.specs.Marks.{said_by};
 ghost use Rattle.witness_build.specs.Warned.{warning_mark};
 
+use crate::mark;
 use access_domain::Outcomes;
 use core_code::Program;
 use core_ways::Mark;
 use race_pairs::Warning;
 use racer_base::Memory;
 use std::alloc::Global;
-use witness_build::mark;
 
 /// The marks of these warnings of a program whose methods have these outcomes, in order.
 pub fn marks_of(
