@@ -2,7 +2,7 @@
 use racer_base::{ClassId, FieldId, MethodId, Place, SiteId, VarId};
 
 /// One operation on the variables and the operand stack of a method.
-#[derive(Clone, Copy, Debug)]
+#[derive(Clone, Copy)]
 pub enum Op {
     /// Pushes the value of a variable.
     Push(VarId),
@@ -45,7 +45,7 @@ pub enum Code {
 }
 
 /// Why a method is not analysed. Of several the first applies.
-#[derive(Clone, Copy, Debug)]
+#[derive(Clone, Copy)]
 pub enum Reason {
     /// An earlier or later method of its class has its name and its number of parameters.
     Overload,

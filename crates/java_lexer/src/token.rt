@@ -3,7 +3,7 @@ use racer_base::{Items, Place, Text};
 
 /// The kind of a token (JLS 3.5). The fixed words are `true`, `false` and `null`; a sign is a separator
 /// or an operator.
-#[derive(Clone, Copy, Debug, PartialEq, Eq)]
+#[derive(Clone, Copy, PartialEq, Eq)]
 pub enum TokenKind {
     Keyword,
     Fixed,

@@ -5,19 +5,19 @@
 pub struct FileId(pub u32);
 
 /// The number of a class, from 0 in source order.
-#[derive(Clone, Copy, Debug, PartialEq, Eq)]
+#[derive(Clone, Copy, PartialEq, Eq)]
 pub struct ClassId(pub u32);
 
 /// The number of a field among those of all classes, from 0 in source order.
-#[derive(Clone, Copy, Debug, PartialEq, Eq, PartialOrd, Ord)]
+#[derive(Clone, Copy, PartialEq, Eq, PartialOrd, Ord)]
 pub struct FieldId(pub u32);
 
 /// The number of a method among those of all classes, from 0 in source order.
-#[derive(Clone, Copy, Debug, PartialEq, Eq)]
+#[derive(Clone, Copy, PartialEq, Eq)]
 pub struct MethodId(pub u32);
 
 /// The number of a variable of a method: `this` of an instance method, then parameters, then locals.
-#[derive(Clone, Copy, Debug, PartialEq, Eq)]
+#[derive(Clone, Copy, PartialEq, Eq)]
 pub struct VarId(pub u32);
 
 /// The number of an operation of a method, from 0 in reading order.
@@ -33,7 +33,7 @@ pub struct Place {
 }
 
 /// The kind of a type: a primitive one, a class of the folder, or any other (JLS 4.1).
-#[derive(Clone, Copy, Debug, PartialEq, Eq)]
+#[derive(Clone, Copy, PartialEq, Eq)]
 pub enum Kind {
     Plain,
     Declared(ClassId),

@@ -4,6 +4,7 @@
 #![tactic(auto)]
 
 mod methods;
+mod page;
 mod reports;
 mod shown;
 mod tokens;
@@ -11,6 +12,7 @@ mod trees;
 mod units;
 
 use disk_folder::DirFolder;
+use page::Page;
 use shown::put_shown;
 use std::{env, io};
 
@@ -18,9 +20,10 @@ fn main(rt: HostRuntime) -> io::Result<()> {
     let alloc = rt.alloc();
     let mut folder = DirFolder::new(rt.clone()?);
     for word in env::args(&rt)?.skip(1) {
-        let mut out = String::new(alloc);
-        put_shown(alloc, &mut folder, &mut out, word.as_str())?;
-        print!(rt; "{out}")?;
+        let mut page = Page::new(alloc);
+        put_shown(alloc, &mut folder, &mut page, word.as_str())?;
+        let text = page.into_text()?;
+        print!(rt; "{text}")?;
     }
     Ok(())
 }

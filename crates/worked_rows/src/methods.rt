@@ -1,116 +1,171 @@
 //! The program of a folder: its classes, fields and methods with their code, a line each.
-use crate::tokens::put_named;
-use core_code::{ClassCore, Code, FieldCore, MethodCore, Program};
+use crate::page::Page;
+use core_code::{ClassCore, Code, FieldCore, MethodCore, Op, Program, Reason};
 use folder_programs::FoundProgram;
-use racer_base::Kind;
-use std::alloc::AllocError;
+use racer_base::{Kind, Place};
+
+/// An operation, and the numbers of what it names.
+fn put_operation(page: &mut Page, op: Op) {
+    match op {
+        Op::Push(variable) => page.put_counted(" Push", variable.0 as usize),
+        Op::PushClass(class) => page.put_counted(" PushClass", class.0 as usize),
+        Op::PushPrim => page.put(" PushPrim"),
+        Op::PushNull => page.put(" PushNull"),
+        Op::New(class) => page.put_counted(" New", class.0 as usize),
+        Op::Dup => page.put(" Dup"),
+        Op::Drop => page.put(" Drop"),
+        Op::Get(field) => page.put_counted(" Get", field.0 as usize),
+        Op::Put(field) => page.put_counted(" Put", field.0 as usize),
+        Op::Set(variable) => page.put_counted(" Set", variable.0 as usize),
+        Op::Prim(count) => page.put_counted(" Prim", count as usize),
+        Op::Outside(count) => page.put_counted(" Outside", count as usize),
+        Op::Call(method, count) => put_call(page, " Call", method.0, count),
+        Op::Unread(method, count) => put_call(page, " Unread", method.0, count),
+        Op::Ret => page.put(" Ret"),
+    }
+}
+
+/// A call of a method with so many values.
+fn put_call(page: &mut Page, word: &str, method: u32, count: u32) {
+    page.put_counted(word, method as usize);
+    page.put_counted("", count as usize);
+}
+
+/// A place behind what stands there.
+fn put_at(page: &mut Page, place: Place) {
+    page.put("@");
+    page.put_place(place);
+}
 
 /// The operations with their places, the sides of a choice in `( | )`, a loop in `{ }`, what is held in `[ ]`.
-fn put_code(out: &mut String, code: &Code) -> Result<(), AllocError> {
+fn put_code(page: &mut Page, code: &Code) {
     match code {
-        Code::Op(_, place, op) => write!(out, " {op:?}@{}:{}", place.line, place.column),
+        Code::Op(_, place, op) => {
+            put_operation(page, *op);
+            put_at(page, *place);
+        }
         Code::Seq(parts) => {
             for part in parts {
-                put_code(out, part)?;
+                put_code(page, part);
             }
-            Ok(())
         }
         Code::Choice(left, right) => {
-            out.push_str(" (")?;
-            put_code(out, left)?;
-            out.push_str(" |")?;
-            put_code(out, right)?;
-            out.push_str(" )")
+            page.put(" (");
+            put_code(page, left);
+            page.put(" |");
+            put_code(page, right);
+            page.put(" )");
         }
         Code::Loop(body) => {
-            out.push_str(" {")?;
-            put_code(out, body)?;
-            out.push_str(" }")
+            page.put(" {");
+            put_code(page, body);
+            page.put(" }");
         }
         Code::Sync(place, body) => {
-            write!(out, " [@{}:{}", place.line, place.column)?;
-            put_code(out, body)?;
-            out.push_str(" ]")
+            page.put(" [");
+            put_at(page, *place);
+            put_code(page, body);
+            page.put(" ]");
         }
     }
 }
 
-fn put_class(out: &mut String, class: &ClassCore) -> Result<(), AllocError> {
-    let checked = class.checked;
-    write!(out, "class {} checked {checked}\n", class.name.as_str())
+fn put_class(page: &mut Page, class: &ClassCore) {
+    page.put("class ");
+    page.put(class.name.as_str());
+    page.put_flag(" checked", class.checked);
+    page.put("\n");
 }
 
-fn put_field(out: &mut String, field: &FieldCore) -> Result<(), AllocError> {
-    let (class, kind) = (field.class.0, field.kind);
-    let (is_static, recorded) = (field.is_static, field.recorded);
-    write!(out, "field {class}.{} {kind:?}", field.name.as_str())?;
-    write!(out, " static {is_static} recorded {recorded}\n")
+fn put_field(page: &mut Page, field: &FieldCore) {
+    page.put_counted("field", field.class.0 as usize);
+    page.put(".");
+    page.put(field.name.as_str());
+    put_kind(page, field.kind);
+    page.put_flag(" static", field.is_static);
+    page.put_flag(" recorded", field.recorded);
+    page.put("\n");
 }
 
-fn put_kinds(out: &mut String, kinds: &[Kind]) -> Result<(), AllocError> {
+fn put_kind(page: &mut Page, kind: Kind) {
+    match kind {
+        Kind::Plain => page.put(" Plain"),
+        Kind::Declared(class) => page.put_counted(" Declared", class.0 as usize),
+        Kind::Other => page.put(" Other"),
+    }
+}
+
+fn put_kinds(page: &mut Page, kinds: &[Kind]) {
     for kind in kinds {
-        write!(out, " {kind:?}")?;
-    }
-    Ok(())
-}
-
-fn put_head(out: &mut String, method: &MethodCore) -> Result<(), AllocError> {
-    let (class, place, result) = (method.class.0, method.place, method.result);
-    write!(
-        out,
-        "method {}:{} {class}.{}",
-        place.line,
-        place.column,
-        method.name.as_str()
-    )?;
-    put_kinds(out, method.parameters.as_slice())?;
-    write!(out, " to {result:?} variables")?;
-    put_kinds(out, method.variables.as_slice())
-}
-
-fn put_flags(out: &mut String, method: &MethodCore) -> Result<(), AllocError> {
-    let (is_static, entry, main) = (method.is_static, method.entry, method.main);
-    write!(out, " static {is_static} entry {entry} main {main}")?;
-    match method.status {
-        None => out.push_str("\n "),
-        Some(reason) => write!(out, " {reason:?}\n "),
+        put_kind(page, *kind);
     }
 }
 
-fn put_method(out: &mut String, method: &MethodCore) -> Result<(), AllocError> {
-    put_head(out, method)?;
-    put_flags(out, method)?;
-    put_code(out, &method.code)?;
-    out.push('\n')
+fn put_head(page: &mut Page, method: &MethodCore) {
+    page.put("method ");
+    page.put_place(method.place);
+    page.put_counted("", method.class.0 as usize);
+    page.put(".");
+    page.put(method.name.as_str());
+    put_kinds(page, method.parameters.as_slice());
+    page.put(" to");
+    put_kind(page, method.result);
+    page.put(" variables");
+    put_kinds(page, method.variables.as_slice());
 }
 
-fn put_classes(out: &mut String, program: &Program) -> Result<(), AllocError> {
+fn reason_word(reason: Reason) -> &'static str {
+    match reason {
+        Reason::Overload => " Overload",
+        Reason::Outside => " Outside",
+        Reason::Parameters => " Parameters",
+        Reason::Locals => " Locals",
+        Reason::Recursive => " Recursive",
+    }
+}
+
+fn put_flags(page: &mut Page, method: &MethodCore) {
+    page.put_flag(" static", method.is_static);
+    page.put_flag(" entry", method.entry);
+    page.put_flag(" main", method.main);
+    if let Some(reason) = method.status {
+        page.put(reason_word(reason));
+    }
+    page.put("\n ");
+}
+
+fn put_method(page: &mut Page, method: &MethodCore) {
+    put_head(page, method);
+    put_flags(page, method);
+    put_code(page, &method.code);
+    page.put("\n");
+}
+
+fn put_classes(page: &mut Page, program: &Program) {
     for class in program.classes() {
-        put_class(out, class)?;
+        put_class(page, class);
     }
     for field in program.fields() {
-        put_field(out, field)?;
+        put_field(page, field);
     }
-    Ok(())
 }
 
-fn put_methods(out: &mut String, program: &Program) -> Result<(), AllocError> {
+fn put_methods(page: &mut Page, program: &Program) {
     for place in program.skipped() {
-        put_named(out, "skipped ", *place)?;
+        page.put_line("skipped ", *place);
     }
     for method in program.methods() {
-        put_method(out, method)?;
+        put_method(page, method);
     }
-    Ok(())
 }
 
 /// A program, or the line of its refusal.
-pub fn put_program(out: &mut String, found: &FoundProgram) -> Result<(), AllocError> {
+pub fn put_program(page: &mut Page, found: &FoundProgram) {
     match found {
         FoundProgram::Accepted(program) => {
-            put_classes(out, program)?;
-            put_methods(out, program)
+            put_classes(page, program);
+            put_methods(page, program);
         }
-        FoundProgram::Refused(line) => out.push_str(line.as_str()),
+        FoundProgram::Refused(line) => page.put(line.as_str()),
     }
 }

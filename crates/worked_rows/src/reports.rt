@@ -2,12 +2,14 @@
 ghost use Rattle.core_code.specs.Program.{core};
 ghost use Rattle.access_domain.specs.Outcomes.{AreOutcomes};
 
+use crate::page::Page;
 use access_domain::Outcomes;
 use core_code::Program;
+use disk_folder::DirFolder;
 use folder_programs::{FoundProgram, folder_program};
 use race_pairs::warnings;
 use race_report::{Mode, report_text};
-use racer_base::{Folder, FolderFault, Memory};
+use racer_base::{FolderFault, Memory};
 use std::alloc::Global;
 use std::sync::Arc;
 use transfer::outcomes;
@@ -16,7 +18,7 @@ use witness_build::marks_of;
 /// Puts the report in this mode.
 fn put_report(
     alloc: Global,
-    out: &mut String,
+    page: &mut Page,
     json: bool,
     program: &Program,
     outcomes: &Outcomes,
@@ -37,31 +39,34 @@ fn put_report(
         found.as_slice(),
         marks.as_slice(),
     )?;
-    out.push_str(text.as_str())?;
+    page.put(text.as_str());
     Ok(())
 }
 
-fn put_reports(alloc: Global, out: &mut String, program: Program) -> Result<(), Memory> {
+fn put_reports(alloc: Global, page: &mut Page, program: Program) -> Result<(), Memory> {
     let program = Arc::new(alloc, program)?;
     let outcomes = outcomes(alloc, &program)?;
-    put_report(alloc, out, false, &*program, &outcomes)?;
-    put_report(alloc, out, true, &*program, &outcomes)
+    put_report(alloc, page, false, &*program, &outcomes)?;
+    put_report(alloc, page, true, &*program, &outcomes)
 }
 
-fn put_found(alloc: Global, out: &mut String, found: FoundProgram) -> Result<(), Memory> {
+fn put_found(alloc: Global, page: &mut Page, found: FoundProgram) -> Result<(), Memory> {
     match found {
-        FoundProgram::Accepted(program) => put_reports(alloc, out, program),
-        FoundProgram::Refused(line) => Ok(out.push_str(line.as_str())?),
+        FoundProgram::Accepted(program) => put_reports(alloc, page, program),
+        FoundProgram::Refused(line) => {
+            page.put(line.as_str());
+            Ok(())
+        }
     }
 }
 
 /// Puts both reports on a folder, or the line of its refusal.
-pub fn put_reports_on<F: Folder>(
+pub fn put_reports_on(
     alloc: Global,
-    folder: &mut F,
-    out: &mut String,
+    folder: &mut DirFolder<HostRuntime>,
+    page: &mut Page,
     name: &str,
 ) -> Result<(), FolderFault> {
     let found = folder_program(alloc, folder, name)?;
-    Ok(put_found(alloc, out, found)?)
+    Ok(put_found(alloc, page, found)?)
 }

@@ -1,12 +1,14 @@
 //! What one word asks to be shown.
 use crate::methods::put_program;
+use crate::page::Page;
 use crate::reports::put_reports_on;
 use crate::tokens::{put_fault, put_tokens};
 use crate::units::put_unit;
+use disk_folder::DirFolder;
 use folder_programs::folder_program;
 use java_lexer::{Lexed, lex};
 use racer_base::{FileId, Folder, FolderFault};
-use std::alloc::{AllocError, Global};
+use std::alloc::Global;
 use std::io;
 use std::io::ErrorKind;
 
@@ -17,7 +19,7 @@ const MOST: usize = 1_048_576;
 const SEPARATOR: u8 = 0x1e;
 
 /// What is shown of each row of a file.
-#[derive(Clone, Copy, PartialEq, Eq)]
+#[derive(Clone, Copy)]
 enum Shows {
     Tokens,
     Units,
@@ -30,88 +32,91 @@ fn error_of(fault: FolderFault) -> io::Error {
     }
 }
 
-fn put_lexed(
-    alloc: Global,
-    out: &mut String,
-    shows: Shows,
-    lexed: &Lexed,
-) -> Result<(), AllocError> {
+fn put_lexed(alloc: Global, page: &mut Page, shows: Shows, lexed: &Lexed) {
     match shows {
-        Shows::Tokens => put_tokens(out, lexed),
-        Shows::Units => put_unit(alloc, out, lexed),
+        Shows::Tokens => put_tokens(page, lexed),
+        Shows::Units => put_unit(alloc, page, lexed),
     }
 }
 
-fn put_row(alloc: Global, out: &mut String, shows: Shows, row: &[u8]) -> Result<(), AllocError> {
+fn put_row(alloc: Global, page: &mut Page, shows: Shows, row: &[u8]) {
     match lex(alloc, FileId(0), row) {
-        Ok(lexed) => put_lexed(alloc, out, shows, &lexed),
-        Err(fault) => put_fault(out, fault),
+        Ok(lexed) => put_lexed(alloc, page, shows, &lexed),
+        Err(fault) => put_fault(page, fault),
     }
 }
 
 /// Each row, and its number before it.
-fn put_rows(alloc: Global, out: &mut String, shows: Shows, bytes: &[u8]) -> Result<(), AllocError> {
+fn put_rows(alloc: Global, page: &mut Page, shows: Shows, bytes: &[u8]) {
     let mut begin: usize = 0;
     let mut number: usize = 0;
     for (end, byte) in bytes.iter().enumerate() {
         if *byte == SEPARATOR {
             number = number.saturating_add(1);
-            write!(out, "{number}\n")?;
-            put_row(alloc, out, shows, bytes.get(begin..end).unwrap_or(&[]))?;
+            page.put_number(number);
+            page.put("\n");
+            put_row(alloc, page, shows, bytes.get(begin..end).unwrap_or(&[]));
             begin = end.saturating_add(1);
         }
     }
-    Ok(())
 }
 
 /// The bytes of the file of this name.
-fn bytes_of<F: Folder>(alloc: Global, folder: &mut F, name: &str) -> Result<Vec<u8>, FolderFault> {
+fn bytes_of(
+    alloc: Global,
+    folder: &mut DirFolder<HostRuntime>,
+    name: &str,
+) -> Result<Vec<u8>, FolderFault> {
     folder.enter(alloc, ".")?;
     folder.read(alloc, name, MOST)
 }
 
-fn put_file<F: Folder>(
+fn put_file(
     alloc: Global,
-    folder: &mut F,
-    out: &mut String,
+    folder: &mut DirFolder<HostRuntime>,
+    page: &mut Page,
     shows: Shows,
     name: &str,
 ) -> Result<(), FolderFault> {
     let bytes = bytes_of(alloc, folder, name)?;
-    Ok(put_rows(alloc, out, shows, bytes.as_slice())?)
+    put_rows(alloc, page, shows, bytes.as_slice());
+    Ok(())
 }
 
-fn put_folder<F: Folder>(
+fn put_folder(
     alloc: Global,
-    folder: &mut F,
-    out: &mut String,
+    folder: &mut DirFolder<HostRuntime>,
+    page: &mut Page,
     name: &str,
 ) -> Result<(), FolderFault> {
     let found = folder_program(alloc, folder, name)?;
-    Ok(put_program(out, &found)?)
+    put_program(page, &found);
+    Ok(())
 }
 
-fn put_word<F: Folder>(
+fn put_word(
     alloc: Global,
-    folder: &mut F,
-    out: &mut String,
+    folder: &mut DirFolder<HostRuntime>,
+    page: &mut Page,
     word: &str,
 ) -> Result<(), FolderFault> {
     match word {
-        "tokens.rows" => put_file(alloc, folder, out, Shows::Tokens, word),
-        "units.rows" => put_file(alloc, folder, out, Shows::Units, word),
-        name if name.starts_with("report/") => put_reports_on(alloc, folder, out, name),
-        name => put_folder(alloc, folder, out, name),
+        "tokens.rows" => put_file(alloc, folder, page, Shows::Tokens, word),
+        "units.rows" => put_file(alloc, folder, page, Shows::Units, word),
+        name if name.starts_with("report/") => put_reports_on(alloc, folder, page, name),
+        name => put_folder(alloc, folder, page, name),
     }
 }
 
 /// The word, and below it what is read there.
-pub fn put_shown<F: Folder>(
+pub fn put_shown(
     alloc: Global,
-    folder: &mut F,
-    out: &mut String,
+    folder: &mut DirFolder<HostRuntime>,
+    page: &mut Page,
     word: &str,
 ) -> io::Result<()> {
-    write!(out, "== {word}\n")?;
-    put_word(alloc, folder, out, word).map_err(error_of)
+    page.put("== ");
+    page.put(word);
+    page.put("\n");
+    put_word(alloc, folder, page, word).map_err(error_of)
 }

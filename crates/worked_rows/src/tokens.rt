@@ -1,43 +1,48 @@
 //! Tokens and faults, a line each.
-use java_lexer::{LexFault, Lexed, Token};
-use racer_base::Place;
-use std::alloc::AllocError;
+use crate::page::Page;
+use java_lexer::{LexFault, Lexed, Token, TokenKind};
 
-/// Line and column.
-pub fn put_place(out: &mut String, place: Place) -> Result<(), AllocError> {
-    write!(out, "{}:{}", place.line, place.column)
+fn kind_word(kind: TokenKind) -> &'static str {
+    match kind {
+        TokenKind::Keyword => " Keyword ",
+        TokenKind::Fixed => " Fixed ",
+        TokenKind::Name => " Name ",
+        TokenKind::Number => " Number ",
+        TokenKind::Character => " Character ",
+        TokenKind::Text => " Text ",
+        TokenKind::Sign => " Sign ",
+    }
 }
 
 /// A token, with a `+` before it where it is glued to the one before.
-fn put_token(out: &mut String, token: &Token) -> Result<(), AllocError> {
+fn put_token(page: &mut Page, token: &Token) {
     if token.glued {
-        out.push('+')?;
+        page.put("+");
     }
-    put_place(out, token.place)?;
-    write!(out, " {:?} {}\n", token.kind, token.text.as_str())
+    page.put_place(token.place);
+    page.put(kind_word(token.kind));
+    page.put(token.text.as_str());
+    page.put("\n");
 }
 
 /// The tokens, and the place of the text's end.
-pub fn put_tokens(out: &mut String, lexed: &Lexed) -> Result<(), AllocError> {
+pub fn put_tokens(page: &mut Page, lexed: &Lexed) {
     for token in lexed.tokens.as_slice() {
-        put_token(out, token)?;
+        put_token(page, token);
     }
-    put_place(out, lexed.end)?;
-    out.push_str(" end\n")
+    page.put_place(lexed.end);
+    page.put(" end\n");
 }
 
-pub fn put_named(out: &mut String, what: &str, place: Place) -> Result<(), AllocError> {
-    out.push_str(what)?;
-    put_place(out, place)?;
-    out.push('\n')
-}
-
-pub fn put_fault(out: &mut String, fault: LexFault) -> Result<(), AllocError> {
+pub fn put_fault(page: &mut Page, fault: LexFault) {
     match fault {
-        LexFault::Memory => out.push_str("memory\n"),
-        LexFault::NotUtf8(offset) => write!(out, "not utf8 at {offset}\n"),
-        LexFault::BadCharacter(place) => put_named(out, "bad character ", place),
-        LexFault::Unclosed(place) => put_named(out, "unclosed ", place),
-        LexFault::BadLiteral(place) => put_named(out, "bad literal ", place),
+        LexFault::Memory => page.put("memory\n"),
+        LexFault::NotUtf8(offset) => {
+            page.put_counted("not utf8 at", offset);
+            page.put("\n");
+        }
+        LexFault::BadCharacter(place) => page.put_line("bad character ", place),
+        LexFault::Unclosed(place) => page.put_line("unclosed ", place),
+        LexFault::BadLiteral(place) => page.put_line("bad literal ", place),
     }
 }

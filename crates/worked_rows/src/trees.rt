@@ -1,95 +1,84 @@
 //! The parts of members, as one line says them.
+use crate::page::Page;
 use java_tree::{
     AnnotationTree, BaseType, FieldInitialiser, FieldVariable, ModifierTree, ParameterTree,
     ResultTree, TypeTree,
 };
 use java_units::HeadResult;
-use racer_base::Text;
-use std::alloc::AllocError;
 
-/// Each name, with a space before it.
-pub fn put_names(out: &mut String, names: &[Text]) -> Result<(), AllocError> {
-    for name in names {
-        out.push(' ')?;
-        out.push_str(name.as_str())?;
-    }
-    Ok(())
+/// A word, with a space before it.
+pub fn put_word(page: &mut Page, word: &str) {
+    page.put(" ");
+    page.put(word);
 }
 
 /// An annotation: its names, and what stands in its brackets.
-pub fn put_annotation(out: &mut String, annotation: &AnnotationTree) -> Result<(), AllocError> {
-    out.push_str(" @")?;
-    put_names(out, annotation.names.as_slice())?;
+pub fn put_annotation(page: &mut Page, annotation: &AnnotationTree) {
+    page.put(" @");
+    for name in annotation.names.as_slice() {
+        put_word(page, name.as_str());
+    }
     for argument in annotation.arguments.as_slice() {
-        out.push_str(" ")?;
-        out.push_str(argument.text.as_str())?;
+        put_word(page, argument.text.as_str());
     }
-    out.push_str(" @")
+    page.put(" @");
 }
 
-fn put_modifier(out: &mut String, modifier: &ModifierTree) -> Result<(), AllocError> {
+fn put_modifier(page: &mut Page, modifier: &ModifierTree) {
     match modifier {
-        ModifierTree::Word(text) => {
-            out.push(' ')?;
-            out.push_str(text.as_str())
-        }
-        ModifierTree::Annotated(annotation) => put_annotation(out, annotation),
+        ModifierTree::Word(text) => put_word(page, text.as_str()),
+        ModifierTree::Annotated(annotation) => put_annotation(page, annotation),
     }
 }
 
-pub fn put_modifiers(out: &mut String, modifiers: &[ModifierTree]) -> Result<(), AllocError> {
+pub fn put_modifiers(page: &mut Page, modifiers: &[ModifierTree]) {
     for modifier in modifiers {
-        put_modifier(out, modifier)?;
+        put_modifier(page, modifier);
     }
-    Ok(())
 }
 
-fn put_base(out: &mut String, base: &BaseType) -> Result<(), AllocError> {
+fn put_base(page: &mut Page, base: &BaseType) {
     match base {
-        BaseType::Plain(text) => {
-            out.push(' ')?;
-            out.push_str(text.as_str())
-        }
+        BaseType::Plain(text) => put_word(page, text.as_str()),
         BaseType::Named(parts) => {
             for part in parts {
-                out.push_str(" .")?;
-                out.push_str(part.name.text.as_str())?;
+                page.put(" .");
+                page.put(part.name.text.as_str());
             }
-            Ok(())
         }
     }
 }
 
 /// A type: its word or names, and its dimensions.
-pub fn put_type(out: &mut String, kind: &TypeTree) -> Result<(), AllocError> {
-    put_base(out, &kind.base)?;
-    write!(out, " {}", kind.arrays)
+pub fn put_type(page: &mut Page, kind: &TypeTree) {
+    put_base(page, &kind.base);
+    page.put_counted("", kind.arrays as usize);
 }
 
-pub fn put_result(out: &mut String, given: &ResultTree) -> Result<(), AllocError> {
+pub fn put_result(page: &mut Page, given: &ResultTree) {
     match given {
-        ResultTree::Constructor => out.push_str(" constructor"),
-        ResultTree::Void => out.push_str(" void"),
-        ResultTree::Of(kind) => put_type(out, kind),
+        ResultTree::Constructor => page.put(" constructor"),
+        ResultTree::Void => page.put(" void"),
+        ResultTree::Of(kind) => put_type(page, kind),
     }
 }
 
-pub fn put_head_result(out: &mut String, given: &HeadResult) -> Result<(), AllocError> {
+pub fn put_head_result(page: &mut Page, given: &HeadResult) {
     match given {
-        HeadResult::Constructor => out.push_str(" constructor"),
-        HeadResult::Void => out.push_str(" void"),
-        HeadResult::Unknown => out.push_str(" unknown"),
-        HeadResult::Formed(kind) => put_type(out, kind),
+        HeadResult::Constructor => page.put(" constructor"),
+        HeadResult::Void => page.put(" void"),
+        HeadResult::Unknown => page.put(" unknown"),
+        HeadResult::Formed(kind) => put_type(page, kind),
     }
 }
 
-pub fn put_parameters(out: &mut String, parameters: &[ParameterTree]) -> Result<(), AllocError> {
+pub fn put_parameters(page: &mut Page, parameters: &[ParameterTree]) {
     for parameter in parameters {
-        out.push_str(" (")?;
-        put_type(out, &parameter.kind)?;
-        write!(out, " {})", parameter.name.text.as_str())?;
+        page.put(" (");
+        put_type(page, &parameter.kind);
+        put_word(page, parameter.name.text.as_str());
+        page.put(")");
     }
-    Ok(())
 }
 
 fn initialiser_word(initialiser: &FieldInitialiser) -> &'static str {
@@ -100,11 +89,11 @@ fn initialiser_word(initialiser: &FieldInitialiser) -> &'static str {
     }
 }
 
-pub fn put_variables(out: &mut String, variables: &[FieldVariable]) -> Result<(), AllocError> {
+pub fn put_variables(page: &mut Page, variables: &[FieldVariable]) {
     for variable in variables {
-        write!(out, " ({}", variable.name.text.as_str())?;
-        out.push_str(initialiser_word(&variable.initialiser))?;
-        out.push(')')?;
+        page.put(" (");
+        page.put(variable.name.text.as_str());
+        page.put(initialiser_word(&variable.initialiser));
+        page.put(")");
     }
-    Ok(())
 }
