@@ -6,7 +6,6 @@
 
 mod both;
 mod driving;
-mod found;
 mod marking;
 mod objects;
 mod prefixes;
