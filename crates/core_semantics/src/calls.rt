@@ -44,8 +44,12 @@ fn enter<'a>(
         ∷ popped (behind running.old.frame) count ∷ callers_of running.old) }
     ensures err { OnErr result (frames_of running.new ≡ frames_of running.old) }
 {
-    running.callers.reserve(1)?;
-    let callee = Frame::entered(alloc, method, passed)?;
+    let Ok(()) = running.callers.reserve(1) else {
+        return Err(Memory);
+    };
+    let Ok(callee) = Frame::entered(alloc, method, passed) else {
+        return Err(Memory);
+    };
     running.frame.cut(count);
     let caller = mem::replace(&mut running.frame, callee);
     put_back(running, caller);

@@ -44,7 +44,9 @@ fn later_code<'a>(alloc: Global, code: &'a Code) -> Result<Pile<Later<'a>>, Memo
     ensures { IfOk result (λ laters. todo_of laters ≡ before (tree_of code.now) []) }
 {
     let mut laters = Pile::new(alloc);
-    laters.replace(0, Later::One(code))?;
+    let Ok(()) = laters.replace(0, Later::One(code)) else {
+        return Err(Memory);
+    };
     Ok(laters)
 }
 
@@ -57,8 +59,12 @@ impl<'a> Frame<'a> {
     ) -> Result<Frame<'a>, Memory>
         ensures { IfOk result (λ frame. frame_of frame ≡ entered (method_of method.now) passed.items) }
     {
-        let vars = with_nulls(passed, method.variables.len())?;
-        let laters = later_code(alloc, &method.code)?;
+        let Ok(vars) = with_nulls(passed, method.variables.len()) else {
+            return Err(Memory);
+        };
+        let Ok(laters) = later_code(alloc, &method.code) else {
+            return Err(Memory);
+        };
         Ok(Frame {
             vars,
             stack: Pile::new(alloc),
@@ -108,7 +114,12 @@ impl<'a> Frame<'a> {
         let all = self.stack.as_slice();
         let mut values = Vec::new(alloc);
         for value in &all[all.len().saturating_sub(count)..] {
-            values.push(value.copied(alloc)?)?;
+            let Ok(copy) = value.copied(alloc) else {
+                return Err(Memory);
+            };
+            let Ok(()) = values.push(copy) else {
+                return Err(Memory);
+            };
         }
         Ok(values)
     }
@@ -118,7 +129,9 @@ impl<'a> Frame<'a> {
         ensures ok { OnOk result (frame_of self.new ≡ replaced (behind self.old) count value) }
         ensures err { OnErr result (frame_of self.new ≡ frame_of self.old) }
     {
-        self.stack.replace(count, value)?;
+        let Ok(()) = self.stack.replace(count, value) else {
+            return Err(Memory);
+        };
         self.laters.cut(1);
         Ok(())
     }

@@ -83,8 +83,16 @@ pub(crate) fn settle<'a>(laters: &mut Pile<Later<'a>>) -> Result<Option<NextStep
         match unfold(later) {
             Unfolded::Next(next) => return Ok(Some(next)),
             Unfolded::Nothing => laters.cut(1),
-            Unfolded::One(part) => laters.replace(1, part)?,
-            Unfolded::Two(part, rest) => laters.replace_by_two(part, rest)?,
+            Unfolded::One(part) => {
+                let Ok(()) = laters.replace(1, part) else {
+                    return Err(Memory);
+                };
+            }
+            Unfolded::Two(part, rest) => {
+                let Ok(()) = laters.replace_by_two(part, rest) else {
+                    return Err(Memory);
+                };
+            }
         }
     }
     Ok(None)

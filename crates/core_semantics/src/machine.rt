@@ -58,17 +58,14 @@ fn push_parameters(
     ensures { OnOk result (values.new.items ≡ values.old.items ++ parameters_from thread 0 kinds.now) }
 {
     for (index, kind) in kinds.iter().enumerate() {
-        let number = number_of(index)?;
-        values.push(parameter(alloc, thread, number, *kind))?;
+        let Ok(number) = u32::try_from(index) else {
+            return Err(Memory);
+        };
+        let Ok(()) = values.push(parameter(alloc, thread, number, *kind)) else {
+            return Err(Memory);
+        };
     }
     Ok(())
-}
-
-/// An index as a number.
-fn number_of(index: usize) -> Result<u32, Memory>
-    ensures { IfOk result (λ number. number ≡ index) }
-{
-    u32::try_from(index).map_err(|_| Memory)
 }
 
 /// What the entry of a thread is given.
@@ -77,9 +74,13 @@ fn given_to(alloc: Global, thread: u32, method: &MethodCore) -> Result<Vec<Value
 {
     let mut values = Vec::new(alloc);
     if !method.is_static {
-        values.push(root_object(alloc, StartRoot::This))?;
+        let Ok(()) = values.push(root_object(alloc, StartRoot::This)) else {
+            return Err(Memory);
+        };
     }
-    push_parameters(alloc, thread, method.parameters.as_slice(), &mut values)?;
+    let Ok(()) = push_parameters(alloc, thread, method.parameters.as_slice(), &mut values) else {
+        return Err(Memory);
+    };
     Ok(values)
 }
 
@@ -88,8 +89,12 @@ fn running_at<'a>(alloc: Global, thread: u32, method: &'a MethodCore) -> Result<
     ensures { IfOk result (λ running.
         frames_of running ≡ entered (method_of method.now) (given_to thread (method_of method.now)) ∷ []) }
 {
-    let values = given_to(alloc, thread, method)?;
-    let frame = Frame::entered(alloc, method, values)?;
+    let Ok(values) = given_to(alloc, thread, method) else {
+        return Err(Memory);
+    };
+    let Ok(frame) = Frame::entered(alloc, method, values) else {
+        return Err(Memory);
+    };
     Ok(Running {
         frame,
         callers: Vec::new(alloc),
@@ -111,7 +116,9 @@ fn thread_at<'a>(
             locks: Pile::new(alloc),
         });
     };
-    let running = running_at(alloc, thread, method)?;
+    let Ok(running) = running_at(alloc, thread, method) else {
+        return Err(Memory);
+    };
     Ok(Thread {
         running: Some(running),
         locks: Pile::new(alloc),
@@ -149,9 +156,15 @@ pub fn begin<'a>(
 ) -> Result<Machine<'a>, Memory>
     ensures { IfOk result (λ machine. state_of machine ≡ begun (core program.now) m1 m2 start) }
 {
-    let heap = Heap::of(alloc, start)?;
-    let first = thread_at(alloc, program, 0, m1)?;
-    let second = thread_at(alloc, program, 1, m2)?;
+    let Ok(heap) = Heap::of(alloc, start) else {
+        return Err(Memory);
+    };
+    let Ok(first) = thread_at(alloc, program, 0, m1) else {
+        return Err(Memory);
+    };
+    let Ok(second) = thread_at(alloc, program, 1, m2) else {
+        return Err(Memory);
+    };
     Ok(machine_of(alloc, heap, first, second))
 }
 

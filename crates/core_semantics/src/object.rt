@@ -77,7 +77,9 @@ impl StartPath {
         ensures { IfOk result (λ path. path ≡ lengthened self.now f) }
     {
         let mut fields = Vec::from_slice(alloc, self.fields.as_slice())?;
-        fields.push(f)?;
+        let Ok(()) = fields.push(f) else {
+            return Err(Memory);
+        };
         Ok(StartPath {
             root: self.root,
             fields: Items::from(fields),

@@ -72,7 +72,9 @@ impl<T> Pile<T> {
     {
         let kept = self.items.len().saturating_sub(count);
         if kept == self.items.len() {
-            self.items.push(item)?;
+            let Ok(()) = self.items.push(item) else {
+                return Err(Memory);
+            };
         } else {
             self.items[kept] = item;
             self.items.truncate(kept + 1);
@@ -89,7 +91,9 @@ impl<T> Pile<T> {
         ensures err { OnErr result (self.new ≡ self.old) }
     {
         let last = self.items.len() - 1;
-        self.items.push(first)?;
+        let Ok(()) = self.items.push(first) else {
+            return Err(Memory);
+        };
         self.items[last] = second;
         Ok(())
     }

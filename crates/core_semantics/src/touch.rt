@@ -2,7 +2,7 @@
 ghost use Rattle.std.specs.Prelude.{◌≡◌, IfOk, option_map};
 ghost use Rattle.core_code.specs.Program.{core};
 ghost use Rattle.core_semantics.specs.Runs.{access_of, frame_touch, is_turn, next_todo, next_touch, place, place_of};
-ghost use Rattle.core_semantics.specs.Runs.{next_value, races, value_read, wants_turn, writes};
+ghost use Rattle.core_semantics.specs.Runs.{next_value, value_read, wants_turn};
 ghost use Rattle.core_semantics.specs.State.{thread_of};
 ghost use Rattle.core_semantics.specs.Steps.{slot_of};
 ghost use Rattle.core_semantics.specs.View.{frame_of, seen_access, seen_of, state_of, step_of, store_of};
@@ -40,13 +40,6 @@ fn is_turn(next: NextStep) -> bool
         NextStep::Loop(_) => true,
         NextStep::Unlock => false,
     }
-}
-
-/// Whether an access writes.
-fn writes(kind: Touch) -> bool
-    ensures { result ≡ writes kind }
-{
-    matches!(kind, Touch::Write)
 }
 
 impl Frame<'_> {
@@ -149,17 +142,5 @@ impl Machine<'_> {
         ensures { IfOk result (λ value. value ≡ next_value (core program.now) (state_of self.now) thread) }
     {
         self.value_read(program, self.next_touch(thread))
-    }
-
-    /// Whether the next steps of both threads touch one field of one object, and at least one writes it.
-    pub fn races(&self) -> bool
-        ensures { result ≡ races (state_of self.now) }
-    {
-        match (self.next_touch(0), self.next_touch(1)) {
-            (Some((o, f, kind)), Some((p, g, other))) => {
-                o == p && f == g && (writes(kind) || writes(other))
-            }
-            _ => false,
-        }
     }
 }

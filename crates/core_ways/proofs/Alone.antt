@@ -13,7 +13,7 @@ use Rattle.core_code.specs.Core.{Core, Method}
 use Rattle.core_code.specs.Tree.{Tree, Step as Operate, Nothing, Then, Either, Again, Held}
 use Rattle.core_code.specs.Tree.{can_end, steps_of}
 use Rattle.core_code.specs.Calls.{called_by}
-use Rattle.core_code.proofs.BoolParts.{both, first_part, last_part}
+use Rattle.core_code.proofs.BoolParts.{first_part, last_part}
 use Rattle.racer_base.specs.declared.ids.SiteId.{SiteId}
 use Rattle.std.specs.List.{list_all}
 use Rattle.core_ways.proofs.Callees.{do_pass, pass-both}

@@ -1,5 +1,5 @@
 -- Methods that are passed, by rank, run by one thread beside one that holds no monitor.
-use Rattle.std.proofs.Common.{◌≡◌, ℕ, zero, suc, ◌+◌, Bool, true, false, cond, List, [], ◌∷◌, ◌++◌, Option, None, Some}
+use Rattle.std.proofs.Common.{◌≡◌, ℕ, zero, suc, Bool, true, false, cond, List, [], ◌∷◌, ◌++◌, Option, None, Some}
 use Rattle.std.proofs.Common.{◌&&◌, ◌||◌, refl, sym, ap, ◌∙◌, subst, arith}
 use Rattle.racer_base.specs.declared.ids.MethodId.{MethodId}
 use Rattle.core_code.specs.declared.code.Op.{Op as CoreOp}
@@ -17,7 +17,7 @@ use Rattle.std.specs.List.{list_all, flat_map}
 use Rattle.std.specs.Option.{option_and_then}
 use Rattle.core_ways.proofs.Callees.{do_pass, lower-calls, lower-parts}
 use Rattle.core_ways.proofs.Trips.{trip_of-parts}
-use Rattle.std.proofs.Common.{slice_get, is_none, is_some, nat_lt, not, ◌<◌, ◌-◌}
+use Rattle.std.proofs.Common.{slice_get, is_none, is_some, nat_lt, not, ◌<◌}
 use Rattle.std.proofs.lemmas.Bool.{ltb-true}
 use Rattle.core_semantics.specs.State.{before}
 use Rattle.core_ways.specs.declared.part.WayPart.{WayPart}

@@ -1,10 +1,14 @@
 -- Code that is passed or gone into piece by piece.
-use Rattle.std.proofs.Common.{◌≡◌, ℕ, ◌+◌, ◌<◌, Bool, true, false, cond, List, [], ◌++◌, length, map}
-use Rattle.std.proofs.Common.{drop, get_or, sym, ap, ◌∙◌, append_assoc}
+use Rattle.std.proofs.Common.{◌≡◌, ℕ, suc, ◌+◌, ◌<◌, Bool, true, false, cond, ◌||◌, List, [], ◌∷◌, ◌++◌, length, map}
+use Rattle.std.proofs.Common.{drop, take, get_or, refl, sym, ap, ◌∙◌, append_assoc}
+use Rattle.std.proofs.Math.Seq.{take-append_seam}
 use Rattle.std.proofs.lemmas.List.{append-nil, at_drop_more}
+use Rattle.racer_base.specs.declared.ids.Place.{Place}
 use Rattle.core_code.specs.declared.code.Code.{Code}
-use Rattle.core_code.specs.Tree.{Tree, Then, can_end, in_sequence, tree_of}
+use Rattle.core_code.specs.Tree.{Tree, Then, Either, Held, can_end, in_sequence, tree_of}
+use Rattle.core_semantics.specs.declared.answer.Turn.TheVariants.{Left, Right}
 use Rattle.core_ways.specs.declared.part.WayPart.{WayPart}
+use Rattle.core_ways.specs.declared.part.WayPart.TheVariants.{Step, Turned}
 use Rattle.core_ways.specs.Ways.{passed}
 
 -- the pieces from one on are that one and the others
@@ -33,3 +37,73 @@ more new old first rest left whole grown is so_far =
     ∙ append_assoc old first rest
     ∙ ap (λ (ps : List WayPart). old ++ ps) (sym is)
     ∙ so_far
+
+-- ---- a choice
+
+or-true : (b : Bool) → (b || true) ≡ true
+or-true true = refl
+or-true false = refl
+
+or-false : (b : Bool) → (b || false) ≡ b
+or-false true = refl
+or-false false = refl
+
+-- it ends where its right side does, else where its left side does
+pub right-ends : (left right : Tree) → can_end right ≡ true → true ≡ can_end (Either left right)
+right-ends left right ends = sym (ap (λ (b : Bool). can_end left || b) ends ∙ or-true (can_end left))
+
+pub left-ends : (left right : Tree) → can_end right ≡ false → can_end left ≡ can_end (Either left right)
+left-ends left right ends = sym (ap (λ (b : Bool). can_end left || b) ends ∙ or-false (can_end left))
+
+abbrev side-passed : (locks : ℕ) (left right : Tree) → Bool → List WayPart
+side-passed locks left right b = cond b (Turned Right ∷ passed locks right) (Turned Left ∷ passed locks left)
+
+pub right-passed : (locks : ℕ) (left right : Tree) (old pushed new : List WayPart) → can_end right ≡ true →
+    pushed ≡ old ++ Turned Right ∷ [] → new ≡ pushed ++ passed locks right →
+    new ≡ old ++ passed locks (Either left right)
+right-passed locks left right old pushed new ends turn grown =
+    grown
+    ∙ ap (λ (ps : List WayPart). ps ++ passed locks right) turn
+    ∙ append_assoc old (Turned Right ∷ []) (passed locks right)
+    ∙ ap (λ (b : Bool). old ++ side-passed locks left right b) (sym ends)
+
+-- the right side is tried, and what was put there is cut back
+pub left-passed : (locks : ℕ) (left right : Tree) (old pushed tried turned : List WayPart) (n : ℕ) →
+    can_end right ≡ false → n ≡ length old → pushed ≡ old ++ Turned Right ∷ [] →
+    tried ≡ pushed ++ passed locks right → turned ≡ take n tried ++ Turned Left ∷ [] →
+    turned ++ passed locks left ≡ old ++ passed locks (Either left right)
+left-passed locks left right old pushed tried turned n ends count turn grown back =
+    let kept : take n tried ≡ old =
+    (λ i. take (count i) (grown i))
+    ∙ ap (λ (ps : List WayPart). take (length old) (ps ++ passed locks right)) turn
+    ∙ ap (take (length old)) (append_assoc old (Turned Right ∷ []) (passed locks right))
+    ∙ take-append_seam old (Turned Right ∷ passed locks right) in
+    ap (λ (ps : List WayPart). ps ++ passed locks left)
+    (back ∙ ap (λ (ps : List WayPart). ps ++ Turned Left ∷ []) kept)
+    ∙ append_assoc old (Turned Left ∷ []) (passed locks left)
+    ∙ ap (λ (b : Bool). old ++ side-passed locks left right b) (sym ends)
+
+-- ---- a lock
+
+held-grown : (locks within : ℕ) (body : Tree) (old pushed new : List WayPart) → within ≡ suc locks →
+    pushed ≡ old ++ Step ∷ [] → new ≡ pushed ++ passed within body → new ≡ old ++ Step ∷ passed (suc locks) body
+held-grown locks within body old pushed new more step grown =
+    grown
+    ∙ (λ i. step i ++ passed (more i) body)
+    ∙ append_assoc old (Step ∷ []) (passed (suc locks) body)
+
+pub held-stays : (locks within : ℕ) (place : Place) (body : Tree) (old pushed new : List WayPart) →
+    can_end body ≡ false → within ≡ suc locks → pushed ≡ old ++ Step ∷ [] → new ≡ pushed ++ passed within body →
+    new ≡ old ++ passed locks (Held place body)
+held-stays locks within place body old pushed new ends more step grown =
+    held-grown locks within body old pushed new more step grown
+    ∙ ap (λ (ps : List WayPart). old ++ Step ∷ ps) (sym (append-nil (passed (suc locks) body)))
+    ∙ ap (λ (b : Bool). old ++ Step ∷ (passed (suc locks) body ++ cond b (Step ∷ []) [])) (sym ends)
+
+pub held-ends : (locks within : ℕ) (place : Place) (body : Tree) (old pushed new : List WayPart) →
+    can_end body ≡ true → within ≡ suc locks → pushed ≡ old ++ Step ∷ [] → new ≡ pushed ++ passed within body →
+    new ++ Step ∷ [] ≡ old ++ passed locks (Held place body)
+held-ends locks within place body old pushed new ends more step grown =
+    ap (λ (ps : List WayPart). ps ++ Step ∷ []) (held-grown locks within body old pushed new more step grown)
+    ∙ append_assoc old (Step ∷ passed (suc locks) body) (Step ∷ [])
+    ∙ ap (λ (b : Bool). old ++ Step ∷ (passed (suc locks) body ++ cond b (Step ∷ []) [])) (sym ends)

@@ -1,10 +1,11 @@
 -- The path to a site, and what is passed along it.
 use Rattle.std.proofs.Common.{◌≡◌, ℕ, suc, Bool, true, false, cond, List, [], ◌∷◌, ◌++◌, Option, None, Some}
-use Rattle.std.proofs.Common.{is_some, option_map, refl, sym, ap, ◌∙◌, append_assoc, arith, length, min, take}
+use Rattle.std.proofs.Common.{nat_eq, is_some, option_map, refl, sym, ap, ◌∙◌, append_assoc, arith, length, min, take}
 use Rattle.std.proofs.Math.Seq.{take-append_seam}
 use Rattle.std.proofs.lemmas.List.{append-nil, length-take, take-append-le}
 use Rattle.std.proofs.lemmas.List.Folds.{find-append}
 use Rattle.std.specs.Option.{option_or}
+use Rattle.racer_base.specs.declared.ids.Place.{Place}
 use Rattle.racer_base.specs.declared.ids.SiteId.{SiteId}
 use Rattle.core_code.specs.declared.code.Op.{Op as CoreOp}
 use Rattle.core_code.specs.Tree.{Tree, Step as Operate, Nothing, Then, Either, Again, Held, Operation, op_at, steps_of}
@@ -55,6 +56,30 @@ some-mapped (Some x) = refl
 
 pub has-there : (code : Tree) (site : SiteId) → has_site code site ≡ is_some (op_there code site)
 has-there code site = some-mapped (op_at code site)
+
+-- ---- the operation at a site of one operation
+
+pub op-found : (at : SiteId) (place : Place) (op : CoreOp) (site : SiteId) → nat_eq at.0 site.0 ≡ true →
+    Some op ≡ op_there (Operate at place op) site
+op-found at place op site same =
+    let one : Operation = record { site = at; place = place; op = op } in
+    sym (ap (λ (b : Bool). option_map (λ (o : Operation). o.op) (cond b (Some one) None)) same)
+
+pub op-missed : (at : SiteId) (place : Place) (op : CoreOp) (site : SiteId) → nat_eq at.0 site.0 ≡ false →
+    None ≡ op_there (Operate at place op) site
+op-missed at place op site other =
+    let one : Operation = record { site = at; place = place; op = op } in
+    sym (ap (λ (b : Bool). option_map (λ (o : Operation). o.op) (cond b (Some one) None)) other)
+
+either-empty : (b : Bool) → cond {A = List Bool} b [] [] ≡ []
+either-empty true = refl
+either-empty false = refl
+
+pub op-path : (at : SiteId) (place : Place) (op : CoreOp) (site : SiteId) (old : List Bool) →
+    old ≡ old ++ path_where site (Operate at place op)
+op-path at place op site old =
+    sym (append-nil old)
+    ∙ ap (λ (p : List Bool). old ++ p) (sym (either-empty (has_site (Operate at place op) site)))
 
 -- ---- the operation at a site of two parts
 
@@ -142,6 +167,11 @@ pub none-path : (a b : Tree) (site : SiteId) (old new : List Bool) → new ≡ o
     has_site b site ≡ false → new ≡ old ++ path_where site (Then a b)
 none-path a b site old new same none other =
     same ∙ sym (append-nil old) ∙ ap (λ (p : List Bool). old ++ p) (sym (where-none a b site none other))
+
+pub none-path-whole : (code : Tree) (site : SiteId) (old new : List Bool) → new ≡ old → has_site code site ≡ false →
+    new ≡ old ++ path_where site code
+none-path-whole code site old new same none =
+    same ∙ sym (append-nil old) ∙ ap (λ (p : List Bool). old ++ p) (sym (where-not code site none))
 
 -- cut at the length of what stood there
 pub cut-back : (xs ys zs : List Bool) (b : Bool) (n : ℕ) → n ≡ length xs → ys ≡ (xs ++ b ∷ []) ++ zs →

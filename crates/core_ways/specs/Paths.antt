@@ -1,7 +1,10 @@
 -- No public contract rests on this: the path to a site, and code that is gone into along a path.
-use Rattle.std.specs.Prelude.{ℕ, suc, Bool, true, false, List, [], ◌∷◌, ◌++◌, Option, option_map, if◌then◌else◌}
+use Rattle.std.specs.Prelude.{ℕ, suc, Bool, true, false, List, [], ◌∷◌, ◌++◌, Option, None, Some, option_map}
+use Rattle.std.specs.Prelude.{if◌then◌else◌}
+use Rattle.std.specs.Borrow.{Bor}
 use Rattle.core_code.specs.declared.code.Op.{Op as CoreOp}
 use Rattle.racer_base.specs.declared.ids.SiteId.{SiteId}
+use Rattle.core_semantics.specs.declared.answer.Turn.{Turn}
 use Rattle.core_semantics.specs.declared.answer.Turn.TheVariants.{Left, Right}
 use Rattle.core_code.specs.Tree.{Tree, Step as Operate, Nothing, Then, Either, Again, Held, Operation, op_at}
 use Rattle.core_ways.specs.declared.part.WayPart.{WayPart}
@@ -49,3 +52,13 @@ followed locks path (Either left right) =
     ]
 followed locks path (Again body) = Turned Left ∷ followed locks path body
 followed locks path (Held place body) = Step ∷ followed (suc locks) path body
+
+-- a path by its first side and those behind it
+abbrev pub sides_of : Option (Bool × Bor (List Bool)) → List Bool
+sides_of None = []
+sides_of (Some (first, rest)) = first ∷ rest.now
+
+-- the turn to a side of a choice
+abbrev pub turn_to : Bool → Turn
+turn_to true = Left
+turn_to false = Right

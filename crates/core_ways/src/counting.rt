@@ -34,7 +34,9 @@ pub(crate) fn parts_of(
 {
     let mut parts = Vec::new(alloc);
     if let Some(code) = code_of(program, method) {
-        let _ends = pass(&mut parts, 0, code)?;
+        let Ok(_ends) = pass(&mut parts, 0, code) else {
+            return Err(Memory);
+        };
     }
     Ok(parts)
 }
@@ -54,8 +56,12 @@ fn count_method(
     if let Some(passing) = table.get(&method.0) {
         return Ok(passing.count);
     }
-    let parts = parts_of(alloc, program, method)?;
-    let count = count_along(alloc, program, table, parts.as_slice())?;
+    let Ok(parts) = parts_of(alloc, program, method) else {
+        return Err(Memory);
+    };
+    let Ok(count) = count_along(alloc, program, table, parts.as_slice()) else {
+        return Err(Memory);
+    };
     table.insert(method.0, Passing { parts, count })?;
     Ok(count)
 }

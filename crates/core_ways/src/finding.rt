@@ -22,14 +22,22 @@ pub(crate) fn find(path: &mut Vec<bool>, site: SiteId, code: &Code) -> Result<Op
         Code::Seq(codes) => find_among(path, site, codes.as_slice()),
         Code::Choice(left, right) => {
             let before = path.len();
-            path.push(true)?;
-            let found = find(path, site, left)?;
+            let Ok(()) = path.push(true) else {
+                return Err(Memory);
+            };
+            let Ok(found) = find(path, site, left) else {
+                return Err(Memory);
+            };
             if found.is_some() {
                 return Ok(found);
             }
             path.truncate(before);
-            path.push(false)?;
-            let found = find(path, site, right)?;
+            let Ok(()) = path.push(false) else {
+                return Err(Memory);
+            };
+            let Ok(found) = find(path, site, right) else {
+                return Err(Memory);
+            };
             if found.is_none() {
                 path.truncate(before);
             }
@@ -50,13 +58,19 @@ fn find_among(path: &mut Vec<bool>, site: SiteId, codes: &[Code]) -> Result<Opti
     let before = path.len();
     for code in codes {
         let here = path.len();
-        path.push(true)?;
-        let found = find(path, site, code)?;
+        let Ok(()) = path.push(true) else {
+            return Err(Memory);
+        };
+        let Ok(found) = find(path, site, code) else {
+            return Err(Memory);
+        };
         if found.is_some() {
             return Ok(found);
         }
         path.truncate(here);
-        path.push(false)?;
+        let Ok(()) = path.push(false) else {
+            return Err(Memory);
+        };
     }
     path.truncate(before);
     Ok(None)

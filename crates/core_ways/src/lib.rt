@@ -7,6 +7,7 @@
 mod count;
 mod counting;
 mod finding;
+mod found;
 pub mod laws;
 mod mark;
 mod part;
@@ -15,6 +16,7 @@ mod reaching;
 mod taken;
 mod turns;
 
+pub use found::{record_of, wobbly_of};
 pub use mark::{Leg, Mark, Witness};
 pub use part::WayPart;
 pub use taken::{WayFault, WayTaken, way};

@@ -1,9 +1,10 @@
 //! Code that is passed on a way, and code up to a site.
-ghost use Rattle.std.specs.Prelude.{◌≡◌, ◌++◌, ◌∷◌, [], map, not, suc, replicate, IfOk, OnOk};
+ghost use Rattle.std.specs.Prelude.{◌≡◌, ◌++◌, ◌∷◌, [], false, true, map, not, suc, take, replicate, IfOk, OnOk};
 ghost use Rattle.core_code.specs.Tree.{tree_of, in_sequence, can_end, is_return};
+ghost use Rattle.core_semantics.specs.declared.answer.Turn.TheVariants.{Left};
 ghost use Rattle.core_ways.specs.declared.part.WayPart.TheVariants.{Step, Turned};
 ghost use Rattle.core_ways.specs.Ways.{passed, passed_op};
-ghost use Rattle.core_ways.specs.Paths.{followed};
+ghost use Rattle.core_ways.specs.Paths.{followed, sides_of, turn_to};
 
 use crate::part::WayPart;
 use core_code::{Code, Op};
@@ -17,14 +18,48 @@ fn one_more(locks: u32) -> Result<u32, Memory>
     locks.checked_add(1).ok_or(Memory)
 }
 
-/// Puts one step at the end, and so many more.
-fn push_steps(parts: &mut Vec<WayPart>, steps: u32) -> Result<(), Memory>
-    ensures { OnOk result (parts.new.items ≡ parts.old.items ++ replicate (suc steps) Step) }
+/// Puts one step at the end, and so many more: a return within so many locks, behind which nothing is done.
+fn put_return(parts: &mut Vec<WayPart>, locks: u32) -> Result<bool, Memory>
+    ensures ends { IfOk result (λ ends. ends ≡ false) }
+    ensures parts { OnOk result (parts.new.items ≡ parts.old.items ++ replicate (suc locks) Step) }
 {
-    parts.push(WayPart::Step)?;
-    for step in 0..steps {
-        parts.push(WayPart::Step)?;
+    let Ok(()) = parts.push(WayPart::Step) else {
+        return Err(Memory);
+    };
+    for step in 0..locks {
+        let Ok(()) = parts.push(WayPart::Step) else {
+            return Err(Memory);
+        };
     }
+    Ok(false)
+}
+
+/// Puts a part at the end, behind which the rest is done.
+fn put(parts: &mut Vec<WayPart>, part: WayPart) -> Result<bool, Memory>
+    ensures ends { IfOk result (λ ends. ends ≡ true) }
+    ensures parts { OnOk result (parts.new.items ≡ parts.old.items ++ part ∷ []) }
+{
+    let Ok(()) = parts.push(part) else {
+        return Err(Memory);
+    };
+    Ok(true)
+}
+
+/// The turn to a side of a choice.
+fn turn_to(is_left: bool) -> Turn
+    ensures { result ≡ turn_to is_left }
+{
+    if is_left { Turn::Left } else { Turn::Right }
+}
+
+/// Takes the left side of a choice that has so many parts before it.
+fn turn_left(parts: &mut Vec<WayPart>, before: usize) -> Result<(), Memory>
+    ensures { OnOk result (parts.new.items ≡ take before parts.old.items ++ Turned Left ∷ []) }
+{
+    parts.truncate(before);
+    let Ok(()) = parts.push(WayPart::Turned(Turn::Left)) else {
+        return Err(Memory);
+    };
     Ok(())
 }
 
@@ -34,15 +69,11 @@ fn pass_op(parts: &mut Vec<WayPart>, locks: u32, place: Place, op: Op) -> Result
     ensures parts { OnOk result (parts.new.items ≡ parts.old.items ++ passed_op locks place op) }
 {
     match op {
-        Op::Ret => {
-            push_steps(parts, locks)?;
-            return Ok(false);
-        }
-        Op::Call(method, _) => parts.push(WayPart::Passed(method))?,
-        Op::Unread(_, _) => parts.push(WayPart::Unread(place))?,
-        _ => parts.push(WayPart::Step)?,
+        Op::Ret => put_return(parts, locks),
+        Op::Call(method, _) => put(parts, WayPart::Passed(method)),
+        Op::Unread(_, _) => put(parts, WayPart::Unread(place)),
+        _ => put(parts, WayPart::Step),
     }
-    Ok(true)
 }
 
 /// Passes a piece of code within so many locks; whether what stands behind it is done.
@@ -56,25 +87,35 @@ pub(crate) fn pass(parts: &mut Vec<WayPart>, locks: u32, code: &Code) -> Result<
         Code::Seq(codes) => pass_through(parts, locks, codes.as_slice()),
         Code::Choice(left, right) => {
             let before = parts.len();
-            parts.push(WayPart::Turned(Turn::Right))?;
-            if pass(parts, locks, right)? {
+            let Ok(()) = parts.push(WayPart::Turned(Turn::Right)) else {
+                return Err(Memory);
+            };
+            let Ok(right_ends) = pass(parts, locks, right) else {
+                return Err(Memory);
+            };
+            if right_ends {
                 return Ok(true);
             }
-            parts.truncate(before);
-            parts.push(WayPart::Turned(Turn::Left))?;
+            let Ok(()) = turn_left(parts, before) else {
+                return Err(Memory);
+            };
             pass(parts, locks, left)
         }
-        Code::Loop(_) => {
-            parts.push(WayPart::Turned(Turn::Right))?;
-            Ok(true)
-        }
+        Code::Loop(_) => put(parts, WayPart::Turned(Turn::Right)),
         Code::Sync(_, body) => {
-            parts.push(WayPart::Step)?;
-            let ends = pass(parts, one_more(locks)?, body)?;
-            if ends {
-                parts.push(WayPart::Step)?;
+            let Ok(()) = parts.push(WayPart::Step) else {
+                return Err(Memory);
+            };
+            let Ok(within) = one_more(locks) else {
+                return Err(Memory);
+            };
+            let Ok(ends) = pass(parts, within, body) else {
+                return Err(Memory);
+            };
+            if !ends {
+                return Ok(false);
             }
-            Ok(ends)
+            put(parts, WayPart::Step)
         }
     }
 }
@@ -87,11 +128,24 @@ fn pass_through(parts: &mut Vec<WayPart>, locks: u32, codes: &[Code]) -> Result<
         parts.new.items ≡ parts.old.items ++ passed locks (in_sequence (map tree_of codes.now))) }
 {
     for code in codes {
-        if !pass(parts, locks, code)? {
+        let Ok(ends) = pass(parts, locks, code) else {
+            return Err(Memory);
+        };
+        if !ends {
             return Ok(false);
         }
     }
     Ok(true)
+}
+
+/// The first side of a path, and those behind it.
+fn first_side(path: &[bool]) -> Option<(bool, &[bool])>
+    ensures { path.now ≡ sides_of result }
+{
+    match path {
+        [] => None,
+        [first, rest @ ..] => Some((*first, rest)),
+    }
 }
 
 /// Goes into a piece of code along a path of sides.
@@ -107,24 +161,32 @@ pub(crate) fn follow(
     match code {
         Code::Op(_, _, _) => Ok(()),
         Code::Seq(codes) => follow_through(parts, locks, path, codes.as_slice()),
-        Code::Choice(left, right) => match path {
-            [] => Ok(()),
-            [true, rest @ ..] => {
-                parts.push(WayPart::Turned(Turn::Left))?;
-                follow(parts, locks, rest, left)
+        Code::Choice(left, right) => {
+            let Some((is_left, rest)) = first_side(path) else {
+                return Ok(());
+            };
+            let Ok(()) = parts.push(WayPart::Turned(turn_to(is_left))) else {
+                return Err(Memory);
+            };
+            if is_left {
+                return follow(parts, locks, rest, left);
             }
-            [false, rest @ ..] => {
-                parts.push(WayPart::Turned(Turn::Right))?;
-                follow(parts, locks, rest, right)
-            }
-        },
+            follow(parts, locks, rest, right)
+        }
         Code::Loop(body) => {
-            parts.push(WayPart::Turned(Turn::Left))?;
+            let Ok(()) = parts.push(WayPart::Turned(Turn::Left)) else {
+                return Err(Memory);
+            };
             follow(parts, locks, path, body)
         }
         Code::Sync(_, body) => {
-            parts.push(WayPart::Step)?;
-            follow(parts, one_more(locks)?, path, body)
+            let Ok(()) = parts.push(WayPart::Step) else {
+                return Err(Memory);
+            };
+            let Ok(within) = one_more(locks) else {
+                return Err(Memory);
+            };
+            follow(parts, within, path, body)
         }
     }
 }
@@ -142,14 +204,16 @@ fn follow_through(
 {
     let mut path = path;
     for code in codes {
-        match path {
-            [] => return Ok(()),
-            [true, rest @ ..] => return follow(parts, locks, rest, code),
-            [false, rest @ ..] => {
-                let _ends = pass(parts, locks, code)?;
-                path = rest;
-            }
+        let Some((is_first, rest)) = first_side(path) else {
+            return Ok(());
+        };
+        if is_first {
+            return follow(parts, locks, rest, code);
         }
+        let Ok(_ends) = pass(parts, locks, code) else {
+            return Err(Memory);
+        };
+        path = rest;
     }
     Ok(())
 }

@@ -3,15 +3,16 @@ ghost use Rattle.std.specs.Prelude.{◌≡◌, ◌++◌, IfOk, OnOk, option_map}
 ghost use Rattle.std.specs.Option.{option_copied};
 ghost use Rattle.core_code.specs.Tree.{tree_of};
 ghost use Rattle.core_code.specs.Program.{core};
-ghost use Rattle.access_domain.specs.Outcomes.{AreOutcomes, outcomes_held};
-ghost use Rattle.core_ways.specs.Going.{IsEntered, GoesOn, record_among};
+ghost use Rattle.access_domain.specs.Outcomes.{AreOutcomes};
+ghost use Rattle.core_ways.specs.Going.{IsEntered, GoesOn};
 ghost use Rattle.core_ways.specs.Paths.{op_there, reached_where};
 ghost use Rattle.core_ways.specs.Ways.{code_at, way_parts};
 
 use crate::finding::find;
+use crate::found::record_of;
 use crate::part::WayPart;
 use crate::passing::follow;
-use access_domain::{Access, Outcome, Outcomes};
+use access_domain::Outcomes;
 use core_code::{Code, Op, Program};
 use racer_base::{Memory, MethodId, SiteId};
 use std::alloc::Global;
@@ -25,19 +26,6 @@ pub(crate) fn code_of(program: &Program, method: MethodId) -> Option<&Code>
         return None;
     }
     Some(&method.code)
-}
-
-/// The record of an index of a method; none where there are too many.
-fn record_of(outcomes: &Outcomes, method: MethodId, access: u32) -> Option<&Access>
-    ensures { option_copied result ≡ record_among (outcomes_held outcomes.now.items) method access }
-{
-    match outcomes.get(method.0 as usize)? {
-        None => None,
-        Some(outcome) => match &**outcome {
-            Outcome::Large => None,
-            Outcome::Summary(summary) => summary.accesses.as_slice().get(access as usize),
-        },
-    }
 }
 
 /// Enters what an operation calls towards the callee's record of this index.

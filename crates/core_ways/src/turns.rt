@@ -1,5 +1,5 @@
 //! The turns of a way.
-ghost use Rattle.std.specs.Prelude.{◌≡◌, ◌++◌, OnOk};
+ghost use Rattle.std.specs.Prelude.{◌≡◌, ◌++◌, ◌∷◌, [], OnOk};
 ghost use Rattle.core_code.specs.Program.{core};
 ghost use Rattle.core_ways.specs.Passings.{IsTable};
 ghost use Rattle.core_ways.specs.Ways.{trip_of, trip_of_part, trip_along};
@@ -10,6 +10,16 @@ use core_code::Program;
 use core_semantics::Turn;
 use racer_base::{Memory, MethodId};
 use std::alloc::Global;
+
+/// Puts a turn at the end.
+fn push_turn(turns: &mut Vec<Turn>, turn: Turn) -> Result<(), Memory>
+    ensures { OnOk result (turns.new.items ≡ turns.old.items ++ turn ∷ []) }
+{
+    let Ok(()) = turns.push(turn) else {
+        return Err(Memory);
+    };
+    Ok(())
+}
 
 /// Puts the turns of passing a method at the end.
 #[cycle(turning)]
@@ -26,7 +36,9 @@ fn push_method(
     if let Some(passing) = table.get(&method.0) {
         return push_turns(alloc, program, table, turns, passing.parts.as_slice());
     }
-    let parts = parts_of(alloc, program, method)?;
+    let Ok(parts) = parts_of(alloc, program, method) else {
+        return Err(Memory);
+    };
     push_turns(alloc, program, table, turns, parts.as_slice())
 }
 
@@ -44,11 +56,10 @@ fn push_part(
         ≡ turns.old.items ++ (trip_of_part (trip_of (core program.now)) part).turns) }
 {
     match part {
-        WayPart::Turned(turn) => turns.push(turn)?,
-        WayPart::Passed(method) => push_method(alloc, program, table, turns, method)?,
-        WayPart::Step | WayPart::Unread(_) => {}
+        WayPart::Turned(turn) => push_turn(turns, turn),
+        WayPart::Passed(method) => push_method(alloc, program, table, turns, method),
+        WayPart::Step | WayPart::Unread(_) => Ok(()),
     }
-    Ok(())
 }
 
 /// Puts the turns of parts at the end.
@@ -65,7 +76,9 @@ pub(crate) fn push_turns(
         ≡ turns.old.items ++ (trip_along (trip_of (core program.now)) parts.now).turns) }
 {
     for part in parts {
-        push_part(alloc, program, table, turns, *part)?;
+        let Ok(()) = push_part(alloc, program, table, turns, *part) else {
+            return Err(Memory);
+        };
     }
     Ok(())
 }

@@ -21,17 +21,13 @@ use Rattle.core_code.proofs.ByRank.{known_below-lower}
 use Rattle.core_code.specs.Program.{core}
 use Rattle.access_domain.specs.declared.summary.Outcome.{Outcome}
 use Rattle.access_domain.specs.declared.summary.Outcome.TheVariants as code
-use Rattle.access_domain.specs.declared.summary.Summary.{Summary}
-use Rattle.access_domain.specs.Findings.{Findings, outcome_from, summary_from}
-use Rattle.access_domain.specs.Operations.{found_effects, popped, pushed}
-use Rattle.owner_domain.specs.declared.value.State.{State}
+use Rattle.access_domain.specs.Findings.{outcome_from}
 use Rattle.access_domain.specs.Summaries.{outcome_of, known_of_callees, known_at, known_given}
-use Rattle.call_subst.proofs.SameSets.{from_list-items}
-use Rattle.transfer.specs.declared.calls.Callee.{Callee}
+use Rattle.method_flow.specs.declared.calls.Callee.{Callee}
 use Rattle.transfer.specs.Callees.{Held, AreCallees, outcome_in}
-use Rattle.transfer.specs.Known.{findings_in, known_in, outcome_among, table_of}
-use Rattle.transfer.specs.Walks.{summary_effects}
-use Rattle.transfer.proofs.Tables.{Agree, is_method, outcome-agree}
+use Rattle.method_flow.specs.Known.{known_in, outcome_among, table_of}
+use Rattle.method_flow.proofs.Callees.{held}
+use Rattle.transfer.proofs.Tables.{is_method, outcome-agree}
 
 -- ---- one more
 
@@ -75,9 +71,6 @@ one-more cs c f left m method outcome =
     ∙ (λ i. cond (nat_eq (method i).0 m.0) (Some (outcome i)) (outcome_in left m)))
 
 -- ---- what is known of callees
-
-pub held : (s : Summary) → summary_from (findings_in s) ≡ s
-held s = λ i. record { accesses = s.accesses; wobbly = from_list-items s.wobbly i; result = s.result }
 
 known-held : (o : Outcome) → outcome_from (known_in o) ≡ o
 known-held code.Large = refl
@@ -192,18 +185,3 @@ pub found_at : (ms : List MethodCore) (i : ℕ) (x : MethodCore) → i < length 
 found_at [] i x within is = absurd (omega arith)
 found_at (y ∷ ms) zero x within is = ap (λ (m : MethodCore). Some (method_of m)) (sym is)
 found_at (y ∷ ms) (suc i) x within is = found_at ms i x (omega arith) is
-
--- ---- what is found of a callee
-
-pub summary-effects : (made : Summary) (found : Findings) (s now : State) (n : ℕ) → made ≡ summary_from found →
-    now ≡ popped s n → Agree (summary_effects made now) (found_effects found s n)
-summary-effects made found s now n same rest =
-    record {
-      next = λ i. Some (pushed (rest i) (same i).result);
-      alike = record {
-        records = ap (λ (x : Summary). x.accesses) same;
-        wobbly = from_list-items made.wobbly ∙ ap (λ (x : Summary). x.wobbly) same;
-        result = refl;
-        large = refl;
-      };
-    }

@@ -1,9 +1,3 @@
-pub mod JoinedResults
-pub mod Adding
-pub mod Marking
-pub mod Stacks
 pub mod Tables
-pub mod Flows
 pub mod Handed
-pub mod Wholes
 pub mod Every

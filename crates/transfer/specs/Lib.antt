@@ -1,7 +1,3 @@
 -- A contract of a public call rests on this: the list of files.
-pub mod Known
 pub mod Callees
-pub mod Marks
-pub mod Frames
-pub mod Walks
 pub mod Tables

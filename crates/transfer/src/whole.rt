@@ -46,9 +46,13 @@ fn keep(table: &mut Table, method: MethodId, finished: Arc<Finished>)
 fn empty(alloc: Global, places: usize) -> Result<Table, Memory>
     ensures { IfOk result (λ table. table.items ≡ replicate places None) }
 {
-    let mut table = Vec::with_capacity(alloc, places)?;
+    let Ok(mut table) = Vec::with_capacity(alloc, places) else {
+        return Err(Memory);
+    };
     for _place in 0..places {
-        table.push(None)?;
+        let Ok(()) = table.push(None) else {
+            return Err(Memory);
+        };
     }
     Ok(table)
 }
@@ -91,8 +95,12 @@ fn finish(
     }
     let mut callees = Vec::new(alloc);
     for callee in rows.row(method) {
-        let finished = finish(alloc, program, rows, *callee, table)?;
-        callees.push(finished)?;
+        let Ok(finished) = finish(alloc, program, rows, *callee, table) else {
+            return Err(Memory);
+        };
+        let Ok(()) = callees.push(finished) else {
+            return Err(Memory);
+        };
     }
     finish_itself(alloc, program, method, callees.as_slice(), table)
 }
@@ -123,7 +131,9 @@ fn outcome_at(
 fn numbered(number: usize) -> Result<MethodId, Memory>
     ensures { IfOk result (λ method. method.0 ≡ number) }
 {
-    let number = u32::try_from(number).map_err(|_| Memory)?;
+    let Ok(number) = u32::try_from(number) else {
+        return Err(Memory);
+    };
     Ok(MethodId(number))
 }
 
@@ -140,9 +150,15 @@ fn gathered(
 {
     let mut outcomes = Vec::new(alloc);
     for number in 0..program.methods().len() {
-        let method = numbered(number)?;
-        let outcome = outcome_at(alloc, program, rows, method, table)?;
-        outcomes.push(outcome)?;
+        let Ok(method) = numbered(number) else {
+            return Err(Memory);
+        };
+        let Ok(outcome) = outcome_at(alloc, program, rows, method, table) else {
+            return Err(Memory);
+        };
+        let Ok(()) = outcomes.push(outcome) else {
+            return Err(Memory);
+        };
     }
     Ok(outcomes)
 }
@@ -151,7 +167,11 @@ fn gathered(
 pub fn outcomes(alloc: Global, program: &Arc<Program>) -> Result<Outcomes, Memory>
     ensures { IfOk result (λ found. AreOutcomes (core (arc_value program.now)) found.items) }
 {
-    let rows = call_rows(alloc, &**program)?;
-    let mut table = empty(alloc, program.methods().len())?;
+    let Ok(rows) = call_rows(alloc, &**program) else {
+        return Err(Memory);
+    };
+    let Ok(mut table) = empty(alloc, program.methods().len()) else {
+        return Err(Memory);
+    };
     gathered(alloc, program, &rows, &mut table)
 }

@@ -14,7 +14,8 @@ use Rattle.core_ways.specs.Stable.{is_wobbly, unstable_prefix}
 use Rattle.core_ways.specs.Ways.{record_at}
 use Rattle.core_ways.proofs.Going.{same-outcome, same-record}
 use Rattle.wobbly_paths.specs.Sets.{HasNoPrefix, IsShortestPrefix}
-use Rattle.witness_build.specs.Found.{IsLeast, holds_front, least, outcome_among, wobbly_held}
+use Rattle.core_ways.specs.Found.{outcome_among, wobbly_held}
+use Rattle.witness_build.specs.Found.{IsLeast, holds_front, least}
 use Rattle.witness_build.proofs.LeastPrefix.{either, first-prefix, least-both, wobbly-held}
 
 pub least-of-set : (paths : PathSet) (p : Path) (answer : Option ℕ) →

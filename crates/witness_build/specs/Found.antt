@@ -1,24 +1,9 @@
--- No public contract rests on this: what is found of a method among the outcomes of all methods, and the shortest
--- prefix of a path.
-use Rattle.std.specs.Prelude.{◌≡◌, ℕ, ◌<◌, Bool, true, false, List, Option, None, Some, slice_get, nat_lt, if◌then◌else◌}
-use Rattle.std.specs.Option.{option_and_then}
+-- No public contract rests on this: the shortest prefix of a path.
+use Rattle.std.specs.Prelude.{◌≡◌, ℕ, ◌<◌, Bool, true, false, Option, None, Some, nat_lt, if◌then◌else◌}
 use Rattle.std.specs.FinSet as set
-use Rattle.racer_base.specs.declared.ids.MethodId.{MethodId}
 use Rattle.access_paths.specs.declared.path.Path.{Path}
 use Rattle.access_paths.specs.Order.{PathSet}
 use Rattle.access_paths.specs.Paths.{front}
-use Rattle.access_domain.specs.declared.summary.Outcome.{Outcome}
-use Rattle.access_domain.specs.declared.summary.Outcome.TheVariants.{Large, Summary}
-
--- the outcome of a method; none where it is not analysed
-abbrev pub outcome_among : List (Option Outcome) → MethodId → Option Outcome
-outcome_among outcomes m = option_and_then (λ (o : Option Outcome). o) (slice_get outcomes m.0)
-
--- the wobbly paths of an outcome; none of a large one
-abbrev pub wobbly_held : Option Outcome → Option PathSet
-wobbly_held None = None
-wobbly_held (Some Large) = None
-wobbly_held (Some (Summary summary)) = Some summary.wobbly
 
 -- whether a path is among these
 abbrev pub is_held : Option PathSet → Path → Bool

@@ -45,11 +45,10 @@ fn take_turn<'a, 't>(
     match turns {
         [] => Ok(None),
         [turn, rest @ ..] => {
-            if make_step(program, machine, thread, *turn)? {
-                Ok(Some(rest))
-            } else {
-                Ok(None)
-            }
+            let Ok(made) = make_step(program, machine, thread, *turn) else {
+                return Err(Memory);
+            };
+            if made { Ok(Some(rest)) } else { Ok(None) }
         }
     }
 }
@@ -64,11 +63,10 @@ fn go_straight<'a, 't>(
     ensures { IfOk result (λ rest. IsAdvance (straight (core program.now) thread turns.now (state_of machine.old))
         (state_of machine.old) (state_of machine.new) rest) }
 {
-    if make_step(program, machine, thread, Turn::Right)? {
-        Ok(Some(turns))
-    } else {
-        Ok(None)
-    }
+    let Ok(made) = make_step(program, machine, thread, Turn::Right) else {
+        return Err(Memory);
+    };
+    if made { Ok(Some(turns)) } else { Ok(None) }
 }
 
 /// Adds what the next step of a thread reads, where it is a start path with a field.
@@ -81,7 +79,9 @@ fn gather(
     ensures { OnOk result (
         objects.new ≡ gathered objects.old (next_read (core program.now) (state_of machine.now) thread)) }
 {
-    let value = machine.next_value(program, thread)?;
+    let Ok(value) = machine.next_value(program, thread) else {
+        return Err(Memory);
+    };
     objects.add_read(value)
 }
 
@@ -101,7 +101,9 @@ fn advance<'a, 't>(
     if machine.wants_turn(thread) {
         return take_turn(program, machine, thread, turns);
     }
-    gather(program, machine, objects, thread)?;
+    let Ok(()) = gather(program, machine, objects, thread) else {
+        return Err(Memory);
+    };
     go_straight(program, machine, thread, turns)
 }
 

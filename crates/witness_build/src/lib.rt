@@ -6,7 +6,6 @@
 
 mod both;
 mod driving;
-mod found;
 pub mod laws;
 mod marking;
 mod marks;

@@ -14,13 +14,12 @@ ghost use Rattle.witness_build.specs.Warned.{pair_of, warning_mark};
 
 use crate::both::{Both, Target, ways};
 use crate::driving::run_leg;
-use crate::found::record_of;
 use crate::objects::Objects;
 use crate::prefixes::unstable_prefix;
 use access_domain::Outcomes;
 use core_code::Program;
 use core_semantics::{Machine, Start, begin};
-use core_ways::{Leg, Mark, WayTaken, Witness};
+use core_ways::{Leg, Mark, WayTaken, Witness, record_of};
 use race_pairs::Warning;
 use racer_base::{FileId, Items, Memory, Place};
 use std::alloc::Global;
@@ -113,7 +112,10 @@ fn mark_by_run(
         (begun (core program.now) warning.now.entry warning.now.partner All)) }
 {
     let mut objects = Objects::new(alloc);
-    let stopped = mark_of_stopped_run(alloc, program, warning, &mut objects, &first, &second)?;
+    let Ok(stopped) = mark_of_stopped_run(alloc, program, warning, &mut objects, &first, &second)
+    else {
+        return Err(Memory);
+    };
     if let Some(mark) = stopped {
         return Ok(mark);
     }

@@ -76,7 +76,9 @@ impl Objects {
     fn add(&mut self, path: StartPath) -> Result<(), Memory>
         ensures { OnOk result (self.new ≡ path_added self.old path) }
     {
-        let copy = path.copied(self.alloc)?;
+        let Ok(copy) = path.copied(self.alloc) else {
+            return Err(Memory);
+        };
         let object = Object::Start(path);
         let there = self.has(&object);
         if there {

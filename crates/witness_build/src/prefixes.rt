@@ -8,10 +8,10 @@ ghost use Rattle.access_paths.specs.Paths.{front};
 ghost use Rattle.core_ways.specs.Stable.{unstable_prefix};
 ghost use Rattle.witness_build.specs.Found.{IsLeast, holds_front, least};
 
-use crate::found::wobbly_of;
 use access_domain::Outcomes;
 use access_paths::Path;
 use core_code::Program;
+use core_ways::wobbly_of;
 use racer_base::{Items, MAX_PATH_FIELDS, Memory, MethodId};
 use std::alloc::Global;
 use wobbly_paths::Wobbly;

@@ -5,7 +5,7 @@ pub returns : goal.returns
 returns c =
     c.machine_of.ensures
     ∙ (λ i. record {
-      store = record { heap = c.in_ok-heap.ensures i; cells = λ o f. None; fresh = 0 };
-      first = c.in_ok-first.ensures i;
-      second = c.in_ok-second.ensures i;
+      store = record { heap = c.in-Ok.ensures i; cells = λ o f. None; fresh = 0 };
+      first = c.in-Ok-thread_at.ensures i;
+      second = c.in-Ok-thread_at-2.ensures i;
     })

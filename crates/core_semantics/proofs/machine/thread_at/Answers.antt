@@ -6,8 +6,8 @@ use Rattle.core_semantics.proofs.machine.thread_at.Goals as goal
 pub returns : goal.returns
 returns c =
     entry_of (core c.args.program.now) c.methods.result.now c.args.thread c.args.method c.in-Some.method.now
-    (frames_of c.in_ok-running.running) c.new-2.result c.methods.ensures c.in-Some.ensures.lookup.0
-    c.in-Some.ensures.lookup.1 c.in_ok-running.ensures c.new-2.ensures
+    (frames_of c.in-Ok.running) c.new-2.result c.methods.ensures c.in-Some.ensures.lookup.0
+    c.in-Some.ensures.lookup.1 c.in-Ok.ensures c.new-2.ensures
 
 pub returns-in_default : goal.returns-in_default
 returns-in_default c =

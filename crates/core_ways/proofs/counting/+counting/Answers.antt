@@ -37,7 +37,7 @@ count_along-loop-part-preserved t c =
 pub count_method-count_along-requires : goal.count_method-count_along-requires
 count_method-count_along-requires t c =
     let low = height-of-method (core c.args.program.now) c.args.method c.as_slice.result.now
-    c.args.program.now.ranks_there (c.as_slice.ensures.value ∙ c.in_ok-parts.ensures) in
+    c.args.program.now.ranks_there (c.as_slice.ensures.value ∙ c.in-Ok.ensures) in
     (omega (arith, low, c.decreases), c.requires)
 
 pub count_method-returns-clause-table : goal.count_method-returns-clause-table
@@ -45,15 +45,15 @@ count_method-returns-clause-table t c =
     let program = core c.args.program.now in
     let m = c.args.method in
     let trips = trip_of program in
-    let count = c.in_ok-count.ensures.count
+    let count = c.in-Ok-count_along.ensures.count
     ∙ ap count_of (sym (trip-of-method program m c.as_slice.result.now c.args.program.now.ranks_there
-    (c.as_slice.ensures.value ∙ c.in_ok-parts.ensures))) in
+    (c.as_slice.ensures.value ∙ c.in-Ok.ensures))) in
     kept-entry program c.count_along.new.table c.insert.new.self m
-    (record { parts = c.in_ok-parts.parts; count = c.in_ok-count.count }) c.in_ok-count.ensures.table
-    (record { parts = c.in_ok-parts.ensures; count = count }) c.in_ok-insert.ensures.updates
+    (record { parts = c.in-Ok.parts; count = c.in-Ok-count_along.count }) c.in-Ok-count_along.ensures.table
+    (record { parts = c.in-Ok.ensures; count = count }) c.in_ok-insert.ensures.updates
 
 pub count_method-returns-clause-count : goal.count_method-returns-clause-count
 count_method-returns-clause-count t c =
-    c.in_ok-count.ensures.count
+    c.in-Ok-count_along.ensures.count
     ∙ ap count_of (sym (trip-of-method (core c.args.program.now) c.args.method c.as_slice.result.now
-    c.args.program.now.ranks_there (c.as_slice.ensures.value ∙ c.in_ok-parts.ensures)))
+    c.args.program.now.ranks_there (c.as_slice.ensures.value ∙ c.in-Ok.ensures)))

@@ -1,4 +1,4 @@
-use Rattle.std.proofs.Common.{◌+◌, ◌<◌, suc, arith}
+use Rattle.std.proofs.Common.{suc, arith}
 use Rattle.core_code.specs.Calls.{rank_of}
 use Rattle.core_code.specs.Program.{core}
 use Rattle.core_ways.specs.Ways.{trip_of}

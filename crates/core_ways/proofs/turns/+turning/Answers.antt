@@ -34,7 +34,7 @@ push_method-returns-in-Some t c =
 pub push_method-push_turns-requires-2 : goal.push_method-push_turns-requires-2
 push_method-push_turns-requires-2 t c =
     let low = height-of-method (core c.args.program.now) c.args.method c.as_slice-2.result.now
-    c.args.program.now.ranks_there (c.as_slice-2.ensures.value ∙ c.in_ok-parts.ensures) in
+    c.args.program.now.ranks_there (c.as_slice-2.ensures.value ∙ c.in-Ok.ensures) in
     (omega (arith, low, c.decreases), c.requires)
 
 pub push_method-returns : goal.push_method-returns
@@ -42,7 +42,7 @@ push_method-returns t c =
     subst (λ (trip : Trip). OnOk c.push_turns-2.result
     (c.push_turns-2.new.turns.items ≡ c.args.turns.now.items ++ trip.turns))
     (sym (trip-of-method (core c.args.program.now) c.args.method c.as_slice-2.result.now c.args.program.now.ranks_there
-    (c.as_slice-2.ensures.value ∙ c.in_ok-parts.ensures))) c.push_turns-2.ensures
+    (c.as_slice-2.ensures.value ∙ c.in-Ok.ensures))) c.push_turns-2.ensures
 
 pub push_turns-push_part-requires : goal.push_turns-push_part-requires
 push_turns-push_part-requires t c =

@@ -7,7 +7,7 @@ use Rattle.core_code.specs.Core.{Method, method_of}
 use Rattle.core_code.specs.Program.{core, methods}
 use Rattle.access_domain.specs.Findings.{outcome_from}
 use Rattle.access_domain.specs.Summaries.{known_given, outcome_of}
-use Rattle.transfer.specs.Known.{table_of}
+use Rattle.method_flow.specs.Known.{table_of}
 use Rattle.transfer.proofs.Handed.{analysed_at, in_range, found_at, outcome-known}
 use Rattle.transfer.proofs.analysis.analyse.Goals as goal
 
@@ -25,7 +25,7 @@ invariant_of-result c =
     let m = c.args.method in
     let ms = c.methods.result.now in
     let x = c.index-methods-method.result in
-    let callees = c.in_ok-callees.callees.items in
+    let callees = c.in-Ok.callees.items in
     let all : map method_of ms ≡ methods (arc_value c.args.program.now) =
     c.methods.ensures ∙ ap methods c.deref.ensures in
     let within : m.0 < length ms =
@@ -37,11 +37,11 @@ invariant_of-result c =
     record {
       right =
           ap Some
-          (c.in_ok-outcome-2.ensures.ok
-          ∙ c.in_ok-outcome.ensures
+          (c.in-Ok-new.ensures.ok
+          ∙ c.in-Ok-outcome.ensures
           ∙ (λ i. outcome_from
           (known_given (core (c.deref-2.ensures i)) (table_of (c.as_slice.ensures.value i)) (method_of x))))
           ∙ outcome-known program m (method_of x) callees c.args.callees.now
-          (arc_value c.args.program.now).ranks_there at analysed c.in_ok-callees.ensures c.requires.callees
+          (arc_value c.args.program.now).ranks_there at analysed c.in-Ok.ensures c.requires.callees
           ∙ ap (λ (p : Program). outcome_of (core p) m) (sym c.in_ok-clone.ensures.cases);
     }

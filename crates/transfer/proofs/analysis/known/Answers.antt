@@ -2,10 +2,10 @@ use Rattle.std.proofs.Common.{◌+◌, List, ap, ◌∙◌, sym, drop, get_or}
 use Rattle.std.specs.Arc.{arc_value}
 use Rattle.std.specs.Option.{option_or}
 use Rattle.std.proofs.lemmas.List.{at_drop_more}
-use Rattle.transfer.specs.declared.calls.Callee.{Callee}
+use Rattle.method_flow.specs.declared.calls.Callee.{Callee}
 use Rattle.transfer.specs.declared.finished.Finished.{Finished}
 use Rattle.transfer.specs.Callees.{Held, outcome_in}
-use Rattle.transfer.specs.Known.{outcome_among}
+use Rattle.method_flow.specs.Known.{outcome_among}
 use Rattle.transfer.proofs.Handed.{one-more}
 use Rattle.transfer.proofs.analysis.known.Goals as goal
 
@@ -17,11 +17,11 @@ loop-one-preserved c = λ m.
     let one = c.one-item.result in
     let left = drop (i + 1) finished in
     let callee : Callee =
-    record { method = c.deref-in-loop-one.result.now.method; outcome = c.in_ok-outcome.outcome } in
-    ap (λ (cs : List Callee). option_or (outcome_among cs m) (outcome_in left m)) c.in_ok-push.ensures.items
+    record { method = c.deref-in-loop-one.result.now.method; outcome = c.in-Ok.outcome } in
+    ap (λ (cs : List Callee). option_or (outcome_among cs m) (outcome_in left m)) c.in-Ok-push.ensures.items
     ∙ one-more made callee (get_or finished i one) left m (ap (λ (f : Finished). f.method) c.deref-in-loop-one.ensures
     ∙ ap (λ (f : Held). (arc_value f).method) c.one-item.is)
-    (c.in_ok-outcome.ensures.cases ∙ ap (λ (f : Finished). arc_value f.outcome) c.deref.ensures
+    (c.in-Ok.ensures.cases ∙ ap (λ (f : Finished). arc_value f.outcome) c.deref.ensures
     ∙ ap (λ (f : Held). arc_value (arc_value f).outcome) c.one-item.is)
     ∙ ap (option_or (outcome_among made m))
     (sym (at_drop_more (λ fs. outcome_in fs m) finished i one c.loop-one-test.true))

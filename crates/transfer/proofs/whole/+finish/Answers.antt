@@ -44,18 +44,18 @@ loop-callee-preserved t c =
     let at = read_at c.row-callee-items.result.now row i (record { 0 = 0 }) c.row-callee-items.ensures
     c.loop-callee-test.true in
     let callees = c.loop-callee.callees.items in
-    let made = c.in_ok-finished-2.finished in
+    let made = c.in-Ok.finished in
     let IsFor : Held → Type 0 = λ f. core (arc_value (arc_value f).program) ≡ program in
     record {
-      table = c.in_ok-finished-2.ensures.table;
+      table = c.in-Ok.ensures.table;
       same_program =
           subst (λ (fs : List Held). All IsFor fs)
-          (sym {A = List Held} {b = callees ++ made ∷ []} c.in_ok-push.ensures.items)
-          (All-push IsFor callees made inv.same_program c.in_ok-finished-2.ensures.made.program_is);
+          (sym {A = List Held} {b = callees ++ made ∷ []} c.in-Ok-push.ensures.items)
+          (All-push IsFor callees made inv.same_program c.in-Ok.ensures.made.program_is);
       there = λ k e.
           subst (λ (fs : List Held). (is_some (outcome_in fs k) || list_any (is_method k) (drop (i + 1) row)) ≡ true)
-          (sym {A = List Held} {b = callees ++ made ∷ []} c.in_ok-push.ensures.items)
-          (one-fewer callees made row i n k at.0 at.1 c.in_ok-finished-2.ensures.made.method (inv.there k e));
+          (sym {A = List Held} {b = callees ++ made ∷ []} c.in-Ok-push.ensures.items)
+          (one-fewer callees made row i n k at.0 at.1 c.in-Ok.ensures.made.method (inv.there k e));
     }
 
 pub finish_itself-requires-clause-callees : goal.finish_itself-requires-clause-callees

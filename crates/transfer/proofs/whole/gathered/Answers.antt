@@ -21,16 +21,16 @@ loop-number-preserved c =
     ap length (sym (c.methods-number-end.ensures ∙ ap methods c.deref.ensures)) ∙ length-map ms method_of in
     let within : i < n = omega (arith, count, c.loop-number-test.true) in
     let outs = c.loop-number.outcomes.items in
-    let outcome = c.in_ok-outcome.outcome in
+    let outcome = c.in-Ok-outcome_at.outcome in
     let rest = outcomes_from program (i + 1) (n - (i + 1)) in
     record {
-      table = c.in_ok-outcome.ensures.table;
+      table = c.in-Ok-outcome_at.ensures.table;
       outcomes =
-          ap (λ (xs : List (Option (Arc Outcome Global))). outcomes_held xs ++ rest) c.in_ok-push.ensures.items
+          ap (λ (xs : List (Option (Arc Outcome Global))). outcomes_held xs ++ rest) c.in-Ok-push.ensures.items
           ∙ ap (λ (xs : List (Option Outcome)). xs ++ rest) (map_push (option_map arc_value) outs outcome)
           ∙ outcomes_turn program n i (outcomes_held outs) (option_map arc_value outcome) within
-          (c.in_ok-outcome.ensures.found
-          ∙ ap (λ (k : ℕ). outcome_of program (record { 0 = k })) c.in_ok-method.ensures)
+          (c.in-Ok-outcome_at.ensures.found
+          ∙ ap (λ (k : ℕ). outcome_of program (record { 0 = k })) c.in-Ok.ensures)
           ∙ c.loop-number.invariant.outcomes;
     }
 

@@ -11,8 +11,8 @@ pub gathered-requires : goal.gathered-requires
 gathered-requires c =
     let program = core (arc_value c.args.program.now) in
     record {
-      rows = subst (λ (p : Program). AreRowsOf (core p) c.in_ok-rows.rows) c.deref.ensures c.in_ok-rows.ensures;
-      table = subst (IsTable program) (sym c.in_ok-table.ensures) (empty-table program (length c.methods.result.now));
+      rows = subst (λ (p : Program). AreRowsOf (core p) c.in-Ok.rows) c.deref.ensures c.in-Ok.ensures;
+      table = subst (IsTable program) (sym c.in-Ok-empty.ensures) (empty-table program (length c.methods.result.now));
     }
 
 pub returns : goal.returns

@@ -18,7 +18,7 @@ invariant_of-result c =
     (λ (found : Option Mark). IsSaid program (leg_of c.args.first) (leg_of c.args.second)
     (begun program c.args.warning.now.entry c.args.warning.now.partner All) c.mark_of_stopped_run.new.objects
     (option_map said_by found))
-    c.in_default.is c.in_ok-stopped.ensures in
+    c.in_default-stopped.is c.in-Ok.ensures in
     record {
       few_objects =
           subst (λ (objects : List StartPath). length objects ≤ 2 * MAX_WAY_STEPS)

@@ -10,6 +10,6 @@ returns-clause-ok g c =
     let counted = c.len-last.ensures ∙ c.self.inside.items.ok.0 in
     let view = c.self.view_is in
     let is_last : last + 1 ≡ length xs = omega (arith, counted, c.requires, length-reverse xs, ap length view) in
-    ap (λ ys. reverse (set ys last c.args.second)) c.in_ok-push.ensures.items
+    ap (λ ys. reverse (set ys last c.args.second)) c.in-Ok.ensures.items
     ∙ two_reversed last xs c.args.first c.args.second is_last
     ∙ ap (λ ys. c.args.first ∷ c.args.second ∷ drop 1 ys) view

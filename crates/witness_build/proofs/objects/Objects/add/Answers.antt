@@ -10,6 +10,6 @@ invariant_of-self-2 c =
     let paths : List StartPath = c.self.inside.paths.items in
     let new = c.put.new.index in
     let grown : c.put.new.paths.items ≡ paths ++ path ∷ [] =
-    c.in-Ok.ensures.paths ∙ ap (λ (p : StartPath). paths ++ p ∷ []) c.in_ok-copy.ensures in
+    c.in-Ok-put.ensures.paths ∙ ap (λ (p : StartPath). paths ++ p ∷ []) c.in-Ok.ensures in
     subst (HasObjectsOf new.keys) (sym grown)
-    (objects-added c.self.inside.index new paths path c.self.invariant c.in-Ok.ensures.added)
+    (objects-added c.self.inside.index new paths path c.self.invariant c.in-Ok-put.ensures.added)

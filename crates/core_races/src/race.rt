@@ -1,0 +1,26 @@
+//! The race.
+ghost use Rattle.std.specs.Prelude.{◌≡◌};
+ghost use Rattle.core_semantics.specs.Runs.{races, writes};
+ghost use Rattle.core_semantics.specs.View.{state_of};
+
+use core_semantics::Machine;
+use racer_base::Touch;
+
+/// Whether an access writes.
+fn writes(kind: Touch) -> bool
+    ensures { result ≡ writes kind }
+{
+    matches!(kind, Touch::Write)
+}
+
+/// Whether the next steps of both threads touch one field of one object, and at least one writes it.
+pub fn races(machine: &Machine) -> bool
+    ensures { result ≡ races (state_of machine.now) }
+{
+    match (machine.next_touch(0), machine.next_touch(1)) {
+        (Some((o, f, kind)), Some((p, g, other))) => {
+            o == p && f == g && (writes(kind) || writes(other))
+        }
+        _ => false,
+    }
+}

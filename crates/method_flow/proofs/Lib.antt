@@ -1,0 +1,7 @@
+pub mod JoinedResults
+pub mod Adding
+pub mod Marking
+pub mod Stacks
+pub mod Flows
+pub mod Callees
+pub mod Wholes

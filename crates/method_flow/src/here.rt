@@ -1,0 +1,191 @@
+//! The values of a method's variables, and those on its operand stack.
+ghost use Rattle.std.specs.Prelude.{◌≡◌, ◌+◌, [], IfOk, OnOk, length, slice_index_or, slice_set};
+ghost use Rattle.owner_domain.specs.declared.value.Value.TheVariants.{Unnamed as NotNamed};
+ghost use Rattle.access_domain.specs.Operations.{top, pushed, popped, replaced, passed_from};
+
+use owner_domain::{State, Value};
+use racer_base::{Items, Memory, VarId};
+use std::alloc::Global;
+use std::marker::Model;
+
+/// The values at a place of the code, which contracts see as a `State`.
+#[derive(Drop)]
+pub struct Here {
+    vars: Vec<Value>,
+    /// The top stands last.
+    stack: Vec<Value>,
+}
+
+impl Model for Here {
+    ghost use Rattle.std.specs.Prelude.{reverse};
+    ghost use Rattle.owner_domain.specs.declared.value.State.{State};
+    ghost use Rattle.owner_domain.specs.contracts.value.State as state;
+
+    ghost Value = { State };
+
+    ghost coded = { state.the_row.coded };
+
+    ghost view = { λ here. record { vars = here.vars.items; stack = reverse here.stack.items } };
+}
+
+impl Here {
+    /// These variables, and nothing on the stack.
+    pub fn new(alloc: Global, vars: Vec<Value>) -> Here
+        ensures { result ≡ record { vars = vars.items; stack = [] } }
+    {
+        Here {
+            vars,
+            stack: Vec::new(alloc),
+        }
+    }
+
+    /// How many rounds of a loop there are: one more than there are values.
+    pub fn rounds(&self) -> usize
+        ensures { result ≡ length self.now.vars + length self.now.stack + 1 }
+    {
+        self.vars.len() + self.stack.len() + 1
+    }
+
+    /// The value of a variable, `Unnamed` where there is none of this number.
+    fn variable(&self, alloc: Global, variable: VarId) -> Result<Value, Memory>
+        ensures { IfOk result (λ value. value ≡ slice_index_or self.now.vars variable.0 NotNamed) }
+    {
+        match self.vars.as_slice().get(variable.0 as usize) {
+            Some(value) => value.copied(alloc),
+            None => Ok(Value::Unnamed),
+        }
+    }
+
+    /// Gives a variable this value, where there is one of this number.
+    pub fn set(&mut self, variable: VarId, value: Value)
+        ensures { self.new ≡ record { vars = slice_set self.old.vars variable.0 value; stack = self.old.stack } }
+    {
+        let variable = variable.0 as usize;
+        if variable < self.vars.len() {
+            self.vars[variable] = value;
+        }
+    }
+
+    pub fn push(&mut self, value: Value) -> Result<(), Memory>
+        ensures { OnOk result (self.new ≡ pushed self.old value) }
+    {
+        let Ok(()) = self.stack.push(value) else {
+            return Err(Memory);
+        };
+        Ok(())
+    }
+
+    /// Takes the top, or `Unnamed` where there is none.
+    pub fn pop(&mut self) -> Value
+        ensures value { result ≡ top self.old }
+        ensures rest { self.new ≡ popped self.old 1 }
+    {
+        match self.stack.pop() {
+            Some(value) => value,
+            None => Value::Unnamed,
+        }
+    }
+
+    /// Pushes a value that is equal to that of a variable, `Unnamed` where there is none of this number.
+    pub fn push_variable(&mut self, alloc: Global, variable: VarId) -> Result<(), Memory>
+        ensures { OnOk result (self.new ≡ pushed self.old (slice_index_or self.old.vars variable.0 NotNamed)) }
+    {
+        let Ok(value) = self.variable(alloc, variable) else {
+            return Err(Memory);
+        };
+        self.push(value)
+    }
+
+    /// Pushes a value that is equal to the top.
+    pub fn push_top(&mut self, alloc: Global) -> Result<(), Memory>
+        ensures { OnOk result (self.new ≡ pushed self.old (top self.old)) }
+    {
+        let Ok(value) = self.top(alloc) else {
+            return Err(Memory);
+        };
+        self.push(value)
+    }
+
+    /// A value that is equal to the top.
+    pub fn top(&self, alloc: Global) -> Result<Value, Memory>
+        ensures { IfOk result (λ value. value ≡ top self.now) }
+    {
+        match self.stack.as_slice().last() {
+            Some(value) => value.copied(alloc),
+            None => Ok(Value::Unnamed),
+        }
+    }
+
+    /// Takes so many values, in the order in which they were pushed.
+    pub fn take(&mut self, count: u32) -> Result<Vec<Value>, Memory>
+        ensures values { IfOk result (λ values. values.items ≡ passed_from self.old count) }
+        ensures rest { OnOk result (self.new ≡ popped self.old count) }
+    {
+        let kept = self.stack.len().saturating_sub(count as usize);
+        Ok(self.stack.split_off(kept)?)
+    }
+
+    /// Takes so many values, and pushes one.
+    pub fn replace(&mut self, count: u32, value: Value) -> Result<(), Memory>
+        ensures { OnOk result (self.new ≡ replaced self.old count value) }
+    {
+        let kept = self.stack.len().saturating_sub(count as usize);
+        self.stack.truncate(kept);
+        self.push(value)
+    }
+
+    /// Equal values.
+    pub fn copied(&self, alloc: Global) -> Result<Here, Memory>
+        ensures { IfOk result (λ copy. copy ≡ self.now) }
+    {
+        let Ok(vars) = copies(alloc, self.vars.as_slice()) else {
+            return Err(Memory);
+        };
+        let Ok(stack) = copies(alloc, self.stack.as_slice()) else {
+            return Err(Memory);
+        };
+        Ok(Here { vars, stack })
+    }
+
+    /// The values as a state.
+    pub fn into_state(self) -> State
+        ensures { result ≡ self }
+    {
+        let mut stack = self.stack;
+        stack.reverse();
+        State {
+            vars: Items::from(self.vars),
+            stack: Items::from(stack),
+        }
+    }
+
+    /// The values of a state.
+    pub fn of_state(state: State) -> Here
+        ensures { result ≡ state }
+    {
+        let mut stack = state.stack.into_vec();
+        stack.reverse();
+        Here {
+            vars: state.vars.into_vec(),
+            stack,
+        }
+    }
+}
+
+/// Values that are equal to these, in order.
+fn copies(alloc: Global, values: &[Value]) -> Result<Vec<Value>, Memory>
+    ensures { IfOk result (λ copies. copies.items ≡ values.now) }
+{
+    let Ok(mut copies) = Vec::with_capacity(alloc, values.len()) else {
+        return Err(Memory);
+    };
+    for value in values {
+        let Ok(copy) = value.copied(alloc) else {
+            return Err(Memory);
+        };
+        let Ok(()) = copies.push(copy) else {
+            return Err(Memory);
+        };
+    }
+    Ok(copies)
+}
