@@ -1,7 +1,8 @@
 //! Which methods lie on a cycle of calls.
-ghost use Rattle.std.specs.Prelude.{◌≡◌, IfOk, length, nat_eq, nat_le, Some};
+ghost use Rattle.std.specs.Prelude.{◌≡◌, IfOk, length, nat_eq, nat_le, slice_get};
 ghost use Rattle.std.specs.List.{list_all, list_any};
-ghost use Rattle.call_graph.specs.Chains.{TellCycles};
+ghost use Rattle.call_graph.specs.Chains.{TellCycles, row_of};
+ghost use Rattle.call_graph.specs.Falling.{number_of};
 ghost use Rattle.call_graph.specs.Shown as shown;
 
 use crate::lookups::{method_at, number, row};
@@ -17,14 +18,22 @@ fn component(t: &Tables, m: MethodId) -> u32
     number(t.components.as_slice(), m)
 }
 
+/// Whether what was found is this method.
+fn is_method(found: Option<MethodId>, m: MethodId) -> bool
+    ensures { result ≡ shown.is_method found m }
+{
+    match found {
+        Some(root) => root.0 == m.0,
+        None => false,
+    }
+}
+
 /// Whether a method is the root of its component.
 fn is_root(t: &Tables, m: MethodId) -> bool
     ensures { result ≡ shown.is_root t.now m }
 {
-    match t.order.get(component(t, m).saturating_sub(1) as usize) {
-        Some(root) => root.0 == m.0,
-        None => false,
-    }
+    let place = component(t, m).saturating_sub(1) as usize;
+    is_method(t.order.get(place).copied(), m)
 }
 
 /// Whether a second method is of the component of the first and has a smaller number.
@@ -53,27 +62,37 @@ fn leads_to_root(rows: &[Items<MethodId>], t: &Tables, m: MethodId) -> bool
     is_root(t, m) || has_nearer(t, t.near.as_slice(), m, row(rows, m))
 }
 
-/// Whether a step leads to a method, from one of its component that is nearer to the root.
-fn is_step_to(rows: &[Items<MethodId>], t: &Tables, m: MethodId, reach: &Reach) -> bool
-    ensures { result ≡ shown.is_step_to rows.now t.now m (Some reach.now) }
+/// The method that a step leads to.
+fn callee_of(rows: &[Items<MethodId>], step: Reach) -> Option<MethodId>
+    ensures { result ≡ slice_get (row_of rows.now step.from) step.call }
 {
-    match row(rows, reach.from).get(reach.call) {
-        Some(callee) => callee.0 == m.0 && is_nearer(t, t.far.as_slice(), m, reach.from),
+    row(rows, step.from).get(step.call).copied()
+}
+
+/// Whether a step leads to a method, from one of its component that is nearer to the root.
+fn is_step_to(rows: &[Items<MethodId>], t: &Tables, m: MethodId, step: Option<Reach>) -> bool
+    ensures { result ≡ shown.is_step_to rows.now t.now m step }
+{
+    match step {
+        Some(step) => is_method(callee_of(rows, step), m)
+            && is_nearer(t, t.far.as_slice(), m, step.from),
         None => false,
     }
+}
+
+/// The step that is told to lead to a method.
+fn step_to(t: &Tables, m: MethodId) -> Option<Reach>
+    ensures { result ≡ slice_get t.now.steps.items (number_of t.now.far.items m) }
+{
+    let place = number(t.far.as_slice(), m) as usize;
+    t.steps.get(place).copied()
 }
 
 /// Whether a method is the root of its component, or is called by one that is nearer to it.
 fn is_led_to(rows: &[Items<MethodId>], t: &Tables, m: MethodId) -> bool
     ensures { result ≡ shown.is_led_to rows.now t.now m }
 {
-    if is_root(t, m) {
-        return true;
-    }
-    match t.steps.get(number(t.far.as_slice(), m) as usize) {
-        Some(reach) => is_step_to(rows, t, m, reach),
-        None => false,
-    }
+    is_root(t, m) || is_step_to(rows, t, m, step_to(t, m))
 }
 
 /// Whether the components of these methods are no greater than that of a method.

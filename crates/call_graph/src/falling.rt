@@ -51,8 +51,14 @@ pub fn falling_numbers(alloc: Global, rows: &[Items<MethodId>]) -> Result<Vec<u3
     ensures fall { IfOk result (λ numbers. DoFall rows.now numbers.items) }
 {
     let order = leaving_order(alloc, rows)?;
-    let mut numbers = vec![in alloc; 0; rows.len()]?;
-    set_places(numbers.as_mut_slice(), order.as_slice())?;
-    checked(rows, numbers.as_slice())?;
+    let Ok(mut numbers) = vec![in alloc; 0; rows.len()] else {
+        return Err(Memory);
+    };
+    let Ok(()) = set_places(numbers.as_mut_slice(), order.as_slice()) else {
+        return Err(Memory);
+    };
+    let Ok(()) = checked(rows, numbers.as_slice()) else {
+        return Err(Memory);
+    };
     Ok(numbers)
 }

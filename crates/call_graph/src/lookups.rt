@@ -27,15 +27,18 @@ pub(crate) fn number(numbers: &[u32], m: MethodId) -> u32
 
 /// A place, counted from 1.
 pub(crate) fn number_from_one(place: usize) -> Result<u32, Memory> {
-    u32::try_from(place)
-        .map_err(|_| Memory)?
-        .checked_add(1)
-        .ok_or(Memory)
+    let Ok(place) = u32::try_from(place) else {
+        return Err(Memory);
+    };
+    place.checked_add(1).ok_or(Memory)
 }
 
 /// The method whose row stands at this place.
 pub(crate) fn method_at(place: usize) -> Result<MethodId, Memory>
     ensures { IfOk result (λ m. m.0 ≡ place) }
 {
-    Ok(MethodId(u32::try_from(place).map_err(|_| Memory)?))
+    match u32::try_from(place) {
+        Ok(place) => Ok(MethodId(place)),
+        Err(_) => Err(Memory),
+    }
 }

@@ -22,13 +22,19 @@ struct Walk {
 impl Walk {
     /// A walk that is to enter every method.
     fn start(alloc: Global, count: usize) -> Result<Walk, Memory> {
+        let entered = vec![in alloc; false; count]?;
         let mut visits = Vec::new(alloc);
         for place in 0..count {
-            visits.push(Visit::Enter(method_at(place)?))?;
+            let Ok(m) = method_at(place) else {
+                return Err(Memory);
+            };
+            let Ok(()) = visits.push(Visit::Enter(m)) else {
+                return Err(Memory);
+            };
         }
         Ok(Walk {
             visits,
-            entered: vec![in alloc; false; count]?,
+            entered,
             left: Vec::new(alloc),
         })
     }
@@ -50,7 +56,9 @@ impl Walk {
         if self.is_new(m) {
             self.visits.push(Visit::Leave(m))?;
             for callee in callees {
-                self.visits.push(Visit::Enter(*callee))?;
+                let Ok(()) = self.visits.push(Visit::Enter(*callee)) else {
+                    return Err(Memory);
+                };
             }
         }
         Ok(())
@@ -74,10 +82,13 @@ pub(crate) fn leaving_order(
 ) -> Result<Vec<MethodId>, Memory> {
     let mut walk = Walk::start(alloc, rows.len())?;
     for _ in 0..turns(rows) {
-        match walk.visits.pop() {
-            Some(Visit::Enter(m)) => walk.enter(m, row(rows, m))?,
-            Some(Visit::Leave(m)) => walk.left.push(m)?,
+        let done = match walk.visits.pop() {
+            Some(Visit::Enter(m)) => walk.enter(m, row(rows, m)).is_ok(),
+            Some(Visit::Leave(m)) => walk.left.push(m).is_ok(),
             None => break,
+        };
+        if !done {
+            return Err(Memory);
         }
     }
     Ok(walk.left)

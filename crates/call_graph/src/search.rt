@@ -55,10 +55,12 @@ impl Search<'_> {
         };
         self.enter(first, old, new)?;
         for next in begin..self.rows.len() {
-            match self.reached.get(next).copied() {
-                Some(reach) => self.enter_row(reach.method, old, new)?,
-                None => break,
-            }
+            let Some(reach) = self.reached.get(next).copied() else {
+                break;
+            };
+            let Ok(()) = self.enter_row(reach.method, old, new) else {
+                return Err(Memory);
+            };
         }
         Ok(())
     }
@@ -67,8 +69,11 @@ impl Search<'_> {
     pub(crate) fn places(&self, alloc: Global) -> Result<Vec<u32>, Memory> {
         let mut places = vec![in alloc; 0; self.rows.len()]?;
         for (place, reach) in self.reached.iter().enumerate() {
+            let Ok(place) = u32::try_from(place) else {
+                return Err(Memory);
+            };
             if let Some(known) = places.get_mut(reach.method.0 as usize) {
-                *known = u32::try_from(place).map_err(|_| Memory)?;
+                *known = place;
             }
         }
         Ok(places)

@@ -47,7 +47,12 @@ fn push_caller(
 fn callers(alloc: Global, rows: &[Items<MethodId>]) -> Result<Vec<Items<MethodId>>, Memory> {
     let mut callers = empty_rows(alloc, rows.len())?;
     for (place, row) in rows.iter().enumerate() {
-        push_caller(callers.as_mut_slice(), method_at(place)?, row.as_slice())?;
+        let Ok(caller) = method_at(place) else {
+            return Err(Memory);
+        };
+        let Ok(()) = push_caller(callers.as_mut_slice(), caller, row.as_slice()) else {
+            return Err(Memory);
+        };
     }
     Ok(callers)
 }
@@ -55,7 +60,10 @@ fn callers(alloc: Global, rows: &[Items<MethodId>]) -> Result<Vec<Items<MethodId
 /// Searches from each method against the calls, the last in the order first. Each component is what its root reaches.
 fn gather(search: &mut Search, order: &[MethodId]) -> Result<(), Memory> {
     for (place, root) in order.iter().enumerate().rev() {
-        search.spread(*root, 0, number_from_one(place)?)?;
+        let number = number_from_one(place)?;
+        let Ok(()) = search.spread(*root, 0, number) else {
+            return Err(Memory);
+        };
     }
     Ok(())
 }
@@ -68,27 +76,53 @@ fn scatter(search: &mut Search, order: &[MethodId]) -> Result<(), Memory> {
     Ok(())
 }
 
+/// For each method the number of its component, and how early a search against the calls reached it.
+fn gather_all(
+    alloc: Global,
+    rows: &[Items<MethodId>],
+    order: &[MethodId],
+) -> Result<(Vec<u32>, Vec<u32>), Memory> {
+    let callers = callers(alloc, rows)?;
+    let Ok(tags) = vec![in alloc; 0; rows.len()] else {
+        return Err(Memory);
+    };
+    let mut search = Search {
+        rows: callers.as_slice(),
+        tags,
+        reached: Vec::new(alloc),
+    };
+    let Ok(()) = gather(&mut search, order) else {
+        return Err(Memory);
+    };
+    let Ok(near) = search.places(alloc) else {
+        return Err(Memory);
+    };
+    Ok((search.tags, near))
+}
+
 /// The tables of these rows.
 pub(crate) fn component_tables(alloc: Global, rows: &[Items<MethodId>]) -> Result<Tables, Memory> {
     let order = leaving_order(alloc, rows)?;
-    let callers = callers(alloc, rows)?;
-    let mut back = Search {
-        rows: callers.as_slice(),
-        tags: vec![in alloc; 0; rows.len()]?,
-        reached: Vec::new(alloc),
+    let (components, near) = gather_all(alloc, rows, order.as_slice())?;
+    let Ok(tags) = components.clone() else {
+        return Err(Memory);
     };
-    gather(&mut back, order.as_slice())?;
-    let mut forth = Search {
+    let mut search = Search {
         rows,
-        tags: back.tags.clone()?,
+        tags,
         reached: Vec::new(alloc),
     };
-    scatter(&mut forth, order.as_slice())?;
+    let Ok(()) = scatter(&mut search, order.as_slice()) else {
+        return Err(Memory);
+    };
+    let Ok(far) = search.places(alloc) else {
+        return Err(Memory);
+    };
     Ok(Tables {
         order,
-        near: back.places(alloc)?,
-        components: back.tags,
-        far: forth.places(alloc)?,
-        steps: forth.reached,
+        components,
+        near,
+        far,
+        steps: search.reached,
     })
 }

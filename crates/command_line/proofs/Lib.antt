@@ -9,3 +9,5 @@ pub mod IdleReads
 pub mod Finished
 pub mod GivenLines
 pub mod Texts
+pub mod AddedRules
+pub mod Answered

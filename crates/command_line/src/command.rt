@@ -1,8 +1,8 @@
 //! The words as `clap` reads them.
-ghost use Rattle.std.specs.Prelude.{◌≡◌, map, string_bytes, IfOk, IfSome, IfNone, true, false, []};
+ghost use Rattle.std.specs.Prelude.{◌≡◌, ◌∷◌, ◌++◌, map, string_bytes, IfOk, OnOk, IfSome, IfNone, true, []};
 ghost use Rattle.clap.specs.Matches.{found_of};
-ghost use Rattle.clap.specs.Walk.{rows_of, rule_of};
-ghost use Rattle.clap.specs.Simple.{app_of, matches_of, with_rule};
+ghost use Rattle.clap.specs.Walk.{rows_of};
+ghost use Rattle.clap.specs.Simple.{app_of, matches_of};
 ghost use Rattle.clap.specs.Faults.{fault_of};
 ghost use Rattle.command_line.specs.Command as spec;
 
@@ -11,59 +11,43 @@ use clap::{Arg, ArgAction, ArgMatches, Command};
 use racer_base::Memory;
 use std::alloc::Global;
 
-/// The command with one more argument.
-fn with_argument<'a>(command: Command<'a>, argument: Arg<'a>) -> Result<Command<'a>, Memory>
-    requires { argument.global ≡ false }
-    ensures { IfOk result (λ c. app_of c ≡ with_rule (app_of command.entry) (rule_of argument.entry)) }
-{
-    Ok(command.arg(argument)?)
-}
-
-/// The command with one more option that takes a value.
-fn with_option<'a>(
+/// Puts an option or a flag behind the arguments that there are.
+fn push_named<'a>(
     alloc: Global,
-    command: Command<'a>,
+    arguments: &mut Vec<Arg<'a>>,
     name: &'a str,
-) -> Result<Command<'a>, Memory>
-    ensures { IfOk result (λ c. app_of c ≡ with_rule (app_of command.entry) (spec.option_rule name.now)) }
+    action: ArgAction,
+) -> Result<(), Memory>
+    ensures { OnOk result (spec.rules_of arguments.new.items
+        ≡ spec.rules_of arguments.old.items ++ spec.local (spec.named_rule name.now action) ∷ []) }
 {
-    with_argument(
-        command,
-        Arg::new(alloc, name).long(name).action(ArgAction::Set),
-    )
+    arguments.push(Arg::new(alloc, name).long(name).action(action))?;
+    Ok(())
 }
 
-/// The command with one more flag.
-fn with_flag<'a>(alloc: Global, command: Command<'a>, name: &'a str) -> Result<Command<'a>, Memory>
-    ensures { IfOk result (λ c. app_of c ≡ with_rule (app_of command.entry) (spec.flag_rule name.now)) }
+/// Puts an optional folder, three options with a value and three flags behind the arguments that there are.
+fn push_arguments<'a>(alloc: Global, arguments: &mut Vec<Arg<'a>>) -> Result<(), Memory>
+    ensures { OnOk result (spec.rules_of arguments.new.items ≡ spec.with_all (spec.rules_of arguments.old.items)) }
 {
-    with_argument(
-        command,
-        Arg::new(alloc, name).long(name).action(ArgAction::SetTrue),
-    )
+    arguments.push(Arg::new(alloc, "FOLDER").action(ArgAction::Set))?;
+    push_named(alloc, arguments, "workers", ArgAction::Set)?;
+    push_named(alloc, arguments, "replay", ArgAction::Set)?;
+    push_named(alloc, arguments, "made", ArgAction::Set)?;
+    push_named(alloc, arguments, "json", ArgAction::SetTrue)?;
+    push_named(alloc, arguments, "summaries", ArgAction::SetTrue)?;
+    push_named(alloc, arguments, "history", ArgAction::SetTrue)
 }
 
-/// The command with its folder.
-fn with_folder<'a>(alloc: Global) -> Result<Command<'a>, Memory>
-    ensures { IfOk result (λ c. app_of c ≡ spec.folder_command) }
-{
-    let command = Command::new(alloc, "racer")
-        .no_binary_name(true)
-        .disable_help_flag(true);
-    with_argument(command, Arg::new(alloc, "FOLDER").action(ArgAction::Set))
-}
-
-/// The command: an optional folder, three options with a value, three flags.
+/// The command with its arguments.
 fn command<'a>(alloc: Global) -> Result<Command<'a>, Memory>
     ensures { IfOk result (λ c. app_of c ≡ spec.command) }
 {
-    let command = with_folder(alloc)?;
-    let command = with_option(alloc, command, "workers")?;
-    let command = with_option(alloc, command, "replay")?;
-    let command = with_option(alloc, command, "made")?;
-    let command = with_flag(alloc, command, "json")?;
-    let command = with_flag(alloc, command, "summaries")?;
-    with_flag(alloc, command, "history")
+    let mut arguments = Vec::new(alloc);
+    push_arguments(alloc, &mut arguments)?;
+    let command = Command::new(alloc, "racer")
+        .no_binary_name(true)
+        .disable_help_flag(true);
+    Ok(command.args(arguments)?)
 }
 
 /// The words as the command reads them, where it takes them.

@@ -4,5 +4,6 @@ pub mod ByRank
 pub mod Membership
 pub mod InRange
 pub mod Gathering
+pub mod Loops
 pub mod Different
 pub mod Ranks

@@ -1,0 +1,22 @@
+use Rattle.std.proofs.Common.{List, map, refl, ◌∙◌, arith}
+use Rattle.core_code.specs.declared.code.Code.{Code}
+use Rattle.core_code.specs.Tree.{tree_of, in_sequence}
+use Rattle.core_code.specs.Gathered.{callees_of}
+use Rattle.core_code.proofs.Loops.{one_turn, at_end}
+use Rattle.core_code.proofs.calls.+calls.Goals as goal
+
+pub push_all_callees-loop-part-preserved : goal.push_all_callees-loop-part-preserved
+push_all_callees-loop-part-preserved n c =
+    let all = c.args.all in
+    one_turn (λ (parts : List Code). callees_of all (in_sequence (map tree_of parts)))
+    (λ (part : Code). callees_of all (tree_of part)) c.args.parts.now c.loop-part.part-index c.part-item.result
+    c.loop-part.callees.items c.push_callees.new.callees.items (λ part parts. refl) c.loop-part-test.true
+    c.part-item.is c.in_ok-push_callees.ensures
+    ∙ c.loop-part.invariant
+
+pub push_all_callees-returns : goal.push_all_callees-returns
+push_all_callees-returns n c =
+    let all = c.args.all in
+    at_end (λ (parts : List Code). callees_of all (in_sequence (map tree_of parts))) c.args.parts.now
+    c.loop-part.part-index c.loop-part.callees.items refl (omega (arith, c.loop-part-test.false))
+    ∙ c.loop-part.invariant
