@@ -1,3 +1,4 @@
+pub mod Pushed
 pub mod AccessParts
 pub mod CallParts
 pub mod Numbering

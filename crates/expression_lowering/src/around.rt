@@ -6,7 +6,7 @@ ghost use Rattle.core_code.specs.declared.code.Op.TheVariants.{PushNull};
 ghost use Rattle.java_resolver.specs.Declarations.{class_names};
 ghost use Rattle.java_resolver.specs.Meanings.{field_named, found};
 ghost use Rattle.java_resolver.specs.TypeKinds.{class_named};
-ghost use Rattle.java_lowering.specs.Around.{Code, op, converted, push_this, push_own_class, push_owner, meaning_of};
+ghost use Rattle.java_lowering.specs.Around.{Code, op, converted, push_this, push_owner, meaning_of};
 ghost use Rattle.java_lowering.specs.Around.{type_kind, is_analysed};
 ghost use Rattle.java_lowering.specs.Assignments.{field_at};
 ghost use Rattle.java_lowering.specs.Calls.{info_at};
@@ -18,6 +18,7 @@ ghost use Rattle.expression_lowering.specs.Parts.{entered_in, left_at};
 
 use crate::draft::Draft;
 use crate::given::Given;
+use crate::numbers::number_of;
 use crate::value_kind::{ValueKind, is_converted};
 use crate::variables::Variables;
 use core_code::{Op, Reason};
@@ -190,16 +191,23 @@ impl<'a> Around<'a> {
         draft.op(self.place, operation)
     }
 
+    /// Puts an operation at the place of the method, which leaves a value of this kind.
+    pub(crate) fn value(
+        &self,
+        draft: &mut Draft,
+        operation: Op,
+        kind: ValueKind,
+    ) -> Result<ValueKind, Memory>
+        ensures code { OnOk result (code_of draft.new ≡ code_of draft.old ++ op self.now operation) }
+        ensures kind { IfOk result (λ k. value_kind k ≡ value_kind kind) }
+    {
+        draft.value(self.place, operation, kind)
+    }
+
     pub fn push_this(&self, draft: &mut Draft) -> Result<(), Memory>
         ensures { OnOk result (code_of draft.new ≡ code_of draft.old ++ push_this self.now) }
     {
         draft.op(self.place, Op::Push(VarId(0)))
-    }
-
-    pub fn push_own_class(&self, draft: &mut Draft) -> Result<(), Memory>
-        ensures { OnOk result (code_of draft.new ≡ code_of draft.old ++ push_own_class self.now) }
-    {
-        draft.op(self.place, Op::PushClass(self.class))
     }
 
     /// `this` of an instance method, the class of a static one.
@@ -207,7 +215,7 @@ impl<'a> Around<'a> {
         ensures { OnOk result (code_of draft.new ≡ code_of draft.old ++ push_owner self.now) }
     {
         if self.is_static {
-            self.push_own_class(draft)
+            draft.op(self.place, Op::PushClass(self.class))
         } else {
             self.push_this(draft)
         }
@@ -228,7 +236,7 @@ impl<'a> Around<'a> {
         ensures variable { IfOk result (λ v. v ≡ next_variable self.old) }
         ensures around { OnOk result (self.new ≡ declared self.old kind name.now) }
     {
-        let id = VarId(u32::try_from(self.kinds.len()).map_err(|_| Memory)?);
+        let id = VarId(number_of(self.kinds.len())?);
         self.variables.declare(alloc, name.text.as_str(), id, kind)?;
         self.kinds.push(kind)?;
         Ok(id)

@@ -16,6 +16,7 @@ ghost use Rattle.expression_lowering.specs.Together.{target_callee, target_front
 
 use crate::around::Around;
 use crate::draft::Draft;
+use crate::numbers::number_of;
 use crate::value_kind::ValueKind;
 use core_code::Op;
 use java_tree::{Ident, TypeTree};
@@ -48,13 +49,6 @@ impl Callee {
             Callee::Missing => Callee::Missing,
         }
     }
-}
-
-/// How many there are.
-fn number_of(count: usize) -> Result<u32, Memory>
-    ensures { IfOk result (λ n. n ≡ count) }
-{
-    u32::try_from(count).map_err(|_| Memory)
 }
 
 /// A method of the folder.
@@ -247,8 +241,8 @@ fn begin_value_call(around: &Around, callee: Callee, draft: &mut Draft) -> Resul
     }
 }
 
-/// A value of no method of the folder, with so many arguments and an object.
-fn call_outside(around: &Around, count: u32, draft: &mut Draft) -> Result<(), Memory>
+/// What is not the folder's, with so many values and one more.
+pub fn call_outside(around: &Around, count: u32, draft: &mut Draft) -> Result<(), Memory>
     ensures { OnOk result (code_of draft.new ≡ code_of draft.old ++ op around.now (Outside (suc count))) }
 {
     let all = count.checked_add(1).ok_or(Memory)?;

@@ -4,6 +4,7 @@ ghost use Rattle.core_code.specs.Tree.{can_end, tree_of};
 ghost use Rattle.java_lowering.specs.Around.{choice, repeated, held};
 ghost use Rattle.expression_lowering.specs.Erased.{AreNumbered, whole_of};
 
+use crate::value_kind::ValueKind;
 use core_code::{Code, Op};
 use racer_base::{Memory, Place, SiteId};
 use std::alloc::Global;
@@ -69,11 +70,12 @@ fn hold(alloc: Global, parts: &mut Vec<Code>, place: Place, at: usize) -> Result
 }
 
 impl Draft {
-    ghost use Rattle.std.specs.Prelude.{◌≡◌, [], ◌++◌, take, drop, length, OnOk};
+    ghost use Rattle.std.specs.Prelude.{◌≡◌, [], ◌++◌, take, drop, length, OnOk, IfOk};
     ghost use Rattle.core_code.specs.Tree.{can_end, in_sequence, tree_of};
     ghost use Rattle.java_lowering.specs.Around.{op_at, choice, repeated, held};
     ghost use Rattle.java_lowering.specs.Sites.{numbered};
     ghost use Rattle.expression_lowering.specs.Drafts.{code_of};
+    ghost use Rattle.expression_lowering.specs.Views.{value_kind};
 
     pub fn new(alloc: Global) -> Draft
         ensures { code_of result ≡ [] }
@@ -99,6 +101,20 @@ impl Draft {
         self.parts.push(Code::Op(SiteId(self.next), place, op))?;
         self.next = next;
         Ok(())
+    }
+
+    /// Puts an operation at the end, which leaves a value of this kind.
+    pub(crate) fn value(
+        &mut self,
+        place: Place,
+        op: Op,
+        kind: ValueKind,
+    ) -> Result<ValueKind, Memory>
+        ensures code { OnOk result (code_of self.new ≡ code_of self.old ++ op_at place op) }
+        ensures kind { IfOk result (λ k. value_kind k ≡ value_kind kind) }
+    {
+        self.op(place, op)?;
+        Ok(kind)
     }
 
     /// Makes the parts from one on and those from another on the two sides of a choice.

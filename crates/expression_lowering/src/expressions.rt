@@ -16,13 +16,13 @@ use crate::around::Around;
 use crate::calls::Target;
 use crate::draft::Draft;
 use crate::invocations::{lower_arguments, lower_call, lower_call_on, lower_new};
-use crate::names::{class_before, this_object};
-use crate::operators::{is_count, literal};
-use crate::storage::{Storage, named, of_class, of_value};
+use crate::names::{class_before, class_object, this_object};
+use crate::operators::{cast, is_count, literal};
+use crate::storage::{Storage, named, of_class, of_value, read};
 use crate::value_kind::ValueKind;
 use crate::values::{
-    begin_assign, begin_conditional, begin_operator, cast_to, class_value, count_value, end_assign,
-    end_conditional, end_operator, new_array, read_value, unary,
+    begin_assign, begin_conditional, begin_operator, count_value, end_assign, end_conditional,
+    end_operator, new_array, prim,
 };
 use java_tree::{Expression, Ident, Initialiser, TypeTree};
 use racer_base::{Memory, Place};
@@ -55,7 +55,7 @@ pub fn lower_expression(
         Expression::Index(_, _) => lower_read(alloc, around, e, draft),
         Expression::Call(None, x, all) => { lower_call(alloc, around, all, Target::Own, x, draft) }
         Expression::Call(Some(a), x, all) => lower_call_on(alloc, around, a, x, all, draft),
-        Expression::ClassOf(names) => class_value(around, names, draft),
+        Expression::ClassOf(names) => class_object(around, names, draft),
         Expression::New(place, t, all) => lower_new(alloc, around, all, *place, t, draft),
         Expression::NewArray(place, _, all, _) => lower_lengths(alloc, around, all, *place, draft),
         Expression::NewItems(place, _, _, array) => {
@@ -135,7 +135,7 @@ fn lower_read(
     ensures kind { IfOk result (λ k. value_kind k ≡ kind around.now (Read (access_of (expr_of e.now)))) }
 {
     let storage = lower_storage(alloc, around, e, draft)?;
-    read_value(around, storage, draft)
+    read(around, storage, draft)
 }
 
 /// An assignment with this operator.
@@ -177,7 +177,7 @@ fn lower_prefix(
         return count_value(around, storage, draft);
     }
     lower_expression(alloc, around, a, draft)?;
-    unary(around, draft)
+    prim(around, 1, draft)
 }
 
 /// `(T) a`
@@ -194,7 +194,7 @@ fn lower_cast(
     ensures kind { IfOk result (λ k. value_kind k ≡ kind around.now (Cast (ty_of t.now) (expr_of a.now))) }
 {
     lower_expression(alloc, around, a, draft)?;
-    cast_to(around, t, draft)
+    cast(around, around.type_kind(t), draft)
 }
 
 /// An operator with two operands.

@@ -11,6 +11,7 @@ mod expressions;
 mod given;
 mod invocations;
 mod names;
+mod numbers;
 mod operators;
 mod storage;
 mod value_kind;

@@ -1,7 +1,9 @@
 //! Names of classes, and `this`.
 ghost use Rattle.std.specs.Prelude.{◌≡◌, ◌++◌, OnOk, IfOk};
+ghost use Rattle.racer_base.specs.declared.ids.Kind.TheVariants.{Other};
 ghost use Rattle.java_resolver.specs.declared.scope.Meaning.{Meaning};
 ghost use Rattle.java_lowering.specs.TreesOf.{expr_of};
+ghost use Rattle.java_lowering.specs.ValueKinds.{Of};
 ghost use Rattle.java_lowering.specs.Expressions.{class_meant, class_before, class_written, class_object, this_object};
 ghost use Rattle.java_lowering.specs.Expressions.{this_kind};
 ghost use Rattle.expression_lowering.specs.Drafts.{code_of};
@@ -13,7 +15,7 @@ use crate::value_kind::ValueKind;
 use core_code::Op;
 use java_resolver::Meaning;
 use java_tree::{Expression, Ident};
-use racer_base::{ClassId, Kind, Memory};
+use racer_base::{ClassId, Kind, Memory, VarId};
 
 /// The class that a name means.
 fn class_meant(meaning: Meaning) -> Option<ClassId>
@@ -46,13 +48,18 @@ fn class_written(around: &Around, names: &[Ident]) -> Option<ClassId>
 }
 
 /// `x.class`
-pub fn class_object(around: &Around, names: &[Ident], draft: &mut Draft) -> Result<(), Memory>
-    ensures { OnOk result (code_of draft.new ≡ code_of draft.old
+pub fn class_object(
+    around: &Around,
+    names: &[Ident],
+    draft: &mut Draft,
+) -> Result<ValueKind, Memory>
+    ensures code { OnOk result (code_of draft.new ≡ code_of draft.old
         ++ class_object around.now (class_written around.now names.now)) }
+    ensures kind { IfOk result (λ k. value_kind k ≡ Of Other) }
 {
     match class_written(around, names) {
-        Some(c) => around.op(draft, Op::PushClass(c)),
-        None => around.op(draft, Op::Outside(0)),
+        Some(c) => around.value(draft, Op::PushClass(c), ValueKind::Of(Kind::Other)),
+        None => around.value(draft, Op::Outside(0), ValueKind::Of(Kind::Other)),
     }
 }
 
@@ -62,9 +69,11 @@ pub fn this_object(around: &Around, draft: &mut Draft) -> Result<ValueKind, Memo
     ensures kind { IfOk result (λ k. value_kind k ≡ this_kind around.now) }
 {
     if around.is_static() {
-        around.op(draft, Op::Outside(0))?;
-        return Ok(ValueKind::Of(Kind::Other));
+        return around.value(draft, Op::Outside(0), ValueKind::Of(Kind::Other));
     }
-    around.push_this(draft)?;
-    Ok(ValueKind::Of(Kind::Declared(around.class())))
+    around.value(
+        draft,
+        Op::Push(VarId(0)),
+        ValueKind::Of(Kind::Declared(around.class())),
+    )
 }

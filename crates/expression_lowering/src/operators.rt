@@ -1,6 +1,7 @@
 //! Operators and literals, by what they are lowered to.
 ghost use Rattle.std.specs.Prelude.{◌≡◌, ◌++◌, OnOk, IfOk};
 ghost use Rattle.java_lowering.specs.TreesOf.{is_assignment, is_logical, is_count, literal};
+ghost use Rattle.java_lowering.specs.ValueKinds.{Of};
 ghost use Rattle.java_lowering.specs.Expressions.{code, kind, cast};
 ghost use Rattle.expression_lowering.specs.Drafts.{code_of};
 ghost use Rattle.expression_lowering.specs.Views.{value_kind};
@@ -41,24 +42,22 @@ pub fn literal(
     ensures kind { IfOk result (λ k. value_kind k ≡ kind around.now (literal token text.now)) }
 {
     if token == TokenKind::Text {
-        around.op(draft, Op::Outside(0))?;
-        return Ok(ValueKind::Of(Kind::Other));
+        return around.value(draft, Op::Outside(0), ValueKind::Of(Kind::Other));
     }
     if token == TokenKind::Fixed && text == "null" {
-        around.op(draft, Op::PushNull)?;
-        return Ok(ValueKind::Null);
+        return around.value(draft, Op::PushNull, ValueKind::Null);
     }
-    around.op(draft, Op::PushPrim)?;
-    Ok(ValueKind::Of(Kind::Plain))
+    around.value(draft, Op::PushPrim, ValueKind::Of(Kind::Plain))
 }
 
 /// A value on its way through a cast to a kind.
-pub fn cast(around: &Around, kind: Kind, draft: &mut Draft) -> Result<(), Memory>
-    ensures { OnOk result (code_of draft.new ≡ code_of draft.old ++ cast around.now kind) }
+pub fn cast(around: &Around, kind: Kind, draft: &mut Draft) -> Result<ValueKind, Memory>
+    ensures code { OnOk result (code_of draft.new ≡ code_of draft.old ++ cast around.now kind) }
+    ensures kind { IfOk result (λ k. value_kind k ≡ Of kind) }
 {
     match kind {
-        Kind::Plain => around.op(draft, Op::Prim(1)),
-        Kind::Declared(_) => around.op(draft, Op::Outside(1)),
-        Kind::Other => around.op(draft, Op::Outside(1)),
+        Kind::Plain => around.value(draft, Op::Prim(1), ValueKind::Of(kind)),
+        Kind::Declared(_) => around.value(draft, Op::Outside(1), ValueKind::Of(kind)),
+        Kind::Other => around.value(draft, Op::Outside(1), ValueKind::Of(kind)),
     }
 }

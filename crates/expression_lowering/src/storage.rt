@@ -3,6 +3,7 @@ ghost use Rattle.std.specs.Prelude.{◌≡◌, ◌++◌, [], OnOk, IfOk, Some, t
 ghost use Rattle.racer_base.specs.declared.ids.Kind.{Kind};
 ghost use Rattle.java_resolver.specs.Meanings.{field_named};
 ghost use Rattle.java_resolver.specs.declared.scope.Meaning.TheVariants.{Field};
+ghost use Rattle.java_lowering.specs.Around.{op};
 ghost use Rattle.java_lowering.specs.Assignments.{named, named_in, of_class, of_value, of_object};
 ghost use Rattle.expression_lowering.specs.Drafts.{code_of};
 ghost use Rattle.expression_lowering.specs.Views.{value_kind};
@@ -10,6 +11,7 @@ ghost use Rattle.expression_lowering.specs.Parts.{base_of, without_base, storage
 ghost use Rattle.expression_lowering.specs.Parts.{then_fetched, then_combined, then_counted};
 
 use crate::around::Around;
+use crate::calls::call_outside;
 use crate::draft::Draft;
 use crate::value_kind::ValueKind;
 use core_code::Op;
@@ -38,6 +40,20 @@ impl Storage {
     }
 }
 
+/// What is stored there, behind an operation that makes its base.
+fn behind(
+    around: &Around,
+    operation: Op,
+    storage: Storage,
+    draft: &mut Draft,
+) -> Result<Storage, Memory>
+    ensures code { OnOk result (code_of draft.new ≡ code_of draft.old ++ op around.now operation) }
+    ensures storage { IfOk result (λ s. s ≡ storage) }
+{
+    around.op(draft, operation)?;
+    Ok(storage)
+}
+
 /// A field, behind `this` or its class.
 fn own_field(around: &Around, f: FieldId, x: &Ident, draft: &mut Draft) -> Result<Storage, Memory>
     ensures code { OnOk result (code_of draft.new ≡ code_of draft.old
@@ -47,12 +63,12 @@ fn own_field(around: &Around, f: FieldId, x: &Ident, draft: &mut Draft) -> Resul
     let Some(field) = around.field(f) else {
         return Ok(Storage::Elsewhere(0));
     };
+    let storage = Storage::InField(f, field.kind, x.place);
     if field.is_static {
-        around.push_own_class(draft)?;
+        behind(around, Op::PushClass(around.class()), storage, draft)
     } else {
-        around.push_this(draft)?;
+        behind(around, Op::Push(VarId(0)), storage, draft)
     }
-    Ok(Storage::InField(f, field.kind, x.place))
 }
 
 /// x, behind the base of a field.
@@ -86,8 +102,12 @@ pub fn of_class(
     let Some(field) = around.field(f) else {
         return Ok(Storage::Elsewhere(0));
     };
-    around.op(draft, Op::PushClass(c))?;
-    Ok(Storage::InField(f, field.kind, x.place))
+    behind(
+        around,
+        Op::PushClass(c),
+        Storage::InField(f, field.kind, x.place),
+        draft,
+    )
 }
 
 /// What stands behind an object of a class, where the object's class has this field named x.
@@ -105,11 +125,12 @@ fn object_field(
     let Some(field) = around.field(f) else {
         return Ok(Storage::Elsewhere(0));
     };
-    if field.is_static {
-        around.op(draft, Op::Drop)?;
-        around.op(draft, Op::PushClass(c))?;
+    let storage = Storage::InField(f, field.kind, x.place);
+    if !field.is_static {
+        return Ok(storage);
     }
-    Ok(Storage::InField(f, field.kind, x.place))
+    around.op(draft, Op::Drop)?;
+    behind(around, Op::PushClass(c), storage, draft)
 }
 
 /// What stands behind e in e.x, where e has this kind.
@@ -133,13 +154,14 @@ pub fn of_value(
 }
 
 /// Reads what is there.
-pub fn read(around: &Around, storage: Storage, draft: &mut Draft) -> Result<(), Memory>
-    ensures { OnOk result (code_of draft.new ≡ code_of draft.old ++ then_read around.now storage) }
+pub fn read(around: &Around, storage: Storage, draft: &mut Draft) -> Result<ValueKind, Memory>
+    ensures code { OnOk result (code_of draft.new ≡ code_of draft.old ++ then_read around.now storage) }
+    ensures kind { IfOk result (λ k. value_kind k ≡ storage_kind storage) }
 {
     match storage {
-        Storage::InVariable(v, _) => around.op(draft, Op::Push(v)),
-        Storage::InField(f, _, place) => draft.op(place, Op::Get(f)),
-        Storage::Elsewhere(n) => around.op(draft, Op::Outside(n)),
+        Storage::InVariable(v, kind) => around.value(draft, Op::Push(v), ValueKind::Of(kind)),
+        Storage::InField(f, kind, place) => draft.value(place, Op::Get(f), ValueKind::Of(kind)),
+        Storage::Elsewhere(n) => around.value(draft, Op::Outside(n), ValueKind::Of(Kind::Other)),
     }
 }
 
@@ -162,10 +184,7 @@ pub fn assign(
             around.convert(draft, kind, given)?;
             draft.op(place, Op::Put(f))
         }
-        Storage::Elsewhere(n) => {
-            let all = n.checked_add(1).ok_or(Memory)?;
-            around.op(draft, Op::Outside(all))
-        }
+        Storage::Elsewhere(n) => call_outside(around, n, draft),
     }
 }
 
@@ -188,8 +207,7 @@ pub fn combine(around: &Around, storage: Storage, draft: &mut Draft) -> Result<(
     ensures { OnOk result (code_of draft.new ≡ code_of draft.old ++ then_combined around.now storage) }
 {
     if let Storage::Elsewhere(n) = storage {
-        let all = n.checked_add(1).ok_or(Memory)?;
-        return around.op(draft, Op::Outside(all));
+        return call_outside(around, n, draft);
     }
     around.op(draft, Op::Prim(2))?;
     assign(around, storage, ValueKind::Of(Kind::Plain), draft)

@@ -1,64 +1,31 @@
 //! The ends of expressions: what makes a value of those of the parts.
 ghost use Rattle.std.specs.Prelude.{◌≡◌, ◌++◌, [], length, OnOk, IfOk};
 ghost use Rattle.racer_base.specs.declared.ids.Kind.TheVariants.{Plain, Other};
-ghost use Rattle.java_tree.specs.View.{ty_of};
 ghost use Rattle.core_code.specs.declared.code.Op.TheVariants.{Drop, Prim, Outside};
 ghost use Rattle.java_lowering.specs.TreesOf.{is_assignment, is_logical};
 ghost use Rattle.java_lowering.specs.ValueKinds.{Of, common_kind};
-ghost use Rattle.java_lowering.specs.Around.{Code, op, op_at, choice, type_kind};
-ghost use Rattle.java_lowering.specs.Expressions.{cast, class_object, class_written};
+ghost use Rattle.java_lowering.specs.Around.{Code, op, op_at, choice};
 ghost use Rattle.expression_lowering.specs.Drafts.{code_of};
 ghost use Rattle.expression_lowering.specs.Views.{value_kind};
-ghost use Rattle.expression_lowering.specs.Parts.{storage_kind, then_read, then_fetched, then_counted};
+ghost use Rattle.expression_lowering.specs.Parts.{storage_kind, then_fetched, then_counted};
 ghost use Rattle.expression_lowering.specs.Together.{operator_front, operator_end, assign_front, assign_end};
 
 use crate::around::Around;
 use crate::draft::Draft;
-use crate::names::class_object;
-use crate::operators::{cast, is_assignment, is_logical};
-use crate::storage::{Storage, assign, combine, count, fetch, read};
+use crate::numbers::number_of;
+use crate::operators::{is_assignment, is_logical};
+use crate::storage::{Storage, assign, combine, count, fetch};
 use crate::value_kind::{ValueKind, common_kind};
 use core_code::Op;
-use java_tree::{Ident, TypeTree};
 use racer_base::{Kind, Memory, Place};
 use std::alloc::Global;
 
-/// Behind the operand of an operator with one operand.
-pub fn unary(around: &Around, draft: &mut Draft) -> Result<ValueKind, Memory>
-    ensures code { OnOk result (code_of draft.new ≡ code_of draft.old ++ op around.now (Prim 1)) }
+/// Behind so many operands: a number made of them.
+pub fn prim(around: &Around, count: u32, draft: &mut Draft) -> Result<ValueKind, Memory>
+    ensures code { OnOk result (code_of draft.new ≡ code_of draft.old ++ op around.now (Prim count)) }
     ensures kind { IfOk result (λ k. value_kind k ≡ Of Plain) }
 {
-    around.op(draft, Op::Prim(1))?;
-    Ok(ValueKind::Of(Kind::Plain))
-}
-
-/// Behind the operands of an operator with two operands.
-fn binary(around: &Around, draft: &mut Draft) -> Result<ValueKind, Memory>
-    ensures code { OnOk result (code_of draft.new ≡ code_of draft.old ++ op around.now (Prim 2)) }
-    ensures kind { IfOk result (λ k. value_kind k ≡ Of Plain) }
-{
-    around.op(draft, Op::Prim(2))?;
-    Ok(ValueKind::Of(Kind::Plain))
-}
-
-/// Behind what is cast to a type.
-pub fn cast_to(around: &Around, t: &TypeTree, draft: &mut Draft) -> Result<ValueKind, Memory>
-    ensures code { OnOk result (code_of draft.new ≡ code_of draft.old
-        ++ cast around.now (type_kind around.now (ty_of t.now))) }
-    ensures kind { IfOk result (λ k. value_kind k ≡ Of (type_kind around.now (ty_of t.now))) }
-{
-    let kind = around.type_kind(t);
-    cast(around, kind, draft)?;
-    Ok(ValueKind::Of(kind))
-}
-
-/// Behind the left operand of `&&` or `||`: where the right one begins.
-fn begin_logical(around: &Around, draft: &mut Draft) -> Result<usize, Memory>
-    ensures code { OnOk result (code_of draft.new ≡ code_of draft.old ++ op around.now (Prim 1)) }
-    ensures at { IfOk result (λ at. at ≡ length (code_of draft.new)) }
-{
-    around.op(draft, Op::Prim(1))?;
-    Ok(draft.len())
+    around.value(draft, Op::Prim(count), ValueKind::Of(Kind::Plain))
 }
 
 /// Behind the left operand of an operator with two: where the right one begins.
@@ -68,10 +35,9 @@ pub fn begin_operator(around: &Around, op: &str, draft: &mut Draft) -> Result<us
     ensures at { IfOk result (λ at. at ≡ length (code_of draft.new)) }
 {
     if is_logical(op) {
-        begin_logical(around, draft)
-    } else {
-        Ok(draft.len())
+        around.op(draft, Op::Prim(1))?;
     }
+    Ok(draft.len())
 }
 
 /// Behind the right operand of `&&` or `||`, which began here.
@@ -106,7 +72,7 @@ pub fn end_operator(
     if is_logical(op) {
         end_logical(alloc, around, at, draft)
     } else {
-        binary(around, draft)
+        prim(around, 2, draft)
     }
 }
 
@@ -133,15 +99,6 @@ pub fn end_conditional(
 {
     draft.choose(alloc, values.0, values.1)?;
     Ok(common_kind(kinds.0, kinds.1))
-}
-
-/// Behind an access: its value.
-pub fn read_value(around: &Around, storage: Storage, draft: &mut Draft) -> Result<ValueKind, Memory>
-    ensures code { OnOk result (code_of draft.new ≡ code_of draft.old ++ then_read around.now storage) }
-    ensures kind { IfOk result (λ k. value_kind k ≡ storage_kind storage) }
-{
-    read(around, storage, draft)?;
-    Ok(storage.kind())
 }
 
 /// Behind an access that is assigned to with this operator: what all but `=` fetch.
@@ -210,22 +167,14 @@ pub fn count_value(
     Ok(ValueKind::Of(Kind::Plain))
 }
 
-/// `x.class`
-pub fn class_value(around: &Around, names: &[Ident], draft: &mut Draft) -> Result<ValueKind, Memory>
-    ensures code { OnOk result (code_of draft.new ≡ code_of draft.old
-        ++ class_object around.now (class_written around.now names.now)) }
-    ensures kind { IfOk result (λ k. value_kind k ≡ Of Other) }
-{
-    class_object(around, names, draft)?;
-    Ok(ValueKind::Of(Kind::Other))
-}
-
 /// Behind so many lengths or items: the array.
 pub fn new_array(place: Place, count: usize, draft: &mut Draft) -> Result<ValueKind, Memory>
     ensures code { OnOk result (code_of draft.new ≡ code_of draft.old ++ op_at place (Outside count)) }
     ensures kind { IfOk result (λ k. value_kind k ≡ Of Other) }
 {
-    let count = u32::try_from(count).map_err(|_| Memory)?;
-    draft.op(place, Op::Outside(count))?;
-    Ok(ValueKind::Of(Kind::Other))
+    draft.value(
+        place,
+        Op::Outside(number_of(count)?),
+        ValueKind::Of(Kind::Other),
+    )
 }

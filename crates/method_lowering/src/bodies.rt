@@ -1,9 +1,10 @@
 //! The code of methods and constructors (JLS 8.3.2, 8.4, 8.8, 12.5).
 ghost use Rattle.std.specs.Prelude.{◌≡◌, [], ◌++◌, OnOk, IfOk};
+ghost use Rattle.std.specs.List.{flat_map};
 ghost use Rattle.core_code.specs.Tree.{tree_of, in_sequence};
 ghost use Rattle.java_lowering.specs.Methods.{Default, Spelled, Unspelled, result_of, result_of_tree, entered};
 ghost use Rattle.java_lowering.specs.Methods.{parameters_declared, body_of, body_code, ended, spelled_code, code_in};
-ghost use Rattle.java_lowering.specs.Methods.{kinds_in, method_code, method_kinds};
+ghost use Rattle.java_lowering.specs.Methods.{kinds_in, member_begun, method_code, method_kinds};
 ghost use Rattle.java_lowering.specs.Sites.{numbered};
 ghost use Rattle.expression_lowering.specs.Drafts.{code_of};
 ghost use Rattle.expression_lowering.specs.Views.{given_of, folder_of};
@@ -176,6 +177,20 @@ fn end(around: &Around, draft: &mut Draft) -> Result<(), Memory>
 
 // ---- methods
 
+/// The fields of an object, and the end of its constructor.
+fn lower_fields(
+    alloc: Global,
+    around: &Around,
+    members: &[Member],
+    draft: &mut Draft,
+) -> Result<(), Memory>
+    ensures { OnOk result (code_of draft.new ≡ ended around.now
+        (code_of draft.old ++ flat_map (member_begun around.now) members.now)) }
+{
+    begin_members(alloc, around, members, draft)?;
+    end(around, draft)
+}
+
 /// The constructor that a class has without declaring it.
 fn lower_default(
     alloc: Global,
@@ -190,8 +205,7 @@ fn lower_default(
 {
     let around = enter(alloc, table, statuses, source)?;
     let mut draft = Draft::new(alloc);
-    begin_members(alloc, &around, source.members, &mut draft)?;
-    end(&around, &mut draft)?;
+    lower_fields(alloc, &around, source.members, &mut draft)?;
     Ok(Lowered {
         code: draft.into_code(),
         kinds: around.into_kinds(),
@@ -216,6 +230,28 @@ fn lower_tree(
     end(around, draft)
 }
 
+/// The code of a tree, behind its parameters.
+fn lower_behind(
+    alloc: Global,
+    table: &Table,
+    statuses: &[Option<Reason>],
+    source: &Source,
+    m: &MethodTree,
+    around: &mut Around,
+    draft: &mut Draft,
+) -> Result<(), Memory>
+    requires entered { around.old
+        ≡ parameters_declared (entered (folder_of table.now statuses.now) (source_of source.now)) m.now.parameters }
+    requires start { code_of draft.old ≡ [] }
+    ensures around { OnOk result (around.new ≡ block_end around.old (body_of m.now)) }
+    ensures code { OnOk result (code_of draft.new
+        ≡ ended around.old (spelled_code around.old source.now.members.now m.now)) }
+{
+    let mut bare = enter_spelled(alloc, table, statuses, source, m)?;
+    bare.leave(0);
+    lower_tree(alloc, around, &bare, source.members, m, draft)
+}
+
 /// A method that a tree spells.
 fn lower_spelled(
     alloc: Global,
@@ -229,11 +265,9 @@ fn lower_spelled(
     ensures kinds { IfOk result (λ lowered. lowered.kinds ≡ kinds_in
         (entered (folder_of table.now statuses.now) (source_of source.now)) (source_of source.now) (Spelled m.now)) }
 {
-    let mut bare = enter_spelled(alloc, table, statuses, source, m)?;
-    bare.leave(0);
     let mut around = enter_spelled(alloc, table, statuses, source, m)?;
     let mut draft = Draft::new(alloc);
-    lower_tree(alloc, &mut around, &bare, source.members, m, &mut draft)?;
+    lower_behind(alloc, table, statuses, source, m, &mut around, &mut draft)?;
     Ok(Lowered {
         code: draft.into_code(),
         kinds: around.into_kinds(),

@@ -32,20 +32,20 @@ use Rattle.expression_lowering.proofs.+lower_expressions.Goals as goal
 pub expressions::lower_read-returns-clause-code : goal.expressions::lower_read-returns-clause-code
 expressions::lower_read-returns-clause-code t c =
     let around = c.args.around.now in
-    on_ok_weaker c.read_value.result
+    on_ok_weaker c.read.result
     (read-made around (storage around (access_of (expr_of c.args.e.now))) c.in_ok-storage.storage
-    (code_of c.args.draft.now) (code_of c.lower_storage.new.draft) (code_of c.read_value.new.draft)
+    (code_of c.args.draft.now) (code_of c.lower_storage.new.draft) (code_of c.read.new.draft)
     c.in_ok-storage.ensures.code c.in_ok-storage.ensures.storage)
-    c.read_value.ensures.code
+    c.read.ensures.code
 
 pub expressions::lower_read-returns-clause-kind : goal.expressions::lower_read-returns-clause-kind
 expressions::lower_read-returns-clause-kind t c =
     let around = c.args.around.now in
     let access = access_of (expr_of c.args.e.now) in
-    IfOk-weaker c.read_value.result (λ k. value_kind k ≡ storage_kind c.in_ok-storage.storage)
+    IfOk-weaker c.read.result (λ k. value_kind k ≡ storage_kind c.in_ok-storage.storage)
     (λ k. value_kind k ≡ access_kind around access)
     (λ k. kind-made around access c.in_ok-storage.storage (value_kind k) c.in_ok-storage.ensures.storage)
-    c.read_value.ensures.kind
+    c.read.ensures.kind
 
 pub expressions::lower_conditional-returns-clause-code : goal.expressions::lower_conditional-returns-clause-code
 expressions::lower_conditional-returns-clause-code t c =
@@ -206,19 +206,19 @@ expressions::lower_prefix-returns-clause-code t c =
     let around = c.args.around.now in
     let a = expr_of c.args.a.now in
     let old = code_of c.args.draft.now in
-    on_ok_weaker c.unary.result
-    (λ made. two old (code_of c.lower_expression.new.draft) (code_of c.unary.new.draft) (code around a)
+    on_ok_weaker c.prim.result
+    (λ made. two old (code_of c.lower_expression.new.draft) (code_of c.prim.new.draft) (code around a)
     (op around (Prim 1)) c.in_ok-lower_expression.ensures.code made
     ∙ ap (λ x. old ++ x) (prefix-code around c.args.op.now a false (sym c.is_count.ensures ∙ c.if-is_count.false)))
-    c.unary.ensures.code
+    c.prim.ensures.code
 
 pub expressions::lower_prefix-returns-clause-kind : goal.expressions::lower_prefix-returns-clause-kind
 expressions::lower_prefix-returns-clause-kind t c =
     let around = c.args.around.now in
     let a = expr_of c.args.a.now in
-    IfOk-weaker c.unary.result (λ k. value_kind k ≡ Of Plain)
+    IfOk-weaker c.prim.result (λ k. value_kind k ≡ Of Plain)
     (λ k. value_kind k ≡ kind around (prefix c.args.op.now a))
-    (λ k is. is ∙ prefix-kind around (is_count c.args.op.now) a) c.unary.ensures.kind
+    (λ k is. is ∙ prefix-kind around (is_count c.args.op.now) a) c.prim.ensures.kind
 
 pub expressions::lower_array-loop-item-preserved : goal.expressions::lower_array-loop-item-preserved
 expressions::lower_array-loop-item-preserved t c =
