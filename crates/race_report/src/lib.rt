@@ -14,6 +14,7 @@ pub mod laws;
 mod marks;
 mod mode;
 mod reports;
+mod strings;
 mod text;
 mod values;
 

@@ -1,11 +1,12 @@
 //! The report on a program.
-ghost use Rattle.std.specs.Prelude.{◌≡◌, ◌++◌, IfOk, OnOk, map, string_bytes};
+ghost use Rattle.std.specs.Prelude.{◌≡◌, IfOk, map, string_bytes};
 ghost use Rattle.serde_json.specs.Written.{compact_text};
 ghost use Rattle.core_code.specs.Program.{core};
 ghost use Rattle.access_domain.specs.Outcomes.{AreOutcomes};
 ghost use Rattle.race_pairs.specs.Warnings as pairs;
 ghost use Rattle.core_ways.specs.Marks.{said_by};
 ghost use Rattle.witness_build.specs.Warned.{warning_mark};
+ghost use Rattle.report_parts.specs.Written.{Lasts, Puts};
 ghost use Rattle.race_report.specs.Json.{report_value};
 ghost use Rattle.race_report.specs.Modes as said;
 ghost use Rattle.race_report.specs.Report as lines;
@@ -18,93 +19,111 @@ use core_code::Program;
 use core_ways::Mark;
 use race_pairs::Warning;
 use racer_base::Memory;
+use report_parts::{Written, push_end, push_text};
 use std::alloc::Global;
 use std::sync::Arc;
 
 /// Puts the lines of the summaries behind a text, where they are asked for.
 fn push_asked(
-    alloc: Global,
-    text: &mut String,
+    text: &mut Written,
     summaries: bool,
     program: &Program,
     outcomes: &[Option<Arc<Outcome>>],
-) -> Result<(), Memory>
+)
     requires { AreOutcomes (core program.now) outcomes.now }
-    ensures { OnOk result (string_bytes text.new
-        ≡ string_bytes text.old ++ lines.summaries_lines summaries (core program.now)) }
+    ensures lasts { Lasts text.old text.new }
+    ensures puts { Puts (lines.summaries_lines summaries (core program.now)) text.old text.new }
 {
-    if !summaries {
-        return Ok(());
+    if summaries {
+        push_summaries(text, program, outcomes)
     }
-    push_summaries(alloc, text, program, outcomes)
 }
 
 /// Puts the first lines behind a text.
-fn push_head(text: &mut String, program: &Program) -> Result<(), Memory>
-    ensures { OnOk result (string_bytes text.new ≡ string_bytes text.old ++ lines.head_lines (core program.now)) }
+fn push_head(text: &mut Written, program: &Program)
+    ensures lasts { Lasts text.old text.new }
+    ensures puts { Puts (lines.head_lines (core program.now)) text.old text.new }
 {
-    text.push_str("racer report 1\n")?;
+    push_text(text, "racer report 1\n");
     push_counts(text, program)
 }
 
 /// Puts the lines on places and methods behind a text.
 fn push_methods(
-    alloc: Global,
-    text: &mut String,
+    text: &mut Written,
     summaries: bool,
     program: &Program,
     outcomes: &[Option<Arc<Outcome>>],
-) -> Result<(), Memory>
+)
     requires { AreOutcomes (core program.now) outcomes.now }
-    ensures { OnOk result (string_bytes text.new
-        ≡ string_bytes text.old ++ lines.method_lines summaries (core program.now)) }
+    ensures lasts { Lasts text.old text.new }
+    ensures puts { Puts (lines.method_lines summaries (core program.now)) text.old text.new }
 {
-    push_skipped(text, program)?;
-    push_not_analysed(text, program, outcomes)?;
-    push_asked(alloc, text, summaries, program, outcomes)
+    push_skipped(text, program);
+    push_not_analysed(text, program, outcomes);
+    push_asked(text, summaries, program, outcomes)
 }
 
 /// Puts a report of lines behind a text.
 fn push_lines(
-    alloc: Global,
-    text: &mut String,
+    text: &mut Written,
     summaries: bool,
     program: &Program,
     outcomes: &[Option<Arc<Outcome>>],
     found: &[Warning],
     marks: &[Mark],
-) -> Result<(), Memory>
+)
     requires outcomes { AreOutcomes (core program.now) outcomes.now }
     requires found { found.now ≡ pairs.warnings (core program.now) }
     requires marks { map said_by marks.now ≡ map (warning_mark (core program.now)) found.now }
-    ensures { OnOk result (string_bytes text.new
-        ≡ string_bytes text.old ++ lines.report_text summaries (core program.now)) }
+    ensures lasts { Lasts text.old text.new }
+    ensures puts { Puts (lines.report_text summaries (core program.now)) text.old text.new }
 {
-    push_head(text, program)?;
-    push_methods(alloc, text, summaries, program, outcomes)?;
-    push_warnings(alloc, text, program, outcomes, found, marks)?;
+    push_head(text, program);
+    push_methods(text, summaries, program, outcomes);
+    push_warnings(text, program, outcomes, found, marks);
     push_last(text, program, found, marks)
 }
 
 /// Puts a report that is an object behind a text, and a line feed.
 fn push_object(
-    alloc: Global,
-    text: &mut String,
+    text: &mut Written,
     summaries: bool,
     program: &Program,
     outcomes: &[Option<Arc<Outcome>>],
     found: &[Warning],
     marks: &[Mark],
-) -> Result<(), Memory>
+)
     requires outcomes { AreOutcomes (core program.now) outcomes.now }
     requires found { found.now ≡ pairs.warnings (core program.now) }
     requires marks { map said_by marks.now ≡ map (warning_mark (core program.now)) found.now }
-    ensures { OnOk result (string_bytes text.new
-        ≡ string_bytes text.old ++ lines.line (compact_text (report_value summaries (core program.now)))) }
+    ensures lasts { Lasts text.old text.new }
+    ensures puts { Puts (lines.line (compact_text (report_value summaries (core program.now)))) text.old text.new }
 {
-    json::push_report(alloc, text, summaries, program, outcomes, found, marks)?;
-    text.push_str("\n")?;
-    Ok(())
+    json::push_report(text, summaries, program, outcomes, found, marks);
+    push_end(text)
+}
+
+/// Puts a report behind a text.
+fn push_report(
+    text: &mut Written,
+    mode: Mode,
+    program: &Program,
+    outcomes: &[Option<Arc<Outcome>>],
+    found: &[Warning],
+    marks: &[Mark],
+)
+    requires outcomes { AreOutcomes (core program.now) outcomes.now }
+    requires found { found.now ≡ pairs.warnings (core program.now) }
+    requires marks { map said_by marks.now ≡ map (warning_mark (core program.now)) found.now }
+    ensures lasts { Lasts text.old text.new }
+    ensures puts { Puts (said.report mode (core program.now)) text.old text.new }
+{
+    if mode.json {
+        push_object(text, mode.summaries, program, outcomes, found, marks)
+    } else {
+        push_lines(text, mode.summaries, program, outcomes, found, marks)
+    }
 }
 
 /// The report of a program, of the outcomes of its methods, of its warnings and of their marks, one a warning, as a
@@ -122,29 +141,9 @@ pub fn report_text(
     requires marks { map said_by marks.now ≡ map (warning_mark (core program.now)) found.now }
     ensures { IfOk result (λ text. string_bytes text ≡ said.report mode (core program.now)) }
 {
-    let mut text = String::new(alloc);
-    if mode.json {
-        push_object(
-            alloc,
-            &mut text,
-            mode.summaries,
-            program,
-            outcomes,
-            found,
-            marks,
-        )?;
-    } else {
-        push_lines(
-            alloc,
-            &mut text,
-            mode.summaries,
-            program,
-            outcomes,
-            found,
-            marks,
-        )?;
-    }
-    Ok(text)
+    let mut text = Written::new(alloc);
+    push_report(&mut text, mode, program, outcomes, found, marks);
+    text.finished()
 }
 
 /// The report of a program, of the outcomes of its methods, of its warnings and of their marks, one a warning.

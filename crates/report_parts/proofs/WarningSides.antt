@@ -1,5 +1,5 @@
 -- The two records of a warning are there.
-use Rattle.std.proofs.Common.{◌≡◌, ℕ, List, Option, Some, Contains, slice_get, option_map}
+use Rattle.std.proofs.Common.{◌≡◌, ℕ, Some, Contains, slice_get, option_map}
 use Rattle.racer_base.specs.declared.ids.MethodId.{MethodId}
 use Rattle.core_code.specs.Core.{Core, Method}
 use Rattle.access_domain.specs.declared.access.Access.{Access}

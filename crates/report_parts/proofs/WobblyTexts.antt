@@ -1,6 +1,6 @@
 -- The wobbly paths of a summary differ, and which list they are in does not matter for their texts in byte order.
 use Rattle.std.proofs.Common.{◌≡◌, ℕ, Bool, true, false, cond, List, [], ◌∷◌, Option, None, Some, map, length, option_map}
-use Rattle.std.proofs.Common.{is_none, refl, sym, ap, subst, ◌∙◌, true≢false}
+use Rattle.std.proofs.Common.{is_none, refl, sym, ap, subst, ◌∙◌}
 use Rattle.std.proofs.Common.{◌||◌, IfSome, String, string_bytes}
 use Rattle.std.specs.Global.{Global}
 use Rattle.std.specs.List.{list_any}
@@ -19,9 +19,9 @@ use Rattle.core_code.specs.Calls.{method_at}
 use Rattle.access_domain.specs.declared.summary.Summary.{Summary}
 use Rattle.access_domain.specs.Findings.{Findings, Known, Large, Whole, summary_from}
 use Rattle.access_domain.specs.Operations.{Effects}
-use Rattle.access_domain.specs.Records.{firsts, different_paths}
+use Rattle.access_domain.specs.Records.{firsts}
 use Rattle.access_domain.specs.Summaries.{known_of, known_of_callees, known_from, known_given, effects_given, is_large}
-use Rattle.access_domain.specs.Summaries.{findings_from, known_at}
+use Rattle.access_domain.specs.Summaries.{findings_from}
 use Rattle.access_domain.proofs.AdditionLemmas.{len-from_list}
 use Rattle.report_parts.specs.ByteOrder.{in_byte_order}
 use Rattle.report_parts.proofs.SortedTexts.{Apart, apart_firsts, whole_firsts, order_of_same}

@@ -6,3 +6,4 @@ pub mod Told
 pub mod Sites
 pub mod Sides
 pub mod Marks
+pub mod Written

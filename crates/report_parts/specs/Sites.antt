@@ -1,5 +1,5 @@
 -- A contract of a public call rests on this: the operations of methods, as the tables of a report keep them.
-use Rattle.std.specs.Prelude.{◌≡◌, ℕ, List, Option, Vec, map, option_map}
+use Rattle.std.specs.Prelude.{◌≡◌, List, Vec, map}
 use Rattle.std.specs.Global.{Global}
 use Rattle.core_code.specs.Tree.{Tree, Operation, steps_of}
 use Rattle.core_code.specs.Core.{Core, Method}

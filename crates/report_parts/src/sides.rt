@@ -1,5 +1,8 @@
 //! The records of a warning, with their places from the site down to the access.
 ghost use Rattle.std.specs.Prelude.{◌≡◌, IfOk, option_map};
+ghost use Rattle.std.specs.Option.{option_copied};
+ghost use Rattle.core_code.specs.Calls.{method_at};
+ghost use Rattle.core_code.specs.Core.{method_of};
 ghost use Rattle.core_code.specs.Program.{core};
 ghost use Rattle.access_domain.specs.Outcomes.{AreOutcomes};
 ghost use Rattle.report_parts.specs.Places as places;
@@ -97,6 +100,13 @@ fn places_of(
     Ok(places)
 }
 
+/// The method of this number.
+fn method_at(program: &Program, number: MethodId) -> Option<&MethodCore>
+    ensures { option_map method_of (option_copied result) ≡ method_at (core program.now) number }
+{
+    program.methods().get(number.0 as usize)
+}
+
 /// The record of a method that has this index, with its places.
 fn side_of<'a>(
     alloc: Global,
@@ -110,7 +120,7 @@ fn side_of<'a>(
     requires sites { AreSites (core program.now) sites.now }
     ensures { IfOk result (λ side. option_map side_told side ≡ told.side_of (core program.now) number index) }
 {
-    let Some(method) = program.methods().get(number.0 as usize) else {
+    let Some(method) = method_at(program, number) else {
         return Ok(None);
     };
     let Some(held) = record_at(program, outcomes, number, index) else {

@@ -1,16 +1,19 @@
 //! The texts of places, methods, paths, records and values, put behind a text.
-ghost use Rattle.std.specs.Prelude.{◌≡◌, ◌++◌, [], codes, if◌then◌else◌, OnOk, map, string_bytes};
+ghost use Rattle.std.specs.Prelude.{◌≡◌, ◌++◌, [], codes, if◌then◌else◌};
+ghost use Rattle.std.specs.Fmt.{decimal};
 ghost use Rattle.core_code.specs.Core.{method_of};
 ghost use Rattle.core_code.specs.Program.{core};
 ghost use Rattle.access_paths.specs.Text as paths;
 ghost use Rattle.report_parts.specs.Texts as said;
 ghost use Rattle.report_parts.specs.Told as told;
+ghost use Rattle.report_parts.specs.Written.{Lasts, Puts};
 
+use crate::written::{Written, push_count, push_number, push_space, push_text};
 use access_domain::Access;
 use access_paths::{Path, Root};
 use core_code::{MethodCore, Program, Reason};
 use owner_domain::Value;
-use racer_base::{ClassId, FieldId, Memory, Place, Text, Touch};
+use racer_base::{ClassId, FieldId, Place, Text, Touch};
 
 /// The name of this number, empty where there is none.
 fn name_at(names: &[Text], number: u32) -> &str
@@ -40,76 +43,102 @@ fn field_name(program: &Program, field: FieldId) -> &str
     }
 }
 
-/// Puts `LINE:COLUMN` behind a text.
-pub fn push_line(text: &mut String, place: Place) -> Result<(), Memory>
-    ensures { OnOk result (string_bytes text.new ≡ string_bytes text.old ++ said.line_text place) }
+/// Puts a colon behind a text.
+fn push_colon(text: &mut Written)
+    ensures lasts { Lasts text.old text.new }
+    ensures puts { Puts (codes ":") text.old text.new }
 {
-    let line = place.line;
-    let column = place.column;
-    write!(text, "{line}:{column}")?;
-    Ok(())
+    push_text(text, ":")
+}
+
+/// Puts a point behind a text.
+fn push_point(text: &mut Written)
+    ensures lasts { Lasts text.old text.new }
+    ensures puts { Puts (codes ".") text.old text.new }
+{
+    push_text(text, ".")
+}
+
+/// Puts `LINE:COLUMN` behind a text.
+pub fn push_line(text: &mut Written, place: Place)
+    ensures lasts { Lasts text.old text.new }
+    ensures puts { Puts (said.line_text place) text.old text.new }
+{
+    push_number(text, place.line);
+    push_colon(text);
+    push_number(text, place.column)
 }
 
 /// Puts `FILE:LINE:COLUMN` behind a text.
-pub fn push_place(text: &mut String, program: &Program, place: Place) -> Result<(), Memory>
-    ensures { OnOk result (string_bytes text.new ≡ string_bytes text.old ++ said.place_text (core program.now) place) }
+pub fn push_place(text: &mut Written, program: &Program, place: Place)
+    ensures lasts { Lasts text.old text.new }
+    ensures puts { Puts (said.place_text (core program.now) place) text.old text.new }
 {
-    text.push_str(name_at(program.files(), place.file.0))?;
-    text.push_str(":")?;
+    push_text(text, name_at(program.files(), place.file.0));
+    push_colon(text);
     push_line(text, place)
 }
 
 /// Puts `CLASS.NAME/PARAMETERS` behind a text.
-pub fn push_method(text: &mut String, program: &Program, method: &MethodCore) -> Result<(), Memory>
-    ensures { OnOk result (string_bytes text.new
-        ≡ string_bytes text.old ++ said.method_text (core program.now) (method_of method.now)) }
+pub fn push_method(text: &mut Written, program: &Program, method: &MethodCore)
+    ensures lasts { Lasts text.old text.new }
+    ensures puts { Puts (said.method_text (core program.now) (method_of method.now)) text.old text.new }
 {
-    let class = class_name(program, method.class);
-    let name = method.name.as_str();
-    let parameters = method.parameters.len();
-    write!(text, "{class}.{name}/{parameters}")?;
-    Ok(())
+    push_text(text, class_name(program, method.class));
+    push_point(text);
+    push_text(text, method.name.as_str());
+    push_text(text, "/");
+    push_count(text, method.parameters.len())
+}
+
+/// Puts `#` and a number behind a text.
+pub(crate) fn push_formal(text: &mut Written, number: u32)
+    ensures lasts { Lasts text.old text.new }
+    ensures puts { Puts (codes "#" ++ decimal number) text.old text.new }
+{
+    push_text(text, "#");
+    push_number(text, number)
+}
+
+/// Puts `some` and the name of a class behind a text.
+fn push_some(text: &mut Written, class: &str)
+    ensures lasts { Lasts text.old text.new }
+    ensures puts { Puts (codes "some " ++ class.now) text.old text.new }
+{
+    push_text(text, "some ");
+    push_text(text, class)
 }
 
 /// Puts `this`, a class's name, `#i` or `some C` behind a text.
-fn push_root(text: &mut String, program: &Program, root: Root) -> Result<(), Memory>
-    ensures { OnOk result (string_bytes text.new
-        ≡ string_bytes text.old ++ paths.root_text (said.class_names (core program.now)) root) }
+fn push_root(text: &mut Written, program: &Program, root: Root)
+    ensures lasts { Lasts text.old text.new }
+    ensures puts { Puts (paths.root_text (said.class_names (core program.now)) root) text.old text.new }
 {
     match root {
-        Root::This => text.push_str("this")?,
-        Root::Class(class) => text.push_str(class_name(program, class))?,
-        Root::Formal(number) => write!(text, "#{number}")?,
-        Root::Some(class) => {
-            let name = class_name(program, class);
-            write!(text, "some {name}")?;
-        }
+        Root::This => push_text(text, "this"),
+        Root::Class(class) => push_text(text, class_name(program, class)),
+        Root::Formal(number) => push_formal(text, number),
+        Root::Some(class) => push_some(text, class_name(program, class)),
     }
-    Ok(())
 }
 
 /// Puts `.f` for each of these fields behind a text.
-pub(crate) fn push_fields(
-    text: &mut String,
-    program: &Program,
-    fields: &[FieldId],
-) -> Result<(), Memory>
-    ensures { OnOk result (string_bytes text.new
-        ≡ string_bytes text.old ++ paths.fields_text (said.field_names (core program.now)) fields.now) }
+pub(crate) fn push_fields(text: &mut Written, program: &Program, fields: &[FieldId])
+    ensures lasts { Lasts text.old text.new }
+    ensures puts { Puts (paths.fields_text (said.field_names (core program.now)) fields.now) text.old text.new }
 {
     for field in fields {
-        text.push_str(".")?;
-        text.push_str(field_name(program, *field))?;
+        push_point(text);
+        push_text(text, field_name(program, *field));
     }
-    Ok(())
 }
 
 /// Puts a root and `.f` for each field behind a text.
-pub fn push_path(text: &mut String, program: &Program, path: &Path) -> Result<(), Memory>
-    ensures { OnOk result (string_bytes text.new
-        ≡ string_bytes text.old ++ said.path_text (core program.now) path.now) }
+pub fn push_path(text: &mut Written, program: &Program, path: &Path)
+    ensures lasts { Lasts text.old text.new }
+    ensures puts { Puts (said.path_text (core program.now) path.now) text.old text.new }
 {
-    push_root(text, program, path.root)?;
+    push_root(text, program, path.root);
     push_fields(text, program, path.fields.as_slice())
 }
 
@@ -135,56 +164,50 @@ fn main_text(main: bool) -> &'static str
 }
 
 /// Puts `KIND PATH`, and then `locked` and `main` where the record is, behind a text.
-pub fn push_record(text: &mut String, program: &Program, access: &Access) -> Result<(), Memory>
-    ensures { OnOk result (string_bytes text.new
-        ≡ string_bytes text.old ++ said.record_text (core program.now) access.now) }
+pub fn push_record(text: &mut Written, program: &Program, access: &Access)
+    ensures lasts { Lasts text.old text.new }
+    ensures puts { Puts (said.record_text (core program.now) access.now) text.old text.new }
 {
-    text.push_str(touch_text(access.kind))?;
-    text.push_str(" ")?;
-    push_path(text, program, &access.path)?;
-    text.push_str(locked_text(access.locked))?;
-    text.push_str(main_text(access.main))?;
-    Ok(())
+    push_text(text, touch_text(access.kind));
+    push_space(text);
+    push_path(text, program, &access.path);
+    push_text(text, locked_text(access.locked));
+    push_text(text, main_text(access.main))
 }
 
 /// Puts ` at LINE:COLUMN` behind a text, nothing where there is no place.
-fn push_site(text: &mut String, place: Option<Place>) -> Result<(), Memory>
-    ensures { OnOk result (string_bytes text.new ≡ string_bytes text.old ++ told.site_text place) }
+fn push_site(text: &mut Written, place: Option<Place>)
+    ensures lasts { Lasts text.old text.new }
+    ensures puts { Puts (told.site_text place) text.old text.new }
 {
     match place {
-        None => Ok(()),
+        None => {}
         Some(place) => {
-            text.push_str(" at ")?;
+            push_text(text, " at ");
             push_line(text, place)
         }
     }
 }
 
 /// Puts `RECORD at LINE:COLUMN` behind a text; the place is that of the record's site.
-pub fn push_access(
-    text: &mut String,
-    program: &Program,
-    access: &Access,
-    site: Option<Place>,
-) -> Result<(), Memory>
-    ensures { OnOk result (string_bytes text.new
-        ≡ string_bytes text.old ++ (said.record_text (core program.now) access.now ++ told.site_text site)) }
+pub fn push_access(text: &mut Written, program: &Program, access: &Access, site: Option<Place>)
+    ensures lasts { Lasts text.old text.new }
+    ensures puts { Puts (said.record_text (core program.now) access.now ++ told.site_text site) text.old text.new }
 {
-    push_record(text, program, access)?;
+    push_record(text, program, access);
     push_site(text, site)
 }
 
 /// Puts what a method returns behind a text.
-pub fn push_value(text: &mut String, program: &Program, value: &Value) -> Result<(), Memory>
-    ensures { OnOk result (string_bytes text.new
-        ≡ string_bytes text.old ++ said.value_text (core program.now) value.now) }
+pub fn push_value(text: &mut Written, program: &Program, value: &Value)
+    ensures lasts { Lasts text.old text.new }
+    ensures puts { Puts (said.value_text (core program.now) value.now) text.old text.new }
 {
     match value {
-        Value::Owned => text.push_str("owned")?,
-        Value::Unnamed => text.push_str("unnamed")?,
-        Value::Named(path) => push_path(text, program, path)?,
+        Value::Owned => push_text(text, "owned"),
+        Value::Unnamed => push_text(text, "unnamed"),
+        Value::Named(path) => push_path(text, program, path),
     }
-    Ok(())
 }
 
 /// Why a method is not analysed.

@@ -6,6 +6,7 @@ ghost use Rattle.report_parts.specs.Texts as said;
 ghost use Rattle.report_parts.specs.Told as told;
 
 use crate::texts::push_path;
+use crate::written::Written;
 use access_domain::Summary;
 use access_paths::Path;
 use core_code::Program;
@@ -16,9 +17,9 @@ use std::alloc::Global;
 fn path_text(alloc: Global, program: &Program, path: &Path) -> Result<String, Memory>
     ensures { IfOk result (λ text. string_bytes text ≡ said.path_text (core program.now) path.now) }
 {
-    let mut text = String::new(alloc);
-    push_path(&mut text, program, path)?;
-    Ok(text)
+    let mut text = Written::new(alloc);
+    push_path(&mut text, program, path);
+    text.finished()
 }
 
 /// The texts of paths, in order.

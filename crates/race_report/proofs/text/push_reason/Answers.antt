@@ -1,14 +1,15 @@
-use Rattle.std.proofs.Common.{codes, string_bytes}
+use Rattle.std.proofs.Common.{codes}
 use Rattle.core_code.specs.Core.{method_of}
 use Rattle.core_code.specs.Program.{core}
 use Rattle.race_report.specs.Report.{method_place}
-use Rattle.race_report.proofs.Chains.{five}
+use Rattle.race_report.proofs.PutChains.{five}
 use Rattle.race_report.proofs.text.push_reason.Goals as goal
 
-pub returns : goal.returns
-returns c =
-    five (string_bytes c.args.text.now) (string_bytes c.push_str.new.self) (string_bytes c.push_method_place.new.text)
-    (string_bytes c.push_str-2.new.self) (string_bytes c.push_str-3.new.self) (string_bytes c.push_str-4.new.self)
-    (codes "not analysed ") (method_place (core c.args.program.now) (method_of c.args.method.now)) (codes " ")
-    c.args.reason.now (codes "\n") c.in_ok-push_str.ensures.bytes c.in_ok-push_method_place.ensures
-    c.in_ok-push_str-2.ensures.bytes c.in_ok-push_str-3.ensures.bytes c.in_ok-push_str-4.ensures.bytes
+pub returns-clause-puts : goal.returns-clause-puts
+returns-clause-puts c =
+    five (codes "not analysed ") (method_place (core c.args.program.now) (method_of c.args.method.now)) (codes " ")
+    c.args.reason.now (codes "\n") c.args.text.now c.push_text.new.text c.push_method_place.new.text
+    c.push_space.new.text c.push_text-2.new.text c.push_end.new.text c.push_text.ensures.puts
+    c.push_method_place.ensures.lasts c.push_method_place.ensures.puts c.push_space.ensures.lasts
+    c.push_space.ensures.puts c.push_text-2.ensures.lasts c.push_text-2.ensures.puts c.push_end.ensures.lasts
+    c.push_end.ensures.puts

@@ -1,9 +1,0 @@
-use Rattle.std.proofs.Common.{◌≡◌, ◌++◌, drop, map, string_bytes}
-use Rattle.serde_json.specs.Data.{string}
-use Rattle.serde_json.specs.View.{view}
-use Rattle.race_report.proofs.values.text_values.Given as goal
-
-abbrev pub invariant-loop-text : goal.invariant-loop-text
-invariant-loop-text l =
-    map view l.values.items ++ map string (map string_bytes (drop l.text-index l.texts))
-    ≡ map string (map string_bytes l.texts)
