@@ -10,7 +10,7 @@ ghost use Rattle.java_lowering.specs.Calls.{result_kind, parameter_kinds, call_a
 ghost use Rattle.java_lowering.specs.Calls.{result_of};
 ghost use Rattle.expression_lowering.specs.Drafts.{code_of};
 ghost use Rattle.expression_lowering.specs.Views.{value_kind};
-ghost use Rattle.expression_lowering.specs.Parts.{callee_seen, passed_kinds, call_front, call_end, value_call_front};
+ghost use Rattle.expression_lowering.specs.Parts.{callee_seen, passed_kinds, call_end};
 ghost use Rattle.expression_lowering.specs.Parts.{value_call_end, maker_of, made_front, made_kinds, made_end};
 ghost use Rattle.expression_lowering.specs.Together.{target_callee, target_front, target_end};
 
@@ -200,17 +200,6 @@ fn call_object(
     call_at(around, place, m, all, draft)
 }
 
-/// f(..) before its arguments.
-fn begin_own_call(around: &Around, callee: Callee, draft: &mut Draft) -> Result<(), Memory>
-    ensures { OnOk result (code_of draft.new ≡ code_of draft.old ++ call_front around.now (callee_seen callee)) }
-{
-    match callee {
-        Callee::OfObject(_) => around.push_this(draft),
-        Callee::OfClass(_) => Ok(()),
-        Callee::Missing => Ok(()),
-    }
-}
-
 /// f(..) behind its arguments.
 fn end_call(
     around: &Around,
@@ -226,18 +215,6 @@ fn end_call(
         Callee::Missing => around.op(draft, Op::Outside(count)),
         Callee::OfClass(m) => call_at(around, place, m, count, draft),
         Callee::OfObject(m) => call_object(around, place, m, count, draft),
-    }
-}
-
-/// e.f(..) between e and the arguments.
-fn begin_value_call(around: &Around, callee: Callee, draft: &mut Draft) -> Result<(), Memory>
-    ensures { OnOk result (code_of draft.new ≡ code_of draft.old
-        ++ value_call_front around.now (callee_seen callee)) }
-{
-    match callee {
-        Callee::OfClass(_) => around.op(draft, Op::Drop),
-        Callee::OfObject(_) => Ok(()),
-        Callee::Missing => Ok(()),
     }
 }
 
@@ -277,10 +254,11 @@ pub fn begin_call(
     ensures { OnOk result (code_of draft.new ≡ code_of draft.old
         ++ target_front around.now target (callee_seen callee)) }
 {
-    match target {
-        Target::Own => begin_own_call(around, callee, draft),
-        Target::Class(_) => begin_own_call(around, callee, draft),
-        Target::Value(_) => begin_value_call(around, callee, draft),
+    match (target, callee) {
+        (Target::Value(_), Callee::OfClass(_)) => around.op(draft, Op::Drop),
+        (Target::Value(_), _) => Ok(()),
+        (_, Callee::OfObject(_)) => around.push_this(draft),
+        _ => Ok(()),
     }
 }
 

@@ -119,24 +119,6 @@ pub fn begin_assign(
 }
 
 /// Behind this and a value of this kind: the value, or what is made of the two, is stored.
-fn store(
-    around: &Around,
-    op: &str,
-    storage: Storage,
-    given: ValueKind,
-    draft: &mut Draft,
-) -> Result<(), Memory>
-    ensures { OnOk result (code_of draft.new ≡ code_of draft.old
-        ++ assign_end around.now (is_assignment op.now) storage (value_kind given)) }
-{
-    if is_assignment(op) {
-        assign(around, storage, given, draft)
-    } else {
-        combine(around, storage, draft)
-    }
-}
-
-/// The same, and the kind of the assignment.
 pub fn end_assign(
     around: &Around,
     op: &str,
@@ -148,7 +130,11 @@ pub fn end_assign(
         ++ assign_end around.now (is_assignment op.now) storage (value_kind given)) }
     ensures kind { IfOk result (λ k. value_kind k ≡ storage_kind storage) }
 {
-    store(around, op, storage, given, draft)?;
+    if is_assignment(op) {
+        assign(around, storage, given, draft)?;
+    } else {
+        combine(around, storage, draft)?;
+    }
     Ok(storage.kind())
 }
 

@@ -114,17 +114,22 @@ fn enter_spelled<'a>(
 /// Of a constructor, the fields of its object, without variables in scope.
 fn begin_object(
     alloc: Global,
-    around: &Around,
-    members: &[Member],
+    table: &Table,
+    statuses: &[Option<Reason>],
+    source: &Source,
     m: &MethodTree,
     draft: &mut Draft,
 ) -> Result<(), Memory>
-    ensures { OnOk result (code_of draft.new ≡ code_of draft.old ++ fields_first around.now members.now m.now) }
+    ensures { OnOk result (code_of draft.new ≡ code_of draft.old ++ fields_first (left_at 0 (parameters_declared
+        (entered (folder_of table.now statuses.now) (source_of source.now)) m.now.parameters))
+        source.now.members.now m.now) }
 {
-    match &m.result {
-        ResultTree::Constructor => begin_members(alloc, around, members, draft),
-        _ => Ok(()),
+    if !matches!(m.result, ResultTree::Constructor) {
+        return Ok(());
     }
+    let mut bare = enter_spelled(alloc, table, statuses, source, m)?;
+    bare.leave(0);
+    begin_members(alloc, &bare, source.members, draft)
 }
 
 /// The body of a method, under a lock where it is synchronized (JLS 8.4.3.6).
@@ -145,23 +150,6 @@ fn lower_body(
     let body = draft.len();
     lower_block(alloc, around, m.body.as_slice(), draft)?;
     draft.hold(alloc, place, body)
-}
-
-/// Of a constructor the fields of its object, and the body.
-fn lower_parts(
-    alloc: Global,
-    around: &mut Around,
-    bare: &Around,
-    members: &[Member],
-    m: &MethodTree,
-    draft: &mut Draft,
-) -> Result<(), Memory>
-    ensures around { OnOk result (around.new ≡ block_end around.old (body_of m.now)) }
-    ensures code { OnOk result (code_of draft.new ≡ code_of draft.old
-        ++ (fields_first bare.now members.now m.now ++ body_code around.old m.now)) }
-{
-    begin_object(alloc, bare, members, m, draft)?;
-    lower_body(alloc, around, m, draft)
 }
 
 /// An end that can be reached is as `return;`.
@@ -212,26 +200,8 @@ fn lower_default(
     })
 }
 
-/// The code of a tree, behind its parameters, and where no variable is in scope.
-fn lower_tree(
-    alloc: Global,
-    around: &mut Around,
-    bare: &Around,
-    members: &[Member],
-    m: &MethodTree,
-    draft: &mut Draft,
-) -> Result<(), Memory>
-    requires bare { bare.now ≡ left_at 0 around.old }
-    requires start { code_of draft.old ≡ [] }
-    ensures around { OnOk result (around.new ≡ block_end around.old (body_of m.now)) }
-    ensures code { OnOk result (code_of draft.new ≡ ended around.old (spelled_code around.old members.now m.now)) }
-{
-    lower_parts(alloc, around, bare, members, m, draft)?;
-    end(around, draft)
-}
-
 /// The code of a tree, behind its parameters.
-fn lower_behind(
+fn lower_tree(
     alloc: Global,
     table: &Table,
     statuses: &[Option<Reason>],
@@ -247,9 +217,9 @@ fn lower_behind(
     ensures code { OnOk result (code_of draft.new
         ≡ ended around.old (spelled_code around.old source.now.members.now m.now)) }
 {
-    let mut bare = enter_spelled(alloc, table, statuses, source, m)?;
-    bare.leave(0);
-    lower_tree(alloc, around, &bare, source.members, m, draft)
+    begin_object(alloc, table, statuses, source, m, draft)?;
+    lower_body(alloc, around, m, draft)?;
+    end(around, draft)
 }
 
 /// A method that a tree spells.
@@ -267,7 +237,7 @@ fn lower_spelled(
 {
     let mut around = enter_spelled(alloc, table, statuses, source, m)?;
     let mut draft = Draft::new(alloc);
-    lower_behind(alloc, table, statuses, source, m, &mut around, &mut draft)?;
+    lower_tree(alloc, table, statuses, source, m, &mut around, &mut draft)?;
     Ok(Lowered {
         code: draft.into_code(),
         kinds: around.into_kinds(),

@@ -8,5 +8,5 @@ use Rattle.method_lowering.proofs.bodies.lower_spelled.Goals as goal
 pub returns-clause-code : goal.returns-clause-code
 returns-clause-code c =
     spelled-code (folder_of c.args.table.now c.args.statuses.now) (source_of c.args.source.now) c.args.m.now
-    c.in_ok-around.around (code_of c.lower_behind.new.draft) (tree_of c.into_code.result) c.in_ok-around.ensures
-    c.in_ok-lower_behind.ensures.code c.into_code.ensures
+    c.in_ok-around.around (code_of c.lower_tree.new.draft) (tree_of c.into_code.result) c.in_ok-around.ensures
+    c.in_ok-lower_tree.ensures.code c.into_code.ensures
