@@ -2,3 +2,4 @@ pub mod ClassFacts
 pub mod ExpressionLoops
 pub mod CastChoice
 pub mod TurnSteps
+pub mod BehindCalls

@@ -1,7 +1,7 @@
 use Rattle.std.proofs.Common.{◌≡◌, ℕ, suc, ◌-◌, ◌++◌, ◌∷◌, [], map, refl, sym, ap, ◌∙◌, arith}
 use Rattle.std.proofs.lemmas.Result.{err_from_is_err_and}
 use Rattle.std.proofs.lemmas.List.{map_push}
-use Rattle.java_tree.specs.KeptPlaces.{kept, stmt_places}
+use Rattle.java_tree.specs.KeptPlaces.{Places, kept, expr_places, stmt_places}
 use Rattle.type_reader.proofs.PutPlaces.{one_put}
 use Rattle.java_tree.specs.View.{stmt_of}
 use Rattle.method_grammar.specs.StatementReading.{braces_at, by_lead, stmt_at, block_at, body_at, condition_at}
@@ -11,6 +11,9 @@ use Rattle.method_grammar.specs.JavaReaders.{method_readers}
 use Rattle.type_reader.specs.Tokens.{spelled}
 use Rattle.type_reader.specs.Endings.{block_end}
 use Rattle.method_reader.specs.HeadReading.{head_at}
+use Rattle.method_reader.specs.HeadView.{head_places}
+use Rattle.expression_reader.proofs.BehindCalls.{puts_behind, leaves}
+use Rattle.method_reader.proofs.StatementLoops.{of_statement}
 use Rattle.type_reader.proofs.ReadParts.{part_fails}
 use Rattle.method_reader.proofs.ForHeads.{for_is_headed}
 use Rattle.type_reader.proofs.ReadLoops.{ends_give}
@@ -222,3 +225,227 @@ pub synchronized-returns-clause-gives : goal.synchronized-returns-clause-gives
 unfolding sync_at
 synchronized-returns-clause-gives t c = rw (c.in_ok-lock.ensures.gives, c.in_ok-statements.ensures.gives)
     c.locked.ensures.gives
+
+-- ---- what calls in the cycle require
+
+pub read_statement-by_lead-requires : goal.read_statement-by_lead-requires
+read_statement-by_lead-requires t c = (omega (arith, c.decreases), (c.requires.few, omega (arith, c.requires.room)))
+
+pub by_lead-braces-requires : goal.by_lead-braces-requires
+by_lead-braces-requires t c =
+    (omega (arith, c.decreases), (omega (arith, c.requires.few, c.in-Brace.ensures.shorter), c.requires.room))
+
+pub by_lead-if_statement-requires : goal.by_lead-if_statement-requires
+by_lead-if_statement-requires t c =
+    (omega (arith, c.decreases), (omega (arith, c.requires.few, c.in-IfWord.ensures.shorter), c.requires.room))
+
+pub by_lead-while_statement-requires : goal.by_lead-while_statement-requires
+by_lead-while_statement-requires t c =
+    (omega (arith, c.decreases), (omega (arith, c.requires.few, c.in-WhileWord.ensures.shorter), c.requires.room))
+
+pub by_lead-for_statement-requires : goal.by_lead-for_statement-requires
+by_lead-for_statement-requires t c =
+    (omega (arith, c.decreases), (omega (arith, c.requires.few, c.in-ForWord.ensures.shorter), c.requires.room))
+
+pub by_lead-synchronized-requires : goal.by_lead-synchronized-requires
+by_lead-synchronized-requires t c = (
+  omega (arith, c.decreases),
+  (
+    omega (arith, c.requires.few, c.in-SynchronizedWord.ensures.shorter),
+    c.requires.room,
+  ),
+)
+
+pub body-read_statement-requires : goal.body-read_statement-requires
+body-read_statement-requires t c = (omega (arith, c.decreases), (c.requires.few, c.requires.room))
+
+pub braces-read_statement-requires : goal.braces-read_statement-requires
+braces-read_statement-requires t c =
+    (omega (arith, c.decreases), (omega (arith, c.requires.few, c.loop.invariant.shorter), c.requires.room))
+
+pub read_block-braces-requires : goal.read_block-braces-requires
+read_block-braces-requires t c = (
+  omega (arith, c.decreases),
+  (
+    omega (arith, c.requires.few, c.in_ok-rest.ensures.shorter),
+    omega (
+      arith,
+      c.requires.room,
+    ),
+  ),
+)
+
+pub if_statement-body-requires : goal.if_statement-body-requires
+if_statement-body-requires t c =
+    (omega (arith, c.decreases), (omega (arith, c.requires.few, c.in_ok-condition.ensures.shorter), c.requires.room))
+
+pub if_statement-otherwise-requires : goal.if_statement-otherwise-requires
+if_statement-otherwise-requires t c = (
+  omega (arith, c.decreases),
+  (
+    omega (
+      arith,
+      c.requires.few,
+      c.in_ok-condition.ensures.shorter,
+      c.in_ok-then.ensures.shorter,
+    ),
+    c.requires.room,
+  ),
+)
+
+pub otherwise-body-requires : goal.otherwise-body-requires
+otherwise-body-requires t c =
+    (omega (arith, c.decreases), (omega (arith, c.requires.few, c.in-Some.ensures.shorter), c.requires.room))
+
+pub while_statement-body-requires : goal.while_statement-body-requires
+while_statement-body-requires t c =
+    (omega (arith, c.decreases), (omega (arith, c.requires.few, c.in_ok-condition.ensures.shorter), c.requires.room))
+
+pub for_statement-body-requires : goal.for_statement-body-requires
+for_statement-body-requires t c =
+    (omega (arith, c.decreases), (omega (arith, c.requires.few, c.in_ok-head.ensures.shorter), c.requires.room))
+
+pub synchronized-read_block-requires : goal.synchronized-read_block-requires
+synchronized-read_block-requires t c =
+    (omega (arith, c.decreases), (omega (arith, c.requires.few, c.in_ok-lock.ensures.shorter), c.requires.room))
+
+pub if_statement-condition-requires-clause-few : goal.if_statement-condition-requires-clause-few
+if_statement-condition-requires-clause-few t c = c.requires.few
+
+pub if_statement-condition-requires-clause-room : goal.if_statement-condition-requires-clause-room
+if_statement-condition-requires-clause-room t c = c.requires.room
+
+pub while_statement-condition-requires-clause-few : goal.while_statement-condition-requires-clause-few
+while_statement-condition-requires-clause-few t c = c.requires.few
+
+pub while_statement-condition-requires-clause-room : goal.while_statement-condition-requires-clause-room
+while_statement-condition-requires-clause-room t c = c.requires.room
+
+pub synchronized-condition-requires-clause-few : goal.synchronized-condition-requires-clause-few
+synchronized-condition-requires-clause-few t c = c.requires.few
+
+pub synchronized-condition-requires-clause-room : goal.synchronized-condition-requires-clause-room
+synchronized-condition-requires-clause-room t c = c.requires.room
+
+pub for_statement-head-requires-clause-few : goal.for_statement-head-requires-clause-few
+for_statement-head-requires-clause-few t c = c.requires.few
+
+pub for_statement-head-requires-clause-room : goal.for_statement-head-requires-clause-room
+for_statement-head-requires-clause-room t c = c.requires.room
+
+pub by_lead-simple-requires-clause-few : goal.by_lead-simple-requires-clause-few
+by_lead-simple-requires-clause-few t c = c.requires.few
+
+pub by_lead-simple-requires-clause-room : goal.by_lead-simple-requires-clause-room
+by_lead-simple-requires-clause-room t c = c.requires.room
+
+pub by_lead-returned-requires-clause-few : goal.by_lead-returned-requires-clause-few
+by_lead-returned-requires-clause-few t c = omega (arith, c.requires.few, c.in-ReturnWord.ensures.shorter)
+
+pub by_lead-returned-requires-clause-room : goal.by_lead-returned-requires-clause-room
+by_lead-returned-requires-clause-room t c = c.requires.room
+
+-- ---- places, and what is left
+
+pub by_lead-returns-in-Semicolon-clause-places : goal.by_lead-returns-in-Semicolon-clause-places
+by_lead-returns-in-Semicolon-clause-places t c =
+    puts_behind of_statement c.empty.result _ _ (c.in-Semicolon.ensures.places) c.empty.ensures.places
+
+pub by_lead-returns-in-Semicolon-clause-shorter : goal.by_lead-returns-in-Semicolon-clause-shorter
+by_lead-returns-in-Semicolon-clause-shorter t c =
+    leaves c.empty.result _ _ (omega (arith, c.in-Semicolon.ensures.shorter)) c.empty.ensures.shorter
+
+pub by_lead-returns-in-IfWord-clause-places : goal.by_lead-returns-in-IfWord-clause-places
+by_lead-returns-in-IfWord-clause-places t c =
+    puts_behind of_statement c.if_statement.result _ _ (c.in-IfWord.ensures.places) c.if_statement.ensures.places
+
+pub by_lead-returns-in-IfWord-clause-shorter : goal.by_lead-returns-in-IfWord-clause-shorter
+by_lead-returns-in-IfWord-clause-shorter t c =
+    leaves c.if_statement.result _ _ (omega (arith, c.in-IfWord.ensures.shorter)) c.if_statement.ensures.shorter
+
+pub by_lead-returns-in-WhileWord-clause-places : goal.by_lead-returns-in-WhileWord-clause-places
+by_lead-returns-in-WhileWord-clause-places t c =
+    puts_behind of_statement c.while_statement.result _ _ (c.in-WhileWord.ensures.places)
+    c.while_statement.ensures.places
+
+pub by_lead-returns-in-WhileWord-clause-shorter : goal.by_lead-returns-in-WhileWord-clause-shorter
+by_lead-returns-in-WhileWord-clause-shorter t c =
+    leaves c.while_statement.result _ _ (omega (arith, c.in-WhileWord.ensures.shorter))
+    c.while_statement.ensures.shorter
+
+pub by_lead-returns-in-ForWord-clause-places : goal.by_lead-returns-in-ForWord-clause-places
+by_lead-returns-in-ForWord-clause-places t c =
+    puts_behind of_statement c.for_statement.result _ _ (c.in-ForWord.ensures.places) c.for_statement.ensures.places
+
+pub by_lead-returns-in-ForWord-clause-shorter : goal.by_lead-returns-in-ForWord-clause-shorter
+by_lead-returns-in-ForWord-clause-shorter t c =
+    leaves c.for_statement.result _ _ (omega (arith, c.in-ForWord.ensures.shorter)) c.for_statement.ensures.shorter
+
+pub by_lead-returns-in-SynchronizedWord-clause-places : goal.by_lead-returns-in-SynchronizedWord-clause-places
+by_lead-returns-in-SynchronizedWord-clause-places t c =
+    puts_behind of_statement c.synchronized.result _ _ (c.in-SynchronizedWord.ensures.places)
+    c.synchronized.ensures.places
+
+pub by_lead-returns-in-SynchronizedWord-clause-shorter : goal.by_lead-returns-in-SynchronizedWord-clause-shorter
+by_lead-returns-in-SynchronizedWord-clause-shorter t c =
+    leaves c.synchronized.result _ _ (omega (arith, c.in-SynchronizedWord.ensures.shorter))
+    c.synchronized.ensures.shorter
+
+pub by_lead-returns-in-ReturnWord-clause-places : goal.by_lead-returns-in-ReturnWord-clause-places
+by_lead-returns-in-ReturnWord-clause-places t c =
+    puts_behind of_statement c.returned.result _ _ (c.in-ReturnWord.ensures.places) c.returned.ensures.places
+
+pub by_lead-returns-in-ReturnWord-clause-shorter : goal.by_lead-returns-in-ReturnWord-clause-shorter
+by_lead-returns-in-ReturnWord-clause-shorter t c =
+    leaves c.returned.result _ _ (omega (arith, c.in-ReturnWord.ensures.shorter)) c.returned.ensures.shorter
+
+pub if_statement-returns-clause-places : goal.if_statement-returns-clause-places
+if_statement-returns-clause-places t c =
+    puts_behind of_statement c.otherwise.result _ _ (ap (expr_places c.in_ok-condition.condition.value)
+    c.in_ok-then.ensures.places ∙ c.in_ok-condition.ensures.places) c.otherwise.ensures.places
+
+pub if_statement-returns-clause-shorter : goal.if_statement-returns-clause-shorter
+if_statement-returns-clause-shorter t c =
+    leaves c.otherwise.result _ _ (omega (arith, c.in_ok-condition.ensures.shorter, c.in_ok-then.ensures.shorter))
+    c.otherwise.ensures.shorter
+
+pub otherwise-returns-clause-places : goal.otherwise-returns-clause-places
+otherwise-returns-clause-places t c =
+    puts_behind of_statement c.with_else.result _ _ (ap (λ (ps : Places). expr_places c.args.condition.value
+    (stmt_places c.args.then.value ps)) (c.in_ok-other.ensures.places ∙ c.in-Some.ensures.places))
+    c.with_else.ensures.places
+
+pub otherwise-returns-clause-shorter : goal.otherwise-returns-clause-shorter
+otherwise-returns-clause-shorter t c =
+    leaves c.with_else.result _ _ (omega (arith, c.in-Some.ensures.shorter, c.in_ok-other.ensures.shorter))
+    c.with_else.ensures.shorter
+
+pub while_statement-returns-clause-places : goal.while_statement-returns-clause-places
+while_statement-returns-clause-places t c =
+    puts_behind of_statement c.repeated.result _ _ (ap (expr_places c.in_ok-condition.condition.value)
+    c.in_ok-body.ensures.places ∙ c.in_ok-condition.ensures.places) c.repeated.ensures.places
+
+pub while_statement-returns-clause-shorter : goal.while_statement-returns-clause-shorter
+while_statement-returns-clause-shorter t c =
+    leaves c.repeated.result _ _ (omega (arith, c.in_ok-condition.ensures.shorter, c.in_ok-body.ensures.shorter))
+    c.repeated.ensures.shorter
+
+pub for_statement-returns-clause-places : goal.for_statement-returns-clause-places
+for_statement-returns-clause-places t c =
+    puts_behind of_statement c.headed.result _ _ (ap (head_places c.in_ok-head.head) c.in_ok-body.ensures.places ∙
+    c.in_ok-head.ensures.places) c.headed.ensures.places
+
+pub for_statement-returns-clause-shorter : goal.for_statement-returns-clause-shorter
+for_statement-returns-clause-shorter t c =
+    leaves c.headed.result _ _ (omega (arith, c.in_ok-head.ensures.shorter, c.in_ok-body.ensures.shorter))
+    c.headed.ensures.shorter
+
+pub synchronized-returns-clause-places : goal.synchronized-returns-clause-places
+synchronized-returns-clause-places t c =
+    puts_behind of_statement c.locked.result _ _ (ap (λ (ps : Places). c.args.place ∷ ps) (ap (expr_places
+    c.in_ok-lock.lock.value) c.in_ok-statements.ensures.places ∙ c.in_ok-lock.ensures.places)) c.locked.ensures.places
+
+pub synchronized-returns-clause-shorter : goal.synchronized-returns-clause-shorter
+synchronized-returns-clause-shorter t c =
+    leaves c.locked.result _ _ (omega (arith, c.in_ok-lock.ensures.shorter, c.in_ok-statements.ensures.shorter))
+    c.locked.ensures.shorter

@@ -1,0 +1,327 @@
+-- What the functions of the cycle of expressions give where one part after the other is read.
+use Rattle.std.proofs.Common.{rules, codes, ◌≡◌, map}
+use Rattle.std.proofs.Common.{◌∙◌, refl, sym}
+use Rattle.std.proofs.lemmas.Result.{err_from_is_err_and}
+use Rattle.java_lexer.specs.declared.token.TokenKind.TheVariants as kind
+use Rattle.java_tree.specs.Operators.{assignment_level}
+use Rattle.java_tree.specs.View.{expr_of}
+use Rattle.java_tree.specs.Operators.{conditional_level, unary_level}
+use Rattle.method_grammar.specs.Taking.{after_sign, after_name}
+use Rattle.method_grammar.specs.TypeReading.{ty_at, made_base_at}
+use Rattle.method_grammar.specs.ExpressionReading.{read_at, init_at}
+use Rattle.method_grammar.specs.ExpressionReading.{assign_with, conditional_with, select_with}
+use Rattle.method_grammar.specs.ExpressionReading.{index_with, prefix_with, new_with, new_array_with, braces_with}
+use Rattle.method_grammar.specs.ExpressionReading.{call_arguments_with, name_with}
+use Rattle.method_grammar.specs.Leads.{lead}
+use Rattle.expression_reader.specs.LeadView.{lead_of}
+use Rattle.expression_reader.proofs.TurnSteps.{turn_given, turn_stops}
+use Rattle.type_reader.specs.Tokens.{spelled}
+use Rattle.type_reader.proofs.ReadParts.{part_fails}
+use Rattle.expression_reader.proofs.reading.+expressions.Goals as goal
+
+pub expressions::assign-returns-in_err-right-clause-gives : goal.expressions::assign-returns-in_err-right-clause-gives
+unfolding assign_with
+expressions::assign-returns-in_err-right-clause-gives t c =
+    let p = err_from_is_err_and c.from_residual.result c.from_residual.ensures.1 in
+    rw (p.1, p.2) (part_fails c.in_err-right.field-0.0 (read_at c.args.limit assignment_level (map spelled
+    c.args.tokens.now)) _ (λ n. rw n refl) c.in_err-right.ensures.gives)
+
+pub expressions::assign-returns-clause-gives : goal.expressions::assign-returns-clause-gives
+unfolding assign_with
+expressions::assign-returns-clause-gives t c = rw c.in_ok-right.ensures.gives c.assigned.ensures.gives
+
+pub expressions::conditional-returns-in_err-then-clause-gives :
+    goal.expressions::conditional-returns-in_err-then-clause-gives
+unfolding conditional_with
+expressions::conditional-returns-in_err-then-clause-gives t c =
+    let p = err_from_is_err_and c.from_residual.result c.from_residual.ensures.1 in
+    rw (p.1, p.2) (part_fails c.in_err-then.field-0.0 (read_at c.args.limit assignment_level (map spelled
+    c.args.tokens.now)) _ (λ n. rw n refl) c.in_err-then.ensures.gives)
+
+pub expressions::conditional-returns-in_err-rest-clause-gives :
+    goal.expressions::conditional-returns-in_err-rest-clause-gives
+unfolding conditional_with
+expressions::conditional-returns-in_err-rest-clause-gives t c =
+    let p = err_from_is_err_and c.from_residual-in_err-rest.result c.from_residual-in_err-rest.ensures.1 in
+    rw (p.1, p.2) (part_fails c.in_err-rest.field-0.0 (after_sign (codes ":") (map spelled c.in_ok-then.rest.now)) _
+    (λ n. rw (c.in_ok-then.ensures.gives, n) refl) c.in_err-rest.ensures.gives)
+
+pub expressions::conditional-returns-in_err-other-clause-gives :
+    goal.expressions::conditional-returns-in_err-other-clause-gives
+unfolding conditional_with
+expressions::conditional-returns-in_err-other-clause-gives t c =
+    let p = err_from_is_err_and c.from_residual-in_err-other.result c.from_residual-in_err-other.ensures.1 in
+    rw (p.1, p.2) (part_fails c.in_err-other.field-0.0 (read_at c.args.limit conditional_level (map spelled
+    c.in_ok-rest.rest.now)) _ (λ n. rw (c.in_ok-then.ensures.gives, c.in_ok-rest.ensures.gives, n) refl)
+    c.in_err-other.ensures.gives)
+
+pub expressions::conditional-returns-clause-gives : goal.expressions::conditional-returns-clause-gives
+unfolding conditional_with
+expressions::conditional-returns-clause-gives t c = rw (
+  c.in_ok-then.ensures.gives,
+  c.in_ok-rest.ensures.gives,
+  c.in_ok-other.ensures.gives,
+) c.chosen.ensures.gives
+
+pub expressions::select-returns-in_err-name-clause-gives : goal.expressions::select-returns-in_err-name-clause-gives
+unfolding select_with
+expressions::select-returns-in_err-name-clause-gives t c =
+    let p = err_from_is_err_and c.from_residual.result c.from_residual.ensures.1 in
+    rw (p.1, p.2) (part_fails c.in_err-name.field-0.0 (after_name (map spelled c.args.tokens.now)) _ (λ n. rw n refl)
+    c.in_err-name.ensures.gives)
+
+pub expressions::select-returns-in_default-clause-gives : goal.expressions::select-returns-in_default-clause-gives
+unfolding select_with
+expressions::select-returns-in_default-clause-gives t c = rw (c.in_ok-name.ensures.gives, c.in_default.ensures.gives)
+    c.selected.ensures.gives
+
+pub expressions::select-returns-in_err-all-clause-gives : goal.expressions::select-returns-in_err-all-clause-gives
+unfolding select_with
+expressions::select-returns-in_err-all-clause-gives t c =
+    let p = err_from_is_err_and c.from_residual-in_err-all.result c.from_residual-in_err-all.ensures.1 in
+    rw (p.1, p.2) (part_fails c.in_err-all.field-0.0 (call_arguments_with (read_at c.args.limit) (map spelled
+    c.in-Some.inside.now)) _ (λ n. rw (c.in_ok-name.ensures.gives, c.in-Some.ensures.gives, n) refl)
+    c.in_err-all.ensures.gives)
+
+pub expressions::select-returns-clause-gives : goal.expressions::select-returns-clause-gives
+unfolding select_with
+expressions::select-returns-clause-gives t c = rw (
+  c.in_ok-name.ensures.gives,
+  c.in-Some.ensures.gives,
+  c.in_ok-all.ensures.gives,
+) c.called.ensures.gives
+
+pub expressions::index-returns-in_err-index-clause-gives : goal.expressions::index-returns-in_err-index-clause-gives
+unfolding index_with
+expressions::index-returns-in_err-index-clause-gives t c =
+    let p = err_from_is_err_and c.from_residual.result c.from_residual.ensures.1 in
+    rw (p.1, p.2) (part_fails c.in_err-index.field-0.0 (read_at c.args.limit assignment_level (map spelled
+    c.args.tokens.now)) _ (λ n. rw n refl) c.in_err-index.ensures.gives)
+
+pub expressions::index-returns-clause-gives : goal.expressions::index-returns-clause-gives
+unfolding index_with
+expressions::index-returns-clause-gives t c = rw c.in_ok-index.ensures.gives c.indexed.ensures.gives
+
+pub first_operand::prefix-returns-in_err-part-clause-gives :
+    goal.first_operand::prefix-returns-in_err-part-clause-gives
+unfolding prefix_with
+first_operand::prefix-returns-in_err-part-clause-gives t c =
+    let p = err_from_is_err_and c.from_residual.result c.from_residual.ensures.1 in
+    rw (p.1, p.2) (part_fails c.in_err-part.field-0.0 (read_at c.args.limit unary_level (map spelled
+    c.args.tokens.now)) _ (λ n. rw n refl) c.in_err-part.ensures.gives)
+
+pub first_operand::prefix-returns-clause-gives : goal.first_operand::prefix-returns-clause-gives
+unfolding prefix_with
+first_operand::prefix-returns-clause-gives t c = rw c.in_ok-part.ensures.gives c.prefixed.ensures.gives
+
+pub first_operand::cast-returns-in_err-kind-clause-gives : goal.first_operand::cast-returns-in_err-kind-clause-gives
+first_operand::cast-returns-in_err-kind-clause-gives t c =
+    let p = err_from_is_err_and c.from_residual.result c.from_residual.ensures.1 in
+    rw (p.1, p.2) (part_fails c.in_err-kind.field-0.0 (ty_at c.args.limit (map spelled c.args.tokens.now)) _ (λ n. rw
+    n refl) c.in_err-kind.ensures.gives)
+
+pub first_operand::cast-returns-in_err-rest-clause-gives : goal.first_operand::cast-returns-in_err-rest-clause-gives
+first_operand::cast-returns-in_err-rest-clause-gives t c =
+    let p = err_from_is_err_and c.from_residual-in_err-rest.result c.from_residual-in_err-rest.ensures.1 in
+    rw (p.1, p.2) (part_fails c.in_err-rest.field-0.0 (after_sign (codes ")") (map spelled c.in_ok-kind.rest.now)) _
+    (λ n. rw (c.in_ok-kind.ensures.gives, n) refl) c.in_err-rest.ensures.gives)
+
+pub first_operand::cast-returns-in_err-part-clause-gives : goal.first_operand::cast-returns-in_err-part-clause-gives
+first_operand::cast-returns-in_err-part-clause-gives t c =
+    let p = err_from_is_err_and c.from_residual-in_err-part.result c.from_residual-in_err-part.ensures.1 in
+    rw (p.1, p.2) (part_fails c.in_err-part.field-0.0 (read_at c.args.limit unary_level (map spelled
+    c.in_ok-rest.rest.now)) _ (λ n. rw (c.in_ok-kind.ensures.gives, c.in_ok-rest.ensures.gives, n) refl)
+    c.in_err-part.ensures.gives)
+
+pub first_operand::cast-returns-clause-gives : goal.first_operand::cast-returns-clause-gives
+first_operand::cast-returns-clause-gives t c = rw (
+  c.in_ok-kind.ensures.gives,
+  c.in_ok-rest.ensures.gives,
+  c.in_ok-part.ensures.gives,
+) c.cast_to.ensures.gives
+
+pub first_operand::parens-returns-in_err-part-clause-gives :
+    goal.first_operand::parens-returns-in_err-part-clause-gives
+first_operand::parens-returns-in_err-part-clause-gives t c =
+    let p = err_from_is_err_and c.from_residual.result c.from_residual.ensures.1 in
+    rw (p.1, p.2) (part_fails c.in_err-part.field-0.0 (read_at c.args.limit assignment_level (map spelled
+    c.args.tokens.now)) _ (λ n. rw n refl) c.in_err-part.ensures.gives)
+
+pub first_operand::parens-returns-clause-gives : goal.first_operand::parens-returns-clause-gives
+first_operand::parens-returns-clause-gives t c = rw c.in_ok-part.ensures.gives c.paren.ensures.gives
+
+pub creations::creation-returns-in_err-base-clause-gives : goal.creations::creation-returns-in_err-base-clause-gives
+unfolding new_with
+creations::creation-returns-in_err-base-clause-gives t c =
+    let p = err_from_is_err_and c.from_residual.result c.from_residual.ensures.1 in
+    rw (p.1, p.2) (part_fails c.in_err-base.field-0.0 (made_base_at c.args.limit (map spelled c.args.tokens.now)) _ (λ
+    n. rw n refl) c.in_err-base.ensures.gives)
+
+pub creations::creation-returns-in-Some-clause-gives : goal.creations::creation-returns-in-Some-clause-gives
+unfolding new_with
+creations::creation-returns-in-Some-clause-gives t c = rw (c.in_ok-base.ensures.gives, c.in-Some.ensures.gives)
+    c.new_object.ensures.gives
+
+pub creations::new_array-returns-in_err-inside-clause-gives :
+    goal.creations::new_array-returns-in_err-inside-clause-gives
+unfolding new_array_with
+creations::new_array-returns-in_err-inside-clause-gives t c =
+    let p = err_from_is_err_and c.from_residual.result c.from_residual.ensures.1 in
+    rw (p.1, p.2) (part_fails c.in_err-inside.field-0.0 (after_sign (codes "[") (map spelled c.args.tokens.now)) _ (λ
+    n. rw n refl) c.in_err-inside.ensures.gives)
+
+pub creations::new_array-returns-in_err-first-clause-gives :
+    goal.creations::new_array-returns-in_err-first-clause-gives
+unfolding new_array_with
+creations::new_array-returns-in_err-first-clause-gives t c =
+    let p = err_from_is_err_and c.from_residual-in_err-first.result c.from_residual-in_err-first.ensures.1 in
+    rw (p.1, p.2) (part_fails c.in_err-first.field-0.0 (read_at c.args.limit assignment_level (map spelled
+    c.in_ok-inside.inside.now)) _ (λ n. rw (c.in_ok-inside.ensures.gives, n) refl) c.in_err-first.ensures.gives)
+
+pub creations::new_array-returns-in_err-rest-clause-gives : goal.creations::new_array-returns-in_err-rest-clause-gives
+unfolding new_array_with
+creations::new_array-returns-in_err-rest-clause-gives t c =
+    let p = err_from_is_err_and c.from_residual-in_err-rest.result c.from_residual-in_err-rest.ensures.1 in
+    rw (p.1, p.2) (part_fails c.in_err-rest.field-0.0 (after_sign (codes "]") (map spelled c.in_ok-first.rest.now)) _
+    (λ n. rw (c.in_ok-inside.ensures.gives, c.in_ok-first.ensures.gives, n) refl) c.in_err-rest.ensures.gives)
+
+pub creations::new_array-returns-clause-gives : goal.creations::new_array-returns-clause-gives
+unfolding new_array_with
+creations::new_array-returns-clause-gives t c = rw (
+  c.in_ok-inside.ensures.gives,
+  c.in_ok-first.ensures.gives,
+  c.in_ok-rest.ensures.gives,
+) c.lengths.ensures.gives
+
+pub arguments::call_arguments-returns-in-Some-clause-gives :
+    goal.arguments::call_arguments-returns-in-Some-clause-gives
+unfolding call_arguments_with
+arguments::call_arguments-returns-in-Some-clause-gives t c = rw (
+  c.in-Some.ensures.gives,
+  c.no_arguments.ensures.gives,
+) refl
+
+pub arguments::call_arguments-returns-in_err-first-clause-gives :
+    goal.arguments::call_arguments-returns-in_err-first-clause-gives
+unfolding call_arguments_with
+arguments::call_arguments-returns-in_err-first-clause-gives t c =
+    let p = err_from_is_err_and c.from_residual.result c.from_residual.ensures.1 in
+    rw (p.1, p.2) (part_fails c.in_err-first.field-0.0 (read_at c.args.limit assignment_level (map spelled
+    c.args.tokens.now)) _ (λ n. rw (c.in_default.ensures.gives, n) refl) c.in_err-first.ensures.gives)
+
+pub arguments::call_arguments-returns-clause-gives : goal.arguments::call_arguments-returns-clause-gives
+unfolding call_arguments_with
+arguments::call_arguments-returns-clause-gives t c = rw (c.in_default.ensures.gives, c.in_ok-first.ensures.gives)
+    c.arguments.ensures.gives
+
+pub initialisers::braces-returns-in_err-rest-clause-gives : goal.initialisers::braces-returns-in_err-rest-clause-gives
+unfolding braces_with
+initialisers::braces-returns-in_err-rest-clause-gives t c =
+    let p = err_from_is_err_and c.from_residual.result c.from_residual.ensures.1 in
+    rw (p.1, p.2) (part_fails c.in_err-rest.field-0.0 (after_sign (codes "{") (map spelled c.args.tokens.now)) _ (λ n.
+    rw n refl) c.in_err-rest.ensures.gives)
+
+pub initialisers::braces-returns-in_err-first-clause-gives :
+    goal.initialisers::braces-returns-in_err-first-clause-gives
+unfolding braces_with
+initialisers::braces-returns-in_err-first-clause-gives t c =
+    let p = err_from_is_err_and c.from_residual-in_err-first.result c.from_residual-in_err-first.ensures.1 in
+    rw (p.1, p.2) (part_fails c.in_err-first.field-0.0 (init_at c.args.limit (map spelled c.in_ok-rest.rest.now)) _ (λ
+    n. rw (c.in_ok-rest.ensures.gives, c.in_default.ensures.gives, n) refl) c.in_err-first.ensures.gives)
+
+pub initialisers::braces-returns-clause-gives : goal.initialisers::braces-returns-clause-gives
+unfolding braces_with
+initialisers::braces-returns-clause-gives t c = rw (
+  c.in_ok-rest.ensures.gives,
+  c.in_default.ensures.gives,
+  c.in_ok-first.ensures.gives,
+) c.items.ensures.gives
+
+-- ---- turns, and what begins with a name
+
+pub expressions::turn-returns-in-Assigns-clause-gives : goal.expressions::turn-returns-in-Assigns-clause-gives
+expressions::turn-returns-in-Assigns-clause-gives t c =
+    let same : c.deref.result.now ≡ c.args.left.tree.value = search rules in
+    turn_given c.assign.result c.args.limit c.args.level (expr_of c.args.left.tree.value) (lead_of
+    c.lead_at-lead.result) (lead (map spelled c.args.tokens.now)) c.lead_at-lead.ensures.gives (rw same at (sym
+    c.goes_on.ensures ∙ c.if-not-goes_on.false)) (rw c.in-Assigns.is c.assign.ensures.gives)
+
+pub expressions::turn-returns-in-Asks-clause-gives : goal.expressions::turn-returns-in-Asks-clause-gives
+expressions::turn-returns-in-Asks-clause-gives t c =
+    let same : c.deref.result.now ≡ c.args.left.tree.value = search rules in
+    turn_given c.conditional.result c.args.limit c.args.level (expr_of c.args.left.tree.value) (lead_of
+    c.lead_at-lead.result) (lead (map spelled c.args.tokens.now)) c.lead_at-lead.ensures.gives (rw same at (sym
+    c.goes_on.ensures ∙ c.if-not-goes_on.false)) (rw c.in-Asks.is c.conditional.ensures.gives)
+
+pub expressions::turn-returns-in-Joins-clause-gives : goal.expressions::turn-returns-in-Joins-clause-gives
+expressions::turn-returns-in-Joins-clause-gives t c =
+    let same : c.deref.result.now ≡ c.args.left.tree.value = search rules in
+    turn_given c.binary.result c.args.limit c.args.level (expr_of c.args.left.tree.value) (lead_of
+    c.lead_at-lead.result) (lead (map spelled c.args.tokens.now)) c.lead_at-lead.ensures.gives (rw same at (sym
+    c.goes_on.ensures ∙ c.if-not-goes_on.false)) (rw c.in-Joins.is c.binary.ensures.gives)
+
+pub expressions::turn-returns-in-Tests-clause-gives : goal.expressions::turn-returns-in-Tests-clause-gives
+expressions::turn-returns-in-Tests-clause-gives t c =
+    let same : c.deref.result.now ≡ c.args.left.tree.value = search rules in
+    turn_given c.tested.result c.args.limit c.args.level (expr_of c.args.left.tree.value) (lead_of
+    c.lead_at-lead.result) (lead (map spelled c.args.tokens.now)) c.lead_at-lead.ensures.gives (rw same at (sym
+    c.goes_on.ensures ∙ c.if-not-goes_on.false)) (rw c.in-Tests.is c.tested.ensures.gives)
+
+pub expressions::turn-returns-in-Steps-clause-gives : goal.expressions::turn-returns-in-Steps-clause-gives
+expressions::turn-returns-in-Steps-clause-gives t c =
+    let same : c.deref.result.now ≡ c.args.left.tree.value = search rules in
+    turn_given c.stepped.result c.args.limit c.args.level (expr_of c.args.left.tree.value) (lead_of
+    c.lead_at-lead.result) (lead (map spelled c.args.tokens.now)) c.lead_at-lead.ensures.gives (rw same at (sym
+    c.goes_on.ensures ∙ c.if-not-goes_on.false)) (rw c.in-Steps.is c.stepped.ensures.gives)
+
+pub expressions::turn-returns-in-Selects-clause-gives : goal.expressions::turn-returns-in-Selects-clause-gives
+expressions::turn-returns-in-Selects-clause-gives t c =
+    let same : c.deref.result.now ≡ c.args.left.tree.value = search rules in
+    turn_given c.select.result c.args.limit c.args.level (expr_of c.args.left.tree.value) (lead_of
+    c.lead_at-lead.result) (lead (map spelled c.args.tokens.now)) c.lead_at-lead.ensures.gives (rw same at (sym
+    c.goes_on.ensures ∙ c.if-not-goes_on.false)) (rw c.in-Selects.is c.select.ensures.gives)
+
+pub expressions::turn-returns-in-Indexes-clause-gives : goal.expressions::turn-returns-in-Indexes-clause-gives
+expressions::turn-returns-in-Indexes-clause-gives t c =
+    let same : c.deref.result.now ≡ c.args.left.tree.value = search rules in
+    turn_given c.index.result c.args.limit c.args.level (expr_of c.args.left.tree.value) (lead_of
+    c.lead_at-lead.result) (lead (map spelled c.args.tokens.now)) c.lead_at-lead.ensures.gives (rw same at (sym
+    c.goes_on.ensures ∙ c.if-not-goes_on.false)) (rw c.in-Indexes.is c.index.ensures.gives)
+
+pub expressions::turn-returns-then-not-goes_on-clause-gives :
+    goal.expressions::turn-returns-then-not-goes_on-clause-gives
+expressions::turn-returns-then-not-goes_on-clause-gives t c =
+    let same : c.deref.result.now ≡ c.args.left.tree.value = search rules in
+    turn_stops (read_at c.args.limit) c.args.limit c.args.level (expr_of c.args.left.tree.value) (lead_of
+    c.lead_at-lead.result) (lead (map spelled c.args.tokens.now)) c.lead_at-lead.ensures.gives (rw same at (sym
+    c.goes_on.ensures ∙ c.if-not-goes_on.true))
+
+pub first_operand::named-returns-then-class_follows-clause-gives :
+    goal.first_operand::named-returns-then-class_follows-clause-gives
+first_operand::named-returns-then-class_follows-clause-gives t c = c.class.ensures.gives (read_at c.args.limit)
+
+pub first_operand::named-returns-in_default-clause-gives : goal.first_operand::named-returns-in_default-clause-gives
+unfolding name_with
+first_operand::named-returns-in_default-clause-gives t c = rw (
+  c.class_follows.ensures.none c.if-class_follows.false,
+  c.in_default.ensures.gives,
+) c.variable.ensures.gives
+
+pub first_operand::named-returns-in_err-all-clause-gives : goal.first_operand::named-returns-in_err-all-clause-gives
+unfolding name_with
+first_operand::named-returns-in_err-all-clause-gives t c =
+    let p = err_from_is_err_and c.from_residual.result c.from_residual.ensures.1 in
+    rw (p.1, p.2) (part_fails c.in_err-all.field-0.0 (call_arguments_with (read_at c.args.limit) (map spelled
+    c.in-Some.inside.now)) _ (λ n. rw (
+      c.class_follows.ensures.none c.if-class_follows.false,
+      c.in-Some.ensures.gives,
+      n,
+    ) refl) c.in_err-all.ensures.gives)
+
+pub first_operand::named-returns-clause-gives : goal.first_operand::named-returns-clause-gives
+unfolding name_with
+first_operand::named-returns-clause-gives t c = rw (
+  c.class_follows.ensures.none c.if-class_follows.false,
+  c.in-Some.ensures.gives,
+  c.in_ok-all.ensures.gives,
+) c.call.ensures.gives
