@@ -8,7 +8,7 @@ use Rattle.std.proofs.Common.{append_assoc, add-one, replicate, get_or}
 use Rattle.std.specs.Arc.{arc_value}
 use Rattle.std.proofs.Math.Dec.{ltb}
 use Rattle.std.proofs.lemmas.Bool.{eq-eqb, ltb-true, ltb-false}
-use Rattle.std.proofs.lemmas.Option.{slice_get_read, slice_get_past}
+use Rattle.std.proofs.lemmas.Option.{slice_get_read, slice_get_past, slice_get_within}
 use Rattle.std.proofs.lemmas.List.{at_drop_more, drop_all, length-map}
 use Rattle.std.specs.List.{list_any, list_all, flat_map}
 use Rattle.std.specs.Option.{IfSome, option_and_then}
@@ -203,6 +203,16 @@ in_row_called program m n analysed =
       | None ↦ []
       | Some method ↦ calls_in method.code
     ])) found.1)
+
+-- an analysed method has a row
+pub row_there : (program : Core) (rows : List (List MethodId)) (m : MethodId) → is_analysed program m ≡ true →
+    rows ≡ rows_of program → m.0 < length rows
+row_there program rows m analysed are =
+    let found = method_there (method_at program m) analysed in
+    let within = slice_get_within program.methods m.0 found.0 found.1 in
+    let count : length rows ≡ length program.methods =
+    ap length are ∙ length-map program.methods (λ (method : Method). different (calls_in method.code)) in
+    omega (arith, within, count)
 
 pub row_analysed : (program : Core) (m n : MethodId) → are_calls_right program ≡ true → is_analysed program m ≡ true →
     list_any (is_method n) (row_of (rows_of program) m) ≡ true → is_analysed program n ≡ true

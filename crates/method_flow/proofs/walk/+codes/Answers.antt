@@ -5,7 +5,7 @@ use Rattle.std.proofs.lemmas.List.{at_drop_more, at_drop_all}
 use Rattle.owner_domain.specs.declared.value.State.{State}
 use Rattle.core_code.specs.declared.code.Code.{Code}
 use Rattle.core_code.specs.declared.code.Code.TheFolds.{the_lemmas}
-use Rattle.core_code.specs.Tree.{Tree, Then, Either, Again, tree_of, in_sequence}
+use Rattle.core_code.specs.Tree.{Tree, Step as Operate, Then, Either, Again, tree_of, in_sequence}
 use Rattle.access_domain.specs.Flow.{flow}
 use Rattle.method_flow.specs.Frames.{given}
 use Rattle.method_flow.specs.Marks.{IsNoted, IsStopped}
@@ -180,3 +180,18 @@ repeat-returns t c =
     let none : total - at.round ≡ 0 = omega (arith, c.loop-round-test.false, c.rounds-round-end.ensures) in
     last-stopped body (total - at.round) start at.here c.args.found.now at.found c.in-Err-go.stop none at.invariant
     (subst (λ (s : State). IsStopped at.found (body s) c.in-Err-go.stop) c.in-Ok-copied.ensures c.in-Err-go.ensures)
+
+pub go-returns-in-Op : goal.go-returns-in-Op
+go-returns-in-Op t c =
+    let is : tree_of c.args.code.now ≡ Operate c.in-Op.site c.in-Op.field-1 c.in-Op.op = search (rules, the_lemmas) in
+    subst (λ (code : Tree). IsFlow (flow (given c.args.frame.now) code c.args.locked c.args.here.now) c.step.new.here
+    c.args.found.now c.step.new.found c.step.result) (sym is) c.step.ensures
+
+pub go-returns-in-Seq : goal.go-returns-in-Seq
+go-returns-in-Seq t c =
+    let is : tree_of c.args.code.now ≡ in_sequence (map tree_of c.as_slice.result.now) = search (rules, the_lemmas) in
+    subst (λ (code : Tree). IsFlow (flow (given c.args.frame.now) code c.args.locked c.args.here.now)
+    c.go_through.new.here c.args.found.now c.go_through.new.found c.go_through.result) (sym is) c.go_through.ensures
+
+pub go_through-loop-part-init : goal.go_through-loop-part-init
+go_through-loop-part-init t c = λ here new r flows. flows

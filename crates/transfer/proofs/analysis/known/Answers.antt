@@ -1,12 +1,12 @@
-use Rattle.std.proofs.Common.{◌+◌, List, ap, ◌∙◌, sym, drop, get_or}
+use Rattle.std.proofs.Common.{◌+◌, List, ap, ◌∙◌, sym, drop, get_or, arith}
 use Rattle.std.specs.Arc.{arc_value}
 use Rattle.std.specs.Option.{option_or}
-use Rattle.std.proofs.lemmas.List.{at_drop_more}
+use Rattle.std.proofs.lemmas.List.{at_drop_more, at_drop_all}
 use Rattle.method_flow.specs.declared.calls.Callee.{Callee}
 use Rattle.transfer.specs.declared.finished.Finished.{Finished}
 use Rattle.transfer.specs.Callees.{Held, outcome_in}
 use Rattle.method_flow.specs.Known.{outcome_among}
-use Rattle.transfer.proofs.Handed.{one-more}
+use Rattle.transfer.proofs.Handed.{one-more, or-none}
 use Rattle.transfer.proofs.analysis.known.Goals as goal
 
 pub loop-one-preserved : goal.loop-one-preserved
@@ -26,3 +26,14 @@ loop-one-preserved c = λ m.
     ∙ ap (option_or (outcome_among made m))
     (sym (at_drop_more (λ fs. outcome_in fs m) finished i one c.loop-one-test.true))
     ∙ c.loop-one.invariant m
+
+pub loop-one-init : goal.loop-one-init
+loop-one-init c = λ m.
+    ap (λ (cs : List Callee). option_or (outcome_among cs m) (outcome_in c.args.finished.now m)) c.new-callees.ensures.items
+
+pub returns : goal.returns
+returns c = λ m.
+    let made = outcome_among c.loop-one.callees.items m in
+    let over = at_drop_all (λ (fs : List Held). outcome_in fs m) c.args.finished.now c.loop-one.one-index
+    (omega (arith, c.loop-one-test.false)) in
+    sym (or-none made) ∙ ap (option_or made) (sym over) ∙ c.loop-one.invariant m

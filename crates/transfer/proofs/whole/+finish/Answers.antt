@@ -1,9 +1,10 @@
-use Rattle.std.proofs.Common.{◌≡◌, ◌+◌, ◌≤◌, ◌<◌, ◌||◌, true, List, [], ◌∷◌, ◌++◌, All}
-use Rattle.std.proofs.Common.{drop, is_some, length, sym, ap, subst}
+use Rattle.std.proofs.Common.{◌≡◌, ◌+◌, ◌≤◌, ◌<◌, ◌||◌, true, List, [], ◌∷◌, ◌++◌, All, Option, Some}
+use Rattle.std.proofs.Common.{drop, is_some, length, option_map, sym, ap, subst}
 use Rattle.std.proofs.Common.{◌∙◌, arith}
-use Rattle.std.proofs.lemmas.List.Elements.{All-push}
+use Rattle.std.proofs.lemmas.List.Elements.{All-nil, All-push}
 use Rattle.std.specs.Arc.{arc_value}
 use Rattle.std.specs.List.{list_any}
+use Rattle.std.specs.Option.{IfSome}
 use Rattle.std.specs.Prelude.{slice_index_or}
 use Rattle.racer_base.specs.declared.ids.MethodId.{MethodId}
 use Rattle.call_graph.specs.Chains.{row_of}
@@ -12,8 +13,10 @@ use Rattle.core_code.specs.Calls.{is_analysed}
 use Rattle.core_code.specs.Program.{core}
 use Rattle.core_code.specs.Rows.{rows_in, rows_of, ranks_in}
 use Rattle.transfer.specs.Callees.{Held, AreCallees, outcome_in}
-use Rattle.transfer.proofs.Tables.{is_method}
-use Rattle.transfer.proofs.Every.{read_at, read_any, row_analysed, one-fewer, row-done}
+use Rattle.transfer.specs.declared.finished.Finished.{Finished}
+use Rattle.transfer.specs.Tables.{IsFinished, finished_at}
+use Rattle.transfer.proofs.Tables.{is_method, or-right}
+use Rattle.transfer.proofs.Every.{read_at, read_any, row_analysed, row_there, one-fewer, row-done}
 use Rattle.transfer.proofs.whole.+finish.Goals as goal
 
 pub finish-requires : goal.finish-requires
@@ -70,3 +73,42 @@ finish_itself-requires-clause-callees t c =
     subst (AreCallees program m) (sym c.as_slice-2.ensures.value)
     (row-done program m c.loop-callee.callees.items row i c.requires.analysed
     (ap (λ (rows : List (List MethodId)). row_of rows m) c.requires.rows.rows_are) over inv.same_program inv.there)
+
+pub returns-in-Some-clause-made : goal.returns-in-Some-clause-made
+returns-in-Some-clause-made t c =
+    let program = core (arc_value c.args.program.now) in
+    let m = c.args.method in
+    let found : Some (arc_value c.in-Some.finished) ≡ finished_at c.args.table.now.items m =
+    sym (ap (option_map arc_value) c.in-Some.is)
+    ∙ c.in_ok-finished.ensures
+    ∙ ap (λ (table : List (Option Held)). finished_at table m) c.as_slice.ensures.value in
+    subst (λ (o : Option Finished). IfSome o (λ f. IsFinished program m f)) (sym found) (c.requires.table m)
+
+pub returns-in-Some-clause-table : goal.returns-in-Some-clause-table
+returns-in-Some-clause-table t c = c.requires.table
+
+pub loop-callee-init : goal.loop-callee-init
+loop-callee-init t c =
+    let program = core (arc_value c.args.program.now) in
+    let IsFor : Held → Type 0 = λ f. core (arc_value (arc_value f).program) ≡ program in
+    let made = c.new-callees.result.items in
+    let row = row_of (rows_in c.args.rows.now) c.args.method in
+    record {
+      table = c.requires.table;
+      same_program = subst (λ (fs : List Held). All IsFor fs) (sym c.new-callees.ensures.items) (All-nil IsFor);
+      there = λ n e. or-right (is_some (outcome_in made n)) (list_any (is_method n) row) e;
+    }
+
+pub returns-clause-made : goal.returns-clause-made
+returns-clause-made t c = c.finish_itself.ensures.made
+
+pub finish_itself-requires-clause-table : goal.finish_itself-requires-clause-table
+finish_itself-requires-clause-table t c = c.loop-callee.invariant.table
+
+pub finish_itself-requires-clause-analysed : goal.finish_itself-requires-clause-analysed
+finish_itself-requires-clause-analysed t c = c.requires.analysed
+
+pub row-callee-items-requires : goal.row-callee-items-requires
+row-callee-items-requires t c =
+    row_there (core (arc_value c.args.program.now)) (rows_in c.args.rows.now) c.args.method c.requires.analysed
+    c.requires.rows.rows_are

@@ -1,4 +1,5 @@
-use Rattle.std.proofs.Common.{◌+◌, ◌-◌, List, Option, None, ◌++◌, replicate, ap, ◌∙◌}
+use Rattle.std.proofs.Common.{◌≡◌, ℕ, ◌+◌, ◌-◌, List, Option, None, ◌++◌, replicate, sym, ap, ◌∙◌, arith}
+use Rattle.std.proofs.lemmas.List.{append-nil}
 use Rattle.transfer.specs.Callees.{Held}
 use Rattle.method_flow.proofs.Stacks.{replicate-turn}
 use Rattle.transfer.proofs.whole.empty.Goals as goal
@@ -9,4 +10,19 @@ loop-place-preserved c =
     let i = c.loop-place._place in
     ap (λ (places : List (Option Held)). places ++ replicate (n - (i + 1)) None) c.in-Ok-push.ensures.items
     ∙ replicate-turn c.loop-place.table.items n i None c.loop-place-test.true
+    ∙ c.loop-place.invariant
+
+pub loop-place-init : goal.loop-place-init
+loop-place-init c =
+    let n = c.args.places in
+    let whole : n - 0 ≡ n = omega arith in
+    (λ i. c.in-Ok.ensures.items i ++ replicate (whole i) None)
+
+pub returns : goal.returns
+returns c =
+    let n = c.args.places in
+    let made = c.loop-place.table.items in
+    let none : n - c.loop-place._place ≡ 0 = omega (arith, c.loop-place-test.false) in
+    sym (append-nil made)
+    ∙ ap (λ (k : ℕ). made ++ replicate k None) (sym none)
     ∙ c.loop-place.invariant

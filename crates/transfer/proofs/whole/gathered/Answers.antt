@@ -47,3 +47,24 @@ returns c =
     sym (append-nil outs)
     ∙ ap (λ (k : ℕ). outs ++ outcomes_from program i k) (sym none)
     ∙ c.loop-number.invariant.outcomes
+
+pub loop-number-init : goal.loop-number-init
+loop-number-init c =
+    let program = core (arc_value c.args.program.now) in
+    let n = length program.methods in
+    let whole : n - 0 ≡ n = omega arith in
+    record {
+      table = c.requires.table;
+      outcomes = (λ i. outcomes_held (c.new-outcomes.ensures.items i) ++ outcomes_from program 0 (whole i));
+    }
+
+pub outcome_at-requires : goal.outcome_at-requires
+outcome_at-requires c =
+    let ms = c.methods-number-end.result.now in
+    let count : length (methods (arc_value c.args.program.now)) ≡ length ms =
+    ap length (sym (c.methods-number-end.ensures ∙ ap methods c.deref.ensures)) ∙ length-map ms method_of in
+    record {
+      rows = c.requires.rows;
+      there = omega (arith, count, c.in-Ok.ensures, c.loop-number-test.true);
+      table = c.loop-number.invariant.table;
+    }
