@@ -5,3 +5,4 @@ mod LastNames
 mod PartKinds
 mod Variables
 mod ByClass
+mod Loops

@@ -56,16 +56,6 @@ fn class_numbers(alloc: Global, classes: &[ClassInfo]) -> Result<Named, ResolveF
 }
 
 impl Classes {
-    /// These classes, unless two have the same name.
-    pub fn of(alloc: Global, list: Vec<ClassInfo>) -> Result<Classes, ResolveFault>
-        ensures list { IfOk result (λ classes. classes ≡ list.items) }
-        ensures ok { IfOk result (λ _. duplicate_class list.items ≡ None) }
-        ensures err { IfErr result (IsFault (duplicate_class list.items)) }
-    {
-        let numbers = class_numbers(alloc, list.as_slice())?;
-        Ok(Classes { list, numbers })
-    }
-
     pub fn as_slice(&self) -> &[ClassInfo]
         ensures { result.now ≡ self.now }
     {
@@ -132,5 +122,6 @@ pub fn classes_of(alloc: Global, trees: &[&ClassTree]) -> Result<Classes, Resolv
     ensures err { IfErr result (IsFault (duplicate_class (map class_info (trees_behind trees.now)))) }
 {
     let list = class_infos(alloc, trees)?;
-    Classes::of(alloc, list)
+    let numbers = class_numbers(alloc, list.as_slice())?;
+    Ok(Classes { list, numbers })
 }

@@ -1,6 +1,7 @@
 //! Fields by their classes and names.
 ghost use Rattle.std.specs.Prelude.{◌≡◌, ◌++◌, map, IfOk, IfErr, OnOk, None, true, false};
-ghost use Rattle.java_resolver.specs.Declarations.{class_names, field_info, member_fields, class_fields};
+ghost use Rattle.std.specs.List.{flat_map};
+ghost use Rattle.java_resolver.specs.Declarations.{class_names, field_info, member_fields};
 ghost use Rattle.java_resolver.specs.Meanings.{is_seen, field_named};
 ghost use Rattle.java_resolver.specs.Firsts.{first_that};
 ghost use Rattle.java_resolver.specs.Refusals.{duplicate_field};
@@ -91,21 +92,6 @@ fn static_numbers(alloc: Global, fields: &[FieldInfo]) -> Result<Named, Memory>
 }
 
 impl Fields {
-    /// These fields, unless two of a class have the same name.
-    pub fn of(alloc: Global, list: Vec<FieldInfo>) -> Result<Fields, ResolveFault>
-        ensures list { IfOk result (λ fields. fields ≡ list.items) }
-        ensures ok { IfOk result (λ _. duplicate_field list.items ≡ None) }
-        ensures err { IfErr result (IsFault (duplicate_field list.items)) }
-    {
-        let numbers = field_numbers(alloc, list.as_slice())?;
-        let static_numbers = static_numbers(alloc, list.as_slice())?;
-        Ok(Fields {
-            list,
-            numbers,
-            static_numbers,
-        })
-    }
-
     pub fn as_slice(&self) -> &[FieldInfo]
         ensures { result.now ≡ self.now }
     {
@@ -186,17 +172,17 @@ fn push_member_fields(
     }
 }
 
-/// Adds the fields of a class.
+/// Adds the fields among the members of a class.
 fn push_class_fields(
     fields: &mut Vec<FieldInfo>,
     classes: &Classes,
     class: ClassId,
-    tree: &ClassTree,
+    members: &[Member],
 ) -> Result<(), Memory>
     ensures { OnOk result (fields.new.items ≡ fields.old.items
-        ++ class_fields (class_names classes.now) class tree.now) }
+        ++ flat_map (member_fields (class_names classes.now) class) members.now) }
 {
-    for member in tree.members.as_slice() {
+    for member in members {
         push_member_fields(fields, classes, class, member)?;
     }
     Ok(())
@@ -212,7 +198,8 @@ fn field_infos(
 {
     let mut fields = Vec::new(alloc);
     for (index, tree) in trees.iter().enumerate() {
-        push_class_fields(&mut fields, classes, ClassId(number_of(index)?), tree)?;
+        let class = ClassId(number_of(index)?);
+        push_class_fields(&mut fields, classes, class, tree.members.as_slice())?;
     }
     Ok(fields)
 }
@@ -228,5 +215,11 @@ pub fn fields_of(
     ensures err { IfErr result (IsFault (duplicate_field (fields_behind classes.now trees.now))) }
 {
     let list = field_infos(alloc, classes, trees)?;
-    Fields::of(alloc, list)
+    let numbers = field_numbers(alloc, list.as_slice())?;
+    let static_numbers = static_numbers(alloc, list.as_slice())?;
+    Ok(Fields {
+        list,
+        numbers,
+        static_numbers,
+    })
 }

@@ -1,11 +1,11 @@
 //! Methods by their classes, names and numbers of parameters.
 ghost use Rattle.std.specs.Prelude.{◌≡◌, ◌++◌, length, replicate, IfOk, IfErr, OnOk, None};
-ghost use Rattle.std.specs.List.{list_any};
+ghost use Rattle.std.specs.List.{list_any, flat_map};
 ghost use Rattle.racer_base.specs.declared.ids.Kind.TheVariants.{Other};
 ghost use Rattle.java_resolver.specs.Declarations.{class_names, kinds_of, method_name, method_info, head_info};
 ghost use Rattle.java_resolver.specs.Declarations.{default_constructor, default_constructors, constructor_name};
 ghost use Rattle.java_resolver.specs.Declarations.{is_constructor, is_constructor_head, member_is_constructor};
-ghost use Rattle.java_resolver.specs.Declarations.{member_methods, declared_methods, class_methods};
+ghost use Rattle.java_resolver.specs.Declarations.{member_methods, class_methods};
 ghost use Rattle.java_resolver.specs.Meanings.{found};
 ghost use Rattle.java_resolver.specs.Indexes.{FindsFirsts, method_at, methods_behind};
 ghost use Rattle.java_resolver.specs.Refusals.{too_many};
@@ -62,13 +62,6 @@ fn method_numbers(alloc: Global, methods: &[MethodInfo]) -> Result<Named, Memory
 }
 
 impl Methods {
-    pub fn of(alloc: Global, list: Vec<MethodInfo>) -> Result<Methods, Memory>
-        ensures { IfOk result (λ methods. methods ≡ list.items) }
-    {
-        let numbers = method_numbers(alloc, list.as_slice())?;
-        Ok(Methods { list, numbers })
-    }
-
     pub fn as_slice(&self) -> &[MethodInfo]
         ensures { result.now ≡ self.now }
     {
@@ -265,18 +258,18 @@ fn push_member(
     Ok(())
 }
 
-/// Adds the methods and constructors that a class declares.
-fn push_declared(
+/// Adds the methods and constructors among the members of a class.
+fn push_members(
     alloc: Global,
     methods: &mut Vec<MethodInfo>,
     classes: &Classes,
     class: ClassId,
-    tree: &ClassTree,
+    members: &[Member],
 ) -> Result<(), Memory>
     ensures { OnOk result (methods.new.items ≡ methods.old.items
-        ++ declared_methods (class_names classes.now) class tree.now) }
+        ++ flat_map (member_methods (class_names classes.now) class) members.now) }
 {
-    for member in tree.members.as_slice() {
+    for member in members {
         push_member(alloc, methods, classes, class, member)?;
     }
     Ok(())
@@ -310,7 +303,7 @@ fn push_class(
         ++ class_methods (class_names classes.now) class tree.now) }
 {
     push_default(alloc, methods, class, tree)?;
-    push_declared(alloc, methods, classes, class, tree)
+    push_members(alloc, methods, classes, class, tree.members.as_slice())
 }
 
 /// The methods and constructors of these classes.
@@ -362,5 +355,6 @@ pub fn methods_of(
 {
     let list = method_infos(alloc, classes, trees)?;
     check_counts(classes.as_slice().len(), list.len())?;
-    Ok(Methods::of(alloc, list)?)
+    let numbers = method_numbers(alloc, list.as_slice())?;
+    Ok(Methods { list, numbers })
 }

@@ -16,7 +16,10 @@ pub type Named = BTreeMap<String, BTreeMap<Key, u32>>;
 pub fn number_of(index: usize) -> Result<u32, Memory>
     ensures { IfOk result (λ number. number ≡ index) }
 {
-    u32::try_from(index).map_err(|_| Memory)
+    match u32::try_from(index) {
+        Ok(number) => Ok(number),
+        Err(_) => Err(Memory),
+    }
 }
 
 /// No numbers.

@@ -6,5 +6,5 @@ use Rattle.java_resolver.proofs.fields.push_class_fields.Given as goal
 abbrev pub invariant-loop-member : goal.invariant-loop-member
 invariant-loop-member l =
     let made = member_fields (class_names l.classes) l.class in
-    l.fields.items ++ flat_map made (drop l.member-index l.tree.members) ≡
-    l.fn.fields.items ++ flat_map made l.tree.members
+    l.fields.items ++ flat_map made (drop l.member-index l.members) ≡
+    l.fn.fields.items ++ flat_map made l.members
