@@ -3,8 +3,4 @@ pub mod Limits
 pub mod Texts
 pub mod Outside
 pub mod Causes
-pub mod FileList
-pub mod Failing
-pub mod MemoryFolder
-pub mod MemorySink
 pub mod StdSink

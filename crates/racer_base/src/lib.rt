@@ -1,14 +1,11 @@
 //! What every crate of the analyser stands on: numbers and places of what was read, small types that
-//! contracts see as lists, the limits, the traits of the outside, and their forms in memory and for real.
+//! contracts see as lists, the limits, the traits of the outside, and standard output.
 #![tactic(auto)]
 
-mod failing;
 mod ids;
 mod items;
 mod laws;
 mod limits;
-mod memory_folder;
-mod memory_sink;
 mod naming;
 mod out_of_memory;
 mod outside;
@@ -23,8 +20,6 @@ pub use limits::{
     MAX_FOLDER_ENTRIES, MAX_FOLDER_NESTING, MAX_LOCALS, MAX_METHODS, MAX_NESTING, MAX_PARAMETERS,
     MAX_PATH_FIELDS, MAX_SUMMARY_KEYS, MAX_WAY_STEPS, MAX_WORKERS, MIN_WORKERS,
 };
-pub use memory_folder::MemoryFolder;
-pub use memory_sink::MemorySink;
 pub use naming::Names;
 pub use out_of_memory::Memory;
 pub use outside::{Failed, Folder, FolderFault, Gate, OpenGate, Sink};

@@ -7,11 +7,11 @@ ghost use Rattle.std.specs.FinMap as finite;
 ghost use Rattle.std.proofs.lemmas.Map.Keys.{IsDistinct-prop};
 ghost use Rattle.racer_base.specs.Outside.{same_name, AreNames, IsRise};
 ghost use Rattle.racer_base.specs.Causes.{IsCause};
-ghost use Rattle.racer_base.specs.FileList.{names_of, files_of};
-ghost use Rattle.racer_base.specs.Failing.{has_failed, risen};
+ghost use Rattle.memory_outside.specs.FileList.{names_of, files_of};
+ghost use Rattle.memory_outside.specs.Failing.{has_failed, risen};
 
 use crate::failing::Failing;
-use crate::{Folder, FolderFault};
+use racer_base::{Folder, FolderFault};
 use std::alloc::{AllocError, Global};
 
 /// Whether one of these files has this name.
@@ -35,7 +35,7 @@ pub struct MemoryFolder {
 }
 
 impl MemoryFolder {
-    ghost use Rattle.racer_base.specs.MemoryFolder.{told_of, meaning_of, faults_of, call_of, failing_of};
+    ghost use Rattle.memory_outside.specs.MemoryFolder.{told_of, meaning_of, faults_of, call_of, failing_of};
 
     /// The names of the files differ, which `names_differ` tests.
     pub fn new(name: String, files: Vec<(String, Vec<u8>)>, failing: Vec<u32>) -> MemoryFolder
@@ -107,8 +107,8 @@ impl MemoryFolder {
 }
 
 impl Folder for MemoryFolder {
-    ghost use Rattle.racer_base.specs.MemoryFolder.{told_of, meaning_of, faults_of, call_of, failing_of, IsSteady};
-    ghost use Rattle.racer_base.specs.MemoryFolder.{fails_next, fails_to_enter, fails_to_read, IsOneCall};
+    ghost use Rattle.memory_outside.specs.MemoryFolder.{told_of, meaning_of, faults_of, call_of, failing_of, IsSteady};
+    ghost use Rattle.memory_outside.specs.MemoryFolder.{fails_next, fails_to_enter, fails_to_read, IsOneCall};
 
     ghost faults = { faults_of };
 

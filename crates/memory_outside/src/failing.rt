@@ -1,6 +1,6 @@
 //! Calls that are to fail.
 ghost use Rattle.std.specs.Prelude.{◌≡◌, true, false};
-ghost use Rattle.racer_base.specs.Failing.{is_failing, is_quiet, risen};
+ghost use Rattle.memory_outside.specs.Failing.{is_failing, is_quiet, risen};
 
 /// Which calls are to fail, by their numbers from 0, and the number of the next one.
 #[derive(Drop)]

@@ -1,7 +1,7 @@
 use Rattle.std.proofs.Common.{ap, ◌∙◌, string_bytes}
 use Rattle.std.proofs.Math.Dec.{eqb}
 use Rattle.std.specs.Cmp.Lexicographic.{pointwise, texts_ties}
-use Rattle.racer_base.proofs.memory_folder.MemoryFolder.has_name.Goals as goal
+use Rattle.memory_outside.proofs.memory_folder.MemoryFolder.has_name.Goals as goal
 
 pub returns-clause-same : goal.returns-clause-same
 returns-clause-same c =

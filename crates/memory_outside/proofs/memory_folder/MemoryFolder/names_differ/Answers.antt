@@ -1,5 +1,5 @@
-use Rattle.racer_base.proofs.FileLemmas.{none_distinct, more_distinct, repeated_name}
-use Rattle.racer_base.proofs.memory_folder.MemoryFolder.names_differ.Goals as goal
+use Rattle.memory_outside.proofs.FileLemmas.{none_distinct, more_distinct, repeated_name}
+use Rattle.memory_outside.proofs.memory_folder.MemoryFolder.names_differ.Goals as goal
 
 pub loop-i-init : goal.loop-i-init
 loop-i-init c = none_distinct

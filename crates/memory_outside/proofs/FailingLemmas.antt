@@ -1,7 +1,7 @@
 -- Lemmas on the calls that are to fail.
 use Rattle.std.proofs.Common.{◌≡◌, ℕ, ◌≤◌, true, List, [], ◌∷◌, refl, arith}
 use Rattle.std.proofs.lemmas.Bool.Decides.{nat_tests}
-use Rattle.racer_base.specs.Failing.{is_quiet}
+use Rattle.memory_outside.specs.Failing.{is_quiet}
 
 -- what is quiet stays so
 pub is_quiet-later : (failing : List ℕ) (a b : ℕ) → a ≤ b → is_quiet failing a ≡ true → is_quiet failing b ≡ true

@@ -1,6 +1,6 @@
 use Rattle.std.proofs.Common.{◌≤◌, arith}
-use Rattle.racer_base.proofs.FailingLemmas.{is_quiet-later}
-use Rattle.racer_base.proofs.failing.Failing.fails.Goals as goal
+use Rattle.memory_outside.proofs.FailingLemmas.{is_quiet-later}
+use Rattle.memory_outside.proofs.failing.Failing.fails.Goals as goal
 
 pub returns-clause-quiet : goal.returns-clause-quiet
 returns-clause-quiet c =

@@ -1,7 +1,7 @@
 -- A contract of a public call rests on this: `MemorySink`. What is seen of a sink in memory.
 use Rattle.std.specs.Prelude.{◌≡◌, ℕ, ◌-◌, min, Bool, ◌&&◌, ◌||◌, if◌then◌else◌, List, length, nat_eq, nat_lt}
-use Rattle.racer_base.specs.Failing.{is_failing, is_quiet, risen}
-use Rattle.racer_base.specs.declared.memory_sink.MemorySink.{MemorySink}
+use Rattle.memory_outside.specs.Failing.{is_failing, is_quiet, risen}
+use Rattle.memory_outside.specs.declared.memory_sink.MemorySink.{MemorySink}
 
 -- the bytes that it took
 abbrev pub taken_of : MemorySink → List ℕ

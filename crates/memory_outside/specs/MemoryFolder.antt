@@ -2,9 +2,9 @@
 use Rattle.std.specs.Prelude.{◌≡◌, ℕ, Bool, true, not, ◌||◌, if◌then◌else◌, List, Option, Some, string_bytes}
 use Rattle.std.specs.FinMap.{contains_key}
 use Rattle.racer_base.specs.Outside.{Told, same_name}
-use Rattle.racer_base.specs.FileList.{files_of}
-use Rattle.racer_base.specs.Failing.{is_failing, is_quiet, risen}
-use Rattle.racer_base.specs.declared.memory_folder.MemoryFolder.{MemoryFolder}
+use Rattle.memory_outside.specs.FileList.{files_of}
+use Rattle.memory_outside.specs.Failing.{is_failing, is_quiet, risen}
+use Rattle.memory_outside.specs.declared.memory_folder.MemoryFolder.{MemoryFolder}
 
 -- its name and its files, which it always tells
 abbrev pub meaning_of : MemoryFolder → Told

@@ -1,8 +1,8 @@
 use Rattle.std.proofs.Common.{sym, ◌∙◌}
 use Rattle.std.proofs.lemmas.List.{at_drop_all}
-use Rattle.racer_base.proofs.FirstFile.{bytes_of}
-use Rattle.racer_base.proofs.FileLemmas.{bytes_of-step, get-files_of}
-use Rattle.racer_base.proofs.memory_folder.MemoryFolder.find.Goals as goal
+use Rattle.memory_outside.proofs.FirstFile.{bytes_of}
+use Rattle.memory_outside.proofs.FileLemmas.{bytes_of-step, get-files_of}
+use Rattle.memory_outside.proofs.memory_folder.MemoryFolder.find.Goals as goal
 
 pub returns-then-eq : goal.returns-then-eq
 returns-then-eq c =

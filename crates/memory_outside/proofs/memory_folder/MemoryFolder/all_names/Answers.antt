@@ -1,7 +1,7 @@
 use Rattle.std.proofs.Common.{arith}
 use Rattle.std.proofs.lemmas.Grind.{common_steps}
 use Rattle.std.proofs.lemmas.List.{take_more, take-map}
-use Rattle.racer_base.proofs.memory_folder.MemoryFolder.all_names.Goals as goal
+use Rattle.memory_outside.proofs.memory_folder.MemoryFolder.all_names.Goals as goal
 
 pub loop-file-preserved : goal.loop-file-preserved
 loop-file-preserved c =

@@ -1,8 +1,8 @@
 use Rattle.std.proofs.Common.{ap, sym, ◌∙◌, subst, List, ℕ}
 use Rattle.std.specs.List.{IsDistinct, list_any}
 use Rattle.racer_base.specs.Outside.{same_name}
-use Rattle.racer_base.proofs.FileLemmas.{names-files_of}
-use Rattle.racer_base.proofs.memory_folder.MemoryFolderFolder.names.Goals as goal
+use Rattle.memory_outside.proofs.FileLemmas.{names-files_of}
+use Rattle.memory_outside.proofs.memory_folder.MemoryFolderFolder.names.Goals as goal
 
 pub returns-clause-names : goal.returns-clause-names
 returns-clause-names c =

@@ -14,8 +14,8 @@ use Rattle.std.specs.FinMap.Entries.{is_some-find}
 use Rattle.std.specs.Cmp.Lexicographic.{slice_cmp, nat_list_cmp_total, texts_ties, pointwise}
 use Rattle.std.specs.Ordering.{nat_cmp}
 use Rattle.racer_base.specs.Outside.{same_name}
-use Rattle.racer_base.specs.FileList.{names_of, files_of}
-use Rattle.racer_base.proofs.FirstFile.{bytes_of}
+use Rattle.memory_outside.specs.FileList.{names_of, files_of}
+use Rattle.memory_outside.proofs.FirstFile.{bytes_of}
 
 -- the map of the files has what the first file of a name has
 pub get-files_of : (files : List (String Global × Vec ℕ Global)) (name : List ℕ) → get (files_of files) name ≡ bytes_of files name

@@ -4,7 +4,7 @@ ghost use Rattle.std.specs.Prelude.{OnErr, MatchResult, if◌then◌else◌, Som
 ghost use Rattle.racer_base.specs.Outside.{IsRise, taken_and};
 
 use crate::failing::Failing;
-use crate::{Failed, Memory, Sink};
+use racer_base::{Failed, Memory, Sink};
 use std::alloc::Global;
 
 /// A sink in memory, which takes `capacity` bytes in all and at most `most` of them in one call.
@@ -24,7 +24,7 @@ pub struct MemorySink {
 }
 
 impl MemorySink {
-    ghost use Rattle.racer_base.specs.MemorySink.{taken_of, capacity_of, most_of, faults_of, call_of, failing_of};
+    ghost use Rattle.memory_outside.specs.MemorySink.{taken_of, capacity_of, most_of, faults_of, call_of, failing_of};
 
     /// Takes the memory for the whole capacity at once.
     pub fn new(
@@ -60,7 +60,7 @@ impl MemorySink {
 
 impl Sink for MemorySink {
     ghost use Rattle.std.specs.Prelude.{Some};
-    ghost use Rattle.racer_base.specs.MemorySink.{taken_of, room_of, faults_of, fails_to_write, share_of, IsOneCall};
+    ghost use Rattle.memory_outside.specs.MemorySink.{taken_of, room_of, faults_of, fails_to_write, share_of, IsOneCall};
 
     ghost faults = { faults_of };
 

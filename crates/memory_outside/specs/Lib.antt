@@ -1,0 +1,4 @@
+pub mod FileList
+pub mod Failing
+pub mod MemoryFolder
+pub mod MemorySink
