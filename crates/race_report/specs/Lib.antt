@@ -1,5 +1,3 @@
 -- A contract of a public call rests on this: the list of files.
 pub mod Report
-pub mod Json
 pub mod Modes
-pub mod Pieces

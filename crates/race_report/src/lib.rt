@@ -3,20 +3,16 @@
 //! # The definitions
 //!
 //! - `specs/Report.antt`: the text, a line a function.
-//! - `specs/Json.antt`: the object.
 //! - `specs/Modes.antt`: which of the two a report is.
 //!
-//! What either tells stands in `report_parts`.
+//! The object stands in `report_json`, and what either tells in `report_parts`.
 #![tactic(auto)]
 
-mod json;
 pub mod laws;
 mod marks;
 mod mode;
 mod reports;
-mod strings;
 mod text;
-mod values;
 
 pub use mode::Mode;
 pub use reports::{report, report_text};

@@ -1,5 +1,5 @@
 //! The lines of marks, and how many warnings are confirmed.
-ghost use Rattle.std.specs.Prelude.{◌≡◌, ◌<◌, ◌++◌, Some, codes, count_by, length, map, slice_get};
+ghost use Rattle.std.specs.Prelude.{◌≡◌, ◌++◌, codes, count_by, map};
 ghost use Rattle.std.specs.List.{flat_map};
 ghost use Rattle.core_code.specs.Program.{core};
 ghost use Rattle.core_ways.specs.Marks.{leg_of, said_by};
@@ -83,14 +83,6 @@ pub(crate) fn push_mark_lines(text: &mut Written, program: &Program, mark: &Mark
 {
     push_mark_line(text, program, mark);
     push_run(text, program, mark)
-}
-
-/// The mark of this number.
-pub(crate) fn mark_at(marks: &[Mark], number: usize) -> &Mark
-    requires { number < length marks.now }
-    ensures { slice_get marks.now number ≡ Some result.now }
-{
-    &marks[number]
 }
 
 fn is_confirmed(mark: &Mark) -> bool

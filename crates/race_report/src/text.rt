@@ -14,13 +14,14 @@ ghost use Rattle.core_ways.specs.Marks.{said_by};
 ghost use Rattle.witness_build.specs.Warned.{warning_mark};
 ghost use Rattle.race_report.specs.Report as said;
 
-use crate::marks::{mark_at, push_mark_lines};
+use crate::marks::push_mark_lines;
 use access_domain::{Access, Outcome, Summary};
 use core_code::{MethodCore, Program};
 use core_ways::Mark;
 use owner_domain::Value;
 use race_pairs::Warning;
 use racer_base::Place;
+use report_json::mark_at;
 use report_parts::{
     Side, Sides, Site, Written, place_at, push_access, push_count, push_end, push_method,
     push_place, push_record, push_space, push_text, push_value, reason_of, sides_of, sites,

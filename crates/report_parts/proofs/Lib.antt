@@ -4,3 +4,4 @@ pub mod SortedTexts
 pub mod WobblyTexts
 pub mod WarningSides
 pub mod PlaceSteps
+pub mod PutChains

@@ -1,6 +1,6 @@
 use Rattle.std.proofs.Common.{◌∙◌}
 use Rattle.core_code.specs.Program.{core}
-use Rattle.race_report.proofs.MarkedWarnings.{as_many}
+use Rattle.race_report.proofs.ConfirmedCounts.{as_many}
 use Rattle.race_report.proofs.marks.confirmed.Goals as goal
 
 pub returns : goal.returns

@@ -5,7 +5,7 @@ use Rattle.core_semantics.specs.declared.object.StartPath.{StartPath}
 use Rattle.core_ways.specs.Marks.{leg_of}
 use Rattle.report_parts.specs.Marks.{leg_text}
 use Rattle.race_report.specs.Report.{line, object_line}
-use Rattle.race_report.proofs.PutChains.{three, same_piece}
+use Rattle.report_parts.proofs.PutChains.{three, same_piece}
 use Rattle.race_report.proofs.marks.push_witness.Goals as goal
 
 pub returns-clause-puts : goal.returns-clause-puts

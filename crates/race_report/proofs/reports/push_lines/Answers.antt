@@ -4,7 +4,7 @@ use Rattle.core_code.specs.Program.{core}
 use Rattle.race_pairs.specs.declared.warning.Warning.{Warning}
 use Rattle.race_pairs.specs.Warnings.{warnings}
 use Rattle.race_report.specs.Report.{head_lines, method_lines, warning_lines, last_line}
-use Rattle.race_report.proofs.PutChains.{four, same_piece}
+use Rattle.report_parts.proofs.PutChains.{four, same_piece}
 use Rattle.race_report.proofs.reports.push_lines.Goals as goal
 
 pub returns-clause-puts : goal.returns-clause-puts

@@ -3,7 +3,7 @@ use Rattle.racer_base.specs.declared.ids.MethodId.{MethodId}
 use Rattle.core_code.specs.Program.{core}
 use Rattle.report_parts.specs.Texts.{record_text}
 use Rattle.report_parts.specs.Told.{access_text, site_text}
-use Rattle.race_report.proofs.PutChains.{three, same_piece}
+use Rattle.report_parts.proofs.PutChains.{three, same_piece}
 use Rattle.race_report.proofs.text.push_access_line.Goals as goal
 
 pub returns-clause-puts : goal.returns-clause-puts

@@ -3,7 +3,7 @@ use Rattle.std.proofs.lemmas.List.{length-map}
 use Rattle.std.specs.Fmt.{decimal}
 use Rattle.core_code.specs.Core.{method_of}
 use Rattle.core_code.specs.Program.{core}
-use Rattle.race_report.proofs.PutChains.{seven, same_piece}
+use Rattle.report_parts.proofs.PutChains.{seven, same_piece}
 use Rattle.race_report.proofs.text.push_counts.Goals as goal
 
 pub returns-clause-puts : goal.returns-clause-puts

@@ -6,7 +6,7 @@ use Rattle.core_code.specs.Program.{core}
 use Rattle.access_domain.specs.declared.access.Access.{Access}
 use Rattle.report_parts.specs.Texts.{method_text, value_text}
 use Rattle.race_report.specs.Report.{access_line, line, wobbly_line}
-use Rattle.race_report.proofs.PutChains.{four, same_piece}
+use Rattle.report_parts.proofs.PutChains.{four, same_piece}
 use Rattle.race_report.proofs.text.push_found.Goals as goal
 
 pub returns-clause-puts : goal.returns-clause-puts

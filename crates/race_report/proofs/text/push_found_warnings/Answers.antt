@@ -1,5 +1,5 @@
 use Rattle.core_code.specs.Program.{core}
-use Rattle.race_report.proofs.MarkedWarnings.{mark_read}
+use Rattle.report_json.proofs.MarkedWarnings.{mark_read}
 use Rattle.race_report.proofs.text.push_found_warnings.Goals as goal
 
 pub push_warning-requires-clause-mark : goal.push_warning-requires-clause-mark

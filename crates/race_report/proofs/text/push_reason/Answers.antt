@@ -2,7 +2,7 @@ use Rattle.std.proofs.Common.{codes}
 use Rattle.core_code.specs.Core.{method_of}
 use Rattle.core_code.specs.Program.{core}
 use Rattle.race_report.specs.Report.{method_place}
-use Rattle.race_report.proofs.PutChains.{five}
+use Rattle.report_parts.proofs.PutChains.{five}
 use Rattle.race_report.proofs.text.push_reason.Goals as goal
 
 pub returns-clause-puts : goal.returns-clause-puts

@@ -5,7 +5,7 @@ use Rattle.core_code.specs.Program.{core}
 use Rattle.report_parts.specs.Sides.{side_told}
 use Rattle.report_parts.specs.Texts.{method_text, record_text}
 use Rattle.race_report.specs.Report.{at_line}
-use Rattle.race_report.proofs.PutChains.{five, same_piece}
+use Rattle.report_parts.proofs.PutChains.{five, same_piece}
 use Rattle.race_report.proofs.text.push_side.Goals as goal
 
 pub returns-clause-puts : goal.returns-clause-puts

@@ -2,7 +2,7 @@ use Rattle.std.proofs.Common.{codes}
 use Rattle.core_code.specs.Core.{method_of}
 use Rattle.core_code.specs.Program.{core}
 use Rattle.report_parts.specs.Texts.{method_text}
-use Rattle.race_report.proofs.PutChains.{three}
+use Rattle.report_parts.proofs.PutChains.{three}
 use Rattle.race_report.proofs.text.push_summary_head.Goals as goal
 
 pub returns-clause-puts : goal.returns-clause-puts

@@ -4,7 +4,7 @@ use Rattle.core_ways.specs.Marks.{said_by}
 use Rattle.report_parts.specs.Told.{sides_of}
 use Rattle.witness_build.specs.Warned.{warning_mark}
 use Rattle.race_report.specs.Report.{mark_lines, sides_lines}
-use Rattle.race_report.proofs.PutChains.{two, same_piece}
+use Rattle.report_parts.proofs.PutChains.{two, same_piece}
 use Rattle.race_report.proofs.text.push_warning.Goals as goal
 
 pub returns-clause-puts : goal.returns-clause-puts

@@ -1,0 +1,3 @@
+pub mod JsonItems
+pub mod JsonPieces
+pub mod MarkedWarnings
