@@ -6,7 +6,7 @@ ghost use Rattle.java_tree.specs.View.{ty_of};
 ghost use Rattle.java_lowering.specs.ValueKinds.{Of};
 ghost use Rattle.java_lowering.specs.Around.{op, type_kind};
 ghost use Rattle.java_lowering.specs.Calls.{callee_in, callee_of, info_at, if_static, own_callee, callee_of_value};
-ghost use Rattle.java_lowering.specs.Calls.{result_kind, parameter_kinds, call_at, constructor_in, constructor_of};
+ghost use Rattle.java_lowering.specs.Calls.{result_kind, parameter_kinds, call_at, constructor_in};
 ghost use Rattle.java_lowering.specs.Calls.{result_of};
 ghost use Rattle.expression_lowering.specs.Drafts.{code_of};
 ghost use Rattle.expression_lowering.specs.Views.{value_kind};
@@ -258,20 +258,13 @@ pub fn finish_call(
     Ok(result_kind(around, callee))
 }
 
-/// The method, if it is a constructor.
-fn if_constructor(around: &Around, m: MethodId) -> Option<MethodId>
-    ensures { result ≡ constructor_of m (info_at around.now m) }
-{
-    let info = around.method(m)?;
-    info.is_constructor.then_some(m)
-}
-
 /// The constructor of a class by its number of arguments, of two the first.
 fn constructor_in(around: &Around, c: ClassId, count: u32) -> Option<MethodId>
     ensures { result ≡ constructor_in around.now c count }
 {
     let m = around.find(c, "<new>", count)?;
-    if_constructor(around, m)
+    let info = around.method(m)?;
+    info.is_constructor.then_some(m)
 }
 
 /// The class of new T(..) and its constructor, where T has this kind.
