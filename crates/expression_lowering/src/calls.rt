@@ -6,12 +6,12 @@ ghost use Rattle.java_tree.specs.View.{ty_of};
 ghost use Rattle.java_lowering.specs.ValueKinds.{Of};
 ghost use Rattle.java_lowering.specs.Around.{op, type_kind};
 ghost use Rattle.java_lowering.specs.Calls.{callee_in, callee_of, info_at, if_static, own_callee, callee_of_value};
-ghost use Rattle.java_lowering.specs.Calls.{result_kind, parameter_kinds, call_at, constructor_in, constructor_of};
+ghost use Rattle.java_lowering.specs.Calls.{result_kind, parameter_kinds, call_at, constructor_in};
 ghost use Rattle.java_lowering.specs.Calls.{result_of};
 ghost use Rattle.expression_lowering.specs.Drafts.{code_of};
 ghost use Rattle.expression_lowering.specs.Views.{value_kind};
-ghost use Rattle.expression_lowering.specs.Parts.{callee_seen, passed_kinds, call_end};
-ghost use Rattle.expression_lowering.specs.Parts.{value_call_end, maker_of, made_front, made_kinds, made_end};
+ghost use Rattle.expression_lowering.specs.Parts.{callee_seen, passed_kinds};
+ghost use Rattle.expression_lowering.specs.Parts.{maker_of, made_front, made_kinds, made_end};
 ghost use Rattle.expression_lowering.specs.Together.{target_callee, target_front, target_end};
 
 use crate::around::Around;
@@ -124,24 +124,16 @@ pub fn callee_on(around: &Around, target: Target, x: &Ident, count: usize) -> Re
     }
 }
 
-/// The kind of what a method gives.
-fn kind_given(around: &Around, m: MethodId) -> ValueKind
-    ensures { value_kind result ≡ result_of (info_at around.now m) }
-{
-    match around.method(m) {
-        Some(info) => ValueKind::Of(info.result),
-        None => ValueKind::Of(Kind::Other),
-    }
-}
-
 /// The kind of what a call gives.
 fn result_kind(around: &Around, callee: Callee) -> ValueKind
     ensures { value_kind result ≡ result_kind around.now (callee_seen callee) }
 {
-    match callee {
-        Callee::Missing => ValueKind::Of(Kind::Other),
-        Callee::OfClass(m) => kind_given(around, m),
-        Callee::OfObject(m) => kind_given(around, m),
+    let (Callee::OfClass(m) | Callee::OfObject(m)) = callee else {
+        return ValueKind::Of(Kind::Other);
+    };
+    match around.method(m) {
+        Some(info) => ValueKind::Of(info.result),
+        None => ValueKind::Of(Kind::Other),
     }
 }
 
@@ -200,48 +192,12 @@ fn call_object(
     call_at(around, place, m, all, draft)
 }
 
-/// f(..) behind its arguments.
-fn end_call(
-    around: &Around,
-    place: Place,
-    count: u32,
-    callee: Callee,
-    draft: &mut Draft,
-) -> Result<(), Memory>
-    ensures { OnOk result (code_of draft.new ≡ code_of draft.old
-        ++ call_end around.now place count (callee_seen callee)) }
-{
-    match callee {
-        Callee::Missing => around.op(draft, Op::Outside(count)),
-        Callee::OfClass(m) => call_at(around, place, m, count, draft),
-        Callee::OfObject(m) => call_object(around, place, m, count, draft),
-    }
-}
-
 /// What is not the folder's, with so many values and one more.
 pub fn call_outside(around: &Around, count: u32, draft: &mut Draft) -> Result<(), Memory>
     ensures { OnOk result (code_of draft.new ≡ code_of draft.old ++ op around.now (Outside (suc count))) }
 {
     let all = count.checked_add(1).ok_or(Memory)?;
     around.op(draft, Op::Outside(all))
-}
-
-/// e.f(..) behind its arguments.
-fn end_value_call(
-    around: &Around,
-    place: Place,
-    count: u32,
-    callee: Callee,
-    draft: &mut Draft,
-) -> Result<(), Memory>
-    ensures { OnOk result (code_of draft.new ≡ code_of draft.old
-        ++ value_call_end around.now place count (callee_seen callee)) }
-{
-    match callee {
-        Callee::Missing => call_outside(around, count, draft),
-        Callee::OfClass(m) => call_at(around, place, m, count, draft),
-        Callee::OfObject(m) => call_object(around, place, m, count, draft),
-    }
 }
 
 /// What stands between the target and the arguments.
@@ -274,10 +230,14 @@ fn end_on(
     ensures { OnOk result (code_of draft.new ≡ code_of draft.old
         ++ target_end around.now target place count (callee_seen callee)) }
 {
-    match target {
-        Target::Own => end_call(around, place, count, callee, draft),
-        Target::Class(_) => end_call(around, place, count, callee, draft),
-        Target::Value(_) => end_value_call(around, place, count, callee, draft),
+    match callee {
+        Callee::Missing => match target {
+            Target::Own => around.op(draft, Op::Outside(count)),
+            Target::Class(_) => around.op(draft, Op::Outside(count)),
+            Target::Value(_) => call_outside(around, count, draft),
+        },
+        Callee::OfClass(m) => call_at(around, place, m, count, draft),
+        Callee::OfObject(m) => call_object(around, place, m, count, draft),
     }
 }
 
@@ -298,20 +258,13 @@ pub fn finish_call(
     Ok(result_kind(around, callee))
 }
 
-/// The method, if it is a constructor.
-fn if_constructor(around: &Around, m: MethodId) -> Option<MethodId>
-    ensures { result ≡ constructor_of m (info_at around.now m) }
-{
-    let info = around.method(m)?;
-    info.is_constructor.then_some(m)
-}
-
 /// The constructor of a class by its number of arguments, of two the first.
 fn constructor_in(around: &Around, c: ClassId, count: u32) -> Option<MethodId>
     ensures { result ≡ constructor_in around.now c count }
 {
     let m = around.find(c, "<new>", count)?;
-    if_constructor(around, m)
+    let info = around.method(m)?;
+    info.is_constructor.then_some(m)
 }
 
 /// The class of new T(..) and its constructor, where T has this kind.

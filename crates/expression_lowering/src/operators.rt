@@ -41,13 +41,11 @@ pub fn literal(
     ensures code { OnOk result (code_of draft.new ≡ code_of draft.old ++ code around.now (literal token text.now)) }
     ensures kind { IfOk result (λ k. value_kind k ≡ kind around.now (literal token text.now)) }
 {
-    if token == TokenKind::Text {
-        return around.value(draft, Op::Outside(0), ValueKind::Of(Kind::Other));
+    match token {
+        TokenKind::Text => around.value(draft, Op::Outside(0), ValueKind::Of(Kind::Other)),
+        TokenKind::Fixed if text == "null" => around.value(draft, Op::PushNull, ValueKind::Null),
+        _ => around.value(draft, Op::PushPrim, ValueKind::Of(Kind::Plain)),
     }
-    if token == TokenKind::Fixed && text == "null" {
-        return around.value(draft, Op::PushNull, ValueKind::Null);
-    }
-    around.value(draft, Op::PushPrim, ValueKind::Of(Kind::Plain))
 }
 
 /// A value on its way through a cast to a kind.
