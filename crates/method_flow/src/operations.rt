@@ -17,6 +17,7 @@ use core_code::{Op, Program};
 use owner_domain::Value;
 use racer_base::{FieldId, Memory, SiteId, Touch, VarId};
 use std::alloc::Global;
+use std::mem;
 
 /// What stays the same while the code of a method is gone through.
 #[derive(Drop)]
@@ -48,7 +49,7 @@ fn move_on(alloc: Global, op: Op, here: &mut Here) -> Result<(), Memory>
         Op::PushNull | Op::New(_) => here.push(Value::Owned),
         Op::Dup => here.push_top(alloc),
         Op::Drop => {
-            let _top = here.pop();
+            mem::drop(here.pop());
             Ok(())
         }
         Op::Prim(count) | Op::Outside(count) | Op::Unread(_, count) => {

@@ -21,6 +21,7 @@ use core_code::{MethodCore, Program};
 use owner_domain::Value;
 use racer_base::{Kind, Memory};
 use std::alloc::Global;
+use std::mem;
 
 /// The value of a parameter, which is named by itself unless its type is primitive.
 fn parameter(alloc: Global, number: usize, kind: Kind) -> Result<Value, Memory>
@@ -125,5 +126,6 @@ pub fn outcome(
     let mut here = Here::new(alloc, values);
     let mut found = Found::nothing(alloc);
     let walked = go(alloc, &frame, false, &method.code, &mut here, &mut found);
+    mem::drop(here);
     outcome_found(walked, found)
 }

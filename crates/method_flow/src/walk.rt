@@ -15,6 +15,7 @@ use core_code::Code;
 use owner_domain::{State, join};
 use racer_base::Memory;
 use std::alloc::Global;
+use std::mem;
 
 /// Goes through a piece of code; whether it goes on behind it.
 #[cycle(codes)]
@@ -47,7 +48,7 @@ pub fn go(
         }
         Code::Loop(body) => repeat(alloc, frame, locked, body, here, found),
         Code::Sync(_, body) => {
-            let _monitor = here.pop();
+            mem::drop(here.pop());
             go(alloc, frame, true, body, here, found)
         }
     }
@@ -101,7 +102,9 @@ fn repeat(
     let Ok(mut end) = here.copied(alloc) else {
         return Err(Stop::Memory);
     };
-    match go(alloc, frame, locked, body, &mut end, found) {
+    let ended = go(alloc, frame, locked, body, &mut end, found);
+    mem::drop(end);
+    match ended {
         Ok(_) => Ok(true),
         Err(stop) => Err(stop),
     }

@@ -23,6 +23,7 @@ use core_ways::{Leg, Mark, WayTaken, Witness, record_of};
 use race_pairs::Warning;
 use racer_base::{FileId, Items, Memory, Place};
 use std::alloc::Global;
+use std::mem;
 
 /// A thread that cannot make its leg, and where it is then.
 fn blocked(machine: &Machine, thread: u32) -> Mark
@@ -96,7 +97,9 @@ fn mark_of_stopped_run(
         (option_map said_by stopped)) }
 {
     let mut machine = begin(alloc, program, warning.entry, warning.partner, Start::All)?;
-    mark_of_stopped(program, &mut machine, objects, first, second)
+    let stopped = mark_of_stopped(program, &mut machine, objects, first, second);
+    mem::drop(machine);
+    stopped
 }
 
 /// Runs both legs, one after the other, with all start paths as objects.

@@ -161,25 +161,25 @@ repeat-returns-then-not-found t c =
     let none : total - at.round ≡ 0 = omega (arith, c.loop-round-test.false, c.rounds-round-end.ensures) in
     rounds-quiet body (total - at.round) start at.here c.args.found.now at.found none at.invariant c.if-not-found.true
 
-pub repeat-returns-in-Ok-go : goal.repeat-returns-in-Ok-go
-repeat-returns-in-Ok-go t c =
+pub repeat-returns-in-Ok-ended : goal.repeat-returns-in-Ok-ended
+repeat-returns-in-Ok-ended t c =
     let start = c.args.here.now in
     let body = flow (given c.args.frame.now) (tree_of c.args.body.now) c.args.locked in
     let total = length start.vars + length start.stack + 1 in
     let at = c.loop-round in
     let none : total - at.round ≡ 0 = omega (arith, c.loop-round-test.false, c.rounds-round-end.ensures) in
-    rounds-ended body (total - at.round) start at.here c.args.found.now at.found c.go.new.found none at.invariant
-    (subst (λ (s : State). IsNoted at.found (body s) c.go.new.found) c.in-Ok-copied.ensures c.in-Ok-go.ensures.1)
+    rounds-ended body (total - at.round) start at.here c.args.found.now at.found c.go-ended.new.found none at.invariant
+    (subst (λ (s : State). IsNoted at.found (body s) c.go-ended.new.found) c.in-Ok-copied.ensures c.in-Ok-ended.ensures.1)
 
-pub repeat-returns : goal.repeat-returns
-repeat-returns t c =
+pub repeat-returns-in-Err-ended : goal.repeat-returns-in-Err-ended
+repeat-returns-in-Err-ended t c =
     let start = c.args.here.now in
     let body = flow (given c.args.frame.now) (tree_of c.args.body.now) c.args.locked in
     let total = length start.vars + length start.stack + 1 in
     let at = c.loop-round in
     let none : total - at.round ≡ 0 = omega (arith, c.loop-round-test.false, c.rounds-round-end.ensures) in
-    last-stopped body (total - at.round) start at.here c.args.found.now at.found c.in-Err-go.stop none at.invariant
-    (subst (λ (s : State). IsStopped at.found (body s) c.in-Err-go.stop) c.in-Ok-copied.ensures c.in-Err-go.ensures)
+    last-stopped body (total - at.round) start at.here c.args.found.now at.found c.in-Err-ended.stop none at.invariant
+    (subst (λ (s : State). IsStopped at.found (body s) c.in-Err-ended.stop) c.in-Ok-copied.ensures c.in-Err-ended.ensures)
 
 pub go-returns-in-Op : goal.go-returns-in-Op
 go-returns-in-Op t c =
