@@ -1,7 +1,7 @@
 //! Comments (JLS 3.7).
 ghost use Rattle.std.specs.Prelude.{◌≡◌, ◌≤◌, IfSome, true, length, codes, nat_eq};
 ghost use Rattle.std.specs.List.{prefix_len, starts_with};
-ghost use Rattle.java_lexer.specs.Comments.{is_line_end, is_inline};
+ghost use Rattle.java_lexer.specs.Comments.{is_line_end, is_inline, closes};
 ghost use Rattle.java_lexer.specs.Scanning.{closed_len};
 ghost use Rattle.java_lexer.specs.Scanning.{IsScanned};
 ghost use Rattle.java_lexer.specs.JavaKinds.{java_lexis};
@@ -22,14 +22,21 @@ fn inline_len(bytes: &[u8]) -> usize
     bytes.iter().take_while(|byte| !is_line_end(**byte)).count()
 }
 
+/// Whether the bytes begin with `*/`.
+fn closes(bytes: &[u8]) -> bool
+    ensures { result ≡ closes bytes.now }
+{
+    bytes.starts_with(b"*/")
+}
+
 /// How many bytes there are up to and with the first `*/`.
 fn closed_len(bytes: &[u8]) -> Option<usize>
     ensures gives { result ≡ closed_len bytes.now }
     ensures fits { IfSome result (λ n. n ≤ length bytes.now) }
 {
     let mut rest = bytes;
-    while let [_, after @ ..] = rest {
-        if rest.starts_with(b"*/") {
+    while let Some((_, after)) = rest.split_first() {
+        if closes(rest) {
             return Some(bytes.len() - rest.len() + 2);
         }
         rest = after;

@@ -1,5 +1,5 @@
 //! Escapes of literals, behind their backslash (JLS 3.3, 3.10.6).
-ghost use Rattle.std.specs.Prelude.{◌≡◌, ◌<◌, ◌≤◌, [], ◌∷◌, length, take, true, nat_eq};
+ghost use Rattle.std.specs.Prelude.{◌≡◌, ◌<◌, ◌≤◌, [], ◌∷◌, length, take, true, nat_eq, nat_le, if◌then◌else◌};
 ghost use Rattle.std.specs.List.{list_all, list_any};
 ghost use Rattle.std.specs.Str.{byte};
 ghost use Rattle.java_lexer.specs.Literals.{backslash, is_simple, is_simple_escape, is_octal, is_octal_escape, is_hex};
@@ -34,14 +34,32 @@ fn is_octal(byte: u8) -> bool
     matches!(byte, b'0'..=b'7')
 }
 
+fn all_octal(bytes: &[u8]) -> bool
+    ensures { result ≡ list_all is_octal bytes.now }
+{
+    bytes.iter().all(|byte| is_octal(*byte))
+}
+
+/// Whether an octal escape that begins with this digit may have so many others.
+fn may_follow(first: u8, count: usize) -> bool
+    ensures { result ≡ nat_le count (if nat_le first (byte "3") then 2 else 1) }
+{
+    if first <= b'3' {
+        count <= 2
+    } else {
+        count <= 1
+    }
+}
+
 fn is_octal_escape(bytes: &[u8]) -> bool
     ensures { result ≡ is_octal_escape bytes.now }
 {
-    let Some((first, rest)) = bytes.split_first() else {
-        return false;
-    };
-    let most = if *first <= b'3' { 2 } else { 1 };
-    is_octal(*first) && rest.iter().all(|byte| is_octal(*byte)) && rest.len() <= most
+    match bytes.split_first() {
+        Some((first, rest)) => {
+            is_octal(*first) && all_octal(rest) && may_follow(*first, rest.len())
+        }
+        None => false,
+    }
 }
 
 fn is_hex(byte: u8) -> bool
