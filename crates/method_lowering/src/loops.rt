@@ -31,21 +31,6 @@ pub fn begin_for(
     lower_run_some(alloc, around, e, draft)
 }
 
-/// What stands behind the body of a `for`, in its loop.
-fn lower_turn(
-    alloc: Global,
-    around: &Around,
-    e: &Option<Expression>,
-    updates: &[Expression],
-    draft: &mut Draft,
-) -> Result<(), Memory>
-    ensures { OnOk result (code_of draft.new ≡ code_of draft.old
-        ++ turned around.now (option_map expr_of e.now) (pack_exprs (map expr_of updates.now))) }
-{
-    lower_run_all(alloc, around, updates, draft)?;
-    lower_run_some(alloc, around, e, draft)
-}
-
 /// The loop of a `for`, whose body is there from this part on.
 pub fn end_for(
     alloc: Global,
@@ -58,7 +43,8 @@ pub fn end_for(
     ensures { OnOk result (code_of draft.new ≡ repeated_from body (code_of draft.old
         ++ turned around.now (option_map expr_of e.now) (pack_exprs (map expr_of updates.now)))) }
 {
-    lower_turn(alloc, around, e, updates, draft)?;
+    lower_run_all(alloc, around, updates, draft)?;
+    lower_run_some(alloc, around, e, draft)?;
     draft.repeat(alloc, body)
 }
 
