@@ -4,3 +4,4 @@ pub mod GoingOn
 pub mod ClassFollows
 pub mod FirstParenthesis
 pub mod Closings
+pub mod NearerLevels

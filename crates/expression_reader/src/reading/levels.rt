@@ -5,27 +5,64 @@ ghost use Rattle.java_tree.specs.Formed.{level, is_variable, makes_array};
 ghost use Rattle.java_tree.specs.View.{expr_of};
 ghost use Rattle.expression_reader.specs.LeadView.{lead_of};
 ghost use Rattle.expression_reader.specs.GoingOn.{goes_on};
+ghost use Rattle.expression_reader.specs.NearerLevels.{nearer_level};
 
 use super::leads::Lead;
 use java_tree::Expression;
+use type_reader::reading::look::is_listed;
+
+/// JLS 15.21.
+const EQUALITIES: [&[u8]; 2] = [b"==", b"!="];
+
+/// JLS 15.20.
+const RELATIONS: [&[u8]; 4] = [b"<", b">", b"<=", b">="];
+
+/// JLS 15.19.
+const SHIFTS: [&[u8]; 3] = [b"<<", b">>", b">>>"];
+
+/// JLS 15.18.
+const SUMS: [&[u8]; 2] = [b"+", b"-"];
+
+/// JLS 15.17.
+const PRODUCTS: [&[u8]; 3] = [b"*", b"/", b"%"];
 
 /// The level of a binary operator.
 pub fn binary_level(operator: &str) -> u32
     ensures gives { result ≡ binary_level operator.now }
     ensures low { result ≤ 11 }
 {
-    match operator.as_bytes() {
-        b"||" => 2,
-        b"&&" => 3,
-        b"|" => 4,
-        b"^" => 5,
-        b"&" => 6,
-        b"==" | b"!=" => 7,
-        b"<" | b">" | b"<=" | b">=" => 8,
-        b"<<" | b">>" | b">>>" => 9,
-        b"+" | b"-" => 10,
-        b"*" | b"/" | b"%" => 11,
-        _ => 0,
+    if operator == "||" {
+        2
+    } else if operator == "&&" {
+        3
+    } else if operator == "|" {
+        4
+    } else if operator == "^" {
+        5
+    } else if operator == "&" {
+        6
+    } else {
+        nearer_level(operator.as_bytes())
+    }
+}
+
+/// The level of a binary operator that is no logical one.
+fn nearer_level(operator: &[u8]) -> u32
+    ensures gives { result ≡ nearer_level operator.now }
+    ensures low { result ≤ 11 }
+{
+    if is_listed(&EQUALITIES, operator) {
+        7
+    } else if is_listed(&RELATIONS, operator) {
+        8
+    } else if is_listed(&SHIFTS, operator) {
+        9
+    } else if is_listed(&SUMS, operator) {
+        10
+    } else if is_listed(&PRODUCTS, operator) {
+        11
+    } else {
+        0
     }
 }
 
