@@ -1,10 +1,10 @@
 -- From the places of some tokens to those behind what was read of a method's head.
 use Rattle.std.proofs.Common.{◌≡◌, ℕ, Bool, true, false, List, [], ◌∷◌, ◌++◌, Some, None, if◌then◌else◌, refl}
-use Rattle.std.proofs.Common.{sym, ap, ◌∙◌, subst}
+use Rattle.std.proofs.Common.{ap, subst}
 use Rattle.racer_base.specs.declared.ids.Place.{Place}
 use Rattle.java_lexer.specs.declared.token.Token.{Token}
 use Rattle.java_tree.specs.declared.words.Spelled.{Spelled}
-use Rattle.java_tree.specs.KeptPlaces.{Places, Puts, is_kept, place_onto, kept}
+use Rattle.java_tree.specs.KeptPlaces.{Places, is_kept, place_onto, kept}
 use Rattle.java_tree.specs.MethodPlaces.{Marks, some_onto, each_marks, no_place, no_name, AreAt}
 use Rattle.type_reader.specs.Tokens.{spelled}
 use Rattle.method_reader.specs.LedPlaces.{Leads}
@@ -75,19 +75,24 @@ typed_led read qs p here at named left so_far kind name =
     λ rest a. so_far (some_onto qs (some_onto (p ∷ []) rest)) (some_led qs named at kind
     (some_onto (p ∷ []) rest) (some_led (p ∷ []) left named name rest a))
 
--- a method's name, its parameters, its exceptions and its body behind what was read, and nothing behind these
-pub method_at : (read parameters : Marks → Marks) (p : Place) (thrown : Places) (body : Puts)
-    (here at opened inside closed behind block : Places) (left : List Token) → Leads read here at → p ∷ opened ≡ at
-    → inside ≡ opened → Leads parameters inside closed → behind ≡ closed → thrown ++ block ≡ behind
-    → body (kept left) ≡ block → left ≡ []
-    → AreAt (read (some_onto (p ∷ []) (parameters (some_onto thrown (some_onto (body []) []))))) here
-method_at read parameters p thrown body here at opened inside closed behind block left so_far name opening given
-    closing exceptions statements ended =
-    let all : body [] ≡ block = ap (λ (ts : List Token). body (kept ts)) (sym ended) ∙ statements in
-    let end : AreAt (some_onto (body []) []) block = subst (λ (ps : Places). AreAt (some_onto (body []) []) ps) all
-    (all_at (body [])) in
-    so_far (some_onto (p ∷ []) (parameters (some_onto thrown (some_onto (body []) []))))
-    (some_led (p ∷ []) opened at name (parameters (some_onto thrown (some_onto (body []) [])))
-    (subst (λ (ps : Places). AreAt (parameters (some_onto thrown (some_onto (body []) []))) ps) opening
-    (given (some_onto thrown (some_onto (body []) [])) (subst (λ (ps : Places). AreAt (some_onto thrown
-    (some_onto (body []) [])) ps) closing (some_led thrown block behind exceptions (some_onto (body []) []) end)))))
+-- what was read between two tokens whose places are not kept
+pub enclosed_led : (read : Marks → Marks) (here at left end : Places) → at ≡ here → Leads read at left → end ≡ left
+    → Leads read here end
+enclosed_led read here at left end opening led closing =
+    λ rest a. subst (λ (ps : Places). AreAt (read rest) ps) opening (led rest
+    (subst (λ (ps : Places). AreAt rest ps) closing a))
+
+-- a method's name, its parameters and its exceptions
+pub signature_led : (parameters : Marks → Marks) (p : Place) (thrown here opened closed left : Places)
+    → p ∷ opened ≡ here → Leads parameters opened closed → thrown ++ left ≡ closed
+    → Leads (λ rest. some_onto (p ∷ []) (parameters (some_onto thrown rest))) here left
+signature_led parameters p thrown here opened closed left name given exceptions =
+    λ rest a. some_led (p ∷ []) opened here name (parameters (some_onto thrown rest)) (given (some_onto thrown rest)
+    (some_led thrown left closed exceptions rest a))
+
+-- what stands up to a method's body, and its body with nothing behind it
+pub whole_at : (read signature : Marks → Marks) (statements here at left : Places) → Leads read here at
+    → Leads signature at left → statements ≡ left → AreAt (read (signature (some_onto statements []))) here
+whole_at read signature statements here at left so_far signed ended =
+    so_far (signature (some_onto statements [])) (signed (some_onto statements [])
+    (subst (λ (ps : Places). AreAt (some_onto statements []) ps) ended (all_at statements)))

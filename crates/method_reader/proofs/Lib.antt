@@ -4,6 +4,6 @@ pub mod ForHeads
 pub mod StatementLoops
 pub mod WholeMethods
 pub mod LedMarks
-pub mod LeadingWords
 pub mod TypeCounts
 pub mod SameMarks
+pub mod SignatureSteps

@@ -13,12 +13,21 @@ use Rattle.type_reader.specs.declared.reading.error.ReadError.TheVariants.{Memor
 use Rattle.method_grammar.specs.JavaReaders.{method_readers}
 use Rattle.method_grammar.specs.MethodReading.{method_at}
 use Rattle.type_reader.specs.ReadAnswer.{Gives}
+use Rattle.type_reader.proofs.ReadLoops.{ends_give}
+use Rattle.method_reader.specs.SignatureReading.{whole_method_at}
+use Rattle.method_reader.proofs.SignatureSteps.{method_is_whole}
 use Rattle.method_grammar.proofs.FoundJava.{EndsExpr, java_finds}
 use Rattle.method_grammar.proofs.ReadMethods.{read_is_formed, only_one_read, none_read}
 use Rattle.method_grammar.proofs.SoundJava.{java_sound}
 use Rattle.method_grammar.proofs.TypeFronts.{EndsTy}
 
 module _ (n : ℕ) (ts : List Spelled) where
+  -- what is given of a method in two parts is given of the method
+  pub by_signature : (r : Result MethodTree ReadError) → Gives method_of r (whole_method_at method_readers n ts)
+      → Gives method_of r (method_at method_readers n ts)
+  by_signature r g = ends_give method_of r (method_at method_readers n ts) (whole_method_at method_readers n ts)
+      (method_is_whole method_readers n ts) g
+
   pub whole_formed : (r : Result MethodTree ReadError) → Gives method_of r (method_at method_readers n ts)
       → IfOk r (λ m. FormedMethod (method_of m))
   whole_formed (Ok m) g = (read_is_formed method_readers java_sound n ts (method_of m) g).formed

@@ -5,3 +5,4 @@ pub mod AwaitedBrackets
 pub mod ModifierReading
 pub mod LedPlaces
 pub mod PlacedMethods
+pub mod SignatureReading

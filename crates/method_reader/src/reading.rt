@@ -8,6 +8,7 @@ mod lookahead;
 mod methods;
 mod nodes;
 mod parameters;
+mod signatures;
 mod statements;
 mod whole;
 

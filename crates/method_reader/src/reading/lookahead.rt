@@ -4,10 +4,10 @@ ghost use Rattle.std.specs.Prelude.{◌≡◌, ◌<◌, ◌≤◌, ◌&&◌, ◌
 ghost use Rattle.std.specs.Prelude.{suc, length, map};
 ghost use Rattle.java_lexer.specs.declared.token.TokenKind.TheVariants as kind;
 ghost use Rattle.java_tree.specs.Formed.{is_method_modifier};
-ghost use Rattle.java_tree.specs.KeptPlaces.{Places, kept, place_onto};
+ghost use Rattle.java_tree.specs.KeptPlaces.{kept, place_onto};
 ghost use Rattle.java_tree.specs.Brackets.{is_sign};
 ghost use Rattle.method_grammar.specs.Lookahead.{begins_with, is_word_name, is_plain_type, goes_local, looks_local};
-ghost use Rattle.method_grammar.specs.Lookahead.{name_and_colon, statement_lead, SynchronizedWord, is_constructor};
+ghost use Rattle.method_grammar.specs.Lookahead.{name_and_colon, statement_lead, is_constructor};
 ghost use Rattle.method_grammar.specs.Lookahead.{after_modifier};
 ghost use Rattle.method_reader.specs.StatementLeadView.{statement_lead_of, places_from, LeadIsBelow};
 ghost use Rattle.method_grammar.specs.StatementReading.{final_at};
@@ -146,24 +146,12 @@ pub fn behind_else(tokens: &[Token]) -> Option<&[Token]>
     after_keyword(tokens, "else")
 }
 
-/// The lead of this `synchronized`, with the tokens behind it (JLS 14.19).
-fn locking<'a>(token: &Token, rest: &'a [Token]) -> StatementLead<'a>
-    ensures gives { statement_lead_of result ≡ SynchronizedWord (map spelled rest.now) }
-    ensures places { (here : Places) → places_from result here ≡ token.now.place ∷ kept rest.now }
+/// What a statement begins with, by its first token and those behind it.
+fn lead_of<'a>(token: &Token, rest: &'a [Token]) -> StatementLead<'a>
+    ensures gives { statement_lead_of result ≡ statement_lead (spelled token.now ∷ map spelled rest.now) }
+    ensures places { places_from result (kept (token.now ∷ rest.now)) ≡ kept (token.now ∷ rest.now) }
     ensures shorter { LeadIsBelow result (suc (length rest.now)) }
 {
-    StatementLead::SynchronizedWord(token.place, rest)
-}
-
-/// What a statement begins with.
-pub fn statement_lead(tokens: &[Token]) -> StatementLead<'_>
-    ensures gives { statement_lead_of result ≡ statement_lead (map spelled tokens.now) }
-    ensures places { places_from result (kept tokens.now) ≡ kept tokens.now }
-    ensures shorter { LeadIsBelow result (length tokens.now) }
-{
-    let [token, rest @ ..] = tokens else {
-        return StatementLead::Other;
-    };
     if is_sign(token, ";") {
         StatementLead::Semicolon(rest)
     } else if is_sign(token, "{") {
@@ -175,11 +163,23 @@ pub fn statement_lead(tokens: &[Token]) -> StatementLead<'_>
     } else if is_keyword(token, "for") {
         StatementLead::ForWord(rest)
     } else if is_keyword(token, "synchronized") {
-        locking(token, rest)
+        StatementLead::SynchronizedWord(token.place, rest)
     } else if is_keyword(token, "return") {
         StatementLead::ReturnWord(rest)
     } else {
         StatementLead::Other
+    }
+}
+
+/// What a statement begins with.
+pub fn statement_lead(tokens: &[Token]) -> StatementLead<'_>
+    ensures gives { statement_lead_of result ≡ statement_lead (map spelled tokens.now) }
+    ensures places { places_from result (kept tokens.now) ≡ kept tokens.now }
+    ensures shorter { LeadIsBelow result (length tokens.now) }
+{
+    match tokens {
+        [token, rest @ ..] => lead_of(token, rest),
+        [] => StatementLead::Other,
     }
 }
 

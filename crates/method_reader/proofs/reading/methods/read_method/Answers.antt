@@ -1,5 +1,4 @@
-use Rattle.std.proofs.Common.{◌≡◌, List, [], Result, Ok, Err, IfOk, Bor}
-use Rattle.java_lexer.specs.declared.token.Token.{Token}
+use Rattle.std.proofs.Common.{Result, Ok, Err, IfOk}
 use Rattle.java_tree.specs.declared.methods.MethodTree.{MethodTree}
 use Rattle.java_tree.specs.KeptPlaces.{Places, kept}
 use Rattle.java_tree.specs.MethodPlaces.{Marks, some_onto, each_marks, modifier_marks, result_places, method_marks}
@@ -7,11 +6,11 @@ use Rattle.java_tree.specs.MethodPlaces.{AreAt}
 use Rattle.type_reader.specs.declared.reading.error.ReadError.{ReadError}
 use Rattle.method_reader.specs.LedPlaces.{Leads}
 use Rattle.method_reader.proofs.LedMarks.{modified_led}
-use Rattle.method_reader.proofs.reading.methods.method_from.Goals as goal
+use Rattle.method_reader.proofs.reading.methods.read_method.Goals as goal
 
-from_start : (read : Marks → Marks) (here left : Places) → Leads read here left → (r : Result (MethodTree
-    × Bor (List Token)) ReadError) → IfOk r (λ x. (start : Places) → Leads read start left → x.1.now ≡ []
-    → AreAt (method_marks x.0) start) → IfOk r (λ x. x.1.now ≡ [] → AreAt (method_marks x.0) here)
+from_start : (read : Marks → Marks) (here left : Places) → Leads read here left → (r : Result MethodTree ReadError)
+    → IfOk r (λ tree. (start : Places) → Leads read start left → AreAt (method_marks tree) start)
+    → IfOk r (λ tree. AreAt (method_marks tree) here)
 from_start read here left led (Ok x) h = h here led
 from_start read here left led (Err e) h = tt
 

@@ -1,0 +1,10 @@
+use Rattle.java_tree.specs.KeptPlaces.{kept}
+use Rattle.java_tree.specs.MethodPlaces.{each_marks, parameter_marks}
+use Rattle.method_reader.proofs.LedMarks.{enclosed_led}
+use Rattle.method_reader.proofs.reading.signatures.parameter_list.Goals as goal
+
+pub returns-clause-places : goal.returns-clause-places
+returns-clause-places c =
+    enclosed_led (each_marks parameter_marks c.in_ok-parameters.parameters.items) (kept c.args.tokens.now)
+    (kept c.in_ok-rest.rest.now) (kept c.in_ok-parameters.rest.now) (kept c.in_ok-rest-2.rest.now)
+    c.in_ok-rest.ensures.places c.in_ok-parameters.ensures.places c.in_ok-rest-2.ensures.places

@@ -1,0 +1,12 @@
+use Rattle.std.proofs.Common.{map}
+use Rattle.java_tree.specs.KeptPlaces.{kept, all_places, ty_places}
+use Rattle.java_tree.specs.MethodPlaces.{each_marks, parameter_marks}
+use Rattle.method_reader.proofs.LedMarks.{signature_led}
+use Rattle.method_reader.proofs.reading.signatures.read_signature.Goals as goal
+
+pub returns-clause-places : goal.returns-clause-places
+returns-clause-places c =
+    signature_led (each_marks parameter_marks c.in_ok-parameters.parameters.items) c.in_ok-name.name.place
+    (all_places (map ty_places c.in_ok-throws.throws.items)) (kept c.args.tokens.now) (kept c.in_ok-name.rest.now)
+    (kept c.in_ok-parameters.rest.now) (kept c.in_ok-throws.rest.now) c.in_ok-name.ensures.places
+    c.in_ok-parameters.ensures.places c.in_ok-throws.ensures.places
