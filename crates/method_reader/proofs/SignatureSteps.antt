@@ -9,13 +9,18 @@ use Rattle.method_grammar.specs.MethodReading.{parameters_at, throws_at, modifie
 use Rattle.method_grammar.specs.MethodReading.{method_at, if_ended}
 use Rattle.method_reader.specs.SignatureReading.{method_with, parameter_list_at, signature_at, last_block_at}
 use Rattle.method_reader.specs.SignatureReading.{whole_named_at, whole_method_at}
-use Rattle.method_reader.proofs.ForHeads.{steps, joined}
+use Rattle.method_reader.proofs.ForHeads.{steps}
 
 -- steps behind a first one that is the same
 regrouped : {A B C D : Type 0} (o : Option A) (f : A → Option B) (k : B → Option D) (g : A → Option C) (h : C
     → Option D) → ((x : A) → (f x >>= k) ≡ (g x >>= h)) → ((o >>= f) >>= k) ≡ ((o >>= g) >>= h)
 regrouped (Some x) f k g h e = e x
 regrouped None f k g h e = refl
+
+joined : {A B C : Type 0} (o : Option A) (f : A → Option B) (g : B → Option C)
+    → ((o >>= f) >>= g) ≡ (o >>= λ x. f x >>= g)
+joined (Some x) f g = refl
+joined None f g = refl
 
 -- something is made of what was read, where no tokens are left
 ended_with : {A B : Type 0} (make : A → B) (x : A) (ts : List Spelled)
