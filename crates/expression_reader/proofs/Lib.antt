@@ -2,4 +2,3 @@ pub mod ClassFacts
 pub mod ExpressionLoops
 pub mod CastChoice
 pub mod TurnSteps
-pub mod BehindCalls

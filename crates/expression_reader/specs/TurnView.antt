@@ -1,5 +1,5 @@
 -- No public contract rests on this: what a turn of the code gave.
-use Rattle.std.specs.Prelude.{ℕ, ◌≤◌, length, map, Option, Some, None}
+use Rattle.std.specs.Prelude.{ℕ, ◌≤◌, length, map}
 use Rattle.java_tree.specs.KeptPlaces.{Places, kept, expr_places}
 use Rattle.java_tree.specs.View.{expr_of}
 use Rattle.expression_reader.specs.declared.reading.turned.Turned.{Turned}
@@ -16,11 +16,6 @@ turn_of (turned.Next e rest) = Next (expr_of e.tree.value) (map spelled rest.now
 abbrev pub places_put : Turned → Places → Places
 places_put (turned.Stop e) here = expr_places e.tree.value here
 places_put (turned.Next e rest) here = expr_places e.tree.value (kept rest.now)
-
--- those of a larger one
-abbrev pub places_next : Turned → Option Places
-places_next (turned.Stop e) = None
-places_next (turned.Next e rest) = Some (expr_places e.tree.value (kept rest.now))
 
 -- the expression is of a nesting of at most n
 abbrev pub IsSmall : Turned → ℕ → Type 0

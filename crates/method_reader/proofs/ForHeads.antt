@@ -1,15 +1,14 @@
 -- A `for` is its head and then its body.
-use Rattle.std.proofs.Common.{◌≡◌, ℕ, Bool, true, false, List, Option, Some, None, codes, refl, sym, ◌∙◌, cond}
+use Rattle.std.proofs.Common.{◌≡◌, ℕ, Bool, true, false, List, Option, Some, None, codes, refl, cond}
 use Rattle.java_tree.specs.declared.words.Spelled.{Spelled}
-use Rattle.java_tree.specs.Trees.{Ty, Expr, pack_exprs, Start, Declares, Runs, Stmt}
+use Rattle.java_tree.specs.Trees.{Ty, pack_exprs, Start, Declares, Runs, Stmt}
 use Rattle.method_grammar.specs.ExpressionReading.{Reading}
 use Rattle.method_grammar.specs.Taking.{◌>>=◌, match_option, after_sign}
 use Rattle.method_grammar.specs.Readers.{Readers}
 use Rattle.method_grammar.specs.Lookahead.{looks_local, name_and_colon}
 use Rattle.method_grammar.specs.StatementReading.{final_at, variables_at, expr_until, runs_until, for_from}
 use Rattle.method_grammar.specs.StatementReading.{each_from, for_declared, for_typed, for_run, for_at}
-use Rattle.method_reader.specs.HeadReading.{Counted, headed_with, between_at, updates_at, counted_with}
-use Rattle.method_reader.specs.HeadReading.{counted_head_at, each_head_at, declared_head_at}
+use Rattle.method_reader.specs.HeadReading.{headed_with, counted_head_at, each_head_at, declared_head_at}
 use Rattle.method_reader.specs.HeadReading.{typed_head_at, run_head_at, head_at}
 
 -- two steps one after the other
@@ -29,36 +28,16 @@ tests : {B C : Type 0} (t : Bool) (a b : Option C) (c d : Option B) (h : B → O
 tests true a b c d h e f = e
 tests false a b c d h e f = f
 
-pub joined : {A B C : Type 0} (o : Option A) (f : A → Option B) (g : B → Option C)
-    → ((o >>= f) >>= g) ≡ (o >>= λ x. f x >>= g)
-joined (Some x) f g = refl
-joined None f g = refl
-
 module _ (readers : Readers) (read : Reading Stmt) (n : ℕ) where
-  -- from behind the second `;` on
-  behind : (start : Start) (condition : Option Expr) (ts : List Spelled)
-      → (runs_until readers n (codes ")") ts >>= λ updates. after_sign (codes ")") updates.1 >>= λ c. headed_with
-      readers read (Counted start condition (pack_exprs updates.0), c))
-      ≡ (counted_with readers n start (condition, ts) >>= headed_with readers read)
-  unfolding updates_at
-  behind start condition ts =
-      let by_parts : (runs_until readers n (codes ")") ts >>= λ updates. after_sign (codes ")") updates.1 >>= λ c.
-      headed_with readers read (Counted start condition (pack_exprs updates.0), c)) ≡ (updates_at readers n
-      ts >>= λ u. headed_with readers read (Counted start condition (pack_exprs u.0), u.1)) =
-      steps (runs_until readers n (codes ")") ts) _ _ _ (λ updates.
-      steps (after_sign (codes ")") updates.1) _ _ _ (λ c. refl)) in
-      by_parts ∙ sym (joined (updates_at readers n ts) _ _)
-
   counted : (start : Start) (ts : List Spelled) → for_from readers read n start ts ≡ (counted_head_at readers n start
       ts >>= headed_with readers read)
-  unfolding for_from counted_head_at between_at updates_at
+  unfolding for_from counted_head_at
   counted start ts =
-      let by_parts : for_from readers read n start ts ≡ (between_at readers n ts >>= λ x. counted_with readers n start
-      x >>= headed_with readers read) =
       steps (after_sign (codes ";") ts) _ _ _ (λ a.
       steps (expr_until readers n (codes ";") a) _ _ _ (λ condition.
-      steps (after_sign (codes ";") condition.1) _ _ _ (λ b. behind start condition.0 b))) in
-      by_parts ∙ sym (joined (between_at readers n ts) _ _)
+      steps (after_sign (codes ";") condition.1) _ _ _ (λ b.
+      steps (runs_until readers n (codes ")") b) _ _ _ (λ updates.
+      steps (after_sign (codes ")") updates.1) _ _ _ (λ c. refl)))))
 
   each : (is_final : Bool) (t : Ty) (x : List ℕ) (ts : List Spelled) → each_from readers read n is_final t x
       ts ≡ (each_head_at readers n is_final t x ts >>= headed_with readers read)

@@ -1,10 +1,8 @@
 -- A loop that reads statements up to a brace: what it has, and what it still reads.
 use Rattle.std.proofs.Common.{◌≡◌, ℕ, suc, ◌+◌, ◌-◌, ◌≤◌, ◌<◌, List, [], ◌∷◌, ◌++◌, length, map, codes, Option}
-use Rattle.std.proofs.Common.{Some, None, Box, Global, refl, sym, ◌∙◌, ap, append-nil}
+use Rattle.std.proofs.Common.{Some, None, refl, sym, ◌∙◌, ap, append-nil}
 use Rattle.java_lexer.specs.declared.token.Token.{Token}
 use Rattle.java_tree.specs.declared.words.Spelled.{Spelled}
-use Rattle.java_tree.specs.declared.statements.Statement.{Statement}
-use Rattle.java_tree.specs.KeptPlaces.{Puts, stmt_places}
 use Rattle.java_tree.specs.Trees.{Stmt}
 use Rattle.type_reader.specs.declared.reading.error.ReadError.{ReadError}
 use Rattle.type_reader.specs.declared.reading.error.ReadError.TheVariants.{Memory, Unformed}
@@ -64,11 +62,6 @@ module _ {B : Type 0} (readers : Readers) (read : Reading Stmt) (finish : List S
       let one : finished finish front (stmts_at readers read (length (map spelled tokens) - i) here) ≡ None =
       rw k refl in
       sym so_far ∙ one
-
--- ---- places
-
-abbrev pub of_statement : Box Statement Global → Puts
-of_statement x = stmt_places x.value
 
 -- ---- one nesting less
 

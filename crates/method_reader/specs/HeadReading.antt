@@ -29,30 +29,15 @@ for_of (Counted start condition updates) s = For start condition updates s
 for_of (Each is_final t x e) s = ForEach is_final t x e s
 
 module _ (readers : Readers) where
-  -- the condition between its two `;`
-  unfoldable pub between_at : ℕ → Reading (Option Expr)
-  between_at n ts = do
+  -- from the first `;` on
+  unfoldable pub counted_head_at : ℕ → Start → Reading Head
+  counted_head_at n start ts = do
     a ← after_sign (codes ";") ts
     condition ← expr_until readers n (codes ";") a
     b ← after_sign (codes ";") condition.1
-    Some (condition.0, b)
-
-  -- the expressions up to the `)`, and the `)`
-  unfoldable pub updates_at : ℕ → Reading (List Expr)
-  updates_at n ts = do
-    updates ← runs_until readers n (codes ")") ts
+    updates ← runs_until readers n (codes ")") b
     c ← after_sign (codes ")") updates.1
-    Some (updates.0, c)
-
-  -- from behind the second `;` on
-  abbrev pub counted_with : ℕ → Start → Option Expr × List Spelled → Option (Head × List Spelled)
-  counted_with n start condition = do
-    updates ← updates_at n condition.1
-    Some (Counted start condition.0 (pack_exprs updates.0), updates.1)
-
-  -- from the first `;` on
-  unfoldable pub counted_head_at : ℕ → Start → Reading Head
-  counted_head_at n start ts = between_at n ts >>= counted_with n start
+    Some (Counted start condition.0 (pack_exprs updates.0), c)
 
   -- from behind the `:` on
   unfoldable pub each_head_at : ℕ → Bool → Ty → List ℕ → Reading Head

@@ -1,12 +1,12 @@
 //! Reading expressions (JLS 15): an operand, and turn by turn what goes on from it.
-ghost use Rattle.std.specs.Prelude.{◌≡◌, ◌<◌, ◌≤◌, ◌^◌, suc, Some, length, map, IfOk};
+ghost use Rattle.std.specs.Prelude.{◌≡◌, ◌<◌, ◌≤◌, ◌^◌, suc, length, map, IfOk};
 ghost use Rattle.java_tree.specs.KeptPlaces.{kept, expr_places};
 ghost use Rattle.java_tree.specs.View.{expr_of};
 ghost use Rattle.method_grammar.specs.ExpressionReading.{assign_with, conditional_with, binary_with, select_with};
 ghost use Rattle.method_grammar.specs.ExpressionReading.{index_with, turn_with, climb_with, read_at};
 ghost use Rattle.method_grammar.specs.Leads.{lead};
 ghost use Rattle.type_reader.specs.Tokens.{spelled};
-ghost use Rattle.expression_reader.specs.TurnView.{turn_of, places_put, places_next, IsSmall, IsWithin};
+ghost use Rattle.expression_reader.specs.TurnView.{turn_of, places_put, IsSmall, IsWithin};
 ghost use Rattle.type_reader.specs.ReadAnswer.{Gives};
 
 use super::arguments::call_arguments;
@@ -130,7 +130,7 @@ fn assign<'a>(
     requires left { left.nesting ≤ suc limit }
     ensures gives { Gives turn_of result (assign_with (read_at limit) limit (expr_of left.tree.value) operator.now
         (map spelled tokens.now)) }
-    ensures places { IfOk result (λ x. places_next x ≡ Some (expr_places left.tree.value (kept tokens.now))) }
+    ensures places { IfOk result (λ x. places_put x (kept tokens.now) ≡ expr_places left.tree.value (kept tokens.now)) }
     ensures small { IfOk result (λ x. IsSmall x (suc limit)) }
     ensures shorter { IfOk result (λ x. IsWithin x (length tokens.now)) }
 {
@@ -152,7 +152,7 @@ fn conditional<'a>(
     requires left { left.nesting ≤ suc limit }
     ensures gives { Gives turn_of result (conditional_with (read_at limit) limit (expr_of left.tree.value)
         (map spelled tokens.now)) }
-    ensures places { IfOk result (λ x. places_next x ≡ Some (expr_places left.tree.value (kept tokens.now))) }
+    ensures places { IfOk result (λ x. places_put x (kept tokens.now) ≡ expr_places left.tree.value (kept tokens.now)) }
     ensures small { IfOk result (λ x. IsSmall x (suc limit)) }
     ensures shorter { IfOk result (λ x. IsWithin x (length tokens.now)) }
 {
@@ -177,7 +177,7 @@ fn binary<'a>(
     requires left { left.nesting ≤ suc limit }
     ensures gives { Gives turn_of result (binary_with (read_at limit) limit (expr_of left.tree.value) operator.now
         (map spelled tokens.now)) }
-    ensures places { IfOk result (λ x. places_next x ≡ Some (expr_places left.tree.value (kept tokens.now))) }
+    ensures places { IfOk result (λ x. places_put x (kept tokens.now) ≡ expr_places left.tree.value (kept tokens.now)) }
     ensures small { IfOk result (λ x. IsSmall x (suc limit)) }
     ensures shorter { IfOk result (λ x. IsWithin x (length tokens.now)) }
 {
@@ -199,7 +199,7 @@ fn select<'a>(
     requires left { left.nesting ≤ suc limit }
     ensures gives { Gives turn_of result (select_with (read_at limit) limit (expr_of left.tree.value)
         (map spelled tokens.now)) }
-    ensures places { IfOk result (λ x. places_next x ≡ Some (expr_places left.tree.value (kept tokens.now))) }
+    ensures places { IfOk result (λ x. places_put x (kept tokens.now) ≡ expr_places left.tree.value (kept tokens.now)) }
     ensures small { IfOk result (λ x. IsSmall x (suc limit)) }
     ensures shorter { IfOk result (λ x. IsWithin x (length tokens.now)) }
 {
@@ -225,7 +225,7 @@ fn index<'a>(
     requires left { left.nesting ≤ suc limit }
     ensures gives { Gives turn_of result (index_with (read_at limit) limit (expr_of left.tree.value)
         (map spelled tokens.now)) }
-    ensures places { IfOk result (λ x. places_next x ≡ Some (expr_places left.tree.value (kept tokens.now))) }
+    ensures places { IfOk result (λ x. places_put x (kept tokens.now) ≡ expr_places left.tree.value (kept tokens.now)) }
     ensures small { IfOk result (λ x. IsSmall x (suc limit)) }
     ensures shorter { IfOk result (λ x. IsWithin x (length tokens.now)) }
 {

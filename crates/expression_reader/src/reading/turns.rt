@@ -1,5 +1,5 @@
 //! Larger expressions, made of what was read before and behind an operator, a point or a bracket.
-ghost use Rattle.std.specs.Prelude.{◌≡◌, ◌<◌, ◌≤◌, ◌^◌, suc, Some, ◌∷◌, nat_le, length, map, IfOk};
+ghost use Rattle.std.specs.Prelude.{◌≡◌, ◌<◌, ◌≤◌, ◌^◌, suc, ◌∷◌, nat_le, length, map, IfOk};
 ghost use Rattle.java_tree.specs.Trees.{Assign, Conditional, Binary, Postfix, Field, CallOn, pack_exprs};
 ghost use Rattle.java_tree.specs.Nesting.{expr_nesting};
 ghost use Rattle.java_tree.specs.KeptPlaces.{kept, each_puts, expr_places};
@@ -7,7 +7,7 @@ ghost use Rattle.java_tree.specs.View.{expr_of};
 ghost use Rattle.method_grammar.specs.ExpressionReading.{grown, instance_with};
 ghost use Rattle.type_reader.specs.Tokens.{spelled};
 ghost use Rattle.expression_reader.specs.Closings.{index_end};
-ghost use Rattle.expression_reader.specs.TurnView.{turn_of, places_next, IsSmall, IsWithin};
+ghost use Rattle.expression_reader.specs.TurnView.{turn_of, places_put, IsSmall, IsWithin};
 ghost use Rattle.type_reader.specs.ReadAnswer.{Gives};
 
 use super::nested::{NestedExpression, NestedExpressions};
@@ -39,7 +39,7 @@ fn grown<'a>(
     requires room { suc (suc limit) < 2 ^ 32 }
     requires measured { nesting ≡ expr_nesting (expr_of tree) }
     ensures gives { Gives turn_of result (grown limit (expr_of tree) (map spelled tokens.now)) }
-    ensures places { IfOk result (λ x. places_next x ≡ Some (expr_places tree (kept tokens.now))) }
+    ensures places { IfOk result (λ x. places_put x (kept tokens.now) ≡ expr_places tree (kept tokens.now)) }
     ensures small { IfOk result (λ x. IsSmall x (suc limit)) }
     ensures shorter { IfOk result (λ x. IsWithin x (length tokens.now)) }
 {
@@ -66,8 +66,9 @@ pub fn assigned<'a>(
     ensures gives { Gives turn_of result (grown limit (Assign (expr_of left.tree.value) operator.now
         (expr_of right.tree.value))
         (map spelled tokens.now)) }
-    ensures places { IfOk result (λ x. places_next x ≡ Some (expr_places left.tree.value (expr_places
-        right.tree.value (kept tokens.now)))) }
+    ensures places { IfOk result (λ x. places_put x (kept tokens.now) ≡ expr_places left.tree.value
+        (expr_places right.tree.value
+        (kept tokens.now))) }
     ensures small { IfOk result (λ x. IsSmall x (suc limit)) }
     ensures shorter { IfOk result (λ x. IsWithin x (length tokens.now)) }
 {
@@ -93,8 +94,8 @@ pub fn chosen<'a>(
     ensures gives { Gives turn_of result (grown limit (Conditional (expr_of condition.tree.value)
         (expr_of then.tree.value)
         (expr_of other.tree.value)) (map spelled tokens.now)) }
-    ensures places { IfOk result (λ x. places_next x ≡ Some (expr_places condition.tree.value (expr_places
-        then.tree.value (expr_places other.tree.value (kept tokens.now))))) }
+    ensures places { IfOk result (λ x. places_put x (kept tokens.now) ≡ expr_places condition.tree.value
+        (expr_places then.tree.value (expr_places other.tree.value (kept tokens.now)))) }
     ensures small { IfOk result (λ x. IsSmall x (suc limit)) }
     ensures shorter { IfOk result (λ x. IsWithin x (length tokens.now)) }
 {
@@ -118,8 +119,9 @@ pub fn joined<'a>(
     ensures gives { Gives turn_of result (grown limit (Binary (expr_of left.tree.value) operator.now
         (expr_of right.tree.value))
         (map spelled tokens.now)) }
-    ensures places { IfOk result (λ x. places_next x ≡ Some (expr_places left.tree.value (expr_places
-        right.tree.value (kept tokens.now)))) }
+    ensures places { IfOk result (λ x. places_put x (kept tokens.now) ≡ expr_places left.tree.value
+        (expr_places right.tree.value
+        (kept tokens.now))) }
     ensures small { IfOk result (λ x. IsSmall x (suc limit)) }
     ensures shorter { IfOk result (λ x. IsWithin x (length tokens.now)) }
 {
@@ -141,7 +143,7 @@ pub fn tested<'a>(
     requires room { suc (suc limit) < 2 ^ 32 }
     requires left { left.nesting ≤ suc limit }
     ensures gives { Gives turn_of result (instance_with limit (expr_of left.tree.value) (map spelled tokens.now)) }
-    ensures places { IfOk result (λ x. places_next x ≡ Some (expr_places left.tree.value (kept tokens.now))) }
+    ensures places { IfOk result (λ x. places_put x (kept tokens.now) ≡ expr_places left.tree.value (kept tokens.now)) }
     ensures small { IfOk result (λ x. IsSmall x (suc limit)) }
     ensures shorter { IfOk result (λ x. IsWithin x (length tokens.now)) }
 {
@@ -163,7 +165,7 @@ pub fn stepped<'a>(
     requires left { left.nesting ≤ suc limit }
     ensures gives { Gives turn_of result (grown limit (Postfix (expr_of left.tree.value) operator.now)
         (map spelled tokens.now)) }
-    ensures places { IfOk result (λ x. places_next x ≡ Some (expr_places left.tree.value (kept tokens.now))) }
+    ensures places { IfOk result (λ x. places_put x (kept tokens.now) ≡ expr_places left.tree.value (kept tokens.now)) }
     ensures small { IfOk result (λ x. IsSmall x (suc limit)) }
     ensures shorter { IfOk result (λ x. IsWithin x (length tokens.now)) }
 {
@@ -185,8 +187,8 @@ pub fn selected<'a>(
     requires left { left.nesting ≤ suc limit }
     ensures gives { Gives turn_of result (grown limit (Field (expr_of left.tree.value) name.text)
         (map spelled tokens.now)) }
-    ensures places { IfOk result (λ x. places_next x ≡ Some (expr_places left.tree.value (name.place ∷ kept
-        tokens.now))) }
+    ensures places { IfOk result (λ x. places_put x (kept tokens.now) ≡ expr_places left.tree.value (name.place
+        ∷ kept tokens.now)) }
     ensures small { IfOk result (λ x. IsSmall x (suc limit)) }
     ensures shorter { IfOk result (λ x. IsWithin x (length tokens.now)) }
 {
@@ -209,8 +211,8 @@ pub fn called<'a>(
     requires all { all.nesting ≤ limit }
     ensures gives { Gives turn_of result (grown limit (CallOn (expr_of left.tree.value) name.text
         (pack_exprs (map expr_of all.trees.items))) (map spelled tokens.now)) }
-    ensures places { IfOk result (λ x. places_next x ≡ Some (expr_places left.tree.value (name.place ∷ each_puts (map
-        expr_places all.trees.items) (kept tokens.now)))) }
+    ensures places { IfOk result (λ x. places_put x (kept tokens.now) ≡ expr_places left.tree.value (name.place
+        ∷ each_puts (map expr_places all.trees.items) (kept tokens.now))) }
     ensures small { IfOk result (λ x. IsSmall x (suc limit)) }
     ensures shorter { IfOk result (λ x. IsWithin x (length tokens.now)) }
 {
@@ -232,8 +234,9 @@ pub fn indexed<'a>(
     requires index { index.nesting ≤ limit }
     ensures gives { Gives turn_of result (index_end limit (expr_of left.tree.value)
         (expr_of index.tree.value) (map spelled tokens.now)) }
-    ensures places { IfOk result (λ x. places_next x ≡ Some (expr_places left.tree.value (expr_places
-        index.tree.value (kept tokens.now)))) }
+    ensures places { IfOk result (λ x. places_put x (kept tokens.now) ≡ expr_places left.tree.value
+        (expr_places index.tree.value
+        (kept tokens.now))) }
     ensures small { IfOk result (λ x. IsSmall x (suc limit)) }
     ensures shorter { IfOk result (λ x. IsWithin x (length tokens.now)) }
 {

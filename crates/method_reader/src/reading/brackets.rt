@@ -1,5 +1,5 @@
 //! Reading balanced tokens, as they stand in an annotation (JLS 9.7).
-ghost use Rattle.std.specs.Prelude.{◌≡◌, ◌<◌, ◌≤◌, [], ◌∷◌, ◌++◌, List, ℕ, Some, codes, length, map, IfOk, IfErr};
+ghost use Rattle.std.specs.Prelude.{◌≡◌, ◌<◌, ◌≤◌, [], ◌∷◌, List, ℕ, Some, codes, length, map, IfOk};
 ghost use Rattle.java_tree.specs.Brackets.{awaited_behind};
 ghost use Rattle.java_tree.specs.KeptPlaces.{Places, kept};
 ghost use Rattle.java_tree.specs.MethodPlaces.{no_place, each_marks};
@@ -10,7 +10,6 @@ ghost use Rattle.type_reader.specs.Tokens.{spelled};
 ghost use Rattle.type_reader.specs.Finishing.{finished};
 ghost use Rattle.type_reader.specs.Endings.{as_they_are};
 ghost use Rattle.type_reader.specs.ReadAnswer.{Gives};
-ghost use Rattle.type_reader.specs.declared.reading.error.ReadError.TheVariants.{Memory};
 
 use java_lexer::Token;
 use java_tree::Spelled;
@@ -100,16 +99,6 @@ fn copied(alloc: Global, token: &Token) -> Result<Spelled, ReadError>
     Ok(Spelled { kind, text, glued })
 }
 
-/// Puts a copy of the token behind these.
-fn add_copy(alloc: Global, items: &mut Vec<Spelled>, token: &Token) -> Result<(), ReadError>
-    ensures items { IfOk result (λ _. items.new.items ≡ items.old.items ++ spelled token.now ∷ []) }
-    ensures memory { IfErr result (λ e. e ≡ Memory) }
-{
-    let copy = copied(alloc, token)?;
-    items.push(copy)?;
-    Ok(())
-}
-
 /// The token in front, which there has to be, and those behind it.
 fn token(tokens: &[Token]) -> Result<(&Token, &[Token]), ReadError>
     ensures gives { Gives (λ x. (spelled x.0.now, map spelled x.1.now)) result (first_at (map spelled tokens.now)) }
@@ -123,26 +112,27 @@ fn token(tokens: &[Token]) -> Result<(&Token, &[Token]), ReadError>
 }
 
 /// This token and those up to the `)` that closes it.
-fn closed<'a>(
+fn closed(
     alloc: Global,
-    first: &Token,
-    tokens: &'a [Token],
-) -> Result<(Vec<Spelled>, &'a [Token]), ReadError>
-    ensures gives { Gives (λ x. (x.0.items, map spelled x.1.now)) result (finished as_they_are (spelled first.now ∷ [])
+    first: Spelled,
+    tokens: &[Token],
+) -> Result<(Vec<Spelled>, &[Token]), ReadError>
+    ensures gives { Gives (λ x. (x.0.items, map spelled x.1.now)) result (finished as_they_are (first ∷ [])
         (closed_at (codes ")" ∷ []) (map spelled tokens.now))) }
-    ensures places { IfOk result (λ x. (start : Places) → Leads (no_place (spelled first.now)) start (kept tokens.now)
+    ensures places { IfOk result (λ x. (start : Places) → Leads (no_place first) start (kept tokens.now)
         → Leads (each_marks no_place x.0.items) start (kept x.1.now)) }
     ensures shorter { IfOk result (λ x. length x.1.now ≤ length tokens.now) }
 {
     let mut open = Vec::new(alloc);
     open.push(Bracket::Round)?;
     let mut items = Vec::new(alloc);
-    add_copy(alloc, &mut items, first)?;
+    items.push(first)?;
     let mut rest = tokens;
     while let Some(inner) = open.pop() {
         let (next, after) = token(rest)?;
         pass(&mut open, inner, next)?;
-        add_copy(alloc, &mut items, next)?;
+        let copy = copied(alloc, next)?;
+        items.push(copy)?;
         rest = after;
     }
     Ok((items, rest))
@@ -155,7 +145,10 @@ pub fn arguments(alloc: Global, tokens: &[Token]) -> Result<(Vec<Spelled>, &[Tok
     ensures shorter { IfOk result (λ x. length x.1.now ≤ length tokens.now) }
 {
     match tokens {
-        [first, rest @ ..] if is_sign(first, "(") => closed(alloc, first, rest),
+        [first, rest @ ..] if is_sign(first, "(") => {
+            let first = copied(alloc, first)?;
+            closed(alloc, first, rest)
+        }
         _ => Ok((Vec::new(alloc), tokens)),
     }
 }

@@ -7,8 +7,7 @@ ghost use Rattle.java_tree.specs.Formed.{is_run};
 ghost use Rattle.java_tree.specs.View.{ty_of, expr_of, start_of};
 ghost use Rattle.method_grammar.specs.Taking.{commas};
 ghost use Rattle.method_grammar.specs.StatementReading.{condition_at, expr_until, run_at, runs_until};
-ghost use Rattle.method_reader.specs.HeadReading.{between_at, updates_at, counted_head_at, each_head_at};
-ghost use Rattle.method_reader.specs.HeadReading.{declared_head_at, typed_head_at};
+ghost use Rattle.method_reader.specs.HeadReading.{counted_head_at, each_head_at, declared_head_at, typed_head_at};
 ghost use Rattle.method_reader.specs.HeadReading.{run_head_at, head_at};
 ghost use Rattle.method_reader.specs.HeadView.{head_of, head_places};
 ghost use Rattle.method_grammar.specs.JavaReaders.{method_readers};
@@ -172,46 +171,6 @@ fn boxed_start(alloc: Global, start: StartTree) -> Result<Box<StartTree>, ReadEr
     Ok(Box::new(alloc, start)?)
 }
 
-/// The condition between its two `;` (JLS 14.14.1).
-#[tactic(auto, unfolding(crate::specs::HeadReading::between_at))]
-fn between(
-    alloc: Global,
-    limit: u32,
-    tokens: &[Token],
-) -> Result<(Option<Box<Expression>>, &[Token]), ReadError>
-    requires few { length tokens.now < 2 ^ 32 }
-    requires room { suc (suc limit) < 2 ^ 32 }
-    ensures gives { Gives (λ x. (option_map (λ e. expr_of e.value) x.0, map spelled x.1.now)) result
-        (between_at method_readers limit (map spelled tokens.now)) }
-    ensures places { IfOk result (λ x. maybe_puts (option_map (λ e. expr_places e.value) x.0) (kept x.1.now)
-        ≡ kept tokens.now) }
-    ensures shorter { IfOk result (λ x. length x.1.now ≤ length tokens.now) }
-{
-    let rest = sign(tokens, ";")?;
-    let (condition, rest) = expression_until(alloc, limit, ";", rest)?;
-    let rest = sign(rest, ";")?;
-    Ok((condition, rest))
-}
-
-/// The expressions up to the `)`, and the `)` (JLS 14.14.1).
-#[tactic(auto, unfolding(crate::specs::HeadReading::updates_at))]
-fn updates(
-    alloc: Global,
-    limit: u32,
-    tokens: &[Token],
-) -> Result<(Vec<Expression>, &[Token]), ReadError>
-    requires few { length tokens.now < 2 ^ 32 }
-    requires room { suc (suc limit) < 2 ^ 32 }
-    ensures gives { Gives (λ x. (map expr_of x.0.items, map spelled x.1.now)) result (updates_at method_readers limit
-        (map spelled tokens.now)) }
-    ensures places { IfOk result (λ x. each_puts (map expr_places x.0.items) (kept x.1.now) ≡ kept tokens.now) }
-    ensures shorter { IfOk result (λ x. length x.1.now ≤ length tokens.now) }
-{
-    let (updates, rest) = runs_until(alloc, limit, ")", tokens)?;
-    let rest = sign(rest, ")")?;
-    Ok((updates, rest))
-}
-
 /// The head of a `for` from its first `;` on (JLS 14.14.1).
 #[tactic(auto, unfolding(crate::specs::HeadReading::counted_head_at))]
 fn counted(
@@ -227,8 +186,11 @@ fn counted(
     ensures places { IfOk result (λ x. head_places x.0 (kept x.1.now) ≡ start_places start.value (kept tokens.now)) }
     ensures shorter { IfOk result (λ x. length x.1.now ≤ length tokens.now) }
 {
-    let (condition, rest) = between(alloc, limit, tokens)?;
-    let (updates, rest) = updates(alloc, limit, rest)?;
+    let rest = sign(tokens, ";")?;
+    let (condition, rest) = expression_until(alloc, limit, ";", rest)?;
+    let rest = sign(rest, ";")?;
+    let (updates, rest) = runs_until(alloc, limit, ")", rest)?;
+    let rest = sign(rest, ")")?;
     Ok((ForHead::Counted(start, condition, updates), rest))
 }
 

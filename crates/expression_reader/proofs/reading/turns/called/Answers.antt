@@ -9,7 +9,7 @@ use Rattle.java_tree.specs.View.{expr_of}
 use Rattle.method_grammar.specs.ExpressionReading.{grown}
 use Rattle.type_reader.specs.Tokens.{spelled}
 use Rattle.type_reader.specs.ReadAnswer.{Gives}
-use Rattle.expression_reader.specs.TurnView.{turn_of, places_next}
+use Rattle.expression_reader.specs.TurnView.{turn_of, places_put}
 use Rattle.expression_reader.proofs.reading.turns.called.Goals as goal
 
 tree_of_call : (a : Box Expression Global) (x : Ident) (all : Vec Expression Global)
@@ -28,5 +28,6 @@ returns-clause-gives c =
 
 pub returns-clause-places : goal.returns-clause-places
 returns-clause-places c =
-    subst (λ (ps : Places). IfOk c.grown.result (λ x. places_next x ≡ Some ps))
-    (places_of_call c.args.left.tree c.args.name c.args.all.trees (kept c.args.tokens.now)) c.grown.ensures.places
+    let here = kept c.args.tokens.now in
+    subst (λ (ps : Places). IfOk c.grown.result (λ x. places_put x here ≡ ps))
+    (places_of_call c.args.left.tree c.args.name c.args.all.trees here) c.grown.ensures.places

@@ -1,4 +1,4 @@
-use Rattle.std.proofs.Common.{◌≡◌, ℕ, List, [], ◌∷◌, codes, length, map, refl, sym, ap, ◌∙◌, arith}
+use Rattle.std.proofs.Common.{◌≡◌, ℕ, List, [], ◌∷◌, codes, length, map, sym, ap, ◌∙◌, arith}
 use Rattle.std.proofs.lemmas.List.{nil_from_length}
 use Rattle.std.proofs.lemmas.Result.{err_from_is_err_and}
 use Rattle.java_tree.specs.KeptPlaces.{kept}
@@ -17,9 +17,7 @@ returns-in_err-next-clause-gives c =
     let front = c.loop-inner.items.items in
     let inner = closing c.in-Some.inner in
     let outer = awaited_onto c.pop.new.self.items [] in
-    let total =
-    finished as_they_are (spelled c.args.first.now ∷ []) (closed_at (codes ")" ∷ [])
-    (map spelled c.args.tokens.now)) in
+    let total = finished as_they_are (c.args.first ∷ []) (closed_at (codes ")" ∷ []) (map spelled c.args.tokens.now)) in
     let w : awaited_onto c.loop-inner.open.items [] ≡ inner ∷ outer =
     rw c.in-Some.ensures.items (awaited_push c.pop.new.self.items c.in-Some.inner []) in
     let so_far : finished as_they_are front (closed_at (inner ∷ outer) (map spelled c.loop-inner.rest.now)) ≡ total =
@@ -34,9 +32,7 @@ returns-in_err-pass-clause-gives c =
     let front = c.loop-inner.items.items in
     let inner = closing c.in-Some.inner in
     let outer = awaited_onto c.pop.new.self.items [] in
-    let total =
-    finished as_they_are (spelled c.args.first.now ∷ []) (closed_at (codes ")" ∷ [])
-    (map spelled c.args.tokens.now)) in
+    let total = finished as_they_are (c.args.first ∷ []) (closed_at (codes ")" ∷ []) (map spelled c.args.tokens.now)) in
     let w : awaited_onto c.loop-inner.open.items [] ≡ inner ∷ outer =
     rw c.in-Some.ensures.items (awaited_push c.pop.new.self.items c.in-Some.inner []) in
     let so_far : finished as_they_are front (closed_at (inner ∷ outer) (map spelled c.loop-inner.rest.now)) ≡ total =
@@ -52,31 +48,27 @@ loop-inner-preserved c =
     let front = c.loop-inner.items.items in
     let inner = closing c.in-Some.inner in
     let outer = awaited_onto c.pop.new.self.items [] in
-    let total =
-    finished as_they_are (spelled c.args.first.now ∷ []) (closed_at (codes ")" ∷ [])
-    (map spelled c.args.tokens.now)) in
+    let total = finished as_they_are (c.args.first ∷ []) (closed_at (codes ")" ∷ []) (map spelled c.args.tokens.now)) in
     let w : awaited_onto c.loop-inner.open.items [] ≡ inner ∷ outer =
     rw c.in-Some.ensures.items (awaited_push c.pop.new.self.items c.in-Some.inner []) in
     let so_far : finished as_they_are front (closed_at (inner ∷ outer) (map spelled c.loop-inner.rest.now)) ≡ total =
     ap (λ (l : List (List ℕ)). finished as_they_are front (closed_at l (map spelled c.loop-inner.rest.now)))
     (sym w) ∙ c.loop-inner.invariant.gives in
     record {
-      gives = rw c.in_ok-add_copy-2.ensures.items (closed_goes_on total front inner outer
-          (awaited_onto c.pass.new.outer.items []) (spelled c.in_ok-next.next.now) (spelled c.in_ok-next.next.now)
+      gives = rw c.in_ok-push-3.ensures.items (closed_goes_on total front inner outer
+          (awaited_onto c.pass.new.outer.items []) (spelled c.in_ok-next.next.now) c.in_ok-copy.copy
           (map spelled c.loop-inner.rest.now) (map spelled c.in_ok-next.after.now) c.in_ok-next.ensures.gives
-          c.in_ok-pass.ensures refl so_far);
-      places = rw c.in_ok-add_copy-2.ensures.items (λ start first. one_led no_place front
-          (spelled c.in_ok-next.next.now) start (kept c.loop-inner.rest.now) (kept c.in_ok-next.after.now) (c.loop-inner.invariant.places start first)
-          (token_led c.in_ok-next.next.now c.in_ok-next.after.now c.loop-inner.rest.now (spelled c.in_ok-next.next.now)
-          c.in_ok-next.ensures.places refl));
+          c.in_ok-pass.ensures c.in_ok-copy.ensures so_far);
+      places = rw c.in_ok-push-3.ensures.items (λ start first. one_led no_place front c.in_ok-copy.copy start
+          (kept c.loop-inner.rest.now) (kept c.in_ok-next.after.now) (c.loop-inner.invariant.places start first)
+          (token_led c.in_ok-next.next.now c.in_ok-next.after.now c.loop-inner.rest.now c.in_ok-copy.copy
+          c.in_ok-next.ensures.places c.in_ok-copy.ensures));
       shorter = omega (arith, c.in_ok-next.ensures.shorter);
     }
 
 pub returns-clause-gives : goal.returns-clause-gives
 returns-clause-gives c =
-    let total =
-    finished as_they_are (spelled c.args.first.now ∷ []) (closed_at (codes ")" ∷ [])
-    (map spelled c.args.tokens.now)) in
+    let total = finished as_they_are (c.args.first ∷ []) (closed_at (codes ")" ∷ []) (map spelled c.args.tokens.now)) in
     let none : length c.loop-inner.open.items ≡ 0 = omega (arith, c.loop-inner.open.ok, c.in_default.ensures.cases.0) in
     closed_ends total c.loop-inner.items.items (map spelled c.loop-inner.rest.now) c.loop-inner.open.items
     (nil_from_length c.loop-inner.open.items none) c.loop-inner.invariant.gives

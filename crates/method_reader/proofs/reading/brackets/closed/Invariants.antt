@@ -12,8 +12,8 @@ use Rattle.method_reader.proofs.reading.brackets.closed.Given as goal
 abbrev pub invariant-loop-inner : goal.invariant-loop-inner
 invariant-loop-inner l = record {
   gives : finished as_they_are l.items.items (closed_at (awaited_onto l.open.items []) (map spelled l.rest))
-      ≡ finished as_they_are (spelled l.first ∷ []) (closed_at (codes ")" ∷ []) (map spelled l.tokens));
-  places : (start : Places) → Leads (no_place (spelled l.first)) start (kept l.tokens)
+      ≡ finished as_they_are (l.fn.first ∷ []) (closed_at (codes ")" ∷ []) (map spelled l.tokens));
+  places : (start : Places) → Leads (no_place l.fn.first) start (kept l.tokens)
       → Leads (each_marks no_place l.items.items) start (kept l.rest);
   shorter : length l.rest ≤ length l.tokens;
 }
