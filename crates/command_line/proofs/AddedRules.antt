@@ -1,11 +1,15 @@
 -- A command with more arguments.
 use Rattle.std.proofs.Common.{◌≡◌, false, List, [], ◌∷◌, ◌++◌, map, fold, sym, ap, ◌∙◌}
 use Rattle.clap.specs.Walk.{Rule, rule_of}
-use Rattle.clap.specs.Simple.{App, app_of, with_rule}
+use Rattle.std.specs.Prelude.{Some}
+use Rattle.std.specs.Borrow.{Bor}
+use Rattle.clap.specs.Simple.{App, app_of, new_rule, with_rule}
+use Rattle.clap.specs.declared.builder.action.ArgAction.{ArgAction}
 use Rattle.clap.specs.Built.{AddsArg, AddsInTurn}
 use Rattle.clap.specs.declared.builder.arg.Arg.{Arg}
 use Rattle.clap.specs.declared.builder.command.Command.{Command}
-use Rattle.command_line.specs.Command.{rules_of, local}
+use Rattle.command_line.specs.Command.{rules_of, local, named_rule}
+use Rattle.command_line.specs.Uses.{Word}
 
 pub all_added : (arguments : List Arg) (rules : List Rule) (old new : Command) → AddsInTurn AddsArg old arguments new →
     rules_of arguments ≡ map local rules → app_of new ≡ fold with_rule (app_of old) rules
@@ -24,3 +28,14 @@ pub rules-push : (arguments : List Arg) (x : Arg) (rule : Rule) → (rule_of x �
     rules_of (arguments ++ x ∷ []) ≡ rules_of arguments ++ local rule ∷ []
 rules-push [] x rule h = ap (λ (r : Rule). (r, x.global) ∷ []) h.0 ∙ ap (λ b. (rule, b) ∷ []) h.1
 rules-push (y ∷ ys) x rule h = ap (λ rs. (rule_of y, y.global) ∷ rs) (rules-push ys x rule h)
+
+-- an argument that got a name and then an action
+pub named_is : (new named whole : Arg) (name : Bor Word) (action : ArgAction) → rule_of new ≡ new_rule name.now →
+    new.global ≡ false → named ≡ record new { long = Some name } → whole ≡ record named { action = Some action } →
+    (rule_of whole ≡ named_rule name.now action) × (whole.global ≡ false)
+named_is new named whole name action rule alone is_named is_whole = (
+  ap rule_of is_whole
+      ∙ ap (λ (a : Arg). record (rule_of a) { action = Some action }) is_named
+      ∙ ap (λ (r : Rule). record r { long = Some name.now; action = Some action }) rule,
+  ap (λ (a : Arg). a.global) is_whole ∙ ap (λ (a : Arg). a.global) is_named ∙ alone,
+)

@@ -1,10 +1,12 @@
 -- One turn of a loop that gathers, and its end.
-use Rattle.std.proofs.Common.{◌≡◌, ℕ, ◌+◌, ◌<◌, ◌≤◌, List, [], ◌∷◌, ◌++◌, length, get_or, drop, sym, ap, ◌∙◌, append-nil}
+use Rattle.std.proofs.Common.{◌≡◌, ℕ, ◌+◌, ◌<◌, ◌≤◌, List, [], ◌∷◌, ◌++◌, length, get_or, drop, sym, ap, ◌∙◌}
+use Rattle.std.proofs.Common.{append-nil}
 use Rattle.std.proofs.lemmas.List.{at_drop_more, at_drop_all, append_assoc}
 
 -- F is what all elements give, and f what one gives
-pub one_turn : {A B : Type 0} (F : List A → List B) (f : A → List B) (xs : List A) (i : ℕ) (x : A) (made more : List B) →
-    ((y : A) (ys : List A) → F (y ∷ ys) ≡ f y ++ F ys) → i < length xs → x ≡ get_or xs i x → more ≡ made ++ f x →
+pub one_turn : {A B : Type 0} (F : List A → List B) (f : A → List B) (xs : List A) (i : ℕ) (x : A)
+    (made more : List B) → ((y : A) (ys : List A) → F (y ∷ ys) ≡ f y ++ F ys) → i < length xs →
+    x ≡ get_or xs i x → more ≡ made ++ f x →
     more ++ F (drop (i + 1) xs) ≡ made ++ F (drop i xs)
 one_turn F f xs i x made more splits within is gives =
     let rest = drop (i + 1) xs in
