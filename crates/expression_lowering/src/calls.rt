@@ -7,7 +7,6 @@ ghost use Rattle.java_lowering.specs.ValueKinds.{Of};
 ghost use Rattle.java_lowering.specs.Around.{op, type_kind};
 ghost use Rattle.java_lowering.specs.Calls.{callee_in, callee_of, info_at, if_static, own_callee, callee_of_value};
 ghost use Rattle.java_lowering.specs.Calls.{result_kind, parameter_kinds, call_at, constructor_in};
-ghost use Rattle.java_lowering.specs.Calls.{result_of};
 ghost use Rattle.expression_lowering.specs.Drafts.{code_of};
 ghost use Rattle.expression_lowering.specs.Views.{value_kind};
 ghost use Rattle.expression_lowering.specs.Parts.{callee_seen, passed_kinds};
