@@ -1,3 +1,4 @@
 pub mod SummaryTold
 pub mod Digits
 pub mod ConfirmedCounts
+pub mod RunLines

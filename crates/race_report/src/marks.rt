@@ -1,8 +1,8 @@
 //! The lines of marks, and how many warnings are confirmed.
-ghost use Rattle.std.specs.Prelude.{◌≡◌, ◌++◌, codes, count_by, map};
+ghost use Rattle.std.specs.Prelude.{◌≡◌, ◌∷◌, [], ◌++◌, codes, count_by, map};
 ghost use Rattle.std.specs.List.{flat_map};
 ghost use Rattle.core_code.specs.Program.{core};
-ghost use Rattle.core_ways.specs.Marks.{leg_of, said_by};
+ghost use Rattle.core_ways.specs.Marks.{Confirmed, leg_of, said_by};
 ghost use Rattle.witness_build.specs.Warned.{warning_mark};
 ghost use Rattle.report_parts.specs.Marks.{leg_text};
 ghost use Rattle.report_parts.specs.Written.{Lasts, Puts};
@@ -56,9 +56,8 @@ fn push_leg_line(text: &mut Written, words: &str, leg: &Leg)
 /// The objects and the legs of a run.
 fn push_witness(text: &mut Written, program: &Program, witness: &Witness)
     ensures lasts { Lasts text.old text.new }
-    ensures puts { Puts (flat_map (said.object_line (core program.now)) witness.now.objects
-        ++ said.line (codes " first " ++ leg_text (leg_of witness.now.first))
-        ++ said.line (codes " second " ++ leg_text (leg_of witness.now.second))) text.old text.new }
+    ensures puts { Puts (said.run_lines (core program.now) (Confirmed witness.now.objects
+        (leg_of witness.now.first ∷ leg_of witness.now.second ∷ []))) text.old text.new }
 {
     push_objects(text, program, witness.objects.as_slice());
     push_leg_line(text, " first ", &witness.first);
