@@ -42,17 +42,10 @@ fn passed(alloc: Global, method: &MethodCore) -> Result<Vec<Value>, Memory>
 {
     let mut values = Vec::new(alloc);
     if !method.is_static {
-        let Ok(()) = values.push(Value::Named(Path::alone(alloc, Root::This))) else {
-            return Err(Memory);
-        };
+        values.push(Value::Named(Path::alone(alloc, Root::This)))?;
     }
     for (number, kind) in method.parameters.as_slice().iter().enumerate() {
-        let Ok(value) = parameter(alloc, number, *kind) else {
-            return Err(Memory);
-        };
-        let Ok(()) = values.push(value) else {
-            return Err(Memory);
-        };
+        values.push(parameter(alloc, number, *kind)?)?;
     }
     Ok(values)
 }
