@@ -263,7 +263,10 @@ fn sink(alloc: Global, row: &Row) -> Result<MemorySink, Fail>
         return Err(Fail::from("a sink that takes nothing"));
     }
     let failing = row.sink_fails.to_vec(alloc)?;
-    Ok(MemorySink::new(alloc, 100_000, row.most, failing)?)
+    match MemorySink::new(alloc, 100_000, row.most, failing) {
+        Ok(sink) => Ok(sink),
+        Err(_) => Err(Fail::from("no memory for a sink")),
+    }
 }
 
 /// Whether a call of `run` answers and writes what the row says.
