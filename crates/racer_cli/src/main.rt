@@ -1,25 +1,18 @@
 //! Reads a folder of Java sources and reports the data races in it.
 #![tactic(auto)]
 
-mod laws;
 #[cfg(test)]
 mod outside;
-mod request;
-mod run;
-mod said;
-mod status;
 #[cfg(test)]
 mod tests;
-mod writing;
 
 use disk_folder::DirFolder;
 use racer_base::{OpenGate, StdSink};
-use run::run;
-use status::Status;
 use std::io::ErrorKind;
 use std::process::ExitCode;
 use std::rt::Env;
 use std::{env, io};
+use top_call::{Status, run};
 
 /// The words after the program's name.
 fn words<R: Env + AllocGlobal>(rt: &R) -> io::Result<Vec<String>> {

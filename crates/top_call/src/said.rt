@@ -5,8 +5,8 @@ ghost use Rattle.core_code.specs.Program.{core};
 ghost use Rattle.access_domain.specs.Outcomes.{AreOutcomes};
 ghost use Rattle.folder_sources.specs.Finding.{CountsFaults, FailsByMemory};
 ghost use Rattle.folder_programs.specs.Programs.{Accepted, source_of};
-ghost use Rattle.racer_cli.specs.Said.{said_from, HasHeadline, Says};
-ghost use Rattle.racer_cli.specs.Causes.{asked_of, AsksFor, IsDue, is_said};
+ghost use Rattle.top_call.specs.Said.{said_from, HasHeadline, Says};
+ghost use Rattle.top_call.specs.Causes.{asked_of, AsksFor, IsDue, is_said};
 
 use crate::request::{Request, Wanted, requested};
 use crate::status::Status;

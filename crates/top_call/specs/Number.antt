@@ -1,8 +1,8 @@
 -- A contract of a public call rests on this: the program's exit status for each status of a run.
 use Rattle.std.specs.Prelude.{ℕ}
-use Rattle.racer_cli.specs.declared.status.Status.{Status}
-use Rattle.racer_cli.specs.declared.status.Status.TheVariants.{Clean, Warned, Usage, FolderFault, SinkFault, Refused}
-use Rattle.racer_cli.specs.declared.status.Status.TheVariants.{Memory, NoRace, NotAWitness}
+use Rattle.top_call.specs.declared.status.Status.{Status}
+use Rattle.top_call.specs.declared.status.Status.TheVariants.{Clean, Warned, Usage, FolderFault, SinkFault, Refused}
+use Rattle.top_call.specs.declared.status.Status.TheVariants.{Memory, NoRace, NotAWitness}
 
 abbrev pub number_of : Status → ℕ
 number_of Clean = 0

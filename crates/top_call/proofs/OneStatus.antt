@@ -6,14 +6,14 @@ use Rattle.racer_base.specs.Outside.{Told, Files, taken_and}
 use Rattle.race_report.specs.declared.mode.Mode.{Mode}
 use Rattle.folder_programs.specs.Programs.{Source, IsSource}
 use Rattle.folder_programs.specs.OneReading.{OneSource}
-use Rattle.racer_cli.specs.declared.said.Said.{Said}
-use Rattle.racer_cli.specs.declared.status.Status.{Status}
-use Rattle.racer_cli.specs.declared.status.Status.TheVariants.{Clean, Warned, Usage, FolderFault, SinkFault, Refused}
-use Rattle.racer_cli.specs.declared.status.Status.TheVariants.{Memory, NoRace, NotAWitness}
-use Rattle.racer_cli.specs.Words.{Wanted, Request, ReportOn, NotBuilt, request_of}
-use Rattle.racer_cli.specs.Said.{Says, said_from}
-use Rattle.racer_cli.specs.Causes.{Asked, Wrote, IsUsage, IsNotBuilt, IsFault, IsSaid, IsDue, IsAnswer, IsCut, IsCause}
-use Rattle.racer_cli.specs.Causes.{is_said, IsWhole, IsWholeAnswer}
+use Rattle.top_call.specs.declared.said.Said.{Said}
+use Rattle.top_call.specs.declared.status.Status.{Status}
+use Rattle.top_call.specs.declared.status.Status.TheVariants.{Clean, Warned, Usage, FolderFault, SinkFault, Refused}
+use Rattle.top_call.specs.declared.status.Status.TheVariants.{Memory, NoRace, NotAWitness}
+use Rattle.top_call.specs.Words.{Wanted, Request, ReportOn, NotBuilt, request_of}
+use Rattle.top_call.specs.Said.{Says, said_from}
+use Rattle.top_call.specs.Causes.{Asked, Wrote, IsUsage, IsNotBuilt, IsFault, IsSaid, IsDue, IsAnswer, IsCut, IsCause}
+use Rattle.top_call.specs.Causes.{is_said, IsWhole, IsWholeAnswer}
 
 -- what is said of files is due
 pub said_due : (s : Status) (asked : Asked) (text : List ℕ) → is_said s ≡ true → IsSaid s asked text → IsDue s asked text

@@ -1,7 +1,7 @@
 use Rattle.std.proofs.Common.{◌≤◌, ◌<◌, ◌-◌, ◌∙◌, ap, arith, take, drop, length, length-take}
 use Rattle.racer_base.specs.Outside.{taken_and}
-use Rattle.racer_cli.proofs.Written.{taken_and-more}
-use Rattle.racer_cli.proofs.writing.write_all.Goals as goal
+use Rattle.top_call.proofs.Written.{taken_and-more}
+use Rattle.top_call.proofs.writing.write_all.Goals as goal
 
 pub loop-at-preserved : goal.loop-at-preserved
 loop-at-preserved g c =

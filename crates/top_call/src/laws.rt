@@ -1,9 +1,9 @@
 //! Laws of the definitions that the contract of `run` cites.
 ghost use Rattle.std.specs.Prelude.{◌≡◌, ◌≢◌, ℕ, List, Some};
 ghost use Rattle.racer_base.specs.Outside.{Told};
-ghost use Rattle.racer_cli.specs.declared.status.Status.{Status};
-ghost use Rattle.racer_cli.specs.declared.status.Status.TheVariants.{Memory};
-ghost use Rattle.racer_cli.specs.Causes.{Asked, Wrote, IsCause};
+ghost use Rattle.top_call.specs.declared.status.Status.{Status};
+ghost use Rattle.top_call.specs.declared.status.Status.TheVariants.{Memory};
+ghost use Rattle.top_call.specs.Causes.{Asked, Wrote, IsCause};
 
 use folder_programs::laws::one_source;
 

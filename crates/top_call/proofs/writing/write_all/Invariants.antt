@@ -1,6 +1,6 @@
 use Rattle.std.proofs.Common.{◌≡◌, ◌+◌, ◌-◌, ◌≤◌, length, take}
 use Rattle.racer_base.specs.Outside.{taken_and}
-use Rattle.racer_cli.proofs.writing.write_all.Given as goal
+use Rattle.top_call.proofs.writing.write_all.Given as goal
 
 -- the front up to `at` was taken, no write failed, and room for the whole text leaves room for the rest
 abbrev pub invariant-loop-at : goal.invariant-loop-at

@@ -1,7 +1,7 @@
 //! How a run ends.
 ghost use Rattle.std.specs.Prelude.{◌≡◌};
 ghost use Rattle.std.specs.Process.{exit_status};
-ghost use Rattle.racer_cli.specs.Number.{number_of};
+ghost use Rattle.top_call.specs.Number.{number_of};
 
 use std::process::ExitCode;
 

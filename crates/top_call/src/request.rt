@@ -1,8 +1,8 @@
 //! What the words of a command line ask for.
 ghost use Rattle.std.specs.Prelude.{◌≡◌, map, string_bytes, option_map, IfOk};
 ghost use Rattle.command_line.specs.Requests.{asked_of};
-ghost use Rattle.racer_cli.specs.Words.{request_for, request_of};
-ghost use Rattle.racer_cli.specs.Requests.{seen};
+ghost use Rattle.top_call.specs.Words.{request_for, request_of};
+ghost use Rattle.top_call.specs.Requests.{seen};
 
 use command_line::read_words;
 use race_report::Mode;

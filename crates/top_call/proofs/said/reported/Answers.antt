@@ -2,8 +2,8 @@ use Rattle.std.proofs.Common.{◌≡◌, IfOk, ◌∙◌, subst}
 use Rattle.core_code.specs.declared.program.Program.{Program}
 use Rattle.core_code.specs.Program.{core}
 use Rattle.folder_programs.specs.Programs.{Accepted}
-use Rattle.racer_cli.specs.Said.{said_from}
-use Rattle.racer_cli.proofs.said.reported.Goals as goal
+use Rattle.top_call.specs.Said.{said_from}
+use Rattle.top_call.proofs.said.reported.Goals as goal
 
 pub returns-clause-said : goal.returns-clause-said
 returns-clause-said c =

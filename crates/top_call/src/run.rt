@@ -1,7 +1,7 @@
 //! The call that the program makes.
 ghost use Rattle.std.specs.Prelude.{◌≢◌, ◌<◌, IfSome};
 ghost use Rattle.racer_base.specs.Outside.{last_count};
-ghost use Rattle.racer_cli.specs.Causes.{asked_of, wrote_of, AsksFor, IsRoomFor, IsCause, IsComplete};
+ghost use Rattle.top_call.specs.Causes.{asked_of, wrote_of, AsksFor, IsRoomFor, IsCause, IsComplete};
 
 use crate::said::what_to_say;
 use crate::status::Status;

@@ -7,10 +7,10 @@ use Rattle.race_pairs.specs.Warnings.{warnings}
 use Rattle.race_report.specs.declared.mode.Mode.{Mode}
 use Rattle.race_report.specs.Modes.{report}
 use Rattle.folder_programs.specs.Programs.{Source, Refusal, Accepted, IsSource}
-use Rattle.racer_cli.specs.declared.said.Said.{Said}
-use Rattle.racer_cli.specs.declared.status.Status.{Status}
-use Rattle.racer_cli.specs.declared.status.Status.TheVariants.{Clean, Warned, Refused}
-use Rattle.racer_cli.specs.Words.{Wanted}
+use Rattle.top_call.specs.declared.said.Said.{Said}
+use Rattle.top_call.specs.declared.status.Status.{Status}
+use Rattle.top_call.specs.declared.status.Status.TheVariants.{Clean, Warned, Refused}
+use Rattle.top_call.specs.Words.{Wanted}
 
 abbrev pub usage_text : List ℕ
 usage_text =

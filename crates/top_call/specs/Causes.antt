@@ -3,13 +3,13 @@ use Rattle.std.specs.Prelude.{◌≡◌, ◌⊎◌, ℕ, Bool, true, false, ◌<
 use Rattle.std.specs.Prelude.{List, Option, None, Some, String, length, map, take, string_bytes}
 use Rattle.std.specs.Global.{Global}
 use Rattle.racer_base.specs.Outside.{Told, Files, taken_and}
-use Rattle.racer_cli.specs.declared.said.Said.{Said}
-use Rattle.racer_cli.specs.declared.status.Status.{Status}
-use Rattle.racer_cli.specs.declared.status.Status.TheVariants.{Clean, Warned, Usage, FolderFault, SinkFault, Refused}
-use Rattle.racer_cli.specs.declared.status.Status.TheVariants.{Memory, NoRace, NotAWitness}
+use Rattle.top_call.specs.declared.said.Said.{Said}
+use Rattle.top_call.specs.declared.status.Status.{Status}
+use Rattle.top_call.specs.declared.status.Status.TheVariants.{Clean, Warned, Usage, FolderFault, SinkFault, Refused}
+use Rattle.top_call.specs.declared.status.Status.TheVariants.{Memory, NoRace, NotAWitness}
 use Rattle.race_report.specs.declared.mode.Mode.{Mode}
-use Rattle.racer_cli.specs.Words.{Wanted, ReportOn, NotBuilt, request_of}
-use Rattle.racer_cli.specs.Said.{usage_text, fault_text, not_built_text, Says}
+use Rattle.top_call.specs.Words.{Wanted, ReportOn, NotBuilt, request_of}
+use Rattle.top_call.specs.Said.{usage_text, fault_text, not_built_text, Says}
 
 -- What can be seen of a call's words and folder: the words, what the folder tells, and its counts of faults.
 pub record Asked : Type 0 where
