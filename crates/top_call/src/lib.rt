@@ -3,10 +3,10 @@
 
 pub mod laws;
 mod request;
-mod run;
 mod said;
 mod status;
+mod whole_run;
 mod writing;
 
-pub use run::run;
 pub use status::Status;
+pub use whole_run::run;

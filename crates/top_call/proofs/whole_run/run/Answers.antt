@@ -2,7 +2,7 @@ use Rattle.std.proofs.Common.{◌∙◌, ap, inr}
 use Rattle.racer_base.specs.Outside.{taken_and}
 use Rattle.top_call.specs.Causes.{asked_of, wrote_of}
 use Rattle.top_call.proofs.OneStatus.{whole_answer}
-use Rattle.top_call.proofs.run.run.Goals as goal
+use Rattle.top_call.proofs.whole_run.run.Goals as goal
 
 pub returns-in-Ok-write_all-clause-complete : goal.returns-in-Ok-write_all-clause-complete
 returns-in-Ok-write_all-clause-complete g c = λ told mode tells asks quiet kept.
