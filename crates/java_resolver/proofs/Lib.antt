@@ -6,3 +6,4 @@ mod PartKinds
 mod Variables
 mod ByClass
 mod Loops
+mod Searches
