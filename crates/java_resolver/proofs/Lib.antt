@@ -7,3 +7,4 @@ mod Variables
 mod ByClass
 mod Loops
 mod Searches
+mod Behind

@@ -6,12 +6,14 @@ use Rattle.java_resolver.proofs.methods.any_is_constructor.Goals as goal
 pub loop-member-preserved : goal.loop-member-preserved
 loop-member-preserved c =
     passed member_is_constructor c.args.members.now c.loop-member.member-index c.member-item.result
-    c.loop-member-test.true c.member-item.is (sym c.member_is_constructor.ensures ∙ c.if-member_is_constructor.false) c.loop-member.invariant
+    c.loop-member-test.true c.member-item.is (sym c.member_is_constructor.ensures ∙ c.if-member_is_constructor.false)
+    c.loop-member.invariant
 
 pub returns-then-member_is_constructor : goal.returns-then-member_is_constructor
 returns-then-member_is_constructor c =
     found member_is_constructor c.args.members.now c.loop-member.member-index c.member-item.result
-    c.loop-member-test.true c.member-item.is (sym c.member_is_constructor.ensures ∙ c.if-member_is_constructor.true) c.loop-member.invariant
+    c.loop-member-test.true c.member-item.is (sym c.member_is_constructor.ensures ∙ c.if-member_is_constructor.true)
+    c.loop-member.invariant
 
 pub returns : goal.returns
 returns c =
