@@ -1,4 +1,5 @@
-use Rattle.std.proofs.Common.{◌≡◌, ℕ, List, ◌∷◌, ◌++◌, ◌+◌, OnOk, map, option_map, take, drop, refl, sym, ap, subst, ◌∙◌, rules}
+use Rattle.std.proofs.Common.{◌≡◌, ℕ, List, ◌∷◌, ◌++◌, ◌+◌, OnOk, map, option_map, take, drop, refl, sym, ap, subst}
+use Rattle.std.proofs.Common.{◌∙◌, rules}
 use Rattle.std.proofs.Common.{append-nil, append_assoc}
 use Rattle.std.proofs.lemmas.List.{at_drop_more, at_drop_all}
 use Rattle.std.proofs.lemmas.Result.{on_ok_weaker}
@@ -24,28 +25,34 @@ use Rattle.method_lowering.proofs.statements.+statements.Goals as goal
 
 pub lower_statement-returns-in-Block-clause-around : goal.lower_statement-returns-in-Block-clause-around
 lower_statement-returns-in-Block-clause-around t c =
-    let is : stmt_of c.args.statement.now ≡ tree.Block (pack_stmts (map stmt_of c.deref.result.now)) = search (rules, the_lemmas) in
+    let is : stmt_of c.args.statement.now ≡ tree.Block (pack_stmts (map stmt_of c.deref.result.now)) =
+    search (rules, the_lemmas) in
     subst (λ (s : Stmt). OnOk c.lower_block.result (c.lower_block.new.around ≡ after c.args.around.now s)) (sym is)
     c.lower_block.ensures.around
 
 pub lower_statement-returns-in-Block-clause-code : goal.lower_statement-returns-in-Block-clause-code
 lower_statement-returns-in-Block-clause-code t c =
-    let is : stmt_of c.args.statement.now ≡ tree.Block (pack_stmts (map stmt_of c.deref.result.now)) = search (rules, the_lemmas) in
+    let is : stmt_of c.args.statement.now ≡ tree.Block (pack_stmts (map stmt_of c.deref.result.now)) =
+    search (rules, the_lemmas) in
     subst (λ (s : Stmt).
-    OnOk c.lower_block.result (code_of c.lower_block.new.draft ≡ code_of c.args.draft.now ++ stmt c.args.around.now s)) (sym is)
+    OnOk c.lower_block.result (code_of c.lower_block.new.draft ≡ code_of c.args.draft.now
+    ++ stmt c.args.around.now s)) (sym is)
     c.lower_block.ensures.code
 
 pub lower_statement-returns-in-Local-clause-around : goal.lower_statement-returns-in-Local-clause-around
 lower_statement-returns-in-Local-clause-around t c =
-    let is : stmt_of c.args.statement.now ≡ tree.Local (ty_of c.in-Local.locals.kind) (map variable_of c.in-Local.locals.variables) = search (rules, the_lemmas) in
+    let is : stmt_of c.args.statement.now ≡ tree.Local (ty_of c.in-Local.locals.kind)
+    (map variable_of c.in-Local.locals.variables) = search (rules, the_lemmas) in
     subst (λ (s : Stmt). OnOk c.lower_locals.result (c.lower_locals.new.around ≡ after c.args.around.now s)) (sym is)
     c.lower_locals.ensures.around
 
 pub lower_statement-returns-in-Local-clause-code : goal.lower_statement-returns-in-Local-clause-code
 lower_statement-returns-in-Local-clause-code t c =
-    let is : stmt_of c.args.statement.now ≡ tree.Local (ty_of c.in-Local.locals.kind) (map variable_of c.in-Local.locals.variables) = search (rules, the_lemmas) in
+    let is : stmt_of c.args.statement.now ≡ tree.Local (ty_of c.in-Local.locals.kind)
+    (map variable_of c.in-Local.locals.variables) = search (rules, the_lemmas) in
     subst (λ (s : Stmt).
-    OnOk c.lower_locals.result (code_of c.lower_locals.new.draft ≡ code_of c.args.draft.now ++ stmt c.args.around.now s)) (sym is)
+    OnOk c.lower_locals.result (code_of c.lower_locals.new.draft ≡ code_of c.args.draft.now
+    ++ stmt c.args.around.now s)) (sym is)
     c.lower_locals.ensures.code
 
 pub lower_statement-returns-in-Expr-clause-around : goal.lower_statement-returns-in-Expr-clause-around
@@ -58,42 +65,50 @@ pub lower_statement-returns-in-Expr-clause-code : goal.lower_statement-returns-i
 lower_statement-returns-in-Expr-clause-code t c =
     let is : stmt_of c.args.statement.now ≡ tree.Run (expr_of c.in-Expr.e) = search (rules, the_lemmas) in
     subst (λ (s : Stmt).
-    OnOk c.lower_run.result (code_of c.lower_run.new.draft ≡ code_of c.args.draft.now ++ stmt c.args.around.now s)) (sym is)
+    OnOk c.lower_run.result (code_of c.lower_run.new.draft ≡ code_of c.args.draft.now
+    ++ stmt c.args.around.now s)) (sym is)
     c.lower_run.ensures
 
 pub lower_statement-returns-in-While-clause-around : goal.lower_statement-returns-in-While-clause-around
 lower_statement-returns-in-While-clause-around t c =
-    let is : stmt_of c.args.statement.now ≡ tree.While (expr_of c.in-While.e) (stmt_of c.deref-in-While.result.now) = search (rules, the_lemmas) in
+    let is : stmt_of c.args.statement.now ≡ tree.While (expr_of c.in-While.e) (stmt_of c.deref-in-While.result.now) =
+    search (rules, the_lemmas) in
     subst (λ (s : Stmt). OnOk c.lower_while.result (c.lower_while.new.around ≡ after c.args.around.now s)) (sym is)
     c.lower_while.ensures.around
 
 pub lower_statement-returns-in-While-clause-code : goal.lower_statement-returns-in-While-clause-code
 lower_statement-returns-in-While-clause-code t c =
-    let is : stmt_of c.args.statement.now ≡ tree.While (expr_of c.in-While.e) (stmt_of c.deref-in-While.result.now) = search (rules, the_lemmas) in
+    let is : stmt_of c.args.statement.now ≡ tree.While (expr_of c.in-While.e) (stmt_of c.deref-in-While.result.now) =
+    search (rules, the_lemmas) in
     subst (λ (s : Stmt).
-    OnOk c.lower_while.result (code_of c.lower_while.new.draft ≡ code_of c.args.draft.now ++ stmt c.args.around.now s)) (sym is)
+    OnOk c.lower_while.result (code_of c.lower_while.new.draft ≡ code_of c.args.draft.now
+    ++ stmt c.args.around.now s)) (sym is)
     c.lower_while.ensures.code
 
 pub lower_statement-returns-in-For-clause-around : goal.lower_statement-returns-in-For-clause-around
 lower_statement-returns-in-For-clause-around t c =
     let is : stmt_of c.args.statement.now ≡ tree.For (start_of c.in-For.start) (option_map expr_of c.in-For.e)
-    (pack_exprs (map expr_of c.deref-in-For-2.result.now)) (stmt_of c.deref-in-For.result.now) = search (rules, the_lemmas) in
+    (pack_exprs (map expr_of c.deref-in-For-2.result.now)) (stmt_of c.deref-in-For.result.now) =
+    search (rules, the_lemmas) in
     subst (λ (s : Stmt). OnOk c.lower_for.result (c.lower_for.new.around ≡ after c.args.around.now s)) (sym is)
     c.lower_for.ensures.around
 
 pub lower_statement-returns-in-For-clause-code : goal.lower_statement-returns-in-For-clause-code
 lower_statement-returns-in-For-clause-code t c =
     let is : stmt_of c.args.statement.now ≡ tree.For (start_of c.in-For.start) (option_map expr_of c.in-For.e)
-    (pack_exprs (map expr_of c.deref-in-For-2.result.now)) (stmt_of c.deref-in-For.result.now) = search (rules, the_lemmas) in
+    (pack_exprs (map expr_of c.deref-in-For-2.result.now)) (stmt_of c.deref-in-For.result.now) =
+    search (rules, the_lemmas) in
     subst (λ (s : Stmt).
-    OnOk c.lower_for.result (code_of c.lower_for.new.draft ≡ code_of c.args.draft.now ++ stmt c.args.around.now s)) (sym is)
+    OnOk c.lower_for.result (code_of c.lower_for.new.draft ≡ code_of c.args.draft.now
+    ++ stmt c.args.around.now s)) (sym is)
     c.lower_for.ensures.code
 
 pub lower_statement-returns-in-ForEach-clause-around : goal.lower_statement-returns-in-ForEach-clause-around
 lower_statement-returns-in-ForEach-clause-around t c =
     let is : stmt_of c.args.statement.now ≡ tree.ForEach (ty_of c.in-ForEach.t) c.in-ForEach.x (expr_of c.in-ForEach.e)
     (stmt_of c.deref-in-ForEach.result.now) = search (rules, the_lemmas) in
-    subst (λ (s : Stmt). OnOk c.lower_for_each.result (c.lower_for_each.new.around ≡ after c.args.around.now s)) (sym is)
+    subst (λ (s : Stmt). OnOk c.lower_for_each.result (c.lower_for_each.new.around ≡ after c.args.around.now s))
+    (sym is)
     c.lower_for_each.ensures.around
 
 pub lower_statement-returns-in-ForEach-clause-code : goal.lower_statement-returns-in-ForEach-clause-code
@@ -101,7 +116,8 @@ lower_statement-returns-in-ForEach-clause-code t c =
     let is : stmt_of c.args.statement.now ≡ tree.ForEach (ty_of c.in-ForEach.t) c.in-ForEach.x (expr_of c.in-ForEach.e)
     (stmt_of c.deref-in-ForEach.result.now) = search (rules, the_lemmas) in
     subst (λ (s : Stmt).
-    OnOk c.lower_for_each.result (code_of c.lower_for_each.new.draft ≡ code_of c.args.draft.now ++ stmt c.args.around.now s)) (sym is)
+    OnOk c.lower_for_each.result (code_of c.lower_for_each.new.draft ≡ code_of c.args.draft.now ++ stmt
+    c.args.around.now s)) (sym is)
     c.lower_for_each.ensures.code
 
 pub lower_statement-returns-in-Sync-clause-around : goal.lower_statement-returns-in-Sync-clause-around
@@ -116,20 +132,24 @@ lower_statement-returns-in-Sync-clause-code t c =
     let is : stmt_of c.args.statement.now ≡ tree.Sync c.in-Sync.place (expr_of c.in-Sync.e)
     (pack_stmts (map stmt_of c.deref-in-Sync.result.now)) = search (rules, the_lemmas) in
     subst (λ (s : Stmt).
-    OnOk c.lower_sync.result (code_of c.lower_sync.new.draft ≡ code_of c.args.draft.now ++ stmt c.args.around.now s)) (sym is)
+    OnOk c.lower_sync.result (code_of c.lower_sync.new.draft ≡ code_of c.args.draft.now
+    ++ stmt c.args.around.now s)) (sym is)
     c.lower_sync.ensures.code
 
 pub lower_statement-returns-in-Return-clause-around : goal.lower_statement-returns-in-Return-clause-around
 lower_statement-returns-in-Return-clause-around t c =
-    let is : stmt_of c.args.statement.now ≡ tree.Return (option_map expr_of c.in-Return.e) = search (rules, the_lemmas) in
+    let is : stmt_of c.args.statement.now ≡ tree.Return (option_map expr_of c.in-Return.e) =
+    search (rules, the_lemmas) in
     subst (λ (s : Stmt). OnOk c.lower_return.result (c.args.around.now ≡ after c.args.around.now s)) (sym is)
     (on_ok_weaker c.lower_return.result (λ made. refl) c.lower_return.ensures)
 
 pub lower_statement-returns-in-Return-clause-code : goal.lower_statement-returns-in-Return-clause-code
 lower_statement-returns-in-Return-clause-code t c =
-    let is : stmt_of c.args.statement.now ≡ tree.Return (option_map expr_of c.in-Return.e) = search (rules, the_lemmas) in
+    let is : stmt_of c.args.statement.now ≡ tree.Return (option_map expr_of c.in-Return.e) =
+    search (rules, the_lemmas) in
     subst (λ (s : Stmt).
-    OnOk c.lower_return.result (code_of c.lower_return.new.draft ≡ code_of c.args.draft.now ++ stmt c.args.around.now s)) (sym is)
+    OnOk c.lower_return.result (code_of c.lower_return.new.draft ≡ code_of c.args.draft.now
+    ++ stmt c.args.around.now s)) (sym is)
     c.lower_return.ensures
 
 pub lower_statement-returns-in-If-default-default-None-clause-around : goal.lower_statement-returns-in-If-default-default-None-clause-around
@@ -144,7 +164,8 @@ lower_statement-returns-in-If-default-default-None-clause-code t c =
     let is : stmt_of c.args.statement.now ≡ tree.If (expr_of c.in-If-default-default-None.e)
     (stmt_of c.deref-in-If-default-default-None.result.now) = search (rules, the_lemmas) in
     subst (λ (s : Stmt).
-    OnOk c.lower_if.result (code_of c.lower_if.new.draft ≡ code_of c.args.draft.now ++ stmt c.args.around.now s)) (sym is)
+    OnOk c.lower_if.result (code_of c.lower_if.new.draft ≡ code_of c.args.draft.now
+    ++ stmt c.args.around.now s)) (sym is)
     c.lower_if.ensures.code
 
 pub lower_statement-returns-in-If-default-default-Some-clause-around : goal.lower_statement-returns-in-If-default-default-Some-clause-around
@@ -161,7 +182,8 @@ lower_statement-returns-in-If-default-default-Some-clause-code t c =
     (stmt_of c.deref-in-If-default-default-Some.result.now)
     (stmt_of c.deref-in-If-default-default-Some-2.result.now) = search (rules, the_lemmas) in
     subst (λ (s : Stmt).
-    OnOk c.lower_if_else.result (code_of c.lower_if_else.new.draft ≡ code_of c.args.draft.now ++ stmt c.args.around.now s)) (sym is)
+    OnOk c.lower_if_else.result (code_of c.lower_if_else.new.draft ≡ code_of c.args.draft.now ++ stmt
+    c.args.around.now s)) (sym is)
     c.lower_if_else.ensures.code
 
 pub lower_statement-returns-in-Empty-clause-around : goal.lower_statement-returns-in-Empty-clause-around
