@@ -194,29 +194,29 @@ target-parts around (target.Value k) x es =
     (value_call_end around x.place (count_exprs es) m)
 
 pub call-made : (around : Around) (t : Target) (x : Ident) (callee : CodeCallee) (all : List Expression)
-    (kinds : List Kind) (old one second new : Code) →
-    callee_seen callee ≡ target_callee around t x (length all) →
+    (kinds : List Kind) (k : ℕ) (old one second new : Code) →
+    k ≡ length all → callee_seen callee ≡ target_callee around t x k →
     one ≡ old ++ target_front around t (callee_seen callee) → kinds ≡ passed_kinds around (callee_seen callee) →
     second ≡ one ++ passed around kinds (pack_exprs (map expr_of all)) →
-    new ≡ second ++ target_end around t x.place (length all) (callee_seen callee) →
+    new ≡ second ++ target_end around t x.place k (callee_seen callee) →
     new ≡ old ++ target_call around t x (pack_exprs (map expr_of all))
-call-made around t x callee all kinds old one second new is p same q r =
+call-made around t x callee all kinds k old one second new many is p same q r =
     let es = pack_exprs (map expr_of all) in
     let n = count_exprs es in
     let m = target_callee around t x n in
-    let here : callee_seen callee ≡ m = is ∙ ap (target_callee around t x) (counts all) in
+    let here : callee_seen callee ≡ m = is ∙ ap (target_callee around t x) (many ∙ counts all) in
     three old one second new (target_front around t m) (passed around (passed_kinds around m) es)
     (target_end around t x.place n m) (p ∙ ap (λ c. old ++ target_front around t c) here)
     (q ∙ ap (λ ks. one ++ passed around ks es) (same ∙ ap (passed_kinds around) here))
-    (r ∙ ap (λ k. second ++ target_end around t x.place k (callee_seen callee)) (counts all)
+    (r ∙ ap (λ j. second ++ target_end around t x.place j (callee_seen callee)) (many ∙ counts all)
     ∙ ap (λ c. second ++ target_end around t x.place n c) here)
     ∙ ap (λ y. old ++ y) (target-parts around t x es)
 
-pub call-kind : (around : Around) (t : Target) (x : Ident) (callee : CodeCallee) (all : List Expression)
-    (k : ValueKind) → callee_seen callee ≡ target_callee around t x (length all) →
+pub call-kind : (around : Around) (t : Target) (x : Ident) (callee : CodeCallee) (all : List Expression) (n : ℕ)
+    (k : ValueKind) → n ≡ length all → callee_seen callee ≡ target_callee around t x n →
     k ≡ result_kind around (callee_seen callee) → k ≡ target_kind around t x (pack_exprs (map expr_of all))
-call-kind around t x callee all k is kinds =
-    kinds ∙ ap (result_kind around) (is ∙ ap (target_callee around t x) (counts all))
+call-kind around t x callee all n k many is kinds =
+    kinds ∙ ap (result_kind around) (is ∙ ap (target_callee around t x) (many ∙ counts all))
 
 pub on-class : (around : Around) (e : Expr) (x : Ident) (es : Exprs) (c : ClassId) → Some c ≡ class_before around e →
     class_call around c x es ≡ code around (CallOn e x es)

@@ -67,58 +67,43 @@ fn callee_of(around: &Around, m: MethodId) -> Callee
 }
 
 /// The method of a class by its name and its number of arguments, of two the first.
-fn callee_in(around: &Around, c: ClassId, x: &Ident, count: usize) -> Result<Callee, Memory>
-    ensures { IfOk result (λ callee. callee_seen callee ≡ callee_in around.now c x.now.text count) }
+fn callee_in(around: &Around, c: ClassId, x: &Ident, count: u32) -> Callee
+    ensures { callee_seen result ≡ callee_in around.now c x.now.text count }
 {
-    let count = number_of(count)?;
     match around.find(c, x.text.as_str(), count) {
-        Some(m) => Ok(callee_of(around, m)),
-        None => Ok(Callee::Missing),
+        Some(m) => callee_of(around, m),
+        None => Callee::Missing,
     }
 }
 
 /// The callee of f(..).
-fn own_callee(around: &Around, x: &Ident, count: usize) -> Result<Callee, Memory>
-    ensures { IfOk result (λ callee. callee_seen callee ≡ own_callee around.now x.now count) }
+fn own_callee(around: &Around, x: &Ident, count: u32) -> Callee
+    ensures { callee_seen result ≡ own_callee around.now x.now count }
 {
-    let callee = callee_in(around, around.class(), x, count)?;
+    let callee = callee_in(around, around.class(), x, count);
     if around.is_static() {
-        return Ok(callee.if_static());
+        return callee.if_static();
     }
-    Ok(callee)
-}
-
-/// The callee of C.f(..).
-fn callee_of_class(around: &Around, c: ClassId, x: &Ident, count: usize) -> Result<Callee, Memory>
-    ensures { IfOk result (λ callee. callee_seen callee ≡ if_static (callee_in around.now c x.now.text count)) }
-{
-    let callee = callee_in(around, c, x, count)?;
-    Ok(callee.if_static())
+    callee
 }
 
 /// The callee of e.f(..), where e has this kind.
-fn callee_of_value(
-    around: &Around,
-    kind: ValueKind,
-    x: &Ident,
-    count: usize,
-) -> Result<Callee, Memory>
-    ensures { IfOk result (λ callee. callee_seen callee
-        ≡ callee_of_value around.now (value_kind kind) x.now count) }
+fn callee_of_value(around: &Around, kind: ValueKind, x: &Ident, count: u32) -> Callee
+    ensures { callee_seen result ≡ callee_of_value around.now (value_kind kind) x.now count }
 {
-    let ValueKind::Of(Kind::Declared(c)) = kind else {
-        return Ok(Callee::Missing);
-    };
-    callee_in(around, c, x, count)
+    match kind {
+        ValueKind::Of(Kind::Declared(c)) => callee_in(around, c, x, count),
+        _ => Callee::Missing,
+    }
 }
 
-/// The callee, where this stands before the name.
-pub fn callee_on(around: &Around, target: Target, x: &Ident, count: usize) -> Result<Callee, Memory>
-    ensures { IfOk result (λ callee. callee_seen callee ≡ target_callee around.now target x.now count) }
+/// The callee with so many arguments, where this stands before the name.
+pub fn callee_on(around: &Around, target: Target, x: &Ident, count: u32) -> Callee
+    ensures { callee_seen result ≡ target_callee around.now target x.now count }
 {
     match target {
         Target::Own => own_callee(around, x, count),
-        Target::Class(c) => callee_of_class(around, c, x, count),
+        Target::Class(c) => callee_in(around, c, x, count).if_static(),
         Target::Value(kind) => callee_of_value(around, kind, x, count),
     }
 }
@@ -245,7 +230,7 @@ pub fn finish_call(
     around: &Around,
     target: Target,
     place: Place,
-    count: usize,
+    count: u32,
     callee: Callee,
     draft: &mut Draft,
 ) -> Result<ValueKind, Memory>
@@ -253,7 +238,7 @@ pub fn finish_call(
         ++ target_end around.now target place count (callee_seen callee)) }
     ensures kind { IfOk result (λ k. value_kind k ≡ result_kind around.now (callee_seen callee)) }
 {
-    end_on(around, target, place, number_of(count)?, callee, draft)?;
+    end_on(around, target, place, count, callee, draft)?;
     Ok(result_kind(around, callee))
 }
 

@@ -16,6 +16,7 @@ use crate::calls::{
 use crate::draft::Draft;
 use crate::expressions::lower_expression;
 use crate::names::class_before;
+use crate::numbers::number_of;
 use crate::value_kind::ValueKind;
 use java_tree::{Expression, Ident, TypeTree};
 use racer_base::{Kind, Memory, Place};
@@ -72,7 +73,8 @@ pub fn lower_call(
     ensures kind { IfOk result (λ k. value_kind k
         ≡ target_kind around.now target x.now (pack_exprs (map expr_of arguments.now))) }
 {
-    let callee = callee_on(around, target, x, arguments.len())?;
+    let count = number_of(arguments.len())?;
+    let callee = callee_on(around, target, x, count);
     begin_call(around, target, callee, draft)?;
     lower_arguments(
         alloc,
@@ -81,7 +83,7 @@ pub fn lower_call(
         passed_kinds(around, callee),
         draft,
     )?;
-    finish_call(around, target, x.place, arguments.len(), callee, draft)
+    finish_call(around, target, x.place, count, callee, draft)
 }
 
 /// e.f(..)

@@ -90,12 +90,11 @@ length_taken : {A : Type 0} (xs : List A) (i : ℕ) → i < length xs → length
 length_taken xs i within = let is : length (take i xs) ≡ min i (length xs) = length-take i xs in omega arith
 
 -- the next element, whose number is added where it belongs
-pub finds_next : {A : Type 0} (belongs : List ℕ → Key → A → Bool) (old new : Named) (xs : List A) (i : ℕ) (x : A)
-    (number : ℕ) → i < length xs → x ≡ get_or xs i x → number ≡ i →
-    FindsFirsts belongs old (take i xs) → AddsElement belongs old new x number →
+pub finds_next : {A : Type 0} (belongs : List ℕ → Key → A → Bool) (old new : Named) (xs : List A) (i : ℕ) (x : A) →
+    i < length xs → x ≡ get_or xs i x → FindsFirsts belongs old (take i xs) → AddsElement belongs old new x i →
     FindsFirsts belongs new (take (i + 1) xs)
-finds_next belongs old new xs i x number within is here finds adds =
-    let size : number ≡ length (take i xs) = here ∙ sym (length_taken xs i within) in
+finds_next belongs old new xs i x within is finds adds =
+    let size : i ≡ length (take i xs) = sym (length_taken xs i within) in
     subst (FindsFirsts belongs new)
     (ap (λ y. take i xs ++ y ∷ []) is ∙ sym (take_more xs i x within))
     (λ name key.

@@ -6,3 +6,5 @@ mod PartKinds
 mod Variables
 mod ByClass
 mod Loops
+mod Searches
+mod Behind

@@ -8,7 +8,7 @@ ghost use Rattle.java_resolver.specs.Faults.{IsFault};
 
 use crate::fault::ResolveFault;
 use crate::infos::ClassInfo;
-use crate::numbers::{Key, Named, add_number, no_numbers, number_at, number_of};
+use crate::numbers::{Key, Named, add_number, no_numbers, number_at};
 use crate::words::is_checked;
 use java_units::{ClassTree, Unit};
 use racer_base::{ClassId, Memory};
@@ -50,7 +50,7 @@ fn class_numbers(alloc: Global, classes: &[ClassInfo]) -> Result<Named, ResolveF
             let first_place = classes[first as usize].place;
             return Err(ResolveFault::DuplicateClass(class.place, first_place));
         }
-        add_number(alloc, &mut numbers, name, CLASSES, number_of(index)?)?;
+        add_number(alloc, &mut numbers, name, CLASSES, index)?;
     }
     Ok(numbers)
 }

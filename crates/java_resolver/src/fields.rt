@@ -54,19 +54,19 @@ fn field_numbers(alloc: Global, fields: &[FieldInfo]) -> Result<Named, ResolveFa
             let first_place = fields[first as usize].place;
             return Err(ResolveFault::DuplicateField(field.place, first_place));
         }
-        add_number(alloc, &mut numbers, name, key, number_of(index)?)?;
+        add_number(alloc, &mut numbers, name, key, index)?;
     }
     Ok(numbers)
 }
 
-/// Adds the number of a field where it is static.
+/// Adds the number of the field at this index where it is static.
 fn add_static(
     alloc: Global,
     numbers: &mut Named,
     field: &FieldInfo,
-    number: u32,
+    index: usize,
 ) -> Result<(), Memory>
-    ensures { OnOk result (AddsElement (field_at true) numbers.old numbers.new field.now number) }
+    ensures { OnOk result (AddsElement (field_at true) numbers.old numbers.new field.now index) }
 {
     if field.is_static {
         return add_number(
@@ -74,7 +74,7 @@ fn add_static(
             numbers,
             field.name.as_str(),
             (0, field.class.0),
-            number,
+            index,
         );
     }
     Ok(())
@@ -86,7 +86,7 @@ fn static_numbers(alloc: Global, fields: &[FieldInfo]) -> Result<Named, Memory>
 {
     let mut numbers = no_numbers(alloc);
     for (index, field) in fields.iter().enumerate() {
-        add_static(alloc, &mut numbers, field, number_of(index)?)?;
+        add_static(alloc, &mut numbers, field, index)?;
     }
     Ok(numbers)
 }

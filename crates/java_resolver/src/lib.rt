@@ -18,5 +18,7 @@ mod words;
 
 pub use fault::ResolveFault;
 pub use infos::{ClassInfo, FieldInfo, MethodInfo};
+pub use methods::any_is_constructor;
 pub use scope::{Meaning, Scope, ScopeVariable};
 pub use table::{Table, resolve};
+pub use words::has_word;

@@ -50,13 +50,7 @@ fn method_numbers(alloc: Global, methods: &[MethodInfo]) -> Result<Named, Memory
     for (index, method) in methods.iter().enumerate() {
         let count = number_of(method.parameters.len())?;
         let key = (method.class.0, count);
-        add_number(
-            alloc,
-            &mut numbers,
-            method.name.as_str(),
-            key,
-            number_of(index)?,
-        )?;
+        add_number(alloc, &mut numbers, method.name.as_str(), key, index)?;
     }
     Ok(numbers)
 }
@@ -227,7 +221,7 @@ fn member_is_constructor(member: &Member) -> bool
 }
 
 /// Whether one of the members is a constructor.
-fn any_is_constructor(members: &[Member]) -> bool
+pub fn any_is_constructor(members: &[Member]) -> bool
     ensures { result ≡ list_any member_is_constructor members.now }
 {
     for member in members {

@@ -37,31 +37,31 @@ pub fn number_at(numbers: &Named, name: &str, key: Key) -> Option<u32>
     keyed.get(&key).copied()
 }
 
-/// Puts a number at a key, unless there is one.
-fn add_keyed(keyed: &mut BTreeMap<Key, u32>, key: Key, number: u32) -> Result<(), Memory>
-    ensures { OnOk result (AddsKeyed keyed.old keyed.new key number) }
+/// Puts the number of the element at this index at a key, unless there is one.
+fn add_keyed(keyed: &mut BTreeMap<Key, u32>, key: Key, index: usize) -> Result<(), Memory>
+    ensures { OnOk result (AddsKeyed keyed.old keyed.new key index) }
 {
     if keyed.get(&key).is_none() {
-        keyed.insert(key, number)?;
+        keyed.insert(key, number_of(index)?)?;
     }
     Ok(())
 }
 
-/// Puts a number at a name and a key, unless there is one.
+/// Puts the number of the element at this index at a name and a key, unless there is one.
 pub fn add_number(
     alloc: Global,
     numbers: &mut Named,
     name: &str,
     key: Key,
-    number: u32,
+    index: usize,
 ) -> Result<(), Memory>
-    ensures { OnOk result (AddsNumber numbers.old numbers.new name.now key number) }
+    ensures { OnOk result (AddsNumber numbers.old numbers.new name.now key index) }
 {
     if let Some(keyed) = numbers.get_mut(name) {
-        return add_keyed(keyed, key, number);
+        return add_keyed(keyed, key, index);
     }
     let mut keyed = BTreeMap::new(alloc);
-    add_keyed(&mut keyed, key, number)?;
+    add_keyed(&mut keyed, key, index)?;
     numbers.insert(String::from_str(alloc, name)?, keyed)?;
     Ok(())
 }

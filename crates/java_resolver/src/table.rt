@@ -123,10 +123,11 @@ pub fn resolve(alloc: Global, units: &[Unit]) -> Result<Table, ResolveFault>
     ensures ok { IfOk result (λ _. refusal units.now ≡ None) }
     ensures err { IfErr result (IsFault (refusal units.now)) }
 {
-    let trees = class_trees(alloc, units)?;
-    let classes = classes_of(alloc, trees.as_slice())?;
-    let fields = fields_of(alloc, &classes, trees.as_slice())?;
-    let methods = methods_of(alloc, &classes, trees.as_slice())?;
+    let gathered = class_trees(alloc, units)?;
+    let trees = gathered.as_slice();
+    let classes = classes_of(alloc, trees)?;
+    let fields = fields_of(alloc, &classes, trees)?;
+    let methods = methods_of(alloc, &classes, trees)?;
     Ok(Table {
         classes,
         fields,

@@ -3,3 +3,4 @@ pub mod Pieces
 pub mod Composed
 pub mod Ends
 pub mod FieldsBegun
+pub mod Choices

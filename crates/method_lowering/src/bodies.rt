@@ -17,10 +17,9 @@ use crate::fields::begin_members;
 use crate::returns::lower_return_nothing;
 use crate::sources::{Body, Source};
 use crate::statements::lower_block;
-use crate::words::has_word;
 use core_code::{Code, Reason};
 use expression_lowering::{Around, Draft, Given};
-use java_resolver::{MethodInfo, Table};
+use java_resolver::{MethodInfo, Table, has_word};
 use java_tree::{MethodTree, ParameterTree, ResultTree};
 use java_units::Member;
 use racer_base::{Items, Kind, Memory};
@@ -244,15 +243,6 @@ fn lower_spelled(
     })
 }
 
-fn push_kinds(kinds: &mut Items<Kind>, more: &[Kind]) -> Result<(), Memory>
-    ensures { OnOk result (kinds.new ≡ kinds.old ++ more.now) }
-{
-    for kind in more {
-        kinds.push(*kind)?;
-    }
-    Ok(())
-}
-
 /// A method that no tree spells has no code.
 fn lower_unspelled(
     alloc: Global,
@@ -265,11 +255,12 @@ fn lower_unspelled(
     ensures kinds { IfOk result (λ lowered. lowered.kinds ≡ kinds_in
         (entered (folder_of table.now statuses.now) (source_of source.now)) (source_of source.now) Unspelled) }
 {
-    let mut kinds = enter(alloc, table, statuses, source)?.into_kinds();
-    push_kinds(&mut kinds, source.info.parameters.as_slice())?;
+    let entered = enter(alloc, table, statuses, source)?;
+    let mut kinds = entered.into_kinds().into_vec();
+    kinds.extend_from_slice(source.info.parameters.as_slice())?;
     Ok(Lowered {
         code: Draft::new(alloc).into_code(),
-        kinds,
+        kinds: Items::from(kinds),
     })
 }
 

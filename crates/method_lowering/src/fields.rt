@@ -6,9 +6,9 @@ ghost use Rattle.java_lowering.specs.Methods.{field_begun, member_begun, unread}
 ghost use Rattle.expression_lowering.specs.Drafts.{code_of};
 ghost use Rattle.expression_lowering.specs.Views.{value_kind};
 
-use crate::words::has_word;
 use core_code::Op;
 use expression_lowering::{Around, Draft, ValueKind, assign, lower_initialiser, named};
+use java_resolver::has_word;
 use java_tree::{FieldInitialiser, FieldVariable, Ident, Initialiser};
 use java_units::Member;
 use racer_base::{Kind, Memory};

@@ -13,7 +13,6 @@ mod parts;
 mod returns;
 mod sources;
 mod statements;
-mod words;
 
 pub use bodies::{Lowered, lower_method};
 pub use sources::{Body, Source};

@@ -1,5 +1,5 @@
 //! The calls of methods, in reading order.
-ghost use Rattle.std.specs.Prelude.{◌≡◌, ◌++◌, OnOk, IfOk, map, option_to_list};
+ghost use Rattle.std.specs.Prelude.{◌≡◌, ◌++◌, OnOk, IfOk, map};
 ghost use Rattle.core_code.specs.Tree.{tree_of, in_sequence};
 ghost use Rattle.core_code.specs.Gathered.{callees_of_op, callees_of};
 ghost use Rattle.expression_lowering.specs.Views.{folder_of};
@@ -12,25 +12,16 @@ use method_lowering::{Source, lower_method};
 use racer_base::{Items, Memory, MethodId};
 use std::alloc::Global;
 
-/// The method that an operation calls: also one that is not analysed, where all are asked for.
-fn callee(op: Op, all: bool) -> Option<MethodId>
-    ensures { option_to_list result ≡ callees_of_op all op }
-{
-    match op {
-        Op::Call(m, _) => Some(m),
-        Op::Unread(m, _) if all => Some(m),
-        _ => None,
-    }
-}
-
-/// Puts the method that an operation calls behind those that there are.
+/// Puts the method that an operation calls behind those that there are: also one that is not analysed, where all are
+/// asked for.
 fn push_callee(op: Op, all: bool, callees: &mut Items<MethodId>) -> Result<(), Memory>
     ensures { OnOk result (callees.new ≡ callees.old ++ callees_of_op all op) }
 {
-    if let Some(m) = callee(op, all) {
-        callees.push(m)?;
+    match op {
+        Op::Call(m, _) => callees.push(m),
+        Op::Unread(m, _) if all => callees.push(m),
+        _ => Ok(()),
     }
-    Ok(())
 }
 
 /// Puts the methods that code calls behind those that there are.

@@ -43,21 +43,11 @@ fn push_classes(classes: &[ClassTree], places: &mut Vec<Place>) -> Result<(), Me
     Ok(())
 }
 
-/// Places, put behind those that there are.
-fn push_places(more: &[Place], places: &mut Vec<Place>) -> Result<(), Memory>
-    ensures { OnOk result (places.new.items ≡ places.old.items ++ more.now) }
-{
-    for place in more {
-        places.push(*place)?;
-    }
-    Ok(())
-}
-
 /// The places of types and members of a unit that are not read.
 fn push_unit(unit: &Unit, places: &mut Vec<Place>) -> Result<(), Memory>
     ensures { OnOk result (places.new.items ≡ places.old.items ++ skipped_in unit.now) }
 {
-    push_places(unit.skipped.as_slice(), places)?;
+    places.extend_from_slice(unit.skipped.as_slice())?;
     push_classes(unit.classes.as_slice(), places)
 }
 

@@ -1,14 +1,12 @@
 //! What methods are made of, in source order.
 ghost use Rattle.std.specs.Prelude.{◌≡◌, ◌++◌, ◌∷◌, [], IfOk, OnOk, map};
-ghost use Rattle.std.specs.List.{flat_map, list_any};
-ghost use Rattle.java_resolver.specs.Declarations.{member_is_constructor};
+ghost use Rattle.std.specs.List.{flat_map};
 ghost use Rattle.method_lowering.specs.Sources.{source_of};
 ghost use Rattle.program_lowering.specs.Parts as wanted;
 ghost use Rattle.program_lowering.specs.Parts.{part_of};
 
-use java_resolver::MethodInfo;
-use java_tree::ResultTree;
-use java_units::{ClassTree, HeadResult, Member, Unit};
+use java_resolver::{MethodInfo, any_is_constructor};
+use java_units::{ClassTree, Member, Unit};
 use method_lowering::{Body, Source};
 use racer_base::Memory;
 use std::alloc::Global;
@@ -18,30 +16,6 @@ use std::alloc::Global;
 pub(crate) struct Part<'a> {
     pub members: &'a [Member],
     pub body: Body<'a>,
-}
-
-/// Whether a member is a constructor.
-fn is_constructor(member: &Member) -> bool
-    ensures { result ≡ member_is_constructor member.now }
-{
-    match member {
-        Member::Method(m) => matches!(m.result, ResultTree::Constructor),
-        Member::Outside(h) => matches!(h.result, HeadResult::Constructor),
-        Member::Field(_) => false,
-        Member::Skipped(_) => false,
-    }
-}
-
-/// Whether one of these members is a constructor.
-fn has_constructor(members: &[Member]) -> bool
-    ensures { result ≡ list_any member_is_constructor members.now }
-{
-    for member in members {
-        if is_constructor(member) {
-            return true;
-        }
-    }
-    false
 }
 
 /// A body, put behind those that there are.
@@ -90,7 +64,7 @@ fn push_default<'a>(members: &'a [Member], parts: &mut Vec<Part<'a>>) -> Result<
     ensures { OnOk result (map part_of parts.new.items ≡
         map part_of parts.old.items ++ wanted.default_parts members.now) }
 {
-    if has_constructor(members) {
+    if any_is_constructor(members) {
         return Ok(());
     }
     push_part(members, Body::Default, parts)

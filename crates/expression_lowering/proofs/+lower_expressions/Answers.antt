@@ -7,12 +7,12 @@ use Rattle.java_tree.specs.View as view
 use Rattle.java_tree.specs.View.{ty_of}
 use Rattle.java_resolver.specs.Meanings.{field_named}
 use Rattle.core_code.specs.declared.code.Op.TheVariants.{Prim}
-use Rattle.java_lowering.specs.Trees.{Selected, CallOn, pack_exprs}
+use Rattle.java_lowering.specs.Trees.{Selected, CallOn, Conditional, pack_exprs}
 use Rattle.java_lowering.specs.TreesOf.{access_of, expr_of, is_assignment, assignment, is_logical, binary}
 use Rattle.java_lowering.specs.TreesOf.{is_count, prefix}
-use Rattle.java_lowering.specs.ValueKinds.{Of}
-use Rattle.java_lowering.specs.Around.{op}
-use Rattle.java_lowering.specs.Expressions.{code, kind, storage, access_kind}
+use Rattle.java_lowering.specs.ValueKinds.{Of, common_kind}
+use Rattle.java_lowering.specs.Around.{op, type_kind}
+use Rattle.java_lowering.specs.Expressions.{code, kind, cast, storage, access_kind}
 use Rattle.java_lowering.specs.Assignments.{of_class, of_value}
 use Rattle.java_lowering.specs.Calls.{result_kind}
 use Rattle.expression_lowering.specs.declared.calls.Target.TheVariants as target
@@ -46,6 +46,42 @@ expressions::lower_read-returns-clause-kind t c =
     (λ k. value_kind k ≡ access_kind around access)
     (λ k. kind-made around access c.in_ok-storage.storage (value_kind k) c.in_ok-storage.ensures.storage)
     c.read.ensures.kind
+
+pub expressions::lower_conditional-returns-clause-kind : goal.expressions::lower_conditional-returns-clause-kind
+expressions::lower_conditional-returns-clause-kind t c =
+    let around = c.args.around.now in
+    let a = expr_of c.args.a.now in
+    let b = expr_of c.args.b.now in
+    let second = value_kind c.in_ok-second.second in
+    IfOk-weaker c.end_conditional.result
+    (λ k. value_kind k ≡ common_kind (value_kind c.in_ok-first.first) second)
+    (λ k. value_kind k ≡ kind around (Conditional (expr_of c.args.c.now) a b))
+    (λ k is. is ∙ ap (λ g. common_kind g second) c.in_ok-first.ensures.kind
+    ∙ ap (λ g. common_kind (kind around a) g) c.in_ok-second.ensures.kind)
+    c.end_conditional.ensures.kind
+
+pub expressions::lower_element-returns-clause-code : goal.expressions::lower_element-returns-clause-code
+expressions::lower_element-returns-clause-code t c =
+    let around = c.args.around.now in
+    two (code_of c.args.draft.now) (code_of c.lower_expression.new.draft) (code_of c.lower_expression-2.new.draft)
+    (code around (expr_of c.args.a.now)) (code around (expr_of c.args.i.now)) c.in_ok-lower_expression.ensures.code
+    c.in_ok-lower_expression-2.ensures.code
+
+pub expressions::lower_cast-returns-clause-code : goal.expressions::lower_cast-returns-clause-code
+expressions::lower_cast-returns-clause-code t c =
+    let around = c.args.around.now in
+    let one = code_of c.lower_expression.new.draft in
+    on_ok_weaker c.cast.result
+    (λ made. two (code_of c.args.draft.now) one (code_of c.cast.new.draft) (code around (expr_of c.args.a.now))
+    (cast around (type_kind around (ty_of c.args.t.now))) c.in_ok-lower_expression.ensures.code
+    (made ∙ ap (λ k. one ++ cast around k) c.type_kind.ensures))
+    c.cast.ensures.code
+
+pub expressions::lower_cast-returns-clause-kind : goal.expressions::lower_cast-returns-clause-kind
+expressions::lower_cast-returns-clause-kind t c =
+    IfOk-weaker c.cast.result (λ k. value_kind k ≡ Of c.type_kind.result)
+    (λ k. value_kind k ≡ Of (type_kind c.args.around.now (ty_of c.args.t.now)))
+    (λ k is. is ∙ ap Of c.type_kind.ensures) c.cast.ensures.kind
 
 pub expressions::lower_conditional-returns-clause-code : goal.expressions::lower_conditional-returns-clause-code
 expressions::lower_conditional-returns-clause-code t c =
@@ -240,20 +276,20 @@ expressions::lower_array-returns-clause-code t c =
 pub invocations::lower_call-returns-clause-code : goal.invocations::lower_call-returns-clause-code
 invocations::lower_call-returns-clause-code t c =
     on_ok_weaker c.finish_call.result
-    (call-made c.args.around.now c.args.target c.args.x.now c.in_ok-callee.callee c.args.arguments.now
-    c.passed_kinds.result.now (code_of c.args.draft.now) (code_of c.begin_call.new.draft)
-    (code_of c.lower_arguments.new.draft) (code_of c.finish_call.new.draft) c.in_ok-callee.ensures
-    c.in_ok-begin_call.ensures c.passed_kinds.ensures c.in_ok-lower_arguments.ensures)
+    (call-made c.args.around.now c.args.target c.args.x.now c.callee_on-callee.result c.args.arguments.now
+    c.passed_kinds.result.now c.in_ok-count.count (code_of c.args.draft.now) (code_of c.begin_call.new.draft)
+    (code_of c.lower_arguments.new.draft) (code_of c.finish_call.new.draft) c.in_ok-count.ensures
+    c.callee_on-callee.ensures c.in_ok-begin_call.ensures c.passed_kinds.ensures c.in_ok-lower_arguments.ensures)
     c.finish_call.ensures.code
 
 pub invocations::lower_call-returns-clause-kind : goal.invocations::lower_call-returns-clause-kind
 invocations::lower_call-returns-clause-kind t c =
     let around = c.args.around.now in
     let es = pack_exprs (map expr_of c.args.arguments.now) in
-    IfOk-weaker c.finish_call.result (λ k. value_kind k ≡ result_kind around (callee_seen c.in_ok-callee.callee))
+    IfOk-weaker c.finish_call.result (λ k. value_kind k ≡ result_kind around (callee_seen c.callee_on-callee.result))
     (λ k. value_kind k ≡ target_kind around c.args.target c.args.x.now es)
-    (λ k. call-kind around c.args.target c.args.x.now c.in_ok-callee.callee c.args.arguments.now (value_kind k)
-    c.in_ok-callee.ensures)
+    (λ k. call-kind around c.args.target c.args.x.now c.callee_on-callee.result c.args.arguments.now
+    c.in_ok-count.count (value_kind k) c.in_ok-count.ensures c.callee_on-callee.ensures)
     c.finish_call.ensures.kind
 
 pub invocations::lower_call_on-returns-in-Some-clause-code : goal.invocations::lower_call_on-returns-in-Some-clause-code

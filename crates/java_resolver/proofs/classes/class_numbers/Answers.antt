@@ -43,10 +43,9 @@ loop-index-preserved c =
     let name = c.as_str-name.result.now in
     record {
       finds =
-          finds_next class_at c.loop-index.numbers c.add_number.new.numbers classes index class
-          c.in_ok-number_of.field-0 c.loop-index-test.true c.index-classes-index.is c.in_ok-number_of.ensures
-          c.loop-index.invariant.finds
-          (element_added class_at c.loop-index.numbers c.add_number.new.numbers class c.in_ok-number_of.field-0 name
+          finds_next class_at c.loop-index.numbers c.add_number.new.numbers classes index class c.loop-index-test.true
+          c.index-classes-index.is c.loop-index.invariant.finds
+          (element_added class_at c.loop-index.numbers c.add_number.new.numbers class index name
           class.name (0, 0) c.as_str-name.ensures (λ other k. refl) c.in_ok-add_number.ensures);
       goes_on =
           sym (repeat_passed same_class classes index class c.loop-index-test.true c.index-classes-index.is

@@ -12,7 +12,7 @@ returns-then-field c =
     let key : Key = (0, field.class.0) in
     on_ok_weaker c.add_number.result
     (λ adds.
-    element_added (field_at true) c.args.numbers.now c.add_number.new.numbers field c.args.number c.as_str.result.now
+    element_added (field_at true) c.args.numbers.now c.add_number.new.numbers field c.args.index c.as_str.result.now
     field.name key c.as_str.ensures
     (λ other k. ap (λ (b : Bool). b && (key_eq key k && bytes_eq field.name other)) (sym c.if-field.true))
     adds)
@@ -21,6 +21,6 @@ returns-then-field c =
 pub returns : goal.returns
 returns c =
     let field = c.args.field.now in
-    nothing_added (field_at true) c.args.numbers.now field c.args.number
+    nothing_added (field_at true) c.args.numbers.now field c.args.index
     (λ name key.
     ap (λ (b : Bool). b && (key_eq (0, field.class.0) key && bytes_eq field.name name)) (sym c.if-field.false))

@@ -47,12 +47,11 @@ loop-index-preserved c =
     let index = c.loop-index.index in
     let field : FieldInfo = c.index-fields-index.result in
     let name = c.as_str-name.result.now in
-    let number = c.in_ok-number_of.field-0 in
     record {
       finds =
-          finds_next (field_at false) c.loop-index.numbers c.add_number.new.numbers fields index field number
-          c.loop-index-test.true c.index-fields-index.is c.in_ok-number_of.ensures c.loop-index.invariant.finds
-          (element_added (field_at false) c.loop-index.numbers c.add_number.new.numbers field number name field.name
+          finds_next (field_at false) c.loop-index.numbers c.add_number.new.numbers fields index field
+          c.loop-index-test.true c.index-fields-index.is c.loop-index.invariant.finds
+          (element_added (field_at false) c.loop-index.numbers c.add_number.new.numbers field index name field.name
           (0, field.class.0) c.as_str-name.ensures (λ other k. refl) c.in_ok-add_number.ensures);
       goes_on =
           sym (repeat_passed same_field fields index field c.loop-index-test.true c.index-fields-index.is

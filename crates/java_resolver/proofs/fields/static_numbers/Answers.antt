@@ -6,5 +6,5 @@ use Rattle.java_resolver.proofs.fields.static_numbers.Goals as goal
 pub loop-index-preserved : goal.loop-index-preserved
 loop-index-preserved c =
     finds_next (field_at true) c.loop-index.numbers c.add_static.new.numbers c.args.fields.now c.loop-index.index
-    c.index-fields-index.result c.in_ok-number_of.field-0 c.loop-index-test.true c.index-fields-index.is
-    c.in_ok-number_of.ensures c.loop-index.invariant c.in_ok-add_static.ensures
+    c.index-fields-index.result c.loop-index-test.true c.index-fields-index.is
+    c.loop-index.invariant c.in_ok-add_static.ensures

@@ -9,10 +9,10 @@ use Rattle.java_resolver.proofs.methods.method_numbers.Goals as goal
 pub loop-index-preserved : goal.loop-index-preserved
 loop-index-preserved c =
     let method : MethodInfo = c.index-methods-index.result in
-    let number = c.in_ok-number_of.field-0 in
-    finds_next method_at c.loop-index.numbers c.add_number.new.numbers c.args.methods.now c.loop-index.index method
-    number c.loop-index-test.true c.index-methods-index.is c.in_ok-number_of.ensures c.loop-index.invariant
-    (element_added method_at c.loop-index.numbers c.add_number.new.numbers method number c.as_str.result.now
+    let index = c.loop-index.index in
+    finds_next method_at c.loop-index.numbers c.add_number.new.numbers c.args.methods.now index method
+    c.loop-index-test.true c.index-methods-index.is c.loop-index.invariant
+    (element_added method_at c.loop-index.numbers c.add_number.new.numbers method index c.as_str.result.now
     method.name (method.class.0, c.in_ok-count.count) c.as_str.ensures
     (λ other k.
     ap (λ (n : ℕ). key_eq (method.class.0, n) k && bytes_eq method.name other)

@@ -10,3 +10,6 @@ returns-clause-code c =
     spelled-code (folder_of c.args.table.now c.args.statuses.now) (source_of c.args.source.now) c.args.m.now
     c.in_ok-around.around (code_of c.lower_tree.new.draft) (tree_of c.into_code.result) c.in_ok-around.ensures
     c.in_ok-lower_tree.ensures.code c.into_code.ensures
+
+pub lower_tree-requires-clause-entered : goal.lower_tree-requires-clause-entered
+lower_tree-requires-clause-entered c = c.in_ok-around.ensures

@@ -1,9 +1,10 @@
 use Rattle.std.proofs.Common.{◌≡◌, ◌++◌, sym, ap, ◌∙◌, rules}
 use Rattle.std.proofs.lemmas.Result.{on_ok_weaker}
 use Rattle.java_lowering.specs.TreesOf.{expr_of}
-use Rattle.java_lowering.specs.Around.{Value, converted}
+use Rattle.java_lowering.specs.Around.{Itself, Nothing, Value, converted, op, push_this}
 use Rattle.java_lowering.specs.Expressions.{code, kind}
-use Rattle.java_lowering.specs.Statements.{returned_value}
+use Rattle.java_lowering.specs.Statements.{run, returned_value}
+use Rattle.core_code.specs.declared.code.Op.TheVariants.{PushPrim}
 use Rattle.expression_lowering.specs.Drafts.{code_of}
 use Rattle.expression_lowering.specs.Views.{given_of}
 use Rattle.method_lowering.proofs.Pieces.{two_pieces}
@@ -22,3 +23,27 @@ returns-in_ok-value-in-Value c =
     c.in_ok-value-in-Value.ensures.code (made ∙ ap (λ g. one ++ converted around k g) c.in_ok-value-in-Value.ensures.kind)
     ∙ ap (λ g. old ++ returned_value around g e) (sym is))
     c.convert.ensures
+
+pub returns-in_ok-lower_run-in-Itself : goal.returns-in_ok-lower_run-in-Itself
+returns-in_ok-lower_run-in-Itself c =
+    let around = c.args.around.now in
+    let e = expr_of c.args.e.now in
+    let old = code_of c.args.draft.now in
+    let is : given_of c.args.given ≡ Itself = search rules in
+    on_ok_weaker c.push_this.result
+    (λ made. two_pieces old (code_of c.lower_run.new.draft) (code_of c.push_this.new.draft) (run around e)
+    (push_this around) c.in_ok-lower_run-in-Itself.ensures made
+    ∙ ap (λ g. old ++ returned_value around g e) (sym is))
+    c.push_this.ensures
+
+pub returns-in_ok-lower_run-in-Nothing : goal.returns-in_ok-lower_run-in-Nothing
+returns-in_ok-lower_run-in-Nothing c =
+    let around = c.args.around.now in
+    let e = expr_of c.args.e.now in
+    let old = code_of c.args.draft.now in
+    let is : given_of c.args.given ≡ Nothing = search rules in
+    on_ok_weaker c.op.result
+    (λ made. two_pieces old (code_of c.lower_run-in-Nothing.new.draft) (code_of c.op.new.draft) (run around e)
+    (op around PushPrim) c.in_ok-lower_run-in-Nothing.ensures made
+    ∙ ap (λ g. old ++ returned_value around g e) (sym is))
+    c.op.ensures

@@ -1,4 +1,4 @@
-use Rattle.std.proofs.Common.{◌≡◌, ℕ, true, List, String, Global, map, ap, subst, sym, string_bytes}
+use Rattle.std.proofs.Common.{◌≡◌, ℕ, true, List, String, Global, map, ap, subst, sym, string_bytes, ◌∙◌}
 use Rattle.call_graph.specs.Chains.{flag_of}
 use Rattle.core_code.specs.Core.{Core, core_of, method_of}
 use Rattle.core_code.specs.Facts.{are_numbers_in_range, are_entries_analysed, are_sites_in_order, are_stacks_enough}
@@ -84,3 +84,6 @@ of-requires-clause-methods_differ c =
 pub of-requires-clause-ranks_there : goal.of-requires-clause-ranks_there
 of-requires-clause-ranks_there c =
     c.in_ok-check_ranks.ensures (core_of c.in_ok-parts.parts) (ap (map method_of) (sym c.as_slice.ensures))
+
+pub returns : goal.returns
+returns c = c.of.ensures ∙ c.in_ok-parts.ensures

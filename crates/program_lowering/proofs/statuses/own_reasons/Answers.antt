@@ -1,6 +1,7 @@
+use Rattle.std.proofs.Common.{map, refl}
 use Rattle.java_resolver.specs.Table.{methods}
 use Rattle.program_lowering.specs.Reasons.{reason_of}
-use Rattle.program_lowering.proofs.Loops.{map-step}
+use Rattle.program_lowering.proofs.Loops.{map-step, ended}
 use Rattle.program_lowering.proofs.statuses.own_reasons.Goals as goal
 
 pub loop-source-preserved : goal.loop-source-preserved
@@ -9,3 +10,8 @@ loop-source-preserved c =
     c.loop-source.reasons.items _ _ _ c.loop-source-test.true c.source-item.is
     c.in_ok-push.ensures.items c.in_ok-own_reason.ensures
     c.loop-source.invariant
+
+pub returns : goal.returns
+returns c =
+    ended (map (reason_of (methods c.args.table.now))) c.args.sources.now c.loop-source.source-index
+    c.loop-source.reasons.items _ refl c.loop-source-test.false c.loop-source.invariant
