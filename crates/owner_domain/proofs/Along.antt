@@ -66,3 +66,7 @@ along-many root own (f ∷ fields) some many = along-long root own fields f many
 pub not_none : (n : ℕ) → false ≡ (n == 0) → 0 < n
 not_none zero e = cc
 not_none (suc n) e = omega arith
+
+pub along-none : (v : Value) (fields : List FieldId) → true ≡ (length fields == 0) → v ≡ along v fields
+along-none v [] e = refl
+along-none v (f ∷ fields) e = cc
