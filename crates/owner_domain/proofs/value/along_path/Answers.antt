@@ -1,4 +1,4 @@
-use Rattle.std.proofs.Common.{◌≡◌, ◌+◌, ◌<◌, ◌≤◌, ◌++◌, List, length, sym, ap, ◌∙◌, arith}
+use Rattle.std.proofs.Common.{◌≡◌, ◌<◌, ◌++◌, List, length, sym, ap, ◌∙◌, arith}
 use Rattle.racer_base.specs.declared.ids.FieldId.{FieldId}
 use Rattle.owner_domain.specs.declared.value.Value.TheVariants.{Named}
 use Rattle.owner_domain.proofs.Along.{path_of, along-short, along-many, along-none, not_none}
