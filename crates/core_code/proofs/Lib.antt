@@ -5,5 +5,7 @@ pub mod Membership
 pub mod InRange
 pub mod Gathering
 pub mod Loops
+pub mod Named
 pub mod Different
+pub mod FirstStamps
 pub mod Ranks

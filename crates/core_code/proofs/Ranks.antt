@@ -1,5 +1,5 @@
 -- Any numbers that fall along calls and stay below the number of methods show that there are ranks.
-use Rattle.std.proofs.Common.{◌≡◌, ℕ, zero, suc, ◌+◌, ◌<◌, ◌≤◌, max, Bool, true, ◌&&◌, ◌||◌, List, [], ◌∷◌, Option, None}
+use Rattle.std.proofs.Common.{◌≡◌, ℕ, zero, suc, ◌+◌, ◌<◌, ◌≤◌, Bool, true, ◌||◌, List, [], ◌∷◌, Option, None}
 use Rattle.std.proofs.Common.{Some, map, length, is_some, nat_lt, refl, sym, ap, ◌∙◌, subst, arith, add-zero}
 use Rattle.std.proofs.Common.{slice_get, zero-add, false}
 use Rattle.std.proofs.lemmas.Bool.{lt-ltb}
@@ -7,7 +7,7 @@ use Rattle.std.proofs.lemmas.Option.{slice_get_within}
 use Rattle.std.specs.List.{Contains, list_all, enumerate_from}
 use Rattle.racer_base.specs.declared.ids.MethodId.{MethodId}
 use Rattle.core_code.specs.Core.{Core, Method}
-use Rattle.core_code.specs.Calls.{method_at, calls_in, calls_of, greatest, chain_within, rank_of}
+use Rattle.core_code.specs.Calls.{calls_in, calls_of, greatest, chain_within, rank_of}
 use Rattle.core_code.specs.CallFacts.{is_above, has_ranks}
 use Rattle.core_code.proofs.BoolParts.{both}
 

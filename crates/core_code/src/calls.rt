@@ -1,5 +1,5 @@
 //! The calls of code, in reading order.
-ghost use Rattle.std.specs.Prelude.{◌≡◌, ◌++◌, OnOk, IfOk, map, option_to_list};
+ghost use Rattle.std.specs.Prelude.{◌≡◌, ◌++◌, OnOk, IfOk, map, option_to_list, true};
 ghost use Rattle.core_code.specs.Tree.{tree_of, in_sequence};
 ghost use Rattle.core_code.specs.Gathered.{callees_of_op, callees_of, callee_rows};
 
@@ -58,7 +58,7 @@ fn push_callee(op: Op, all: bool, callees: &mut Vec<MethodId>) -> Result<(), Mem
 }
 
 /// The methods that code calls.
-fn callees(alloc: Global, code: &Code, all: bool) -> Result<Vec<MethodId>, Memory>
+pub(crate) fn callees(alloc: Global, code: &Code, all: bool) -> Result<Vec<MethodId>, Memory>
     ensures { IfOk result (λ made. made.items ≡ callees_of all (tree_of code.now)) }
 {
     let mut callees = Vec::new(alloc);
@@ -66,17 +66,16 @@ fn callees(alloc: Global, code: &Code, all: bool) -> Result<Vec<MethodId>, Memor
     Ok(callees)
 }
 
-/// For each method the methods that it calls.
+/// For each method the methods that it calls: also those that are not analysed.
 pub(crate) fn callee_rows(
     alloc: Global,
     methods: &[MethodCore],
-    all: bool,
 ) -> Result<Vec<Items<MethodId>>, Memory>
-    ensures { IfOk result (λ rows. rows.items ≡ callee_rows all methods.now) }
+    ensures { IfOk result (λ rows. rows.items ≡ callee_rows true methods.now) }
 {
     let mut rows = Vec::new(alloc);
     for method in methods {
-        rows.push(Items::from(callees(alloc, &method.code, all)?))?;
+        rows.push(Items::from(callees(alloc, &method.code, true)?))?;
     }
     Ok(rows)
 }

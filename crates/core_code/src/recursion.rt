@@ -15,6 +15,6 @@ pub fn recursive(alloc: Global, program: &Program) -> Result<Vec<bool>, Memory>
     ensures length { IfOk result (λ flags. length flags.items ≡ length (methods program.now)) }
     ensures exact { IfOk result (λ flags. TellRecursion (core program.now) flags.items) }
 {
-    let rows = callee_rows(alloc, program.methods(), true)?;
+    let rows = callee_rows(alloc, program.methods())?;
     on_cycles(alloc, rows.as_slice())
 }

@@ -1,11 +1,13 @@
 //! The rows of a program.
-ghost use Rattle.std.specs.Prelude.{◌≡◌, ◌+◌, ◌<◌, IfOk, OnOk, length, map, nat_eq, slice_set};
+ghost use Rattle.std.specs.Prelude.{◌≡◌, ◌+◌, ◌++◌, ◌<◌, IfOk, OnOk, length, map, nat_eq, slice_set};
+ghost use Rattle.std.specs.Prelude.{false};
+ghost use Rattle.core_code.specs.Gathered.{callee_rows};
 ghost use Rattle.core_code.specs.Program.{core};
 ghost use Rattle.core_code.specs.Rows as wanted;
 ghost use Rattle.core_code.specs.Stamps.{stamp_of, pushed, AreBelow};
 
-use crate::calls::callee_rows;
-use crate::{CallRows, Program};
+use crate::calls::callees;
+use crate::{CallRows, MethodCore, Program};
 use call_graph::falling_numbers;
 use racer_base::{Items, Memory, MethodId};
 use std::alloc::Global;
@@ -13,8 +15,8 @@ use std::alloc::Global;
 /// Puts a method at the end of a row, unless it has the stamp already; it has it now.
 fn push_new(
     row: &mut Items<MethodId>,
-    stamps: &mut [u32],
-    stamp: u32,
+    stamps: &mut [usize],
+    stamp: usize,
     m: MethodId,
 ) -> Result<(), Memory>
     ensures row { OnOk result (row.new ≡ pushed row.old m (nat_eq (stamp_of stamps.old m.0) stamp)) }
@@ -37,8 +39,8 @@ fn push_new(
 fn different(
     alloc: Global,
     callees: &[MethodId],
-    stamps: &mut [u32],
-    stamp: u32,
+    stamps: &mut [usize],
+    stamp: usize,
 ) -> Result<Items<MethodId>, Memory>
     requires { AreBelow stamps.old stamp }
     ensures row { IfOk result (λ row. row ≡ wanted.different callees.now) }
@@ -51,26 +53,30 @@ fn different(
     Ok(row)
 }
 
-/// For each of these rows the first of its methods that are the same.
-fn different_rows(alloc: Global, rows: &[Items<MethodId>]) -> Result<Vec<Items<MethodId>>, Memory>
-    ensures { IfOk result (λ made. made.items ≡ map wanted.different rows.now) }
+/// Puts behind rows, for each of these methods, the different analysed methods that it calls.
+fn push_rows(
+    alloc: Global,
+    methods: &[MethodCore],
+    rows: &mut Vec<Items<MethodId>>,
+) -> Result<(), Memory>
+    ensures { OnOk result (rows.new.items ≡
+        rows.old.items ++ map wanted.different (callee_rows false methods.now)) }
 {
-    let mut stamps = vec![in alloc; 0; rows.len()]?;
-    let mut made = Vec::new(alloc);
-    let mut stamp: u32 = 0;
-    for row in rows {
-        stamp = stamp.checked_add(1).ok_or(Memory)?;
-        made.push(different(alloc, row.as_slice(), stamps.as_mut_slice(), stamp)?)?;
+    let mut stamps = vec![in alloc; 0; methods.len()]?;
+    for number in 0..methods.len() {
+        let callees = callees(alloc, &methods[number].code, false)?;
+        let row = different(alloc, callees.as_slice(), stamps.as_mut_slice(), number + 1)?;
+        rows.push(row)?;
     }
-    Ok(made)
+    Ok(())
 }
 
 /// For each method the different analysed methods that it calls, and its rank.
 pub fn call_rows(alloc: Global, program: &Program) -> Result<CallRows, Memory>
     ensures { IfOk result (λ made. wanted.AreRowsOf (core program.now) made) }
 {
-    let callees = callee_rows(alloc, program.methods(), false)?;
-    let rows = different_rows(alloc, callees.as_slice())?;
+    let mut rows = Vec::new(alloc);
+    push_rows(alloc, program.methods(), &mut rows)?;
     let ranks = falling_numbers(alloc, rows.as_slice())?;
     Ok(CallRows {
         rows: Items::from(rows),

@@ -1,7 +1,10 @@
 pub mod Piles
+pub mod Unfolding
+pub mod EnteredFrames
 pub mod StoredCells
 pub mod HeapLemmas
 pub mod Frames
+pub mod Gathered
 pub mod Answered
 pub mod InnerSteps
 pub mod ThreadSteps

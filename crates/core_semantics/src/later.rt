@@ -61,8 +61,10 @@ fn unfold<'a>(later: Later<'a>) -> Unfolded<'a>
 {
     match later {
         Later::One(code) => unfold_code(code),
-        Later::Parts([]) => Unfolded::Nothing,
-        Later::Parts([first, rest @ ..]) => Unfolded::Two(Later::One(first), Later::Parts(rest)),
+        Later::Parts(parts) => match parts.split_first() {
+            Some((first, rest)) => Unfolded::Two(Later::One(first), Later::Parts(rest)),
+            None => Unfolded::Nothing,
+        },
         Later::Unlock => Unfolded::Next(NextStep::Unlock),
     }
 }

@@ -5,3 +5,4 @@ pub mod Stacks
 pub mod Flows
 pub mod Callees
 pub mod Wholes
+pub mod Parameters

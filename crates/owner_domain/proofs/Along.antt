@@ -2,6 +2,7 @@
 use Rattle.std.specs.Prelude.{◌==◌}
 use Rattle.std.proofs.Common.{◌≡◌, ℕ, zero, suc, ◌+◌, ◌<◌, ◌≤◌, Bool, true, false, cond, List, [], ◌∷◌, ◌++◌, length, refl}
 use Rattle.std.proofs.Common.{None, Some, nat_lt, sym, ap, ◌∙◌, arith, append_assoc, length-append}
+use borrow.Author.Tests.{eqb-true}
 use Rattle.std.proofs.lemmas.Bool.{le-ltb, lt-ltb}
 use Rattle.std.proofs.lemmas.List.{append-nil}
 use Rattle.racer_base.specs.declared.ids.FieldId.{FieldId}
@@ -66,3 +67,8 @@ along-many root own (f ∷ fields) some many = along-long root own fields f many
 pub not_none : (n : ℕ) → false ≡ (n == 0) → 0 < n
 not_none zero e = cc
 not_none (suc n) e = omega arith
+
+pub along-none : (v : Value) (fields : List FieldId) → true ≡ (length fields == 0) → v ≡ along v fields
+along-none v [] e = refl
+along-none v (f ∷ fields) e =
+    let none : length (f ∷ fields) ≡ 0 = eqb-true (length (f ∷ fields)) 0 (sym e) in absurd (omega arith)

@@ -2,3 +2,4 @@ pub mod Joins
 pub mod BothWays
 pub mod Along
 pub mod Shorter
+pub mod OneJoined

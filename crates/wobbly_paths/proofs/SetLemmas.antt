@@ -1,5 +1,5 @@
 -- Sets of paths that are kept as lists.
-use Rattle.std.proofs.Common.{◌≡◌, ℕ, ◌+◌, ◌<◌, ◌≤◌, Bool, true, false, cond, ◌&&◌, ◌||◌, List, [], ◌∷◌, ◌++◌, length, min}
+use Rattle.std.proofs.Common.{◌≡◌, ℕ, ◌+◌, ◌<◌, ◌≤◌, Bool, true, false, cond, ◌&&◌, ◌||◌, List, [], length, min}
 use Rattle.std.proofs.Common.{take, nat_eq, refl, sym, ap, ◌∙◌, arith, eq-eqb}
 use borrow.Author.Tests.{eqb-true}
 use Rattle.std.specs.List.{list_any}

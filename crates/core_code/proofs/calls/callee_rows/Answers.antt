@@ -1,4 +1,4 @@
-use Rattle.std.proofs.Common.{List, [], ◌∷◌, ◌++◌, refl, ap, ◌∙◌, arith}
+use Rattle.std.proofs.Common.{List, [], ◌∷◌, ◌++◌, true, refl, ap, ◌∙◌, arith}
 use Rattle.racer_base.specs.declared.ids.MethodId.{MethodId}
 use Rattle.core_code.specs.declared.parts.MethodCore.{MethodCore}
 use Rattle.core_code.specs.Tree.{tree_of}
@@ -8,9 +8,8 @@ use Rattle.core_code.proofs.calls.callee_rows.Goals as goal
 
 pub loop-method-preserved : goal.loop-method-preserved
 loop-method-preserved c =
-    let all = c.args.all in
     let rows = c.loop-method.rows.items in
-    one_turn (callee_rows all) (λ (m : MethodCore). callees_of all (tree_of m.code) ∷ []) c.args.methods.now
+    one_turn (callee_rows true) (λ (m : MethodCore). callees_of true (tree_of m.code) ∷ []) c.args.methods.now
     c.loop-method.method-index c.method-item.result rows c.push.new.self.items (λ m ms. refl)
     c.loop-method-test.true c.method-item.is
     (c.in_ok-push.ensures.items
@@ -19,6 +18,6 @@ loop-method-preserved c =
 
 pub returns : goal.returns
 returns c =
-    at_end (callee_rows c.args.all) c.args.methods.now c.loop-method.method-index c.loop-method.rows.items refl
+    at_end (callee_rows true) c.args.methods.now c.loop-method.method-index c.loop-method.rows.items refl
     (omega (arith, c.loop-method-test.false))
     ∙ c.loop-method.invariant

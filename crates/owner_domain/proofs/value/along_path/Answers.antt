@@ -1,7 +1,7 @@
-use Rattle.std.proofs.Common.{◌≡◌, ◌+◌, ◌<◌, ◌≤◌, ◌++◌, List, length, sym, ap, ◌∙◌, arith}
+use Rattle.std.proofs.Common.{◌≡◌, ◌<◌, ◌++◌, List, length, sym, ap, ◌∙◌, arith}
 use Rattle.racer_base.specs.declared.ids.FieldId.{FieldId}
 use Rattle.owner_domain.specs.declared.value.Value.TheVariants.{Named}
-use Rattle.owner_domain.proofs.Along.{path_of, along-short, along-many, not_none}
+use Rattle.owner_domain.proofs.Along.{path_of, along-short, along-many, along-none, not_none}
 use Rattle.owner_domain.proofs.value.along_path.Goals as goal
 
 pub returns-then-fields-room : goal.returns-then-fields-room
@@ -22,3 +22,7 @@ returns c =
     ∙ c.as_slice.ensures) in
     ap (λ (fs : List FieldId). Named (path_of c.args.path.now.root fs)) made
     ∙ sym (along-short c.args.path.now.root own fields (omega arith))
+
+pub returns-then-is_empty : goal.returns-then-is_empty
+returns-then-is_empty c =
+    ap Named c.in_ok-copied.ensures ∙ along-none (Named c.args.path.now) c.args.fields.now c.if-is_empty.ensures

@@ -1,4 +1,4 @@
-use Rattle.std.proofs.Common.{◌≡◌, ◌+◌, ◌<◌, ◌≤◌, Bool, false, not, cond, List, length, sym, ap, ◌∙◌, arith}
+use Rattle.std.proofs.Common.{◌≡◌, ◌+◌, ◌≤◌, Bool, false, not, cond, List, length, refl, sym, ap, ◌∙◌, arith}
 use Rattle.std.specs.FinSet as set
 use Rattle.racer_base.specs.declared.limits.TheConstants.{MAX_SUMMARY_KEYS}
 use Rattle.access_paths.specs.declared.path.Path.{Path}
@@ -39,3 +39,18 @@ returns-clause-limit c =
     let different : set.len (set_of c.insert.new.self.keys) ≡ length c.insert.new.self.keys = within.different in
     let limit : length c.insert.new.self.keys ≤ MAX_SUMMARY_KEYS = within.limit in
     omega arith
+
+pub returns-in_default-clause-cases : goal.returns-in_default-clause-cases
+returns-in_default-clause-cases c =
+    (sym c.has.ensures ∙ c.if-has.false, omega arith, ap set_of c.in_default.ensures.err ∙ c.self.view_is)
+
+pub returns-then-len-ge-MAX_SUMMARY_KEYS-clause-cases : goal.returns-then-len-ge-MAX_SUMMARY_KEYS-clause-cases
+returns-then-len-ge-MAX_SUMMARY_KEYS-clause-cases c =
+    let were : set.len (set_of c.self.inside.paths.keys) ≡ length c.self.inside.paths.keys =
+    c.self.invariant.different in
+    let limit : length c.self.inside.paths.keys ≤ MAX_SUMMARY_KEYS = c.self.invariant.limit in
+    let count : set.len (set_of c.self.inside.paths.keys) ≡ set.len c.args.self.now = ap set.len c.self.view_is in
+    (sym c.has.ensures ∙ c.if-has.false, omega arith, refl)
+
+pub returns-then-has-clause-cases : goal.returns-then-has-clause-cases
+returns-then-has-clause-cases c = (sym c.has.ensures ∙ c.if-has.true, refl)
