@@ -3,10 +3,10 @@ ghost use Rattle.std.specs.Prelude.{◌≡◌, ◌≤◌, IfOk, vec_len};
 
 use racer_base::{Folder, FolderFault, MAX_FOLDER_ENTRIES, MAX_FOLDER_NESTING};
 use std::alloc::Global;
-use std::fs::{DirEntry, File, FileType, ReadDir};
+use std::fs::{DirEntry, File, FileType};
 use std::io::Read;
 use std::rt::Files;
-use std::{fs, io};
+use std::{fs, mem};
 
 /// A folder of the file system.
 ///
@@ -47,10 +47,10 @@ impl<R: Files + AllocGlobal + Clone + Drop> DirFolder<R> {
         fault
     }
 
-    /// Opens a folder, to see that it is there.
-    fn open(&self, path: &str) -> Result<(), FolderFault> {
-        fs::read_dir(&self.rt, path)?;
-        Ok(())
+    /// The name of a folder, which is opened to see that it is there.
+    fn opened(&self, alloc: Global, name: &str) -> Result<String, FolderFault> {
+        mem::drop(fs::read_dir(&self.rt, name)?);
+        Ok(String::from_str(alloc, name)?)
     }
 
     /// The path of what has this relative name.
@@ -65,103 +65,86 @@ impl<R: Files + AllocGlobal + Clone + Drop> DirFolder<R> {
     fn listed(&self, alloc: Global) -> Result<Vec<String>, FolderFault> {
         let mut listing = Listing {
             names: Vec::new(alloc),
+            folders: Vec::new(alloc),
             entries: 0,
         };
-        self.list_below(alloc, "", MAX_FOLDER_NESTING, &mut listing)?;
+        self.list_all(alloc, &mut listing)?;
         Ok(listing.names)
     }
 
-    /// Lists what stands in a folder, whose name ends with `/` unless it is this one, and in its subfolders, which
-    /// may be nested so deep.
-    fn list_below(
-        &self,
-        alloc: Global,
-        folder: &str,
-        nesting: u32,
-        listing: &mut Listing,
-    ) -> Result<(), FolderFault> {
-        let mut subfolders = Vec::new(alloc);
-        self.list(alloc, folder, listing, &mut subfolders)?;
-        for subfolder in subfolders.iter() {
-            let Some(nesting) = nesting.checked_sub(1) else {
-                return Err(FolderFault::Failed);
+    /// Lists what stands in it and in its subfolders, each of which is an entry.
+    fn list_all(&self, alloc: Global, listing: &mut Listing) -> Result<(), FolderFault> {
+        self.list(alloc, "", listing)?;
+        for _ in 0..MAX_FOLDER_ENTRIES {
+            let Some(folder) = listing.folders.pop() else {
+                break;
             };
-            self.list_below(alloc, subfolder.as_str(), nesting, listing)?;
+            self.list(alloc, folder.as_str(), listing)?;
         }
         Ok(())
     }
 
-    /// Lists what stands in a folder itself, and puts its subfolders' names, with a `/` behind each, where these are.
-    fn list(
-        &self,
-        alloc: Global,
-        folder: &str,
-        listing: &mut Listing,
-        subfolders: &mut Vec<String>,
-    ) -> Result<(), FolderFault> {
+    /// Lists what stands in a folder itself, whose name ends with `/` unless it is this one.
+    fn list(&self, alloc: Global, folder: &str, listing: &mut Listing) -> Result<(), FolderFault> {
         let path = self.path_of(alloc, folder)?;
-        let entries = fs::read_dir(&self.rt, path.as_str())?;
-        listing.put_all(alloc, folder, entries, subfolders)
+        for entry in fs::read_dir(&self.rt, path.as_str())? {
+            listing.put(alloc, folder, &entry?)?;
+        }
+        Ok(())
     }
 
-    /// Whether each folder that a relative name leads through is a subfolder and no symbolic link.
-    fn leads_down(&self, alloc: Global, name: &str) -> Result<bool, FolderFault> {
+    /// What has this relative name, and a link as what it is itself.
+    fn entry(&self, alloc: Global, name: &str) -> Result<Entry, FolderFault> {
+        let path = self.path_of(alloc, name)?;
+        Ok(entry_of(fs::symlink_metadata(&self.rt, path.as_str())?.file_type()))
+    }
+
+    /// Whether a relative name is that of a file, and each folder that it leads through a subfolder; none is a link.
+    fn is_file(&self, alloc: Global, name: &str) -> Result<bool, FolderFault> {
+        let Entry::File = self.entry(alloc, name)? else {
+            return Ok(false);
+        };
         let mut rest = name;
         while let Some((folder, _)) = rest.rsplit_once('/') {
-            if !self.is_folder(alloc, folder)? {
+            let Entry::Folder = self.entry(alloc, folder)? else {
                 return Ok(false);
-            }
+            };
             rest = folder;
         }
         Ok(true)
     }
 
-    /// Whether a relative name is that of a subfolder and not of a link to one.
-    fn is_folder(&self, alloc: Global, name: &str) -> Result<bool, FolderFault> {
-        let path = self.path_of(alloc, name)?;
-        Ok(fs::symlink_metadata(&self.rt, path.as_str())?.is_dir())
-    }
-
-    /// Whether a relative name is that of a file and not of a link to one.
-    fn is_file(&self, alloc: Global, name: &str) -> Result<bool, FolderFault> {
-        let path = self.path_of(alloc, name)?;
-        Ok(fs::symlink_metadata(&self.rt, path.as_str())?.is_file())
-    }
-
-    /// The first bytes of what has this relative name.
-    fn front(&self, alloc: Global, name: &str, most: usize) -> Result<Vec<u8>, FolderFault>
+    /// The first bytes of the file of this path.
+    fn front(&self, alloc: Global, path: &str, most: usize) -> Result<Vec<u8>, FolderFault>
         ensures { IfOk result (λ bytes. vec_len bytes ≤ most) }
     {
-        let path = self.path_of(alloc, name)?;
+        let file = File::open(&self.rt, path)?;
         let mut bytes = Vec::new(alloc);
-        self.read_front(path.as_str(), most, &mut bytes)?;
+        file.take(most as u64).read_to_end(&mut bytes)?;
         bytes.truncate(most);
         Ok(bytes)
-    }
-
-    /// Reads so many of the first bytes of the file of this path.
-    fn read_front(&self, path: &str, most: usize, bytes: &mut Vec<u8>) -> Result<(), FolderFault> {
-        let file = File::open(&self.rt, path)?;
-        file.take(most as u64).read_to_end(bytes)?;
-        Ok(())
     }
 
     /// The first bytes of one of its files.
     fn front_of_file(&self, alloc: Global, name: &str, most: usize) -> Result<Vec<u8>, FolderFault>
         ensures { IfOk result (λ bytes. vec_len bytes ≤ most) }
     {
-        let leads_down = name.split('/').all(|word| is_name(word));
-        if leads_down && self.is_file(alloc, name)? && self.leads_down(alloc, name)? {
-            self.front(alloc, name, most)
-        } else {
-            Err(FolderFault::Failed)
+        if !leads_down(name) || !self.is_file(alloc, name)? {
+            return Err(FolderFault::Failed);
         }
+        let path = self.path_of(alloc, name)?;
+        self.front(alloc, path.as_str(), most)
     }
 }
 
-/// Whether a word of a relative name leads down.
-fn is_name(word: &str) -> bool {
-    !word.is_empty() && word != "." && word != ".."
+/// Whether each word of a relative name leads down.
+fn leads_down(name: &str) -> bool {
+    for word in name.split('/') {
+        if matches!(word, "" | "." | "..") {
+            return false;
+        }
+    }
+    true
 }
 
 /// What was found of a folder so far.
@@ -169,6 +152,8 @@ fn is_name(word: &str) -> bool {
 struct Listing {
     /// The names of its files.
     names: Vec<String>,
+    /// The subfolders that are not listed yet, with a `/` behind each name.
+    folders: Vec<String>,
     /// How many files, folders and other entries were met.
     entries: u32,
 }
@@ -202,37 +187,29 @@ impl Listing {
         Ok(())
     }
 
-    /// Puts all entries of a folder where they belong.
-    fn put_all<R: Files + AllocGlobal + Clone + Drop>(
-        &mut self,
-        alloc: Global,
-        folder: &str,
-        entries: ReadDir<R>,
-        subfolders: &mut Vec<String>,
-    ) -> Result<(), FolderFault> {
-        for entry in entries {
-            self.put(alloc, folder, entry, subfolders)?;
-        }
-        Ok(())
-    }
-
     /// Puts an entry of a folder where it belongs: a file among the names, a subfolder among these with a `/` behind
     /// it, and a link nowhere.
-    fn put<R: Files + AllocGlobal + Clone + Drop>(
+    fn put<R: Files + AllocGlobal>(
         &mut self,
         alloc: Global,
         folder: &str,
-        entry: io::Result<DirEntry<R>>,
-        subfolders: &mut Vec<String>,
+        entry: &DirEntry<R>,
     ) -> Result<(), FolderFault> {
-        let entry = entry?;
         let kind = entry.file_type()?;
         self.count()?;
         match entry_of(kind) {
             Entry::File => put_name(alloc, &mut self.names, folder, entry.file_name(), ""),
-            Entry::Folder => put_name(alloc, subfolders, folder, entry.file_name(), "/"),
+            Entry::Folder => self.put_folder(alloc, folder, entry.file_name()),
             Entry::Other => Ok(()),
         }
+    }
+
+    /// Puts a subfolder, unless it is nested too deep.
+    fn put_folder(&mut self, alloc: Global, folder: &str, name: &str) -> Result<(), FolderFault> {
+        if folder.split('/').count() > MAX_FOLDER_NESTING as usize {
+            return Err(FolderFault::Failed);
+        }
+        put_name(alloc, &mut self.folders, folder, name, "/")
     }
 }
 
@@ -259,11 +236,13 @@ impl<R: Files + AllocGlobal + Clone + Drop> Folder for DirFolder<R> {
     ghost steady = { λ _. ⊥ };
 
     fn enter(&mut self, alloc: Global, name: &str) -> Result<(), FolderFault> {
-        if let Err(fault) = self.open(name) {
-            return Err(self.counted(fault));
+        match self.opened(alloc, name) {
+            Ok(folder) => {
+                self.entered = Some(folder);
+                Ok(())
+            }
+            Err(fault) => Err(self.counted(fault)),
         }
-        self.entered = Some(String::from_str(alloc, name)?);
-        Ok(())
     }
 
     fn names(&mut self, alloc: Global) -> Result<Vec<String>, FolderFault> {

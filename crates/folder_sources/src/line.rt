@@ -1,5 +1,5 @@
 //! The line of a refusal.
-ghost use Rattle.std.specs.Prelude.{◌≡◌, map, string_bytes, IfOk};
+ghost use Rattle.std.specs.Prelude.{◌≡◌, ◌++◌, map, string_bytes, IfOk, OnOk};
 ghost use Rattle.folder_sources.specs.Lines as lines;
 
 use crate::refusal::Refusal;
@@ -16,86 +16,93 @@ fn file_name(names: &[String], file: FileId) -> &str
     }
 }
 
-/// `FILE:LINE:COLUMN`
-fn place_text(alloc: Global, names: &[String], place: Place) -> Result<String, Memory>
-    ensures { IfOk result (λ text. string_bytes text ≡ lines.place_text (map string_bytes names.now) place) }
+/// Puts `FILE:LINE:COLUMN` behind a text.
+fn put_place(text: &mut String, names: &[String], place: Place) -> Result<(), Memory>
+    ensures { OnOk result (string_bytes text.new
+        ≡ string_bytes text.old ++ lines.place_text (map string_bytes names.now) place) }
 {
     let file = file_name(names, place.file);
     let line = place.line;
     let column = place.column;
-    Ok(format!(in alloc; "{file}:{line}:{column}")?)
+    Ok(write!(text, "{file}:{line}:{column}")?)
 }
 
-fn at_place(alloc: Global, names: &[String], place: Place, what: &str) -> Result<String, Memory>
-    ensures { IfOk result (λ text. string_bytes text ≡ lines.at_place (map string_bytes names.now) place what.now) }
+fn put_at_place(text: &mut String, names: &[String], place: Place, what: &str) -> Result<(), Memory>
+    ensures { OnOk result (string_bytes text.new
+        ≡ string_bytes text.old ++ lines.at_place (map string_bytes names.now) place what.now) }
 {
-    let place = place_text(alloc, names, place)?;
-    let place = place.as_str();
-    Ok(format!(in alloc; "{place} {what}")?)
+    put_place(text, names, place)?;
+    Ok(write!(text, " {what}")?)
 }
 
-/// A second class or field of a name, and the first.
-fn duplicate(
-    alloc: Global,
+/// Puts a second class or field of a name, and the first, behind a text.
+fn put_duplicate(
+    text: &mut String,
     names: &[String],
     what: &str,
     second: Place,
     first: Place,
-) -> Result<String, Memory>
-    ensures { IfOk result (λ text. string_bytes text
-        ≡ lines.duplicate (map string_bytes names.now) what.now second first) }
+) -> Result<(), Memory>
+    ensures { OnOk result (string_bytes text.new
+        ≡ string_bytes text.old ++ lines.duplicate (map string_bytes names.now) what.now second first) }
 {
-    let second = place_text(alloc, names, second)?;
-    let second = second.as_str();
-    let first = place_text(alloc, names, first)?;
-    let first = first.as_str();
-    Ok(format!(in alloc; "{second} duplicate {what}, first {first}")?)
+    put_place(text, names, second)?;
+    write!(text, " duplicate {what}, first ")?;
+    put_place(text, names, first)
 }
 
-fn too_many(alloc: Global, what: &str, count: usize) -> Result<String, Memory>
-    ensures { IfOk result (λ text. string_bytes text ≡ lines.too_many what.now count) }
+fn put_too_many(text: &mut String, what: &str, count: usize) -> Result<(), Memory>
+    ensures { OnOk result (string_bytes text.new ≡ string_bytes text.old ++ lines.too_many what.now count) }
 {
-    Ok(format!(in alloc; "too many {what} {count}")?)
+    Ok(write!(text, "too many {what} {count}")?)
 }
 
-fn too_long(alloc: Global, names: &[String], file: FileId) -> Result<String, Memory>
-    ensures { IfOk result (λ text. string_bytes text
-        ≡ lines.reason (map string_bytes names.now) (Refusal.TooLong file)) }
+fn put_too_long(text: &mut String, names: &[String], file: FileId) -> Result<(), Memory>
+    ensures { OnOk result (string_bytes text.new
+        ≡ string_bytes text.old ++ lines.reason (map string_bytes names.now) (Refusal.TooLong file)) }
 {
     let file = file_name(names, file);
-    Ok(format!(in alloc; "{file} too long")?)
+    Ok(write!(text, "{file} too long")?)
 }
 
-fn not_utf8(alloc: Global, names: &[String], file: FileId, offset: usize) -> Result<String, Memory>
-    ensures { IfOk result (λ text. string_bytes text
-        ≡ lines.reason (map string_bytes names.now) (Refusal.NotUtf8 file offset)) }
+fn put_not_utf8(
+    text: &mut String,
+    names: &[String],
+    file: FileId,
+    offset: usize,
+) -> Result<(), Memory>
+    ensures { OnOk result (string_bytes text.new
+        ≡ string_bytes text.old ++ lines.reason (map string_bytes names.now) (Refusal.NotUtf8 file offset)) }
 {
     let file = file_name(names, file);
-    let front = format!(in alloc; "{file} byte {offset}")?;
-    let front = front.as_str();
-    Ok(format!(in alloc; "{front} not utf-8")?)
+    Ok(write!(text, "{file} byte {offset} not utf-8")?)
 }
 
-/// The reason of a refusal.
-fn reason(alloc: Global, names: &[String], refusal: Refusal) -> Result<String, Memory>
-    ensures { IfOk result (λ text. string_bytes text ≡ lines.reason (map string_bytes names.now) refusal) }
+/// Puts the reason of a refusal behind a text.
+fn put_reason(text: &mut String, names: &[String], refusal: Refusal) -> Result<(), Memory>
+    ensures { OnOk result (string_bytes text.new
+        ≡ string_bytes text.old ++ lines.reason (map string_bytes names.now) refusal) }
 {
     match refusal {
-        Refusal::TooManyFiles(count) => too_many(alloc, "files", count),
-        Refusal::TooLong(file) => too_long(alloc, names, file),
-        Refusal::TooManyBytes(count) => too_many(alloc, "bytes", count),
-        Refusal::NotUtf8(file, offset) => not_utf8(alloc, names, file, offset),
-        Refusal::BadCharacter(place) => at_place(alloc, names, place, "bad character"),
-        Refusal::Unclosed(place) => at_place(alloc, names, place, "unclosed"),
-        Refusal::BadLiteral(place) => at_place(alloc, names, place, "bad literal"),
-        Refusal::Unbalanced(place) => at_place(alloc, names, place, "unbalanced"),
-        Refusal::TooDeep(place) => at_place(alloc, names, place, "too deep"),
-        Refusal::NotAUnit(place) => at_place(alloc, names, place, "not a unit"),
-        Refusal::DuplicateClass(second, first) => duplicate(alloc, names, "class", second, first),
-        Refusal::DuplicateField(second, first) => duplicate(alloc, names, "field", second, first),
-        Refusal::TooManyClasses(count) => too_many(alloc, "classes", count as usize),
-        Refusal::TooManyMethods(count) => too_many(alloc, "methods", count as usize),
-        Refusal::TooManyCalls(count) => too_many(alloc, "calls", count as usize),
+        Refusal::TooManyFiles(count) => put_too_many(text, "files", count),
+        Refusal::TooLong(file) => put_too_long(text, names, file),
+        Refusal::TooManyBytes(count) => put_too_many(text, "bytes", count),
+        Refusal::NotUtf8(file, offset) => put_not_utf8(text, names, file, offset),
+        Refusal::BadCharacter(place) => put_at_place(text, names, place, "bad character"),
+        Refusal::Unclosed(place) => put_at_place(text, names, place, "unclosed"),
+        Refusal::BadLiteral(place) => put_at_place(text, names, place, "bad literal"),
+        Refusal::Unbalanced(place) => put_at_place(text, names, place, "unbalanced"),
+        Refusal::TooDeep(place) => put_at_place(text, names, place, "too deep"),
+        Refusal::NotAUnit(place) => put_at_place(text, names, place, "not a unit"),
+        Refusal::DuplicateClass(second, first) => {
+            put_duplicate(text, names, "class", second, first)
+        }
+        Refusal::DuplicateField(second, first) => {
+            put_duplicate(text, names, "field", second, first)
+        }
+        Refusal::TooManyClasses(count) => put_too_many(text, "classes", count as usize),
+        Refusal::TooManyMethods(count) => put_too_many(text, "methods", count as usize),
+        Refusal::TooManyCalls(count) => put_too_many(text, "calls", count as usize),
     }
 }
 
@@ -104,7 +111,8 @@ pub fn refusal_line(alloc: Global, names: &[String], refusal: Refusal) -> Result
     ensures { IfOk result (λ text. string_bytes text
         ≡ lines.refusal_line (map string_bytes names.now) refusal) }
 {
-    let reason = reason(alloc, names, refusal)?;
-    let reason = reason.as_str();
-    Ok(format!(in alloc; "refused {reason}\n")?)
+    let mut text = String::from_str(alloc, "refused ")?;
+    put_reason(&mut text, names, refusal)?;
+    text.push_str("\n")?;
+    Ok(text)
 }

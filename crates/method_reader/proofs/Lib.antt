@@ -7,3 +7,5 @@ pub mod LedMarks
 pub mod TypeCounts
 pub mod SameMarks
 pub mod SignatureSteps
+pub mod PassedOn
+pub mod ParameterParts

@@ -1,11 +1,11 @@
 -- The first item is as many tokens as are counted, and the other items are those of the tokens behind it.
-use Rattle.std.proofs.Common.{◌≡◌, ℕ, suc, ◌≤◌, Bool, true, false, List, [], ◌∷◌, take, drop, length, refl, ap, ◌∙◌}
+use Rattle.std.proofs.Common.{◌≡◌, ℕ, suc, ◌≤◌, Bool, true, false, List, [], ◌∷◌, take, drop, length, refl, ap}
 use Rattle.std.proofs.Common.{arith}
 use Rattle.std.specs.Prelude.{◌==◌, if◌then◌else◌}
 use Rattle.java_lexer.specs.declared.token.Token.{Token}
 use Rattle.java_units.specs.Cuts.{onto_first, with_cut}
 use Rattle.java_units.specs.Brackets.{depth_behind}
-use Rattle.java_units.specs.Pieces.{Item, items_from, items_of}
+use Rattle.java_units.specs.Pieces.{items_from, items_of}
 use Rattle.unit_cuts.specs.Sizes.{item_size}
 
 -- the first item has this size

@@ -12,11 +12,11 @@ use Rattle.method_grammar.proofs.Ensuring.{name_is}
 use Rattle.java_units.specs.Tokens.{plain, is_sign_token, is_name, begins, signed}
 use Rattle.java_units.specs.Cuts.{onto_first, with_cut, joined}
 use Rattle.java_units.specs.Brackets.{is_opening, is_closing, depth_behind}
-use Rattle.java_units.specs.Pieces.{Item, items_from, items_of, more_of_annotation, more_of_piece, cut_pieces, pieces_of}
+use Rattle.java_units.specs.Pieces.{Item, items_of, more_of_annotation, more_of_piece, cut_pieces, pieces_of}
 use Rattle.java_units.proofs.Joined.{joined_append, joined_items}
 use Rattle.unit_cuts.specs.Sizes.{item_size}
 use Rattle.unit_cuts.specs.PieceSizes.{parentheses_size, annotation_size, behind_name, behind_at, piece_by, piece_size}
-use Rattle.unit_cuts.proofs.FirstItem.{first_item, first_of, some_of}
+use Rattle.unit_cuts.proofs.FirstItem.{first_item, some_of}
 use Rattle.unit_cuts.proofs.FirstMember.{drop_front}
 
 -- ---- on items

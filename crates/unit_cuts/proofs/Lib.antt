@@ -1,5 +1,6 @@
 mod FirstItem
 mod OpenStack
+mod OpenSteps
 mod FirstMember
 mod FirstPiece
 pub mod Walks

@@ -3,7 +3,7 @@ use Rattle.std.proofs.Common.{◌≡◌, Bool, true, false, List, [], ◌∷◌,
 use Rattle.std.specs.Prelude.{if◌then◌else◌}
 use Rattle.racer_base.specs.declared.ids.Place.{Place}
 use Rattle.java_lexer.specs.declared.token.Token.{Token}
-use Rattle.java_units.specs.Brackets.{is_opening, is_closing, is_pair, closed, opened, unbalanced}
+use Rattle.java_units.specs.Brackets.{is_opening, is_closing, is_pair, opened, unbalanced}
 use Rattle.unit_cuts.specs.OpenBrackets.{open_onto, IsOpened}
 
 pub open_push : {A : Type 0} (view : A → Token) (xs : List A) (x : A) (outer : List Token)

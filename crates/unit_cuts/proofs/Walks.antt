@@ -1,5 +1,5 @@
 -- One step of a walk over parts of tokens: how many tokens stand behind it, and which.
-use Rattle.std.proofs.Common.{◌≡◌, ℕ, ◌+◌, List, ◌++◌, length, drop, take, ap, sym, ◌∙◌, length-append, arith, refl}
+use Rattle.std.proofs.Common.{◌≡◌, ℕ, ◌+◌, List, ◌++◌, length, drop, ap, sym, ◌∙◌, length-append, arith, refl}
 use Rattle.std.proofs.lemmas.List.{drop-drop, drop_at}
 
 pub record IsAt {A : Type 0} (ts rest : List A) (size : ℕ) : Type 0 where

@@ -1,6 +1,5 @@
 -- A contract of a public call rests on this: what is said of the brackets of a file, and the code's stack of open ones.
 use Rattle.std.specs.Prelude.{◌≡◌, Bool, true, false, List, [], ◌∷◌, Option, Some, None}
-use Rattle.racer_base.specs.declared.ids.Place.{Place}
 use Rattle.java_lexer.specs.declared.token.Token.{Token}
 use Rattle.java_units.specs.declared.unit.ParseFault.{ParseFault}
 use Rattle.java_units.specs.declared.unit.ParseFault.TheVariants.{Unbalanced, TooDeep, NotAUnit, Memory}

@@ -1,9 +1,7 @@
 -- No public contract rests on this: how many tokens stand before the first cut.
-use Rattle.std.specs.Prelude.{ℕ, suc, ◌+◌, ◌==◌, ◌&&◌, ◌||◌, not, List, [], ◌∷◌, length, codes, if◌then◌else◌}
+use Rattle.std.specs.Prelude.{ℕ, suc, ◌==◌, List, [], ◌∷◌, if◌then◌else◌}
 use Rattle.java_lexer.specs.declared.token.Token.{Token}
-use Rattle.java_units.specs.Tokens.{is_sign_token, is_name, signed}
 use Rattle.java_units.specs.Brackets.{depth_behind}
-use Rattle.java_units.specs.Pieces.{Item}
 
 -- how many tokens the first item has, where so many brackets are open
 abbrev pub item_size : ℕ → List Token → ℕ

@@ -1,4 +1,4 @@
-use Rattle.std.proofs.Common.{sym, ap, ◌∙◌}
+use Rattle.std.proofs.Common.{sym, ◌∙◌}
 use Rattle.java_tree.specs.KeptPlaces.{kept}
 use Rattle.java_tree.specs.View.{method_of}
 use Rattle.method_grammar.proofs.FoundJava.{one_java_method}

@@ -1,4 +1,4 @@
-use Rattle.std.proofs.Common.{[], ◌∷◌, map, ap, sym, ◌∙◌}
+use Rattle.std.proofs.Common.{[], map, sym, ◌∙◌}
 use Rattle.unit_cuts.specs.OpenBrackets.{open_onto}
 use Rattle.unit_cuts.proofs.OpenStack.{open_push, opens_more, closes_innermost}
 use Rattle.unit_cuts.proofs.balance.opens.Goals as goal

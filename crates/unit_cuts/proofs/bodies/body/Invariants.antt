@@ -1,8 +1,7 @@
-use Rattle.std.proofs.Common.{◌≡◌, ◌+◌, false, length, drop}
+use Rattle.std.proofs.Common.{◌≡◌, length}
 use Rattle.java_units.specs.Pieces.{items_of}
-use Rattle.java_units.specs.Members.{is_endless}
 use Rattle.java_units.specs.Units.{body_among}
-use Rattle.unit_cuts.specs.Members.{behind_member, last_inside}
+use Rattle.unit_cuts.specs.Members.{last_inside}
 use Rattle.unit_cuts.proofs.bodies.body.Given as goal
 
 abbrev pub invariant-loop-item : goal.invariant-loop-item

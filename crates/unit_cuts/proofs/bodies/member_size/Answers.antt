@@ -1,4 +1,4 @@
-use Rattle.std.proofs.Common.{◌≡◌, ◌∷◌, ◌+◌, false, length, drop, ap, sym, ◌∙◌}
+use Rattle.std.proofs.Common.{ap, sym, ◌∙◌}
 use Rattle.java_units.specs.Pieces.{items_of}
 use Rattle.unit_cuts.specs.Members.{behind_member}
 use Rattle.unit_cuts.proofs.FirstMember.{ended_behind, same_behind, next_behind}

@@ -1,7 +1,6 @@
-use Rattle.std.proofs.Common.{◌≡◌, ◌≤◌, ◌∷◌, false, length, take, drop, arith, ap, ◌∙◌, refl}
+use Rattle.std.proofs.Common.{◌≤◌, length, take, drop, arith, refl}
 use Rattle.java_units.specs.Pieces.{items_of}
 use Rattle.unit_cuts.specs.Sizes.{item_size}
-use Rattle.unit_cuts.specs.Members.{behind_member}
 use Rattle.unit_cuts.proofs.FirstItem.{first_of}
 use Rattle.unit_cuts.proofs.FirstMember.{first_member, some_member}
 use Rattle.unit_cuts.proofs.bodies.next_member.Goals as goal

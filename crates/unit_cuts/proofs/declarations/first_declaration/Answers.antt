@@ -1,6 +1,6 @@
-use Rattle.std.proofs.Common.{◌≡◌, ◌∷◌, ◌+◌, length, drop, ap, sym, ◌∙◌}
+use Rattle.std.proofs.Common.{ap, sym, ◌∙◌}
 use Rattle.java_units.specs.Pieces.{items_of}
-use Rattle.unit_cuts.specs.FirstDeclaration.{seen_of, Declared, first_declared}
+use Rattle.unit_cuts.specs.FirstDeclaration.{seen_of, Declared}
 use Rattle.unit_cuts.proofs.DeclarationSteps.{declared_there, not_yet}
 use Rattle.unit_cuts.proofs.Walks.{went}
 use Rattle.unit_cuts.proofs.declarations.first_declaration.Goals as goal

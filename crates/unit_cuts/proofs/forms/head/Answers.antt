@@ -1,4 +1,4 @@
-use Rattle.std.proofs.Common.{◌≡◌, ◌∷◌, ◌++◌, ◌+◌, length, take, drop, ap, sym, ◌∙◌}
+use Rattle.std.proofs.Common.{take, ap, sym, ◌∙◌}
 use Rattle.java_units.specs.Pieces.{pieces_of}
 use Rattle.java_units.specs.Members.{before_parentheses}
 use Rattle.unit_cuts.specs.FormView.{behind_front}

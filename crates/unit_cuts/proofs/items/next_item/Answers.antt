@@ -1,5 +1,4 @@
-use Rattle.std.proofs.Common.{◌≤◌, ◌∷◌, length, arith}
-use Rattle.java_units.specs.Pieces.{items_of}
+use Rattle.std.proofs.Common.{◌≤◌, length, arith}
 use Rattle.unit_cuts.proofs.FirstItem.{first_of, some_of}
 use Rattle.unit_cuts.proofs.items.next_item.Goals as goal
 

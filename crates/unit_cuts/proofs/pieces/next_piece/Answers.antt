@@ -1,5 +1,4 @@
-use Rattle.std.proofs.Common.{◌≤◌, ◌∷◌, length, arith}
-use Rattle.java_units.specs.Pieces.{pieces_of}
+use Rattle.std.proofs.Common.{◌≤◌, length, arith}
 use Rattle.unit_cuts.proofs.FirstPiece.{first_piece, some_piece}
 use Rattle.unit_cuts.proofs.pieces.next_piece.Goals as goal
 

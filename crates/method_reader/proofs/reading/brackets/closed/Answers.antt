@@ -17,7 +17,8 @@ returns-in_err-next-clause-gives c =
     let front = c.loop-inner.items.items in
     let inner = closing c.in-Some.inner in
     let outer = awaited_onto c.pop.new.self.items [] in
-    let total = finished as_they_are (c.args.first ∷ []) (closed_at (codes ")" ∷ []) (map spelled c.args.tokens.now)) in
+    let total = finished as_they_are (c.args.first ∷ []) (closed_at (codes ")" ∷ []) (map spelled
+    c.args.tokens.now)) in
     let w : awaited_onto c.loop-inner.open.items [] ≡ inner ∷ outer =
     rw c.in-Some.ensures.items (awaited_push c.pop.new.self.items c.in-Some.inner []) in
     let so_far : finished as_they_are front (closed_at (inner ∷ outer) (map spelled c.loop-inner.rest.now)) ≡ total =
@@ -32,7 +33,8 @@ returns-in_err-pass-clause-gives c =
     let front = c.loop-inner.items.items in
     let inner = closing c.in-Some.inner in
     let outer = awaited_onto c.pop.new.self.items [] in
-    let total = finished as_they_are (c.args.first ∷ []) (closed_at (codes ")" ∷ []) (map spelled c.args.tokens.now)) in
+    let total = finished as_they_are (c.args.first ∷ []) (closed_at (codes ")" ∷ []) (map spelled
+    c.args.tokens.now)) in
     let w : awaited_onto c.loop-inner.open.items [] ≡ inner ∷ outer =
     rw c.in-Some.ensures.items (awaited_push c.pop.new.self.items c.in-Some.inner []) in
     let so_far : finished as_they_are front (closed_at (inner ∷ outer) (map spelled c.loop-inner.rest.now)) ≡ total =
@@ -48,7 +50,8 @@ loop-inner-preserved c =
     let front = c.loop-inner.items.items in
     let inner = closing c.in-Some.inner in
     let outer = awaited_onto c.pop.new.self.items [] in
-    let total = finished as_they_are (c.args.first ∷ []) (closed_at (codes ")" ∷ []) (map spelled c.args.tokens.now)) in
+    let total = finished as_they_are (c.args.first ∷ []) (closed_at (codes ")" ∷ []) (map spelled
+    c.args.tokens.now)) in
     let w : awaited_onto c.loop-inner.open.items [] ≡ inner ∷ outer =
     rw c.in-Some.ensures.items (awaited_push c.pop.new.self.items c.in-Some.inner []) in
     let so_far : finished as_they_are front (closed_at (inner ∷ outer) (map spelled c.loop-inner.rest.now)) ≡ total =
@@ -68,7 +71,16 @@ loop-inner-preserved c =
 
 pub returns-clause-gives : goal.returns-clause-gives
 returns-clause-gives c =
-    let total = finished as_they_are (c.args.first ∷ []) (closed_at (codes ")" ∷ []) (map spelled c.args.tokens.now)) in
-    let none : length c.loop-inner.open.items ≡ 0 = omega (arith, c.loop-inner.open.ok, c.in_default.ensures.cases.0) in
+    let total = finished as_they_are (c.args.first ∷ []) (closed_at (codes ")" ∷ []) (map spelled
+    c.args.tokens.now)) in
+    let none : length c.loop-inner.open.items ≡ 0 = omega (
+      arith,
+      c.loop-inner.open.ok,
+      c.in_default.ensures.cases.0,
+    ) in
     closed_ends total c.loop-inner.items.items (map spelled c.loop-inner.rest.now) c.loop-inner.open.items
     (nil_from_length c.loop-inner.open.items none) c.loop-inner.invariant.gives
+
+pub loop-inner-smaller : goal.loop-inner-smaller
+loop-inner-smaller c =
+    c.in_ok-next.ensures.shorter

@@ -1,4 +1,5 @@
-use Rattle.std.proofs.Common.{map}
+use Rattle.std.proofs.Common.{map, refl, arith}
+use Rattle.method_reader.specs.SignatureReading.{signature_at}
 use Rattle.java_tree.specs.KeptPlaces.{kept, all_places, ty_places}
 use Rattle.java_tree.specs.MethodPlaces.{each_marks, parameter_marks}
 use Rattle.method_reader.proofs.LedMarks.{signature_led}
@@ -10,3 +11,12 @@ returns-clause-places c =
     (all_places (map ty_places c.in_ok-throws.throws.items)) (kept c.args.tokens.now) (kept c.in_ok-name.rest.now)
     (kept c.in_ok-parameters.rest.now) (kept c.in_ok-throws.rest.now) c.in_ok-name.ensures.places
     c.in_ok-parameters.ensures.places c.in_ok-throws.ensures.places
+
+pub returns-clause-gives : goal.returns-clause-gives
+unfolding signature_at
+returns-clause-gives c =
+    rw (c.in_ok-name.ensures.gives, c.in_ok-parameters.ensures.gives, c.in_ok-throws.ensures.gives) refl
+
+pub returns-clause-shorter : goal.returns-clause-shorter
+returns-clause-shorter c =
+    omega (arith, c.in_ok-name.ensures.shorter, c.in_ok-parameters.ensures.shorter, c.in_ok-throws.ensures.shorter)

@@ -1,7 +1,7 @@
-use Rattle.std.proofs.Common.{◌≡◌, ℕ, suc, ◌-◌, ◌++◌, ◌∷◌, [], map, refl, sym, ap, ◌∙◌, arith}
+use Rattle.std.proofs.Common.{◌≡◌, ℕ, length, suc, ◌-◌, ◌++◌, ◌∷◌, [], map, refl, sym, ap, ◌∙◌, arith}
 use Rattle.std.proofs.lemmas.Result.{err_from_is_err_and}
 use Rattle.std.proofs.lemmas.List.{map_push}
-use Rattle.java_tree.specs.KeptPlaces.{kept, stmt_places}
+use Rattle.java_tree.specs.KeptPlaces.{kept, expr_places, stmt_places}
 use Rattle.type_reader.proofs.PutPlaces.{one_put}
 use Rattle.java_tree.specs.View.{stmt_of}
 use Rattle.method_grammar.specs.StatementReading.{braces_at, by_lead, stmt_at, block_at, body_at, condition_at}
@@ -16,6 +16,9 @@ use Rattle.method_reader.proofs.ForHeads.{for_is_headed}
 use Rattle.type_reader.proofs.ReadLoops.{ends_give}
 use Rattle.method_reader.proofs.StatementLoops.{statement_goes_on, statement_fails, statements_end}
 use Rattle.method_reader.proofs.StatementLoops.{statements_run_out, stmt_within, block_within}
+use Rattle.java_tree.specs.Formed.{is_body}
+use Rattle.method_reader.specs.HeadView.{head_places}
+use Rattle.method_reader.proofs.PassedOn.{puts_back, within_back, tested_no, tested_yes}
 use Rattle.method_reader.proofs.reading.statements.+statements.Goals as goal
 
 pub braces-returns-in-Some-clause-gives : goal.braces-returns-in-Some-clause-gives
@@ -222,3 +225,82 @@ pub synchronized-returns-clause-gives : goal.synchronized-returns-clause-gives
 unfolding sync_at
 synchronized-returns-clause-gives t c = rw (c.in_ok-lock.ensures.gives, c.in_ok-statements.ensures.gives)
     c.locked.ensures.gives
+
+-- ---- places, and how many tokens are left
+
+pub synchronized-returns-clause-places : goal.synchronized-returns-clause-places
+synchronized-returns-clause-places t c = puts_back c.locked.result (λ x. stmt_places x.0.value (kept x.1.now)) _ _
+    (ap (λ ps. c.args.place ∷ expr_places c.in_ok-lock.lock.value ps) c.in_ok-statements.ensures.places
+    ∙ ap (λ ps. c.args.place ∷ ps) c.in_ok-lock.ensures.places) c.locked.ensures.places
+
+pub synchronized-returns-clause-shorter : goal.synchronized-returns-clause-shorter
+synchronized-returns-clause-shorter t c = within_back c.locked.result (λ x. length x.1.now) _ _ (omega (
+  arith,
+  c.in_ok-lock.ensures.shorter,
+  c.in_ok-statements.ensures.shorter,
+))
+    c.locked.ensures.shorter
+
+pub for_statement-returns-clause-places : goal.for_statement-returns-clause-places
+for_statement-returns-clause-places t c = puts_back c.headed.result (λ x. stmt_places x.0.value (kept x.1.now)) _ _
+    (ap (λ ps. head_places c.in_ok-head.head ps) c.in_ok-body.ensures.places ∙ c.in_ok-head.ensures.places)
+    c.headed.ensures.places
+
+pub for_statement-returns-clause-shorter : goal.for_statement-returns-clause-shorter
+for_statement-returns-clause-shorter t c = within_back c.headed.result (λ x. length x.1.now) _ _ (omega (
+  arith,
+  c.in_ok-head.ensures.shorter,
+  c.in_ok-body.ensures.shorter,
+))
+    c.headed.ensures.shorter
+
+pub while_statement-returns-clause-places : goal.while_statement-returns-clause-places
+while_statement-returns-clause-places t c = puts_back c.repeated.result (λ x. stmt_places x.0.value (kept x.1.now))
+    _ _
+    (ap (λ ps. expr_places c.in_ok-condition.condition.value ps) c.in_ok-body.ensures.places
+    ∙ c.in_ok-condition.ensures.places) c.repeated.ensures.places
+
+pub while_statement-returns-clause-shorter : goal.while_statement-returns-clause-shorter
+while_statement-returns-clause-shorter t c = within_back c.repeated.result (λ x. length x.1.now) _ _ (omega (
+  arith,
+  c.in_ok-condition.ensures.shorter,
+  c.in_ok-body.ensures.shorter,
+))
+    c.repeated.ensures.shorter
+
+pub if_statement-returns-clause-places : goal.if_statement-returns-clause-places
+if_statement-returns-clause-places t c = puts_back c.otherwise.result (λ x. stmt_places x.0.value (kept x.1.now)) _ _
+    (ap (λ ps. expr_places c.in_ok-condition.condition.value ps) c.in_ok-then.ensures.places
+    ∙ c.in_ok-condition.ensures.places) c.otherwise.ensures.places
+
+pub if_statement-returns-clause-shorter : goal.if_statement-returns-clause-shorter
+if_statement-returns-clause-shorter t c = within_back c.otherwise.result (λ x. length x.1.now) _ _ (omega (
+  arith,
+  c.in_ok-condition.ensures.shorter,
+  c.in_ok-then.ensures.shorter,
+))
+    c.otherwise.ensures.shorter
+
+pub otherwise-returns-clause-places : goal.otherwise-returns-clause-places
+otherwise-returns-clause-places t c = puts_back c.with_else.result (λ x. stmt_places x.0.value (kept x.1.now)) _ _
+    (ap (λ ps. expr_places c.args.condition.value (stmt_places c.args.then.value ps))
+    (c.in_ok-other.ensures.places ∙ c.in-Some.ensures.places)) c.with_else.ensures.places
+
+pub otherwise-returns-clause-shorter : goal.otherwise-returns-clause-shorter
+otherwise-returns-clause-shorter t c = within_back c.with_else.result (λ x. length x.1.now) _ _ (omega (
+  arith,
+  c.in_ok-other.ensures.shorter,
+  c.in-Some.ensures.shorter,
+))
+    c.with_else.ensures.shorter
+
+pub body-returns-then-not-is_body-clause-gives : goal.body-returns-then-not-is_body-clause-gives
+body-returns-then-not-is_body-clause-gives t c = tested_no (stmt_at method_readers c.args.limit (map spelled
+    c.args.tokens.now))
+    (stmt_of c.in_ok-body.body.value, map spelled c.in_ok-body.rest.now) (λ x. is_body x.0) c.in_ok-body.ensures.gives
+    (ap (λ s. is_body (stmt_of s)) (sym c.deref.ensures) ∙ sym c.is_body.ensures ∙ c.if-not-is_body.true)
+
+pub body-returns-clause-gives : goal.body-returns-clause-gives
+body-returns-clause-gives t c = tested_yes (stmt_at method_readers c.args.limit (map spelled c.args.tokens.now))
+    (stmt_of c.in_ok-body.body.value, map spelled c.in_ok-body.rest.now) (λ x. is_body x.0) c.in_ok-body.ensures.gives
+    (ap (λ s. is_body (stmt_of s)) (sym c.deref.ensures) ∙ sym c.is_body.ensures ∙ c.if-not-is_body.false)

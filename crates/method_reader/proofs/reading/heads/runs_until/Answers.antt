@@ -1,0 +1,19 @@
+use Rattle.std.proofs.Common.{map, arith, length}
+use Rattle.method_reader.proofs.PassedOn.{puts_back, within_back}
+use Rattle.java_tree.specs.KeptPlaces.{kept, each_puts, expr_places}
+use Rattle.method_reader.proofs.reading.heads.runs_until.Goals as goal
+
+pub returns-clause-places : goal.returns-clause-places
+returns-clause-places c =
+    puts_back c.more_runs.result (λ x. each_puts (map expr_places x.0.items) (kept x.1.now)) _ _
+    (c.in_ok-first.ensures.places)
+    c.more_runs.ensures.places
+
+pub returns-clause-shorter : goal.returns-clause-shorter
+returns-clause-shorter c =
+    within_back c.more_runs.result (λ x. length x.1.now) _ _
+    (omega (arith, c.in_ok-first.ensures.shorter)) c.more_runs.ensures.shorter
+
+pub more_runs-requires-clause-few : goal.more_runs-requires-clause-few
+more_runs-requires-clause-few c =
+    omega (arith, c.requires.few, c.in_ok-first.ensures.shorter)
