@@ -47,7 +47,10 @@ fn command<'a>(alloc: Global) -> Result<Command<'a>, Memory>
     let command = Command::new(alloc, "racer")
         .no_binary_name(true)
         .disable_help_flag(true);
-    Ok(command.args(arguments)?)
+    match command.args(arguments) {
+        Ok(command) => Ok(command),
+        Err(_) => Err(Memory),
+    }
 }
 
 /// The words as the command reads them, where it takes them.
@@ -59,7 +62,9 @@ pub fn matched<'a>(alloc: Global, words: &'a [String]) -> Result<Option<ArgMatch
     ensures none { IfOk result (λ r. IfNone r (spec.fails (fault_of spec.command (map string_bytes words.now))
         ≡ true)) }
 {
-    let command = command(alloc)?;
+    let Ok(command) = command(alloc) else {
+        return Err(Memory);
+    };
     match command.try_get_matches_from(words) {
         Ok(matches) => Ok(Some(matches)),
         Err(error) => match error.kind() {

@@ -40,8 +40,9 @@ fn line_of<'a>(matches: &ArgMatches<'a>) -> GivenLine<'a>
 pub fn given_line<'a>(alloc: Global, words: &'a [String]) -> Result<Option<GivenLine<'a>>, Memory>
     ensures { IfOk result (λ r. option_map line_view r ≡ line (map string_bytes words.now)) }
 {
-    match matched(alloc, words)? {
-        Some(matches) => Ok(Some(line_of(&matches))),
-        None => Ok(None),
+    match matched(alloc, words) {
+        Ok(Some(matches)) => Ok(Some(line_of(&matches))),
+        Ok(None) => Ok(None),
+        Err(error) => Err(error),
     }
 }

@@ -1,13 +1,13 @@
 -- Lemmas on lists of files.
 use Rattle.std.proofs.Common.{◌≡◌, ℕ, zero, suc, ◌+◌, ◌<◌, Bool, true, false, List, [], ◌∷◌, ◌++◌, map, length, get_or}
 use Rattle.std.proofs.Common.{take, drop, refl, sym, ap, subst, ◌∙◌, arith, string_bytes, cond, ◌||◌, String, Vec}
-use Rattle.std.proofs.Common.{Global, Option, Some, None, min}
-use Rattle.std.proofs.lemmas.List.{at_drop_more, take_min, map_more, length-map}
+use Rattle.std.proofs.Common.{Global, Some}
+use Rattle.std.proofs.lemmas.List.{at_drop_more, map_more, length-map}
 use Rattle.std.proofs.Math.ListN.{get_or-map}
 use Rattle.std.proofs.lemmas.Map.Keys.{IsDistinct-from_apart, IsDistinct-push, IsDistinct-tail, apart_from_distinct}
 use Rattle.std.proofs.lemmas.Cmp.{eq_by_cmp_equiv}
 use Rattle.std.specs.List.{list_any, IsDistinct}
-use Rattle.std.specs.Option.{is_some, option_map, IfSome}
+use Rattle.std.specs.Option.{is_some}
 use Rattle.std.proofs.Math.Dec.{eqb}
 use Rattle.std.specs.FinMap.{get, contains_key, get-from_entries, get-insert}
 use Rattle.std.specs.FinMap.Entries.{is_some-find}
@@ -45,15 +45,6 @@ names-files_of files name =
     ap is_some (get-from_entries nat_list_cmp_total pairs name)
     ∙ is_some-find (slice_cmp nat_cmp) name pairs
     ∙ ap (list_any (same_name name)) (map-pairs files)
-
--- what a read gives
-pub get-read : (files : List (String Global × Vec ℕ Global)) (name bytes piece : List ℕ) (most n : ℕ) → Some bytes ≡ bytes_of files name → n ≡ min most (length bytes) → piece ≡ take n bytes → option_map (take most) (get (files_of files) name) ≡ Some piece
-get-read files name bytes piece most n found least is =
-    ap (option_map (take most)) (get-files_of files name ∙ sym found) ∙ ap Some (sym (take_min most bytes) ∙ ap (λ k. take k bytes) (sym least) ∙ sym is)
-
--- nothing has to hold where there is none
-pub IfSome-absent : {A : Type 0} (o : Option A) (P : A → Type 0) → None ≡ o → IfSome o P
-IfSome-absent {A} o P e = let F : Option A → Type 0 = λ v. IfSome v P in subst F e tt
 
 any_named : (files : List (String Global × Vec ℕ Global)) (name : List ℕ) → list_any (λ (file : String Global × Vec ℕ Global). pointwise eqb name (string_bytes file.0)) files ≡ list_any (same_name name) (names_of files)
 any_named [] name = refl

@@ -1,3 +1,4 @@
 mod FailingLemmas
 mod FirstFile
 mod FileLemmas
+mod ReadLemmas

@@ -96,14 +96,6 @@ impl MemoryFolder {
         }
         None
     }
-
-    /// Counts a fault.
-    fn count_fault(&mut self)
-        ensures risen { self.new ≡ record self.old { faults = risen self.old.faults } }
-        ensures rise { IsRise self.old.faults self.new.faults }
-    {
-        self.faults = self.faults.saturating_add(1);
-    }
 }
 
 impl Folder for MemoryFolder {
@@ -133,7 +125,7 @@ impl Folder for MemoryFolder {
         ensures call { IsOneCall self.old self.new (has_failed result) }
     {
         if self.failing.fails() || !self.has_name(name) {
-            self.count_fault();
+            self.faults = self.faults.saturating_add(1);
             return Err(FolderFault::Failed);
         }
         Ok(())
@@ -155,7 +147,7 @@ impl Folder for MemoryFolder {
         ensures call { IsOneCall self.old self.new (has_failed result) }
     {
         if self.failing.fails() {
-            self.count_fault();
+            self.faults = self.faults.saturating_add(1);
             return Err(FolderFault::Failed);
         }
         Ok(self.all_names(alloc)?)
@@ -179,14 +171,11 @@ impl Folder for MemoryFolder {
         ensures failed { has_failed result ≡ fails_to_read self.old name.now }
         ensures call { IsOneCall self.old self.new (has_failed result) }
     {
-        if self.failing.fails() {
-            self.count_fault();
-            return Err(FolderFault::Failed);
-        }
+        let fails = self.failing.fails();
         match self.find(name) {
-            Some(bytes) => Ok(bytes[..most.min(bytes.len())].to_vec(alloc)?),
-            None => {
-                self.count_fault();
+            Some(bytes) if !fails => Ok(bytes[..most.min(bytes.len())].to_vec(alloc)?),
+            _ => {
+                self.faults = self.faults.saturating_add(1);
                 Err(FolderFault::Failed)
             }
         }

@@ -12,17 +12,14 @@ mod trees;
 mod units;
 
 use disk_folder::DirFolder;
-use page::Page;
-use shown::put_shown;
+use shown::shown;
 use std::{env, io};
 
 fn main(rt: HostRuntime) -> io::Result<()> {
     let alloc = rt.alloc();
     let mut folder = DirFolder::new(rt.clone()?);
     for word in env::args(&rt)?.skip(1) {
-        let mut page = Page::new(alloc);
-        put_shown(alloc, &mut folder, &mut page, word.as_str())?;
-        let text = page.into_text()?;
+        let text = shown(alloc, &mut folder, word.as_str())?;
         print!(rt; "{text}")?;
     }
     Ok(())

@@ -1,8 +1,7 @@
 //! The program of a folder: its classes, fields and methods with their code, a line each.
 use crate::page::Page;
 use core_code::{ClassCore, Code, FieldCore, MethodCore, Op, Program, Reason};
-use folder_programs::FoundProgram;
-use racer_base::{Kind, Place};
+use racer_base::Kind;
 
 /// An operation, and the numbers of what it names.
 fn put_operation(page: &mut Page, op: Op) {
@@ -31,18 +30,12 @@ fn put_call(page: &mut Page, word: &str, method: u32, count: u32) {
     page.put_counted("", count as usize);
 }
 
-/// A place behind what stands there.
-fn put_at(page: &mut Page, place: Place) {
-    page.put("@");
-    page.put_place(place);
-}
-
 /// The operations with their places, the sides of a choice in `( | )`, a loop in `{ }`, what is held in `[ ]`.
 fn put_code(page: &mut Page, code: &Code) {
     match code {
         Code::Op(_, place, op) => {
             put_operation(page, *op);
-            put_at(page, *place);
+            page.put_placed("@", *place);
         }
         Code::Seq(parts) => {
             for part in parts {
@@ -62,8 +55,7 @@ fn put_code(page: &mut Page, code: &Code) {
             page.put(" }");
         }
         Code::Sync(place, body) => {
-            page.put(" [");
-            put_at(page, *place);
+            page.put_placed(" [@", *place);
             put_code(page, body);
             page.put(" ]");
         }
@@ -71,16 +63,14 @@ fn put_code(page: &mut Page, code: &Code) {
 }
 
 fn put_class(page: &mut Page, class: &ClassCore) {
-    page.put("class ");
-    page.put(class.name.as_str());
+    page.put_after("class ", class.name.as_str());
     page.put_flag(" checked", class.checked);
     page.put("\n");
 }
 
 fn put_field(page: &mut Page, field: &FieldCore) {
     page.put_counted("field", field.class.0 as usize);
-    page.put(".");
-    page.put(field.name.as_str());
+    page.put_after(".", field.name.as_str());
     put_kind(page, field.kind);
     page.put_flag(" static", field.is_static);
     page.put_flag(" recorded", field.recorded);
@@ -102,11 +92,9 @@ fn put_kinds(page: &mut Page, kinds: &[Kind]) {
 }
 
 fn put_head(page: &mut Page, method: &MethodCore) {
-    page.put("method ");
-    page.put_place(method.place);
+    page.put_placed("method ", method.place);
     page.put_counted("", method.class.0 as usize);
-    page.put(".");
-    page.put(method.name.as_str());
+    page.put_after(".", method.name.as_str());
     put_kinds(page, method.parameters.as_slice());
     page.put(" to");
     put_kind(page, method.result);
@@ -150,22 +138,13 @@ fn put_classes(page: &mut Page, program: &Program) {
     }
 }
 
-fn put_methods(page: &mut Page, program: &Program) {
+/// Classes and fields, the places of skipped members, and methods.
+pub fn put_program(page: &mut Page, program: &Program) {
+    put_classes(page, program);
     for place in program.skipped() {
         page.put_line("skipped ", *place);
     }
     for method in program.methods() {
         put_method(page, method);
-    }
-}
-
-/// A program, or the line of its refusal.
-pub fn put_program(page: &mut Page, found: &FoundProgram) {
-    match found {
-        FoundProgram::Accepted(program) => {
-            put_classes(page, program);
-            put_methods(page, program);
-        }
-        FoundProgram::Refused(line) => page.put(line.as_str()),
     }
 }

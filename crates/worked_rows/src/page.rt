@@ -1,49 +1,61 @@
 //! What is printed.
-use racer_base::Place;
-use std::alloc::{AllocError, Global};
+use racer_base::{FolderFault, Place};
+use std::alloc::Global;
+use std::io;
+use std::io::ErrorKind;
 
-/// The text of all that was put. Where memory runs out that is noted, and nothing more is put.
+/// The text of all that was put. A fault is noted, and the text is then not given.
 #[derive(Drop)]
 pub struct Page {
     text: String,
-    is_cut: bool,
+    fault: Option<FolderFault>,
 }
 
 impl Page {
     pub fn new(alloc: Global) -> Page {
         Page {
             text: String::new(alloc),
-            is_cut: false,
+            fault: None,
         }
+    }
+
+    /// Notes a fault.
+    pub fn note(&mut self, fault: FolderFault) {
+        self.fault = Some(fault);
     }
 
     pub fn put(&mut self, text: &str) {
-        if !self.is_cut {
-            self.is_cut = self.text.push_str(text).is_err();
+        if self.text.push_str(text).is_err() {
+            self.note(FolderFault::Memory);
         }
     }
 
+    /// A text behind a mark.
+    pub fn put_after(&mut self, mark: &str, text: &str) {
+        self.put(mark);
+        self.put(text);
+    }
+
     pub fn put_number(&mut self, number: usize) {
-        if !self.is_cut {
-            self.is_cut = write!(self.text, "{number}").is_err();
+        if write!(self.text, "{number}").is_err() {
+            self.note(FolderFault::Memory);
         }
     }
 
     /// A word and a number behind it.
     pub fn put_counted(&mut self, word: &str, number: usize) {
-        self.put(word);
-        self.put(" ");
+        self.put_after(word, " ");
         self.put_number(number);
     }
 
     /// A word, and whether it holds.
     pub fn put_flag(&mut self, word: &str, holds: bool) {
-        self.put(word);
-        self.put(if holds { " true" } else { " false" });
+        self.put_after(word, if holds { " true" } else { " false" });
     }
 
-    /// Line and column.
-    pub fn put_place(&mut self, place: Place) {
+    /// Line and column behind a word.
+    pub fn put_placed(&mut self, word: &str, place: Place) {
+        self.put(word);
         self.put_number(place.line as usize);
         self.put(":");
         self.put_number(place.column as usize);
@@ -51,16 +63,16 @@ impl Page {
 
     /// A line of a word and a place.
     pub fn put_line(&mut self, word: &str, place: Place) {
-        self.put(word);
-        self.put_place(place);
+        self.put_placed(word, place);
         self.put("\n");
     }
 
-    /// The text, unless memory ran out.
-    pub fn into_text(self) -> Result<String, AllocError> {
-        if self.is_cut {
-            return Err(AllocError);
+    /// The text, unless there was a fault.
+    pub fn into_text(self) -> io::Result<String> {
+        match self.fault {
+            None => Ok(self.text),
+            Some(FolderFault::Failed) => Err(io::Error::from(ErrorKind::NotFound)),
+            Some(FolderFault::Memory) => Err(io::Error::from(ErrorKind::OutOfMemory)),
         }
-        Ok(self.text)
     }
 }

@@ -1,16 +1,16 @@
 //! What one word asks to be shown.
 use crate::methods::put_program;
 use crate::page::Page;
-use crate::reports::put_reports_on;
+use crate::reports::put_reports;
 use crate::tokens::{put_fault, put_tokens};
 use crate::units::put_unit;
+use core_code::Program;
 use disk_folder::DirFolder;
-use folder_programs::folder_program;
-use java_lexer::{Lexed, lex};
-use racer_base::{FileId, Folder, FolderFault};
+use folder_programs::{FoundProgram, folder_program};
+use java_lexer::lex;
+use racer_base::{FileId, Folder, FolderFault, Memory};
 use std::alloc::Global;
 use std::io;
-use std::io::ErrorKind;
 
 /// More bytes than any file of rows has.
 const MOST: usize = 1_048_576;
@@ -25,23 +25,12 @@ enum Shows {
     Units,
 }
 
-fn error_of(fault: FolderFault) -> io::Error {
-    match fault {
-        FolderFault::Failed => io::Error::from(ErrorKind::NotFound),
-        FolderFault::Memory => io::Error::from(ErrorKind::OutOfMemory),
-    }
-}
-
-fn put_lexed(alloc: Global, page: &mut Page, shows: Shows, lexed: &Lexed) {
-    match shows {
-        Shows::Tokens => put_tokens(page, lexed),
-        Shows::Units => put_unit(alloc, page, lexed),
-    }
-}
-
 fn put_row(alloc: Global, page: &mut Page, shows: Shows, row: &[u8]) {
     match lex(alloc, FileId(0), row) {
-        Ok(lexed) => put_lexed(alloc, page, shows, &lexed),
+        Ok(lexed) => match shows {
+            Shows::Tokens => put_tokens(page, &lexed),
+            Shows::Units => put_unit(alloc, page, &lexed),
+        },
         Err(fault) => put_fault(page, fault),
     }
 }
@@ -71,6 +60,7 @@ fn bytes_of(
     folder.read(alloc, name, MOST)
 }
 
+/// The rows of the file of this name.
 fn put_file(
     alloc: Global,
     folder: &mut DirFolder<HostRuntime>,
@@ -83,40 +73,48 @@ fn put_file(
     Ok(())
 }
 
+/// The program of a folder, or both reports on it where it stands below `report`.
+fn put_accepted(
+    alloc: Global,
+    page: &mut Page,
+    name: &str,
+    program: Program,
+) -> Result<(), Memory> {
+    if name.starts_with("report/") {
+        return put_reports(alloc, page, program);
+    }
+    put_program(page, &program);
+    Ok(())
+}
+
+/// What is shown of the folder of this name, or the line of its refusal.
 fn put_folder(
     alloc: Global,
     folder: &mut DirFolder<HostRuntime>,
     page: &mut Page,
     name: &str,
 ) -> Result<(), FolderFault> {
-    let found = folder_program(alloc, folder, name)?;
-    put_program(page, &found);
-    Ok(())
-}
-
-fn put_word(
-    alloc: Global,
-    folder: &mut DirFolder<HostRuntime>,
-    page: &mut Page,
-    word: &str,
-) -> Result<(), FolderFault> {
-    match word {
-        "tokens.rows" => put_file(alloc, folder, page, Shows::Tokens, word),
-        "units.rows" => put_file(alloc, folder, page, Shows::Units, word),
-        name if name.starts_with("report/") => put_reports_on(alloc, folder, page, name),
-        name => put_folder(alloc, folder, page, name),
+    match folder_program(alloc, folder, name)? {
+        FoundProgram::Accepted(program) => Ok(put_accepted(alloc, page, name, program)?),
+        FoundProgram::Refused(line) => {
+            page.put(line.as_str());
+            Ok(())
+        }
     }
 }
 
 /// The word, and below it what is read there.
-pub fn put_shown(
-    alloc: Global,
-    folder: &mut DirFolder<HostRuntime>,
-    page: &mut Page,
-    word: &str,
-) -> io::Result<()> {
-    page.put("== ");
-    page.put(word);
+pub fn shown(alloc: Global, folder: &mut DirFolder<HostRuntime>, word: &str) -> io::Result<String> {
+    let mut page = Page::new(alloc);
+    page.put_after("== ", word);
     page.put("\n");
-    put_word(alloc, folder, page, word).map_err(error_of)
+    let put = match word {
+        "tokens.rows" => put_file(alloc, folder, &mut page, Shows::Tokens, word),
+        "units.rows" => put_file(alloc, folder, &mut page, Shows::Units, word),
+        name => put_folder(alloc, folder, &mut page, name),
+    };
+    if let Err(fault) = put {
+        page.note(fault);
+    }
+    page.into_text()
 }

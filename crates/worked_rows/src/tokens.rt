@@ -16,12 +16,8 @@ fn kind_word(kind: TokenKind) -> &'static str {
 
 /// A token, with a `+` before it where it is glued to the one before.
 fn put_token(page: &mut Page, token: &Token) {
-    if token.glued {
-        page.put("+");
-    }
-    page.put_place(token.place);
-    page.put(kind_word(token.kind));
-    page.put(token.text.as_str());
+    page.put_placed(if token.glued { "+" } else { "" }, token.place);
+    page.put_after(kind_word(token.kind), token.text.as_str());
     page.put("\n");
 }
 
@@ -30,7 +26,7 @@ pub fn put_tokens(page: &mut Page, lexed: &Lexed) {
     for token in lexed.tokens.as_slice() {
         put_token(page, token);
     }
-    page.put_place(lexed.end);
+    page.put_placed("", lexed.end);
     page.put(" end\n");
 }
 

@@ -6,52 +6,37 @@ use java_tree::{
 };
 use java_units::HeadResult;
 
-/// A word, with a space before it.
-pub fn put_word(page: &mut Page, word: &str) {
-    page.put(" ");
-    page.put(word);
-}
-
 /// An annotation: its names, and what stands in its brackets.
 pub fn put_annotation(page: &mut Page, annotation: &AnnotationTree) {
     page.put(" @");
     for name in annotation.names.as_slice() {
-        put_word(page, name.as_str());
+        page.put_after(" ", name.as_str());
     }
     for argument in annotation.arguments.as_slice() {
-        put_word(page, argument.text.as_str());
+        page.put_after(" ", argument.text.as_str());
     }
     page.put(" @");
 }
 
-fn put_modifier(page: &mut Page, modifier: &ModifierTree) {
-    match modifier {
-        ModifierTree::Word(text) => put_word(page, text.as_str()),
-        ModifierTree::Annotated(annotation) => put_annotation(page, annotation),
-    }
-}
-
 pub fn put_modifiers(page: &mut Page, modifiers: &[ModifierTree]) {
     for modifier in modifiers {
-        put_modifier(page, modifier);
-    }
-}
-
-fn put_base(page: &mut Page, base: &BaseType) {
-    match base {
-        BaseType::Plain(text) => put_word(page, text.as_str()),
-        BaseType::Named(parts) => {
-            for part in parts {
-                page.put(" .");
-                page.put(part.name.text.as_str());
-            }
+        match modifier {
+            ModifierTree::Word(text) => page.put_after(" ", text.as_str()),
+            ModifierTree::Annotated(annotation) => put_annotation(page, annotation),
         }
     }
 }
 
 /// A type: its word or names, and its dimensions.
 pub fn put_type(page: &mut Page, kind: &TypeTree) {
-    put_base(page, &kind.base);
+    match &kind.base {
+        BaseType::Plain(text) => page.put_after(" ", text.as_str()),
+        BaseType::Named(parts) => {
+            for part in parts {
+                page.put_after(" .", part.name.text.as_str());
+            }
+        }
+    }
     page.put_counted("", kind.arrays as usize);
 }
 
@@ -76,7 +61,7 @@ pub fn put_parameters(page: &mut Page, parameters: &[ParameterTree]) {
     for parameter in parameters {
         page.put(" (");
         put_type(page, &parameter.kind);
-        put_word(page, parameter.name.text.as_str());
+        page.put_after(" ", parameter.name.text.as_str());
         page.put(")");
     }
 }
@@ -91,9 +76,7 @@ fn initialiser_word(initialiser: &FieldInitialiser) -> &'static str {
 
 pub fn put_variables(page: &mut Page, variables: &[FieldVariable]) {
     for variable in variables {
-        page.put(" (");
-        page.put(variable.name.text.as_str());
-        page.put(initialiser_word(&variable.initialiser));
-        page.put(")");
+        page.put_after(" (", variable.name.text.as_str());
+        page.put_after(initialiser_word(&variable.initialiser), ")");
     }
 }

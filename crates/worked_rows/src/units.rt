@@ -2,13 +2,13 @@
 use crate::page::Page;
 use crate::trees::{
     put_annotation, put_head_result, put_modifiers, put_parameters, put_result, put_type,
-    put_variables, put_word,
+    put_variables,
 };
 use java_lexer::Lexed;
 use java_tree::{FieldTree, MethodTree};
 use java_units::{ClassTree, Member, OutsideHead, ParseFault, Unit};
 use std::alloc::Global;
-use unit_reader::parse_unit;
+use unit_reader::{let_go, parse_unit};
 
 fn put_field(page: &mut Page, field: &FieldTree) {
     page.put("  field");
@@ -19,11 +19,10 @@ fn put_field(page: &mut Page, field: &FieldTree) {
 }
 
 fn put_method(page: &mut Page, method: &MethodTree) {
-    page.put("  method ");
-    page.put_place(method.name.place);
+    page.put_placed("  method ", method.name.place);
     put_modifiers(page, method.modifiers.as_slice());
     put_result(page, &method.result);
-    put_word(page, method.name.text.as_str());
+    page.put_after(" ", method.name.text.as_str());
     put_parameters(page, method.parameters.as_slice());
     page.put_counted(" throws", method.throws.len());
     page.put_counted(" statements", method.body.len());
@@ -31,9 +30,8 @@ fn put_method(page: &mut Page, method: &MethodTree) {
 }
 
 fn put_outside(page: &mut Page, head: &OutsideHead) {
-    page.put("  outside ");
-    page.put_place(head.place);
-    put_word(page, head.name.as_str());
+    page.put_placed("  outside ", head.place);
+    page.put_after(" ", head.name.as_str());
     page.put_flag(" static", head.is_static);
     page.put_flag(" synchronized", head.has_synchronized);
     put_head_result(page, &head.result);
@@ -50,18 +48,13 @@ fn put_member(page: &mut Page, member: &Member) {
     }
 }
 
-fn put_class_head(page: &mut Page, class: &ClassTree) {
-    page.put("class ");
-    page.put_place(class.place);
-    put_word(page, class.name.as_str());
+fn put_class(page: &mut Page, class: &ClassTree) {
+    page.put_placed("class ", class.place);
+    page.put_after(" ", class.name.as_str());
     for annotation in class.annotations.as_slice() {
         put_annotation(page, annotation);
     }
     page.put("\n");
-}
-
-fn put_class(page: &mut Page, class: &ClassTree) {
-    put_class_head(page, class);
     for member in class.members.as_slice() {
         put_member(page, member);
     }
@@ -88,7 +81,10 @@ fn put_fault(page: &mut Page, fault: ParseFault) {
 /// What a file is read as, or its first fault.
 pub fn put_unit(alloc: Global, page: &mut Page, lexed: &Lexed) {
     match parse_unit(alloc, lexed) {
-        Ok(unit) => put_parts(page, &unit),
+        Ok(unit) => {
+            put_parts(page, &unit);
+            let_go(unit);
+        }
         Err(fault) => put_fault(page, fault),
     }
 }

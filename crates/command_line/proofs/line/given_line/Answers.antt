@@ -4,10 +4,10 @@ use Rattle.command_line.proofs.Texts.{are_texts}
 use Rattle.command_line.proofs.line.given_line.Goals as goal
 
 -- src/line.rt:39:1
-pub returns-in-Some : goal.returns-in-Some
-returns-in-Some c = some_line (map string_bytes c.args.words.now) _ (are_texts c.args.words.now) (search rules)
+pub returns-in-Ok-Some : goal.returns-in-Ok-Some
+returns-in-Ok-Some c = some_line (map string_bytes c.args.words.now) _ (are_texts c.args.words.now) (search rules)
     (search rules)
 
 -- src/line.rt:39:1
-pub returns-in-None : goal.returns-in-None
-returns-in-None c = no_line (map string_bytes c.args.words.now) (are_texts c.args.words.now) (search rules)
+pub returns-in-Ok-None : goal.returns-in-Ok-None
+returns-in-Ok-None c = no_line (map string_bytes c.args.words.now) (are_texts c.args.words.now) (search rules)
