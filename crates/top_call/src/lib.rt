@@ -8,5 +8,6 @@ mod status;
 mod whole_run;
 mod writing;
 
+pub use said::{Said, said_of};
 pub use status::Status;
 pub use whole_run::run;

@@ -33,8 +33,8 @@ pub struct Said {
     pub text: Text,
 }
 
-/// The report on a program whose methods have these outcomes.
-fn said_of(
+/// The report on a program whose methods have these outcomes, with its status.
+pub fn said_of(
     alloc: Global,
     mode: Mode,
     program: &Program,

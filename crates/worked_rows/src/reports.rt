@@ -5,37 +5,23 @@ ghost use Rattle.access_domain.specs.Outcomes.{AreOutcomes};
 use crate::page::Page;
 use access_domain::Outcomes;
 use core_code::Program;
-use race_pairs::warnings;
-use race_report::{Mode, report_text};
+use race_report::Mode;
 use racer_base::{FolderFault, Memory};
 use std::alloc::Global;
 use std::sync::Arc;
+use top_call::said_of;
 use transfer::outcomes;
-use witness_build::marks_of;
 
 /// Puts the report in this mode.
 fn put_report(alloc: Global, page: &mut Page, json: bool, program: &Program, outcomes: &Outcomes)
     requires { AreOutcomes (core program.now) outcomes.now.items }
 {
-    let Ok(found) = warnings(alloc, program, outcomes) else {
-        return page.note(FolderFault::Memory);
-    };
-    let Ok(marks) = marks_of(alloc, program, outcomes, found.as_slice()) else {
-        return page.note(FolderFault::Memory);
-    };
     let mode = Mode {
         json,
         summaries: true,
     };
-    match report_text(
-        alloc,
-        mode,
-        program,
-        outcomes.as_slice(),
-        found.as_slice(),
-        marks.as_slice(),
-    ) {
-        Ok(text) => page.put(text.as_str()),
+    match said_of(alloc, mode, program, outcomes) {
+        Ok(said) => page.put(said.text.as_str()),
         Err(_) => page.note(FolderFault::Memory),
     }
 }
