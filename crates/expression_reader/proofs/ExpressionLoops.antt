@@ -1,5 +1,5 @@
 -- The loops that read expressions: lengths, items of arrays and turns.
-use Rattle.std.proofs.Common.{◌≡◌, ℕ, suc, ◌+◌, ◌-◌, ◌≤◌, ◌<◌, Bool, true, false, List, [], ◌∷◌, ◌++◌, length}
+use Rattle.std.proofs.Common.{◌≡◌, ℕ, zero, suc, ◌+◌, ◌-◌, ◌≤◌, ◌<◌, Bool, true, false, List, [], ◌∷◌, ◌++◌, length}
 use Rattle.std.proofs.Common.{map, codes, Option, Some, None, refl, sym, ap, ◌∙◌}
 use Rattle.std.proofs.Common.{append_assoc, append-nil, arith}
 use Rattle.java_lexer.specs.declared.token.Token.{Token}
@@ -11,7 +11,8 @@ use Rattle.method_grammar.specs.Taking.{◌>>=◌, match_option, after_sign}
 use Rattle.method_grammar.specs.TypeReading.{after_brackets}
 use Rattle.method_grammar.specs.Leads.{Lead, Assigns, Asks, Joins, Tests, Steps, Selects, Indexes, Opens, Ends, lead}
 use Rattle.method_grammar.specs.ExpressionReading.{Reading, Stop, Next, turn_with, climb_with, lengths_with}
-use Rattle.method_grammar.specs.ExpressionReading.{items_with}
+use Rattle.method_grammar.specs.ExpressionReading.{items_with, operand_with, read_at, array_at}
+use Rattle.method_grammar.specs.TypeReading.{ty_at, made_base_at}
 use Rattle.type_reader.specs.Tokens.{spelled}
 use Rattle.type_reader.specs.Finishing.{finished}
 use Rattle.type_reader.specs.Endings.{length_behind, item_behind, items_close, items_end}
@@ -172,6 +173,34 @@ climbs_on read n l i a t ts r total lt e so_far =
     let k : suc n - i ≡ suc (suc n - (i + 1)) = omega arith in
     let one : climb_with read n l (suc n - i) a ts ≡ climb_with read n l (suc n - (i + 1)) t r = rw (k, e) refl in
     sym one ∙ so_far
+
+pub climb_stops : (read : ℕ → Reading Expr) (n l i : ℕ) (a t : Expr) (ts : List Spelled) (total : Option (Expr
+    × List Spelled)) → i < n + 1 → turn_with read n l a (lead ts) ≡ Some (Stop t)
+    → climb_with read n l (suc n - i) a ts ≡ total → total ≡ Some (t, ts)
+unfolding climb_with
+climb_stops read n l i a t ts total lt e so_far =
+    let k : suc n - i ≡ suc (suc n - (i + 1)) = omega arith in
+    let one : climb_with read n l (suc n - i) a ts ≡ Some (t, ts) = rw (k, e) refl in
+    sym so_far ∙ one
+
+pub climb_runs_out : (read : ℕ → Reading Expr) (n l i : ℕ) (a : Expr) (ts : List Spelled) (total : Option (Expr
+    × List Spelled)) → n + 1 ≤ i → climb_with read n l (suc n - i) a ts ≡ total → total ≡ None
+unfolding climb_with
+climb_runs_out read n l i a ts total le so_far =
+    let k : suc n - i ≡ 0 = omega arith in
+    let one : climb_with read n l (suc n - i) a ts ≡ None = rw k refl in
+    sym so_far ∙ one
+
+-- what is read is an operand and its turns
+pub read_on : (n l : ℕ) (a : Expr × List Spelled) (ts : List Spelled) → (n ≡ 0 → ⊥) → operand_with (read_at (n - 1))
+    (ty_at (n - 1)) (made_base_at (n - 1)) (array_at (n - 1)) ts ≡ Some a
+    → read_at n l ts ≡ climb_with (read_at (n - 1)) (n - 1) l (suc (n - 1)) a.0 a.1
+unfolding read_at
+read_on zero l a ts some e = absurd (some refl)
+read_on (suc n) l a ts some e =
+    let k : suc n - 1 ≡ n = omega arith in
+    let first = rw k at e in
+    rw (k, first) refl
 
 -- an expression that does not go on is whole
 pub stops : (read : ℕ → Reading Expr) (n l : ℕ) (a : Expr) (w : Lead) → goes_on l a w ≡ false

@@ -1,3 +1,5 @@
+mod LastCalls
+mod TokensLeft
 pub mod ClassFacts
 pub mod ExpressionLoops
 pub mod CastChoice

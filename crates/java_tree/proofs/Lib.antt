@@ -1,5 +1,5 @@
 pub mod Operators
 pub mod SameAnswers
-pub mod SameEnds
+pub mod SideBySide
 pub mod SameLists
 pub mod SignedFronts

@@ -1,7 +1,6 @@
 -- A contract of a public call rests on this: worked rows on places: tokens of a text at numbered places.
 use Rattle.std.specs.Prelude.{ℕ, suc, List, [], ◌∷◌, map}
 use Rattle.racer_base.specs.declared.ids.FileId.{FileId}
-use Rattle.racer_base.specs.declared.ids.Place.{Place}
 use Rattle.java_lexer.specs.declared.token.Token.{Token}
 use Rattle.java_tree.specs.declared.words.Spelled.{Spelled}
 use Rattle.java_tree.specs.Examples.{tokens_of}

@@ -272,17 +272,15 @@ fn same_new_items(items: &ArrayTree, kind: &TypeTree, count: u32, other: &Expres
 pub fn same_trees(a: &[Expression], b: &[Expression]) -> bool
     ensures { result ≡ same_exprs (pack_exprs (map expr_of a.now)) (pack_exprs (map expr_of b.now)) }
 {
-    let mut rest = b;
-    for x in a {
-        let [y, others @ ..] = rest else {
-            return false;
-        };
-        if !same_tree(x, y) {
+    if a.len() != b.len() {
+        return false;
+    }
+    for number in 0..a.len() {
+        if !same_tree(&a[number], &b[number]) {
             return false;
         }
-        rest = others;
     }
-    rest.is_empty()
+    true
 }
 
 #[cycle(compare_expressions)]
@@ -296,17 +294,15 @@ fn same_array(a: &ArrayTree, b: &ArrayTree) -> bool
 fn same_items(a: &[Initialiser], b: &[Initialiser]) -> bool
     ensures { result ≡ same_inits (pack_inits (map init_of a.now)) (pack_inits (map init_of b.now)) }
 {
-    let mut rest = b;
-    for x in a {
-        let [y, others @ ..] = rest else {
-            return false;
-        };
-        if !same_initialiser(x, y) {
+    if a.len() != b.len() {
+        return false;
+    }
+    for number in 0..a.len() {
+        if !same_initialiser(&a[number], &b[number]) {
             return false;
         }
-        rest = others;
     }
-    rest.is_empty()
+    true
 }
 
 #[cycle(compare_expressions)]

@@ -225,15 +225,13 @@ fn same_return(value: &Option<Expression>, other: &Statement) -> bool
 pub fn same_statements(a: &[Statement], b: &[Statement]) -> bool
     ensures { result ≡ same_stmts (pack_stmts (map stmt_of a.now)) (pack_stmts (map stmt_of b.now)) }
 {
-    let mut rest = b;
-    for x in a {
-        let [y, others @ ..] = rest else {
-            return false;
-        };
-        if !same_statement(x, y) {
+    if a.len() != b.len() {
+        return false;
+    }
+    for number in 0..a.len() {
+        if !same_statement(&a[number], &b[number]) {
             return false;
         }
-        rest = others;
     }
-    rest.is_empty()
+    true
 }

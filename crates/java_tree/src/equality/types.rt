@@ -45,17 +45,15 @@ fn same_base(a: &BaseType, b: &BaseType) -> bool
 fn same_parts(a: &[TypePart], b: &[TypePart]) -> bool
     ensures { result ≡ same_parts (pack_parts (map part_of a.now)) (pack_parts (map part_of b.now)) }
 {
-    let mut rest = b;
-    for x in a {
-        let [y, others @ ..] = rest else {
-            return false;
-        };
-        if !same_part(x, y) {
+    if a.len() != b.len() {
+        return false;
+    }
+    for number in 0..a.len() {
+        if !same_part(&a[number], &b[number]) {
             return false;
         }
-        rest = others;
     }
-    rest.is_empty()
+    true
 }
 
 #[cycle(compare_types)]
@@ -82,17 +80,15 @@ fn same_arguments(a: &[TypeArgument], b: &[TypeArgument]) -> bool
     ensures { result ≡ same_arguments (pack_arguments (map argument_of a.now)) (pack_arguments (map argument_of
         b.now)) }
 {
-    let mut rest = b;
-    for x in a {
-        let [y, others @ ..] = rest else {
-            return false;
-        };
-        if !same_argument(x, y) {
+    if a.len() != b.len() {
+        return false;
+    }
+    for number in 0..a.len() {
+        if !same_argument(&a[number], &b[number]) {
             return false;
         }
-        rest = others;
     }
-    rest.is_empty()
+    true
 }
 
 #[cycle(compare_types)]

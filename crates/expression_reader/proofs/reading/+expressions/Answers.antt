@@ -1,477 +1,497 @@
-use Rattle.std.proofs.Common.{rules, codes, true, false, ◌≡◌, suc, ◌++◌, ◌∷◌, [], length, map, ap}
-use Rattle.std.proofs.Common.{◌∙◌, arith, refl, sym}
-use Rattle.std.proofs.lemmas.Result.{err_from_is_err_and}
-use Rattle.std.proofs.lemmas.List.{map_push}
-use Rattle.std.specs.Prelude.{bytes_eq}
-use Rattle.java_lexer.specs.declared.token.TokenKind.TheVariants as kind
-use Rattle.java_tree.specs.KeptPlaces.{kept, expr_places, init_places}
-use Rattle.java_tree.specs.Operators.{assignment_level, is_prefix}
-use Rattle.java_tree.specs.View.{base_of, expr_of, init_of}
-use Rattle.java_tree.specs.Operators.{conditional_level, unary_level}
-use Rattle.method_grammar.specs.Taking.{commas, after_sign, after_name}
-use Rattle.method_grammar.specs.TypeReading.{ty_at, made_base_at}
-use Rattle.method_grammar.specs.ExpressionReading.{operand_of, read_at, array_at, init_at, climb_with, lengths_with}
-use Rattle.method_grammar.specs.ExpressionReading.{items_with, assign_with, conditional_with, select_with}
-use Rattle.method_grammar.specs.ExpressionReading.{index_with, prefix_with, new_with, new_array_with, braces_with}
-use Rattle.method_grammar.specs.ExpressionReading.{call_arguments_with, name_with}
-use Rattle.method_grammar.specs.Leads.{lead}
-use Rattle.expression_reader.specs.LeadView.{lead_of}
-use Rattle.expression_reader.proofs.TurnSteps.{turn_given, turn_stops}
-use Rattle.expression_reader.proofs.CastChoice.{parens_alone}
-use Rattle.type_reader.specs.Tokens.{spelled}
-use Rattle.type_reader.specs.Finishing.{finished}
-use Rattle.type_reader.specs.Endings.{call_end, lengths_end, items_end}
-use Rattle.type_reader.proofs.ReadParts.{part_fails}
-use Rattle.type_reader.proofs.PutPlaces.{one_put}
-use Rattle.type_reader.proofs.PushedNesting.{exprs_nesting_push, inits_nesting_push}
-use Rattle.type_reader.proofs.ReadLoops.{comma_goes_on, comma_fails, comma_ends, comma_runs_out, ends_give}
-use Rattle.expression_reader.proofs.ExpressionLoops.{length_goes_on, length_fails, length_unclosed, length_ends}
-use Rattle.expression_reader.proofs.ExpressionLoops.{length_runs_out, item_goes_on, item_fails, items_stop}
-use Rattle.expression_reader.proofs.ExpressionLoops.{items_run_out, climbs_on}
+mod Ends
+mod Loops
+mod Parts
+mod Rows
 use Rattle.expression_reader.proofs.reading.+expressions.Goals as goal
-use Rattle.expression_reader.proofs.reading.+expressions.Goals.{creations::lengths-else-loop-test}
-use Rattle.expression_reader.proofs.reading.+expressions.Goals.{creations::lengths-then-loop-test+in_default}
-use Rattle.expression_reader.proofs.reading.+expressions.Goals.{arguments::arguments-else-loop-test}
-use Rattle.expression_reader.proofs.reading.+expressions.Goals.{arguments::arguments-then-loop-test+in_default}
-
--- ---- turns
+use Rattle.expression_reader.proofs.reading.+expressions.Answers.Ends as ends
+use Rattle.expression_reader.proofs.reading.+expressions.Answers.Loops as loops
+use Rattle.expression_reader.proofs.reading.+expressions.Answers.Parts as parts
+use Rattle.expression_reader.proofs.reading.+expressions.Answers.Rows as rows
 
 pub expressions::climb-loop-preserved : goal.expressions::climb-loop-preserved
-expressions::climb-loop-preserved t c =
-    let n = c.args.limit in
-    let gives = rw c.in-Next.is at c.in_ok-whole.ensures.gives in
-    let small = rw c.in-Next.is at c.in_ok-whole.ensures.small in
-    let shorter = rw c.in-Next.is at c.in_ok-whole.ensures.shorter in
-    let places = rw c.in-Next.is at c.in_ok-whole.ensures.places in
-    record {
-      gives = climbs_on (read_at n) n c.args.level c.loop.counter (expr_of c.loop.tree.tree.value)
-          (expr_of c.in-Next.larger.tree.value) (map spelled c.loop.rest.now) (map spelled c.in-Next.after.now)
-          (climb_with (read_at n) n c.args.level (suc n) (expr_of c.args.first.tree.value)
-          (map spelled c.args.tokens.now))
-          (omega arith) gives c.loop.invariant.gives;
-      places = places ∙ c.loop.invariant.places;
-      small = small;
-      shorter = omega (arith, shorter);
-    }
-
--- ---- parentheses
+expressions::climb-loop-preserved = loops.expressions::climb-loop-preserved
 
 pub first_operand::signed-returns-in-None-clause-gives : goal.first_operand::signed-returns-in-None-clause-gives
-first_operand::signed-returns-in-None-clause-gives t c =
-    let n = c.args.limit in
-    let ts = map spelled c.args.tokens.now in
-    let text = c.args.token.now.text in
-    let no_prefix : is_prefix text ≡ false = search rules in
-    let round : bytes_eq text (codes "(") ≡ true = search rules in
-    ends_give _ c.nested_parens.result (operand_of (read_at n) (ty_at n) (made_base_at n) (array_at n) kind.Sign text
-    ts) _ (parens_alone n text ts no_prefix round c.in-None.ensures) c.nested_parens.ensures.gives
-
--- ---- arguments
+first_operand::signed-returns-in-None-clause-gives = rows.first_operand::signed-returns-in-None-clause-gives
 
 pub arguments::arguments-returns-in_err-next-clause-gives : goal.arguments::arguments-returns-in_err-next-clause-gives
-arguments::arguments-returns-in_err-next-clause-gives t c =
-    let read = read_at c.args.limit assignment_level in
-    let total =
-    finished call_end (expr_of c.args.first.tree.value ∷ []) (commas read (length (map spelled c.args.tokens.now))
-    (map spelled c.args.tokens.now)) in
-    let p = err_from_is_err_and c.from_residual-in_err-next.result c.from_residual-in_err-next.ensures.1 in
-    rw (p.1, p.2) (comma_fails read call_end total c.args.tokens.now c.loop.counter (map expr_of c.loop.trees.items)
-    c.in_err-next.field-0.0 (map spelled c.loop.rest.now) (map spelled c.in-Some.after.now) c.loop-test.true
-    c.in-Some.ensures.gives c.in_err-next.ensures.gives c.loop.invariant.gives)
+arguments::arguments-returns-in_err-next-clause-gives = loops.arguments::arguments-returns-in_err-next-clause-gives
 
 pub arguments::arguments-loop-preserved : goal.arguments::arguments-loop-preserved
-arguments::arguments-loop-preserved t c =
-    let n = c.in_ok-next.next.tree.value in
-    let e : map expr_of c.push_tree-in-loop.new.trees.items ≡ map expr_of c.loop.trees.items ++ expr_of n ∷ [] =
-    rw c.in_ok-push_tree-2.ensures.items (map_push _ c.loop.trees.items n) in
-    let read = read_at c.args.limit assignment_level in
-    let total =
-    finished call_end (expr_of c.args.first.tree.value ∷ []) (commas read (length (map spelled c.args.tokens.now))
-    (map spelled c.args.tokens.now)) in
-    record {
-      gives = rw e (comma_goes_on read call_end total c.args.tokens.now c.loop.counter
-          (map expr_of c.loop.trees.items) (expr_of n) (map spelled c.loop.rest.now) (map spelled c.in-Some.after.now)
-          (map spelled c.in_ok-next.after.now) c.loop-test.true c.in-Some.ensures.gives c.in_ok-next.ensures.gives
-          c.loop.invariant.gives);
-      places = rw c.in_ok-push_tree-2.ensures.items (one_put expr_places c.loop.trees.items n (kept c.loop.rest.now)
-          (kept c.in_ok-next.after.now) _ (c.in_ok-next.ensures.places ∙ c.in-Some.ensures.places)
-          c.loop.invariant.places);
-      small = omega (arith, c.in_ok-next.ensures.small, c.max-nesting.ensures);
-      measured = rw e (omega (
-        arith,
-        c.max-nesting.ensures,
-        c.loop.invariant.measured,
-        c.in_ok-next.next.measured,
-        exprs_nesting_push (map expr_of c.loop.trees.items) (expr_of n),
-      ));
-      shorter = omega (arith, c.in-Some.ensures.shorter, c.in_ok-next.ensures.shorter);
-    }
+arguments::arguments-loop-preserved = loops.arguments::arguments-loop-preserved
 
 pub arguments::arguments-returns-clause-gives : goal.arguments::arguments-returns-clause-gives
-arguments::arguments-returns-clause-gives t c =
-    let read = read_at c.args.limit assignment_level in
-    let total =
-    finished call_end (expr_of c.args.first.tree.value ∷ []) (commas read (length (map spelled c.args.tokens.now))
-    (map spelled c.args.tokens.now)) in
-    elim c.loop-test.branch [
-      | arguments::arguments-else-loop-test w ↦ ends_give _ c.call_end.result total _ (comma_runs_out read call_end
-          total c.args.tokens.now c.loop.counter (map expr_of c.loop.trees.items) (map spelled c.loop.rest.now)
-          w.loop-test.false c.loop.invariant.gives) c.call_end.ensures.gives
-      | arguments::arguments-then-loop-test+in_default w ↦ ends_give _ c.call_end.result total _ (comma_ends read
-          call_end total c.args.tokens.now c.loop.counter (map expr_of c.loop.trees.items)
-          (map spelled c.loop.rest.now) w.loop-test.true w.in_default.ensures.gives c.loop.invariant.gives)
-          c.call_end.ensures.gives
-    ]
-
--- ---- lengths
+arguments::arguments-returns-clause-gives = loops.arguments::arguments-returns-clause-gives
 
 pub creations::lengths-returns-in_err-next-clause-gives : goal.creations::lengths-returns-in_err-next-clause-gives
-creations::lengths-returns-in_err-next-clause-gives t c =
-    let read = read_at c.args.limit assignment_level in
-    let end = lengths_end (base_of c.args.base.value.tree) in
-    let total =
-    finished end (expr_of c.args.first.tree.value ∷ []) (lengths_with read (length (map spelled c.args.tokens.now))
-    (map spelled c.args.tokens.now)) in
-    let p = err_from_is_err_and c.from_residual-in_err-next.result c.from_residual-in_err-next.ensures.1 in
-    rw (p.1, p.2) (length_fails read end total c.args.tokens.now c.loop.counter (map expr_of c.loop.trees.items)
-    (map spelled c.loop.rest.now) c.in_err-next.field-0.0 (map spelled c.in-Some.inside.now) c.loop-test.true
-    c.in-Some.ensures.gives c.in_err-next.ensures.gives c.loop.invariant.gives)
+creations::lengths-returns-in_err-next-clause-gives = loops.creations::lengths-returns-in_err-next-clause-gives
 
 pub creations::lengths-returns-in_err-behind-clause-gives : goal.creations::lengths-returns-in_err-behind-clause-gives
-creations::lengths-returns-in_err-behind-clause-gives t c =
-    let read = read_at c.args.limit assignment_level in
-    let end = lengths_end (base_of c.args.base.value.tree) in
-    let total =
-    finished end (expr_of c.args.first.tree.value ∷ []) (lengths_with read (length (map spelled c.args.tokens.now))
-    (map spelled c.args.tokens.now)) in
-    let p = err_from_is_err_and c.from_residual-in_err-behind.result c.from_residual-in_err-behind.ensures.1 in
-    rw (p.1, p.2) (length_unclosed read end total c.args.tokens.now c.loop.counter (map expr_of c.loop.trees.items)
-    (map spelled c.loop.rest.now) c.in_err-behind.field-0.0 (expr_of c.in_ok-next.next.tree.value)
-    (map spelled c.in-Some.inside.now) (map spelled c.in_ok-next.behind.now) c.loop-test.true
-    c.in-Some.ensures.gives c.in_ok-next.ensures.gives c.in_err-behind.ensures.gives c.loop.invariant.gives)
+creations::lengths-returns-in_err-behind-clause-gives = loops.creations::lengths-returns-in_err-behind-clause-gives
 
 pub creations::lengths-loop-preserved : goal.creations::lengths-loop-preserved
-creations::lengths-loop-preserved t c =
-    let n = c.in_ok-next.next.tree.value in
-    let e : map expr_of c.push_tree-in-loop.new.trees.items ≡ map expr_of c.loop.trees.items ++ expr_of n ∷ [] =
-    rw c.in_ok-push_tree-2.ensures.items (map_push _ c.loop.trees.items n) in
-    let read = read_at c.args.limit assignment_level in
-    let end = lengths_end (base_of c.args.base.value.tree) in
-    let total =
-    finished end (expr_of c.args.first.tree.value ∷ []) (lengths_with read (length (map spelled c.args.tokens.now))
-    (map spelled c.args.tokens.now)) in
-    record {
-      gives = rw e (length_goes_on read end total c.args.tokens.now c.loop.counter (map expr_of c.loop.trees.items)
-          (map spelled c.loop.rest.now) (expr_of n) (map spelled c.in-Some.inside.now)
-          (map spelled c.in_ok-next.behind.now) (map spelled c.in_ok-behind.behind.now) c.loop-test.true
-          c.in-Some.ensures.gives c.in_ok-next.ensures.gives c.in_ok-behind.ensures.gives c.loop.invariant.gives);
-      places = rw c.in_ok-push_tree-2.ensures.items (one_put expr_places c.loop.trees.items n (kept c.loop.rest.now)
-          (kept c.in_ok-behind.behind.now) _ (ap (expr_places n) c.in_ok-behind.ensures.places
-          ∙ (c.in_ok-next.ensures.places ∙ c.in-Some.ensures.places)) c.loop.invariant.places);
-      small = omega (arith, c.in_ok-next.ensures.small, c.max-nesting.ensures);
-      measured = rw e (omega (
-        arith,
-        c.max-nesting.ensures,
-        c.loop.invariant.measured,
-        c.in_ok-next.next.measured,
-        exprs_nesting_push (map expr_of c.loop.trees.items) (expr_of n),
-      ));
-      shorter = omega (arith, c.in-Some.ensures.shorter, c.in_ok-next.ensures.shorter, c.in_ok-behind.ensures.shorter);
-    }
+creations::lengths-loop-preserved = loops.creations::lengths-loop-preserved
 
 pub creations::lengths-returns-clause-gives : goal.creations::lengths-returns-clause-gives
-creations::lengths-returns-clause-gives t c =
-    let read = read_at c.args.limit assignment_level in
-    let end = lengths_end (base_of c.args.base.value.tree) in
-    let total =
-    finished end (expr_of c.args.first.tree.value ∷ []) (lengths_with read (length (map spelled c.args.tokens.now))
-    (map spelled c.args.tokens.now)) in
-    elim c.loop-test.branch [
-      | creations::lengths-else-loop-test w ↦ ends_give _ c.lengths_end.result total _ (length_runs_out read end
-          total c.args.tokens.now c.loop.counter (map expr_of c.loop.trees.items) (map spelled c.loop.rest.now)
-          w.loop-test.false c.loop.invariant.gives) c.lengths_end.ensures.gives
-      | creations::lengths-then-loop-test+in_default w ↦ ends_give _ c.lengths_end.result total _ (length_ends read
-          end total c.args.tokens.now c.loop.counter (map expr_of c.loop.trees.items) (map spelled c.loop.rest.now)
-          w.loop-test.true w.in_default.ensures.gives c.loop.invariant.gives) c.lengths_end.ensures.gives
-    ]
-
--- ---- items of arrays
+creations::lengths-returns-clause-gives = loops.creations::lengths-returns-clause-gives
 
 pub initialisers::items-returns-in_default-clause-gives : goal.initialisers::items-returns-in_default-clause-gives
-initialisers::items-returns-in_default-clause-gives t c =
-    let read = init_at c.args.limit in
-    let total = items_end (init_of c.args.first.tree.value ∷ []) (items_with read (length
-    (map spelled c.args.tokens.now))
-    (map spelled c.args.tokens.now)) in
-    ends_give _ c.items_end.result total _ (items_stop read total c.args.tokens.now c.loop.counter
-    (map init_of c.loop.items.items) (map spelled c.loop.rest.now) c.loop-test.true c.in_default.ensures.gives
-    c.loop.invariant.gives) c.items_end.ensures.gives
+initialisers::items-returns-in_default-clause-gives = loops.initialisers::items-returns-in_default-clause-gives
 
 pub initialisers::items-returns-in_err-next-clause-gives : goal.initialisers::items-returns-in_err-next-clause-gives
-initialisers::items-returns-in_err-next-clause-gives t c =
-    let read = init_at c.args.limit in
-    let total = items_end (init_of c.args.first.tree.value ∷ []) (items_with read (length
-    (map spelled c.args.tokens.now))
-    (map spelled c.args.tokens.now)) in
-    let p = err_from_is_err_and c.from_residual-in_err-next.result c.from_residual-in_err-next.ensures.1 in
-    rw (p.1, p.2) (item_fails read total c.args.tokens.now c.loop.counter (map init_of c.loop.items.items)
-    (map spelled c.loop.rest.now) c.in_err-next.field-0.0 (map spelled c.in-Some.after.now) c.loop-test.true
-    c.in-Some.ensures.gives c.in_err-next.ensures.gives c.loop.invariant.gives)
+initialisers::items-returns-in_err-next-clause-gives = loops.initialisers::items-returns-in_err-next-clause-gives
 
 pub initialisers::items-loop-preserved : goal.initialisers::items-loop-preserved
-initialisers::items-loop-preserved t c =
-    let n = c.in_ok-next.next.tree.value in
-    let e : map init_of c.push_tree-in-loop.new.trees.items ≡ map init_of c.loop.items.items ++ init_of n ∷ [] =
-    rw c.in_ok-push_tree-2.ensures.items (map_push _ c.loop.items.items n) in
-    let read = init_at c.args.limit in
-    let total = items_end (init_of c.args.first.tree.value ∷ []) (items_with read (length
-    (map spelled c.args.tokens.now))
-    (map spelled c.args.tokens.now)) in
-    record {
-      gives = rw e (item_goes_on read total c.args.tokens.now c.loop.counter (map init_of c.loop.items.items)
-          (map spelled c.loop.rest.now) (init_of n) (map spelled c.in-Some.after.now)
-          (map spelled c.in_ok-next.after.now) c.loop-test.true c.in-Some.ensures.gives c.in_ok-next.ensures.gives
-          c.loop.invariant.gives);
-      places = rw c.in_ok-push_tree-2.ensures.items (one_put init_places c.loop.items.items n (kept c.loop.rest.now)
-          (kept c.in_ok-next.after.now) _ (c.in_ok-next.ensures.places ∙ c.in-Some.ensures.places)
-          c.loop.invariant.places);
-      small = omega (arith, c.in_ok-next.ensures.small, c.max-nesting.ensures);
-      measured = rw e (omega (
-        arith,
-        c.max-nesting.ensures,
-        c.loop.invariant.measured,
-        c.in_ok-next.next.measured,
-        inits_nesting_push (map init_of c.loop.items.items) (init_of n),
-      ));
-      shorter = omega (arith, c.in-Some.ensures.shorter, c.in_ok-next.ensures.shorter);
-    }
+initialisers::items-loop-preserved = loops.initialisers::items-loop-preserved
 
 pub initialisers::items-returns-clause-gives : goal.initialisers::items-returns-clause-gives
-initialisers::items-returns-clause-gives t c =
-    let read = init_at c.args.limit in
-    let total = items_end (init_of c.args.first.tree.value ∷ []) (items_with read (length
-    (map spelled c.args.tokens.now))
-    (map spelled c.args.tokens.now)) in
-    items_run_out read total c.args.tokens.now c.loop.counter (map init_of c.loop.items.items)
-    (map spelled c.loop.rest.now) c.loop-test.false c.loop.invariant.gives
-
--- ---- what is read of parts
+initialisers::items-returns-clause-gives = loops.initialisers::items-returns-clause-gives
 
 pub expressions::assign-returns-in_err-right-clause-gives : goal.expressions::assign-returns-in_err-right-clause-gives
-unfolding assign_with
-expressions::assign-returns-in_err-right-clause-gives t c =
-    let p = err_from_is_err_and c.from_residual.result c.from_residual.ensures.1 in
-    rw (p.1, p.2) (part_fails c.in_err-right.field-0.0 (read_at c.args.limit assignment_level (map spelled c.args.tokens.now)) _ (λ n. rw n refl) c.in_err-right.ensures.gives)
+expressions::assign-returns-in_err-right-clause-gives = parts.expressions::assign-returns-in_err-right-clause-gives
 
 pub expressions::assign-returns-clause-gives : goal.expressions::assign-returns-clause-gives
-unfolding assign_with
-expressions::assign-returns-clause-gives t c = rw c.in_ok-right.ensures.gives c.assigned.ensures.gives
+expressions::assign-returns-clause-gives = parts.expressions::assign-returns-clause-gives
 
-pub expressions::conditional-returns-in_err-then-clause-gives : goal.expressions::conditional-returns-in_err-then-clause-gives
-unfolding conditional_with
-expressions::conditional-returns-in_err-then-clause-gives t c =
-    let p = err_from_is_err_and c.from_residual.result c.from_residual.ensures.1 in
-    rw (p.1, p.2) (part_fails c.in_err-then.field-0.0 (read_at c.args.limit assignment_level (map spelled c.args.tokens.now)) _ (λ n. rw n refl) c.in_err-then.ensures.gives)
+pub expressions::conditional-returns-in_err-then-clause-gives :
+    goal.expressions::conditional-returns-in_err-then-clause-gives
+expressions::conditional-returns-in_err-then-clause-gives =
+    parts.expressions::conditional-returns-in_err-then-clause-gives
 
-pub expressions::conditional-returns-in_err-rest-clause-gives : goal.expressions::conditional-returns-in_err-rest-clause-gives
-unfolding conditional_with
-expressions::conditional-returns-in_err-rest-clause-gives t c =
-    let p = err_from_is_err_and c.from_residual-in_err-rest.result c.from_residual-in_err-rest.ensures.1 in
-    rw (p.1, p.2) (part_fails c.in_err-rest.field-0.0 (after_sign (codes ":") (map spelled c.in_ok-then.rest.now)) _ (λ n. rw (c.in_ok-then.ensures.gives, n) refl) c.in_err-rest.ensures.gives)
+pub expressions::conditional-returns-in_err-rest-clause-gives :
+    goal.expressions::conditional-returns-in_err-rest-clause-gives
+expressions::conditional-returns-in_err-rest-clause-gives =
+    parts.expressions::conditional-returns-in_err-rest-clause-gives
 
-pub expressions::conditional-returns-in_err-other-clause-gives : goal.expressions::conditional-returns-in_err-other-clause-gives
-unfolding conditional_with
-expressions::conditional-returns-in_err-other-clause-gives t c =
-    let p = err_from_is_err_and c.from_residual-in_err-other.result c.from_residual-in_err-other.ensures.1 in
-    rw (p.1, p.2) (part_fails c.in_err-other.field-0.0 (read_at c.args.limit conditional_level (map spelled c.in_ok-rest.rest.now)) _ (λ n. rw (c.in_ok-then.ensures.gives, c.in_ok-rest.ensures.gives, n) refl) c.in_err-other.ensures.gives)
+pub expressions::conditional-returns-in_err-other-clause-gives :
+    goal.expressions::conditional-returns-in_err-other-clause-gives
+expressions::conditional-returns-in_err-other-clause-gives =
+    parts.expressions::conditional-returns-in_err-other-clause-gives
 
 pub expressions::conditional-returns-clause-gives : goal.expressions::conditional-returns-clause-gives
-unfolding conditional_with
-expressions::conditional-returns-clause-gives t c = rw (c.in_ok-then.ensures.gives, c.in_ok-rest.ensures.gives, c.in_ok-other.ensures.gives) c.chosen.ensures.gives
+expressions::conditional-returns-clause-gives = parts.expressions::conditional-returns-clause-gives
 
 pub expressions::select-returns-in_err-name-clause-gives : goal.expressions::select-returns-in_err-name-clause-gives
-unfolding select_with
-expressions::select-returns-in_err-name-clause-gives t c =
-    let p = err_from_is_err_and c.from_residual.result c.from_residual.ensures.1 in
-    rw (p.1, p.2) (part_fails c.in_err-name.field-0.0 (after_name (map spelled c.args.tokens.now)) _ (λ n. rw n refl) c.in_err-name.ensures.gives)
+expressions::select-returns-in_err-name-clause-gives = parts.expressions::select-returns-in_err-name-clause-gives
 
 pub expressions::select-returns-in_default-clause-gives : goal.expressions::select-returns-in_default-clause-gives
-unfolding select_with
-expressions::select-returns-in_default-clause-gives t c = rw (c.in_ok-name.ensures.gives, c.in_default.ensures.gives) c.selected.ensures.gives
+expressions::select-returns-in_default-clause-gives = parts.expressions::select-returns-in_default-clause-gives
 
 pub expressions::select-returns-in_err-all-clause-gives : goal.expressions::select-returns-in_err-all-clause-gives
-unfolding select_with
-expressions::select-returns-in_err-all-clause-gives t c =
-    let p = err_from_is_err_and c.from_residual-in_err-all.result c.from_residual-in_err-all.ensures.1 in
-    rw (p.1, p.2) (part_fails c.in_err-all.field-0.0 (call_arguments_with (read_at c.args.limit) (map spelled c.in-Some.inside.now)) _ (λ n. rw (c.in_ok-name.ensures.gives, c.in-Some.ensures.gives, n) refl) c.in_err-all.ensures.gives)
+expressions::select-returns-in_err-all-clause-gives = parts.expressions::select-returns-in_err-all-clause-gives
 
 pub expressions::select-returns-clause-gives : goal.expressions::select-returns-clause-gives
-unfolding select_with
-expressions::select-returns-clause-gives t c = rw (c.in_ok-name.ensures.gives, c.in-Some.ensures.gives, c.in_ok-all.ensures.gives) c.called.ensures.gives
+expressions::select-returns-clause-gives = parts.expressions::select-returns-clause-gives
 
 pub expressions::index-returns-in_err-index-clause-gives : goal.expressions::index-returns-in_err-index-clause-gives
-unfolding index_with
-expressions::index-returns-in_err-index-clause-gives t c =
-    let p = err_from_is_err_and c.from_residual.result c.from_residual.ensures.1 in
-    rw (p.1, p.2) (part_fails c.in_err-index.field-0.0 (read_at c.args.limit assignment_level (map spelled c.args.tokens.now)) _ (λ n. rw n refl) c.in_err-index.ensures.gives)
+expressions::index-returns-in_err-index-clause-gives = parts.expressions::index-returns-in_err-index-clause-gives
 
 pub expressions::index-returns-clause-gives : goal.expressions::index-returns-clause-gives
-unfolding index_with
-expressions::index-returns-clause-gives t c = rw c.in_ok-index.ensures.gives c.indexed.ensures.gives
+expressions::index-returns-clause-gives = parts.expressions::index-returns-clause-gives
 
-pub first_operand::prefix-returns-in_err-part-clause-gives : goal.first_operand::prefix-returns-in_err-part-clause-gives
-unfolding prefix_with
-first_operand::prefix-returns-in_err-part-clause-gives t c =
-    let p = err_from_is_err_and c.from_residual.result c.from_residual.ensures.1 in
-    rw (p.1, p.2) (part_fails c.in_err-part.field-0.0 (read_at c.args.limit unary_level (map spelled c.args.tokens.now)) _ (λ n. rw n refl) c.in_err-part.ensures.gives)
+pub first_operand::prefix-returns-in_err-part-clause-gives :
+    goal.first_operand::prefix-returns-in_err-part-clause-gives
+first_operand::prefix-returns-in_err-part-clause-gives = parts.first_operand::prefix-returns-in_err-part-clause-gives
 
 pub first_operand::prefix-returns-clause-gives : goal.first_operand::prefix-returns-clause-gives
-unfolding prefix_with
-first_operand::prefix-returns-clause-gives t c = rw c.in_ok-part.ensures.gives c.prefixed.ensures.gives
+first_operand::prefix-returns-clause-gives = parts.first_operand::prefix-returns-clause-gives
 
 pub first_operand::cast-returns-in_err-kind-clause-gives : goal.first_operand::cast-returns-in_err-kind-clause-gives
-first_operand::cast-returns-in_err-kind-clause-gives t c =
-    let p = err_from_is_err_and c.from_residual.result c.from_residual.ensures.1 in
-    rw (p.1, p.2) (part_fails c.in_err-kind.field-0.0 (ty_at c.args.limit (map spelled c.args.tokens.now)) _ (λ n. rw n refl) c.in_err-kind.ensures.gives)
+first_operand::cast-returns-in_err-kind-clause-gives = parts.first_operand::cast-returns-in_err-kind-clause-gives
 
 pub first_operand::cast-returns-in_err-rest-clause-gives : goal.first_operand::cast-returns-in_err-rest-clause-gives
-first_operand::cast-returns-in_err-rest-clause-gives t c =
-    let p = err_from_is_err_and c.from_residual-in_err-rest.result c.from_residual-in_err-rest.ensures.1 in
-    rw (p.1, p.2) (part_fails c.in_err-rest.field-0.0 (after_sign (codes ")") (map spelled c.in_ok-kind.rest.now)) _ (λ n. rw (c.in_ok-kind.ensures.gives, n) refl) c.in_err-rest.ensures.gives)
+first_operand::cast-returns-in_err-rest-clause-gives = parts.first_operand::cast-returns-in_err-rest-clause-gives
 
 pub first_operand::cast-returns-in_err-part-clause-gives : goal.first_operand::cast-returns-in_err-part-clause-gives
-first_operand::cast-returns-in_err-part-clause-gives t c =
-    let p = err_from_is_err_and c.from_residual-in_err-part.result c.from_residual-in_err-part.ensures.1 in
-    rw (p.1, p.2) (part_fails c.in_err-part.field-0.0 (read_at c.args.limit unary_level (map spelled c.in_ok-rest.rest.now)) _ (λ n. rw (c.in_ok-kind.ensures.gives, c.in_ok-rest.ensures.gives, n) refl) c.in_err-part.ensures.gives)
+first_operand::cast-returns-in_err-part-clause-gives = parts.first_operand::cast-returns-in_err-part-clause-gives
 
 pub first_operand::cast-returns-clause-gives : goal.first_operand::cast-returns-clause-gives
-first_operand::cast-returns-clause-gives t c = rw (c.in_ok-kind.ensures.gives, c.in_ok-rest.ensures.gives, c.in_ok-part.ensures.gives) c.cast_to.ensures.gives
+first_operand::cast-returns-clause-gives = parts.first_operand::cast-returns-clause-gives
 
-pub first_operand::parens-returns-in_err-part-clause-gives : goal.first_operand::parens-returns-in_err-part-clause-gives
-first_operand::parens-returns-in_err-part-clause-gives t c =
-    let p = err_from_is_err_and c.from_residual.result c.from_residual.ensures.1 in
-    rw (p.1, p.2) (part_fails c.in_err-part.field-0.0 (read_at c.args.limit assignment_level (map spelled c.args.tokens.now)) _ (λ n. rw n refl) c.in_err-part.ensures.gives)
+pub first_operand::parens-returns-in_err-part-clause-gives :
+    goal.first_operand::parens-returns-in_err-part-clause-gives
+first_operand::parens-returns-in_err-part-clause-gives = parts.first_operand::parens-returns-in_err-part-clause-gives
 
 pub first_operand::parens-returns-clause-gives : goal.first_operand::parens-returns-clause-gives
-first_operand::parens-returns-clause-gives t c = rw c.in_ok-part.ensures.gives c.paren.ensures.gives
+first_operand::parens-returns-clause-gives = parts.first_operand::parens-returns-clause-gives
 
 pub creations::creation-returns-in_err-base-clause-gives : goal.creations::creation-returns-in_err-base-clause-gives
-unfolding new_with
-creations::creation-returns-in_err-base-clause-gives t c =
-    let p = err_from_is_err_and c.from_residual.result c.from_residual.ensures.1 in
-    rw (p.1, p.2) (part_fails c.in_err-base.field-0.0 (made_base_at c.args.limit (map spelled c.args.tokens.now)) _ (λ n. rw n refl) c.in_err-base.ensures.gives)
+creations::creation-returns-in_err-base-clause-gives = rows.creations::creation-returns-in_err-base-clause-gives
 
 pub creations::creation-returns-in-Some-clause-gives : goal.creations::creation-returns-in-Some-clause-gives
-unfolding new_with
-creations::creation-returns-in-Some-clause-gives t c = rw (c.in_ok-base.ensures.gives, c.in-Some.ensures.gives) c.new_object.ensures.gives
+creations::creation-returns-in-Some-clause-gives = rows.creations::creation-returns-in-Some-clause-gives
 
-pub creations::new_array-returns-in_err-inside-clause-gives : goal.creations::new_array-returns-in_err-inside-clause-gives
-unfolding new_array_with
-creations::new_array-returns-in_err-inside-clause-gives t c =
-    let p = err_from_is_err_and c.from_residual.result c.from_residual.ensures.1 in
-    rw (p.1, p.2) (part_fails c.in_err-inside.field-0.0 (after_sign (codes "[") (map spelled c.args.tokens.now)) _ (λ n. rw n refl) c.in_err-inside.ensures.gives)
+pub creations::new_array-returns-in_err-inside-clause-gives :
+    goal.creations::new_array-returns-in_err-inside-clause-gives
+creations::new_array-returns-in_err-inside-clause-gives = parts.creations::new_array-returns-in_err-inside-clause-gives
 
-pub creations::new_array-returns-in_err-first-clause-gives : goal.creations::new_array-returns-in_err-first-clause-gives
-unfolding new_array_with
-creations::new_array-returns-in_err-first-clause-gives t c =
-    let p = err_from_is_err_and c.from_residual-in_err-first.result c.from_residual-in_err-first.ensures.1 in
-    rw (p.1, p.2) (part_fails c.in_err-first.field-0.0 (read_at c.args.limit assignment_level (map spelled c.in_ok-inside.inside.now)) _ (λ n. rw (c.in_ok-inside.ensures.gives, n) refl) c.in_err-first.ensures.gives)
+pub creations::new_array-returns-in_err-first-clause-gives :
+    goal.creations::new_array-returns-in_err-first-clause-gives
+creations::new_array-returns-in_err-first-clause-gives = parts.creations::new_array-returns-in_err-first-clause-gives
 
 pub creations::new_array-returns-in_err-rest-clause-gives : goal.creations::new_array-returns-in_err-rest-clause-gives
-unfolding new_array_with
-creations::new_array-returns-in_err-rest-clause-gives t c =
-    let p = err_from_is_err_and c.from_residual-in_err-rest.result c.from_residual-in_err-rest.ensures.1 in
-    rw (p.1, p.2) (part_fails c.in_err-rest.field-0.0 (after_sign (codes "]") (map spelled c.in_ok-first.rest.now)) _ (λ n. rw (c.in_ok-inside.ensures.gives, c.in_ok-first.ensures.gives, n) refl) c.in_err-rest.ensures.gives)
+creations::new_array-returns-in_err-rest-clause-gives = parts.creations::new_array-returns-in_err-rest-clause-gives
 
 pub creations::new_array-returns-clause-gives : goal.creations::new_array-returns-clause-gives
-unfolding new_array_with
-creations::new_array-returns-clause-gives t c = rw (c.in_ok-inside.ensures.gives, c.in_ok-first.ensures.gives, c.in_ok-rest.ensures.gives) c.lengths.ensures.gives
+creations::new_array-returns-clause-gives = parts.creations::new_array-returns-clause-gives
 
-pub arguments::call_arguments-returns-in-Some-clause-gives : goal.arguments::call_arguments-returns-in-Some-clause-gives
-unfolding call_arguments_with
-arguments::call_arguments-returns-in-Some-clause-gives t c = rw (c.in-Some.ensures.gives, c.no_arguments.ensures.gives) refl
+pub arguments::call_arguments-returns-in-Some-clause-gives :
+    goal.arguments::call_arguments-returns-in-Some-clause-gives
+arguments::call_arguments-returns-in-Some-clause-gives = parts.arguments::call_arguments-returns-in-Some-clause-gives
 
-pub arguments::call_arguments-returns-in_err-first-clause-gives : goal.arguments::call_arguments-returns-in_err-first-clause-gives
-unfolding call_arguments_with
-arguments::call_arguments-returns-in_err-first-clause-gives t c =
-    let p = err_from_is_err_and c.from_residual.result c.from_residual.ensures.1 in
-    rw (p.1, p.2) (part_fails c.in_err-first.field-0.0 (read_at c.args.limit assignment_level (map spelled c.args.tokens.now)) _ (λ n. rw (c.in_default.ensures.gives, n) refl) c.in_err-first.ensures.gives)
+pub arguments::call_arguments-returns-in_err-first-clause-gives :
+    goal.arguments::call_arguments-returns-in_err-first-clause-gives
+arguments::call_arguments-returns-in_err-first-clause-gives =
+    parts.arguments::call_arguments-returns-in_err-first-clause-gives
 
 pub arguments::call_arguments-returns-clause-gives : goal.arguments::call_arguments-returns-clause-gives
-unfolding call_arguments_with
-arguments::call_arguments-returns-clause-gives t c = rw (c.in_default.ensures.gives, c.in_ok-first.ensures.gives) c.arguments.ensures.gives
+arguments::call_arguments-returns-clause-gives = parts.arguments::call_arguments-returns-clause-gives
 
 pub initialisers::braces-returns-in_err-rest-clause-gives : goal.initialisers::braces-returns-in_err-rest-clause-gives
-unfolding braces_with
-initialisers::braces-returns-in_err-rest-clause-gives t c =
-    let p = err_from_is_err_and c.from_residual.result c.from_residual.ensures.1 in
-    rw (p.1, p.2) (part_fails c.in_err-rest.field-0.0 (after_sign (codes "{") (map spelled c.args.tokens.now)) _ (λ n. rw n refl) c.in_err-rest.ensures.gives)
+initialisers::braces-returns-in_err-rest-clause-gives = parts.initialisers::braces-returns-in_err-rest-clause-gives
 
-pub initialisers::braces-returns-in_err-first-clause-gives : goal.initialisers::braces-returns-in_err-first-clause-gives
-unfolding braces_with
-initialisers::braces-returns-in_err-first-clause-gives t c =
-    let p = err_from_is_err_and c.from_residual-in_err-first.result c.from_residual-in_err-first.ensures.1 in
-    rw (p.1, p.2) (part_fails c.in_err-first.field-0.0 (init_at c.args.limit (map spelled c.in_ok-rest.rest.now)) _ (λ n. rw (c.in_ok-rest.ensures.gives, c.in_default.ensures.gives, n) refl) c.in_err-first.ensures.gives)
+pub initialisers::braces-returns-in_err-first-clause-gives :
+    goal.initialisers::braces-returns-in_err-first-clause-gives
+initialisers::braces-returns-in_err-first-clause-gives = parts.initialisers::braces-returns-in_err-first-clause-gives
 
 pub initialisers::braces-returns-clause-gives : goal.initialisers::braces-returns-clause-gives
-unfolding braces_with
-initialisers::braces-returns-clause-gives t c = rw (c.in_ok-rest.ensures.gives, c.in_default.ensures.gives, c.in_ok-first.ensures.gives) c.items.ensures.gives
-
--- ---- turns, and what begins with a name
+initialisers::braces-returns-clause-gives = parts.initialisers::braces-returns-clause-gives
 
 pub expressions::turn-returns-in-Assigns-clause-gives : goal.expressions::turn-returns-in-Assigns-clause-gives
-expressions::turn-returns-in-Assigns-clause-gives t c =
-    let same : c.deref.result.now ≡ c.args.left.tree.value = search rules in
-    turn_given c.assign.result c.args.limit c.args.level (expr_of c.args.left.tree.value) (lead_of c.lead_at-lead.result) (lead (map spelled c.args.tokens.now)) c.lead_at-lead.ensures.gives (rw same at (sym c.goes_on.ensures ∙ c.if-not-goes_on.false)) (rw c.in-Assigns.is c.assign.ensures.gives)
+expressions::turn-returns-in-Assigns-clause-gives = rows.expressions::turn-returns-in-Assigns-clause-gives
 
 pub expressions::turn-returns-in-Asks-clause-gives : goal.expressions::turn-returns-in-Asks-clause-gives
-expressions::turn-returns-in-Asks-clause-gives t c =
-    let same : c.deref.result.now ≡ c.args.left.tree.value = search rules in
-    turn_given c.conditional.result c.args.limit c.args.level (expr_of c.args.left.tree.value) (lead_of c.lead_at-lead.result) (lead (map spelled c.args.tokens.now)) c.lead_at-lead.ensures.gives (rw same at (sym c.goes_on.ensures ∙ c.if-not-goes_on.false)) (rw c.in-Asks.is c.conditional.ensures.gives)
+expressions::turn-returns-in-Asks-clause-gives = rows.expressions::turn-returns-in-Asks-clause-gives
 
 pub expressions::turn-returns-in-Joins-clause-gives : goal.expressions::turn-returns-in-Joins-clause-gives
-expressions::turn-returns-in-Joins-clause-gives t c =
-    let same : c.deref.result.now ≡ c.args.left.tree.value = search rules in
-    turn_given c.binary.result c.args.limit c.args.level (expr_of c.args.left.tree.value) (lead_of c.lead_at-lead.result) (lead (map spelled c.args.tokens.now)) c.lead_at-lead.ensures.gives (rw same at (sym c.goes_on.ensures ∙ c.if-not-goes_on.false)) (rw c.in-Joins.is c.binary.ensures.gives)
+expressions::turn-returns-in-Joins-clause-gives = rows.expressions::turn-returns-in-Joins-clause-gives
 
 pub expressions::turn-returns-in-Tests-clause-gives : goal.expressions::turn-returns-in-Tests-clause-gives
-expressions::turn-returns-in-Tests-clause-gives t c =
-    let same : c.deref.result.now ≡ c.args.left.tree.value = search rules in
-    turn_given c.tested.result c.args.limit c.args.level (expr_of c.args.left.tree.value) (lead_of c.lead_at-lead.result) (lead (map spelled c.args.tokens.now)) c.lead_at-lead.ensures.gives (rw same at (sym c.goes_on.ensures ∙ c.if-not-goes_on.false)) (rw c.in-Tests.is c.tested.ensures.gives)
+expressions::turn-returns-in-Tests-clause-gives = rows.expressions::turn-returns-in-Tests-clause-gives
 
 pub expressions::turn-returns-in-Steps-clause-gives : goal.expressions::turn-returns-in-Steps-clause-gives
-expressions::turn-returns-in-Steps-clause-gives t c =
-    let same : c.deref.result.now ≡ c.args.left.tree.value = search rules in
-    turn_given c.stepped.result c.args.limit c.args.level (expr_of c.args.left.tree.value) (lead_of c.lead_at-lead.result) (lead (map spelled c.args.tokens.now)) c.lead_at-lead.ensures.gives (rw same at (sym c.goes_on.ensures ∙ c.if-not-goes_on.false)) (rw c.in-Steps.is c.stepped.ensures.gives)
+expressions::turn-returns-in-Steps-clause-gives = rows.expressions::turn-returns-in-Steps-clause-gives
 
 pub expressions::turn-returns-in-Selects-clause-gives : goal.expressions::turn-returns-in-Selects-clause-gives
-expressions::turn-returns-in-Selects-clause-gives t c =
-    let same : c.deref.result.now ≡ c.args.left.tree.value = search rules in
-    turn_given c.select.result c.args.limit c.args.level (expr_of c.args.left.tree.value) (lead_of c.lead_at-lead.result) (lead (map spelled c.args.tokens.now)) c.lead_at-lead.ensures.gives (rw same at (sym c.goes_on.ensures ∙ c.if-not-goes_on.false)) (rw c.in-Selects.is c.select.ensures.gives)
+expressions::turn-returns-in-Selects-clause-gives = rows.expressions::turn-returns-in-Selects-clause-gives
 
 pub expressions::turn-returns-in-Indexes-clause-gives : goal.expressions::turn-returns-in-Indexes-clause-gives
-expressions::turn-returns-in-Indexes-clause-gives t c =
-    let same : c.deref.result.now ≡ c.args.left.tree.value = search rules in
-    turn_given c.index.result c.args.limit c.args.level (expr_of c.args.left.tree.value) (lead_of c.lead_at-lead.result) (lead (map spelled c.args.tokens.now)) c.lead_at-lead.ensures.gives (rw same at (sym c.goes_on.ensures ∙ c.if-not-goes_on.false)) (rw c.in-Indexes.is c.index.ensures.gives)
+expressions::turn-returns-in-Indexes-clause-gives = rows.expressions::turn-returns-in-Indexes-clause-gives
 
-pub expressions::turn-returns-then-not-goes_on-clause-gives : goal.expressions::turn-returns-then-not-goes_on-clause-gives
-expressions::turn-returns-then-not-goes_on-clause-gives t c =
-    let same : c.deref.result.now ≡ c.args.left.tree.value = search rules in
-    turn_stops (read_at c.args.limit) c.args.limit c.args.level (expr_of c.args.left.tree.value) (lead_of c.lead_at-lead.result) (lead (map spelled c.args.tokens.now)) c.lead_at-lead.ensures.gives (rw same at (sym c.goes_on.ensures ∙ c.if-not-goes_on.true))
+pub expressions::turn-returns-then-not-goes_on-clause-gives :
+    goal.expressions::turn-returns-then-not-goes_on-clause-gives
+expressions::turn-returns-then-not-goes_on-clause-gives = rows.expressions::turn-returns-then-not-goes_on-clause-gives
 
-pub first_operand::named-returns-then-class_follows-clause-gives : goal.first_operand::named-returns-then-class_follows-clause-gives
-first_operand::named-returns-then-class_follows-clause-gives t c = c.class.ensures.gives (read_at c.args.limit)
+pub first_operand::named-returns-then-class_follows-clause-gives :
+    goal.first_operand::named-returns-then-class_follows-clause-gives
+first_operand::named-returns-then-class_follows-clause-gives =
+    rows.first_operand::named-returns-then-class_follows-clause-gives
 
 pub first_operand::named-returns-in_default-clause-gives : goal.first_operand::named-returns-in_default-clause-gives
-unfolding name_with
-first_operand::named-returns-in_default-clause-gives t c = rw (c.class_follows.ensures.none c.if-class_follows.false, c.in_default.ensures.gives) c.variable.ensures.gives
+first_operand::named-returns-in_default-clause-gives = rows.first_operand::named-returns-in_default-clause-gives
 
 pub first_operand::named-returns-in_err-all-clause-gives : goal.first_operand::named-returns-in_err-all-clause-gives
-unfolding name_with
-first_operand::named-returns-in_err-all-clause-gives t c =
-    let p = err_from_is_err_and c.from_residual.result c.from_residual.ensures.1 in
-    rw (p.1, p.2) (part_fails c.in_err-all.field-0.0 (call_arguments_with (read_at c.args.limit) (map spelled c.in-Some.inside.now)) _ (λ n. rw (c.class_follows.ensures.none c.if-class_follows.false, c.in-Some.ensures.gives, n) refl) c.in_err-all.ensures.gives)
+first_operand::named-returns-in_err-all-clause-gives = rows.first_operand::named-returns-in_err-all-clause-gives
 
 pub first_operand::named-returns-clause-gives : goal.first_operand::named-returns-clause-gives
-unfolding name_with
-first_operand::named-returns-clause-gives t c = rw (c.class_follows.ensures.none c.if-class_follows.false, c.in-Some.ensures.gives, c.in_ok-all.ensures.gives) c.call.ensures.gives
+first_operand::named-returns-clause-gives = rows.first_operand::named-returns-clause-gives
+
+pub expressions::assign-returns-clause-places : goal.expressions::assign-returns-clause-places
+expressions::assign-returns-clause-places = ends.expressions::assign-returns-clause-places
+
+pub expressions::binary-returns-clause-places : goal.expressions::binary-returns-clause-places
+expressions::binary-returns-clause-places = ends.expressions::binary-returns-clause-places
+
+pub expressions::conditional-returns-clause-places : goal.expressions::conditional-returns-clause-places
+expressions::conditional-returns-clause-places = ends.expressions::conditional-returns-clause-places
+
+pub expressions::select-returns-clause-places : goal.expressions::select-returns-clause-places
+expressions::select-returns-clause-places = ends.expressions::select-returns-clause-places
+
+pub expressions::select-returns-in_default-clause-places : goal.expressions::select-returns-in_default-clause-places
+expressions::select-returns-in_default-clause-places = ends.expressions::select-returns-in_default-clause-places
+
+pub arguments::arguments-returns-clause-places : goal.arguments::arguments-returns-clause-places
+arguments::arguments-returns-clause-places = loops.arguments::arguments-returns-clause-places
+
+pub arguments::arguments-returns-clause-shorter : goal.arguments::arguments-returns-clause-shorter
+arguments::arguments-returns-clause-shorter = loops.arguments::arguments-returns-clause-shorter
+
+pub creations::lengths-returns-clause-places : goal.creations::lengths-returns-clause-places
+creations::lengths-returns-clause-places = loops.creations::lengths-returns-clause-places
+
+pub creations::lengths-returns-clause-shorter : goal.creations::lengths-returns-clause-shorter
+creations::lengths-returns-clause-shorter = loops.creations::lengths-returns-clause-shorter
+
+pub arguments::arguments-returns-clause-small : goal.arguments::arguments-returns-clause-small
+arguments::arguments-returns-clause-small = loops.arguments::arguments-returns-clause-small
+
+pub initialisers::items-returns-in_default-clause-places : goal.initialisers::items-returns-in_default-clause-places
+initialisers::items-returns-in_default-clause-places = loops.initialisers::items-returns-in_default-clause-places
+
+pub initialisers::items-returns-in_default-clause-shorter : goal.initialisers::items-returns-in_default-clause-shorter
+initialisers::items-returns-in_default-clause-shorter = loops.initialisers::items-returns-in_default-clause-shorter
+
+pub initialisers::items-returns-in_default-clause-small : goal.initialisers::items-returns-in_default-clause-small
+initialisers::items-returns-in_default-clause-small = loops.initialisers::items-returns-in_default-clause-small
+
+pub creations::lengths-returns-clause-small : goal.creations::lengths-returns-clause-small
+creations::lengths-returns-clause-small = loops.creations::lengths-returns-clause-small
+
+pub creations::creation-returns-in-None-clause-places : goal.creations::creation-returns-in-None-clause-places
+creations::creation-returns-in-None-clause-places = ends.creations::creation-returns-in-None-clause-places
+
+pub creations::creation-returns-in-Some-clause-places : goal.creations::creation-returns-in-Some-clause-places
+creations::creation-returns-in-Some-clause-places = ends.creations::creation-returns-in-Some-clause-places
+
+pub creations::creation-returns-in-None-clause-shorter : goal.creations::creation-returns-in-None-clause-shorter
+creations::creation-returns-in-None-clause-shorter = ends.creations::creation-returns-in-None-clause-shorter
+
+pub creations::creation-returns-in-Some-clause-shorter : goal.creations::creation-returns-in-Some-clause-shorter
+creations::creation-returns-in-Some-clause-shorter = ends.creations::creation-returns-in-Some-clause-shorter
+
+pub creations::new_object-returns-clause-places : goal.creations::new_object-returns-clause-places
+creations::new_object-returns-clause-places = ends.creations::new_object-returns-clause-places
+
+pub creations::new_object-returns-clause-shorter : goal.creations::new_object-returns-clause-shorter
+creations::new_object-returns-clause-shorter = ends.creations::new_object-returns-clause-shorter
+
+pub creations::new_array-returns-clause-places : goal.creations::new_array-returns-clause-places
+creations::new_array-returns-clause-places = ends.creations::new_array-returns-clause-places
+
+pub creations::new_array-returns-clause-shorter : goal.creations::new_array-returns-clause-shorter
+creations::new_array-returns-clause-shorter = ends.creations::new_array-returns-clause-shorter
+
+pub first_operand::cast-returns-clause-places : goal.first_operand::cast-returns-clause-places
+first_operand::cast-returns-clause-places = ends.first_operand::cast-returns-clause-places
+
+pub first_operand::cast-returns-clause-shorter : goal.first_operand::cast-returns-clause-shorter
+first_operand::cast-returns-clause-shorter = ends.first_operand::cast-returns-clause-shorter
+
+pub first_operand::cast-returns-clause-small : goal.first_operand::cast-returns-clause-small
+first_operand::cast-returns-clause-small = ends.first_operand::cast-returns-clause-small
+
+pub first_operand::named-returns-clause-places : goal.first_operand::named-returns-clause-places
+first_operand::named-returns-clause-places = ends.first_operand::named-returns-clause-places
+
+pub first_operand::named-returns-clause-shorter : goal.first_operand::named-returns-clause-shorter
+first_operand::named-returns-clause-shorter = ends.first_operand::named-returns-clause-shorter
+
+pub first_operand::named-returns-clause-small : goal.first_operand::named-returns-clause-small
+first_operand::named-returns-clause-small = ends.first_operand::named-returns-clause-small
+
+pub initialisers::read_initialiser-returns-clause-places : goal.initialisers::read_initialiser-returns-clause-places
+initialisers::read_initialiser-returns-clause-places = ends.initialisers::read_initialiser-returns-clause-places
+
+pub initialisers::read_initialiser-returns-clause-shorter : goal.initialisers::read_initialiser-returns-clause-shorter
+initialisers::read_initialiser-returns-clause-shorter = ends.initialisers::read_initialiser-returns-clause-shorter
+
+pub initialisers::read_initialiser-returns-clause-small : goal.initialisers::read_initialiser-returns-clause-small
+initialisers::read_initialiser-returns-clause-small = ends.initialisers::read_initialiser-returns-clause-small
+
+pub initialisers::read_initialiser-returns-then-is_some-clause-places :
+    goal.initialisers::read_initialiser-returns-then-is_some-clause-places
+initialisers::read_initialiser-returns-then-is_some-clause-places =
+    ends.initialisers::read_initialiser-returns-then-is_some-clause-places
+
+pub initialisers::read_initialiser-returns-then-is_some-clause-shorter :
+    goal.initialisers::read_initialiser-returns-then-is_some-clause-shorter
+initialisers::read_initialiser-returns-then-is_some-clause-shorter =
+    ends.initialisers::read_initialiser-returns-then-is_some-clause-shorter
+
+pub initialisers::read_initialiser-returns-then-is_some-clause-small :
+    goal.initialisers::read_initialiser-returns-then-is_some-clause-small
+initialisers::read_initialiser-returns-then-is_some-clause-small =
+    ends.initialisers::read_initialiser-returns-then-is_some-clause-small
+
+pub expressions::conditional-returns-clause-shorter : goal.expressions::conditional-returns-clause-shorter
+expressions::conditional-returns-clause-shorter = ends.expressions::conditional-returns-clause-shorter
+
+pub expressions::select-returns-clause-shorter : goal.expressions::select-returns-clause-shorter
+expressions::select-returns-clause-shorter = ends.expressions::select-returns-clause-shorter
+
+pub expressions::select-returns-in_default-clause-shorter : goal.expressions::select-returns-in_default-clause-shorter
+expressions::select-returns-in_default-clause-shorter = ends.expressions::select-returns-in_default-clause-shorter
+
+pub expressions::assign-returns-clause-shorter : goal.expressions::assign-returns-clause-shorter
+expressions::assign-returns-clause-shorter = ends.expressions::assign-returns-clause-shorter
+
+pub expressions::binary-returns-clause-shorter : goal.expressions::binary-returns-clause-shorter
+expressions::binary-returns-clause-shorter = ends.expressions::binary-returns-clause-shorter
+
+pub expressions::index-returns-clause-shorter : goal.expressions::index-returns-clause-shorter
+expressions::index-returns-clause-shorter = ends.expressions::index-returns-clause-shorter
+
+pub expressions::conditional-chosen-requires-clause-then : goal.expressions::conditional-chosen-requires-clause-then
+expressions::conditional-chosen-requires-clause-then = ends.expressions::conditional-chosen-requires-clause-then
+
+pub expressions::conditional-chosen-requires-clause-other : goal.expressions::conditional-chosen-requires-clause-other
+expressions::conditional-chosen-requires-clause-other = ends.expressions::conditional-chosen-requires-clause-other
+
+pub expressions::select-called-requires-clause-all : goal.expressions::select-called-requires-clause-all
+expressions::select-called-requires-clause-all = ends.expressions::select-called-requires-clause-all
+
+pub expressions::binary-joined-requires-clause-right : goal.expressions::binary-joined-requires-clause-right
+expressions::binary-joined-requires-clause-right = ends.expressions::binary-joined-requires-clause-right
+
+pub expressions::assign-assigned-requires-clause-right : goal.expressions::assign-assigned-requires-clause-right
+expressions::assign-assigned-requires-clause-right = ends.expressions::assign-assigned-requires-clause-right
+
+pub expressions::index-indexed-requires-clause-index : goal.expressions::index-indexed-requires-clause-index
+expressions::index-indexed-requires-clause-index = ends.expressions::index-indexed-requires-clause-index
+
+pub expressions::binary-returns-clause-gives : goal.expressions::binary-returns-clause-gives
+expressions::binary-returns-clause-gives = parts.expressions::binary-returns-clause-gives
+
+pub initialisers::braces-returns-clause-places : goal.initialisers::braces-returns-clause-places
+initialisers::braces-returns-clause-places = ends.initialisers::braces-returns-clause-places
+
+pub initialisers::braces-returns-clause-shorter : goal.initialisers::braces-returns-clause-shorter
+initialisers::braces-returns-clause-shorter = ends.initialisers::braces-returns-clause-shorter
+
+pub creations::new_items-returns-clause-places : goal.creations::new_items-returns-clause-places
+creations::new_items-returns-clause-places = ends.creations::new_items-returns-clause-places
+
+pub initialisers::braces-returns-in-Some-clause-gives : goal.initialisers::braces-returns-in-Some-clause-gives
+initialisers::braces-returns-in-Some-clause-gives = parts.initialisers::braces-returns-in-Some-clause-gives
+
+pub expressions::turn-returns-in-Assigns-clause-places : goal.expressions::turn-returns-in-Assigns-clause-places
+expressions::turn-returns-in-Assigns-clause-places = ends.expressions::turn-returns-in-Assigns-clause-places
+
+pub expressions::turn-returns-in-Assigns-clause-shorter : goal.expressions::turn-returns-in-Assigns-clause-shorter
+expressions::turn-returns-in-Assigns-clause-shorter = ends.expressions::turn-returns-in-Assigns-clause-shorter
+
+pub expressions::turn-returns-in-Asks-clause-places : goal.expressions::turn-returns-in-Asks-clause-places
+expressions::turn-returns-in-Asks-clause-places = ends.expressions::turn-returns-in-Asks-clause-places
+
+pub expressions::turn-returns-in-Asks-clause-shorter : goal.expressions::turn-returns-in-Asks-clause-shorter
+expressions::turn-returns-in-Asks-clause-shorter = ends.expressions::turn-returns-in-Asks-clause-shorter
+
+pub expressions::turn-returns-in-Joins-clause-places : goal.expressions::turn-returns-in-Joins-clause-places
+expressions::turn-returns-in-Joins-clause-places = ends.expressions::turn-returns-in-Joins-clause-places
+
+pub expressions::turn-returns-in-Joins-clause-shorter : goal.expressions::turn-returns-in-Joins-clause-shorter
+expressions::turn-returns-in-Joins-clause-shorter = ends.expressions::turn-returns-in-Joins-clause-shorter
+
+pub expressions::turn-returns-in-Tests-clause-places : goal.expressions::turn-returns-in-Tests-clause-places
+expressions::turn-returns-in-Tests-clause-places = ends.expressions::turn-returns-in-Tests-clause-places
+
+pub expressions::turn-returns-in-Tests-clause-shorter : goal.expressions::turn-returns-in-Tests-clause-shorter
+expressions::turn-returns-in-Tests-clause-shorter = ends.expressions::turn-returns-in-Tests-clause-shorter
+
+pub expressions::turn-returns-in-Steps-clause-places : goal.expressions::turn-returns-in-Steps-clause-places
+expressions::turn-returns-in-Steps-clause-places = ends.expressions::turn-returns-in-Steps-clause-places
+
+pub expressions::turn-returns-in-Steps-clause-shorter : goal.expressions::turn-returns-in-Steps-clause-shorter
+expressions::turn-returns-in-Steps-clause-shorter = ends.expressions::turn-returns-in-Steps-clause-shorter
+
+pub expressions::turn-returns-in-Selects-clause-places : goal.expressions::turn-returns-in-Selects-clause-places
+expressions::turn-returns-in-Selects-clause-places = ends.expressions::turn-returns-in-Selects-clause-places
+
+pub expressions::turn-returns-in-Selects-clause-shorter : goal.expressions::turn-returns-in-Selects-clause-shorter
+expressions::turn-returns-in-Selects-clause-shorter = ends.expressions::turn-returns-in-Selects-clause-shorter
+
+pub expressions::turn-returns-in-Indexes-clause-places : goal.expressions::turn-returns-in-Indexes-clause-places
+expressions::turn-returns-in-Indexes-clause-places = ends.expressions::turn-returns-in-Indexes-clause-places
+
+pub expressions::turn-returns-in-Indexes-clause-shorter : goal.expressions::turn-returns-in-Indexes-clause-shorter
+expressions::turn-returns-in-Indexes-clause-shorter = ends.expressions::turn-returns-in-Indexes-clause-shorter
+
+pub expressions::climb-returns-in-Stop-clause-gives : goal.expressions::climb-returns-in-Stop-clause-gives
+expressions::climb-returns-in-Stop-clause-gives = loops.expressions::climb-returns-in-Stop-clause-gives
+
+pub expressions::climb-returns-clause-gives : goal.expressions::climb-returns-clause-gives
+expressions::climb-returns-clause-gives = loops.expressions::climb-returns-clause-gives
+
+pub expressions::climb-loop-init : goal.expressions::climb-loop-init
+expressions::climb-loop-init = loops.expressions::climb-loop-init
+
+pub first_operand::signed-returns-in-Some-true-clause-gives :
+    goal.first_operand::signed-returns-in-Some-true-clause-gives
+first_operand::signed-returns-in-Some-true-clause-gives = rows.first_operand::signed-returns-in-Some-true-clause-gives
+
+pub first_operand::signed-returns-in-Some-false-clause-gives :
+    goal.first_operand::signed-returns-in-Some-false-clause-gives
+first_operand::signed-returns-in-Some-false-clause-gives =
+    rows.first_operand::signed-returns-in-Some-false-clause-gives
+
+pub first_operand::signed-returns-then-ne-clause-gives : goal.first_operand::signed-returns-then-ne-clause-gives
+first_operand::signed-returns-then-ne-clause-gives = rows.first_operand::signed-returns-then-ne-clause-gives
+
+pub creations::creation-returns-in-Some-after_brackets-clause-places :
+    goal.creations::creation-returns-in-Some-after_brackets-clause-places
+creations::creation-returns-in-Some-after_brackets-clause-places =
+    ends.creations::creation-returns-in-Some-after_brackets-clause-places
+
+pub creations::creation-returns-in-Some-after_brackets-clause-shorter :
+    goal.creations::creation-returns-in-Some-after_brackets-clause-shorter
+creations::creation-returns-in-Some-after_brackets-clause-shorter =
+    ends.creations::creation-returns-in-Some-after_brackets-clause-shorter
+
+pub first_operand::cast-cast_to-requires-clause-kind : goal.first_operand::cast-cast_to-requires-clause-kind
+first_operand::cast-cast_to-requires-clause-kind = ends.first_operand::cast-cast_to-requires-clause-kind
+
+pub first_operand::cast-cast_to-requires-clause-part : goal.first_operand::cast-cast_to-requires-clause-part
+first_operand::cast-cast_to-requires-clause-part = ends.first_operand::cast-cast_to-requires-clause-part
+
+pub creations::new_object-object-requires-clause-all : goal.creations::new_object-object-requires-clause-all
+creations::new_object-object-requires-clause-all = ends.creations::new_object-object-requires-clause-all
+
+pub creations::new_object-returns-clause-small : goal.creations::new_object-returns-clause-small
+creations::new_object-returns-clause-small = ends.creations::new_object-returns-clause-small
+
+pub expressions::turn-tested-requires-clause-few : goal.expressions::turn-tested-requires-clause-few
+expressions::turn-tested-requires-clause-few = ends.expressions::turn-tested-requires-clause-few
+
+pub creations::creation-returns-in-Some-after_brackets-clause-gives :
+    goal.creations::creation-returns-in-Some-after_brackets-clause-gives
+creations::creation-returns-in-Some-after_brackets-clause-gives =
+    rows.creations::creation-returns-in-Some-after_brackets-clause-gives
+
+pub creations::creation-returns-then-has_diamond-clause-gives :
+    goal.creations::creation-returns-then-has_diamond-clause-gives
+creations::creation-returns-then-has_diamond-clause-gives =
+    rows.creations::creation-returns-then-has_diamond-clause-gives
+
+pub first_operand::word-returns-clause-gives : goal.first_operand::word-returns-clause-gives
+first_operand::word-returns-clause-gives = rows.first_operand::word-returns-clause-gives
+
+pub creations::new_object-returns-then-not-is_named-clause-gives :
+    goal.creations::new_object-returns-then-not-is_named-clause-gives
+creations::new_object-returns-then-not-is_named-clause-gives =
+    rows.creations::new_object-returns-then-not-is_named-clause-gives
+
+pub creations::new_object-returns-clause-gives : goal.creations::new_object-returns-clause-gives
+creations::new_object-returns-clause-gives = rows.creations::new_object-returns-clause-gives
+
+pub expressions::read_expression-returns-clause-gives : goal.expressions::read_expression-returns-clause-gives
+expressions::read_expression-returns-clause-gives = rows.expressions::read_expression-returns-clause-gives
+
+pub arguments::arguments-loop-init : goal.arguments::arguments-loop-init
+arguments::arguments-loop-init = loops.arguments::arguments-loop-init
+
+pub creations::lengths-loop-init : goal.creations::lengths-loop-init
+creations::lengths-loop-init = loops.creations::lengths-loop-init
+
+pub initialisers::items-loop-init : goal.initialisers::items-loop-init
+initialisers::items-loop-init = loops.initialisers::items-loop-init
+
+pub first_operand::operand-returns-in-Keyword-clause-places :
+    goal.first_operand::operand-returns-in-Keyword-clause-places
+first_operand::operand-returns-in-Keyword-clause-places = ends.first_operand::operand-returns-in-Keyword-clause-places
+
+pub first_operand::operand-returns-in-Keyword-clause-gives :
+    goal.first_operand::operand-returns-in-Keyword-clause-gives
+first_operand::operand-returns-in-Keyword-clause-gives = rows.first_operand::operand-returns-in-Keyword-clause-gives
+
+pub first_operand::operand-returns-in-Name-clause-places : goal.first_operand::operand-returns-in-Name-clause-places
+first_operand::operand-returns-in-Name-clause-places = ends.first_operand::operand-returns-in-Name-clause-places
+
+pub first_operand::operand-returns-in-Name-clause-gives : goal.first_operand::operand-returns-in-Name-clause-gives
+first_operand::operand-returns-in-Name-clause-gives = rows.first_operand::operand-returns-in-Name-clause-gives
+
+pub first_operand::operand-returns-in-Sign-clause-places : goal.first_operand::operand-returns-in-Sign-clause-places
+first_operand::operand-returns-in-Sign-clause-places = ends.first_operand::operand-returns-in-Sign-clause-places
+
+pub first_operand::operand-returns-in-Sign-clause-gives : goal.first_operand::operand-returns-in-Sign-clause-gives
+first_operand::operand-returns-in-Sign-clause-gives = rows.first_operand::operand-returns-in-Sign-clause-gives

@@ -6,15 +6,15 @@ use Rattle.java_tree.specs.Sameness.{same_exprs, same_inits}
 use Rattle.java_tree.specs.View.{expr_of, init_of}
 use Rattle.java_tree.proofs.equality.expressions.+compare_expressions.Given as goal
 
-abbrev pub invariant-same_trees-loop-x : goal.invariant-same_trees-loop-x
-invariant-same_trees-loop-x l =
-    same_exprs (pack_exprs (map expr_of (drop l.x-index l.a))) (pack_exprs (map expr_of l.rest)) ≡ same_exprs
-    (pack_exprs (map expr_of l.a)) (pack_exprs (map expr_of l.initial.rest))
+abbrev pub invariant-same_trees-loop-number : goal.invariant-same_trees-loop-number
+invariant-same_trees-loop-number l =
+    same_exprs (pack_exprs (map expr_of (drop l.number l.a))) (pack_exprs (map expr_of (drop l.number l.b))) ≡ same_exprs
+    (pack_exprs (map expr_of l.a)) (pack_exprs (map expr_of l.b))
 
-abbrev pub invariant-same_items-loop-x : goal.invariant-same_items-loop-x
-invariant-same_items-loop-x l =
-    same_inits (pack_inits (map init_of (drop l.x-index l.a))) (pack_inits (map init_of l.rest)) ≡ same_inits
-    (pack_inits (map init_of l.a)) (pack_inits (map init_of l.initial.rest))
+abbrev pub invariant-same_items-loop-number : goal.invariant-same_items-loop-number
+invariant-same_items-loop-number l =
+    same_inits (pack_inits (map init_of (drop l.number l.a))) (pack_inits (map init_of (drop l.number l.b))) ≡ same_inits
+    (pack_inits (map init_of l.a)) (pack_inits (map init_of l.b))
 
 -- the deepest part comes first, and of functions on one part the outer one
 abbrev pub decreases-same_tree : goal.decreases-same_tree

@@ -5,10 +5,10 @@ use Rattle.java_tree.specs.Sameness.{same_stmts}
 use Rattle.java_tree.specs.View.{stmt_of}
 use Rattle.java_tree.proofs.equality.statements.+compare_statements.Given as goal
 
-abbrev pub invariant-same_statements-loop-x : goal.invariant-same_statements-loop-x
-invariant-same_statements-loop-x l =
-    same_stmts (pack_stmts (map stmt_of (drop l.x-index l.a))) (pack_stmts (map stmt_of l.rest)) ≡ same_stmts
-    (pack_stmts (map stmt_of l.a)) (pack_stmts (map stmt_of l.initial.rest))
+abbrev pub invariant-same_statements-loop-number : goal.invariant-same_statements-loop-number
+invariant-same_statements-loop-number l =
+    same_stmts (pack_stmts (map stmt_of (drop l.number l.a))) (pack_stmts (map stmt_of (drop l.number l.b))) ≡ same_stmts
+    (pack_stmts (map stmt_of l.a)) (pack_stmts (map stmt_of l.b))
 
 -- the deepest part comes first, and of functions on one part the outer one
 abbrev pub decreases-same_statement : goal.decreases-same_statement

@@ -4,12 +4,12 @@ use Rattle.java_tree.specs.Sameness.{same_parts, same_arguments}
 use Rattle.java_tree.specs.View.{part_of, argument_of}
 use Rattle.java_tree.proofs.equality.types.+compare_types.Given as goal
 
-abbrev pub invariant-same_parts-loop-x : goal.invariant-same_parts-loop-x
-invariant-same_parts-loop-x l =
-    same_parts (pack_parts (map part_of (drop l.x-index l.a))) (pack_parts (map part_of l.rest)) ≡ same_parts
-    (pack_parts (map part_of l.a)) (pack_parts (map part_of l.initial.rest))
+abbrev pub invariant-same_parts-loop-number : goal.invariant-same_parts-loop-number
+invariant-same_parts-loop-number l =
+    same_parts (pack_parts (map part_of (drop l.number l.a))) (pack_parts (map part_of (drop l.number l.b))) ≡ same_parts
+    (pack_parts (map part_of l.a)) (pack_parts (map part_of l.b))
 
-abbrev pub invariant-same_arguments-loop-x : goal.invariant-same_arguments-loop-x
-invariant-same_arguments-loop-x l =
-    same_arguments (pack_arguments (map argument_of (drop l.x-index l.a))) (pack_arguments (map argument_of l.rest))
-    ≡ same_arguments (pack_arguments (map argument_of l.a)) (pack_arguments (map argument_of l.initial.rest))
+abbrev pub invariant-same_arguments-loop-number : goal.invariant-same_arguments-loop-number
+invariant-same_arguments-loop-number l =
+    same_arguments (pack_arguments (map argument_of (drop l.number l.a))) (pack_arguments (map argument_of
+    (drop l.number l.b))) ≡ same_arguments (pack_arguments (map argument_of l.a)) (pack_arguments (map argument_of l.b))
