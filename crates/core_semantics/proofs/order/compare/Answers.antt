@@ -1,4 +1,4 @@
-use Rattle.std.proofs.Common.{◌≡◌, ℕ, nat_cmp, List, map, refl, sym, ◌∙◌}
+use Rattle.std.proofs.Common.{◌≡◌, nat_cmp, List, map, refl, sym, ◌∙◌}
 use Rattle.std.specs.Cmp.Lexicographic.{slice_cmp}
 use Rattle.std.specs.Cmp.Derive.Mapped.{lex_map}
 use Rattle.std.specs.Ordering.{ordering_then}
