@@ -9,7 +9,7 @@ use Rattle.java_resolver.specs.Meanings.{field_named}
 use Rattle.core_code.specs.declared.code.Op.TheVariants.{Prim}
 use Rattle.java_lowering.specs.Trees.{Expr, Init, Selected, CallOn, Conditional, pack_exprs}
 use Rattle.java_lowering.specs.TreesOf.{access_of, expr_of, is_assignment, assignment, is_logical, binary}
-use Rattle.java_lowering.specs.TreesOf.{init_of, is_count, prefix}
+use Rattle.java_lowering.specs.TreesOf.{is_count, prefix}
 use Rattle.java_lowering.specs.ValueKinds.{Of, common_kind}
 use Rattle.java_lowering.specs.Around.{op, type_kind}
 use Rattle.java_lowering.specs.Expressions.{code, init_code, init_kind, kind, cast, storage, access_kind}
