@@ -8,7 +8,7 @@ use Rattle.java_tree.specs.declared.statements.Statement.TheFolds.{the_lemmas}
 use Rattle.java_tree.specs.View.{ty_of}
 use Rattle.java_lowering.specs.Trees.{Stmt, pack_exprs, pack_stmts}
 use Rattle.java_lowering.specs.Trees as tree
-use Rattle.java_lowering.specs.TreesOf.{expr_of, start_of, stmt_of, variable_of}
+use Rattle.java_lowering.specs.TreesOf.{expr_of, start_of, stmt_of}
 use Rattle.java_lowering.specs.Around.{Around, Code, held, repeated}
 use Rattle.java_lowering.specs.Expressions.{code}
 use Rattle.java_lowering.specs.Scopes.{declared, after, after_all}
