@@ -8,4 +8,5 @@ returns-in-Some c =
     c.in-Some.ensures.lookup.0 c.in-Some.ensures.lookup.1
 
 pub returns-in-None : goal.returns-in-None
-returns-in-None c = no_kind c.fields.result.now (core c.args.program.now).fields c.args.f c.fields.ensures c.in-None.ensures.lookup.0
+returns-in-None c =
+    no_kind c.fields.result.now (core c.args.program.now).fields c.args.f c.fields.ensures c.in-None.ensures.lookup.0
