@@ -9,3 +9,5 @@ pub mod Answered
 pub mod InnerSteps
 pub mod ThreadSteps
 pub mod Entries
+pub mod FieldKinds
+pub mod Held

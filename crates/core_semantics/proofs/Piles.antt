@@ -42,6 +42,14 @@ put_reversed n k xs x is_left within =
     ∙ reverse-append (take k xs) (x ∷ [])
     ∙ ap (λ ys. x ∷ ys) (ap (λ m. reverse (take m xs)) is_left ∙ sym (drop_reversed n xs))
 
+-- one put on a pile of which nothing is taken
+pub pushed_reversed : {A : Type 0} (n : ℕ) (xs : List A) (x : A) → length xs ≡ length xs - n →
+    reverse (xs ++ x ∷ []) ≡ x ∷ drop n (reverse xs)
+pushed_reversed n xs x none =
+    reverse-append xs (x ∷ [])
+    ∙ ap (λ ys. x ∷ ys)
+    (ap reverse (sym (take-length xs)) ∙ ap (λ m. reverse (take m xs)) none ∙ sym (drop_reversed n xs))
+
 -- two put in the place of the top
 pub two_reversed : {A : Type 0} (k : ℕ) (xs : List A) (a b : A) → k + 1 ≡ length xs →
     reverse (set (xs ++ a ∷ []) k b) ≡ a ∷ b ∷ drop 1 (reverse xs)

@@ -7,43 +7,16 @@ use racer_base::FieldId;
 use std::cmp::Ordering;
 
 impl Object {
-    /// The number of the form of an object.
-    fn form(&self) -> u32
-        ensures { result ≡ object_form self.now }
+    /// The number of the form of an object, and its two numbers, 0 where it has none.
+    fn numbers(&self) -> (u32, u32, u32)
+        ensures { result ≡ (object_form self.now, first_number self.now, second_number self.now) }
     {
         match self {
-            Object::Fresh(_) => 3,
+            Object::Fresh(number) => (3, *number, 0),
             Object::Start(path) => match path.root {
-                StartRoot::This => 0,
-                StartRoot::Class(_) => 1,
-                StartRoot::Param(_, _) => 2,
-            },
-        }
-    }
-
-    /// The first number of an object, 0 where it has none.
-    fn first_number(&self) -> u32
-        ensures { result ≡ first_number self.now }
-    {
-        match self {
-            Object::Fresh(number) => *number,
-            Object::Start(path) => match path.root {
-                StartRoot::This => 0,
-                StartRoot::Class(class) => class.0,
-                StartRoot::Param(thread, _) => thread,
-            },
-        }
-    }
-
-    /// The second number of an object, 0 where it has none.
-    fn second_number(&self) -> u32
-        ensures { result ≡ second_number self.now }
-    {
-        match self {
-            Object::Fresh(_) => 0,
-            Object::Start(path) => match path.root {
-                StartRoot::Param(_, number) => number,
-                StartRoot::This | StartRoot::Class(_) => 0,
+                StartRoot::This => (0, 0, 0),
+                StartRoot::Class(class) => (1, class.0, 0),
+                StartRoot::Param(thread, number) => (2, thread, number),
             },
         }
     }
@@ -68,13 +41,7 @@ impl PartialEq for Object {
     ghost laws = { same_object-laws };
 
     fn eq(&self, other: &Object) -> bool {
-        match (self, other) {
-            (Object::Start(p), Object::Start(q)) => {
-                p.root == q.root && p.fields.as_slice() == q.fields.as_slice()
-            }
-            (Object::Fresh(m), Object::Fresh(n)) => m == n,
-            _ => false,
-        }
+        compare(self, other).is_eq()
     }
 }
 
@@ -120,8 +87,6 @@ impl Ord for Object {
 fn compare(a: &Object, b: &Object) -> Ordering
     ensures { result ≡ object_cmp a.now b.now }
 {
-    let forms = a.form().cmp(&b.form());
-    let first = a.first_number().cmp(&b.first_number());
-    let second = a.second_number().cmp(&b.second_number());
-    forms.then(first.then(second.then(a.fields().cmp(b.fields()))))
+    let numbers = a.numbers().cmp(&b.numbers());
+    numbers.then(a.fields().cmp(b.fields()))
 }

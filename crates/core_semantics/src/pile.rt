@@ -50,8 +50,11 @@ impl<T> Pile<T> {
     pub(crate) fn get(&self, number: usize) -> Option<&T>
         ensures { option_copied result ≡ slice_get self.now number }
     {
-        let below = self.items.len().checked_sub(number)?;
-        self.items.get(below.checked_sub(1)?)
+        if number < self.items.len() {
+            self.items.get(self.items.len() - 1 - number)
+        } else {
+            None
+        }
     }
 
     /// Takes so many elements from the top.

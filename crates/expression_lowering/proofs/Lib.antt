@@ -6,3 +6,4 @@ pub mod Joined
 pub mod Made
 pub mod NamedVariables
 pub mod OtherForms
+pub mod Forms

@@ -4,3 +4,4 @@ pub mod Composed
 pub mod Ends
 pub mod FieldsBegun
 pub mod Choices
+pub mod Forms

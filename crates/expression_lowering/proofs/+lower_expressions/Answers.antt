@@ -1,4 +1,4 @@
-use Rattle.std.proofs.Common.{◌≡◌, true, false, [], ◌++◌, map, ◌∙◌, ap, sym, refl, length, rules}
+use Rattle.std.proofs.Common.{◌≡◌, OnOk, IfOk, subst, true, false, [], ◌++◌, map, ◌∙◌, ap, sym, refl, length, rules}
 use Rattle.std.proofs.lemmas.List.{append-nil}
 use Rattle.std.proofs.lemmas.Result.{on_ok_weaker, IfOk-weaker}
 use Rattle.racer_base.specs.declared.ids.Kind.TheVariants.{Plain}
@@ -7,12 +7,12 @@ use Rattle.java_tree.specs.View as view
 use Rattle.java_tree.specs.View.{ty_of}
 use Rattle.java_resolver.specs.Meanings.{field_named}
 use Rattle.core_code.specs.declared.code.Op.TheVariants.{Prim}
-use Rattle.java_lowering.specs.Trees.{Selected, CallOn, Conditional, pack_exprs}
+use Rattle.java_lowering.specs.Trees.{Expr, Init, Selected, CallOn, Conditional, pack_exprs}
 use Rattle.java_lowering.specs.TreesOf.{access_of, expr_of, is_assignment, assignment, is_logical, binary}
 use Rattle.java_lowering.specs.TreesOf.{is_count, prefix}
 use Rattle.java_lowering.specs.ValueKinds.{Of, common_kind}
 use Rattle.java_lowering.specs.Around.{op, type_kind}
-use Rattle.java_lowering.specs.Expressions.{code, kind, cast, storage, access_kind}
+use Rattle.java_lowering.specs.Expressions.{code, init_code, init_kind, kind, cast, storage, access_kind}
 use Rattle.java_lowering.specs.Assignments.{of_class, of_value}
 use Rattle.java_lowering.specs.Calls.{result_kind}
 use Rattle.expression_lowering.specs.declared.calls.Target.TheVariants as target
@@ -20,6 +20,7 @@ use Rattle.expression_lowering.specs.Drafts.{code_of}
 use Rattle.expression_lowering.specs.Views.{value_kind}
 use Rattle.expression_lowering.specs.Parts.{storage_kind, callee_seen, base_of, without_base, class_call_kind}
 use Rattle.expression_lowering.specs.Together.{target_kind}
+use Rattle.expression_lowering.proofs.Forms.{is_name_of, is_field, is_index, is_value}
 use Rattle.expression_lowering.proofs.OtherForms.{is_access, no-access}
 use Rattle.expression_lowering.proofs.Joined.{two, arguments-next, arguments-done, items-next, items-done}
 use Rattle.expression_lowering.proofs.Made.{read-made, assign-made, assign-kind, counted-made, kind-made}
@@ -330,3 +331,63 @@ invocations::lower_call_on-returns-clause-kind t c =
     (λ k is. is ∙ on-object-kind around e c.args.x.now es c.in_ok-kind.kind c.in_default.ensures
     c.in_ok-kind.ensures.kind)
     c.lower_call-2.ensures.kind
+
+pub expressions::lower_storage-returns-in-Index-clause-code : goal.expressions::lower_storage-returns-in-Index-clause-code
+expressions::lower_storage-returns-in-Index-clause-code t c =
+    let is = is_index c.args.e.now c.in-Index.a c.in-Index.i c.deref-in-Index.result.now c.deref-in-Index-2.result.now
+    c.in-Index.is c.deref-in-Index.ensures c.deref-in-Index-2.ensures in
+    subst (λ (x : Expr).
+    OnOk c.lower_element.result (code_of c.lower_element.new.draft ≡ code_of c.args.draft.now
+    ++ base_of (storage c.args.around.now (access_of x)))) (sym is)
+    c.lower_element.ensures.code
+
+pub expressions::lower_storage-returns-in-Index-clause-storage : goal.expressions::lower_storage-returns-in-Index-clause-storage
+expressions::lower_storage-returns-in-Index-clause-storage t c =
+    let is = is_index c.args.e.now c.in-Index.a c.in-Index.i c.deref-in-Index.result.now c.deref-in-Index-2.result.now
+    c.in-Index.is c.deref-in-Index.ensures c.deref-in-Index-2.ensures in
+    subst (λ (x : Expr).
+    IfOk c.lower_element.result (λ s. s ≡ without_base (storage c.args.around.now (access_of x)))) (sym is)
+    c.lower_element.ensures.storage
+
+pub expressions::lower_storage-returns-in-Field-clause-code : goal.expressions::lower_storage-returns-in-Field-clause-code
+expressions::lower_storage-returns-in-Field-clause-code t c =
+    let is = is_field c.args.e.now c.in-Field.a c.in-Field.x c.deref.result.now c.in-Field.is c.deref.ensures in
+    subst (λ (x : Expr).
+    OnOk c.lower_selected.result (code_of c.lower_selected.new.draft ≡ code_of c.args.draft.now
+    ++ base_of (storage c.args.around.now (access_of x)))) (sym is)
+    c.lower_selected.ensures.code
+
+pub expressions::lower_storage-returns-in-Field-clause-storage : goal.expressions::lower_storage-returns-in-Field-clause-storage
+expressions::lower_storage-returns-in-Field-clause-storage t c =
+    let is = is_field c.args.e.now c.in-Field.a c.in-Field.x c.deref.result.now c.in-Field.is c.deref.ensures in
+    subst (λ (x : Expr).
+    IfOk c.lower_selected.result (λ s. s ≡ without_base (storage c.args.around.now (access_of x)))) (sym is)
+    c.lower_selected.ensures.storage
+
+pub expressions::lower_storage-returns-in-Name-clause-code : goal.expressions::lower_storage-returns-in-Name-clause-code
+expressions::lower_storage-returns-in-Name-clause-code t c =
+    let is = is_name_of c.args.e.now c.in-Name.x c.in-Name.is in
+    subst (λ (x : Expr).
+    OnOk c.named.result (code_of c.named.new.draft ≡ code_of c.args.draft.now
+    ++ base_of (storage c.args.around.now (access_of x)))) (sym is)
+    c.named.ensures.code
+
+pub expressions::lower_storage-returns-in-Name-clause-storage : goal.expressions::lower_storage-returns-in-Name-clause-storage
+expressions::lower_storage-returns-in-Name-clause-storage t c =
+    let is = is_name_of c.args.e.now c.in-Name.x c.in-Name.is in
+    subst (λ (x : Expr).
+    IfOk c.named.result (λ s. s ≡ without_base (storage c.args.around.now (access_of x)))) (sym is)
+    c.named.ensures.storage
+
+pub expressions::lower_initialiser-returns-in-Value-clause-code : goal.expressions::lower_initialiser-returns-in-Value-clause-code
+expressions::lower_initialiser-returns-in-Value-clause-code t c =
+    subst (λ (v : Init).
+    OnOk c.lower_expression.result (code_of c.lower_expression.new.draft ≡ code_of c.args.draft.now
+    ++ init_code c.args.around.now v)) (sym (is_value c.args.initialiser.now c.in-Value.e c.in-Value.is))
+    c.lower_expression.ensures.code
+
+pub expressions::lower_initialiser-returns-in-Value-clause-kind : goal.expressions::lower_initialiser-returns-in-Value-clause-kind
+expressions::lower_initialiser-returns-in-Value-clause-kind t c =
+    subst (λ (v : Init). IfOk c.lower_expression.result (λ k. value_kind k ≡ init_kind c.args.around.now v))
+    (sym (is_value c.args.initialiser.now c.in-Value.e c.in-Value.is))
+    c.lower_expression.ensures.kind

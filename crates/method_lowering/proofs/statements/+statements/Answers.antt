@@ -8,13 +8,15 @@ use Rattle.java_tree.specs.declared.statements.Statement.TheFolds.{the_lemmas}
 use Rattle.java_tree.specs.View.{ty_of}
 use Rattle.java_lowering.specs.Trees.{Stmt, pack_exprs, pack_stmts}
 use Rattle.java_lowering.specs.Trees as tree
-use Rattle.java_lowering.specs.TreesOf.{expr_of, start_of, stmt_of, variable_of}
+use Rattle.java_lowering.specs.TreesOf.{expr_of, start_of, stmt_of}
 use Rattle.java_lowering.specs.Around.{Around, Code, held, repeated}
 use Rattle.java_lowering.specs.Expressions.{code}
 use Rattle.java_lowering.specs.Scopes.{declared, after, after_all}
 use Rattle.java_lowering.specs.Statements.{run, stmt, stmts}
 use Rattle.expression_lowering.specs.Drafts.{code_of}
 use Rattle.method_lowering.specs.Steps.{repeated_from}
+use Rattle.method_lowering.proofs.Forms.{is_block, is_local, is_run, is_while, is_for, is_each, is_sync, is_return}
+use Rattle.method_lowering.proofs.Forms.{is_empty}
 use Rattle.method_lowering.proofs.Choices.{choice-made, half-made}
 use Rattle.method_lowering.proofs.Composed.{left-then, closed-then, for-around, for-code, each-around, each-code}
 use Rattle.method_lowering.proofs.Inside.{inside-after_all}
@@ -25,15 +27,13 @@ use Rattle.method_lowering.proofs.statements.+statements.Goals as goal
 
 pub lower_statement-returns-in-Block-clause-around : goal.lower_statement-returns-in-Block-clause-around
 lower_statement-returns-in-Block-clause-around t c =
-    let is : stmt_of c.args.statement.now ≡ tree.Block (pack_stmts (map stmt_of c.deref.result.now)) =
-    search (rules, the_lemmas) in
+    let is = is_block c.args.statement.now c.in-Block.all c.deref.result.now c.in-Block.is c.deref.ensures.value in
     subst (λ (s : Stmt). OnOk c.lower_block.result (c.lower_block.new.around ≡ after c.args.around.now s)) (sym is)
     c.lower_block.ensures.around
 
 pub lower_statement-returns-in-Block-clause-code : goal.lower_statement-returns-in-Block-clause-code
 lower_statement-returns-in-Block-clause-code t c =
-    let is : stmt_of c.args.statement.now ≡ tree.Block (pack_stmts (map stmt_of c.deref.result.now)) =
-    search (rules, the_lemmas) in
+    let is = is_block c.args.statement.now c.in-Block.all c.deref.result.now c.in-Block.is c.deref.ensures.value in
     subst (λ (s : Stmt).
     OnOk c.lower_block.result (code_of c.lower_block.new.draft ≡ code_of c.args.draft.now
     ++ stmt c.args.around.now s)) (sym is)
@@ -41,15 +41,13 @@ lower_statement-returns-in-Block-clause-code t c =
 
 pub lower_statement-returns-in-Local-clause-around : goal.lower_statement-returns-in-Local-clause-around
 lower_statement-returns-in-Local-clause-around t c =
-    let is : stmt_of c.args.statement.now ≡ tree.Local (ty_of c.in-Local.locals.kind)
-    (map variable_of c.in-Local.locals.variables) = search (rules, the_lemmas) in
+    let is = is_local c.args.statement.now c.in-Local.locals c.in-Local.is in
     subst (λ (s : Stmt). OnOk c.lower_locals.result (c.lower_locals.new.around ≡ after c.args.around.now s)) (sym is)
     c.lower_locals.ensures.around
 
 pub lower_statement-returns-in-Local-clause-code : goal.lower_statement-returns-in-Local-clause-code
 lower_statement-returns-in-Local-clause-code t c =
-    let is : stmt_of c.args.statement.now ≡ tree.Local (ty_of c.in-Local.locals.kind)
-    (map variable_of c.in-Local.locals.variables) = search (rules, the_lemmas) in
+    let is = is_local c.args.statement.now c.in-Local.locals c.in-Local.is in
     subst (λ (s : Stmt).
     OnOk c.lower_locals.result (code_of c.lower_locals.new.draft ≡ code_of c.args.draft.now
     ++ stmt c.args.around.now s)) (sym is)
@@ -57,13 +55,13 @@ lower_statement-returns-in-Local-clause-code t c =
 
 pub lower_statement-returns-in-Expr-clause-around : goal.lower_statement-returns-in-Expr-clause-around
 lower_statement-returns-in-Expr-clause-around t c =
-    let is : stmt_of c.args.statement.now ≡ tree.Run (expr_of c.in-Expr.e) = search (rules, the_lemmas) in
+    let is = is_run c.args.statement.now c.in-Expr.e c.in-Expr.is in
     subst (λ (s : Stmt). OnOk c.lower_run.result (c.args.around.now ≡ after c.args.around.now s)) (sym is)
     (on_ok_weaker c.lower_run.result (λ made. refl) c.lower_run.ensures)
 
 pub lower_statement-returns-in-Expr-clause-code : goal.lower_statement-returns-in-Expr-clause-code
 lower_statement-returns-in-Expr-clause-code t c =
-    let is : stmt_of c.args.statement.now ≡ tree.Run (expr_of c.in-Expr.e) = search (rules, the_lemmas) in
+    let is = is_run c.args.statement.now c.in-Expr.e c.in-Expr.is in
     subst (λ (s : Stmt).
     OnOk c.lower_run.result (code_of c.lower_run.new.draft ≡ code_of c.args.draft.now
     ++ stmt c.args.around.now s)) (sym is)
@@ -71,15 +69,15 @@ lower_statement-returns-in-Expr-clause-code t c =
 
 pub lower_statement-returns-in-While-clause-around : goal.lower_statement-returns-in-While-clause-around
 lower_statement-returns-in-While-clause-around t c =
-    let is : stmt_of c.args.statement.now ≡ tree.While (expr_of c.in-While.e) (stmt_of c.deref-in-While.result.now) =
-    search (rules, the_lemmas) in
+    let is = is_while c.args.statement.now c.in-While.e c.in-While.s c.deref-in-While.result.now c.in-While.is
+    c.deref-in-While.ensures in
     subst (λ (s : Stmt). OnOk c.lower_while.result (c.lower_while.new.around ≡ after c.args.around.now s)) (sym is)
     c.lower_while.ensures.around
 
 pub lower_statement-returns-in-While-clause-code : goal.lower_statement-returns-in-While-clause-code
 lower_statement-returns-in-While-clause-code t c =
-    let is : stmt_of c.args.statement.now ≡ tree.While (expr_of c.in-While.e) (stmt_of c.deref-in-While.result.now) =
-    search (rules, the_lemmas) in
+    let is = is_while c.args.statement.now c.in-While.e c.in-While.s c.deref-in-While.result.now c.in-While.is
+    c.deref-in-While.ensures in
     subst (λ (s : Stmt).
     OnOk c.lower_while.result (code_of c.lower_while.new.draft ≡ code_of c.args.draft.now
     ++ stmt c.args.around.now s)) (sym is)
@@ -87,17 +85,15 @@ lower_statement-returns-in-While-clause-code t c =
 
 pub lower_statement-returns-in-For-clause-around : goal.lower_statement-returns-in-For-clause-around
 lower_statement-returns-in-For-clause-around t c =
-    let is : stmt_of c.args.statement.now ≡ tree.For (start_of c.in-For.start) (option_map expr_of c.in-For.e)
-    (pack_exprs (map expr_of c.deref-in-For-2.result.now)) (stmt_of c.deref-in-For.result.now) =
-    search (rules, the_lemmas) in
+    let is = is_for c.args.statement.now c.in-For.start c.in-For.e c.in-For.updates c.in-For.s c.deref-in-For-2.result.now
+    c.deref-in-For.result.now c.in-For.is c.deref-in-For-2.ensures.value c.deref-in-For.ensures in
     subst (λ (s : Stmt). OnOk c.lower_for.result (c.lower_for.new.around ≡ after c.args.around.now s)) (sym is)
     c.lower_for.ensures.around
 
 pub lower_statement-returns-in-For-clause-code : goal.lower_statement-returns-in-For-clause-code
 lower_statement-returns-in-For-clause-code t c =
-    let is : stmt_of c.args.statement.now ≡ tree.For (start_of c.in-For.start) (option_map expr_of c.in-For.e)
-    (pack_exprs (map expr_of c.deref-in-For-2.result.now)) (stmt_of c.deref-in-For.result.now) =
-    search (rules, the_lemmas) in
+    let is = is_for c.args.statement.now c.in-For.start c.in-For.e c.in-For.updates c.in-For.s c.deref-in-For-2.result.now
+    c.deref-in-For.result.now c.in-For.is c.deref-in-For-2.ensures.value c.deref-in-For.ensures in
     subst (λ (s : Stmt).
     OnOk c.lower_for.result (code_of c.lower_for.new.draft ≡ code_of c.args.draft.now
     ++ stmt c.args.around.now s)) (sym is)
@@ -105,16 +101,16 @@ lower_statement-returns-in-For-clause-code t c =
 
 pub lower_statement-returns-in-ForEach-clause-around : goal.lower_statement-returns-in-ForEach-clause-around
 lower_statement-returns-in-ForEach-clause-around t c =
-    let is : stmt_of c.args.statement.now ≡ tree.ForEach (ty_of c.in-ForEach.t) c.in-ForEach.x (expr_of c.in-ForEach.e)
-    (stmt_of c.deref-in-ForEach.result.now) = search (rules, the_lemmas) in
+    let is = is_each c.args.statement.now _ c.in-ForEach.t c.in-ForEach.x c.in-ForEach.e c.in-ForEach.s
+    c.deref-in-ForEach.result.now c.in-ForEach.is c.deref-in-ForEach.ensures in
     subst (λ (s : Stmt). OnOk c.lower_for_each.result (c.lower_for_each.new.around ≡ after c.args.around.now s))
     (sym is)
     c.lower_for_each.ensures.around
 
 pub lower_statement-returns-in-ForEach-clause-code : goal.lower_statement-returns-in-ForEach-clause-code
 lower_statement-returns-in-ForEach-clause-code t c =
-    let is : stmt_of c.args.statement.now ≡ tree.ForEach (ty_of c.in-ForEach.t) c.in-ForEach.x (expr_of c.in-ForEach.e)
-    (stmt_of c.deref-in-ForEach.result.now) = search (rules, the_lemmas) in
+    let is = is_each c.args.statement.now _ c.in-ForEach.t c.in-ForEach.x c.in-ForEach.e c.in-ForEach.s
+    c.deref-in-ForEach.result.now c.in-ForEach.is c.deref-in-ForEach.ensures in
     subst (λ (s : Stmt).
     OnOk c.lower_for_each.result (code_of c.lower_for_each.new.draft ≡ code_of c.args.draft.now ++ stmt
     c.args.around.now s)) (sym is)
@@ -122,15 +118,15 @@ lower_statement-returns-in-ForEach-clause-code t c =
 
 pub lower_statement-returns-in-Sync-clause-around : goal.lower_statement-returns-in-Sync-clause-around
 lower_statement-returns-in-Sync-clause-around t c =
-    let is : stmt_of c.args.statement.now ≡ tree.Sync c.in-Sync.place (expr_of c.in-Sync.e)
-    (pack_stmts (map stmt_of c.deref-in-Sync.result.now)) = search (rules, the_lemmas) in
+    let is = is_sync c.args.statement.now c.in-Sync.place c.in-Sync.e c.in-Sync.all c.deref-in-Sync.result.now c.in-Sync.is
+    c.deref-in-Sync.ensures.value in
     subst (λ (s : Stmt). OnOk c.lower_sync.result (c.lower_sync.new.around ≡ after c.args.around.now s)) (sym is)
     c.lower_sync.ensures.around
 
 pub lower_statement-returns-in-Sync-clause-code : goal.lower_statement-returns-in-Sync-clause-code
 lower_statement-returns-in-Sync-clause-code t c =
-    let is : stmt_of c.args.statement.now ≡ tree.Sync c.in-Sync.place (expr_of c.in-Sync.e)
-    (pack_stmts (map stmt_of c.deref-in-Sync.result.now)) = search (rules, the_lemmas) in
+    let is = is_sync c.args.statement.now c.in-Sync.place c.in-Sync.e c.in-Sync.all c.deref-in-Sync.result.now c.in-Sync.is
+    c.deref-in-Sync.ensures.value in
     subst (λ (s : Stmt).
     OnOk c.lower_sync.result (code_of c.lower_sync.new.draft ≡ code_of c.args.draft.now
     ++ stmt c.args.around.now s)) (sym is)
@@ -138,15 +134,13 @@ lower_statement-returns-in-Sync-clause-code t c =
 
 pub lower_statement-returns-in-Return-clause-around : goal.lower_statement-returns-in-Return-clause-around
 lower_statement-returns-in-Return-clause-around t c =
-    let is : stmt_of c.args.statement.now ≡ tree.Return (option_map expr_of c.in-Return.e) =
-    search (rules, the_lemmas) in
+    let is = is_return c.args.statement.now c.in-Return.e c.in-Return.is in
     subst (λ (s : Stmt). OnOk c.lower_return.result (c.args.around.now ≡ after c.args.around.now s)) (sym is)
     (on_ok_weaker c.lower_return.result (λ made. refl) c.lower_return.ensures)
 
 pub lower_statement-returns-in-Return-clause-code : goal.lower_statement-returns-in-Return-clause-code
 lower_statement-returns-in-Return-clause-code t c =
-    let is : stmt_of c.args.statement.now ≡ tree.Return (option_map expr_of c.in-Return.e) =
-    search (rules, the_lemmas) in
+    let is = is_return c.args.statement.now c.in-Return.e c.in-Return.is in
     subst (λ (s : Stmt).
     OnOk c.lower_return.result (code_of c.lower_return.new.draft ≡ code_of c.args.draft.now
     ++ stmt c.args.around.now s)) (sym is)
@@ -188,13 +182,13 @@ lower_statement-returns-in-If-default-default-Some-clause-code t c =
 
 pub lower_statement-returns-in-Empty-clause-around : goal.lower_statement-returns-in-Empty-clause-around
 lower_statement-returns-in-Empty-clause-around t c =
-    let is : stmt_of c.args.statement.now ≡ tree.Empty = search (rules, the_lemmas) in
+    let is = is_empty c.args.statement.now c.in-Empty.is in
     ap (after c.args.around.now) (sym is)
 
 pub lower_statement-returns-in-Empty-clause-code : goal.lower_statement-returns-in-Empty-clause-code
 lower_statement-returns-in-Empty-clause-code t c =
     let old = code_of c.args.draft.now in
-    let is : stmt_of c.args.statement.now ≡ tree.Empty = search (rules, the_lemmas) in
+    let is = is_empty c.args.statement.now c.in-Empty.is in
     sym (append-nil old) ∙ ap (λ (s : Stmt). old ++ stmt c.args.around.now s) (sym is)
 
 -- ---- statements, one after another

@@ -13,3 +13,6 @@ returns-clause-ok g c =
     ap (λ ys. reverse (set ys last c.args.second)) c.in-Ok.ensures.items
     ∙ two_reversed last xs c.args.first c.args.second is_last
     ∙ ap (λ ys. c.args.first ∷ c.args.second ∷ drop 1 ys) view
+
+pub returns-in_default-clause-err : goal.returns-in_default-clause-err
+returns-in_default-clause-err g c = ap reverse c.in_default.ensures.items ∙ c.self.view_is
