@@ -10,7 +10,7 @@ use Rattle.access_paths.specs.Same.{tied, same_path-laws}
 use Rattle.access_domain.specs.declared.access.Access.{Access}
 use Rattle.access_domain.specs.declared.access.Key.{Key}
 use Rattle.access_domain.specs.Keys.{key_of, key_cmp, HasKeysOf}
-use Rattle.access_domain.specs.Records.{is_write, same_flag, same_touch, same_key}
+use Rattle.access_domain.specs.Records.{is_write, same_flag, same_key}
 use Rattle.access_domain.proofs.AdditionLemmas.{any-push}
 
 flag_tied : (a b : Bool) → same_flag a b ≡ is_eq (bool_cmp a b)

@@ -1,12 +1,11 @@
 -- Lists of paths with one set, and what is made of each of their paths.
-use Rattle.std.proofs.Common.{◌≡◌, Bool, true, false, cond, ◌||◌, List, [], ◌∷◌, ◌++◌, refl, sym, ap, ◌∙◌}
+use Rattle.std.proofs.Common.{◌≡◌, Bool, true, false, ◌||◌, List, [], ◌∷◌, ◌++◌, refl, sym, ap, ◌∙◌}
 use Rattle.std.proofs.lemmas.Bool.{false≢true}
 use Rattle.std.specs.Cmp.{both_ways}
 use Rattle.std.specs.FinSet as set
 use Rattle.std.specs.List.{list_any, flat_map}
 use Rattle.std.specs.Ordering.{eq_by_cmp}
 use Rattle.access_paths.specs.declared.path.Path.{Path}
-use Rattle.access_paths.specs.Paths.{same_path}
 use Rattle.access_paths.specs.Order.{PathSet, path_cmp}
 use Rattle.access_paths.specs.Same.{path_cmp-total, path_cmp-IsAntisymmetric, equal_of_same, same_path-itself, tied}
 

@@ -1,6 +1,6 @@
 -- Substitution makes no list longer.
-use Rattle.std.proofs.Common.{◌≡◌, ℕ, suc, ◌+◌, ◌≤◌, Bool, true, false, cond, not, ◌||◌, List, [], ◌∷◌, ◌++◌, Option, None, Some}
-use Rattle.std.proofs.Common.{length, filter, refl, sym, ap, ◌∙◌, arith, length-append}
+use Rattle.std.proofs.Common.{◌≡◌, ℕ, suc, ◌+◌, ◌≤◌, Bool, true, false, cond, not, ◌||◌, List, [], ◌∷◌, ◌++◌, None, Some}
+use Rattle.std.proofs.Common.{length, filter, refl, ap, arith, length-append}
 use Rattle.std.specs.List.{enumerate_from, flat_map}
 use Rattle.racer_base.specs.declared.ids.SiteId.{SiteId}
 use Rattle.access_paths.specs.declared.path.Path.{Path}
@@ -8,7 +8,7 @@ use Rattle.owner_domain.specs.declared.value.Value.{Value}
 use Rattle.owner_domain.specs.declared.value.Value.TheVariants.{Owned, Named, Unnamed}
 use Rattle.owner_domain.specs.Values.{names_of}
 use Rattle.access_domain.specs.declared.access.Access.{Access}
-use Rattle.access_domain.specs.Records.{firsts, same_key, different_paths}
+use Rattle.access_domain.specs.Records.{firsts, same_key}
 use Rattle.access_paths.specs.Paths.{same_path}
 use Rattle.access_domain.specs.Findings.{Findings}
 use Rattle.access_domain.specs.Given.{Given}

@@ -7,7 +7,7 @@ use Rattle.core_code.specs.Core.{Core}
 use Rattle.access_domain.specs.declared.summary.Summary.{Summary}
 use Rattle.access_domain.specs.Findings.{Findings, summary_from}
 use Rattle.access_domain.specs.Given.{Given, given_of, is_static_method}
-use Rattle.access_domain.specs.Substitution.{Actuals, actuals_from, substituted}
+use Rattle.access_domain.specs.Substitution.{actuals_from, substituted}
 
 -- what substitution is given of a program; what is known of methods plays no part in it
 abbrev pub given_at : Core → Bool → Given

@@ -4,3 +4,4 @@ pub mod Turns
 pub mod Known
 pub mod SamePartner
 pub mod Groups
+pub mod Numbered

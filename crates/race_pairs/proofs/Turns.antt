@@ -1,7 +1,7 @@
 -- What one turn of a loop over a list adds.
-use Rattle.std.proofs.Common.{◌≡◌, ℕ, ◌+◌, ◌<◌, List, [], ◌∷◌, ◌++◌, Option, None, Some, length, get_or, drop, sym, ap}
-use Rattle.std.proofs.Common.{◌∙◌, append_assoc}
-use Rattle.std.proofs.lemmas.List.{drop_more}
+use Rattle.std.proofs.Common.{◌≡◌, ℕ, ◌+◌, ◌<◌, ◌≤◌, List, [], ◌∷◌, ◌++◌, Option, None, Some, length, get_or, map, drop}
+use Rattle.std.proofs.Common.{sym, ap, ◌∙◌, append_assoc, append-nil}
+use Rattle.std.proofs.lemmas.List.{drop_more, at_drop_all}
 use Rattle.std.specs.List.{flat_map, filter_map, cons_option}
 
 -- what is left at an index begins with the element that is read there
@@ -20,3 +20,18 @@ filter_map_adds f made x y rest is =
 -- the same where nothing is given
 pub filter_map_leaves : {X Y : Type 0} (f : X → Option Y) (made : List Y) (x : X) (rest : List X) → f x ≡ None → made ++ filter_map f rest ≡ made ++ filter_map f (x ∷ rest)
 filter_map_leaves f made x rest is = ap (λ o. made ++ cons_option o (filter_map f rest)) (sym is)
+
+-- a list of what is made of each element, whose next element was added
+pub map_turn : {X Y : Type 0} (f : X → Y) (xs : List X) (i : ℕ) (x : X) (made more : List Y) → i < length xs →
+    more ≡ made ++ f (get_or xs i x) ∷ [] → more ++ map f (drop (i + 1) xs) ≡ made ++ map f (drop i xs)
+map_turn f xs i x made more within adds =
+    let rest = drop (i + 1) xs in
+    ap (λ ys. ys ++ map f rest) adds
+    ∙ append_assoc made (f (get_or xs i x) ∷ []) (map f rest)
+    ∙ ap (λ ys. made ++ map f ys) (sym (drop_more xs i x within))
+
+-- what was made once all is gone through, where nothing is made of nothing
+pub at_end : {X Y : Type 0} (F : List X → List Y) (xs : List X) (i : ℕ) (made : List Y) → F [] ≡ [] →
+    length xs ≤ i → made ≡ made ++ F (drop i xs)
+at_end F xs i made none past =
+    sym (append-nil made) ∙ ap (λ ys. made ++ ys) (sym (at_drop_all F xs i past ∙ none))

@@ -7,28 +7,30 @@ ghost use Rattle.access_domain.specs.Outcomes.{AreOutcomes};
 ghost use Rattle.race_pairs.specs.Warnings.{records_held, numbered_records, is_entry_of, records_in};
 ghost use Rattle.race_pairs.specs.Warnings.{warnings_among, warnings};
 ghost use Rattle.race_pairs.specs.MethodRecords.{record_of, all_records};
+ghost use Rattle.race_pairs.specs.Firsts.{FindsPartners};
 
 use crate::Warning;
 use crate::method_access::MethodAccess;
-use crate::partners::{firsts_of, partner_of};
+use crate::partners::{Firsts, firsts_of, partner_of};
 use access_domain::{Access, Outcome, Outcomes};
 use core_code::{MethodCore, Program};
 use racer_base::{ClassId, Memory, MethodId};
 use std::alloc::Global;
 use std::sync::Arc;
 
-/// Puts the warnings of a class behind those that there are; these are the records of its entries.
-fn push_warnings(
+/// Puts the warning of each of these records behind those that there are; the groups are made of the same records.
+fn push_partners(
     alloc: Global,
     found: &mut Vec<Warning>,
     class: ClassId,
     records: &[MethodAccess],
+    firsts: &Firsts,
 ) -> Result<(), Memory>
+    requires { FindsPartners firsts.now (all_records records.now) }
     ensures { OnOk result (found.new.items ≡ found.old.items ++ warnings_among class (all_records records.now)) }
 {
-    let firsts = firsts_of(alloc, records)?;
     for first in records {
-        let partner = partner_of(alloc, first.access, &firsts)?;
+        let partner = partner_of(alloc, first.access, firsts)?;
         if let Some(partner) = partner {
             found.push(Warning {
                 class,
@@ -59,7 +61,10 @@ fn records_held(outcome: &Option<Arc<Outcome>>) -> &[Access]
 fn in_32_bits(n: usize) -> Result<u32, Memory>
     ensures { MatchResult result (λ number. number ≡ n) (λ _. 2 ^ 32 ≤ n) }
 {
-    u32::try_from(n).map_err(|_| Memory)
+    match u32::try_from(n) {
+        Ok(number) => Ok(number),
+        Err(_) => Err(Memory),
+    }
 }
 
 /// Whether the method is an entry of this class.
@@ -110,6 +115,23 @@ fn records_in<'a>(
     Ok(records)
 }
 
+/// Puts the warnings of a class behind those that there are.
+fn push_warnings(
+    alloc: Global,
+    program: &Program,
+    outcomes: &Outcomes,
+    found: &mut Vec<Warning>,
+    class: ClassId,
+) -> Result<(), Memory>
+    requires { AreOutcomes (core program.now) outcomes.now.items }
+    ensures { OnOk result (
+        found.new.items ≡ found.old.items ++ warnings_among class (records_in (core program.now) class)) }
+{
+    let records = records_in(alloc, program, outcomes, class)?;
+    let firsts = firsts_of(alloc, records.as_slice())?;
+    push_partners(alloc, found, class, records.as_slice(), &firsts)
+}
+
 /// The warnings of a program whose methods have these outcomes: one for each record of an entry of a checked
 /// class that conflicts with such a record of its class, in order.
 pub fn warnings(
@@ -123,9 +145,8 @@ pub fn warnings(
     let mut found = Vec::new(alloc);
     for (number, class) in program.classes().iter().enumerate() {
         if class.checked {
-            let id = ClassId(in_32_bits(number)?);
-            let records = records_in(alloc, program, outcomes, id)?;
-            push_warnings(alloc, &mut found, id, records.as_slice())?;
+            let number = in_32_bits(number)?;
+            push_warnings(alloc, program, outcomes, &mut found, ClassId(number))?;
         }
     }
     Ok(found)

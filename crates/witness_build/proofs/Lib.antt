@@ -8,3 +8,4 @@ pub mod FoundPrefixes
 pub mod LegSteps
 pub mod WarningMarks
 pub mod WholeWarnings
+pub mod MarkTurns

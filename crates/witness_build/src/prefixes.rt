@@ -45,10 +45,10 @@ fn front(alloc: Global, path: &Path, fields: u32) -> Result<Path, Memory>
     ensures { IfOk result (λ made. made ≡ front fields path.now) }
 {
     let all = path.fields.as_slice();
-    let kept = all.get(..fields as usize).unwrap_or(all);
+    let count = (fields as usize).min(all.len());
     Ok(Path {
         root: path.root,
-        fields: Items::from(Vec::from_slice(alloc, kept)?),
+        fields: Items::from(Vec::from_slice(alloc, &all[..count])?),
     })
 }
 

@@ -1,4 +1,4 @@
-use Rattle.std.proofs.Common.{◌≡◌, ◌-◌, List, Option, Some, length, slice_get, sym, ap, subst, ◌∙◌}
+use Rattle.std.proofs.Common.{◌≡◌, ◌-◌, List, Option, None, Some, length, slice_get, sym, ap, subst, ◌∙◌}
 use Rattle.std.specs.Prelude.{IfOk}
 use Rattle.racer_base.specs.declared.ids.FieldId.{FieldId}
 use Rattle.access_paths.specs.declared.path.Path.{Path}
@@ -8,7 +8,7 @@ use Rattle.core_code.specs.Program.{core}
 use Rattle.access_domain.specs.Reached.{reached_path}
 use Rattle.access_domain.specs.Substitution.{substituted_path}
 use Rattle.call_subst.specs.Calls.{given, actuals}
-use Rattle.call_subst.proofs.Named.{last_at, reached-substituted}
+use Rattle.call_subst.proofs.Named.{last_at, none_substituted, reached-substituted}
 use Rattle.call_subst.proofs.naming.path_there.Goals as goal
 
 pub returns-in_ok-value-in-Some : goal.returns-in_ok-value-in-Some
@@ -24,3 +24,10 @@ returns-in_ok-value-in-Some c =
     ap (λ (v : Value). reached_path (core call.program.now) v f) c.in_ok-value-in-Some.ensures
     ∙ reached-substituted (core call.program.now) call.main (actuals call) path f (sym c.if-is_some.ensures) last in
     subst (λ (o : Option Path). IfOk c.path_reached.result (λ found. found ≡ o)) same c.path_reached.ensures
+
+pub returns-in-None : goal.returns-in-None
+returns-in-None c =
+    let path : Path = c.args.path.now in
+    let at_end : None ≡ slice_get path.fields (length path.fields - 1) =
+    c.in-None.ensures.value ∙ ap (λ (fs : List FieldId). slice_get fs (length fs - 1)) c.as_slice.ensures in
+    none_substituted (given c.args.call.now) (actuals c.args.call.now) path (sym c.if-is_some.ensures) at_end

@@ -1,4 +1,4 @@
-use Rattle.std.proofs.Common.{◌≡◌, ◌≤◌, Bool, List, length, sym, ap, ◌∙◌, arith}
+use Rattle.std.proofs.Common.{Bool, List, ap, ◌∙◌, arith}
 use Rattle.std.specs.FinSet as set
 use Rattle.access_paths.specs.declared.path.Path.{Path}
 use Rattle.core_code.specs.Program.{core}

@@ -1,4 +1,4 @@
-use Rattle.std.proofs.Common.{◌≡◌, ℕ, ◌+◌, ◌<◌, List, [], ◌∷◌, ◌++◌, length, map, drop, sym, ap, ◌∙◌, arith}
+use Rattle.std.proofs.Common.{◌≡◌, ℕ, ◌+◌, ◌<◌, List, [], ◌∷◌, ◌++◌, length, map, drop, sym, ap, ◌∙◌, refl, arith}
 use Rattle.std.specs.List.{enumerate_from, flat_map}
 use Rattle.std.specs.declared.vec.Vec.{Vec}
 use Rattle.std.specs.Global.{Global}
@@ -10,7 +10,7 @@ use Rattle.core_code.specs.declared.parts.MethodCore.{MethodCore}
 use Rattle.race_pairs.specs.declared.method_access.MethodAccess.{MethodAccess}
 use Rattle.race_pairs.specs.Warnings.{MethodRecord, numbered_records, entry_records}
 use Rattle.race_pairs.specs.MethodRecords.{all_records}
-use Rattle.race_pairs.proofs.Turns.{rest_of, flat_map_turn}
+use Rattle.race_pairs.proofs.Turns.{rest_of, flat_map_turn, at_end}
 use Rattle.race_pairs.proofs.Known.{one_for_each, outcome_at, entry_adds, other_adds}
 use Rattle.race_pairs.proofs.pairing.records_in.Goals as goal
 use Rattle.race_pairs.proofs.pairing.records_in.Goals.{then-is_entry_of+in_ok-number+in_ok-push_records}
@@ -57,3 +57,12 @@ loop-number-preserved c =
           ∙ flat_map_turn made had [] (number, method_of method) rest (other_adds program c.args.class number (method_of method) other)
           ∙ before
     ]
+
+pub returns : goal.returns
+returns c =
+    let given = entry_records (core c.args.program.now) c.args.class in
+    let made = λ (methods : List MethodCore).
+    flat_map given (enumerate_from c.loop-number.number (map method_of methods)) in
+    let methods = c.methods-method-items.result.now in
+    at_end made methods c.loop-number.number (all_records c.loop-number.records.items) refl c.loop-number-test.false
+    ∙ c.loop-number.invariant

@@ -1,7 +1,7 @@
-use Rattle.std.proofs.Common.{◌≡◌, ◌+◌, ◌-◌, suc, ◌∙◌, arith}
+use Rattle.std.proofs.Common.{◌≡◌, ◌+◌, ◌-◌, suc, sym, ◌∙◌, arith}
 use Rattle.core_code.specs.Program.{core}
 use Rattle.core_semantics.specs.View.{state_of}
-use Rattle.witness_build.proofs.LegSteps.{end-on, reads-here, reads-on}
+use Rattle.witness_build.proofs.LegSteps.{end-on, end-here, end-none, reads-here, reads-on}
 use Rattle.witness_build.proofs.driving.run_leg.Goals as goal
 
 pub loop-step-preserved : goal.loop-step-preserved
@@ -31,3 +31,21 @@ returns-in_default-clause-reads c =
     (state_of at.machine) (state_of c.advance.new.machine) c.in_ok-rest.field-0 at.objects c.advance.new.objects count
     c.in_ok-rest.ensures.step c.in_default.is c.in_ok-rest.ensures.reads
     ∙ at.invariant.reads
+
+pub returns-in_default-clause-end : goal.returns-in_default-clause-end
+returns-in_default-clause-end c =
+    let at = c.loop-step in
+    let n = c.args.steps in
+    let count : n - at.step ≡ suc (n - (at.step + 1)) = omega (arith, c.loop-step-test.true) in
+    sym at.invariant.end
+    ∙ end-here (core c.args.program.now) c.args.thread (n - at.step) (n - (at.step + 1)) at.turns.now
+    (state_of at.machine) (state_of c.advance.new.machine) c.in_ok-rest.field-0 count c.in_ok-rest.ensures.step
+    c.in_default.is
+
+pub returns-clause-end : goal.returns-clause-end
+returns-clause-end c =
+    let at = c.loop-step in
+    let left = c.args.steps - at.step in
+    let none : left ≡ 0 = omega (arith, c.loop-step-test.false) in
+    sym at.invariant.end
+    ∙ end-none (core c.args.program.now) c.args.thread left at.turns.now (state_of at.machine) none

@@ -30,3 +30,6 @@ invariant_of-self-2 c =
 
 pub returns-clause-firsts : goal.returns-clause-firsts
 returns-clause-firsts c = let within : IsWithin c.put.new.items.items = (invariant_of-self-2 c).0 in within.firsts
+
+pub returns-clause-limit : goal.returns-clause-limit
+returns-clause-limit c = let within : IsWithin c.put.new.items.items = (invariant_of-self-2 c).0 in within.limit

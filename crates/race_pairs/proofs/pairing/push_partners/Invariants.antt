@@ -2,7 +2,7 @@ use Rattle.std.proofs.Common.{◌≡◌, ◌++◌, drop}
 use Rattle.std.specs.List.{filter_map}
 use Rattle.race_pairs.specs.Warnings.{warning_among, warnings_among}
 use Rattle.race_pairs.specs.MethodRecords.{all_records}
-use Rattle.race_pairs.proofs.pairing.push_warnings.Given as goal
+use Rattle.race_pairs.proofs.pairing.push_partners.Given as goal
 
 abbrev pub invariant-loop-first : goal.invariant-loop-first
 invariant-loop-first l =

@@ -1,0 +1,16 @@
+use Rattle.std.proofs.Common.{◌≡◌, List, take, ap, ◌∙◌}
+use Rattle.std.proofs.lemmas.List.{take_min}
+use Rattle.racer_base.specs.declared.ids.FieldId.{FieldId}
+use Rattle.access_paths.specs.declared.path.Path.{Path}
+use Rattle.witness_build.proofs.prefixes.front.Goals as goal
+
+pub returns : goal.returns
+returns c =
+    let all = c.as_slice-all.result.now in
+    let whole : List FieldId → Path = λ fields. record { root = c.args.path.now.root; fields = fields } in
+    let kept : c.from.result ≡ take c.min-count.result all = c.from.ensures ∙ c.in_ok-from_slice.ensures.items in
+    ap whole
+    (kept
+    ∙ ap (λ n. take n all) c.min-count.ensures
+    ∙ take_min c.args.fields all
+    ∙ ap (take c.args.fields) c.as_slice-all.ensures)
