@@ -1,7 +1,7 @@
 -- No public contract rests on this: what is made of an expression by the sign behind it.
-use Rattle.std.specs.Prelude.{ℕ, List, Option, Some, codes}
+use Rattle.std.specs.Prelude.{ℕ, Bool, List, [], Option, Some, codes}
 use Rattle.java_tree.specs.declared.words.Spelled.{Spelled}
-use Rattle.java_tree.specs.Trees.{Expr, Paren, Index}
+use Rattle.java_tree.specs.Trees.{Expr, Init, Paren, Index}
 use Rattle.method_grammar.specs.Taking.{◌>>=◌, after_sign}
 use Rattle.method_grammar.specs.ExpressionReading.{Reading, Turn, grown}
 
@@ -20,3 +20,9 @@ index_end n a i ts = do
 -- what was read, and the tokens behind it
 abbrev pub as_read : {A : Type 0} → A → List Spelled → Option (A × List Spelled)
 as_read a ts = Some (a, ts)
+
+-- no further item, and the tokens behind the `}` in front
+abbrev pub items_closed : (last_comma : Bool) → List Spelled → Option (List Init × Bool × List Spelled)
+items_closed last_comma ts = do
+  r ← after_sign (codes "}") ts
+  Some ([], last_comma, r)

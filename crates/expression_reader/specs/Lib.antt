@@ -5,3 +5,4 @@ pub mod ClassFollows
 pub mod FirstParenthesis
 pub mod Closings
 pub mod NearerLevels
+pub mod MarkLeads

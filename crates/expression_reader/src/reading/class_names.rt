@@ -65,7 +65,7 @@ fn class_of(
     ensures shorter { IfOk result (λ x. length x.1.now ≤ length tokens.now) }
 {
     let tree = Expression::ClassOf(names);
-    Ok((NestedExpression::new(alloc, tree, 1)?, tokens))
+    NestedExpression::before(alloc, tree, 1, tokens)
 }
 
 /// The class of this name and of those behind it.

@@ -14,7 +14,7 @@ use super::arguments::call_arguments;
 use super::class_names::{class, class_follows};
 use super::creations::creation;
 use super::expressions::read_expression;
-use super::leads::{casts, is_prefix, opens_operand};
+use super::leads::{casts, is_prefix, is_text, opens_operand};
 use super::nested::NestedExpression;
 use super::operands::{call, cast_to, cast_type, literal, paren, prefixed, this, variable};
 use java_lexer::{Token, TokenKind};
@@ -73,10 +73,10 @@ fn word<'a>(
     ensures shorter { IfOk result (λ x. length x.1.now ≤ length tokens.now) }
 {
     let text = token.text.as_str();
-    if text == "this" {
+    if is_text(text, "this") {
         return this(alloc, tokens);
     }
-    if text == "new" {
+    if is_text(text, "new") {
         return creation(alloc, limit, token.place, tokens);
     }
     Err(ReadError::Unformed)
@@ -129,7 +129,7 @@ fn signed<'a>(
     if is_prefix(text) {
         return prefix(alloc, limit, text, tokens);
     }
-    if text != "(" {
+    if !is_text(text, "(") {
         return Err(ReadError::Unformed);
     }
     match casts(tokens) {

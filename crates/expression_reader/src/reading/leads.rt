@@ -1,5 +1,5 @@
 //! What the first token does behind an expression, and the choice between a cast and parentheses.
-ghost use Rattle.std.specs.Prelude.{◌≡◌, ◌&&◌, ◌||◌, suc, Some, None, MatchOption, length, map};
+ghost use Rattle.std.specs.Prelude.{◌≡◌, ◌&&◌, ◌||◌, suc, Some, None, MatchOption, length, map, bytes_eq};
 ghost use Rattle.racer_base.specs.Name.{is_listed};
 ghost use Rattle.racer_base.specs.declared.ids.Place.{Place};
 ghost use Rattle.java_lexer.specs.declared.token.TokenKind.TheVariants as kind;
@@ -9,6 +9,7 @@ ghost use Rattle.method_grammar.specs.Leads.{lead_of_angle, lead_of_sign, lead_o
 ghost use Rattle.method_grammar.specs.Leads.{opens, opens_operand, opens_signed, is_plain_cast, casts};
 ghost use Rattle.expression_reader.specs.FirstParenthesis.{behind_first};
 ghost use Rattle.type_reader.specs.Tokens.{spelled};
+ghost use Rattle.expression_reader.specs.MarkLeads.{lead_of_mark};
 ghost use Rattle.expression_reader.specs.LeadView.{lead_of, places_behind, IsBelow};
 
 use java_lexer::{Token, TokenKind};
@@ -50,6 +51,13 @@ pub enum Lead<'a> {
     /// An operand, which goes on with no expression.
     Opens,
     Ends,
+}
+
+/// Whether two texts are one.
+pub fn is_text(text: &str, other: &str) -> bool
+    ensures { result ≡ bytes_eq text.now other.now }
+{
+    text == other
 }
 
 fn is_assignment(text: &str) -> bool
@@ -114,13 +122,24 @@ fn lead_of_sign<'a>(text: &'a str, tokens: &'a [Token]) -> Lead<'a>
         Lead::Joins(text, tokens)
     } else if is_step(text) {
         Lead::Steps(text, tokens)
-    } else if text == ">" {
+    } else {
+        lead_of_mark(text, tokens)
+    }
+}
+
+/// Of a sign that is in no table of operators.
+fn lead_of_mark<'a>(text: &'a str, tokens: &'a [Token]) -> Lead<'a>
+    ensures gives { lead_of result ≡ lead_of_mark text.now (map spelled tokens.now) }
+    ensures places { places_behind result (kept tokens.now) ≡ kept tokens.now }
+    ensures shorter { IsBelow result (suc (length tokens.now)) }
+{
+    if is_text(text, ">") {
         lead_of_angle(tokens)
-    } else if text == "?" {
+    } else if is_text(text, "?") {
         Lead::Asks(tokens)
-    } else if text == "." {
+    } else if is_text(text, ".") {
         Lead::Selects(tokens)
-    } else if text == "[" {
+    } else if is_text(text, "[") {
         Lead::Indexes(tokens)
     } else if opens(text) {
         Lead::Opens
@@ -135,9 +154,9 @@ fn lead_of_keyword<'a>(text: &'a str, tokens: &'a [Token]) -> Lead<'a>
         ≡ place_onto kind.Keyword text.now here (kept tokens.now) }
     ensures shorter { IsBelow result (suc (length tokens.now)) }
 {
-    if text == "instanceof" {
+    if is_text(text, "instanceof") {
         Lead::Tests(tokens)
-    } else if text == "this" || text == "new" {
+    } else if is_text(text, "this") || is_text(text, "new") {
         Lead::Opens
     } else {
         Lead::Ends

@@ -7,7 +7,7 @@ ghost use Rattle.expression_reader.specs.LeadView.{lead_of};
 ghost use Rattle.expression_reader.specs.GoingOn.{goes_on};
 ghost use Rattle.expression_reader.specs.NearerLevels.{nearer_level};
 
-use super::leads::Lead;
+use super::leads::{Lead, is_text};
 use java_tree::Expression;
 use type_reader::reading::look::is_listed;
 
@@ -31,15 +31,15 @@ pub fn binary_level(operator: &str) -> u32
     ensures gives { result ≡ binary_level operator.now }
     ensures low { result ≤ 11 }
 {
-    if operator == "||" {
+    if is_text(operator, "||") {
         2
-    } else if operator == "&&" {
+    } else if is_text(operator, "&&") {
         3
-    } else if operator == "|" {
+    } else if is_text(operator, "|") {
         4
-    } else if operator == "^" {
+    } else if is_text(operator, "^") {
         5
-    } else if operator == "&" {
+    } else if is_text(operator, "&") {
         6
     } else {
         nearer_level(operator.as_bytes())

@@ -9,7 +9,7 @@ ghost use Rattle.java_tree.specs.View.{ty_of, base_of, expr_of, init_of, array_o
 ghost use Rattle.type_reader.specs.Tokens.{spelled};
 ghost use Rattle.type_reader.specs.Endings.{call_end, lengths_end, length_behind, item_behind, items_close};
 ghost use Rattle.type_reader.specs.Endings.{items_end};
-ghost use Rattle.expression_reader.specs.Closings.{as_read};
+ghost use Rattle.expression_reader.specs.Closings.{as_read, items_closed};
 ghost use Rattle.type_reader.specs.ReadAnswer.{Gives};
 
 use super::nested::{NestedArray, NestedExpression, NestedExpressions, NestedInitialiser};
@@ -86,7 +86,7 @@ pub fn lengths_end(
     let nesting = 1 + kind.nesting.max(lengths.nesting);
     let (arrays, rest) = brackets(tokens);
     let tree = Expression::NewArray(place, kind.tree, lengths.trees, arrays);
-    Ok((NestedExpression::new(alloc, tree, nesting)?, rest))
+    NestedExpression::before(alloc, tree, nesting, rest)
 }
 
 /// An array initialiser of these items (JLS 10.6).
@@ -125,6 +125,18 @@ pub fn item_behind(tokens: &[Token]) -> Option<&[Token]>
     Some(after)
 }
 
+/// Whether a last comma stands in front, and the tokens behind it.
+fn last_comma(tokens: &[Token]) -> (bool, &[Token])
+    ensures gives { items_close (map spelled tokens.now) ≡ items_closed result.0 (map spelled result.1.now) }
+    ensures places { kept result.1.now ≡ kept tokens.now }
+    ensures shorter { length result.1.now ≤ length tokens.now }
+{
+    match after_sign(tokens, ",") {
+        Some(after) => (true, after),
+        None => (false, tokens),
+    }
+}
+
 /// An array initialiser of these items, with or without a last comma, and its `}`.
 pub fn items_end(
     items: Vec<Initialiser>,
@@ -140,12 +152,9 @@ pub fn items_end(
     ensures small { IfOk result (λ x. x.0.nesting ≡ suc nesting) }
     ensures shorter { IfOk result (λ x. length x.1.now ≤ length tokens.now) }
 {
-    let Some(after) = after_sign(tokens, ",") else {
-        let rest = sign(tokens, "}")?;
-        return Ok((braced(items, nesting, false), rest));
-    };
-    let rest = sign(after, "}")?;
-    Ok((braced(items, nesting, true), rest))
+    let (last_comma, close) = last_comma(tokens);
+    let rest = sign(close, "}")?;
+    Ok((braced(items, nesting, last_comma), rest))
 }
 
 /// An array initialiser as what a variable begins with (JLS 8.3).
@@ -163,7 +172,7 @@ pub fn items_value(
 {
     let nesting = items.nesting;
     let tree = Initialiser::Items(items.tree);
-    Ok((NestedInitialiser::new(alloc, tree, nesting)?, tokens))
+    NestedInitialiser::before(alloc, tree, nesting, tokens)
 }
 
 /// An expression as what a variable begins with (JLS 8.3).
@@ -181,5 +190,5 @@ pub fn expression_value(
 {
     let nesting = value.nesting;
     let tree = Initialiser::Value(Box::into_inner(value.tree));
-    Ok((NestedInitialiser::new(alloc, tree, nesting)?, tokens))
+    NestedInitialiser::before(alloc, tree, nesting, tokens)
 }

@@ -1,12 +1,16 @@
 //! Trees with their nesting.
-ghost use Rattle.std.specs.Prelude.{◌≡◌, ◌++◌, ◌∷◌, [], Some, map, IfOk, IfErr};
+ghost use Rattle.std.specs.Prelude.{◌≡◌, ◌≤◌, ◌++◌, ◌∷◌, [], Some, length, map, IfOk, IfErr};
+ghost use Rattle.java_tree.specs.KeptPlaces.{kept, expr_places, init_places};
 ghost use Rattle.java_tree.specs.Nesting.{ty_nesting, base_nesting, part_nesting, angled_nesting, argument_nesting};
 ghost use Rattle.java_tree.specs.Nesting.{expr_nesting, exprs_nesting, array_nesting, init_nesting};
 ghost use Rattle.java_tree.specs.Trees.{pack_exprs};
 ghost use Rattle.java_tree.specs.View.{ty_of, base_of, part_of, angled_of, argument_of, expr_of, array_of, init_of};
 ghost use Rattle.type_reader.specs.declared.reading.error.ReadError.TheVariants.{Memory};
 ghost use Rattle.type_reader.specs.ReadAnswer.{Gives};
+ghost use Rattle.type_reader.specs.Tokens.{spelled};
+ghost use Rattle.expression_reader.specs.Closings.{as_read};
 
+use java_lexer::Token;
 use java_tree::{
     ArrayTree, BaseType, Expression, Initialiser, TypeArgument, TypeArguments, TypePart, TypeTree,
 };
@@ -51,6 +55,24 @@ impl NestedExpression {
         let tree = Box::new(alloc, tree)?;
         Ok(NestedExpression { tree, nesting })
     }
+
+    /// This tree, in memory of its own, and the tokens behind it.
+    pub fn before(
+        alloc: Global,
+        tree: Expression,
+        nesting: u32,
+        tokens: &[Token],
+    ) -> Result<(NestedExpression, &[Token]), ReadError>
+        requires measured { nesting ≡ expr_nesting (expr_of tree) }
+        ensures gives { Gives (λ x. (expr_of x.0.tree.value, map spelled x.1.now)) result (as_read
+            (expr_of tree) (map spelled tokens.now)) }
+        ensures places { IfOk result (λ x. expr_places x.0.tree.value (kept x.1.now) ≡ expr_places tree
+            (kept tokens.now)) }
+        ensures small { IfOk result (λ x. x.0.nesting ≡ nesting) }
+        ensures shorter { IfOk result (λ x. length x.1.now ≤ length tokens.now) }
+    {
+        Ok((NestedExpression::new(alloc, tree, nesting)?, tokens))
+    }
 }
 
 /// One more tree behind others.
@@ -63,17 +85,22 @@ pub fn push_tree<T: Drop>(trees: &mut Vec<T>, tree: Box<T>) -> Result<(), ReadEr
 }
 
 impl NestedInitialiser {
-    /// This tree, in memory of its own.
-    pub fn new(
+    /// This tree, in memory of its own, and the tokens behind it.
+    pub fn before(
         alloc: Global,
         tree: Initialiser,
         nesting: u32,
-    ) -> Result<NestedInitialiser, ReadError>
+        tokens: &[Token],
+    ) -> Result<(NestedInitialiser, &[Token]), ReadError>
         requires measured { nesting ≡ init_nesting (init_of tree) }
-        ensures gives { Gives (λ x. x.tree.value) result (Some tree) }
-        ensures small { IfOk result (λ x. x.nesting ≡ nesting) }
+        ensures gives { Gives (λ x. (init_of x.0.tree.value, map spelled x.1.now)) result (as_read
+            (init_of tree) (map spelled tokens.now)) }
+        ensures places { IfOk result (λ x. init_places x.0.tree.value (kept x.1.now) ≡ init_places tree
+            (kept tokens.now)) }
+        ensures small { IfOk result (λ x. x.0.nesting ≡ nesting) }
+        ensures shorter { IfOk result (λ x. length x.1.now ≤ length tokens.now) }
     {
         let tree = Box::new(alloc, tree)?;
-        Ok(NestedInitialiser { tree, nesting })
+        Ok((NestedInitialiser { tree, nesting }, tokens))
     }
 }

@@ -1,6 +1,8 @@
 //! Expressions with no expression at their left, made of what was read in them.
-ghost use Rattle.std.specs.Prelude.{◌≡◌, ◌<◌, ◌≤◌, ◌^◌, suc, max, ◌∷◌, ◌++◌, length, map, IfOk};
-ghost use Rattle.java_tree.specs.Formed.{is_named};
+ghost use Rattle.std.specs.Prelude.{◌≡◌, ◌<◌, ◌≤◌, ◌^◌, suc, max, ◌∷◌, ◌++◌, Some, None, not, ◌||◌, if◌then◌else◌};
+ghost use Rattle.std.specs.Prelude.{length, map, IfOk};
+ghost use Rattle.java_tree.specs.Formed.{is_named, is_variable};
+ghost use Rattle.java_tree.specs.Operators.{is_step};
 ghost use Rattle.java_tree.specs.Trees.{Typed, Cast, Literal, This, Name, Call, New, NewItems, pack_exprs};
 ghost use Rattle.java_tree.specs.KeptPlaces.{kept, each_puts, ty_places, base_places, expr_places};
 ghost use Rattle.java_tree.specs.KeptPlaces.{array_places};
@@ -38,7 +40,7 @@ pub fn literal<'a>(
 {
     let text = Text::from_str(alloc, token.text.as_str())?;
     let tree = Expression::Literal(token.kind, text);
-    Ok((NestedExpression::new(alloc, tree, 1)?, tokens))
+    NestedExpression::before(alloc, tree, 1, tokens)
 }
 
 /// JLS 15.8.3.
@@ -49,7 +51,7 @@ pub fn this(alloc: Global, tokens: &[Token]) -> Result<(NestedExpression, &[Toke
     ensures small { IfOk result (λ x. x.0.nesting ≡ 1) }
     ensures shorter { IfOk result (λ x. length x.1.now ≤ length tokens.now) }
 {
-    Ok((NestedExpression::new(alloc, Expression::This, 1)?, tokens))
+    NestedExpression::before(alloc, Expression::This, 1, tokens)
 }
 
 /// JLS 15.14.1.
@@ -65,7 +67,7 @@ pub fn variable<'a>(
     ensures shorter { IfOk result (λ x. length x.1.now ≤ length tokens.now) }
 {
     let tree = Expression::Name(ident(alloc, token)?);
-    Ok((NestedExpression::new(alloc, tree, 1)?, tokens))
+    NestedExpression::before(alloc, tree, 1, tokens)
 }
 
 /// JLS 15.12.
@@ -85,7 +87,7 @@ pub fn call<'a>(
 {
     let nesting = all.nesting + 1;
     let tree = Expression::Call(None, ident(alloc, token)?, all.trees);
-    Ok((NestedExpression::new(alloc, tree, nesting)?, tokens))
+    NestedExpression::before(alloc, tree, nesting, tokens)
 }
 
 /// This expression in its parentheses, the second of which stands in front (JLS 15.8.5).
@@ -105,10 +107,22 @@ pub fn paren(
     let rest = sign(tokens, ")")?;
     let nesting = part.nesting + 1;
     let tree = Expression::Paren(part.tree);
-    Ok((NestedExpression::new(alloc, tree, nesting)?, rest))
+    NestedExpression::before(alloc, tree, nesting, rest)
 }
 
-/// `++` and `--` stand before what can be assigned alone (JLS 15.15).
+/// This prefix operator, where it may stand before this expression: `++` and `--` stand before what can be assigned
+/// alone (JLS 15.15).
+fn prefix_sign(alloc: Global, operator: &str, part: &Expression) -> Result<Text, ReadError>
+    ensures { Gives (λ text. text) result (if not (is_step operator.now) || is_variable (expr_of part.now)
+        then Some operator.now else None) }
+{
+    if is_step(operator) && !is_variable(part) {
+        return Err(ReadError::Unformed);
+    }
+    Ok(Text::from_str(alloc, operator)?)
+}
+
+/// JLS 15.15.
 pub fn prefixed<'a>(
     alloc: Global,
     operator: &str,
@@ -123,13 +137,10 @@ pub fn prefixed<'a>(
     ensures small { IfOk result (λ x. x.0.nesting ≡ suc part.nesting) }
     ensures shorter { IfOk result (λ x. length x.1.now ≤ length tokens.now) }
 {
-    if is_step(operator) && !is_variable(&part.tree) {
-        return Err(ReadError::Unformed);
-    }
+    let text = prefix_sign(alloc, operator, &part.tree)?;
     let nesting = part.nesting + 1;
-    let text = Text::from_str(alloc, operator)?;
     let tree = Expression::Prefix(text, part.tree);
-    Ok((NestedExpression::new(alloc, tree, nesting)?, tokens))
+    NestedExpression::before(alloc, tree, nesting, tokens)
 }
 
 /// The type of a cast, in memory of its own (JLS 15.16).
@@ -168,7 +179,7 @@ pub fn cast_to<'a>(
     let kind = Box::into_inner(kind);
     let nesting = 1 + kind.nesting.max(part.nesting);
     let tree = Expression::Cast(kind.tree, part.tree);
-    Ok((NestedExpression::new(alloc, tree, nesting)?, tokens))
+    NestedExpression::before(alloc, tree, nesting, tokens)
 }
 
 /// The base of a type behind `new`, in memory of its own (JLS 15.9, 15.10).
@@ -224,7 +235,7 @@ pub fn object<'a>(
     let kind = element(base);
     let nesting = 1 + kind.nesting.max(all.nesting);
     let tree = Expression::New(place, kind.tree, all.trees);
-    Ok((NestedExpression::new(alloc, tree, nesting)?, tokens))
+    NestedExpression::before(alloc, tree, nesting, tokens)
 }
 
 pub fn is_named(base: &BaseType) -> bool
@@ -255,5 +266,5 @@ pub fn array_of_items<'a>(
     let kind = element(base);
     let nesting = 1 + kind.nesting.max(items.nesting);
     let tree = Expression::NewItems(place, kind.tree, more + 1, items.tree);
-    Ok((NestedExpression::new(alloc, tree, nesting)?, tokens))
+    NestedExpression::before(alloc, tree, nesting, tokens)
 }

@@ -415,8 +415,10 @@ pub first_operand::signed-returns-in-Some-false-clause-gives :
 first_operand::signed-returns-in-Some-false-clause-gives =
     rows.first_operand::signed-returns-in-Some-false-clause-gives
 
-pub first_operand::signed-returns-then-ne-clause-gives : goal.first_operand::signed-returns-then-ne-clause-gives
-first_operand::signed-returns-then-ne-clause-gives = rows.first_operand::signed-returns-then-ne-clause-gives
+pub first_operand::signed-returns-then-not-is_text-clause-gives :
+    goal.first_operand::signed-returns-then-not-is_text-clause-gives
+first_operand::signed-returns-then-not-is_text-clause-gives =
+    rows.first_operand::signed-returns-then-not-is_text-clause-gives
 
 pub creations::creation-returns-in-Some-after_brackets-clause-places :
     goal.creations::creation-returns-in-Some-after_brackets-clause-places

@@ -149,8 +149,9 @@ first_operand::signed-returns-in-Some-false-clause-gives t c =
     let chosen : casts (map spelled c.args.tokens.now) ≡ false = search rules in
     rw (no_prefix, round, chosen) c.parens.ensures.gives
 
-pub first_operand::signed-returns-then-ne-clause-gives : goal.first_operand::signed-returns-then-ne-clause-gives
-first_operand::signed-returns-then-ne-clause-gives t c =
+pub first_operand::signed-returns-then-not-is_text-clause-gives :
+    goal.first_operand::signed-returns-then-not-is_text-clause-gives
+first_operand::signed-returns-then-not-is_text-clause-gives t c =
     let text = c.args.token.now.text in
     let no_prefix : is_prefix text ≡ false = search rules in
     let other : bytes_eq text (codes "(") ≡ false = search rules in

@@ -1,4 +1,4 @@
-use Rattle.std.proofs.Common.{◌≡◌, ◌++◌, ◌∷◌, [], true, map, ◌∙◌, arith}
+use Rattle.std.proofs.Common.{◌≡◌, ◌++◌, ◌∷◌, [], true, map, refl, ◌∙◌, arith}
 use Rattle.std.proofs.lemmas.Result.{err_from_is_err_and}
 use Rattle.std.proofs.lemmas.List.{map_push}
 use Rattle.java_tree.specs.KeptPlaces.{kept, name_places}
@@ -9,8 +9,16 @@ use Rattle.type_reader.specs.Tokens.{spelled}
 use Rattle.type_reader.specs.Finishing.{finished}
 use Rattle.type_reader.proofs.PutPlaces.{one_put}
 use Rattle.type_reader.proofs.ReadLoops.{ends_give}
+use Rattle.expression_reader.proofs.LastCalls.{fewer}
 use Rattle.expression_reader.proofs.ClassFacts.{class_unpointed, class_goes_on, class_ends, class_fails, class_runs_out}
 use Rattle.expression_reader.proofs.reading.class_names.names.Goals as goal
+
+pub loop-init : goal.loop-init
+loop-init c = record {
+  gives = rw (c.in_ok-push.ensures.items, c.new-names.ensures.items) refl;
+  places = rw (c.in_ok-push.ensures.items, c.new-names.ensures.items) refl;
+  within = omega arith;
+}
 
 pub loop-preserved : goal.loop-preserved
 loop-preserved c =
@@ -41,6 +49,21 @@ returns-in-Some-clause-gives c =
     ends_give _ c.class_of.result total _ (class_ends total (map name_of c.loop.names.items)
     (map spelled c.loop.rest.now) (map spelled c.in_ok-after.after.now) (map spelled c.in-Some.behind.now)
     c.in_ok-after.ensures.gives c.in-Some.ensures.gives c.loop.invariant.gives) c.class_of.ensures.gives
+
+pub returns-in-Some-clause-places : goal.returns-in-Some-clause-places
+returns-in-Some-clause-places c =
+    let same : kept c.in-Some.behind.now ≡ kept c.loop.rest.now = c.in-Some.ensures.places
+    ∙ c.in_ok-after.ensures.places in
+    rw (same, c.loop.invariant.places) at c.class_of.ensures.places
+
+pub returns-in-Some-clause-shorter : goal.returns-in-Some-clause-shorter
+returns-in-Some-clause-shorter c =
+    fewer _ c.class_of.result _ _ c.class_of.ensures.shorter (omega (
+      arith,
+      c.in-Some.ensures.shorter,
+      c.in_ok-after.ensures.shorter,
+      c.loop.invariant.within,
+    ))
 
 pub returns-in_err-next-clause-gives : goal.returns-in_err-next-clause-gives
 returns-in_err-next-clause-gives c =

@@ -1,4 +1,4 @@
-use Rattle.std.proofs.Common.{◌≡◌, ◌++◌, ◌∷◌, [], length, map, sym, ◌∙◌, arith}
+use Rattle.std.proofs.Common.{◌≡◌, ◌++◌, ◌∷◌, [], ◌-◌, length, map, refl, sym, ◌∙◌, append_assoc, arith}
 use Rattle.std.proofs.lemmas.Result.{err_from_is_err_and}
 use Rattle.std.proofs.lemmas.List.{map_push}
 use Rattle.java_tree.specs.View.{part_of}
@@ -11,6 +11,21 @@ use Rattle.type_reader.proofs.PutPlaces.{one_more}
 use Rattle.type_reader.proofs.PushedNesting.{parts_nesting_push}
 use Rattle.type_reader.proofs.ReadLoops.{point_goes_on, point_fails, point_ends, point_runs_out}
 use Rattle.type_reader.proofs.reading.made_types.bare_parts.Goals as goal
+
+pub loop-init : goal.loop-init
+loop-init c =
+    let none : length (map spelled c.args.tokens.now) - 0 ≡ length (map spelled c.args.tokens.now) = omega arith in
+    record {
+      gives = rw (c.in_ok-push.ensures.items, c.new-parts.ensures.items, none) refl;
+      places = rw (c.in_ok-push.ensures.items, c.new-parts.ensures.items) (append_assoc (part_places
+          c.args.first.tree) [] (kept c.args.tokens.now));
+      measured = rw (c.in_ok-push.ensures.items, c.new-parts.ensures.items) (omega (
+        arith,
+        c.args.first.measured,
+        c.requires.first,
+      ));
+      shorter = omega arith;
+    }
 
 pub returns-in_default-clause-gives : goal.returns-in_default-clause-gives
 returns-in_default-clause-gives c =

@@ -1,4 +1,4 @@
-use Rattle.std.proofs.Common.{◌≡◌, ◌++◌, ◌∷◌, [], length, map, sym, refl, ◌∙◌, arith, rules}
+use Rattle.std.proofs.Common.{◌≡◌, ◌++◌, ◌∷◌, [], length, map, sym, refl, ◌∙◌, ◌-◌, append_assoc, arith, rules}
 use Rattle.std.proofs.lemmas.Result.{err_from_is_err_and}
 use Rattle.std.proofs.lemmas.List.{map_push}
 use Rattle.java_tree.specs.View.{part_of, argument_of}
@@ -10,6 +10,7 @@ use Rattle.method_grammar.specs.TypeReading.{points, part_with, argument_with, a
 use Rattle.type_reader.specs.Tokens.{spelled}
 use Rattle.type_reader.specs.Finishing.{finished}
 use Rattle.type_reader.specs.Endings.{named_end, angled_end}
+use Rattle.type_reader.proofs.LastCalls.{fewer, below, exactly}
 use Rattle.type_reader.proofs.PutPlaces.{one_more}
 use Rattle.type_reader.proofs.ReadParts.{part_fails, making_fails, made_before}
 use Rattle.type_reader.proofs.PushedNesting.{parts_nesting_push, arguments_nesting_push}
@@ -31,6 +32,18 @@ arguments-returns-in_err-next-clause-gives t c =
     rw (p.1, p.2) (comma_fails read angled_end total c.args.tokens.now c.loop.counter (map argument_of
     c.loop.items.items) c.in_err-next.field-0.0 (map spelled c.loop.rest.now) (map spelled c.in-Some.after.now)
     c.loop-test.true c.in-Some.ensures.gives c.in_err-next.ensures.gives c.loop.invariant.gives)
+
+pub arguments-loop-init : goal.arguments-loop-init
+arguments-loop-init t c =
+    let none : length (map spelled c.args.tokens.now) - 0 ≡ length (map spelled c.args.tokens.now) = omega arith in
+    record {
+      gives = rw (c.in_ok-push.ensures.items, c.new-items.ensures.items, none) refl;
+      places = rw (c.in_ok-push.ensures.items, c.new-items.ensures.items) (append_assoc
+          (argument_places c.args.first.tree) [] (kept c.args.tokens.now));
+      small = c.requires.first;
+      measured = rw (c.in_ok-push.ensures.items, c.new-items.ensures.items) (omega (arith, c.args.first.measured));
+      shorter = omega arith;
+    }
 
 pub arguments-loop-preserved : goal.arguments-loop-preserved
 arguments-loop-preserved t c =
@@ -97,6 +110,18 @@ parts-returns-in_err-next-clause-gives t c =
     rw (p.1, p.2) (point_fails read named_end total c.args.tokens.now c.loop.counter (map part_of c.loop.parts.items)
     c.in_err-next.field-0.0 (map spelled c.loop.rest.now) (map spelled c.in-Some.after.now) c.loop-test.true
     c.in-Some.ensures.gives c.in_err-next.ensures.gives c.loop.invariant.gives)
+
+pub parts-loop-init : goal.parts-loop-init
+parts-loop-init t c =
+    let none : length (map spelled c.args.tokens.now) - 0 ≡ length (map spelled c.args.tokens.now) = omega arith in
+    record {
+      gives = rw (c.in_ok-push.ensures.items, c.new-parts.ensures.items, none) refl;
+      places = rw (c.in_ok-push.ensures.items, c.new-parts.ensures.items) (append_assoc
+          (part_places c.args.first.tree) [] (kept c.args.tokens.now));
+      small = c.requires.first;
+      measured = rw (c.in_ok-push.ensures.items, c.new-parts.ensures.items) (omega (arith, c.args.first.measured));
+      shorter = omega arith;
+    }
 
 pub parts-loop-preserved : goal.parts-loop-preserved
 parts-loop-preserved t c =
@@ -243,3 +268,39 @@ base-returns-in_err-first-clause-gives t c =
 pub base-returns-clause-gives : goal.base-returns-clause-gives
 unfolding base_with
 base-returns-clause-gives t c = rw (c.in_default.ensures.gives, c.in_ok-first.ensures.gives) c.parts.ensures.gives
+
+-- ---- places, nesting and the tokens behind
+
+pub arguments-returns-clause-places : goal.arguments-returns-clause-places
+arguments-returns-clause-places t c = rw c.loop.invariant.places at c.closed.ensures.places
+
+pub arguments-returns-clause-small : goal.arguments-returns-clause-small
+arguments-returns-clause-small t c = exactly _ c.closed.result _ _ c.closed.ensures.small c.loop.invariant.small
+
+pub arguments-returns-clause-shorter : goal.arguments-returns-clause-shorter
+arguments-returns-clause-shorter t c =
+    fewer _ c.closed.result _ _ c.closed.ensures.shorter c.loop.invariant.shorter
+
+pub part-returns-clause-small : goal.part-returns-clause-small
+part-returns-clause-small t c = c.in_ok-angled.ensures.small
+
+pub part-returns-clause-shorter : goal.part-returns-clause-shorter
+part-returns-clause-shorter t c =
+    omega (arith, c.in_ok-angled.ensures.shorter, c.in-Some.ensures.shorter, c.in_ok-name.ensures.shorter)
+
+pub part-returns-in_default-clause-shorter : goal.part-returns-in_default-clause-shorter
+part-returns-in_default-clause-shorter t c = c.in_ok-name.ensures.shorter
+
+pub base-returns-clause-places : goal.base-returns-clause-places
+base-returns-clause-places t c = rw c.in_ok-first.ensures.places at c.parts.ensures.places
+
+pub base-returns-clause-shorter : goal.base-returns-clause-shorter
+base-returns-clause-shorter t c =
+    below _ c.parts.result _ _ c.parts.ensures.shorter c.in_ok-first.ensures.shorter
+
+pub angled-returns-clause-places : goal.angled-returns-clause-places
+angled-returns-clause-places t c = rw c.in_ok-first.ensures.places at c.arguments.ensures.places
+
+pub angled-returns-clause-shorter : goal.angled-returns-clause-shorter
+angled-returns-clause-shorter t c =
+    below _ c.arguments.result _ _ c.arguments.ensures.shorter c.in_ok-first.ensures.shorter
