@@ -3,7 +3,7 @@ ghost use Rattle.std.specs.Prelude.{◌≡◌, ◌≤◌, IfOk, vec_len};
 
 use racer_base::{Folder, FolderFault, MAX_FOLDER_ENTRIES, MAX_FOLDER_NESTING};
 use std::alloc::Global;
-use std::fs::{DirEntry, File, FileType};
+use std::fs::{File, FileType, ReadDir};
 use std::io::Read;
 use std::rt::Files;
 use std::{fs, mem};
@@ -49,16 +49,8 @@ impl<R: Files + AllocGlobal + Clone + Drop> DirFolder<R> {
 
     /// The name of a folder, which is opened to see that it is there.
     fn opened(&self, alloc: Global, name: &str) -> Result<String, FolderFault> {
-        mem::drop(fs::read_dir(&self.rt, name)?);
+        fs::read_dir(&self.rt, name).map(mem::drop)?;
         Ok(String::from_str(alloc, name)?)
-    }
-
-    /// The path of what has this relative name.
-    fn path_of(&self, alloc: Global, name: &str) -> Result<String, FolderFault> {
-        let Some(folder) = &self.entered else {
-            return Err(FolderFault::Failed);
-        };
-        Ok(format!(in alloc; "{folder}/{name}")?)
     }
 
     /// The names of its files.
@@ -86,65 +78,87 @@ impl<R: Files + AllocGlobal + Clone + Drop> DirFolder<R> {
 
     /// Lists what stands in a folder itself, whose name ends with `/` unless it is this one.
     fn list(&self, alloc: Global, folder: &str, listing: &mut Listing) -> Result<(), FolderFault> {
-        let path = self.path_of(alloc, folder)?;
-        for entry in fs::read_dir(&self.rt, path.as_str())? {
-            listing.put(alloc, folder, &entry?)?;
-        }
-        Ok(())
-    }
-
-    /// What has this relative name, and a link as what it is itself.
-    fn entry(&self, alloc: Global, name: &str) -> Result<Entry, FolderFault> {
-        let path = self.path_of(alloc, name)?;
-        Ok(entry_of(fs::symlink_metadata(&self.rt, path.as_str())?.file_type()))
-    }
-
-    /// Whether a relative name is that of a file, and each folder that it leads through a subfolder; none is a link.
-    fn is_file(&self, alloc: Global, name: &str) -> Result<bool, FolderFault> {
-        let Entry::File = self.entry(alloc, name)? else {
-            return Ok(false);
-        };
-        let mut rest = name;
-        while let Some((folder, _)) = rest.rsplit_once('/') {
-            let Entry::Folder = self.entry(alloc, folder)? else {
-                return Ok(false);
-            };
-            rest = folder;
-        }
-        Ok(true)
-    }
-
-    /// The first bytes of the file of this path.
-    fn front(&self, alloc: Global, path: &str, most: usize) -> Result<Vec<u8>, FolderFault>
-        ensures { IfOk result (λ bytes. vec_len bytes ≤ most) }
-    {
-        let file = File::open(&self.rt, path)?;
-        let mut bytes = Vec::new(alloc);
-        file.take(most as u64).read_to_end(&mut bytes)?;
-        bytes.truncate(most);
-        Ok(bytes)
+        let path = path_of(alloc, &self.entered, folder)?;
+        listing.put_all(alloc, folder, &mut fs::read_dir(&self.rt, path.as_str())?)
     }
 
     /// The first bytes of one of its files.
     fn front_of_file(&self, alloc: Global, name: &str, most: usize) -> Result<Vec<u8>, FolderFault>
         ensures { IfOk result (λ bytes. vec_len bytes ≤ most) }
     {
-        if !leads_down(name) || !self.is_file(alloc, name)? {
+        if !leads_down(name) {
             return Err(FolderFault::Failed);
         }
-        let path = self.path_of(alloc, name)?;
-        self.front(alloc, path.as_str(), most)
+        let path = path_of(alloc, &self.entered, name)?;
+        let top = path.len().saturating_sub(name.len());
+        self.front(alloc, path.as_str(), top, most)
     }
+
+    /// The first bytes of the file of a path, the first bytes of which lead to this folder.
+    fn front(
+        &self,
+        alloc: Global,
+        path: &str,
+        top: usize,
+        most: usize,
+    ) -> Result<Vec<u8>, FolderFault>
+        ensures { IfOk result (λ bytes. vec_len bytes ≤ most) }
+    {
+        if !self.is_file(path, top)? {
+            return Err(FolderFault::Failed);
+        }
+        first_bytes(alloc, File::open(&self.rt, path)?, most)
+    }
+
+    /// Whether a path is that of a file, and each folder that it leads through behind its first bytes, which lead to
+    /// this folder, a subfolder; none is a link.
+    fn is_file(&self, path: &str, top: usize) -> Result<bool, FolderFault> {
+        if !self.kind(path)?.is_file() {
+            return Ok(false);
+        }
+        let mut rest = path;
+        while let Some((folder, _)) = rest.rsplit_once('/') {
+            if folder.len() < top {
+                break;
+            }
+            if !self.kind(folder)?.is_dir() {
+                return Ok(false);
+            }
+            rest = folder;
+        }
+        Ok(true)
+    }
+
+    /// What has this path, and a link as what it is itself.
+    fn kind(&self, path: &str) -> Result<FileType, FolderFault> {
+        match fs::symlink_metadata(&self.rt, path) {
+            Ok(metadata) => Ok(metadata.file_type()),
+            Err(error) => Err(error.into()),
+        }
+    }
+}
+
+/// The path of what has this relative name in the folder that is entered.
+fn path_of(alloc: Global, entered: &Option<String>, name: &str) -> Result<String, FolderFault> {
+    let Some(folder) = entered else {
+        return Err(FolderFault::Failed);
+    };
+    Ok(format!(in alloc; "{folder}/{name}")?)
+}
+
+/// The first bytes of an open file.
+fn first_bytes<F: Read + Drop>(alloc: Global, file: F, most: usize) -> Result<Vec<u8>, FolderFault>
+    ensures { IfOk result (λ bytes. vec_len bytes ≤ most) }
+{
+    let mut bytes = Vec::new(alloc);
+    file.take(most as u64).read_to_end(&mut bytes)?;
+    bytes.truncate(most);
+    Ok(bytes)
 }
 
 /// Whether each word of a relative name leads down.
 fn leads_down(name: &str) -> bool {
-    for word in name.split('/') {
-        if matches!(word, "" | "." | "..") {
-            return false;
-        }
-    }
-    true
+    name.split('/').all(|word| !matches!(word, "" | "." | ".."))
 }
 
 /// What was found of a folder so far.
@@ -158,49 +172,40 @@ struct Listing {
     entries: u32,
 }
 
-/// What stands in a folder.
-#[derive(Clone, Copy)]
-enum Entry {
-    File,
-    Folder,
-    /// A symbolic link, or what is no file.
-    Other,
-}
-
-fn entry_of(kind: FileType) -> Entry {
-    if kind.is_file() {
-        Entry::File
-    } else if kind.is_dir() {
-        Entry::Folder
-    } else {
-        Entry::Other
-    }
-}
-
 impl Listing {
-    /// Counts an entry, unless there are too many.
-    fn count(&mut self) -> Result<(), FolderFault> {
+    /// Puts the entries of a folder, each where it belongs.
+    fn put_all<R: Files + AllocGlobal + Clone + Drop>(
+        &mut self,
+        alloc: Global,
+        folder: &str,
+        entries: &mut ReadDir<R>,
+    ) -> Result<(), FolderFault> {
+        for entry in entries {
+            let entry = entry?;
+            self.put(alloc, folder, entry.file_type()?, entry.file_name())?;
+        }
+        Ok(())
+    }
+
+    /// Puts an entry of a folder, unless there are too many: a file among the names, a subfolder among these with a
+    /// `/` behind it, and a link nowhere.
+    fn put(
+        &mut self,
+        alloc: Global,
+        folder: &str,
+        kind: FileType,
+        name: &str,
+    ) -> Result<(), FolderFault> {
         if self.entries >= MAX_FOLDER_ENTRIES {
             return Err(FolderFault::Failed);
         }
         self.entries += 1;
-        Ok(())
-    }
-
-    /// Puts an entry of a folder where it belongs: a file among the names, a subfolder among these with a `/` behind
-    /// it, and a link nowhere.
-    fn put<R: Files + AllocGlobal>(
-        &mut self,
-        alloc: Global,
-        folder: &str,
-        entry: &DirEntry<R>,
-    ) -> Result<(), FolderFault> {
-        let kind = entry.file_type()?;
-        self.count()?;
-        match entry_of(kind) {
-            Entry::File => put_name(alloc, &mut self.names, folder, entry.file_name(), ""),
-            Entry::Folder => self.put_folder(alloc, folder, entry.file_name()),
-            Entry::Other => Ok(()),
+        if kind.is_file() {
+            put_name(alloc, &mut self.names, folder, name, "")
+        } else if kind.is_dir() {
+            self.put_folder(alloc, folder, name)
+        } else {
+            Ok(())
         }
     }
 

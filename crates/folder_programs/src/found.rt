@@ -5,7 +5,7 @@ ghost use Rattle.folder_programs.specs.Programs as programs;
 ghost use Rattle.folder_programs.specs.Lowering as lowering;
 
 use core_code::Program;
-use folder_sources::{AcceptedSources, Found, Refusal, refusal_line, sources};
+use folder_sources::{AcceptedSources, Found, Refusal, let_go, refusal_line, sources};
 use program_lowering::{LowerFault, lower};
 use racer_base::{Folder, FolderFault, Memory, Text};
 use std::alloc::Global;
@@ -56,7 +56,11 @@ pub fn folder_program<F: Folder>(
         programs.IsSource told.files (programs.source_of found))) }
 {
     match sources(alloc, folder, name)? {
-        Found::Accepted(found) => Ok(lowered(alloc, &found)?),
+        Found::Accepted(found) => {
+            let lowered = lowered(alloc, &found);
+            let_go(found);
+            Ok(lowered?)
+        }
         Found::Refused(line) => Ok(FoundProgram::Refused(line)),
     }
 }

@@ -1,7 +1,7 @@
 -- Sources one after the other: one more, and what is left.
 use Rattle.std.proofs.Common.{◌≡◌, ℕ, zero, suc, ◌+◌, ◌<◌, ◌≤◌, Bool, true, false, ◌&&◌, List, [], ◌∷◌, ◌++◌, Option, None, Some}
 use Rattle.std.proofs.Common.{length, map, refl, sym, ap, subst, ◌∙◌, append_assoc, inl, inr}
-use Rattle.std.proofs.Common.{String, Global, string_bytes, drop, get_or, arith}
+use Rattle.std.proofs.Common.{String, Vec, Global, string_bytes, drop, get_or, arith}
 use Rattle.std.proofs.lemmas.List.{drop_more, drop_all, append-nil}
 use Rattle.std.proofs.lemmas.Bool.{false≢true}
 use Rattle.std.specs.Option.{is_some, IfSome}
@@ -15,7 +15,7 @@ use Rattle.folder_sources.specs.declared.fault.SourceFault.{SourceFault}
 use Rattle.folder_sources.specs.declared.fault.SourceFault.TheVariants.{Refused, Failed, Memory}
 use Rattle.folder_sources.specs.declared.units.ReadSources.{ReadSources}
 use Rattle.folder_sources.specs.Sources.{AreReadFrom, IsOneRefused, IsRead, bytes_of}
-use Rattle.folder_sources.specs.Reading.{IsAdded, IsReadAfter, IsAddedSomehow, IsNextRefused, IfRefused, AreThere, IsThere}
+use Rattle.folder_sources.specs.Reading.{IsAdded, IsAddedSomehow, IsNextRefused, IfRefused, AreThere, IsThere}
 use Rattle.folder_sources.specs.Reading.{bytes_of_all}
 use Rattle.folder_sources.specs.Finding.{AreReadSomehow}
 
@@ -159,15 +159,17 @@ steady_there (Some t) now names i name text P lt e same h =
 file_same : (file : FileId) (n : ℕ) → file.0 ≡ n → file ≡ record { 0 = n }
 file_same file n e = ap (λ (m : ℕ). record { 0 = m }) e
 
-pub added_told : (o : Option Told) (name : List ℕ) (old new : ReadSources) (file : FileId) (u : unit.Unit)
-    → file.0 ≡ length old.units.items → new.units.items ≡ old.units.items ++ u ∷ []
-    → IfSome o (λ (t : Told). IsReadAfter file old.sum (bytes_of t.files name) new.sum u)
-    → IfSome o (λ (t : Told). IsAdded (bytes_of t.files name) old new)
-added_told None name old new file u number units read = tt
-added_told (Some t) name old new file u number units read =
+pub added_behind : (bytes : List ℕ) (old : ReadSources) (units : Vec unit.Unit Global) (file : FileId) (u : unit.Unit)
+    → file.0 ≡ length old.units.items → units.items ≡ old.units.items ++ u ∷ []
+    → IsRead file (old.sum + length bytes) bytes u
+    → IsAdded bytes old (record { units = units; sum = old.sum + length bytes })
+added_behind bytes old units file u number more read =
     record {
       unit = u;
-      read = subst (λ (f : FileId). IsReadAfter f old.sum (bytes_of t.files name) new.sum u)
-          (file_same file (length old.units.items) number) read;
-      units = units;
+      read = record {
+        added = refl;
+        read = subst (λ (f : FileId). IsRead f (old.sum + length bytes) bytes u)
+            (file_same file (length old.units.items) number) read;
+      };
+      units = more;
     }

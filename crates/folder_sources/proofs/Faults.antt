@@ -1,8 +1,8 @@
 -- How faults of the folder and of a file are counted, and that these refuse nothing, or what they say.
-use Rattle.std.proofs.Common.{◌≡◌, ℕ, ◌+◌, Bool, List, Option, None, Some, length, refl, sym, ap, subst, ◌∙◌}
-use Rattle.std.specs.Prelude.{Result, Ok, Err, IfOk, IfErr}
+use Rattle.std.proofs.Common.{◌≡◌, ℕ, List, Option, None, Some, refl, sym, ap, subst, ◌∙◌}
+use Rattle.std.specs.Prelude.{Result, Ok, Err, IfOk, IfErr, OnOk}
 use Rattle.std.specs.Option.{IfSome}
-use Rattle.racer_base.specs.Outside.{Told, IsRise}
+use Rattle.racer_base.specs.Outside.{Told}
 use Rattle.racer_base.specs.Causes.{IsCause}
 use Rattle.racer_base.specs.declared.ids.FileId.{FileId}
 use Rattle.racer_base.specs.declared.outside.FolderFault.{FolderFault}
@@ -13,7 +13,7 @@ use Rattle.folder_sources.specs.declared.fault.SourceFault.TheVariants.{Refused,
 use Rattle.folder_sources.specs.declared.found.Found.{Found}
 use Rattle.folder_sources.specs.Reading.{as_source_fault, MovesCount, IfRefused, IsFileFault, Counts, NeverFails}
 use Rattle.folder_sources.specs.Declaring.{IsRefusedOr}
-use Rattle.folder_sources.specs.Finding.{FailsByMemory}
+use Rattle.folder_sources.specs.Finding.{FailsByMemory, IsKnown}
 
 by_fault : (fault : FolderFault) (old new : ℕ) → IsCause fault old new → MovesCount (as_source_fault fault) old new
 by_fault folder.Failed old new h = h
@@ -84,3 +84,15 @@ pub steady_answer : (names : List (List ℕ)) (fault : SourceFault) (r : Result 
     (o : Option Told) → IsRefusedOr names fault r → IfSome o (λ t. fault ≡ Failed → ⊥) → IfSome o (λ t. Q t → FailsByMemory r)
 steady_answer names fault r Q None is never = tt
 steady_answer names fault r Q (Some t) is never = λ _. answers_by_memory names fault r is never
+
+-- what is refused has nothing that is to be known of it
+pub refused_known : (names : List (List ℕ)) (fault : SourceFault) (r : Result Found FolderFault)
+    → IsRefusedOr names fault r → IfOk r IsKnown
+refused_known names (Refused x) (Ok answer) is = subst (λ (found : Found). IsKnown found) (sym is) tt
+refused_known names (Refused x) (Err f) is = tt
+refused_known names Failed r is = subst (λ (x : Result Found FolderFault). IfOk x IsKnown) (sym is) tt
+refused_known names Memory r is = subst (λ (x : Result Found FolderFault). IfOk x IsKnown) (sym is) tt
+
+pub on_ok_anyhow : {T E : Type 0} (P : Type 0) (r : Result T E) → P → OnOk r P
+on_ok_anyhow P (Ok x) p = p
+on_ok_anyhow P (Err e) p = tt

@@ -1,8 +1,8 @@
 -- Of a file one byte more than it may have is asked for, which tells what it is.
-use Rattle.std.proofs.Common.{◌≡◌, ℕ, ◌+◌, ◌<◌, ◌≤◌, List, [], Option, None, Some, take, length, refl, sym, ap, subst}
+use Rattle.std.proofs.Common.{◌≡◌, ℕ, ◌+◌, ◌<◌, ◌≤◌, List, [], Option, None, Some, take, length, sym, ap, subst}
 use Rattle.std.proofs.Common.{arith, length-take}
 use Rattle.std.proofs.lemmas.List.{take_all}
-use Rattle.std.specs.Prelude.{Result, Ok, Err, IfOk, IfErr}
+use Rattle.std.specs.Prelude.{Result, Ok, Err, IfErr, OnOk}
 use Rattle.std.specs.Option.{option_map, IfSome}
 use Rattle.std.specs.FinMap.{get}
 use Rattle.racer_base.specs.Outside.{Told}
@@ -16,9 +16,10 @@ use Rattle.folder_sources.specs.declared.refusal.Refusal.TheVariants.{TooDeep, N
 use Rattle.folder_sources.specs.declared.refusal.Refusal.TheVariants.{TooManyClasses, TooManyMethods, TooManyCalls}
 use Rattle.folder_sources.specs.declared.fault.SourceFault.{SourceFault}
 use Rattle.folder_sources.specs.declared.fault.SourceFault.TheVariants.{Refused, Failed, Memory}
-use Rattle.folder_sources.specs.declared.units.ReadSource.{ReadSource}
+use Rattle.folder_sources.specs.declared.units.ReadSources.{ReadSources}
 use Rattle.folder_sources.specs.Sources.{bytes_of}
-use Rattle.folder_sources.specs.Reading.{IsReadAfter, IsRefusedAfter, IfRefused, IsFileFault}
+use Rattle.folder_sources.specs.Reading.{IsReadAfter, IsRefusedAfter, IfRefused, IsFileFault, IsAdded, IsAddedSomehow}
+use Rattle.folder_sources.specs.Reading.{next_file}
 
 abbrev front : List ℕ → List ℕ
 front whole = take (MAX_FILE_BYTES + 1) whole
@@ -84,23 +85,35 @@ of_read P (Some t) name bytes step read = at (get t.files name) read
 
 -- ---- what was read of a source
 
-module _ (file : FileId) (before : ℕ) (o : Option Told) (name bytes : List ℕ)
+pub added_somehow : {T : Type 0} (bytes : List ℕ) (old new : ReadSources) (r : Result T SourceFault)
+    → OnOk r (IsAdded bytes old new) → OnOk r (IsAddedSomehow old new)
+added_somehow bytes old new (Err f) added = tt
+added_somehow bytes old new (Ok x) added =
+    record { unit = added.unit; read = (bytes, added.read.read); units = added.units }
+
+added_of_front : (whole : List ℕ) (old new : ReadSources) → IsAdded (front whole) old new → IsAdded whole old new
+added_of_front whole old new added =
+    record {
+      unit = added.unit;
+      read = read_of_front (next_file old) old.sum whole new.sum added.unit added.read;
+      units = added.units;
+    }
+
+module _ (o : Option Told) (name bytes : List ℕ)
     (read : IfSome o (λ (t : Told). option_map front (get t.files name) ≡ Some bytes)) where
-  pub read_told : (r : Result ReadSource SourceFault)
-      → IfOk r (λ (s : ReadSource). IsReadAfter file before bytes s.sum s.unit)
-      → IfOk r (λ (s : ReadSource). IfSome o (λ (t : Told). IsReadAfter file before (bytes_of t.files name) s.sum s.unit))
-  read_told (Err f) is = tt
-  read_told (Ok s) is =
-      of_read (λ (whole : List ℕ). IsReadAfter file before whole s.sum s.unit) o name bytes
-      (λ whole e. read_of_front file before whole s.sum s.unit
-      (subst (λ (bs : List ℕ). IsReadAfter file before bs s.sum s.unit) (sym e) is))
+  pub added_told : {T : Type 0} (old new : ReadSources) (r : Result T SourceFault) → OnOk r (IsAdded bytes old new)
+      → OnOk r (IfSome o (λ (t : Told). IsAdded (bytes_of t.files name) old new))
+  added_told old new (Err f) added = tt
+  added_told old new (Ok x) added =
+      of_read (λ (whole : List ℕ). IsAdded whole old new) o name bytes
+      (λ whole e. added_of_front whole old new (subst (λ (bs : List ℕ). IsAdded bs old new) (sym e) added))
       read
 
-  pub refused_told : (r : Result ReadSource SourceFault)
+  pub refused_told : {T : Type 0} (file : FileId) (before : ℕ) (r : Result T SourceFault)
       → IfErr r (IsFileFault file (before + length bytes) bytes)
       → IfErr r (λ (f : SourceFault). IfSome o (λ (t : Told). IfRefused f (IsRefusedAfter file before (bytes_of t.files name))))
-  refused_told (Ok s) is = tt
-  refused_told (Err f) is =
+  refused_told file before (Ok x) is = tt
+  refused_told file before (Err f) is =
       of_read (λ (whole : List ℕ). IfRefused f (IsRefusedAfter file before whole)) o name bytes
       (λ whole e. fault_of_front file before whole f
       (subst (λ (bs : List ℕ). IsFileFault file (before + length bs) bs f) (sym e) is))

@@ -1,5 +1,5 @@
 -- No public contract rests on this: why units are refused together, and what is answered where sources are.
-use Rattle.std.specs.Prelude.{◌≡◌, ℕ, List, Result, Ok, Err, Some, MatchResult}
+use Rattle.std.specs.Prelude.{◌≡◌, ℕ, List, Result, Ok, Err, Some}
 use Rattle.racer_base.specs.declared.outside.FolderFault.{FolderFault}
 use Rattle.racer_base.specs.declared.outside.FolderFault.TheVariants as folder
 use Rattle.java_units.specs.declared.unit.Unit as unit

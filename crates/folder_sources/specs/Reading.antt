@@ -1,7 +1,7 @@
 -- No public contract rests on this: what one source and sources so far are read as, and how faults are counted there.
-use Rattle.std.specs.Prelude.{◌≡◌, ℕ, ◌+◌, List, [], ◌∷◌, ◌++◌, Result, Ok, Err, IfErr, MatchResult, length}
+use Rattle.std.specs.Prelude.{◌≡◌, ℕ, ◌+◌, List, [], ◌∷◌, ◌++◌, Result, IfErr, MatchResult, length}
 use Rattle.std.specs.Prelude.{is_some, map}
-use Rattle.std.specs.Prelude.{Bool, true}
+use Rattle.std.specs.Prelude.{true}
 use Rattle.std.specs.List.{list_all}
 use Rattle.std.specs.FinMap.{get}
 use Rattle.racer_base.specs.Outside.{Files, IsRise}

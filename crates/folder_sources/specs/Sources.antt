@@ -1,6 +1,6 @@
 -- A contract of a public call rests on this: what the sources of a folder are. They are the files whose names end in
 -- `.java`, in the byte order of their names. They are refused, for the first of the reasons below, or read as units.
-use Rattle.std.specs.Prelude.{◌≡◌, ◌⊎◌, ℕ, suc, ◌+◌, ◌<◌, ◌≤◌, Bool, List, [], ◌∷◌, Option, None, Some, Ok, Err}
+use Rattle.std.specs.Prelude.{◌≡◌, ◌⊎◌, ℕ, suc, ◌+◌, ◌<◌, ◌≤◌, Bool, List, [], ◌∷◌, None, Some, Ok, Err}
 use Rattle.std.specs.Prelude.{codes, filter, length, map, nat_eq}
 use Rattle.std.specs.List.{ends_with}
 use Rattle.std.specs.FinMap.{get, keys}

@@ -1,7 +1,6 @@
 //! Why no sources are given.
 use crate::refusal::Refusal;
 use racer_base::{FolderFault, Memory};
-use std::alloc::AllocFailed;
 
 /// Why no sources are given.
 #[derive(Clone, Copy)]
@@ -35,17 +34,6 @@ impl From<Memory> for SourceFault {
     ghost from_gives = { λ _ given. given ≡ fault.Memory };
 
     fn from(_error: Memory) -> SourceFault {
-        SourceFault::Memory
-    }
-}
-
-impl<T: Drop> From<AllocFailed<T>> for SourceFault {
-    ghost use Rattle.std.specs.Prelude.{◌≡◌};
-    ghost use Rattle.folder_sources.specs.declared.fault.SourceFault.TheVariants as fault;
-
-    ghost from_gives = { λ _ given. given ≡ fault.Memory };
-
-    fn from(_error: AllocFailed<T>) -> SourceFault {
         SourceFault::Memory
     }
 }

@@ -15,6 +15,7 @@ use java_resolver::{ResolveFault, Table, resolve};
 use java_units::Unit;
 use racer_base::{Folder, FolderFault, MAX_FILES, Text};
 use std::alloc::Global;
+use unit_reader::let_all_go;
 
 /// The sources of a folder, in byte order of their names: the names, what they are read as, and what that declares.
 #[derive(Drop)]
@@ -22,6 +23,11 @@ pub struct AcceptedSources {
     pub names: Vec<String>,
     pub units: Vec<Unit>,
     pub table: Table,
+}
+
+/// Lets sources go, so that a crate that looks at them need not show how.
+pub fn let_go(sources: AcceptedSources) {
+    let_all_go(sources.units);
 }
 
 /// What is found in a folder.
@@ -115,7 +121,10 @@ fn declared<F: Folder>(
     };
     match table_of(alloc, units.as_slice()) {
         Ok(table) => Ok(DeclaredUnits { units, table }),
-        Err(fault) => Err(fault),
+        Err(fault) => {
+            let_all_go(units);
+            Err(fault)
+        }
     }
 }
 

@@ -12,6 +12,6 @@ mod names;
 mod refusal;
 mod units;
 
-pub use found::{AcceptedSources, Found, sources};
+pub use found::{AcceptedSources, Found, let_go, sources};
 pub use line::refusal_line;
 pub use refusal::Refusal;

@@ -10,18 +10,12 @@ use crate::file::file_unit;
 use java_units::Unit;
 use racer_base::{FileId, Folder, MAX_FILE_BYTES, Memory};
 use std::alloc::Global;
+use unit_reader::{let_all_go, put_unit};
 
 /// The units of the sources that were read, and how many bytes these have together.
 #[derive(Drop)]
 struct ReadSources {
     units: Vec<Unit>,
-    sum: usize,
-}
-
-/// The unit of one more source, and how many bytes there are up to and with it.
-#[derive(Drop)]
-struct ReadSource {
-    unit: Unit,
     sum: usize,
 }
 
@@ -35,50 +29,23 @@ fn file_at(index: usize) -> Result<FileId, Memory>
     }
 }
 
-/// What these bytes are read as, where there are so many bytes before them.
-fn read_bytes(
-    alloc: Global,
-    file: FileId,
-    before: usize,
-    bytes: &[u8],
-) -> Result<ReadSource, SourceFault>
-    requires few { before ≤ MAX_FOLDER_BYTES }
+/// Reads one more source, of these bytes.
+fn add_bytes(alloc: Global, bytes: &[u8], read: &mut ReadSources) -> Result<(), SourceFault>
+    requires few { read.old.sum ≤ MAX_FOLDER_BYTES }
     requires most { length bytes.now ≤ MAX_FILE_BYTES + 1 }
-    ensures read { IfOk result (λ s. reading.IsReadAfter file before bytes.now s.sum s.unit) }
-    ensures fault { IfErr result (reading.IsFileFault file (before + length bytes.now) bytes.now) }
+    ensures few { OnOk result (read.new.sum ≤ MAX_FOLDER_BYTES) }
+    ensures added { OnOk result (reading.IsAdded bytes.now read.old read.new) }
+    ensures fault { IfErr result
+        (reading.IsFileFault (reading.next_file read.old) (read.old.sum + length bytes.now) bytes.now) }
 {
-    let sum = before + bytes.len();
-    match file_unit(alloc, file, sum, bytes) {
-        Ok(unit) => Ok(ReadSource { unit, sum }),
-        Err(fault) => Err(fault),
-    }
-}
-
-/// What the source of this name is read as, where there are so many bytes before it.
-fn read_source<F: Folder>(
-    alloc: Global,
-    folder: &mut F,
-    name: &str,
-    file: FileId,
-    before: usize,
-) -> Result<ReadSource, SourceFault>
-    requires { before ≤ MAX_FOLDER_BYTES }
-    ensures count { reading.Counts result (F.faults folder.old) (F.faults folder.new) }
-    ensures told { F.told folder.new ≡ F.told folder.old }
-    ensures stays { F.steady folder.old → F.steady folder.new }
-    ensures steady { F.steady folder.old → IfSome (F.told folder.old) (λ t.
-        reading.IsThere t.files name.now → reading.NeverFails result) }
-    ensures any { IfOk result (λ s. reading.IsReadSomehow file s.sum s.unit) }
-    ensures read { IfOk result (λ s. IfSome (F.told folder.old) (λ t.
-        reading.IsReadAfter file before (sources.bytes_of t.files name.now) s.sum s.unit)) }
-    ensures refused { IfErr result (λ fault. IfSome (F.told folder.old) (λ t.
-        reading.IfRefused fault (reading.IsRefusedAfter file before (sources.bytes_of t.files name.now)))) }
-{
-    let bytes = match folder.read(alloc, name, MAX_FILE_BYTES + 1) {
-        Ok(bytes) => bytes,
-        Err(fault) => return Err(SourceFault::from(fault)),
+    let file = file_at(read.units.len())?;
+    let sum = read.sum + bytes.len();
+    let unit = match file_unit(alloc, file, sum, bytes) {
+        Ok(unit) => unit,
+        Err(fault) => return Err(fault),
     };
-    read_bytes(alloc, file, before, bytes.as_slice())
+    read.sum = sum;
+    Ok(put_unit(&mut read.units, unit)?)
 }
 
 /// Reads one more source, of this name.
@@ -101,14 +68,11 @@ fn add_source<F: Folder>(
     ensures refused { IfErr result (λ fault. IfSome (F.told folder.old) (λ t. reading.IfRefused fault
         (reading.IsNextRefused (sources.bytes_of t.files name.now) read.old))) }
 {
-    let file = file_at(read.units.len())?;
-    let source = match read_source(alloc, folder, name, file, read.sum) {
-        Ok(source) => source,
-        Err(fault) => return Err(fault),
+    let bytes = match folder.read(alloc, name, MAX_FILE_BYTES + 1) {
+        Ok(bytes) => bytes,
+        Err(fault) => return Err(SourceFault::from(fault)),
     };
-    read.sum = source.sum;
-    read.units.push(source.unit)?;
-    Ok(())
+    add_bytes(alloc, bytes.as_slice(), read)
 }
 
 /// Reads the sources of these names, one after the other.
@@ -135,6 +99,7 @@ pub fn read_all<F: Folder>(
     };
     for name in names {
         if let Err(fault) = add_source(alloc, folder, name.as_str(), &mut read) {
+            let_all_go(read.units);
             return Err(fault);
         }
     }

@@ -6,4 +6,4 @@ mod classes;
 pub mod laws;
 mod units;
 
-pub use units::{let_go, parse_unit};
+pub use units::{let_all_go, let_go, parse_unit, put_unit};

@@ -1,5 +1,5 @@
 //! Files (JLS 7.3).
-ghost use Rattle.std.specs.Prelude.{◌≡◌, not, map, filter, IfOk, IfErr};
+ghost use Rattle.std.specs.Prelude.{◌≡◌, ◌∷◌, ◌++◌, [], not, map, filter, IfOk, IfErr, OnOk};
 ghost use Rattle.std.specs.List.{AllZip};
 ghost use Rattle.java_units.specs.Units.{is_read, IsClass, BeginsAt, IsUnit, IsFault};
 ghost use Rattle.unit_reader.specs.ReadTypes.{AddsType, AreRead};
@@ -59,3 +59,13 @@ pub fn parse_unit(alloc: Global, lexed: &Lexed) -> Result<Unit, ParseFault>
 
 /// Lets a unit go. Each type of tree is taken apart here, so a crate that looks at units need not show how.
 pub fn let_go(_unit: Unit) {}
+
+/// Lets units go.
+pub fn let_all_go(_units: Vec<Unit>) {}
+
+/// Puts a unit behind others. It is let go where memory is refused.
+pub fn put_unit(units: &mut Vec<Unit>, unit: Unit) -> Result<(), Memory>
+    ensures { OnOk result (units.new.items ≡ units.old.items ++ unit ∷ []) }
+{
+    Ok(units.push(unit)?)
+}

@@ -1,5 +1,4 @@
-use Rattle.std.proofs.Common.{◌≤◌, length, arith}
-use Rattle.racer_base.specs.declared.limits.TheConstants.{MAX_FILES}
+use Rattle.std.proofs.Common.{arith}
 use Rattle.folder_sources.proofs.Together.{few_refused_of}
 use Rattle.folder_sources.proofs.found.read_few.Goals as goal
 

@@ -1,10 +1,11 @@
-use Rattle.std.proofs.Common.{◌≡◌, ◌≤◌, ◌∙◌, ap, sym, subst, arith, length, List, ℕ, Option, string_bytes, get_or}
+use Rattle.std.proofs.Common.{◌≡◌, ◌∙◌, ap, map, subst, arith, List, ℕ, Option, string_bytes, get_or}
 use Rattle.std.specs.Option.{IfSome}
 use Rattle.racer_base.specs.Outside.{Told}
 use Rattle.folder_sources.specs.declared.fault.SourceFault.TheVariants.{Failed}
 use Rattle.folder_sources.specs.Sources.{bytes_of}
-use Rattle.folder_sources.specs.Reading.{IsAdded}
-use Rattle.folder_sources.proofs.Added.{steady_there, counted_more, somehow_more, leads_more, read_all_told}
+use Rattle.folder_sources.specs.Reading.{IsAdded, IsNextRefused, IfRefused, AreThere}
+use Rattle.folder_sources.proofs.Added.{steady_there, counted_more, somehow_more, leads_more, read_all_told, refused_there}
+use Rattle.folder_sources.proofs.Faults.{anyhow}
 use Rattle.folder_sources.proofs.units.read_all.Goals as goal
 
 pub returns-in-Err-clause-steady : goal.returns-in-Err-clause-steady
@@ -40,3 +41,26 @@ pub returns-clause-read : goal.returns-clause-read
 returns-clause-read g c =
     read_all_told (g.F.Folder.told c.args.folder.now) c.args.names.now c.loop-name.name-index c.loop-name.read
     (let h = c.loop-name-test.false in omega arith) c.loop-name.invariant.leads
+
+pub returns-clause-steady : goal.returns-clause-steady
+returns-clause-steady g c = λ _.
+    anyhow (Unit {0}) (λ t. AreThere t.files (map string_bytes c.args.names.now)) (g.F.Folder.told c.args.folder.now) tt
+
+pub returns-in-Err-clause-told : goal.returns-in-Err-clause-told
+returns-in-Err-clause-told g c = c.in-Err.ensures.told ∙ c.loop-name.invariant.told
+
+pub returns-in-Err-clause-stays : goal.returns-in-Err-clause-stays
+returns-in-Err-clause-stays g c = λ steady. c.in-Err.ensures.stays (c.loop-name.invariant.stays steady)
+
+pub returns-in-Err-clause-refused : goal.returns-in-Err-clause-refused
+returns-in-Err-clause-refused g c =
+    let names = c.args.names.now in
+    let i = c.loop-name.name-index in
+    let name = c.name-item.result in
+    let read = c.loop-name.read in
+    let fault = c.in-Err.fault in
+    let text = c.as_str.ensures.value ∙ ap string_bytes c.name-item.is in
+    refused_there (g.F.Folder.told c.args.folder.now) names i name read fault c.loop-name-test.true
+    c.loop-name.invariant.leads
+    (subst (λ (o : Option Told). IfSome o (λ (t : Told). IfRefused fault (IsNextRefused (bytes_of t.files (string_bytes (get_or names i name))) read))) c.loop-name.invariant.told
+    (subst (λ (bytes : List ℕ). IfSome (g.F.Folder.told c.loop-name.folder) (λ (t : Told). IfRefused fault (IsNextRefused (bytes_of t.files bytes) read))) text c.in-Err.ensures.refused))
