@@ -4,7 +4,6 @@ use Rattle.std.proofs.Common.{subst, ◌∙◌, arith}
 use Rattle.std.specs.Option.{IfSome}
 use Rattle.racer_base.specs.Outside.{Told, Files, taken_and}
 use Rattle.race_report.specs.declared.mode.Mode.{Mode}
-use Rattle.folder_programs.specs.Programs.{Source, IsSource}
 use Rattle.folder_programs.specs.OneReading.{OneSource}
 use Rattle.top_call.specs.declared.said.Said.{Said}
 use Rattle.top_call.specs.declared.status.Status.{Status}

@@ -1,4 +1,5 @@
 use Rattle.std.proofs.Common.{◌≤◌, ◌<◌, ◌-◌, ◌∙◌, ap, arith, take, drop, length, length-take}
+use Rattle.std.proofs.lemmas.Grind.{common_steps}
 use Rattle.racer_base.specs.Outside.{taken_and}
 use Rattle.top_call.proofs.Written.{taken_and-more}
 use Rattle.top_call.proofs.writing.write_all.Goals as goal
@@ -19,3 +20,6 @@ loop-at-preserved g c =
           let some : 0 < g.S.Sink.room c.loop-at.sink = omega arith in
           omega (arith, c.in_ok-at.ensures.room some);
     }
+
+pub returns-clause-whole : goal.returns-clause-whole
+returns-clause-whole g c = grind (arith, common_steps)
