@@ -1,5 +1,5 @@
 //! Files (JLS 7.3).
-ghost use Rattle.std.specs.Prelude.{◌≡◌, ◌∷◌, ◌++◌, [], not, map, filter, IfOk, IfErr, OnOk};
+ghost use Rattle.std.specs.Prelude.{◌≡◌, ◌∷◌, ◌++◌, [], not, map, filter, IfOk, IfErr, OnOk, OnErr};
 ghost use Rattle.std.specs.List.{AllZip};
 ghost use Rattle.java_units.specs.Units.{is_read, IsClass, BeginsAt, IsUnit, IsFault};
 ghost use Rattle.unit_reader.specs.ReadTypes.{AddsType, AreRead};
@@ -65,7 +65,8 @@ pub fn let_all_go(_units: Vec<Unit>) {}
 
 /// Puts a unit behind others. It is let go where memory is refused.
 pub fn put_unit(units: &mut Vec<Unit>, unit: Unit) -> Result<(), Memory>
-    ensures { OnOk result (units.new.items ≡ units.old.items ++ unit ∷ []) }
+    ensures ok { OnOk result (units.new.items ≡ units.old.items ++ unit ∷ []) }
+    ensures err { OnErr result (units.new.items ≡ units.old.items) }
 {
     Ok(units.push(unit)?)
 }
