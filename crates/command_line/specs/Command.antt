@@ -12,16 +12,16 @@ use Rattle.command_line.specs.Uses.{labels}
 abbrev pub folder_rule : Rule
 folder_rule = record (new_rule (codes "FOLDER")) { action = Some Set }
 
--- an option with a value
 -- of an option or a flag
 abbrev pub named_rule : Word → ArgAction → Rule
 named_rule name action = record (new_rule name) { long = Some name; action = Some action }
 
+-- of an option with a value
 abbrev pub option_rule : Word → Rule
-option_rule name = record (new_rule name) { long = Some name; action = Some Set }
+option_rule name = named_rule name Set
 
 abbrev pub flag_rule : Word → Rule
-flag_rule name = record (new_rule name) { long = Some name; action = Some SetTrue }
+flag_rule name = named_rule name SetTrue
 
 -- with its folder alone
 abbrev pub folder_command : App

@@ -27,7 +27,7 @@ use Rattle.core_ways.specs.Marks.{Confirmed, Pair, Said, Unnamed, first_halt, is
 use Rattle.core_ways.specs.Marks.{objects_of}
 use Rattle.core_ways.specs.Stable.{IsStable, is_lasting_root, unstable_prefix}
 use Rattle.core_ways.specs.Ways.{record_at, records_held, way_of}
-use Rattle.finite_heaps.specs.Heaps.{Heap, state_in}
+use Rattle.confirmed_races.specs.Heaps.{Heap, state_in}
 use Rattle.race_pairs.specs.declared.warning.Warning.{Warning}
 use Rattle.race_pairs.specs.Pairs.{IsPair, IsRecord}
 use Rattle.race_pairs.specs.Warnings.{conflicts, records_of, warnings, records_held as pairs_held}

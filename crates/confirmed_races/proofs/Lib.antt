@@ -1,5 +1,9 @@
+pub mod SameSteps
+pub mod SameRuns
+pub mod Legs
 pub mod LegPairs
 pub mod MarkParts
 pub mod WitnessRuns
 pub mod ConfirmedRun
 pub mod ConfirmedWarnings
+pub mod ShownRaces

@@ -22,9 +22,9 @@ use Rattle.core_semantics.specs.Same.{same_object-itself}
 use Rattle.core_semantics.specs.State.{State, Store, other_of, thread_of}
 use Rattle.core_ways.specs.Marks.{first_halt, leg_along, objects_of, reads, reads_of_legs}
 use Rattle.core_ways.specs.Ways.{Trip, way_of}
-use Rattle.finite_heaps.specs.Heaps.{HasAll, Heap, ran_in, state_in}
-use Rattle.finite_heaps.proofs.Legs.{objects-read, run-from-objects}
-use Rattle.finite_heaps.proofs.SameRuns.{all-first, runs-same}
+use Rattle.confirmed_races.specs.Heaps.{HasAll, Heap, ran_in, state_in}
+use Rattle.confirmed_races.proofs.Legs.{objects-read, run-from-objects}
+use Rattle.confirmed_races.proofs.SameRuns.{all-first, runs-same}
 use Rattle.quiet_paths.specs.Meets.{base_path}
 use Rattle.way_values.specs.Ends.{EndsAtAccess, IsAtAccess}
 use Rattle.confirmed_races.specs.Races.{Touches}

@@ -1,18 +1,50 @@
-//! A confirmed warning races.
-ghost use Rattle.std.specs.Prelude.{◌≡◌, List, Some};
+//! Laws of the runs of confirmed warnings, of the heaps in which they begin, and of the reports that show them.
+ghost use Rattle.std.specs.Prelude.{◌≡◌, ℕ, List, Some, option_map, codes};
 ghost use Rattle.std.specs.List.{Contains};
-ghost use Rattle.access_domain.specs.declared.access.Access.{Access};
+ghost use Rattle.racer_base.specs.declared.ids.MethodId.{MethodId};
+ghost use Rattle.core_code.specs.Core.{Core};
 ghost use Rattle.core_code.specs.declared.program.Program.{Program};
 ghost use Rattle.core_code.specs.Program.{core};
+ghost use Rattle.access_domain.specs.declared.access.Access.{Access};
+ghost use Rattle.core_semantics.specs.declared.answer.Turn.{Turn};
+ghost use Rattle.core_semantics.specs.declared.object.Start.TheVariants.{All, Only};
 ghost use Rattle.core_semantics.specs.declared.object.StartPath.{StartPath};
-ghost use Rattle.core_semantics.specs.Legs.{Leg};
-ghost use Rattle.core_ways.specs.Marks.{Confirmed};
+ghost use Rattle.core_semantics.specs.Legs.{Leg, run, runs};
+ghost use Rattle.core_semantics.specs.Runs.{begun, is_in, next_touch, races};
+ghost use Rattle.core_semantics.specs.State.{State};
+ghost use Rattle.core_ways.specs.Marks.{objects_of, reads, Confirmed};
 ghost use Rattle.core_ways.specs.Ways.{record_at};
 ghost use Rattle.race_pairs.specs.declared.warning.Warning.{Warning};
 ghost use Rattle.race_pairs.specs.Warnings.{warnings};
 ghost use Rattle.witness_build.specs.Warned.{warning_mark};
+ghost use Rattle.report_parts.specs.Marks.{mark_word};
+ghost use Rattle.confirmed_races.specs.Heaps.{HasAll, Heap, ran_in, state_in};
 ghost use Rattle.confirmed_races.specs.Headline.{AreConfirmed};
 ghost use Rattle.confirmed_races.specs.Races.{RacesOn};
+ghost use Rattle.confirmed_races.specs.Shown.{DoWholeWarningsRace, ShowsRace};
+
+/// Steps from a state in which all start paths are objects go the same way, the heap aside, in each heap that has what
+/// they read: they come to the same state with the same turns left, or break before the same step for the same reason.
+pub fn same_steps_in_a_smaller_heap()
+    ensures { (core : Core) (t n : ℕ) (turns : List Turn) (s : State) (heap : Heap) → s.store.heap ≡ is_in All →
+        HasAll heap (reads core t n turns s) →
+        runs core t n turns (state_in heap s) ≡ ran_in heap (runs core t n turns s) }
+{}
+
+/// What the next step of a thread touches, and whether both threads race, does not depend on the heap.
+pub fn the_heap_is_not_seen()
+    ensures touch { (s : State) (heap : Heap) (t : ℕ) → next_touch (state_in heap s) t ≡ next_touch s t }
+    ensures race { (s : State) (heap : Heap) → races (state_in heap s) ≡ races s }
+{}
+
+/// Legs that are run from the beginning of two entries, where all start paths are objects, come to the same state, the
+/// heap aside, where only those are objects that their reads gave; and where the one run is none, so is the other.
+pub fn run_from_the_objects_read()
+    ensures { (core : Core) (m1 m2 : MethodId) (legs : List Leg) (objects : List StartPath) →
+        objects ≡ objects_of core legs (begun core m1 m2 All) →
+        run core legs (begun core m1 m2 (Only objects))
+        ≡ option_map (state_in (is_in (Only objects))) (run core legs (begun core m1 m2 All)) }
+{}
 
 /// Each warning of the list of warnings that is marked confirmed carries a start heap and a schedule after which the
 /// next steps of both threads touch one cell, that of the warning's path, and at least one of them writes it. In that
@@ -28,3 +60,17 @@ pub fn confirmed_warnings_race()
 pub fn whole_warnings_race()
     ensures { (p : Program) → AreConfirmed (core p) }
 {}
+
+/// In the report on a program each warning whose path is stable in both methods and whose two ways are whole has lines
+/// that are a run: these objects at the start, and these legs after which the next steps of both threads touch one
+/// cell, at least one of them writing it. And wherever a warning's lines say that it is confirmed, the objects and legs
+/// below are such a run.
+pub fn reports_show_races()
+    ensures whole { (p : Program) → DoWholeWarningsRace (core p) }
+    ensures printed { (p : Program) (w : Warning) (r : Access) → Contains (warnings (core p)) w →
+        record_at (core p) w.entry w.access ≡ Some r →
+        mark_word (warning_mark (core p) w) ≡ codes "confirmed" → ShowsRace (core p) w r.path }
+{
+    confirmed_warnings_race();
+    whole_warnings_race();
+}

@@ -227,13 +227,10 @@ op_step core s op = within (λ i. after (with_inner s i)) (inner_step core (inne
 abbrev pub unlocked : Spot → Spot
 unlocked s = record s { frame = record s.frame { locked = s.frame.locked - 1 }; locks = drop 1 s.locks }
 
--- a monitor is locked, unless the other thread holds it, and the body is done before it is unlocked
-abbrev pub locking : List Holder → Spot → Tree → Holder → Next After
-locking others s body monitor =
-    if list_any (λ held. same_monitor held monitor) others
-    then Waits monitor
-    else
-    Goes (after (record s {
+-- a monitor is locked, and the body is done before it is unlocked
+abbrev pub with_lock : Spot → Tree → Holder → Spot
+with_lock s body monitor =
+    record s {
       frame =
           record s.frame {
             stack = drop 1 s.frame.stack;
@@ -241,7 +238,14 @@ locking others s body monitor =
             locked = suc s.frame.locked;
           };
       locks = monitor ∷ s.locks;
-    }))
+    }
+
+-- the same, unless the other thread holds the monitor
+abbrev pub locking : List Holder → Spot → Tree → Holder → Next After
+locking others s body monitor =
+    if list_any (λ held. same_monitor held monitor) others
+    then Waits monitor
+    else Goes (after (with_lock s body monitor))
 
 -- the monitor of a value, or why it has none: all opaque values share one
 abbrev pub monitor_of : Value → Result Holder Why

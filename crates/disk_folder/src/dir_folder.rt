@@ -3,7 +3,7 @@ ghost use Rattle.std.specs.Prelude.{◌≡◌, ◌≤◌, IfOk, vec_len};
 
 use racer_base::{Folder, FolderFault, MAX_FOLDER_ENTRIES, MAX_FOLDER_NESTING};
 use std::alloc::Global;
-use std::fs::{File, FileType, ReadDir};
+use std::fs::{DirEntry, File, FileType, ReadDir};
 use std::io::Read;
 use std::rt::Files;
 use std::{fs, mem};
@@ -181,29 +181,28 @@ impl Listing {
         entries: &mut ReadDir<R>,
     ) -> Result<(), FolderFault> {
         for entry in entries {
-            let entry = entry?;
-            self.put(alloc, folder, entry.file_type()?, entry.file_name())?;
+            self.put(alloc, folder, &entry?)?;
         }
         Ok(())
     }
 
     /// Puts an entry of a folder, unless there are too many: a file among the names, a subfolder among these with a
     /// `/` behind it, and a link nowhere.
-    fn put(
+    fn put<R: Files + AllocGlobal + Clone + Drop>(
         &mut self,
         alloc: Global,
         folder: &str,
-        kind: FileType,
-        name: &str,
+        entry: &DirEntry<R>,
     ) -> Result<(), FolderFault> {
         if self.entries >= MAX_FOLDER_ENTRIES {
             return Err(FolderFault::Failed);
         }
         self.entries += 1;
+        let kind = entry.file_type()?;
         if kind.is_file() {
-            put_name(alloc, &mut self.names, folder, name, "")
+            put_name(alloc, &mut self.names, folder, entry.file_name(), "")
         } else if kind.is_dir() {
-            self.put_folder(alloc, folder, name)
+            self.put_folder(alloc, folder, entry.file_name())
         } else {
             Ok(())
         }

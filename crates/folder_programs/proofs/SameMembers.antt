@@ -39,9 +39,9 @@ use Rattle.java_resolver.specs.Declarations.{member_fields, class_fields, constr
 use Rattle.java_resolver.specs.Declarations.{kinds_of, method_info, head_kind, is_constructor_head, head_info}
 use Rattle.java_resolver.specs.Declarations.{default_constructor, member_methods}
 use Rattle.java_resolver.specs.Declarations.{member_is_constructor, class_methods}
-use Rattle.unit_programs.proofs.FilledMethods.{SeenParameter, Seen, seen_parameter, seen, same_seen}
-use Rattle.unit_programs.proofs.ZippedLists.{same_3, same_5, zip-equal, zip-map, zip-flat, zip-any}
-use Rattle.unit_programs.proofs.ZippedLists.{map-injective}
+use Rattle.folder_programs.proofs.FilledMethods.{SeenParameter, Seen, seen_parameter, seen, same_seen}
+use Rattle.folder_programs.proofs.ZippedLists.{same_3, same_5, zip-equal, zip-map, zip-flat, zip-any}
+use Rattle.folder_programs.proofs.ZippedLists.{map-injective}
 
 -- ---- by cases
 

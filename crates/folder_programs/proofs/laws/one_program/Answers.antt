@@ -1,7 +1,7 @@
 use Rattle.std.proofs.Common.{ap}
 use Rattle.java_lowering.specs.Programs.{call_edges}
-use Rattle.unit_programs.proofs.SamePrograms.{refusal-alike, program-alike, draft-alike, lowered-alike}
-use Rattle.unit_programs.proofs.laws.one_program.Goals as goal
+use Rattle.folder_programs.proofs.SamePrograms.{refusal-alike, program-alike, draft-alike, lowered-alike}
+use Rattle.folder_programs.proofs.laws.one_program.Goals as goal
 
 pub returns-clause-refused : goal.returns-clause-refused
 returns-clause-refused c us vs same = refusal-alike us vs same

@@ -24,8 +24,8 @@ use Rattle.core_semantics.specs.Runs.{op_touch, todo_touch, wants_turn}
 use Rattle.core_semantics.specs.State.{Frame, State, Store, Todo, Operate, Choose, Repeat, Lock, Unlock, thread_of}
 use Rattle.core_semantics.specs.Steps.{Next, Goes, Sticks, Waits, Ends, base_of, kind_of, read, step, top, unstored, within}
 use Rattle.core_ways.specs.Marks.{given_by, next_read, paths_in, reads, reads_on}
-use Rattle.finite_heaps.specs.Heaps.{HasAll, Heap, ran_in, state_in, store_in}
-use Rattle.finite_heaps.proofs.SameSteps.{NextReadsSame, ReadsSame, ThreadReadsSame, step-same}
+use Rattle.confirmed_races.specs.Heaps.{HasAll, Heap, ran_in, state_in, store_in}
+use Rattle.confirmed_races.proofs.SameSteps.{NextReadsSame, ReadsSame, ThreadReadsSame, step-same}
 
 -- ---- all of two lists
 

@@ -31,10 +31,10 @@ use Rattle.java_lowering.specs.Sites.{numbered}
 use Rattle.java_lowering.specs.Programs.{class_sources, sources_of, status_of, declared_in, statuses_from, folder_of}
 use Rattle.java_lowering.specs.Programs.{class_core, field_core, method_core, method_cores, skipped_member, skipped_in}
 use Rattle.java_lowering.specs.Programs.{in_order, program_of, draft_of, IsLowered, is_overloaded, where_so, is_entry}
-use Rattle.unit_programs.proofs.ZippedLists.{same_3, zip-map, zip-flat, zip-append, zip-zips}
-use Rattle.unit_programs.proofs.SameMembers.{by-form, class-alike, class_fields-alike, class_methods-alike}
-use Rattle.unit_programs.proofs.SameSources.{SameSource, class_sources-same, method_code-alike, method_kinds-alike}
-use Rattle.unit_programs.proofs.SameSources.{unspelled-alike}
+use Rattle.folder_programs.proofs.ZippedLists.{same_3, zip-map, zip-flat, zip-append, zip-zips}
+use Rattle.folder_programs.proofs.SameMembers.{by-form, class-alike, class_fields-alike, class_methods-alike}
+use Rattle.folder_programs.proofs.SameSources.{SameSource, class_sources-same, method_code-alike, method_kinds-alike}
+use Rattle.folder_programs.proofs.SameSources.{unspelled-alike}
 
 -- ---- class by class
 

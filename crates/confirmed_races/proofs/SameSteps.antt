@@ -22,8 +22,9 @@ use Rattle.core_semantics.specs.State.{before, thread_of, other_of, with_thread}
 use Rattle.core_semantics.specs.Steps.{After, Inner, Next, Goes, Sticks, Waits, Ends, Spot, base_of, called_method}
 use Rattle.core_semantics.specs.Steps.{entering, going, inner, inner_step, lock_with, locking, monitor_of}
 use Rattle.core_semantics.specs.Steps.{on_base, op_step, operated, passed_from, put, read, replaced, returned, slot_of}
-use Rattle.core_semantics.specs.Steps.{after, step, thread_step, todo_step, top, unlocked, with_inner, with_todo, within}
-use Rattle.finite_heaps.specs.Heaps.{Heap, after_in, state_in, store_in}
+use Rattle.core_semantics.specs.Steps.{after, step, thread_step, todo_step, top, unlocked, with_inner, with_lock}
+use Rattle.core_semantics.specs.Steps.{with_todo, within}
+use Rattle.confirmed_races.specs.Heaps.{Heap, after_in, state_in, store_in}
 
 -- a frame, its callers and monitors, in another heap
 abbrev spot_in : Heap → Spot → Spot
@@ -146,24 +147,12 @@ operated-same core heap s rest op same =
       | false ↦ op-same core heap (with_todo s rest) op same
     ]
 
-abbrev gone_in : Spot → Tree → Holder → Next After
-gone_in s body monitor =
-    Goes (after (record s {
-      frame =
-          record s.frame {
-            stack = drop 1 s.frame.stack;
-            todo = before body (Unlock ∷ s.frame.todo);
-            locked = suc s.frame.locked;
-          };
-      locks = monitor ∷ s.locks;
-    }))
-
 locking-same : (heap : Heap) (others : List Holder) (s : Spot) (body : Tree) (monitor : Holder) →
     locking others (spot_in heap s) body monitor ≡ within (after_in heap) (locking others s body monitor)
 locking-same heap others s body monitor =
     elim (list_any (λ held. same_monitor held monitor) others) as (λ b.
-    cond b (Waits monitor) (gone_in (spot_in heap s) body monitor) ≡
-    within (after_in heap) (cond b (Waits monitor) (gone_in s body monitor))) [
+    cond b (Waits monitor) (Goes (after (with_lock (spot_in heap s) body monitor))) ≡
+    within (after_in heap) (cond b (Waits monitor) (Goes (after (with_lock s body monitor))))) [
       | true ↦ refl
       | false ↦ refl
     ]

@@ -20,10 +20,10 @@ use Rattle.java_lowering.specs.Trees.{Variable, Declares, Runs, Stmt, Run, Local
 use Rattle.java_lowering.specs.Trees.{Return, Block, expr_then, stmt_then, pack_exprs, pack_stmts}
 use Rattle.java_lowering.specs.TreesOf.{expr_of, init_of, variable_of, start_of, stmt_of}
 use Rattle.java_lowering.specs.TreesOf as lowered
-use Rattle.unit_programs.proofs.FilledTrees.{ident, two, behind}
-use Rattle.unit_programs.proofs.FilledTrees.{Filled, filled, one-is, two-is, three-is, four-is, expr, exprs, init}
-use Rattle.unit_programs.proofs.FilledTrees.{each, maybe, begun, variable, variables, start, stmt, stmts}
-use Rattle.unit_programs.proofs.FilledExpressions.{behind-type, expr-is, init-is}
+use Rattle.folder_programs.proofs.FilledTrees.{ident, two, behind}
+use Rattle.folder_programs.proofs.FilledTrees.{Filled, filled, one-is, two-is, three-is, four-is, expr, exprs, init}
+use Rattle.folder_programs.proofs.FilledTrees.{each, maybe, begun, variable, variables, start, stmt, stmts}
+use Rattle.folder_programs.proofs.FilledExpressions.{behind-type, expr-is, init-is}
 
 -- ---- parts of statements
 

@@ -25,9 +25,9 @@ use Rattle.java_lowering.specs.Conditions.{kept_of}
 use Rattle.java_lowering.specs.Methods.{body_of}
 use Rattle.java_lowering.specs.Trees.{Init, Stmts}
 use Rattle.java_lowering.specs.TreesOf.{init_of}
-use Rattle.unit_programs.proofs.FilledTrees.{Filled, filled, ident, behind, skip, two, two-is, each, init, stmts}
-use Rattle.unit_programs.proofs.FilledExpressions.{behind-type, init-is}
-use Rattle.unit_programs.proofs.FilledStatements.{stmts-are}
+use Rattle.folder_programs.proofs.FilledTrees.{Filled, filled, ident, behind, skip, two, two-is, each, init, stmts}
+use Rattle.folder_programs.proofs.FilledExpressions.{behind-type, init-is}
+use Rattle.folder_programs.proofs.FilledStatements.{stmts-are}
 
 pub same_initialiser : (i j : Initialiser) → viewed.init_of i ≡ viewed.init_of j → init_places i [] ≡ init_places j []
     → init_of i ≡ init_of j

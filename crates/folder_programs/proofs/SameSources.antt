@@ -36,10 +36,10 @@ use Rattle.java_lowering.specs.Methods.{method_kinds}
 use Rattle.java_lowering.specs.Methods as methods
 use Rattle.java_lowering.specs.Programs.{member_sources, default_sources, class_sources, is_unspelled}
 use Rattle.core_code.specs.declared.code.Op.TheVariants.{Drop}
-use Rattle.unit_programs.proofs.FilledMethods.{SeenParameter, Seen, seen_parameter, seen, same_seen, same_initialiser}
-use Rattle.unit_programs.proofs.ZippedLists.{same_4, zip-flat, zip-append, zip-zips, zip-unless}
-use Rattle.unit_programs.proofs.SameMembers.{by-form, same_modifiers, constructor-alike, modifiers-alike}
-use Rattle.unit_programs.proofs.SameMembers.{constructs-alike, method-alike, head-alike, default-alike}
+use Rattle.folder_programs.proofs.FilledMethods.{SeenParameter, Seen, seen_parameter, seen, same_seen, same_initialiser}
+use Rattle.folder_programs.proofs.ZippedLists.{same_4, zip-flat, zip-append, zip-zips, zip-unless}
+use Rattle.folder_programs.proofs.SameMembers.{by-form, same_modifiers, constructor-alike, modifiers-alike}
+use Rattle.folder_programs.proofs.SameMembers.{constructs-alike, method-alike, head-alike, default-alike}
 
 -- ---- sources that are the same
 

@@ -17,8 +17,8 @@ use Rattle.core_semantics.specs.Runs.{begun, is_in}
 use Rattle.core_semantics.specs.Same.{equal_of_same, same_object-itself}
 use Rattle.core_semantics.specs.State.{State}
 use Rattle.core_ways.specs.Marks.{objects_of, reads, reads_of_legs}
-use Rattle.finite_heaps.specs.Heaps.{HasAll, Heap, ran_in, state_in}
-use Rattle.finite_heaps.proofs.SameRuns.{all-first, all-last, run-heap, runs-same}
+use Rattle.confirmed_races.specs.Heaps.{HasAll, Heap, ran_in, state_in}
+use Rattle.confirmed_races.proofs.SameRuns.{all-first, all-last, run-heap, runs-same}
 
 -- ---- what is read is among the objects
 

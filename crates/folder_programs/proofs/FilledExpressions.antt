@@ -20,8 +20,8 @@ use Rattle.java_lowering.specs.Trees.{Items, pack_exprs, pack_inits}
 use Rattle.java_lowering.specs.TreesOf.{access_of, assignment, binary, prefix, expr_of, init_of, items_of}
 use Rattle.java_lowering.specs.Trees as tree
 use Rattle.java_lowering.specs.TreesOf as lowered
-use Rattle.unit_programs.proofs.FilledTrees.{Filled, filled, skip, skip-is, one-is, two-is, three-is}
-use Rattle.unit_programs.proofs.FilledTrees.{passing-is, named, then_name, called, expr, exprs, array, inits, init}
+use Rattle.folder_programs.proofs.FilledTrees.{Filled, filled, skip, skip-is, one-is, two-is, three-is}
+use Rattle.folder_programs.proofs.FilledTrees.{passing-is, named, then_name, called, expr, exprs, array, inits, init}
 
 abbrev pub HasExpr : Expression → Type 0
 HasExpr e = (rest : Places) → expr (viewed.expr_of e) (expr_places e rest) ≡ filled (expr_of e) rest

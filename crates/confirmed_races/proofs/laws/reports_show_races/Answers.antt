@@ -1,6 +1,6 @@
 use Rattle.core_code.specs.Program.{core}
-use Rattle.confirmed_reports.proofs.ShownRaces.{whole_shown, printed_shown}
-use Rattle.confirmed_reports.proofs.laws.reports_show_races.Goals as goal
+use Rattle.confirmed_races.proofs.ShownRaces.{whole_shown, printed_shown}
+use Rattle.confirmed_races.proofs.laws.reports_show_races.Goals as goal
 
 pub returns-clause-whole : goal.returns-clause-whole
 returns-clause-whole c = λ p.

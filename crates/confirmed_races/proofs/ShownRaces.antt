@@ -17,7 +17,7 @@ use Rattle.report_parts.specs.Told.{sides_of}
 use Rattle.race_report.specs.Report.{mark_lines, sides_lines}
 use Rattle.confirmed_races.specs.Headline.{AreConfirmed}
 use Rattle.confirmed_races.specs.Races.{RacesOn}
-use Rattle.confirmed_reports.specs.Shown.{DoWholeWarningsRace, ShowsRace}
+use Rattle.confirmed_races.specs.Shown.{DoWholeWarningsRace, ShowsRace}
 
 -- each confirmed warning races
 abbrev pub DoConfirmedRace : Core → Type 0

@@ -1,3 +1,0 @@
-pub mod SameSteps
-pub mod SameRuns
-pub mod Legs

@@ -1,8 +1,0 @@
-pub mod FilledTrees
-pub mod FilledExpressions
-pub mod FilledStatements
-pub mod FilledMethods
-pub mod ZippedLists
-pub mod SameMembers
-pub mod SameSources
-pub mod SamePrograms
