@@ -1,5 +1,6 @@
 -- A command with more arguments.
-use Rattle.std.proofs.Common.{◌≡◌, false, List, [], ◌∷◌, ◌++◌, map, fold, sym, ap, ◌∙◌}
+use Rattle.std.proofs.Common.{◌≡◌, ℕ, ◌+◌, ◌<◌, Bool, false, List, [], ◌∷◌, ◌++◌, map, fold, length, get_or, drop, refl, sym, ap, ◌∙◌}
+use Rattle.std.proofs.lemmas.List.{at_drop_more, append_assoc}
 use Rattle.clap.specs.Walk.{Rule, rule_of}
 use Rattle.std.specs.Prelude.{Some}
 use Rattle.std.specs.Borrow.{Bor}
@@ -39,3 +40,26 @@ named_is new named whole name action rule alone is_named is_whole = (
       ∙ ap (λ (r : Rule). record r { long = Some name.now; action = Some action }) rule,
   ap (λ (a : Arg). a.global) is_whole ∙ ap (λ (a : Arg). a.global) is_named ∙ alone,
 )
+
+-- the rules of options or flags of these names
+abbrev pub named : ArgAction → List (Bor Word) → List (Rule × Bool)
+named action names = map (λ (name : Bor Word). local (named_rule name.now action)) names
+
+-- one more of them is put
+pub named_turn : (action : ArgAction) (names : List (Bor Word)) (i : ℕ) (d : Bor Word) (made more : List Arg)
+    (x : Arg) → i < length names →
+    (rule_of x ≡ named_rule (get_or names i d).now action) × (x.global ≡ false) → more ≡ made ++ x ∷ [] →
+    rules_of more ++ named action (drop (i + 1) names) ≡ rules_of made ++ named action (drop i names)
+named_turn action names i d made more x within is gives =
+    let rule = named_rule (get_or names i d).now action in
+    let rest = named action (drop (i + 1) names) in
+    ap (λ rules. rules ++ rest) (ap rules_of gives ∙ rules-push made x rule is)
+    ∙ append_assoc (rules_of made) (local rule ∷ []) rest
+    ∙ sym (at_drop_more (λ left. rules_of made ++ named action left) names i d within)
+
+-- three at once, twice, are one after another
+pub one_by_one : {A : Type 0} (rules : List A) (a b c x y z : A) →
+    (rules ++ a ∷ b ∷ c ∷ []) ++ x ∷ y ∷ z ∷ []
+    ≡ (((((rules ++ a ∷ []) ++ b ∷ []) ++ c ∷ []) ++ x ∷ []) ++ y ∷ []) ++ z ∷ []
+one_by_one [] a b c x y z = refl
+one_by_one (r ∷ rules) a b c x y z = ap (λ more. r ∷ more) (one_by_one rules a b c x y z)

@@ -11,17 +11,25 @@ use clap::{Arg, ArgAction, ArgMatches, Command};
 use racer_base::Memory;
 use std::alloc::Global;
 
-/// Puts an option or a flag behind the arguments that there are.
+/// The options with a value.
+const OPTIONS: &[&str] = &["workers", "replay", "made"];
+
+/// The flags.
+const FLAGS: &[&str] = &["json", "summaries", "history"];
+
+/// Puts options or flags of these names behind the arguments that there are.
 fn push_named<'a>(
     alloc: Global,
     arguments: &mut Vec<Arg<'a>>,
-    name: &'a str,
+    names: &[&'a str],
     action: ArgAction,
 ) -> Result<(), Memory>
     ensures { OnOk result (spec.rules_of arguments.new.items
-        ≡ spec.rules_of arguments.old.items ++ spec.local (spec.named_rule name.now action) ∷ []) }
+        ≡ spec.rules_of arguments.old.items ++ map (λ name. spec.local (spec.named_rule name.now action)) names.now) }
 {
-    arguments.push(Arg::new(alloc, name).long(name).action(action))?;
+    for name in names {
+        arguments.push(Arg::new(alloc, *name).long(*name).action(action))?;
+    }
     Ok(())
 }
 
@@ -30,12 +38,8 @@ fn push_arguments<'a>(alloc: Global, arguments: &mut Vec<Arg<'a>>) -> Result<(),
     ensures { OnOk result (spec.rules_of arguments.new.items ≡ spec.with_all (spec.rules_of arguments.old.items)) }
 {
     arguments.push(Arg::new(alloc, "FOLDER").action(ArgAction::Set))?;
-    push_named(alloc, arguments, "workers", ArgAction::Set)?;
-    push_named(alloc, arguments, "replay", ArgAction::Set)?;
-    push_named(alloc, arguments, "made", ArgAction::Set)?;
-    push_named(alloc, arguments, "json", ArgAction::SetTrue)?;
-    push_named(alloc, arguments, "summaries", ArgAction::SetTrue)?;
-    push_named(alloc, arguments, "history", ArgAction::SetTrue)
+    push_named(alloc, arguments, OPTIONS, ArgAction::Set)?;
+    push_named(alloc, arguments, FLAGS, ArgAction::SetTrue)
 }
 
 /// The command with its arguments.

@@ -1,13 +1,20 @@
-use Rattle.std.proofs.Common.{◌∙◌, ap}
-use Rattle.command_line.specs.Command.{named_rule, rules_of}
-use Rattle.command_line.proofs.AddedRules.{rules-push, named_is}
+use Rattle.std.proofs.Common.{sym, ap, append-nil, ◌++◌, ◌∙◌}
+use Rattle.std.proofs.lemmas.List.{at_drop_all}
+use Rattle.command_line.specs.Command.{rules_of}
+use Rattle.command_line.proofs.AddedRules.{named, named_is, named_turn}
 use Rattle.command_line.proofs.command.push_named.Goals as goal
+
+pub loop-name-preserved : goal.loop-name-preserved
+loop-name-preserved c =
+    named_turn c.args.action c.args.names.now c.loop-name.name-index _ c.loop-name.arguments.items c.push.new.self.items
+    c.action.result c.loop-name-test.true
+    (named_is c.new.result c.long.result c.action.result _ c.args.action c.new.ensures.rule c.new.ensures.optional.1
+    c.long.ensures c.action.ensures)
+    c.in_ok-push.ensures.items
+    ∙ c.loop-name.invariant
 
 pub returns : goal.returns
 returns c =
-    let name = c.args.name in
-    let action = c.args.action in
-    ap rules_of c.in_ok-push.ensures.items
-    ∙ rules-push c.args.arguments.now.items c.action.result (named_rule name.now action)
-    (named_is c.new.result c.long.result c.action.result name action c.new.ensures.rule c.new.ensures.optional.1
-    c.long.ensures c.action.ensures)
+    let made = rules_of c.loop-name.arguments.items in
+    let left = at_drop_all (named c.args.action) c.args.names.now c.loop-name.name-index c.loop-name-test.false in
+    sym (append-nil made) ∙ ap (λ rules. made ++ rules) (sym left) ∙ c.loop-name.invariant
