@@ -51,15 +51,18 @@ is_some-map g None = refl
 is_some-map g (Some x) = refl
 
 -- whether a file of a name is found says whether the name is there
-pub names_found : {A : Type 0} (files : List (String Global × Vec ℕ Global)) (name : List ℕ) (g : A → List ℕ) (o : Option A) (b : Bool)
+pub names_found : {A : Type 0} (files : List (String Global × Vec ℕ Global)) (name : List ℕ) (g : A → List ℕ)
+    (o : Option A) (b : Bool)
     → option_map g o ≡ get (files_of files) name → b ≡ is_some o → list_any (same_name name) (names_of files) ≡ b
 names_found files name g o b found is =
     sym (names-files_of files name) ∙ ap is_some (sym found) ∙ is_some-map g o ∙ sym is
 
 -- the names of all files, where that many were read
-pub all_read : (names : List (List ℕ)) (files items : List (String Global × Vec ℕ Global)) (i : ℕ) → names ≡ take i (names_of files) → items ≡ files → length items ≤ i → names ≡ names_of files
+pub all_read : (names : List (List ℕ)) (files items : List (String Global × Vec ℕ Global)) (i : ℕ) →
+    names ≡ take i (names_of files) → items ≡ files → length items ≤ i → names ≡ names_of files
 all_read names files items i read same end =
-    let long : length (names_of files) ≤ i = omega (arith, length-map files (λ (f : String Global × Vec ℕ Global). string_bytes f.0), ap length same, end) in
+    let count = length-map files (λ (f : String Global × Vec ℕ Global). string_bytes f.0) in
+    let long : length (names_of files) ≤ i = omega (arith, count, ap length same, end) in
     read ∙ take_all i (names_of files) long
 
 pub none_distinct : IsDistinct same_name []
@@ -77,9 +80,11 @@ more_distinct files i file text h is spelled before new =
     subst (λ (ns : List (List ℕ)). IsDistinct same_name ns) names push
 
 -- all files, where that many have different names
-pub all_distinct : (files : List (String Global × Vec ℕ Global)) (i : ℕ) → length files ≤ i → IsDistinct same_name (names_of (take i files)) → IsTrue true ↔ IsDistinct same_name (names_of files)
+pub all_distinct : (files : List (String Global × Vec ℕ Global)) (i : ℕ) → length files ≤ i →
+    IsDistinct same_name (names_of (take i files)) → IsTrue true ↔ IsDistinct same_name (names_of files)
 all_distinct files i end d =
-    (λ e. subst (λ (fs : List (String Global × Vec ℕ Global)). IsDistinct same_name (names_of fs)) (take_all i files end) d, λ e. cc)
+    let whole = take_all i files end in
+    (λ e. subst (λ (fs : List (String Global × Vec ℕ Global)). IsDistinct same_name (names_of fs)) whole d, λ e. cc)
 
 -- a name that stands twice
 twice : (files : List (String Global × Vec ℕ Global)) (i : ℕ) (file : String Global × Vec ℕ Global) → i < length files → file ≡ get_or files i file → list_any (same_name (string_bytes file.0)) (names_of (take i files)) ≡ true → IsDistinct same_name (names_of files) → ⊥

@@ -1,6 +1,6 @@
 -- Lemmas on a write to a sink in memory.
-use Rattle.std.proofs.Common.{◌≡◌, ℕ, ◌+◌, ◌-◌, ◌≤◌, ◌<◌, min, Bool, true, false, List, ◌++◌, length, take, refl, ap, ◌∙◌}
-use Rattle.std.proofs.Common.{if◌then◌else◌, Result, Ok, Err, is_ok, arith}
+use Rattle.std.proofs.Common.{◌≡◌, ℕ, ◌+◌, ◌-◌, ◌≤◌, ◌<◌, min, Bool, true, false, List, ◌++◌, length, take}
+use Rattle.std.proofs.Common.{refl, ap, ◌∙◌, if◌then◌else◌, Result, Ok, Err, is_ok, arith}
 use Rattle.std.proofs.lemmas.List.{length-take, length-append}
 
 -- a piece was put at the end

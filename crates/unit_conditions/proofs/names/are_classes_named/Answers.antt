@@ -7,5 +7,6 @@ use Rattle.unit_conditions.proofs.names.are_classes_named.Goals as goal
 pub loop-info-preserved : goal.loop-info-preserved
 loop-info-preserved c =
     let named = c.in_ok-is_identifier.ensures c.if-not-branch.false in
-    one_passes (λ (info : ClassInfo). is_identifier info.name) c.args.infos.now c.loop-info.info-index c.info-item.result _
-    c.loop-info-test.true c.info-item.is (ap is_identifier (sym c.as_str.ensures) ∙ named) c.loop-info.invariant
+    one_passes (λ (info : ClassInfo). is_identifier info.name) c.args.infos.now c.loop-info.info-index
+    c.info-item.result _ c.loop-info-test.true c.info-item.is (ap is_identifier (sym c.as_str.ensures) ∙ named)
+    c.loop-info.invariant

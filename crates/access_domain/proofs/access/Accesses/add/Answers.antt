@@ -57,12 +57,14 @@ returns-in_default-clause-limit c =
 pub returns-in_default-put-clause-firsts : goal.returns-in_default-put-clause-firsts
 returns-in_default-put-clause-firsts c =
     let within : IsWithin c.self.inside.items.items = c.self.invariant.0 in
-    subst (λ (records : List Access). first_of_keys records ≡ records) (sym c.in_default-put.ensures.items) within.firsts
+    subst (λ (records : List Access). first_of_keys records ≡ records) (sym c.in_default-put.ensures.items)
+    within.firsts
 
 pub returns-in_default-put-clause-limit : goal.returns-in_default-put-clause-limit
 returns-in_default-put-clause-limit c =
     let within : IsWithin c.self.inside.items.items = c.self.invariant.0 in
-    subst (λ (records : List Access). length records ≤ MAX_SUMMARY_KEYS) (sym c.in_default-put.ensures.items) within.limit
+    subst (λ (records : List Access). length records ≤ MAX_SUMMARY_KEYS) (sym c.in_default-put.ensures.items)
+    within.limit
 
 pub returns-clause-cases : goal.returns-clause-cases
 returns-clause-cases c =

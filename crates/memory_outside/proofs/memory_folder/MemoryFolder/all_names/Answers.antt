@@ -12,4 +12,5 @@ loop-file-preserved c =
 
 pub returns : goal.returns
 returns c =
-    all_read _ c.args.self.now.files.items _ _ c.loop-file.invariant c.deref-file-items.ensures.value c.loop-file-test.false
+    all_read _ c.args.self.now.files.items _ _ c.loop-file.invariant c.deref-file-items.ensures.value
+    c.loop-file-test.false

@@ -9,7 +9,8 @@ pub unwrap-requires : goal.unwrap-requires
 unwrap-requires c =
     let sink = c.args.self.now in
     let least = c.min.ensures ∙ ap (λ len. min sink.most (sink.capacity - len)) (c.len.ensures ∙ sink.taken.ok.0) in
-    c.extend_from_slice.ensures.succeeds (fits c.args.piece.now _ _ _ _ _ _ _ c.min-share.ensures least sink.taken.ok.0 sink.within sink.reserved)
+    c.extend_from_slice.ensures.succeeds
+    (fits c.args.piece.now _ _ _ _ _ _ _ c.min-share.ensures least sink.taken.ok.0 sink.within sink.reserved)
 
 pub returns-clause-taken : goal.returns-clause-taken
 returns-clause-taken c =
@@ -22,9 +23,11 @@ returns-clause-room c =
     let least = c.min.ensures ∙ ap (λ len. min sink.most (sink.capacity - len)) (c.len.ensures ∙ sink.taken.ok.0) in
     let piece = take c.min-share.result c.args.piece.now in
     let put = appended _ _ sink.taken.items _ piece c.extend_from_slice.ensures.items c.unwrap.ensures in
-    room_after _ _ _ _ _ c.fails.ensures.quiet (left_after _ _ c.args.piece.now _ _ _ _ put c.min-share.ensures least sink.within)
+    room_after _ _ _ _ _ c.fails.ensures.quiet
+    (left_after _ _ c.args.piece.now _ _ _ _ put c.min-share.ensures least sink.within)
 
 pub returns-clause-share : goal.returns-clause-share
 returns-clause-share c =
     let sink = c.args.self.now in
-    c.min-share.ensures ∙ ap (min (length c.args.piece.now)) (c.min.ensures ∙ ap (λ len. min sink.most (sink.capacity - len)) (c.len.ensures ∙ sink.taken.ok.0))
+    let least = c.min.ensures ∙ ap (λ len. min sink.most (sink.capacity - len)) (c.len.ensures ∙ sink.taken.ok.0) in
+    c.min-share.ensures ∙ ap (min (length c.args.piece.now)) least
