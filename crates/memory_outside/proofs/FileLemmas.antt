@@ -1,13 +1,13 @@
 -- Lemmas on lists of files.
 use Rattle.std.proofs.Common.{◌≡◌, ℕ, zero, suc, ◌+◌, ◌<◌, Bool, true, false, List, [], ◌∷◌, ◌++◌, map, length, get_or}
 use Rattle.std.proofs.Common.{take, drop, refl, sym, ap, subst, ◌∙◌, arith, string_bytes, cond, ◌||◌, String, Vec}
-use Rattle.std.proofs.Common.{Global, Some}
-use Rattle.std.proofs.lemmas.List.{at_drop_more, map_more, length-map}
+use Rattle.std.proofs.Common.{Global, Option, None, Some, ◌≤◌, ◌↔◌, IsTrue}
+use Rattle.std.proofs.lemmas.List.{at_drop_more, map_more, length-map, take_all}
 use Rattle.std.proofs.Math.ListN.{get_or-map}
 use Rattle.std.proofs.lemmas.Map.Keys.{IsDistinct-from_apart, IsDistinct-push, IsDistinct-tail, apart_from_distinct}
 use Rattle.std.proofs.lemmas.Cmp.{eq_by_cmp_equiv}
 use Rattle.std.specs.List.{list_any, IsDistinct}
-use Rattle.std.specs.Option.{is_some}
+use Rattle.std.specs.Option.{is_some, option_map}
 use Rattle.std.proofs.Math.Dec.{eqb}
 use Rattle.std.specs.FinMap.{get, contains_key, get-from_entries, get-insert}
 use Rattle.std.specs.FinMap.Entries.{is_some-find}
@@ -46,9 +46,24 @@ names-files_of files name =
     ∙ is_some-find (slice_cmp nat_cmp) name pairs
     ∙ ap (list_any (same_name name)) (map-pairs files)
 
-any_named : (files : List (String Global × Vec ℕ Global)) (name : List ℕ) → list_any (λ (file : String Global × Vec ℕ Global). pointwise eqb name (string_bytes file.0)) files ≡ list_any (same_name name) (names_of files)
-any_named [] name = refl
-any_named (file ∷ files) name = ap (λ b. b || list_any (λ (f : String Global × Vec ℕ Global). pointwise eqb name (string_bytes f.0)) files) (texts_ties name (string_bytes file.0)) ∙ ap (λ b. same_name name (string_bytes file.0) || b) (any_named files name)
+is_some-map : {A : Type 0} (g : A → List ℕ) (o : Option A) → is_some (option_map g o) ≡ is_some o
+is_some-map g None = refl
+is_some-map g (Some x) = refl
+
+-- whether a file of a name is found says whether the name is there
+pub names_found : {A : Type 0} (files : List (String Global × Vec ℕ Global)) (name : List ℕ) (g : A → List ℕ)
+    (o : Option A) (b : Bool)
+    → option_map g o ≡ get (files_of files) name → b ≡ is_some o → list_any (same_name name) (names_of files) ≡ b
+names_found files name g o b found is =
+    sym (names-files_of files name) ∙ ap is_some (sym found) ∙ is_some-map g o ∙ sym is
+
+-- the names of all files, where that many were read
+pub all_read : (names : List (List ℕ)) (files items : List (String Global × Vec ℕ Global)) (i : ℕ) →
+    names ≡ take i (names_of files) → items ≡ files → length items ≤ i → names ≡ names_of files
+all_read names files items i read same end =
+    let count = length-map files (λ (f : String Global × Vec ℕ Global). string_bytes f.0) in
+    let long : length (names_of files) ≤ i = omega (arith, count, ap length same, end) in
+    read ∙ take_all i (names_of files) long
 
 pub none_distinct : IsDistinct same_name []
 none_distinct = IsDistinct-from_apart same_name [] (λ i j d h k. absurd (omega arith))
@@ -56,13 +71,20 @@ none_distinct = IsDistinct-from_apart same_name [] (λ i j d h k. absurd (omega 
 -- one more file, whose name is new
 pub more_distinct : (files : List (String Global × Vec ℕ Global)) (i : ℕ) (file : String Global × Vec ℕ Global) (text : List ℕ) → i < length files → file ≡ get_or files i file → text ≡ string_bytes file.0
     → IsDistinct same_name (names_of (take i files))
-    → false ≡ list_any (λ (f : String Global × Vec ℕ Global). pointwise eqb text (string_bytes f.0)) (take i files)
+    → list_any (same_name text) (names_of (take i files)) ≡ false
     → IsDistinct same_name (names_of (take (i + 1) files))
 more_distinct files i file text h is spelled before new =
-    let push = IsDistinct-push (eq_by_cmp_equiv nat_list_cmp_total) (names_of (take i files)) (string_bytes file.0) before (sym (any_named (take i files) (string_bytes file.0)) ∙ ap (λ name. list_any (λ (f : String Global × Vec ℕ Global). pointwise eqb name (string_bytes f.0)) (take i files)) (sym spelled) ∙ sym new) in
+    let push = IsDistinct-push (eq_by_cmp_equiv nat_list_cmp_total) (names_of (take i files)) (string_bytes file.0) before (ap (λ name. list_any (same_name name) (names_of (take i files))) (sym spelled) ∙ new) in
     let names : names_of (take i files) ++ string_bytes file.0 ∷ [] ≡ names_of (take (i + 1) files)
     = sym (map_more (λ (f : String Global × Vec ℕ Global). string_bytes f.0) files i file h ∙ ap (λ (f : String Global × Vec ℕ Global). names_of (take i files) ++ string_bytes f.0 ∷ []) (sym is)) in
     subst (λ (ns : List (List ℕ)). IsDistinct same_name ns) names push
+
+-- all files, where that many have different names
+pub all_distinct : (files : List (String Global × Vec ℕ Global)) (i : ℕ) → length files ≤ i →
+    IsDistinct same_name (names_of (take i files)) → IsTrue true ↔ IsDistinct same_name (names_of files)
+all_distinct files i end d =
+    let whole = take_all i files end in
+    (λ e. subst (λ (fs : List (String Global × Vec ℕ Global)). IsDistinct same_name (names_of fs)) whole d, λ e. cc)
 
 -- a name that stands twice
 twice : (files : List (String Global × Vec ℕ Global)) (i : ℕ) (file : String Global × Vec ℕ Global) → i < length files → file ≡ get_or files i file → list_any (same_name (string_bytes file.0)) (names_of (take i files)) ≡ true → IsDistinct same_name (names_of files) → ⊥
@@ -82,7 +104,7 @@ twice (first ∷ files) (suc i) file h is found distinct =
 
 -- a file with the name of an earlier one
 pub repeated_name : (files : List (String Global × Vec ℕ Global)) (i : ℕ) (file : String Global × Vec ℕ Global) (text : List ℕ) → i < length files → file ≡ get_or files i file → text ≡ string_bytes file.0
-    → true ≡ list_any (λ (f : String Global × Vec ℕ Global). pointwise eqb text (string_bytes f.0)) (take i files)
+    → list_any (same_name text) (names_of (take i files)) ≡ true
     → IsDistinct same_name (names_of files) → ⊥
 repeated_name files i file text h is spelled found =
-    twice files i file h is (sym (any_named (take i files) (string_bytes file.0)) ∙ ap (λ name. list_any (λ (f : String Global × Vec ℕ Global). pointwise eqb name (string_bytes f.0)) (take i files)) (sym spelled) ∙ sym found)
+    twice files i file h is (ap (λ name. list_any (same_name name) (names_of (take i files))) (sym spelled) ∙ found)

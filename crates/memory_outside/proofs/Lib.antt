@@ -2,3 +2,4 @@ mod FailingLemmas
 mod FirstFile
 mod FileLemmas
 mod ReadLemmas
+mod SinkLemmas

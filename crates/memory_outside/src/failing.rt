@@ -30,6 +30,18 @@ impl Failing {
     {
         let call = self.next;
         self.next = call.saturating_add(1);
-        self.calls.iter().any(|number| u64::from(*number) == call)
+        is_among(&self.calls, call)
     }
+}
+
+/// Whether the call of this number is to fail.
+fn is_among(calls: &[u32], call: u64) -> bool
+    ensures { result ≡ is_failing calls.now call }
+{
+    for number in calls {
+        if u64::from(*number) == call {
+            return true;
+        }
+    }
+    false
 }

@@ -1,8 +1,7 @@
 //! A folder in memory.
-ghost use Rattle.std.specs.Prelude.{◌≡◌, ℕ, ◌≤◌, IsTrue, ◌↔◌, map, string_bytes, take, nat_eq, true, Some, IfOk, IfErr};
+ghost use Rattle.std.specs.Prelude.{◌≡◌, ℕ, ◌≤◌, IsTrue, ◌↔◌, map, string_bytes, take, true, Some, IfOk, IfErr};
 ghost use Rattle.std.specs.Prelude.{IfSome, OnOk, MatchResult, option_map, vec_len, if◌then◌else◌, Ok, Err};
-ghost use Rattle.std.specs.List.{IsDistinct, list_any};
-ghost use Rattle.std.specs.Cmp.Lexicographic.{pointwise};
+ghost use Rattle.std.specs.List.{IsDistinct};
 ghost use Rattle.std.specs.FinMap as finite;
 ghost use Rattle.std.proofs.lemmas.Map.Keys.{IsDistinct-prop};
 ghost use Rattle.racer_base.specs.Outside.{same_name, AreNames, IsRise};
@@ -14,11 +13,16 @@ use crate::failing::Failing;
 use racer_base::{Folder, FolderFault};
 use std::alloc::{AllocError, Global};
 
-/// Whether one of these files has this name.
-fn is_named(files: &[(String, Vec<u8>)], name: &str) -> bool
-    ensures { result ≡ list_any (λ file. pointwise nat_eq name.now (string_bytes file.0)) files.now }
+/// The bytes of the first of these files that has this name.
+fn find<'a>(files: &'a [(String, Vec<u8>)], name: &str) -> Option<&'a Vec<u8>>
+    ensures { option_map (λ bytes. bytes.now.items) result ≡ finite.get (files_of files.now) name.now }
 {
-    files.iter().any(|file| name == file.0.as_str())
+    for file in files {
+        if name == file.0.as_str() {
+            return Some(&file.1);
+        }
+    }
+    None
 }
 
 /// A folder in memory, with a name and files of different names.
@@ -58,7 +62,7 @@ impl MemoryFolder {
         ensures { IsTrue result ↔ IsDistinct same_name (names_of files.now) }
     {
         for (i, file) in files.iter().enumerate() {
-            if is_named(&files[..i], file.0.as_str()) {
+            if find(&files[..i], file.0.as_str()).is_some() {
                 return false;
             }
         }
@@ -82,19 +86,6 @@ impl MemoryFolder {
         ensures exact { IsTrue result ↔ (name.now ≡ string_bytes self.now.name) }
     {
         name == self.name.as_str()
-    }
-
-    /// The bytes of a file.
-    fn find(&self, name: &str) -> Option<&Vec<u8>>
-        ensures { option_map (λ bytes. bytes.now.items) result
-            ≡ finite.get (files_of self.now.files.items) name.now }
-    {
-        for file in &self.files {
-            if name == file.0.as_str() {
-                return Some(&file.1);
-            }
-        }
-        None
     }
 }
 
@@ -172,7 +163,7 @@ impl Folder for MemoryFolder {
         ensures call { IsOneCall self.old self.new (has_failed result) }
     {
         let fails = self.failing.fails();
-        match self.find(name) {
+        match find(self.files.as_slice(), name) {
             Some(bytes) if !fails => Ok(bytes[..most.min(bytes.len())].to_vec(alloc)?),
             _ => {
                 self.faults = self.faults.saturating_add(1);

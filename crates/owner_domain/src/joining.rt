@@ -63,9 +63,11 @@ pub fn join_value(
 fn lose(alloc: Global, value: &Value, names: &mut Vec<Path>) -> Result<(), Memory>
     ensures { OnOk result (names.new.items ≡ names.old.items ++ names_of value.now) }
 {
-    if let Value::Named(path) = value {
-        let name = path.copied(alloc)?;
-        names.push(name)?;
+    match value {
+        Value::Named(path) => {
+            let name = path.copied(alloc)?;
+            Ok(names.push(name)?)
+        }
+        _ => Ok(()),
     }
-    Ok(())
 }

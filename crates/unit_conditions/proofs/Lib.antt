@@ -3,3 +3,4 @@ mod TokenPlaces
 mod MemberPlaces
 mod UnitPlaces
 mod NamedTokens
+mod InfoNames

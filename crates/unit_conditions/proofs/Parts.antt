@@ -1,6 +1,6 @@
 -- What holds of each token of a list holds of each token of its parts.
-use Rattle.std.proofs.Common.{◌≡◌, ℕ, zero, suc, Bool, true, false, cond, List, [], ◌∷◌, ◌++◌, map, filter, take, Option, Some, None}
-use Rattle.std.proofs.Common.{refl, sym, ap, subst}
+use Rattle.std.proofs.Common.{◌≡◌, ℕ, zero, suc, Bool, true, false, cond, List, [], ◌∷◌, ◌++◌, map, filter, take}
+use Rattle.std.proofs.Common.{sym, subst}
 use Rattle.java_tree.specs.Formed.{Each}
 use Rattle.java_units.specs.Cuts.{joined}
 

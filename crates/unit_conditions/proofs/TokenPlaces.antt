@@ -1,9 +1,8 @@
 -- The tokens of a file stand in it.
-use Rattle.std.proofs.Common.{◌≡◌, ℕ, Bool, true, false, cond, List, [], ◌∷◌, ◌++◌, Option, Some, None, Result, Ok, Err, codes}
-use Rattle.std.proofs.Common.{refl, sym, ap, subst, ◌∙◌}
+use Rattle.std.proofs.Common.{◌≡◌, ℕ, Bool, true, false, cond, List, [], ◌∷◌, Option, Some, None, Result, Ok, Err}
+use Rattle.std.proofs.Common.{refl, subst}
 use Rattle.std.specs.Str.{is_utf8}
 use Rattle.std.specs.Str.Lossy.{utf8_valid_len}
-use Rattle.racer_base.specs.declared.ids.FileId.{FileId}
 use Rattle.racer_base.specs.declared.ids.Place.{Place}
 use Rattle.racer_base.specs.Name.{is_listed}
 use Rattle.java_lexer.specs.declared.fault.LexFault.{LexFault}
@@ -22,7 +21,7 @@ use Rattle.java_lexer.specs.Divisions.{Piece, pieces, undivided}
 use Rattle.java_lexer.specs.Signs.{shifts}
 use Rattle.java_lexer.specs.Tokens.{tokens_from}
 use Rattle.java_lexer.specs.JavaKinds.{java_lexis}
-use Rattle.java_lexer.specs.JavaTokens.{angle_tokens, one_token, token_of, java_tokens_of, java_tokens, divided_answer}
+use Rattle.java_lexer.specs.JavaTokens.{angle_tokens, one_token, token_of, java_tokens_of, divided_answer}
 use Rattle.java_lexer.specs.JavaTokens.{lexed_answer}
 use Rattle.java_tree.specs.Formed.{Each}
 use Rattle.unit_conditions.proofs.Parts.{each_append}

@@ -1,6 +1,6 @@
 -- The places that a unit keeps are those of its tokens.
 use Rattle.std.proofs.Common.{◌≡◌, ℕ, suc, ◌+◌, ◌<◌, ◌≤◌, ◌-◌, Bool, true, false, cond, ◌&&◌, ◌||◌, not, List, [], ◌∷◌, ◌++◌, map, filter, length}
-use Rattle.std.proofs.Common.{Option, Some, None, codes, refl, sym, ap, subst, ◌∙◌, arith, take}
+use Rattle.std.proofs.Common.{Option, Some, None, codes, refl, sym, ap, subst, ◌∙◌, arith}
 use Rattle.std.specs.Prelude.{nat_lt}
 use Rattle.std.proofs.lemmas.Bool.{false≢true, lt-ltb}
 use Rattle.std.specs.List.{AllZip, flat_map, list_all}
@@ -15,7 +15,7 @@ use Rattle.java_units.specs.Cuts.{joined}
 use Rattle.java_units.specs.Pieces.{Item, items_of, Piece, pieces_of, is_annotation, inside}
 use Rattle.java_units.specs.Declarations.{is_type_modifier, is_type, types_among, AreDeclarations}
 use Rattle.java_units.specs.Members.{cut_members, is_lone, members_of, behind_words}
-use Rattle.java_units.specs.Units.{BeginsAt, IsClass, IsMember, IsUnit, name_in, read_name, body_among, is_read}
+use Rattle.java_units.specs.Units.{BeginsAt, IsClass, IsMember, name_in, read_name, body_among, is_read}
 use Rattle.java_units.proofs.Joined.{joined_items, joined_pieces}
 use Rattle.java_units.proofs.OneCut.{joined_cut}
 use Rattle.java_lowering.specs.Conditions.{member_places, class_places, unit_places, is_in_files, are_in_files}

@@ -81,5 +81,9 @@ IsWithin-added old new x w fresh grown long room =
     let were : set.len (set_of old) ≡ length old = w.different in
     record { different = omega arith; limit = omega arith }
 
+-- such a list has a set within the limit
+pub IsWithin-limit : (paths : List Path) → IsWithin paths → set.len (set_of paths) ≤ MAX_SUMMARY_KEYS
+IsWithin-limit paths w = omega (arith, w.different, w.limit)
+
 pub IsWithin-none : IsWithin []
 IsWithin-none = record { different = set.len-empty path_cmp; limit = omega arith }

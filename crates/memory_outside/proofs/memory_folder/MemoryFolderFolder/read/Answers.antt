@@ -1,11 +1,15 @@
 use Rattle.std.proofs.Common.{sym, ap, ◌∙◌, Some, arith}
+use Rattle.std.specs.FinMap.{get}
+use Rattle.memory_outside.specs.FileList.{files_of}
 use Rattle.memory_outside.proofs.ReadLemmas.{is_within, is_read, if_any}
 use Rattle.memory_outside.proofs.memory_folder.MemoryFolderFolder.read.Goals as goal
 
 pub returns-in_ok-to_vec-in-Some-clause-bytes : goal.returns-in_ok-to_vec-in-Some-clause-bytes
 returns-in_ok-to_vec-in-Some-clause-bytes c =
     is_read _ c.deref.result.now _ c.args.most c.len.result c.min.result
-    (ap Some c.deref.ensures.value ∙ c.in-Some.ensures) (c.len.ensures ∙ sym c.deref.ensures.len) c.min.ensures
+    (ap Some c.deref.ensures.value ∙ c.in-Some.ensures
+    ∙ ap (λ files. get (files_of files) c.args.name.now) c.as_slice.ensures.value)
+    (c.len.ensures ∙ sym c.deref.ensures.len) c.min.ensures
     (c.in_ok-to_vec-in-Some.ensures.items_if_clones_equal (λ x y e. e))
 
 pub returns-in_ok-to_vec-in-Some-clause-most : goal.returns-in_ok-to_vec-in-Some-clause-most

@@ -1,10 +1,10 @@
-use Rattle.std.proofs.Common.{◌≡◌, ◌+◌, ◌≤◌, Bool, false, not, cond, List, length, refl, sym, ap, ◌∙◌, arith}
+use Rattle.std.proofs.Common.{◌≡◌, ◌+◌, ◌≤◌, Bool, false, not, cond, List, length, refl, sym, ap, subst, ◌∙◌, arith}
 use Rattle.std.specs.FinSet as set
 use Rattle.racer_base.specs.declared.limits.TheConstants.{MAX_SUMMARY_KEYS}
 use Rattle.access_paths.specs.declared.path.Path.{Path}
 use Rattle.access_paths.specs.Order.{PathSet}
 use Rattle.wobbly_paths.specs.Inside.{set_of, IsWithin}
-use Rattle.wobbly_paths.proofs.SetLemmas.{contains-set, set_of-added, IsWithin-added}
+use Rattle.wobbly_paths.proofs.SetLemmas.{contains-set, set_of-added, IsWithin-added, IsWithin-limit}
 use Rattle.wobbly_paths.proofs.wobbly.Wobbly.add.Goals as goal
 
 pub invariant_of-self-2 : goal.invariant_of-self-2
@@ -54,3 +54,12 @@ returns-then-len-ge-MAX_SUMMARY_KEYS-clause-cases c =
 
 pub returns-then-has-clause-cases : goal.returns-then-has-clause-cases
 returns-then-has-clause-cases c = (sym c.has.ensures ∙ c.if-has.true, refl)
+
+pub returns-in_default-clause-limit : goal.returns-in_default-clause-limit
+returns-in_default-clause-limit c =
+    subst (λ (keys : List Path). set.len (set_of keys) ≤ MAX_SUMMARY_KEYS) (sym c.in_default.ensures.err)
+    (IsWithin-limit _ c.self.invariant)
+
+pub returns-then-has-clause-limit : goal.returns-then-has-clause-limit
+returns-then-has-clause-limit c =
+    subst (λ (paths : PathSet). set.len paths ≤ MAX_SUMMARY_KEYS) c.self.view_is (IsWithin-limit _ c.self.invariant)
