@@ -29,19 +29,6 @@ pub(crate) struct Target {
     pub access: u32,
 }
 
-/// The way to a record.
-fn way_to(
-    alloc: Global,
-    program: &Program,
-    outcomes: &Outcomes,
-    target: Target,
-) -> Result<WayTaken, WayFault>
-    requires { AreOutcomes (core program.now) outcomes.now.items }
-    ensures { IsWay (way_of (core program.now) target.method target.access) result }
-{
-    way(alloc, program, outcomes, target.method, target.access)
-}
-
 /// What is known where the first way is taken.
 fn behind_taken(first: WayTaken, second: Result<WayTaken, WayFault>) -> Result<Both, Memory>
     ensures { (a b : Trip) → IsTaken a first → IsWay b second → IfOk result (λ both. AreBoth a b both) }
@@ -78,11 +65,17 @@ pub(crate) fn ways(
     ensures { IfOk result (λ both. AreBoth (way_of (core program.now) first.method first.access)
         (way_of (core program.now) second.method second.access) both) }
 {
-    match way_to(alloc, program, outcomes, first) {
-        Ok(first) => behind_taken(first, way_to(alloc, program, outcomes, second)),
+    match way(alloc, program, outcomes, first.method, first.access) {
+        Ok(first) => behind_taken(
+            first,
+            way(alloc, program, outcomes, second.method, second.access),
+        ),
         Err(WayFault::Unread(place)) => Ok(Both::Unread(place)),
         Err(WayFault::Long(steps)) => {
-            behind_long(steps, way_to(alloc, program, outcomes, second))
+            behind_long(
+                steps,
+                way(alloc, program, outcomes, second.method, second.access),
+            )
         }
         Err(WayFault::Memory) => Err(Memory),
     }

@@ -46,11 +46,11 @@ fn put(
     ensures added { OnOk result (Updates object_cmp index.old index.new object true) }
     ensures same { OnErr result (index.new.keys ≡ index.old.keys) }
 {
-    paths.push(path)?;
-    if index.insert(object).is_err() {
-        paths.pop();
-        return Err(Memory);
-    }
+    paths.reserve(1)?;
+    index.insert(object)?;
+    let Ok(()) = paths.push(path) else {
+        unreachable!()
+    };
     Ok(())
 }
 

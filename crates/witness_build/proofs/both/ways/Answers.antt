@@ -9,4 +9,4 @@ returns-in-Ok c =
     let program = core c.args.program.now in
     let first = way_of program c.args.first.method c.args.first.access in
     let second = way_of program c.args.second.method c.args.second.access in
-    c.behind_taken.ensures first second (subst (IsWay first) c.in-Ok.is c.way_to.ensures) c.way_to-in-Ok.ensures
+    c.behind_taken.ensures first second (subst (IsWay first) c.in-Ok.is c.way.ensures) c.way-in-Ok.ensures
