@@ -2,7 +2,7 @@ use Rattle.std.proofs.Common.{subst}
 use Rattle.core_code.specs.Program.{core}
 use Rattle.core_ways.specs.Answers.{IsWay}
 use Rattle.core_ways.specs.Ways.{way_of}
-use Rattle.witness_build.proofs.both.ways.Goals as goal
+use Rattle.core_ways.proofs.both.ways.Goals as goal
 
 pub returns-in-Ok : goal.returns-in-Ok
 returns-in-Ok c =

@@ -4,14 +4,17 @@ ghost use Rattle.core_code.specs.Program.{core};
 ghost use Rattle.core_semantics.specs.Steps.{step};
 ghost use Rattle.core_semantics.specs.View.{state_of};
 ghost use Rattle.core_ways.specs.Marks.{next_read};
-ghost use Rattle.witness_build.specs.Ends.{EndsIn, IsAdvance, leg_end, leg_reads, made_of, one_step, step_reads};
-ghost use Rattle.witness_build.specs.Ends.{turned, with_turns};
-ghost use Rattle.witness_build.specs.Gathered.{gathered};
+ghost use Rattle.core_ways.specs.Ends.{EndsIn, IsAdvance, leg_end, leg_reads, made_of, one_step, step_reads};
+ghost use Rattle.core_ways.specs.Ends.{turned, with_turns};
+ghost use Rattle.core_ways.specs.Gathered.{gathered};
 
 use crate::objects::Objects;
 use core_code::Program;
 use core_semantics::{Machine, StepAnswer, Turn};
 use racer_base::Memory;
+
+/// Lets a machine go. Each type of its parts is taken apart here, so a crate that runs legs need not show how.
+pub fn let_go(_machine: Machine) {}
 
 /// One step of a thread; these turns, which are left then, where it was made.
 fn go<'a, 't>(
@@ -89,7 +92,7 @@ fn advance<'a, 't>(
 }
 
 /// So many steps of a thread, with these turns; whether all were made.
-pub(crate) fn run_leg<'a>(
+pub fn run_leg<'a>(
     program: &'a Program,
     machine: &mut Machine<'a>,
     objects: &mut Objects,
