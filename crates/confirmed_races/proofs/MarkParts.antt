@@ -16,7 +16,7 @@ use Rattle.core_ways.specs.Marks.{first_long}
 use Rattle.core_ways.specs.Marks.{first_unread, legs_of, mark_by_calls, mark_by_length, mark_by_run, mark_of}
 use Rattle.core_ways.specs.Marks.{objects_of, ways_in_order}
 use Rattle.core_ways.specs.Stable.{unstable_prefix}
-use Rattle.witness_build.specs.Ends.{nowhere}
+use Rattle.core_ways.specs.Ends.{nowhere}
 
 abbrev start : Core → Pair → State
 start core w = begun core w.m1 w.m2 All

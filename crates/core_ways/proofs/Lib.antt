@@ -11,3 +11,5 @@ pub mod Alone
 pub mod AloneMethods
 pub mod AloneTo
 pub mod Beside
+pub mod Gathering
+pub mod LegSteps

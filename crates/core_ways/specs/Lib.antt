@@ -10,3 +10,6 @@ pub mod Stable
 pub mod Marks
 pub mod Rows
 pub mod Alone
+pub mod Gathered
+pub mod Ends
+pub mod Both

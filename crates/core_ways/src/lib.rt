@@ -2,21 +2,29 @@
 //!
 //! The definitions stand in `specs/Ways.antt`, `specs/Stable.antt` and `specs/Marks.antt`. A warning is named there by
 //! its two entries and by the indices of their records.
+//!
+//! `specs/Ends.antt` and `specs/Gathered.antt` say where a leg that is run ends, and what it read.
 #![tactic(auto)]
 
+mod both;
 mod count;
 mod counting;
+mod driving;
 mod finding;
 mod found;
 pub mod laws;
 mod mark;
+mod objects;
 mod part;
 mod passing;
 mod reaching;
 mod taken;
 mod turns;
 
+pub use both::{Both, Target, ways};
+pub use driving::{let_go, run_leg};
 pub use found::{record_of, wobbly_of};
 pub use mark::{Leg, Mark, Witness};
+pub use objects::Objects;
 pub use part::WayPart;
 pub use taken::{WayFault, WayTaken, way};

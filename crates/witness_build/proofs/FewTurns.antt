@@ -10,9 +10,9 @@ use Rattle.core_ways.specs.declared.taken.WayTaken.{WayTaken}
 use Rattle.core_ways.specs.Answers.{IsTaken}
 use Rattle.core_ways.specs.Ways.{Trip, joined, parts_of, straight, trip_along, trip_given, trip_of, trip_of_part}
 use Rattle.core_ways.specs.Ways.{way_of, way_parts}
-use Rattle.witness_build.specs.declared.both.Both.{Both}
-use Rattle.witness_build.specs.declared.both.Both.TheVariants.{Taken, Unread as BothUnread, Long as BothLong}
-use Rattle.witness_build.specs.Both.{AreBoth, AreShort, IsShort}
+use Rattle.core_ways.specs.declared.both.Both.{Both}
+use Rattle.core_ways.specs.declared.both.Both.TheVariants.{Taken, Unread as BothUnread, Long as BothLong}
+use Rattle.core_ways.specs.Both.{AreBoth, AreShort, IsShort}
 
 abbrev Few : Trip → Type 0
 Few trip = length trip.turns ≤ trip.steps

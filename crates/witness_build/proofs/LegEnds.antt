@@ -16,8 +16,8 @@ use Rattle.racer_base.specs.declared.ids.Touch.TheVariants.{Read, Write}
 use Rattle.core_semantics.specs.Steps.{read}
 use Rattle.core_ways.specs.Marks.{given_by, next_read, paths_in, reads, reads_on}
 use Rattle.racer_base.specs.declared.ids.FieldId.{FieldId}
-use Rattle.witness_build.specs.Ends.{Going, end_behind, ended, leg_end, leg_reads, made_of}
-use Rattle.witness_build.specs.Ends.{one_step, reads_behind, step_reads, straight, turned, with_turns}
+use Rattle.core_ways.specs.Ends.{Going, end_behind, ended, leg_end, leg_reads, made_of}
+use Rattle.core_ways.specs.Ends.{one_step, reads_behind, step_reads, straight, turned, with_turns}
 
 ended-later : (r : Ran) → ended (later r) ≡ ended r
 ended-later (Came to left) = refl

@@ -1,11 +1,9 @@
-pub mod Gathering
 pub mod LegEnds
 pub mod SaidByRun
 pub mod LeastPrefix
 pub mod FewTurns
 pub mod SaidOfWays
 pub mod FoundPrefixes
-pub mod LegSteps
 pub mod WarningMarks
 pub mod WholeWarnings
 pub mod MarkTurns

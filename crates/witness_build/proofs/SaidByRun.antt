@@ -13,9 +13,9 @@ use Rattle.core_semantics.specs.Objects.{same_start_path}
 use Rattle.core_semantics.specs.Runs.{place}
 use Rattle.core_semantics.specs.State.{State}
 use Rattle.core_ways.specs.Marks.{Said, Blocked, Confirmed, first_halt, mark_by_run, objects_of, reads_of_legs}
-use Rattle.witness_build.specs.Ends.{EndsIn, Ended, Past, Stopped, ended, leg_end, leg_reads, nowhere}
-use Rattle.witness_build.specs.Gathered.{gathered}
-use Rattle.witness_build.proofs.Gathering.{gathered-append, gathered-count, gathered-firsts}
+use Rattle.core_ways.specs.Ends.{EndsIn, Ended, Past, Stopped, ended, leg_end, leg_reads, nowhere}
+use Rattle.core_ways.specs.Gathered.{gathered}
+use Rattle.core_ways.proofs.Gathering.{gathered-append, gathered-count, gathered-firsts}
 use Rattle.witness_build.proofs.LegEnds.{leg-count, run-ends, run-reads}
 
 abbrev end_of : Core → Leg → State → Ended

@@ -12,8 +12,8 @@ use Rattle.core_ways.specs.Answers.{IsLong, counted}
 use Rattle.core_ways.specs.Marks.{Pair, Said, Unread, Long, first_long, first_unread, is_locked, leg_along}
 use Rattle.core_ways.specs.Marks.{mark_by_calls, mark_by_run}
 use Rattle.core_ways.specs.Ways.{Trip, way_of}
-use Rattle.witness_build.specs.declared.both.Both.TheVariants as code
-use Rattle.witness_build.specs.Both.{AreBoth, said_by_length, said_of}
+use Rattle.core_ways.specs.declared.both.Both.TheVariants as code
+use Rattle.core_ways.specs.Both.{AreBoth, said_by_length, said_of}
 
 -- ---- the first call that is not read, and the first way that is long
 

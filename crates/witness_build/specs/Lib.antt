@@ -1,7 +1,4 @@
 -- A contract of a public call rests on this: the list of files.
 pub mod Warned
 pub mod Found
-pub mod Gathered
-pub mod Ends
-pub mod Both
 pub mod RunLegs

@@ -4,12 +4,9 @@
 //! their records; `specs/Warned.antt` says which these are.
 #![tactic(auto)]
 
-mod both;
-mod driving;
 pub mod laws;
 mod marking;
 mod marks;
-mod objects;
 mod prefixes;
 
 pub use marking::mark;

@@ -7,23 +7,21 @@ ghost use Rattle.core_semantics.specs.Runs.{begun, place};
 ghost use Rattle.core_semantics.specs.View.{state_of};
 ghost use Rattle.core_ways.specs.Marks.{Blocked, is_locked, leg_of, mark_by_calls, mark_by_run, said_by};
 ghost use Rattle.core_ways.specs.Ways.{Trip, way_of};
-ghost use Rattle.witness_build.specs.Both.{AreBoth, AreShort, IsShort, said_of};
-ghost use Rattle.witness_build.specs.Ends.{nowhere};
+ghost use Rattle.core_ways.specs.Both.{AreBoth, AreShort, IsShort, said_of};
+ghost use Rattle.core_ways.specs.Ends.{nowhere};
 ghost use Rattle.witness_build.specs.RunLegs.{IsSaid};
 ghost use Rattle.witness_build.specs.Warned.{pair_of, warning_mark};
 
-use crate::both::{Both, Target, ways};
-use crate::driving::run_leg;
-use crate::objects::Objects;
 use crate::prefixes::unstable_prefix;
 use access_domain::Outcomes;
 use core_code::Program;
 use core_semantics::{Machine, Start, begin};
-use core_ways::{Leg, Mark, WayTaken, Witness, record_of};
+use core_ways::{
+    Both, Leg, Mark, Objects, Target, WayTaken, Witness, let_go, record_of, run_leg, ways,
+};
 use race_pairs::Warning;
 use racer_base::{FileId, Items, Memory, Place};
 use std::alloc::Global;
-use std::mem;
 
 /// A thread that cannot make its leg, and where it is then.
 fn blocked(machine: &Machine, thread: u32) -> Mark
@@ -98,7 +96,7 @@ fn mark_of_stopped_run(
 {
     let mut machine = begin(alloc, program, warning.entry, warning.partner, Start::All)?;
     let stopped = mark_of_stopped(program, &mut machine, objects, first, second);
-    mem::drop(machine);
+    let_go(machine);
     stopped
 }
 

@@ -14,7 +14,7 @@ use Rattle.core_semantics.specs.declared.object.StartPath.{StartPath}
 use Rattle.core_semantics.specs.Objects.{same_start_path}
 use Rattle.core_semantics.specs.Order.{object_cmp}
 use Rattle.core_semantics.specs.Same.{equal_of_same, tied}
-use Rattle.witness_build.specs.Gathered.{HasObjectsOf, gathered, is_among, path_added}
+use Rattle.core_ways.specs.Gathered.{HasObjectsOf, gathered, is_among, path_added}
 
 -- paths that are the same are equal
 exact : (p q : StartPath) → same_start_path p q ≡ true → p ≡ q

@@ -1,8 +1,8 @@
 use Rattle.std.proofs.Common.{◌≡◌, List, [], ◌∷◌, ◌++◌, sym, ap, subst, ◌∙◌}
 use Rattle.core_semantics.specs.declared.object.StartPath.{StartPath}
-use Rattle.witness_build.specs.Gathered.{HasObjectsOf}
-use Rattle.witness_build.proofs.Gathering.{objects-added}
-use Rattle.witness_build.proofs.objects.Objects.add.Goals as goal
+use Rattle.core_ways.specs.Gathered.{HasObjectsOf}
+use Rattle.core_ways.proofs.Gathering.{objects-added}
+use Rattle.core_ways.proofs.objects.Objects.add.Goals as goal
 
 pub invariant_of-self-2 : goal.invariant_of-self-2
 invariant_of-self-2 c =

@@ -6,10 +6,10 @@ use Rattle.core_code.specs.Core.{Core}
 use Rattle.core_semantics.specs.declared.answer.Turn.{Turn}
 use Rattle.core_semantics.specs.declared.object.StartPath.{StartPath}
 use Rattle.core_semantics.specs.State.{State}
-use Rattle.witness_build.specs.Ends.{Past, Stopped, Going, IsAdvance, end_behind, leg_end, leg_reads, one_step}
-use Rattle.witness_build.specs.Ends.{reads_behind, step_reads}
-use Rattle.witness_build.specs.Gathered.{gathered}
-use Rattle.witness_build.proofs.Gathering.{gathered-append}
+use Rattle.core_ways.specs.Ends.{Past, Stopped, Going, IsAdvance, end_behind, leg_end, leg_reads, one_step}
+use Rattle.core_ways.specs.Ends.{reads_behind, step_reads}
+use Rattle.core_ways.specs.Gathered.{gathered}
+use Rattle.core_ways.proofs.Gathering.{gathered-append}
 
 -- a step that was made
 made-of : (next : Option Going) (old new : State) (o : Option (Bor (List Turn))) (rest : Bor (List Turn)) →

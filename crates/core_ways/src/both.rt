@@ -4,17 +4,17 @@ ghost use Rattle.core_code.specs.Program.{core};
 ghost use Rattle.access_domain.specs.Outcomes.{AreOutcomes};
 ghost use Rattle.core_ways.specs.Answers.{IsLong, IsTaken, IsWay};
 ghost use Rattle.core_ways.specs.Ways.{Trip, way_of};
-ghost use Rattle.witness_build.specs.Both.{AreBoth};
+ghost use Rattle.core_ways.specs.Both.{AreBoth};
 
+use crate::{WayFault, WayTaken, way};
 use access_domain::Outcomes;
 use core_code::Program;
-use core_ways::{WayFault, WayTaken, way};
 use racer_base::{Memory, MethodId, Place};
 use std::alloc::Global;
 
 /// Two ways, in running order; or what is known in their place.
 #[derive(Drop)]
-pub(crate) enum Both {
+pub enum Both {
     Taken(WayTaken, WayTaken),
     /// One of them comes to a call, at this place, of a method that is not analysed.
     Unread(Place),
@@ -24,22 +24,9 @@ pub(crate) enum Both {
 
 /// A record, by its method and its index there.
 #[derive(Clone, Copy)]
-pub(crate) struct Target {
+pub struct Target {
     pub method: MethodId,
     pub access: u32,
-}
-
-/// The way to a record.
-fn way_to(
-    alloc: Global,
-    program: &Program,
-    outcomes: &Outcomes,
-    target: Target,
-) -> Result<WayTaken, WayFault>
-    requires { AreOutcomes (core program.now) outcomes.now.items }
-    ensures { IsWay (way_of (core program.now) target.method target.access) result }
-{
-    way(alloc, program, outcomes, target.method, target.access)
 }
 
 /// What is known where the first way is taken.
@@ -67,7 +54,7 @@ fn behind_long(steps: u32, second: Result<WayTaken, WayFault>) -> Result<Both, M
 }
 
 /// The ways to two records, in running order.
-pub(crate) fn ways(
+pub fn ways(
     alloc: Global,
     program: &Program,
     outcomes: &Outcomes,
@@ -78,11 +65,17 @@ pub(crate) fn ways(
     ensures { IfOk result (λ both. AreBoth (way_of (core program.now) first.method first.access)
         (way_of (core program.now) second.method second.access) both) }
 {
-    match way_to(alloc, program, outcomes, first) {
-        Ok(first) => behind_taken(first, way_to(alloc, program, outcomes, second)),
+    match way(alloc, program, outcomes, first.method, first.access) {
+        Ok(first) => behind_taken(
+            first,
+            way(alloc, program, outcomes, second.method, second.access),
+        ),
         Err(WayFault::Unread(place)) => Ok(Both::Unread(place)),
         Err(WayFault::Long(steps)) => {
-            behind_long(steps, way_to(alloc, program, outcomes, second))
+            behind_long(
+                steps,
+                way(alloc, program, outcomes, second.method, second.access),
+            )
         }
         Err(WayFault::Memory) => Err(Memory),
     }

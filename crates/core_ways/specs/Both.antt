@@ -1,4 +1,4 @@
--- No public contract rests on this: two ways in running order, or why they are not run.
+-- A contract of a public call rests on this: two ways in running order, or why they are not run.
 use Rattle.std.specs.Prelude.{◌≡◌, ℕ, ◌≤◌, [], ◌∷◌, None, Some, length}
 use Rattle.racer_base.specs.declared.limits.TheConstants.{MAX_WAY_STEPS}
 use Rattle.core_code.specs.Core.{Core}
@@ -8,8 +8,8 @@ use Rattle.core_ways.specs.declared.taken.WayTaken.{WayTaken}
 use Rattle.core_ways.specs.Answers.{IsTaken}
 use Rattle.core_ways.specs.Marks.{Pair, Said, Unread, Long, first_unread, first_long, leg_along, mark_by_run}
 use Rattle.core_ways.specs.Ways.{Trip}
-use Rattle.witness_build.specs.declared.both.Both.{Both}
-use Rattle.witness_build.specs.declared.both.Both.TheVariants.{Taken, Unread as BothUnread, Long as BothLong}
+use Rattle.core_ways.specs.declared.both.Both.{Both}
+use Rattle.core_ways.specs.declared.both.Both.TheVariants.{Taken, Unread as BothUnread, Long as BothLong}
 
 -- the first call on a way that is not read is told before a great number of steps of either
 abbrev pub AreBoth : Trip → Trip → Both → Type 0

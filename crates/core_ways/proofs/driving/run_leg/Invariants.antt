@@ -1,9 +1,9 @@
 use Rattle.std.proofs.Common.{◌≡◌, ◌-◌}
 use Rattle.core_code.specs.Program.{core}
 use Rattle.core_semantics.specs.View.{state_of}
-use Rattle.witness_build.specs.Ends.{leg_end, leg_reads}
-use Rattle.witness_build.specs.Gathered.{gathered}
-use Rattle.witness_build.proofs.driving.run_leg.Given as goal
+use Rattle.core_ways.specs.Ends.{leg_end, leg_reads}
+use Rattle.core_ways.specs.Gathered.{gathered}
+use Rattle.core_ways.proofs.driving.run_leg.Given as goal
 
 -- what is left of the leg ends where the whole leg does, and with what was gathered so far gives what the whole reads
 abbrev pub invariant-loop-step : goal.invariant-loop-step

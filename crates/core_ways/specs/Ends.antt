@@ -1,4 +1,4 @@
--- No public contract rests on this: where a leg ends, and what it reads, step by step.
+-- A contract of a public call rests on this: where a leg ends, and what it reads, step by step.
 use Rattle.std.specs.Prelude.{◌≡◌, ℕ, zero, suc, Bool, true, false, List, [], ◌∷◌, ◌++◌, Option, None, Some}
 use Rattle.std.specs.Prelude.{if◌then◌else◌}
 use Rattle.std.specs.Borrow.{Bor}

@@ -4,30 +4,35 @@ ghost use Rattle.core_code.specs.Program.{core};
 ghost use Rattle.core_semantics.specs.Steps.{step};
 ghost use Rattle.core_semantics.specs.View.{state_of};
 ghost use Rattle.core_ways.specs.Marks.{next_read};
-ghost use Rattle.witness_build.specs.Ends.{EndsIn, IsAdvance, IsStep, leg_end, leg_reads, one_step, step_reads};
-ghost use Rattle.witness_build.specs.Ends.{straight, turned};
-ghost use Rattle.witness_build.specs.Gathered.{gathered};
+ghost use Rattle.core_ways.specs.Ends.{EndsIn, IsAdvance, leg_end, leg_reads, made_of, one_step, step_reads};
+ghost use Rattle.core_ways.specs.Ends.{turned, with_turns};
+ghost use Rattle.core_ways.specs.Gathered.{gathered};
 
 use crate::objects::Objects;
 use core_code::Program;
 use core_semantics::{Machine, StepAnswer, Turn};
 use racer_base::Memory;
 
-/// One step of a thread; whether it was made.
-fn make_step<'a>(
+/// Lets a machine go. Each type of its parts is taken apart here, so a crate that runs legs need not show how.
+pub fn let_go(_machine: Machine) {}
+
+/// One step of a thread; these turns, which are left then, where it was made.
+fn go<'a, 't>(
     program: &'a Program,
     machine: &mut Machine<'a>,
     thread: u32,
     turn: Turn,
-) -> Result<bool, Memory>
-    ensures { IfOk result (λ made. IsStep made (step (core program.now) (state_of machine.old) thread turn)
-        (state_of machine.old) (state_of machine.new)) }
+    rest: &'t [Turn],
+) -> Result<Option<&'t [Turn]>, Memory>
+    ensures { IfOk result (λ left. IsAdvance
+        (with_turns rest.now (made_of (step (core program.now) (state_of machine.old) thread turn)))
+        (state_of machine.old) (state_of machine.new) left) }
 {
     match machine.step(program, thread, turn) {
-        StepAnswer::Stepped => Ok(true),
-        StepAnswer::Stuck(_) => Ok(false),
-        StepAnswer::Done => Ok(false),
-        StepAnswer::Held(_) => Ok(false),
+        StepAnswer::Stepped => Ok(Some(rest)),
+        StepAnswer::Stuck(_) => Ok(None),
+        StepAnswer::Done => Ok(None),
+        StepAnswer::Held(_) => Ok(None),
         StepAnswer::Memory => Err(Memory),
     }
 }
@@ -44,29 +49,8 @@ fn take_turn<'a, 't>(
 {
     match turns {
         [] => Ok(None),
-        [turn, rest @ ..] => {
-            let Ok(made) = make_step(program, machine, thread, *turn) else {
-                return Err(Memory);
-            };
-            if made { Ok(Some(rest)) } else { Ok(None) }
-        }
+        [turn, rest @ ..] => go(program, machine, thread, *turn, rest),
     }
-}
-
-/// A step that takes no turn; the turns that are left, where it was made.
-fn go_straight<'a, 't>(
-    program: &'a Program,
-    machine: &mut Machine<'a>,
-    thread: u32,
-    turns: &'t [Turn],
-) -> Result<Option<&'t [Turn]>, Memory>
-    ensures { IfOk result (λ rest. IsAdvance (straight (core program.now) thread turns.now (state_of machine.old))
-        (state_of machine.old) (state_of machine.new) rest) }
-{
-    let Ok(made) = make_step(program, machine, thread, Turn::Right) else {
-        return Err(Memory);
-    };
-    if made { Ok(Some(turns)) } else { Ok(None) }
 }
 
 /// Adds what the next step of a thread reads, where it is a start path with a field.
@@ -104,11 +88,11 @@ fn advance<'a, 't>(
     let Ok(()) = gather(program, machine, objects, thread) else {
         return Err(Memory);
     };
-    go_straight(program, machine, thread, turns)
+    go(program, machine, thread, Turn::Right, turns)
 }
 
 /// So many steps of a thread, with these turns; whether all were made.
-pub(crate) fn run_leg<'a>(
+pub fn run_leg<'a>(
     program: &'a Program,
     machine: &mut Machine<'a>,
     objects: &mut Objects,

@@ -1,8 +1,8 @@
 use Rattle.std.proofs.Common.{◌≡◌, ◌+◌, ◌-◌, suc, sym, ◌∙◌, arith}
 use Rattle.core_code.specs.Program.{core}
 use Rattle.core_semantics.specs.View.{state_of}
-use Rattle.witness_build.proofs.LegSteps.{end-on, end-here, end-none, reads-here, reads-on}
-use Rattle.witness_build.proofs.driving.run_leg.Goals as goal
+use Rattle.core_ways.proofs.LegSteps.{end-on, end-here, end-none, reads-here, reads-on}
+use Rattle.core_ways.proofs.driving.run_leg.Goals as goal
 
 pub loop-step-preserved : goal.loop-step-preserved
 loop-step-preserved c =

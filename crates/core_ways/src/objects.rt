@@ -6,7 +6,7 @@ ghost use Rattle.core_semantics.specs.declared.object.Value.TheVariants.{Object 
 ghost use Rattle.core_semantics.specs.Order.{object_cmp};
 ghost use Rattle.core_ways.specs.Marks.{paths_in};
 ghost use Rattle.core_semantics.specs.declared.object.StartPath.{StartPath};
-ghost use Rattle.witness_build.specs.Gathered.{gathered, is_among, path_added, paths_of};
+ghost use Rattle.core_ways.specs.Gathered.{gathered, is_among, path_added, paths_of};
 
 use core_semantics::{Object, StartPath, Value};
 use racer_base::Memory;
@@ -16,7 +16,7 @@ use std::marker::Model;
 
 /// Start paths, each once. An ordered set beside the list finds them.
 #[derive(Drop)]
-pub(crate) struct Objects {
+pub struct Objects {
     alloc: Global,
     paths: Vec<StartPath>,
     index: BTreeSet<Object>,
@@ -28,7 +28,7 @@ impl Model for Objects {
 
     ghost Value = { List StartPath };
 
-    ghost use Rattle.witness_build.specs.Gathered.{HasObjectsOf};
+    ghost use Rattle.core_ways.specs.Gathered.{HasObjectsOf};
 
     ghost view = { λ objects. objects.paths.items };
 
@@ -46,16 +46,17 @@ fn put(
     ensures added { OnOk result (Updates object_cmp index.old index.new object true) }
     ensures same { OnErr result (index.new.keys ≡ index.old.keys) }
 {
-    paths.push(path)?;
-    if index.insert(object).is_err() {
-        paths.pop();
-        return Err(Memory);
-    }
+    paths.reserve(1)?;
+    index.insert(object)?;
+    let Ok(()) = paths.push(path) else {
+        unreachable!()
+    };
     Ok(())
 }
 
 impl Objects {
-    pub(crate) fn new(alloc: Global) -> Objects
+    /// No paths.
+    pub fn new(alloc: Global) -> Objects
         ensures { result ≡ [] }
     {
         Objects {
@@ -133,7 +134,7 @@ impl Objects {
     }
 
     /// The paths, in order.
-    pub(crate) fn into_vec(self) -> Vec<StartPath>
+    pub fn into_vec(self) -> Vec<StartPath>
         ensures { result.items ≡ self }
     {
         self.paths

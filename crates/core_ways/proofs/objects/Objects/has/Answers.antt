@@ -4,8 +4,8 @@ use Rattle.std.specs.Ordering.{eq_by_cmp}
 use Rattle.core_semantics.specs.declared.object.Object.{Object}
 use Rattle.core_semantics.specs.declared.object.StartPath.{StartPath}
 use Rattle.core_semantics.specs.Order.{object_cmp}
-use Rattle.witness_build.specs.Gathered.{is_among}
-use Rattle.witness_build.proofs.objects.Objects.has.Goals as goal
+use Rattle.core_ways.specs.Gathered.{is_among}
+use Rattle.core_ways.proofs.objects.Objects.has.Goals as goal
 
 pub returns : goal.returns
 returns c = λ p is.

@@ -1,4 +1,4 @@
--- No public contract rests on this: start paths that are gathered one after another, each once.
+-- A contract of a public call rests on this: start paths that are gathered one after another, each once.
 use Rattle.std.specs.Prelude.{◌≡◌, Bool, List, [], ◌∷◌, ◌++◌, Option, None, Some, if◌then◌else◌}
 use Rattle.std.specs.List.{list_any}
 use Rattle.std.specs.Ordering.{eq_by_cmp}
