@@ -1,4 +1,4 @@
-use Rattle.std.proofs.Common.{◌≡◌, ◌++◌, ◌∷◌, [], map, arith}
+use Rattle.std.proofs.Common.{◌≡◌, ◌++◌, ◌∷◌, [], map, arith, ◌-◌, refl}
 use Rattle.std.proofs.lemmas.Result.{err_from_is_err_and}
 use Rattle.std.proofs.lemmas.List.{map_push}
 use Rattle.java_tree.specs.KeptPlaces.{kept}
@@ -47,3 +47,12 @@ returns-clause-gives c =
     let total = annotations_at c.args.limit (map spelled c.args.tokens.now) in
     annotations_run_out total c.args.limit c.loop.counter (map annotation_of c.loop.items.items)
     (map spelled c.loop.rest.now) c.loop-test.false c.loop.invariant.gives
+
+pub loop-init : goal.loop-init
+loop-init c =
+    let none : c.args.limit - 0 ≡ c.args.limit = omega arith in
+    record {
+      gives = rw (c.new-items.ensures.items, none) refl;
+      places = rw c.new-items.ensures.items (λ rest led. led);
+      shorter = omega arith;
+    }

@@ -1,4 +1,4 @@
-use Rattle.std.proofs.Common.{◌≡◌, ◌++◌, ◌∷◌, [], length, map, arith}
+use Rattle.std.proofs.Common.{◌≡◌, ◌++◌, ◌∷◌, [], length, map, arith, ◌-◌, refl}
 use Rattle.std.proofs.lemmas.Result.{err_from_is_err_and}
 use Rattle.std.proofs.lemmas.List.{map_push}
 use Rattle.java_tree.specs.KeptPlaces.{kept}
@@ -45,3 +45,12 @@ returns-clause-gives c =
     let total = modifiers_at (length (map spelled c.args.tokens.now)) (map spelled c.args.tokens.now) in
     modifiers_run_out total c.args.tokens.now c.loop.counter (map modifier_of c.loop.items.items)
     (map spelled c.loop.rest.now) c.loop-test.false c.loop.invariant.gives
+
+pub loop-init : goal.loop-init
+loop-init c =
+    let none : length (map spelled c.args.tokens.now) - 0 ≡ length (map spelled c.args.tokens.now) = omega arith in
+    record {
+      gives = rw (c.new-items.ensures.items, none) refl;
+      places = rw c.new-items.ensures.items (λ rest led. led);
+      shorter = omega arith;
+    }

@@ -1,4 +1,4 @@
-use Rattle.std.proofs.Common.{◌∙◌, ◌∷◌, [], length, map, arith}
+use Rattle.std.proofs.Common.{◌∙◌, ◌∷◌, [], length, map, arith, ◌≡◌, ◌-◌, refl}
 use Rattle.std.proofs.lemmas.Result.{err_from_is_err_and}
 use Rattle.java_tree.specs.KeptPlaces.{kept}
 use Rattle.java_tree.specs.MethodPlaces.{no_name}
@@ -49,3 +49,12 @@ returns-clause-gives c =
     (map spelled c.args.tokens.now)) in
     point_runs_out after_name as_they_are total c.args.tokens.now c.loop.counter c.loop.items.items
     (map spelled c.loop.rest.now) c.loop-test.false c.loop.invariant.gives
+
+pub loop-init : goal.loop-init
+loop-init c =
+    let none : length (map spelled c.args.tokens.now) - 0 ≡ length (map spelled c.args.tokens.now) = omega arith in
+    record {
+      gives = rw (c.in_ok-push.ensures.items, c.new-items.ensures.items, none) refl;
+      places = rw (c.in_ok-push.ensures.items, c.new-items.ensures.items) (λ start led. led);
+      shorter = omega arith;
+    }

@@ -1,4 +1,4 @@
-use Rattle.std.proofs.Common.{◌≡◌, ℕ, List, [], ◌∷◌, codes, length, map, sym, ap, ◌∙◌, arith}
+use Rattle.std.proofs.Common.{◌≡◌, ℕ, List, [], ◌∷◌, codes, length, map, sym, ap, ◌∙◌, arith, refl}
 use Rattle.std.proofs.lemmas.List.{nil_from_length}
 use Rattle.std.proofs.lemmas.Result.{err_from_is_err_and}
 use Rattle.java_tree.specs.KeptPlaces.{kept}
@@ -84,3 +84,15 @@ returns-clause-gives c =
 pub loop-inner-smaller : goal.loop-inner-smaller
 loop-inner-smaller c =
     c.in_ok-next.ensures.shorter
+
+pub loop-inner-init : goal.loop-inner-init
+loop-inner-init c = record {
+  gives = rw (
+    c.in_ok-push.ensures.items,
+    c.new-open.ensures.items,
+    c.in_ok-push-2.ensures.items,
+    c.new-items.ensures.items,
+  ) refl;
+  places = rw (c.in_ok-push-2.ensures.items, c.new-items.ensures.items) (λ start led. led);
+  shorter = omega arith;
+}

@@ -1,4 +1,4 @@
-use Rattle.std.proofs.Common.{◌∙◌, ◌≡◌, ◌++◌, ◌∷◌, [], length, map, arith}
+use Rattle.std.proofs.Common.{◌∙◌, ◌≡◌, ◌++◌, ◌∷◌, [], length, map, arith, ◌-◌, refl}
 use Rattle.std.proofs.lemmas.Result.{err_from_is_err_and}
 use Rattle.std.proofs.lemmas.List.{map_push}
 use Rattle.java_tree.specs.KeptPlaces.{kept, expr_places}
@@ -59,3 +59,12 @@ returns-clause-gives c =
           (map expr_of c.loop.items.items) (map spelled c.loop.rest.now) w.loop-test.true w.in_default.ensures.gives
           c.loop.invariant.gives
     ]
+
+pub loop-init : goal.loop-init
+loop-init c =
+    let none : length (map spelled c.args.tokens.now) - 0 ≡ length (map spelled c.args.tokens.now) = omega arith in
+    record {
+      gives = rw (c.in_ok-push_tree.ensures.items, c.new-items.ensures.items, none) refl;
+      places = rw (c.in_ok-push_tree.ensures.items, c.new-items.ensures.items) refl;
+      shorter = omega arith;
+    }

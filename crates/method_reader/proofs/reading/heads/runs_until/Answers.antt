@@ -1,4 +1,4 @@
-use Rattle.std.proofs.Common.{map, arith, length}
+use Rattle.std.proofs.Common.{map, arith, length, sym, ◌∙◌, refl}
 use Rattle.method_reader.proofs.PassedOn.{puts_back, within_back}
 use Rattle.java_tree.specs.KeptPlaces.{kept, each_puts, expr_places}
 use Rattle.method_reader.proofs.reading.heads.runs_until.Goals as goal
@@ -17,3 +17,11 @@ returns-clause-shorter c =
 pub more_runs-requires-clause-few : goal.more_runs-requires-clause-few
 more_runs-requires-clause-few c =
     omega (arith, c.requires.few, c.in_ok-first.ensures.shorter)
+
+pub returns-then-begins_with-clause-gives : goal.returns-then-begins_with-clause-gives
+returns-then-begins_with-clause-gives c =
+    rw (sym c.begins_with.ensures ∙ c.if-begins_with.true, c.new.ensures.items) refl
+
+pub returns-clause-gives : goal.returns-clause-gives
+returns-clause-gives c =
+    rw (sym c.begins_with.ensures ∙ c.if-begins_with.false, c.in_ok-first.ensures.gives) c.more_runs.ensures.gives

@@ -1,4 +1,4 @@
-use Rattle.std.proofs.Common.{map, sym, length}
+use Rattle.std.proofs.Common.{map, sym, length, arith}
 use Rattle.type_reader.specs.Tokens.{spelled}
 use Rattle.java_tree.specs.View.{ty_of, annotation_of}
 use Rattle.std.proofs.lemmas.List.{length-map}
@@ -45,3 +45,13 @@ returns-in_err-name-clause-gives c =
     (ty_of c.in_ok-kind.kind.tree, map spelled c.in_ok-kind.rest.now)
     c.final_at-is_final.ensures.gives size c.in_ok-annotations.ensures.gives c.in_ok-kind.ensures.gives)
     c.in_err-name.ensures.gives)
+
+pub returns-clause-shorter : goal.returns-clause-shorter
+returns-clause-shorter c =
+    omega (
+      arith,
+      c.final_at-is_final.ensures.shorter,
+      c.in_ok-annotations.ensures.shorter,
+      c.in_ok-kind.ensures.shorter,
+      c.in_ok-name.ensures.shorter,
+    )

@@ -304,3 +304,65 @@ pub body-returns-clause-gives : goal.body-returns-clause-gives
 body-returns-clause-gives t c = tested_yes (stmt_at method_readers c.args.limit (map spelled c.args.tokens.now))
     (stmt_of c.in_ok-body.body.value, map spelled c.in_ok-body.rest.now) (λ x. is_body x.0) c.in_ok-body.ensures.gives
     (ap (λ s. is_body (stmt_of s)) (sym c.deref.ensures) ∙ sym c.is_body.ensures ∙ c.if-not-is_body.false)
+
+-- ---- what a call at the end of an arm says
+
+pub by_lead-returns-in-Semicolon-clause-places : goal.by_lead-returns-in-Semicolon-clause-places
+by_lead-returns-in-Semicolon-clause-places t c =
+    puts_back c.empty.result (λ x. stmt_places x.0.value (kept x.1.now)) _ _ c.in-Semicolon.ensures.places
+    c.empty.ensures.places
+
+pub by_lead-returns-in-Semicolon-clause-shorter : goal.by_lead-returns-in-Semicolon-clause-shorter
+by_lead-returns-in-Semicolon-clause-shorter t c =
+    within_back c.empty.result (λ x. length x.1.now) _ _ (omega (arith, c.in-Semicolon.ensures.shorter))
+    c.empty.ensures.shorter
+
+pub by_lead-returns-in-IfWord-clause-places : goal.by_lead-returns-in-IfWord-clause-places
+by_lead-returns-in-IfWord-clause-places t c =
+    puts_back c.if_statement.result (λ x. stmt_places x.0.value (kept x.1.now)) _ _ c.in-IfWord.ensures.places
+    c.if_statement.ensures.places
+
+pub by_lead-returns-in-IfWord-clause-shorter : goal.by_lead-returns-in-IfWord-clause-shorter
+by_lead-returns-in-IfWord-clause-shorter t c =
+    within_back c.if_statement.result (λ x. length x.1.now) _ _ (omega (arith, c.in-IfWord.ensures.shorter))
+    c.if_statement.ensures.shorter
+
+pub by_lead-returns-in-WhileWord-clause-places : goal.by_lead-returns-in-WhileWord-clause-places
+by_lead-returns-in-WhileWord-clause-places t c =
+    puts_back c.while_statement.result (λ x. stmt_places x.0.value (kept x.1.now)) _ _ c.in-WhileWord.ensures.places
+    c.while_statement.ensures.places
+
+pub by_lead-returns-in-WhileWord-clause-shorter : goal.by_lead-returns-in-WhileWord-clause-shorter
+by_lead-returns-in-WhileWord-clause-shorter t c =
+    within_back c.while_statement.result (λ x. length x.1.now) _ _ (omega (arith, c.in-WhileWord.ensures.shorter))
+    c.while_statement.ensures.shorter
+
+pub by_lead-returns-in-ForWord-clause-places : goal.by_lead-returns-in-ForWord-clause-places
+by_lead-returns-in-ForWord-clause-places t c =
+    puts_back c.for_statement.result (λ x. stmt_places x.0.value (kept x.1.now)) _ _ c.in-ForWord.ensures.places
+    c.for_statement.ensures.places
+
+pub by_lead-returns-in-ForWord-clause-shorter : goal.by_lead-returns-in-ForWord-clause-shorter
+by_lead-returns-in-ForWord-clause-shorter t c =
+    within_back c.for_statement.result (λ x. length x.1.now) _ _ (omega (arith, c.in-ForWord.ensures.shorter))
+    c.for_statement.ensures.shorter
+
+pub by_lead-returns-in-SynchronizedWord-clause-places : goal.by_lead-returns-in-SynchronizedWord-clause-places
+by_lead-returns-in-SynchronizedWord-clause-places t c =
+    puts_back c.synchronized.result (λ x. stmt_places x.0.value (kept x.1.now)) _ _ c.in-SynchronizedWord.ensures.places
+    c.synchronized.ensures.places
+
+pub by_lead-returns-in-SynchronizedWord-clause-shorter : goal.by_lead-returns-in-SynchronizedWord-clause-shorter
+by_lead-returns-in-SynchronizedWord-clause-shorter t c =
+    within_back c.synchronized.result (λ x. length x.1.now) _ _ (omega (arith, c.in-SynchronizedWord.ensures.shorter))
+    c.synchronized.ensures.shorter
+
+pub by_lead-returns-in-ReturnWord-clause-places : goal.by_lead-returns-in-ReturnWord-clause-places
+by_lead-returns-in-ReturnWord-clause-places t c =
+    puts_back c.returned.result (λ x. stmt_places x.0.value (kept x.1.now)) _ _ c.in-ReturnWord.ensures.places
+    c.returned.ensures.places
+
+pub by_lead-returns-in-ReturnWord-clause-shorter : goal.by_lead-returns-in-ReturnWord-clause-shorter
+by_lead-returns-in-ReturnWord-clause-shorter t c =
+    within_back c.returned.result (λ x. length x.1.now) _ _ (omega (arith, c.in-ReturnWord.ensures.shorter))
+    c.returned.ensures.shorter
