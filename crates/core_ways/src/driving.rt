@@ -8,6 +8,7 @@ ghost use Rattle.core_ways.specs.Ends.{EndsIn, IsAdvance, leg_end, leg_reads, ma
 ghost use Rattle.core_ways.specs.Ends.{turned, with_turns};
 ghost use Rattle.core_ways.specs.Gathered.{gathered};
 
+use crate::mark::Leg;
 use crate::objects::Objects;
 use core_code::Program;
 use core_semantics::{Machine, StepAnswer, Turn};
@@ -91,23 +92,22 @@ fn advance<'a, 't>(
     go(program, machine, thread, Turn::Right, turns)
 }
 
-/// So many steps of a thread, with these turns; whether all were made.
+/// The steps of a leg, with its turns; whether all were made.
 pub fn run_leg<'a>(
     program: &'a Program,
     machine: &mut Machine<'a>,
     objects: &mut Objects,
-    thread: u32,
-    turns: &[Turn],
-    steps: u32,
+    leg: &Leg,
 ) -> Result<bool, Memory>
     ensures end { IfOk result (λ all. EndsIn all
-        (leg_end (core program.now) thread steps turns.now (state_of machine.old)) (state_of machine.new)) }
-    ensures reads { OnOk result (objects.new
-        ≡ gathered objects.old (leg_reads (core program.now) thread steps turns.now (state_of machine.old))) }
+        (leg_end (core program.now) leg.now.thread leg.now.steps leg.now.turns (state_of machine.old))
+        (state_of machine.new)) }
+    ensures reads { OnOk result (objects.new ≡ gathered objects.old
+        (leg_reads (core program.now) leg.now.thread leg.now.steps leg.now.turns (state_of machine.old))) }
 {
-    let mut turns = turns;
-    for step in 0..steps {
-        let Some(rest) = advance(program, machine, objects, thread, turns)? else {
+    let mut turns = leg.turns.as_slice();
+    for step in 0..leg.steps {
+        let Some(rest) = advance(program, machine, objects, leg.thread, turns)? else {
             return Ok(false);
         };
         turns = rest;

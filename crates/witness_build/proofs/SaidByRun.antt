@@ -108,28 +108,26 @@ said-both core f g s to end p q =
 -- ---- as a run of a leg answers
 
 -- not all steps were made
-pub leg-stopped : (core : Core) (t n : ℕ) (turns ts : List Turn) (s begin new : State) (all : Bool) → turns ≡ ts →
-    s ≡ begin → EndsIn all (leg_end core t n turns s) new → all ≡ false → leg_end core t n ts begin ≡ Stopped new
-leg-stopped core t n turns ts s begin new all same from ends stopped =
-    (λ i. leg_end core t n (sym same i) (sym from i))
-    ∙ subst (λ (b : Bool). EndsIn b (leg_end core t n turns s) new) stopped ends
+pub leg-stopped : (core : Core) (t n : ℕ) (turns : List Turn) (s new : State) (all : Bool) →
+    EndsIn all (leg_end core t n turns s) new → all ≡ false → leg_end core t n turns s ≡ Stopped new
+leg-stopped core t n turns s new all ends stopped =
+    subst (λ (b : Bool). EndsIn b (leg_end core t n turns s) new) stopped ends
 
 -- all were
-pub leg-past : (core : Core) (t n : ℕ) (turns ts : List Turn) (s begin new : State) (all : Bool) → turns ≡ ts →
-    s ≡ begin → EndsIn all (leg_end core t n turns s) new → all ≡ true → leg_end core t n ts begin ≡ Past new
-leg-past core t n turns ts s begin new all same from ends passed =
-    (λ i. leg_end core t n (sym same i) (sym from i))
-    ∙ subst (λ (b : Bool). EndsIn b (leg_end core t n turns s) new) passed ends
+pub leg-past : (core : Core) (t n : ℕ) (turns : List Turn) (s new : State) (all : Bool) →
+    EndsIn all (leg_end core t n turns s) new → all ≡ true → leg_end core t n turns s ≡ Past new
+leg-past core t n turns s new all ends passed =
+    subst (λ (b : Bool). EndsIn b (leg_end core t n turns s) new) passed ends
 
 -- what both legs gather
-pub both-gathered : (core : Core) (t u n m : ℕ) (turns ts others os : List Turn) (s begin to : State)
-    (start objects all : List StartPath) → start ≡ [] → turns ≡ ts → others ≡ os → s ≡ begin →
+pub both-gathered : (core : Core) (t u n m : ℕ) (turns others : List Turn) (s to : State)
+    (start objects all : List StartPath) → start ≡ [] →
     objects ≡ gathered start (leg_reads core t n turns s) → all ≡ gathered objects (leg_reads core u m others to) →
-    all ≡ gathered (gathered [] (leg_reads core t n ts begin)) (leg_reads core u m os to)
-both-gathered core t u n m turns ts others os s begin to start objects all none same alike from one two =
+    all ≡ gathered (gathered [] (leg_reads core t n turns s)) (leg_reads core u m others to)
+both-gathered core t u n m turns others s to start objects all none one two =
     two
-    ∙ (λ i. gathered (one i) (leg_reads core u m (alike i) to))
-    ∙ (λ i. gathered (gathered (none i) (leg_reads core t n (same i) (from i))) (leg_reads core u m os to))
+    ∙ (λ i. gathered (one i) (leg_reads core u m others to))
+    ∙ (λ i. gathered (gathered (none i) (leg_reads core t n turns s)) (leg_reads core u m others to))
 
 -- they are no more than the steps
 pub few-gathered : (core : Core) (t u n m : ℕ) (ts os : List Turn) (s to : State) (all : List StartPath) →

@@ -62,19 +62,10 @@ fn mark_of_stopped<'a>(
     ensures { IfOk result (λ stopped. IsSaid (core program.now) (leg_of first.now) (leg_of second.now)
         (state_of machine.old) objects.new (option_map said_by stopped)) }
 {
-    let turns = first.turns.as_slice();
-    if !run_leg(program, machine, objects, first.thread, turns, first.steps)? {
+    if !run_leg(program, machine, objects, first)? {
         return Ok(Some(blocked(machine, first.thread)));
     }
-    let turns = second.turns.as_slice();
-    if !run_leg(
-        program,
-        machine,
-        objects,
-        second.thread,
-        turns,
-        second.steps,
-    )? {
+    if !run_leg(program, machine, objects, second)? {
         return Ok(Some(blocked(machine, second.thread)));
     }
     Ok(None)

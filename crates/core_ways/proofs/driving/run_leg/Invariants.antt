@@ -9,10 +9,10 @@ use Rattle.core_ways.proofs.driving.run_leg.Given as goal
 abbrev pub invariant-loop-step : goal.invariant-loop-step
 invariant-loop-step l =
     let program = core l.program in
-    let left = l.steps - l.step in
+    let left = l.leg.steps - l.step in
     record {
-      end : leg_end program l.thread left l.turns (state_of l.machine)
-          ≡ leg_end program l.thread l.steps l.fn.turns (state_of l.fn.machine);
-      reads : gathered l.objects (leg_reads program l.thread left l.turns (state_of l.machine))
-          ≡ gathered l.fn.objects (leg_reads program l.thread l.steps l.fn.turns (state_of l.fn.machine));
+      end : leg_end program l.leg.thread left l.turns (state_of l.machine)
+          ≡ leg_end program l.leg.thread l.leg.steps l.leg.turns (state_of l.fn.machine);
+      reads : gathered l.objects (leg_reads program l.leg.thread left l.turns (state_of l.machine))
+          ≡ gathered l.fn.objects (leg_reads program l.leg.thread l.leg.steps l.leg.turns (state_of l.fn.machine));
     }

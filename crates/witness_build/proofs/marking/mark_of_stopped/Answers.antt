@@ -1,4 +1,4 @@
-use Rattle.std.proofs.Common.{List, [], ◌∷◌, ap, refl, ◌∙◌}
+use Rattle.std.proofs.Common.{List, [], ◌∷◌, ap, ◌∙◌}
 use Rattle.core_code.specs.Program.{core}
 use Rattle.core_semantics.specs.declared.object.StartPath.{StartPath}
 use Rattle.core_semantics.specs.View.{state_of}
@@ -15,8 +15,8 @@ returns-then-not-branch c =
     let to = state_of c.run_leg.new.machine in
     c.blocked.ensures
     ∙ said-first program (leg_of first) (leg_of c.args.second.now) start to
-    (leg-stopped program first.thread first.steps c.as_slice-turns.result.now first.turns start start to
-    c.in_ok-run_leg.field-0 c.as_slice-turns.ensures refl c.in_ok-run_leg.ensures.end c.if-not-branch.true)
+    (leg-stopped program first.thread first.steps first.turns start to c.in_ok-run_leg.field-0
+    c.in_ok-run_leg.ensures.end c.if-not-branch.true)
 
 pub returns-then-not-branch-2 : goal.returns-then-not-branch-2
 returns-then-not-branch-2 c =
@@ -28,10 +28,10 @@ returns-then-not-branch-2 c =
     let end = state_of c.run_leg-2.new.machine in
     c.blocked-then-not-branch-2.ensures
     ∙ said-second program (leg_of first) (leg_of second) start to end
-    (leg-past program first.thread first.steps c.as_slice-turns.result.now first.turns start start to
-    c.in_ok-run_leg.field-0 c.as_slice-turns.ensures refl c.in_ok-run_leg.ensures.end c.if-not-branch.false)
-    (leg-stopped program second.thread second.steps c.as_slice-turns-2.result.now second.turns to to end
-    c.in_ok-run_leg-2.field-0 c.as_slice-turns-2.ensures refl c.in_ok-run_leg-2.ensures.end c.if-not-branch-2.true)
+    (leg-past program first.thread first.steps first.turns start to c.in_ok-run_leg.field-0
+    c.in_ok-run_leg.ensures.end c.if-not-branch.false)
+    (leg-stopped program second.thread second.steps second.turns to end c.in_ok-run_leg-2.field-0
+    c.in_ok-run_leg-2.ensures.end c.if-not-branch-2.true)
 
 pub returns : goal.returns
 returns c =
@@ -42,19 +42,17 @@ returns c =
     let to = state_of c.run_leg.new.machine in
     let end = state_of c.run_leg-2.new.machine in
     let gathered =
-    both-gathered program first.thread second.thread first.steps second.steps c.as_slice-turns.result.now first.turns
-    c.as_slice-turns-2.result.now second.turns start start to c.args.objects.now c.run_leg.new.objects
-    c.run_leg-2.new.objects c.requires c.as_slice-turns.ensures c.as_slice-turns-2.ensures refl
-    c.in_ok-run_leg.ensures.reads c.in_ok-run_leg-2.ensures.reads in
+    both-gathered program first.thread second.thread first.steps second.steps first.turns second.turns start to
+    c.args.objects.now c.run_leg.new.objects c.run_leg-2.new.objects c.requires c.in_ok-run_leg.ensures.reads
+    c.in_ok-run_leg-2.ensures.reads in
     record {
       confirmed =
           ap (λ (objects : List StartPath). Confirmed objects (leg_of first ∷ leg_of second ∷ [])) gathered
           ∙ said-both program (leg_of first) (leg_of second) start to end
-          (leg-past program first.thread first.steps c.as_slice-turns.result.now first.turns start start to
-          c.in_ok-run_leg.field-0 c.as_slice-turns.ensures refl c.in_ok-run_leg.ensures.end c.if-not-branch.false)
-          (leg-past program second.thread second.steps c.as_slice-turns-2.result.now second.turns to to end
-          c.in_ok-run_leg-2.field-0 c.as_slice-turns-2.ensures refl c.in_ok-run_leg-2.ensures.end
-          c.if-not-branch-2.false);
+          (leg-past program first.thread first.steps first.turns start to c.in_ok-run_leg.field-0
+          c.in_ok-run_leg.ensures.end c.if-not-branch.false)
+          (leg-past program second.thread second.steps second.turns to end c.in_ok-run_leg-2.field-0
+          c.in_ok-run_leg-2.ensures.end c.if-not-branch-2.false);
       few =
           few-gathered program first.thread second.thread first.steps second.steps first.turns second.turns start to
           c.run_leg-2.new.objects gathered first.few_steps second.few_steps;
