@@ -8,4 +8,5 @@ mod heads;
 mod last_parts;
 pub mod members;
 mod results;
+pub mod units;
 mod variables;

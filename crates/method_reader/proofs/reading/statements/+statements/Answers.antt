@@ -349,8 +349,8 @@ by_lead-returns-in-ForWord-clause-shorter t c =
 
 pub by_lead-returns-in-SynchronizedWord-clause-places : goal.by_lead-returns-in-SynchronizedWord-clause-places
 by_lead-returns-in-SynchronizedWord-clause-places t c =
-    puts_back c.synchronized.result (λ x. stmt_places x.0.value (kept x.1.now)) _ _ c.in-SynchronizedWord.ensures.places
-    c.synchronized.ensures.places
+    puts_back c.synchronized.result (λ x. stmt_places x.0.value (kept x.1.now)) _ _
+    c.in-SynchronizedWord.ensures.places c.synchronized.ensures.places
 
 pub by_lead-returns-in-SynchronizedWord-clause-shorter : goal.by_lead-returns-in-SynchronizedWord-clause-shorter
 by_lead-returns-in-SynchronizedWord-clause-shorter t c =
