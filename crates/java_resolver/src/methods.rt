@@ -90,11 +90,8 @@ fn parameter_kinds(
 fn unknown_kinds(alloc: Global, count: u32) -> Result<Items<Kind>, Memory>
     ensures { IfOk result (λ kinds. kinds ≡ replicate count Other) }
 {
-    let mut kinds = Items::new(alloc);
-    for _ in 0..count {
-        kinds.push(Kind::Other)?;
-    }
-    Ok(kinds)
+    let kinds = vec![in alloc; Kind::Other; count as usize]?;
+    Ok(Items::from(kinds))
 }
 
 fn is_constructor(tree: &ResultTree) -> bool
