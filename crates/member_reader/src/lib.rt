@@ -8,5 +8,4 @@ mod heads;
 mod last_parts;
 pub mod members;
 mod results;
-pub mod units;
 mod variables;

