@@ -6,11 +6,18 @@ ghost use Rattle.unit_reader.specs.ReadTypes.{AddsType, AreRead};
 
 use super::classes::{class, read_name};
 use java_lexer::{Lexed, Token};
-use java_units::{ParseFault, Unit};
+use java_units::{ClassTree, ParseFault, Unit};
 use racer_base::{Items, Memory};
 use std::alloc::Global;
 use unit_cuts::balance::check_brackets;
 use unit_cuts::types::types;
+
+/// Puts a class behind others. It is let go where memory is refused.
+fn put_class(classes: &mut Items<ClassTree>, class: ClassTree) -> Result<(), Memory>
+    ensures { OnOk result (classes.new ≡ classes.old ++ class ∷ []) }
+{
+    classes.push(class)
+}
 
 /// One more type.
 fn add_type(alloc: Global, unit: &mut Unit, tokens: &[Token]) -> Result<(), Memory>
@@ -19,7 +26,7 @@ fn add_type(alloc: Global, unit: &mut Unit, tokens: &[Token]) -> Result<(), Memo
     match read_name(tokens) {
         Some(name) => {
             let next = class(alloc, name, tokens)?;
-            unit.classes.push(next)?;
+            put_class(&mut unit.classes, next)?;
         }
         None => {
             let [first, ..] = tokens else {
@@ -40,7 +47,10 @@ fn unit(alloc: Global, types: &[&[Token]]) -> Result<Unit, Memory>
         skipped: Items::new(alloc),
     };
     for tokens in types {
-        add_type(alloc, &mut unit, tokens)?;
+        if let Err(memory) = add_type(alloc, &mut unit, tokens) {
+            let_go(unit);
+            return Err(memory);
+        }
     }
     Ok(unit)
 }
