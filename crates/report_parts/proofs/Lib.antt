@@ -5,3 +5,5 @@ pub mod WobblyTexts
 pub mod WarningSides
 pub mod PlaceSteps
 pub mod PutChains
+pub mod LookUps
+pub mod SideParts
