@@ -29,11 +29,6 @@ made_of (Sticks why) = None
 made_of (Waits monitor) = None
 made_of Ends = None
 
--- whether a step was made, and what is so then
-abbrev pub IsStep : Bool → Next State → State → State → Type 0
-IsStep true next old new = made_of next ≡ Some new
-IsStep false next old new = (made_of next ≡ None) × (new ≡ old)
-
 -- a state, with the turns that are left
 abbrev pub Going : Type 0
 Going = State × List Turn
