@@ -1,3 +1,4 @@
 pub mod JsonItems
 pub mod JsonPieces
+pub mod JsonTurns
 pub mod MarkedWarnings
