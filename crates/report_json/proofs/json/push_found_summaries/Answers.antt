@@ -5,7 +5,7 @@ use Rattle.core_code.specs.Core.{method_of}
 use Rattle.core_code.specs.Program.{core}
 use Rattle.core_code.specs.declared.parts.MethodCore.{MethodCore}
 use Rattle.report_json.specs.Json.{summary_values}
-use Rattle.report_json.proofs.JsonTurns.{begins, read_next, more_items, ends}
+use Rattle.report_json.proofs.JsonTurns.{read_next, more_items, ends}
 use Rattle.report_json.proofs.json.push_found_summaries.Goals as goal
 
 pub loop-number-preserved : goal.loop-number-preserved
