@@ -32,7 +32,7 @@ use Rattle.race_pairs.specs.declared.warning.Warning.{Warning}
 use Rattle.race_pairs.specs.Pairs.{IsPair, IsRecord}
 use Rattle.race_pairs.specs.Warnings.{conflicts, records_of, warnings, records_held as pairs_held}
 use Rattle.race_pairs.proofs.WarningPairs.{both_pass, warning_is_pair}
-use Rattle.way_values.specs.Ends.{EndsAtAccess, IsAtAccess}
+use Rattle.quiet_paths.specs.Ends.{EndsAtAccess, IsAtAccess}
 use Rattle.witness_build.specs.Warned.{pair_of, warning_mark}
 use Rattle.confirmed_races.specs.Races.{RacesOn, Touches}
 use Rattle.confirmed_races.proofs.LegPairs.{AreOthers, LegLeads, TouchesAs, both-touch, unlocked-free}

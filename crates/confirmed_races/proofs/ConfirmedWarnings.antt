@@ -15,7 +15,7 @@ use Rattle.core_ways.specs.Stable.{IsStable}
 use Rattle.core_ways.specs.Ways.{record_at}
 use Rattle.race_pairs.specs.declared.warning.Warning.{Warning}
 use Rattle.race_pairs.specs.Warnings.{warnings}
-use Rattle.way_values.proofs.WayEnds.{way-ends}
+use Rattle.quiet_paths.proofs.WayEnds.{way-ends}
 use Rattle.quiet_paths.specs.Places.{IsStore}
 use Rattle.quiet_paths.specs.Quiets.{quietness_of}
 use Rattle.quiet_paths.proofs.Entries.{empty-store}

@@ -27,10 +27,10 @@ use Rattle.core_semantics.specs.Runs.{next_touch}
 use Rattle.core_semantics.specs.Runs.{op_touch, todo_touch}
 use Rattle.core_semantics.specs.State.{Frame, State, Store, Thread, Todo, Operate, other_of, thread_of}
 use Rattle.core_semantics.specs.Steps.{entered, slot_of, top as top_value}
-use Rattle.way_values.specs.Ends.{IsAtAccess}
-use Rattle.way_values.specs.Sites.{field_of}
-use Rattle.way_values.specs.Tops.{Top, top_of}
-use Rattle.way_values.specs.Values.{Point}
+use Rattle.quiet_paths.specs.Ends.{IsAtAccess}
+use Rattle.quiet_paths.specs.Sites.{field_of}
+use Rattle.quiet_paths.specs.Tops.{Top, top_of}
+use Rattle.quiet_paths.specs.Values.{Point}
 use Rattle.quiet_paths.specs.Meets.{base_path, base_slot, base_value}
 use Rattle.quiet_paths.specs.Places.{start_object}
 use Rattle.quiet_paths.specs.Quiet.{start_path}

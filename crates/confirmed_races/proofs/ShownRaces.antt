@@ -14,7 +14,7 @@ use Rattle.core_ways.specs.Ways.{record_at}
 use Rattle.witness_build.specs.Warned.{pair_of, warning_mark}
 use Rattle.report_parts.specs.Marks.{mark_word}
 use Rattle.report_parts.specs.Told.{sides_of}
-use Rattle.race_report.specs.Report.{mark_lines, sides_lines}
+use Rattle.report_parts.specs.Report.{mark_lines, sides_lines}
 use Rattle.confirmed_races.specs.Headline.{AreConfirmed}
 use Rattle.confirmed_races.specs.Races.{RacesOn}
 use Rattle.confirmed_races.specs.Shown.{DoWholeWarningsRace, ShowsRace}

@@ -26,7 +26,7 @@ use Rattle.confirmed_races.specs.Heaps.{HasAll, Heap, ran_in, state_in}
 use Rattle.confirmed_races.proofs.Legs.{objects-read, run-from-objects}
 use Rattle.confirmed_races.proofs.SameRuns.{all-first, runs-same}
 use Rattle.quiet_paths.specs.Meets.{base_path}
-use Rattle.way_values.specs.Ends.{EndsAtAccess, IsAtAccess}
+use Rattle.quiet_paths.specs.Ends.{EndsAtAccess, IsAtAccess}
 use Rattle.confirmed_races.specs.Races.{Touches}
 use Rattle.confirmed_races.proofs.LegPairs.{AreOthers, LegLeads, TouchesAs, both-touch, start_of, unlocked-free}
 use Rattle.confirmed_races.proofs.MarkParts.{first-made}

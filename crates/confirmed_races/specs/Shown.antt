@@ -13,7 +13,7 @@ use Rattle.core_ways.specs.Stable.{IsStable}
 use Rattle.core_ways.specs.Ways.{record_at}
 use Rattle.witness_build.specs.Warned.{pair_of}
 use Rattle.report_parts.specs.Told.{sides_of}
-use Rattle.race_report.specs.Report.{line, legs_lines, object_line, sides_lines, warning_lines}
+use Rattle.report_parts.specs.Report.{line, legs_lines, object_line, sides_lines, warning_lines}
 use Rattle.confirmed_races.specs.Races.{RacesOn}
 
 -- The lines of a warning on this path are its two records and then a run: these objects and these legs stand below

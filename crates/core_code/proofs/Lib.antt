@@ -1,3 +1,8 @@
+pub mod Members
+pub mod ChainLemmas
+pub mod Components
+pub mod Fallen
+pub mod Passing
 pub mod BoolParts
 pub mod Sites
 pub mod ByRank

@@ -1,4 +1,7 @@
 -- A contract of a public call rests on this: the list of files.
+pub mod Chains
+pub mod Falling
+pub mod Shown
 pub mod Tree
 pub mod Core
 pub mod Facts

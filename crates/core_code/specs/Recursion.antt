@@ -3,7 +3,7 @@
 use Rattle.std.specs.Prelude.{Bool, List, [], ◌∷◌, map}
 use Rattle.std.specs.List.{flat_map}
 use Rattle.racer_base.specs.declared.ids.MethodId.{MethodId}
-use Rattle.call_graph.specs.Chains.{IsOnCycle, TellCycles}
+use Rattle.core_code.specs.Chains.{IsOnCycle, TellCycles}
 use Rattle.core_code.specs.declared.code.Op.{Op as CoreOp}
 use Rattle.core_code.specs.declared.code.Op.TheVariants.{Call, Unread}
 use Rattle.core_code.specs.Tree.{Tree, Operation, steps_of}

@@ -1,7 +1,7 @@
 -- A contract of a public call rests on this: `call_rows`. The rows of a program, and their ranks.
 use Rattle.std.specs.Prelude.{◌≡◌, ℕ, not, List, [], ◌∷◌, filter, length, map, nat_eq}
 use Rattle.racer_base.specs.declared.ids.MethodId.{MethodId}
-use Rattle.call_graph.specs.Falling.{DoFall}
+use Rattle.core_code.specs.Falling.{DoFall}
 use Rattle.core_code.specs.declared.rows.CallRows.{CallRows}
 use Rattle.core_code.specs.Core.{Core, Method}
 use Rattle.core_code.specs.Calls.{calls_in}

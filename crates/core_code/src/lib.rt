@@ -7,19 +7,33 @@
 //! number in a `ClassId`, `FieldId` or `MethodId` is an index into these lists. `core_of` of
 //! `specs/Core.antt` gives the same of `Parts`, and `method_of` of one `MethodCore`.
 //! Code is seen as a `Tree` of `specs/Tree.antt`, by `tree_of`.
+//!
+//! # Methods and the methods that they call, as rows
+//!
+//! The row of a method is the list at its number, and has what it calls. Contracts see rows as a list of lists
+//! (`specs/Chains.antt`). `on_cycles` and `falling_numbers` take time linear in the methods and their calls, and call no
+//! function of their own as deep as a chain of calls.
 #![tactic(auto)]
 
 mod calls;
 mod code;
+mod cycles;
+mod falling;
 pub mod kind_laws;
 pub mod laws;
+mod lookups;
+mod order;
 mod parts;
 mod program;
 mod recursion;
 mod row_making;
 mod rows;
+mod search;
+mod tables;
 
 pub use code::{Code, Op, Reason};
+pub use cycles::on_cycles;
+pub use falling::falling_numbers;
 pub use parts::{ClassCore, FieldCore, MethodCore, Parts};
 pub use program::Program;
 pub use recursion::recursive;

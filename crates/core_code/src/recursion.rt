@@ -3,9 +3,8 @@ ghost use Rattle.std.specs.Prelude.{◌≡◌, IfOk, length};
 ghost use Rattle.core_code.specs.Program.{core, methods};
 ghost use Rattle.core_code.specs.Recursion.{TellRecursion};
 
-use crate::Program;
 use crate::calls::callee_rows;
-use call_graph::on_cycles;
+use crate::{Program, on_cycles};
 use racer_base::Memory;
 use std::alloc::Global;
 

@@ -7,8 +7,7 @@ ghost use Rattle.core_code.specs.Rows as wanted;
 ghost use Rattle.core_code.specs.Stamps.{stamp_of, pushed, AreBelow};
 
 use crate::calls::callees;
-use crate::{CallRows, MethodCore, Program};
-use call_graph::falling_numbers;
+use crate::{CallRows, MethodCore, Program, falling_numbers};
 use racer_base::{Items, Memory, MethodId};
 use std::alloc::Global;
 

@@ -10,8 +10,8 @@ pub struct CallRows {
 
 impl CallRows {
     ghost use Rattle.std.specs.Prelude.{◌≡◌, ◌<◌, length};
-    ghost use Rattle.call_graph.specs.Chains.{row_of};
-    ghost use Rattle.call_graph.specs.Falling.{number_of};
+    ghost use Rattle.core_code.specs.Chains.{row_of};
+    ghost use Rattle.core_code.specs.Falling.{number_of};
     ghost use Rattle.core_code.specs.Rows.{rows_in, ranks_in};
 
     /// The different methods that a method calls, in order of first call.

@@ -14,16 +14,16 @@ use Rattle.java_tree.specs.Trees.{Arguments, Angled, ArgumentList, no_argument, 
 use Rattle.java_tree.specs.Trees.{Extends, Super, Expr, Cast, Paren}
 use Rattle.java_tree.specs.Spelling.{brackets_onto, ty_onto, base_onto, parts_onto, more_parts_onto, part_onto}
 use Rattle.java_tree.specs.Spelling.{angled_onto, arguments_onto, more_arguments_onto, argument_onto}
-use Rattle.method_grammar.specs.Taking.{◌>>=◌, is_keyword_kind, after_sign}
-use Rattle.method_grammar.specs.TypeReading.{ty_at, made_base_at}
-use Rattle.method_grammar.specs.Leads.{behind, is_plain_cast, opens_operand, opens_signed, casts}
-use Rattle.method_grammar.specs.ExpressionReading.{Reading, cast_with, parens_with, operand_of, read_at, array_at}
-use Rattle.method_grammar.proofs.Behind.{balanced}
-use Rattle.method_grammar.proofs.Ensuring.{of_equation}
-use Rattle.method_grammar.proofs.SoundExpressions.{read_sound}
-use Rattle.method_grammar.proofs.SoundLists.{Got}
-use Rattle.method_grammar.proofs.SoundTypes.{GotTy, ty_sound}
-use Rattle.method_grammar.proofs.Taken.{after_sign_is}
+use Rattle.java_units.specs.Taking.{◌>>=◌, is_keyword_kind, after_sign}
+use Rattle.java_units.specs.TypeReading.{ty_at, made_base_at}
+use Rattle.java_units.specs.Leads.{behind, is_plain_cast, opens_operand, opens_signed, casts}
+use Rattle.java_units.specs.ExpressionReading.{Reading, cast_with, parens_with, operand_of, read_at, array_at}
+use Rattle.java_units.proofs.Behind.{balanced}
+use Rattle.java_units.proofs.Ensuring.{of_equation}
+use Rattle.java_units.proofs.SoundExpressions.{read_sound}
+use Rattle.java_units.proofs.SoundLists.{Got}
+use Rattle.java_units.proofs.SoundTypes.{GotTy, ty_sound}
+use Rattle.java_units.proofs.Taken.{after_sign_is}
 use Rattle.expression_reader.specs.FirstParenthesis.{behind_first, lone_parens_with}
 
 -- ---- where the first one closes

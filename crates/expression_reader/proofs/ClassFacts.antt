@@ -7,9 +7,9 @@ use Rattle.java_tree.specs.Brackets.{is_sign}
 use Rattle.java_tree.specs.Trees.{Expr, ClassOf}
 use Rattle.type_reader.specs.declared.reading.error.ReadError.{ReadError}
 use Rattle.type_reader.specs.declared.reading.error.ReadError.TheVariants.{Memory, Unformed}
-use Rattle.method_grammar.specs.Taking.{◌>>=◌, match_option, is_keyword, is_name_kind, after_sign, after_keyword}
-use Rattle.method_grammar.specs.Taking.{after_name}
-use Rattle.method_grammar.specs.ExpressionReading.{Reading, class_at, name_with}
+use Rattle.java_units.specs.Taking.{◌>>=◌, match_option, is_keyword, is_name_kind, after_sign, after_keyword}
+use Rattle.java_units.specs.Taking.{after_name}
+use Rattle.java_units.specs.ExpressionReading.{Reading, class_at, name_with}
 use Rattle.expression_reader.specs.ClassFollows.{class_follows, class_end}
 use Rattle.type_reader.specs.Tokens.{spelled}
 use Rattle.type_reader.specs.Finishing.{finished}

@@ -7,12 +7,12 @@ use Rattle.java_tree.specs.declared.words.Spelled.{Spelled}
 use Rattle.java_tree.specs.Trees.{Expr, Init, Array, Braces, pack_inits}
 use Rattle.type_reader.specs.declared.reading.error.ReadError.{ReadError}
 use Rattle.type_reader.specs.declared.reading.error.ReadError.TheVariants.{Memory, Unformed}
-use Rattle.method_grammar.specs.Taking.{◌>>=◌, match_option, after_sign}
-use Rattle.method_grammar.specs.TypeReading.{after_brackets}
-use Rattle.method_grammar.specs.Leads.{Lead, Assigns, Asks, Joins, Tests, Steps, Selects, Indexes, Opens, Ends, lead}
-use Rattle.method_grammar.specs.ExpressionReading.{Reading, Stop, Next, turn_with, climb_with, lengths_with}
-use Rattle.method_grammar.specs.ExpressionReading.{items_with, operand_with, read_at, array_at}
-use Rattle.method_grammar.specs.TypeReading.{ty_at, made_base_at}
+use Rattle.java_units.specs.Taking.{◌>>=◌, match_option, after_sign}
+use Rattle.java_units.specs.TypeReading.{after_brackets}
+use Rattle.java_units.specs.Leads.{Lead, Assigns, Asks, Joins, Tests, Steps, Selects, Indexes, Opens, Ends, lead}
+use Rattle.java_units.specs.ExpressionReading.{Reading, Stop, Next, turn_with, climb_with, lengths_with}
+use Rattle.java_units.specs.ExpressionReading.{items_with, operand_with, read_at, array_at}
+use Rattle.java_units.specs.TypeReading.{ty_at, made_base_at}
 use Rattle.type_reader.specs.Tokens.{spelled}
 use Rattle.type_reader.specs.Finishing.{finished}
 use Rattle.type_reader.specs.Endings.{length_behind, item_behind, items_close, items_end}

@@ -7,7 +7,7 @@ use Rattle.java_lexer.specs.declared.token.Token.{Token}
 use Rattle.java_tree.specs.declared.words.Spelled.{Spelled}
 use Rattle.java_tree.specs.KeptPlaces.{Places}
 use Rattle.java_tree.specs.Trees.{Expr}
-use Rattle.method_grammar.specs.ExpressionReading.{Stop, Next, grown}
+use Rattle.java_units.specs.ExpressionReading.{Stop, Next, grown}
 use Rattle.type_reader.specs.declared.reading.error.ReadError.{ReadError}
 use Rattle.type_reader.specs.ReadAnswer.{Gives}
 use Rattle.expression_reader.specs.declared.reading.turned.Turned.{Turned}

@@ -1,10 +1,10 @@
 -- What a turn is, by whether the expression goes on with what the first token begins.
 use Rattle.std.proofs.Common.{◌≡◌, ℕ, true, false, Option, Some, Result, refl}
 use Rattle.java_tree.specs.Trees.{Expr, Postfix}
-use Rattle.method_grammar.specs.Leads.{Lead, Assigns, Asks, Joins, Tests, Steps, Selects, Indexes, Opens, Ends}
-use Rattle.method_grammar.specs.ExpressionReading.{Reading, Turn, Stop, turn_with, grown, assign_with, conditional_with}
-use Rattle.method_grammar.specs.ExpressionReading.{binary_with, instance_with, select_with, index_with}
-use Rattle.method_grammar.specs.ExpressionReading.{read_at}
+use Rattle.java_units.specs.Leads.{Lead, Assigns, Asks, Joins, Tests, Steps, Selects, Indexes, Opens, Ends}
+use Rattle.java_units.specs.ExpressionReading.{Reading, Turn, Stop, turn_with, grown, assign_with, conditional_with}
+use Rattle.java_units.specs.ExpressionReading.{binary_with, instance_with, select_with, index_with}
+use Rattle.java_units.specs.ExpressionReading.{read_at}
 use Rattle.type_reader.specs.declared.reading.error.ReadError.{ReadError}
 use Rattle.type_reader.specs.ReadAnswer.{Gives}
 use Rattle.type_reader.proofs.ReadLoops.{ends_give}

@@ -3,7 +3,7 @@ use Rattle.std.specs.Prelude.{ℕ, Bool, true, false, not, ◌&&◌, ◌||◌, L
 use Rattle.java_tree.specs.declared.words.Spelled.{Spelled}
 use Rattle.java_tree.specs.Brackets.{is_sign}
 use Rattle.java_tree.specs.Trees.{Expr, ClassOf}
-use Rattle.method_grammar.specs.Taking.{is_keyword, is_name_kind}
+use Rattle.java_units.specs.Taking.{is_keyword, is_name_kind}
 
 -- names, each behind a point, before `. class`; `true` where a point is awaited
 unfoldable pub class_follows : Bool → List Spelled → Bool

@@ -2,8 +2,8 @@
 use Rattle.std.specs.Prelude.{ℕ, Bool, List, [], Option, Some, codes}
 use Rattle.java_tree.specs.declared.words.Spelled.{Spelled}
 use Rattle.java_tree.specs.Trees.{Expr, Init, Paren, Index}
-use Rattle.method_grammar.specs.Taking.{◌>>=◌, after_sign}
-use Rattle.method_grammar.specs.ExpressionReading.{Reading, Turn, grown}
+use Rattle.java_units.specs.Taking.{◌>>=◌, after_sign}
+use Rattle.java_units.specs.ExpressionReading.{Reading, Turn, grown}
 
 -- an expression in parentheses (JLS 15.8.5)
 abbrev pub paren_end : Expr → Reading Expr

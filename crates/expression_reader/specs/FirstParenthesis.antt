@@ -4,9 +4,9 @@ use Rattle.std.specs.Prelude.{ℕ, List, [], ◌∷◌, Option, Some, None, code
 use Rattle.java_tree.specs.declared.words.Spelled.{Spelled}
 use Rattle.java_tree.specs.Brackets.{is_sign}
 use Rattle.java_tree.specs.Trees.{Expr}
-use Rattle.method_grammar.specs.Taking.{◌>>=◌}
-use Rattle.method_grammar.specs.Leads.{opens_operand}
-use Rattle.method_grammar.specs.ExpressionReading.{Reading, parens_with}
+use Rattle.java_units.specs.Taking.{◌>>=◌}
+use Rattle.java_units.specs.Leads.{opens_operand}
+use Rattle.java_units.specs.ExpressionReading.{Reading, parens_with}
 
 -- the tokens behind the first `)`, where no `(` stands before it: a type has neither
 unfoldable pub behind_first : List Spelled → Option (List Spelled)

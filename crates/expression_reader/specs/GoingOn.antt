@@ -4,7 +4,7 @@ use Rattle.java_tree.specs.Trees.{Expr}
 use Rattle.java_tree.specs.Operators.{assignment_level, conditional_level, relational_level, postfix_level}
 use Rattle.java_tree.specs.Operators.{primary_level, binary_level}
 use Rattle.java_tree.specs.Formed.{level, is_variable, makes_array}
-use Rattle.method_grammar.specs.Leads.{Lead, Assigns, Asks, Joins, Tests, Steps, Selects, Indexes, Opens, Ends}
+use Rattle.java_units.specs.Leads.{Lead, Assigns, Asks, Joins, Tests, Steps, Selects, Indexes, Opens, Ends}
 
 -- whether an expression of a level of at least l does
 abbrev pub goes_on : ℕ → Expr → Lead → Bool

@@ -3,7 +3,7 @@ use Rattle.std.specs.Prelude.{ℕ, ◌<◌, length, map}
 use Rattle.java_tree.specs.KeptPlaces.{Places, kept}
 use Rattle.expression_reader.specs.declared.reading.leads.Lead as leads
 use Rattle.expression_reader.specs.declared.reading.leads.Lead.TheVariants as lead
-use Rattle.method_grammar.specs.Leads.{Lead, Assigns, Asks, Joins, Tests, Steps, Selects, Indexes, Opens, Ends}
+use Rattle.java_units.specs.Leads.{Lead, Assigns, Asks, Joins, Tests, Steps, Selects, Indexes, Opens, Ends}
 use Rattle.type_reader.specs.Tokens.{spelled}
 
 abbrev pub lead_of : leads.Lead → Lead

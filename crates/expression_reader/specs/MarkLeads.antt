@@ -1,7 +1,7 @@
 -- No public contract rests on this: what a sign begins that is in no table of operators.
 use Rattle.std.specs.Prelude.{ℕ, List, codes, bytes_eq, if◌then◌else◌}
 use Rattle.java_tree.specs.declared.words.Spelled.{Spelled}
-use Rattle.method_grammar.specs.Leads.{Lead, Asks, Selects, Indexes, Opens, Ends, lead_of_angle, opens}
+use Rattle.java_units.specs.Leads.{Lead, Asks, Selects, Indexes, Opens, Ends, lead_of_angle, opens}
 
 abbrev pub lead_of_mark : List ℕ → List Spelled → Lead
 lead_of_mark text ts =

@@ -4,7 +4,7 @@ use Rattle.java_tree.specs.KeptPlaces.{Places, kept, expr_places}
 use Rattle.java_tree.specs.View.{expr_of}
 use Rattle.expression_reader.specs.declared.reading.turned.Turned.{Turned}
 use Rattle.expression_reader.specs.declared.reading.turned.Turned.TheVariants as turned
-use Rattle.method_grammar.specs.ExpressionReading.{Turn, Stop, Next}
+use Rattle.java_units.specs.ExpressionReading.{Turn, Stop, Next}
 use Rattle.type_reader.specs.Tokens.{spelled}
 
 -- a whole expression, or the left part of a larger one and the tokens behind it

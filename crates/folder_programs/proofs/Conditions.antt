@@ -15,13 +15,13 @@ use Rattle.unit_conditions.specs.FromTokens.{AreFromTokens}
 use Rattle.unit_conditions.specs.Named.{are_classes_named, are_fields_named}
 use Rattle.java_lowering.specs.Programs.{IsLowered}
 use Rattle.core_code.specs.Program.{core}
-use Rattle.folder_sources.specs.declared.refusal.Refusal.TheVariants.{TooManyCalls}
-use Rattle.folder_sources.specs.declared.found.AcceptedSources.{AcceptedSources}
-use Rattle.folder_sources.specs.Sources.{contents, source_names, AreAccepted}
-use Rattle.folder_sources.specs.Lines.{refusal_line}
-use Rattle.folder_sources.specs.Finding.{AreReadSomehow, AreKnown, IsTableOf}
-use Rattle.folder_programs.specs.declared.found.FoundProgram.{FoundProgram}
-use Rattle.folder_programs.specs.declared.found.FoundProgram.TheVariants as found
+use Rattle.folder_programs.specs.declared.refusal.Refusal.TheVariants.{TooManyCalls}
+use Rattle.folder_programs.specs.declared.found.AcceptedSources.{AcceptedSources}
+use Rattle.folder_programs.specs.Sources.{contents, source_names, AreAccepted}
+use Rattle.folder_programs.specs.Lines.{refusal_line}
+use Rattle.folder_programs.specs.Finding.{AreReadSomehow, AreKnown, IsTableOf}
+use Rattle.folder_programs.specs.declared.programs.FoundProgram.{FoundProgram}
+use Rattle.folder_programs.specs.declared.programs.FoundProgram.TheVariants as found
 use Rattle.folder_programs.specs.Programs.{IsSource, source_of}
 use Rattle.folder_programs.specs.Lowering.{IsLoweredFrom}
 

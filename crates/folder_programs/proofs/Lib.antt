@@ -1,3 +1,9 @@
+mod SortedNames
+mod Fronts
+mod Added
+mod Faults
+mod There
+mod Together
 pub mod FilledTrees
 pub mod FilledExpressions
 pub mod FilledStatements

@@ -6,7 +6,7 @@ use Rattle.java_lexer.specs.declared.token.Lexed.{Lexed}
 use Rattle.java_lexer.specs.declared.fault.LexFault.{LexFault}
 use Rattle.java_units.specs.declared.unit.Unit as unit
 use Rattle.java_units.specs.Units.{IsUnit}
-use Rattle.folder_sources.specs.Sources.{AreReadFrom}
+use Rattle.folder_programs.specs.Sources.{AreReadFrom}
 
 pub record SameTokens (us vs : List unit.Unit) : Type 0 where
   pub tokens : List (List Token)

@@ -17,12 +17,12 @@ use Rattle.java_units.specs.Tokens.{first_place}
 use Rattle.java_units.specs.Pieces.{Item, items_of}
 use Rattle.java_units.specs.Units.{IsUnit, IsFault}
 use Rattle.java_units.proofs.Misfits.{not_both, one_misfit}
-use Rattle.folder_sources.specs.declared.refusal.Refusal.{Refusal}
-use Rattle.folder_sources.specs.declared.refusal.Refusal.TheVariants.{TooManyFiles, TooLong, TooManyBytes, NotUtf8}
-use Rattle.folder_sources.specs.declared.refusal.Refusal.TheVariants.{BadCharacter, Unclosed, BadLiteral, Unbalanced}
-use Rattle.folder_sources.specs.declared.refusal.Refusal.TheVariants.{TooDeep, NotAUnit, DuplicateClass, DuplicateField}
-use Rattle.folder_sources.specs.declared.refusal.Refusal.TheVariants.{TooManyClasses, TooManyMethods, TooManyCalls}
-use Rattle.folder_sources.specs.Sources.{IsShort, IsRead, HasNoTokens, IsNoUnit, IsRefusedFile, IsOneRefused, AreReadFrom}
+use Rattle.folder_programs.specs.declared.refusal.Refusal.{Refusal}
+use Rattle.folder_programs.specs.declared.refusal.Refusal.TheVariants.{TooManyFiles, TooLong, TooManyBytes, NotUtf8}
+use Rattle.folder_programs.specs.declared.refusal.Refusal.TheVariants.{BadCharacter, Unclosed, BadLiteral, Unbalanced}
+use Rattle.folder_programs.specs.declared.refusal.Refusal.TheVariants.{TooDeep, NotAUnit, DuplicateClass, DuplicateField}
+use Rattle.folder_programs.specs.declared.refusal.Refusal.TheVariants.{TooManyClasses, TooManyMethods, TooManyCalls}
+use Rattle.folder_programs.specs.Sources.{IsShort, IsRead, HasNoTokens, IsNoUnit, IsRefusedFile, IsOneRefused, AreReadFrom}
 
 -- ---- faults as refusals
 

@@ -12,16 +12,16 @@ use Rattle.java_resolver.specs.declared.fault.ResolveFault.TheVariants as resolv
 use Rattle.java_resolver.specs.Refusals.{refusal}
 use Rattle.core_code.specs.Core.{Core}
 use Rattle.core_code.specs.Recursion.{TellRecursion, IsRecursive}
-use Rattle.call_graph.specs.Chains.{flag_of}
+use Rattle.core_code.specs.Chains.{flag_of}
 use Rattle.java_lowering.specs.Programs.{program_of, draft_of, call_edges, IsLowered}
 use Rattle.program_lowering.specs.Lowered.{calls_of}
-use Rattle.folder_sources.specs.declared.refusal.Refusal as refusals
-use Rattle.folder_sources.specs.declared.refusal.Refusal.TheVariants.{TooManyFiles, TooLong, TooManyBytes, NotUtf8}
-use Rattle.folder_sources.specs.declared.refusal.Refusal.TheVariants.{BadCharacter, Unclosed, BadLiteral, Unbalanced}
-use Rattle.folder_sources.specs.declared.refusal.Refusal.TheVariants.{TooDeep, NotAUnit, DuplicateClass, DuplicateField}
-use Rattle.folder_sources.specs.declared.refusal.Refusal.TheVariants.{TooManyClasses, TooManyMethods, TooManyCalls}
-use Rattle.folder_sources.specs.Sources.{contents, source_names, AreRead, AreAccepted, AreRefusedUnits, IsFileRefused}
-use Rattle.folder_sources.specs.Lines.{refusal_line}
+use Rattle.folder_programs.specs.declared.refusal.Refusal as refusals
+use Rattle.folder_programs.specs.declared.refusal.Refusal.TheVariants.{TooManyFiles, TooLong, TooManyBytes, NotUtf8}
+use Rattle.folder_programs.specs.declared.refusal.Refusal.TheVariants.{BadCharacter, Unclosed, BadLiteral, Unbalanced}
+use Rattle.folder_programs.specs.declared.refusal.Refusal.TheVariants.{TooDeep, NotAUnit, DuplicateClass, DuplicateField}
+use Rattle.folder_programs.specs.declared.refusal.Refusal.TheVariants.{TooManyClasses, TooManyMethods, TooManyCalls}
+use Rattle.folder_programs.specs.Sources.{contents, source_names, AreRead, AreAccepted, AreRefusedUnits, IsFileRefused}
+use Rattle.folder_programs.specs.Lines.{refusal_line}
 use Rattle.folder_programs.specs.Programs.{Source, Refusal, Accepted, IsProgram, HasTooManyCalls, AreRefusedFor, IsSource}
 use Rattle.folder_programs.specs.OneReading.{AreAlike, OneReading, OneSource}
 use Rattle.folder_programs.proofs.OneRefusal.{one_refusal, refused_or_read}

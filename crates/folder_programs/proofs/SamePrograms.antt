@@ -19,7 +19,7 @@ use Rattle.java_resolver.specs.declared.infos.MethodInfo.{MethodInfo}
 use Rattle.java_resolver.specs.Declarations.{trees_of, class_info, classes_of, class_names, names_of, by_class}
 use Rattle.java_resolver.specs.Declarations.{class_fields, fields_of, class_methods, methods_of}
 use Rattle.java_resolver.specs.Refusals.{refused, refusal}
-use Rattle.call_graph.specs.Chains.{flag_of, IsOnCycle, TellCycles}
+use Rattle.core_code.specs.Chains.{flag_of, IsOnCycle, TellCycles}
 use Rattle.core_code.specs.declared.code.Reason.{Reason}
 use Rattle.core_code.specs.declared.code.Reason.TheVariants.{Overload, Outside, Parameters, Locals, Recursive}
 use Rattle.core_code.specs.Core.{Core, Method}

@@ -5,10 +5,10 @@ use Rattle.java_units.specs.declared.unit.Unit as unit
 use Rattle.java_lowering.specs.Programs.{IsLowered}
 use Rattle.program_lowering.specs.Lowered.{calls_of}
 use Rattle.core_code.specs.Program.{core}
-use Rattle.folder_sources.specs.declared.refusal.Refusal.TheVariants.{TooManyCalls}
-use Rattle.folder_sources.specs.Lines.{refusal_line}
-use Rattle.folder_programs.specs.declared.found.FoundProgram.{FoundProgram}
-use Rattle.folder_programs.specs.declared.found.FoundProgram.TheVariants.{Accepted, Refused}
+use Rattle.folder_programs.specs.declared.refusal.Refusal.TheVariants.{TooManyCalls}
+use Rattle.folder_programs.specs.Lines.{refusal_line}
+use Rattle.folder_programs.specs.declared.programs.FoundProgram.{FoundProgram}
+use Rattle.folder_programs.specs.declared.programs.FoundProgram.TheVariants.{Accepted, Refused}
 
 -- their program, or the line of their calls
 abbrev pub IsLoweredFrom : List (List ℕ) → List unit.Unit → FoundProgram → Type 0

@@ -6,7 +6,7 @@ use Rattle.racer_base.specs.declared.ids.MethodId.{MethodId}
 use Rattle.java_units.specs.declared.unit.Unit as unit
 use Rattle.java_resolver.specs.Refusals.{refusal}
 use Rattle.java_lowering.specs.Programs.{program_of}
-use Rattle.folder_sources.specs.Sources.{AreReadFrom}
+use Rattle.folder_programs.specs.Sources.{AreReadFrom}
 use Rattle.folder_programs.specs.Programs.{Source, IsSource}
 
 -- units that are refused alike, and have one program whichever methods are recursive

@@ -7,12 +7,12 @@ use Rattle.java_lowering.specs.Programs.{IsLowered}
 use Rattle.program_lowering.specs.Lowered.{calls_of}
 use Rattle.core_code.specs.Core.{Core}
 use Rattle.core_code.specs.Program.{core}
-use Rattle.folder_sources.specs.declared.refusal.Refusal as refusal
-use Rattle.folder_sources.specs.declared.refusal.Refusal.TheVariants.{TooManyCalls}
-use Rattle.folder_sources.specs.Sources.{source_names, contents, AreAccepted, AreRefused}
-use Rattle.folder_sources.specs.Lines.{refusal_line}
-use Rattle.folder_programs.specs.declared.found.FoundProgram.{FoundProgram}
-use Rattle.folder_programs.specs.declared.found.FoundProgram.TheVariants as found
+use Rattle.folder_programs.specs.declared.refusal.Refusal as refusal
+use Rattle.folder_programs.specs.declared.refusal.Refusal.TheVariants.{TooManyCalls}
+use Rattle.folder_programs.specs.Sources.{source_names, contents, AreAccepted, AreRefused}
+use Rattle.folder_programs.specs.Lines.{refusal_line}
+use Rattle.folder_programs.specs.declared.programs.FoundProgram.{FoundProgram}
+use Rattle.folder_programs.specs.declared.programs.FoundProgram.TheVariants as found
 
 pub data Source : Type 0 where
   Refusal : (line : List ℕ) → Source

@@ -6,11 +6,11 @@ use Rattle.java_tree.specs.Trees as plain
 use Rattle.java_tree.specs.Trees.{no_expr, expr_then, Braces, no_init, init_then, Value, Items, Declares, Runs}
 use Rattle.java_tree.specs.Trees.{no_stmt, stmt_then}
 use Rattle.java_tree.specs.Examples.{tokens_of}
-use Rattle.method_grammar.specs.ExpressionReading.{read_at}
-use Rattle.method_grammar.specs.MethodReading.{if_ended}
-use Rattle.method_grammar.specs.StatementReading.{stmt_at}
-use Rattle.method_grammar.specs.Taking.{◌>>=◌}
-use Rattle.method_grammar.specs.JavaReaders.{method_readers}
+use Rattle.java_units.specs.ExpressionReading.{read_at}
+use Rattle.java_units.specs.MethodReading.{if_ended}
+use Rattle.java_units.specs.StatementReading.{stmt_at}
+use Rattle.java_units.specs.Taking.{◌>>=◌}
+use Rattle.java_units.specs.JavaReaders.{method_readers}
 use Rattle.java_lowering.specs.Trees as tree
 use Rattle.java_lowering.specs.TreesOf.{access_of, literal, assignment, binary, prefix}
 

@@ -26,7 +26,7 @@ use Rattle.core_code.specs.Tree.{in_sequence}
 use Rattle.core_code.specs.Core.{Core, Method}
 use Rattle.core_code.specs.Recursion.{TellRecursion, all_calls_in}
 use Rattle.core_code.specs.Rows.{different}
-use Rattle.call_graph.specs.Chains.{flag_of}
+use Rattle.core_code.specs.Chains.{flag_of}
 use Rattle.java_lowering.specs.Around.{Folder}
 use Rattle.java_lowering.specs.Methods.{Body, Default, Spelled, Unspelled, Source, this_kinds, method_code}
 use Rattle.java_lowering.specs.Methods.{method_kinds}

@@ -2,47 +2,47 @@
 //!
 //! The texts of the rows are read by the functions that are named here, so that they compute.
 #![tactic(auto, unfolding( // what stands ahead
-method_grammar::specs::Leads::behind, method_grammar::specs::Leads::casts, // what stands ahead
-method_grammar::specs::Leads::lead, // what stands ahead
-method_grammar::specs::Taking::commas, // lists
-method_grammar::specs::TypeReading::brackets_at, method_grammar::specs::TypeReading::points, // types
-method_grammar::specs::TypeReading::angled_with, method_grammar::specs::TypeReading::part_with, // types
-method_grammar::specs::TypeReading::base_with, method_grammar::specs::TypeReading::ty_at, // types
-method_grammar::specs::TypeReading::bare_ty_at, method_grammar::specs::TypeReading::made_part_with, // types
-method_grammar::specs::TypeReading::made_parts_with, method_grammar::specs::TypeReading::made_base_with, // types
-method_grammar::specs::TypeReading::made_base_at, // types
-method_grammar::specs::ExpressionReading::class_at, // expressions
-method_grammar::specs::ExpressionReading::call_arguments_with, // expressions
-method_grammar::specs::ExpressionReading::name_with, // expressions
-method_grammar::specs::ExpressionReading::prefix_with, // expressions
-method_grammar::specs::ExpressionReading::lengths_with, // expressions
-method_grammar::specs::ExpressionReading::new_array_with, // expressions
-method_grammar::specs::ExpressionReading::new_items_with, // expressions
-method_grammar::specs::ExpressionReading::new_object_with, // expressions
-method_grammar::specs::ExpressionReading::new_with, // expressions
-method_grammar::specs::ExpressionReading::operand_with, // expressions
-method_grammar::specs::ExpressionReading::assign_with, // expressions
-method_grammar::specs::ExpressionReading::conditional_with, // expressions
-method_grammar::specs::ExpressionReading::binary_with, // expressions
-method_grammar::specs::ExpressionReading::instance_with, // expressions
-method_grammar::specs::ExpressionReading::select_with, // expressions
-method_grammar::specs::ExpressionReading::index_with, // expressions
-method_grammar::specs::ExpressionReading::turn_with, // expressions
-method_grammar::specs::ExpressionReading::climb_with, // expressions
-method_grammar::specs::ExpressionReading::items_with, // expressions
-method_grammar::specs::ExpressionReading::braces_with, // expressions
-method_grammar::specs::ExpressionReading::read_at, method_grammar::specs::ExpressionReading::array_at, // expressions
-method_grammar::specs::StatementReading::variable_at, // statements
-method_grammar::specs::StatementReading::variables_at, // statements
-method_grammar::specs::StatementReading::locals_at, // statements
-method_grammar::specs::StatementReading::condition_at, // statements
-method_grammar::specs::StatementReading::stmts_at, method_grammar::specs::StatementReading::if_at, // statements
-method_grammar::specs::StatementReading::while_at, method_grammar::specs::StatementReading::for_from, // statements
-method_grammar::specs::StatementReading::each_from, method_grammar::specs::StatementReading::for_typed, // statements
-method_grammar::specs::StatementReading::for_run, method_grammar::specs::StatementReading::for_at, // statements
-method_grammar::specs::StatementReading::sync_at, method_grammar::specs::StatementReading::return_at, // statements
-method_grammar::specs::StatementReading::local_at, method_grammar::specs::StatementReading::run_line_at, // statements
-method_grammar::specs::StatementReading::stmt_at, method_grammar::specs::StatementReading::block_at, // statements
+java_units::specs::Leads::behind, java_units::specs::Leads::casts, // what stands ahead
+java_units::specs::Leads::lead, // what stands ahead
+java_units::specs::Taking::commas, // lists
+java_units::specs::TypeReading::brackets_at, java_units::specs::TypeReading::points, // types
+java_units::specs::TypeReading::angled_with, java_units::specs::TypeReading::part_with, // types
+java_units::specs::TypeReading::base_with, java_units::specs::TypeReading::ty_at, // types
+java_units::specs::TypeReading::bare_ty_at, java_units::specs::TypeReading::made_part_with, // types
+java_units::specs::TypeReading::made_parts_with, java_units::specs::TypeReading::made_base_with, // types
+java_units::specs::TypeReading::made_base_at, // types
+java_units::specs::ExpressionReading::class_at, // expressions
+java_units::specs::ExpressionReading::call_arguments_with, // expressions
+java_units::specs::ExpressionReading::name_with, // expressions
+java_units::specs::ExpressionReading::prefix_with, // expressions
+java_units::specs::ExpressionReading::lengths_with, // expressions
+java_units::specs::ExpressionReading::new_array_with, // expressions
+java_units::specs::ExpressionReading::new_items_with, // expressions
+java_units::specs::ExpressionReading::new_object_with, // expressions
+java_units::specs::ExpressionReading::new_with, // expressions
+java_units::specs::ExpressionReading::operand_with, // expressions
+java_units::specs::ExpressionReading::assign_with, // expressions
+java_units::specs::ExpressionReading::conditional_with, // expressions
+java_units::specs::ExpressionReading::binary_with, // expressions
+java_units::specs::ExpressionReading::instance_with, // expressions
+java_units::specs::ExpressionReading::select_with, // expressions
+java_units::specs::ExpressionReading::index_with, // expressions
+java_units::specs::ExpressionReading::turn_with, // expressions
+java_units::specs::ExpressionReading::climb_with, // expressions
+java_units::specs::ExpressionReading::items_with, // expressions
+java_units::specs::ExpressionReading::braces_with, // expressions
+java_units::specs::ExpressionReading::read_at, java_units::specs::ExpressionReading::array_at, // expressions
+java_units::specs::StatementReading::variable_at, // statements
+java_units::specs::StatementReading::variables_at, // statements
+java_units::specs::StatementReading::locals_at, // statements
+java_units::specs::StatementReading::condition_at, // statements
+java_units::specs::StatementReading::stmts_at, java_units::specs::StatementReading::if_at, // statements
+java_units::specs::StatementReading::while_at, java_units::specs::StatementReading::for_from, // statements
+java_units::specs::StatementReading::each_from, java_units::specs::StatementReading::for_typed, // statements
+java_units::specs::StatementReading::for_run, java_units::specs::StatementReading::for_at, // statements
+java_units::specs::StatementReading::sync_at, java_units::specs::StatementReading::return_at, // statements
+java_units::specs::StatementReading::local_at, java_units::specs::StatementReading::run_line_at, // statements
+java_units::specs::StatementReading::stmt_at, java_units::specs::StatementReading::block_at, // statements
 ))]
 
 mod assignments;

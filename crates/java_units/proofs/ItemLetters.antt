@@ -10,9 +10,9 @@ use Rattle.racer_base.specs.Name.{is_listed}
 use Rattle.java_tree.specs.declared.words.Spelled.{Spelled}
 use Rattle.java_tree.specs.Words.{keyword, sign}
 use Rattle.java_tree.specs.Brackets.{is_sign}
-use Rattle.method_grammar.specs.Taking.{is_keyword_kind, is_keyword}
-use Rattle.method_grammar.specs.Lookahead.{is_word_name}
-use Rattle.method_grammar.proofs.Taken.{sign_is}
+use Rattle.java_units.specs.Taking.{is_keyword_kind, is_keyword}
+use Rattle.java_units.specs.Lookahead.{is_word_name}
+use Rattle.java_units.proofs.Taken.{sign_is}
 use Rattle.java_units.specs.Tokens.{plain, is_name, begins, signed, worded}
 use Rattle.java_units.specs.Pieces.{Item}
 use Rattle.java_units.specs.Declarations.{is_type_modifier, is_type_word}

@@ -7,7 +7,7 @@ use Rattle.java_tree.specs.Words.{keyword}
 use Rattle.java_tree.specs.Trees.{Ty, Typed, Plain, Named, no_part, part_then, Bare, Generic, Modifier, Word, Annotated}
 use Rattle.java_tree.specs.Trees.{Result, NoResult, VoidResult, TypeResult}
 use Rattle.java_tree.specs.Spelling.{ty_onto, modifiers_onto, result_onto}
-use Rattle.method_grammar.specs.Taking.{is_keyword_kind}
+use Rattle.java_units.specs.Taking.{is_keyword_kind}
 use Rattle.java_tree.specs.Formed.{Each, is_plain_word, is_method_modifier, FormedTy, FormedModifier, FormedResult}
 
 type_spells : (t : Ty) → FormedTy t → ty_onto t [] ≡ [] → ⊥

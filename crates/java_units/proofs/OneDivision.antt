@@ -14,8 +14,8 @@ use Rattle.java_tree.specs.Trees.{Init, Variable}
 use Rattle.java_tree.specs.Spelling.{maybe_init_onto, variable_onto, commas_onto}
 use Rattle.java_tree.specs.Formed.{Each, has_some, FormedVariable, FormedMaybeInit}
 use Rattle.java_tree.specs.View.{init_of}
-use Rattle.method_grammar.proofs.Taken.{sign_is}
-use Rattle.method_grammar.proofs.Ensuring.{name_is}
+use Rattle.java_units.proofs.Taken.{sign_is}
+use Rattle.java_units.proofs.Ensuring.{name_is}
 use Rattle.java_units.specs.Tokens.{plain, plain_all, is_sign_token}
 use Rattle.java_units.specs.FieldDivisions.{BeginsWith, IsVariable, IsDivided, IsRead, AreRead}
 use Rattle.java_units.specs.ReadVariables.{initialiser_of, ReadVariable, read_of}

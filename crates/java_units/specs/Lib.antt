@@ -1,3 +1,12 @@
+pub mod Taking
+pub mod TypeReading
+pub mod Leads
+pub mod ExpressionReading
+pub mod Readers
+pub mod Lookahead
+pub mod StatementReading
+pub mod MethodReading
+pub mod JavaReaders
 pub mod Tokens
 pub mod Cuts
 pub mod Brackets

@@ -13,7 +13,7 @@ use Rattle.java_tree.specs.Formed.{has_some}
 use Rattle.java_tree.specs.KeptPlaces.{kept}
 use Rattle.java_tree.specs.MethodPlaces.{method_marks, AreAt}
 use Rattle.java_tree.specs.View.{method_of, annotation_of}
-use Rattle.method_grammar.specs.Lookahead.{begins_with}
+use Rattle.java_units.specs.Lookahead.{begins_with}
 use Rattle.java_units.specs.declared.unit.Member.{Member}
 use Rattle.java_units.specs.declared.unit.Member.TheVariants as member
 use Rattle.java_units.specs.declared.unit.ClassTree.{ClassTree}

@@ -10,7 +10,7 @@ use Rattle.java_lowering.specs.Trees.{Expr, Exprs, Start, Stmt, For, ForEach}
 use Rattle.java_lowering.specs.Around.{Around, Code, repeated, type_kind}
 use Rattle.java_lowering.specs.Scopes.{declared, started, next_variable, back_in, after}
 use Rattle.java_lowering.specs.Statements.{run, run_all, run_some, stmt, closed}
-use Rattle.expression_lowering.specs.Parts.{left_at}
+use Rattle.method_lowering.specs.Parts.{left_at}
 use Rattle.method_lowering.specs.Steps.{closed_from, entered_for, turned, repeated_from, next_element}
 use Rattle.method_lowering.proofs.Pieces.{two_pieces, gathered}
 use Rattle.method_lowering.proofs.Inside.{Inside, inside-then, inside-started, inside-declared, inside-after}

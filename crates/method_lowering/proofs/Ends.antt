@@ -13,7 +13,7 @@ use Rattle.java_lowering.specs.Scopes.{declared, after_all}
 use Rattle.java_lowering.specs.Methods.{Source, Default, Spelled, entered, parameters_declared, member_begun}
 use Rattle.java_lowering.specs.Methods.{fields_begun, body_of, body_code, ended, spelled_code, code_in}
 use Rattle.java_lowering.specs.Sites.{numbered}
-use Rattle.expression_lowering.specs.Parts.{left_at}
+use Rattle.method_lowering.specs.Parts.{left_at}
 use Rattle.method_lowering.specs.Steps.{fields_first, block_end}
 use Rattle.method_lowering.proofs.Inside.{Inside, inside-same, inside-then, inside-declared, inside-back}
 use Rattle.method_lowering.proofs.Inside.{inside-after_all, returned-there}

@@ -3,9 +3,9 @@ use Rattle.std.proofs.Common.{◌≡◌, ◌++◌, sym, ap, ◌∙◌}
 use Rattle.java_lowering.specs.ValueKinds.{ValueKind}
 use Rattle.java_lowering.specs.Around.{Around, Code}
 use Rattle.java_lowering.specs.Assignments.{Storage, assigned}
-use Rattle.expression_lowering.specs.declared.storage.Storage.{Storage as CodeStorage}
-use Rattle.expression_lowering.specs.Parts.{base_of, without_base, then_assigned}
-use Rattle.expression_lowering.proofs.AccessParts.{assigned-parts}
+use Rattle.method_lowering.specs.declared.storage.Storage.{Storage as CodeStorage}
+use Rattle.method_lowering.specs.Parts.{base_of, without_base, then_assigned}
+use Rattle.method_lowering.proofs.AccessParts.{assigned-parts}
 use Rattle.method_lowering.proofs.Pieces.{two_pieces}
 
 pub assigned-made : (around : Around) (s : Storage) (t : CodeStorage) (k given : ValueKind)

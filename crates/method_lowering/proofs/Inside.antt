@@ -16,7 +16,7 @@ use Rattle.java_lowering.specs.Trees.{ForEach, Sync, Return, Block, Empty, Stmts
 use Rattle.java_lowering.specs.Around.{Around, Result, Itself, Nothing, Value, Code, op_at, type_kind}
 use Rattle.java_lowering.specs.Scopes.{new_variable, declared, all_declared, started, back_in, after, after_all}
 use Rattle.java_lowering.specs.Statements.{closed, returned_nothing, returned}
-use Rattle.expression_lowering.specs.Parts.{left_at}
+use Rattle.method_lowering.specs.Parts.{left_at}
 use Rattle.method_lowering.specs.Steps.{closed_from}
 
 pub record Inside (before inside : Around) : Type 0 where

@@ -1,3 +1,12 @@
+pub mod Pushed
+pub mod AccessParts
+pub mod CallParts
+pub mod Numbering
+pub mod Joined
+pub mod Made
+pub mod NamedVariables
+pub mod OtherForms
+pub mod ExpressionForms
 pub mod Inside
 pub mod Pieces
 pub mod Composed

@@ -1,10 +1,10 @@
 //! The ends of blocks (JLS 14.2).
 ghost use Rattle.std.specs.Prelude.{◌≡◌, ◌++◌, OnOk};
-ghost use Rattle.expression_lowering.specs.Drafts.{code_of};
-ghost use Rattle.expression_lowering.specs.Parts.{left_at};
+ghost use Rattle.method_lowering.specs.Drafts.{code_of};
+ghost use Rattle.method_lowering.specs.Parts.{left_at};
 ghost use Rattle.method_lowering.specs.Steps.{closed_from};
 
-use expression_lowering::{Around, Draft};
+use crate::{Around, Draft};
 use racer_base::Memory;
 
 /// The end of a block: the variables from this one on are null, and out of scope.

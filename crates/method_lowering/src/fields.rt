@@ -3,11 +3,11 @@ ghost use Rattle.std.specs.Prelude.{◌≡◌, ◌++◌, OnOk};
 ghost use Rattle.std.specs.List.{flat_map};
 ghost use Rattle.java_tree.specs.declared.methods.FieldInitialiser.TheVariants.{Formed, Unread};
 ghost use Rattle.java_lowering.specs.Methods.{field_begun, member_begun, unread};
-ghost use Rattle.expression_lowering.specs.Drafts.{code_of};
-ghost use Rattle.expression_lowering.specs.Views.{value_kind};
+ghost use Rattle.method_lowering.specs.Drafts.{code_of};
+ghost use Rattle.method_lowering.specs.Views.{value_kind};
 
+use crate::{Around, Draft, ValueKind, assign, lower_initialiser, named};
 use core_code::Op;
-use expression_lowering::{Around, Draft, ValueKind, assign, lower_initialiser, named};
 use java_resolver::has_word;
 use java_tree::{FieldInitialiser, FieldVariable, Ident, Initialiser};
 use java_units::Member;

@@ -6,10 +6,10 @@ ghost use Rattle.java_lowering.specs.Around.{type_kind};
 ghost use Rattle.java_lowering.specs.Scopes.{next_variable, declared, all_declared, started};
 ghost use Rattle.java_lowering.specs.Statements.{begun, begun_all};
 ghost use Rattle.java_lowering.specs.Statements as lowering;
-ghost use Rattle.expression_lowering.specs.Drafts.{code_of};
+ghost use Rattle.method_lowering.specs.Drafts.{code_of};
 
 use crate::parts::{lower_run_all, set};
-use expression_lowering::{Around, Draft, lower_initialiser};
+use crate::{Around, Draft, lower_initialiser};
 use java_tree::{Initialiser, LocalsTree, StartTree, VariableTree};
 use racer_base::{Kind, Memory, VarId};
 use std::alloc::Global;

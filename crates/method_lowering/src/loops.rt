@@ -4,13 +4,13 @@ ghost use Rattle.java_lowering.specs.Trees.{pack_exprs};
 ghost use Rattle.java_lowering.specs.TreesOf.{expr_of, start_of};
 ghost use Rattle.java_lowering.specs.Scopes.{started};
 ghost use Rattle.java_lowering.specs.Statements.{run};
-ghost use Rattle.expression_lowering.specs.Drafts.{code_of};
+ghost use Rattle.method_lowering.specs.Drafts.{code_of};
 ghost use Rattle.method_lowering.specs.Steps.{entered_for, turned, repeated_from, next_element};
 
 use crate::locals::lower_start;
 use crate::parts::{lower_run, lower_run_all, lower_run_some, set};
+use crate::{Around, Draft};
 use core_code::Op;
-use expression_lowering::{Around, Draft};
 use java_tree::{Expression, StartTree};
 use racer_base::{Memory, VarId};
 use std::alloc::Global;

@@ -3,10 +3,10 @@ ghost use Rattle.std.specs.Prelude.{◌≡◌, ◌++◌, OnOk, map, option_map};
 ghost use Rattle.java_lowering.specs.Trees.{pack_exprs};
 ghost use Rattle.java_lowering.specs.TreesOf.{expr_of};
 ghost use Rattle.java_lowering.specs.Statements.{run, run_all, run_some, set};
-ghost use Rattle.expression_lowering.specs.Drafts.{code_of};
+ghost use Rattle.method_lowering.specs.Drafts.{code_of};
 
+use crate::{Around, Draft, lower_expression};
 use core_code::Op;
-use expression_lowering::{Around, Draft, lower_expression};
 use java_tree::Expression;
 use racer_base::{Memory, VarId};
 use std::alloc::Global;

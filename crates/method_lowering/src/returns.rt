@@ -2,12 +2,12 @@
 ghost use Rattle.std.specs.Prelude.{◌≡◌, ◌++◌, OnOk, None, option_map};
 ghost use Rattle.java_lowering.specs.TreesOf.{expr_of};
 ghost use Rattle.java_lowering.specs.Statements.{returned_nothing, returned_value, returned};
-ghost use Rattle.expression_lowering.specs.Drafts.{code_of};
-ghost use Rattle.expression_lowering.specs.Views.{given_of};
+ghost use Rattle.method_lowering.specs.Drafts.{code_of};
+ghost use Rattle.method_lowering.specs.Views.{given_of};
 
 use crate::parts::lower_run;
+use crate::{Around, Draft, Given, lower_expression};
 use core_code::Op;
-use expression_lowering::{Around, Draft, Given, lower_expression};
 use java_tree::Expression;
 use racer_base::{Kind, Memory};
 use std::alloc::Global;

@@ -5,14 +5,14 @@ ghost use Rattle.java_lowering.specs.Trees.{If, IfElse, While, For, ForEach, Syn
 ghost use Rattle.java_lowering.specs.TreesOf.{expr_of, start_of, stmt_of};
 ghost use Rattle.java_lowering.specs.Scopes.{after, after_all};
 ghost use Rattle.java_lowering.specs.Statements.{stmt, stmts};
-ghost use Rattle.expression_lowering.specs.Drafts.{code_of};
+ghost use Rattle.method_lowering.specs.Drafts.{code_of};
 
 use crate::blocks::end_block;
 use crate::locals::lower_locals;
 use crate::loops::{begin_for, end_for, end_while, lower_next};
 use crate::parts::lower_run;
 use crate::returns::lower_return;
-use expression_lowering::{Around, Draft, lower_expression};
+use crate::{Around, Draft, lower_expression};
 use java_tree::{Expression, Ident, StartTree, Statement, TypeTree};
 use racer_base::{Memory, Place};
 use std::alloc::Global;

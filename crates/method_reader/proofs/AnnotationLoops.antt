@@ -6,9 +6,9 @@ use Rattle.java_tree.specs.declared.words.Spelled.{Spelled}
 use Rattle.java_tree.specs.Trees.{Annotation, Modifier}
 use Rattle.type_reader.specs.declared.reading.error.ReadError.{ReadError}
 use Rattle.type_reader.specs.declared.reading.error.ReadError.TheVariants.{Memory, Unformed}
-use Rattle.method_grammar.specs.Taking.{◌>>=◌, match_option, after_sign}
-use Rattle.method_grammar.specs.Lookahead.{after_modifier}
-use Rattle.method_grammar.specs.MethodReading.{annotation_at, annotations_at, modifiers_at}
+use Rattle.java_units.specs.Taking.{◌>>=◌, match_option, after_sign}
+use Rattle.java_units.specs.Lookahead.{after_modifier}
+use Rattle.java_units.specs.MethodReading.{annotation_at, annotations_at, modifiers_at}
 use Rattle.method_reader.specs.ModifierReading.{modifier_at}
 use Rattle.type_reader.specs.Tokens.{spelled}
 use Rattle.type_reader.specs.Finishing.{finished}

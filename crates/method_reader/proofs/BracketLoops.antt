@@ -5,7 +5,7 @@ use Rattle.java_tree.specs.Brackets.{awaited_behind}
 use Rattle.type_reader.specs.declared.reading.error.ReadError.{ReadError}
 use Rattle.type_reader.specs.declared.reading.error.ReadError.TheVariants.{Memory, Unformed}
 use Rattle.method_reader.specs.declared.reading.brackets.Bracket.{Bracket}
-use Rattle.method_grammar.specs.MethodReading.{closed_at}
+use Rattle.java_units.specs.MethodReading.{closed_at}
 use Rattle.method_reader.specs.AwaitedBrackets.{closing, awaited_onto, first_at}
 use Rattle.type_reader.specs.Finishing.{finished}
 use Rattle.type_reader.specs.Endings.{as_they_are}

@@ -2,12 +2,12 @@
 use Rattle.std.proofs.Common.{◌≡◌, ℕ, Bool, true, false, List, Option, Some, None, codes, refl, cond}
 use Rattle.java_tree.specs.declared.words.Spelled.{Spelled}
 use Rattle.java_tree.specs.Trees.{Ty, pack_exprs, Start, Declares, Runs, Stmt}
-use Rattle.method_grammar.specs.ExpressionReading.{Reading}
-use Rattle.method_grammar.specs.Taking.{◌>>=◌, match_option, after_sign}
-use Rattle.method_grammar.specs.Readers.{Readers}
-use Rattle.method_grammar.specs.Lookahead.{looks_local, name_and_colon}
-use Rattle.method_grammar.specs.StatementReading.{final_at, variables_at, expr_until, runs_until, for_from}
-use Rattle.method_grammar.specs.StatementReading.{each_from, for_declared, for_typed, for_run, for_at}
+use Rattle.java_units.specs.ExpressionReading.{Reading}
+use Rattle.java_units.specs.Taking.{◌>>=◌, match_option, after_sign}
+use Rattle.java_units.specs.Readers.{Readers}
+use Rattle.java_units.specs.Lookahead.{looks_local, name_and_colon}
+use Rattle.java_units.specs.StatementReading.{final_at, variables_at, expr_until, runs_until, for_from}
+use Rattle.java_units.specs.StatementReading.{each_from, for_declared, for_typed, for_run, for_at}
 use Rattle.method_reader.specs.HeadReading.{headed_with, counted_head_at, each_head_at, declared_head_at}
 use Rattle.method_reader.specs.HeadReading.{typed_head_at, run_head_at, head_at}
 

@@ -2,11 +2,11 @@
 use Rattle.std.proofs.Common.{◌≡◌, ℕ, Bool, List, Some, None, length, refl, ap, subst}
 use Rattle.java_tree.specs.declared.words.Spelled.{Spelled}
 use Rattle.java_tree.specs.Trees.{Ty, Annotation}
-use Rattle.method_grammar.specs.Taking.{after_name}
-use Rattle.method_grammar.specs.TypeReading.{ty_at}
-use Rattle.method_grammar.specs.StatementReading.{final_at}
-use Rattle.method_grammar.specs.MethodReading.{annotations_at, parameter_at}
-use Rattle.method_grammar.specs.JavaReaders.{method_readers}
+use Rattle.java_units.specs.Taking.{after_name}
+use Rattle.java_units.specs.TypeReading.{ty_at}
+use Rattle.java_units.specs.StatementReading.{final_at}
+use Rattle.java_units.specs.MethodReading.{annotations_at, parameter_at}
+use Rattle.java_units.specs.JavaReaders.{method_readers}
 
 module _ (n : ℕ) (ts : List Spelled) (final : Bool) (behind : List Spelled) (m : ℕ)
     (annotations : List Annotation × List Spelled) (t : Ty × List Spelled) where

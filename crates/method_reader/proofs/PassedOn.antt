@@ -3,7 +3,7 @@ use Rattle.std.proofs.Common.{◌≡◌, ◌≤◌, ℕ, Result, Ok, Err, Option
 use Rattle.std.proofs.Common.{Bool, true, false, None, if◌then◌else◌, refl}
 use Rattle.java_tree.specs.KeptPlaces.{Places, start_places}
 use Rattle.java_tree.specs.declared.statements.StartTree.{StartTree}
-use Rattle.method_grammar.specs.Taking.{◌>>=◌}
+use Rattle.java_units.specs.Taking.{◌>>=◌}
 use Rattle.type_reader.specs.declared.reading.error.ReadError.{ReadError}
 
 -- what puts these places puts the same places

@@ -2,11 +2,11 @@
 use Rattle.std.proofs.Common.{◌≡◌, ℕ, List, [], ◌∷◌, length, Option, Some, None, codes, refl, sym, ◌∙◌}
 use Rattle.java_tree.specs.declared.words.Spelled.{Spelled}
 use Rattle.java_tree.specs.Trees.{Modifier, Result}
-use Rattle.method_grammar.specs.Taking.{◌>>=◌, after_sign, after_name}
-use Rattle.method_grammar.specs.Readers.{Readers}
-use Rattle.method_grammar.specs.StatementReading.{block_at}
-use Rattle.method_grammar.specs.MethodReading.{parameters_at, throws_at, modifiers_at, result_at, named_at, method_from}
-use Rattle.method_grammar.specs.MethodReading.{method_at, if_ended}
+use Rattle.java_units.specs.Taking.{◌>>=◌, after_sign, after_name}
+use Rattle.java_units.specs.Readers.{Readers}
+use Rattle.java_units.specs.StatementReading.{block_at}
+use Rattle.java_units.specs.MethodReading.{parameters_at, throws_at, modifiers_at, result_at, named_at, method_from}
+use Rattle.java_units.specs.MethodReading.{method_at, if_ended}
 use Rattle.method_reader.specs.SignatureReading.{method_with, parameter_list_at, signature_at, last_block_at}
 use Rattle.method_reader.specs.SignatureReading.{whole_named_at, whole_method_at}
 use Rattle.method_reader.proofs.ForHeads.{steps}

@@ -6,11 +6,11 @@ use Rattle.java_tree.specs.declared.words.Spelled.{Spelled}
 use Rattle.java_tree.specs.Trees.{Stmt}
 use Rattle.type_reader.specs.declared.reading.error.ReadError.{ReadError}
 use Rattle.type_reader.specs.declared.reading.error.ReadError.TheVariants.{Memory, Unformed}
-use Rattle.method_grammar.specs.ExpressionReading.{Reading}
-use Rattle.method_grammar.specs.Taking.{after_sign}
-use Rattle.method_grammar.specs.Readers.{Readers}
-use Rattle.method_grammar.specs.Lookahead.{statement_lead}
-use Rattle.method_grammar.specs.StatementReading.{stmts_at, braces_at, by_lead, stmt_at, block_at}
+use Rattle.java_units.specs.ExpressionReading.{Reading}
+use Rattle.java_units.specs.Taking.{after_sign}
+use Rattle.java_units.specs.Readers.{Readers}
+use Rattle.java_units.specs.Lookahead.{statement_lead}
+use Rattle.java_units.specs.StatementReading.{stmts_at, braces_at, by_lead, stmt_at, block_at}
 use Rattle.type_reader.specs.Tokens.{spelled}
 use Rattle.type_reader.specs.Finishing.{finished}
 use Rattle.type_reader.specs.ReadAnswer.{Fails}

@@ -10,16 +10,16 @@ use Rattle.java_tree.specs.Nesting.{method_nesting}
 use Rattle.java_tree.specs.View.{method_of}
 use Rattle.type_reader.specs.declared.reading.error.ReadError.{ReadError}
 use Rattle.type_reader.specs.declared.reading.error.ReadError.TheVariants.{Memory, Unformed}
-use Rattle.method_grammar.specs.JavaReaders.{method_readers}
-use Rattle.method_grammar.specs.MethodReading.{method_at}
+use Rattle.java_units.specs.JavaReaders.{method_readers}
+use Rattle.java_units.specs.MethodReading.{method_at}
 use Rattle.type_reader.specs.ReadAnswer.{Gives}
 use Rattle.type_reader.proofs.ReadLoops.{ends_give}
 use Rattle.method_reader.specs.SignatureReading.{whole_method_at}
 use Rattle.method_reader.proofs.SignatureSteps.{method_is_whole}
-use Rattle.method_grammar.proofs.FoundJava.{EndsExpr, java_finds}
-use Rattle.method_grammar.proofs.ReadMethods.{read_is_formed, only_one_read, none_read}
-use Rattle.method_grammar.proofs.SoundJava.{java_sound}
-use Rattle.method_grammar.proofs.TypeFronts.{EndsTy}
+use Rattle.java_units.proofs.FoundJava.{EndsExpr, java_finds}
+use Rattle.java_units.proofs.ReadMethods.{read_is_formed, only_one_read, none_read}
+use Rattle.java_units.proofs.SoundJava.{java_sound}
+use Rattle.java_units.proofs.TypeFronts.{EndsTy}
 
 module _ (n : ℕ) (ts : List Spelled) where
   -- what is given of a method in two parts is given of the method

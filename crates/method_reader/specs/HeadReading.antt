@@ -5,11 +5,11 @@ use Rattle.std.specs.Prelude.{ℕ, Bool, List, Option, Some, codes, if◌then◌
 use Rattle.java_tree.specs.declared.words.Spelled.{Spelled}
 use Rattle.java_tree.specs.Trees.{Init, Variable, Locals}
 use Rattle.java_tree.specs.Trees.{Ty, Expr, Exprs, pack_exprs, Start, Declares, Runs, Stmt, If, IfElse, For, ForEach}
-use Rattle.method_grammar.specs.ExpressionReading.{Reading}
-use Rattle.method_grammar.specs.Taking.{◌>>=◌, match_option, after_sign, after_keyword}
-use Rattle.method_grammar.specs.Readers.{Readers}
-use Rattle.method_grammar.specs.Lookahead.{looks_local, name_and_colon}
-use Rattle.method_grammar.specs.StatementReading.{final_at, variables_at, expr_until, runs_until, body_at}
+use Rattle.java_units.specs.ExpressionReading.{Reading}
+use Rattle.java_units.specs.Taking.{◌>>=◌, match_option, after_sign, after_keyword}
+use Rattle.java_units.specs.Readers.{Readers}
+use Rattle.java_units.specs.Lookahead.{looks_local, name_and_colon}
+use Rattle.java_units.specs.StatementReading.{final_at, variables_at, expr_until, runs_until, body_at}
 
 -- what stands in the parentheses of a `for`
 pub data Head : Type 0 where

@@ -2,9 +2,9 @@
 use Rattle.std.specs.Prelude.{List, Option, Some, None, codes}
 use Rattle.java_tree.specs.declared.words.Spelled.{Spelled}
 use Rattle.java_tree.specs.Trees.{Modifier, Word, Annotated}
-use Rattle.method_grammar.specs.Taking.{◌>>=◌, match_option, after_sign}
-use Rattle.method_grammar.specs.Lookahead.{after_modifier}
-use Rattle.method_grammar.specs.MethodReading.{annotation_at}
+use Rattle.java_units.specs.Taking.{◌>>=◌, match_option, after_sign}
+use Rattle.java_units.specs.Lookahead.{after_modifier}
+use Rattle.java_units.specs.MethodReading.{annotation_at}
 
 -- a word or an annotation and the tokens behind it, where one stands
 abbrev pub modifier_at : List Spelled → Option (Option (Modifier × List Spelled))

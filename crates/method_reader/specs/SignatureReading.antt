@@ -5,11 +5,11 @@ use Rattle.java_tree.specs.Trees.{Ty, Modifier, Result, Parameter, Stmts, Method
 use Rattle.java_tree.specs.KeptPlaces.{all_places, ty_places}
 use Rattle.java_tree.specs.MethodPlaces.{Marks, some_onto, each_marks, parameter_marks}
 use Rattle.java_tree.specs.View.{name_of, ty_of, parameter_of}
-use Rattle.method_grammar.specs.ExpressionReading.{Reading}
-use Rattle.method_grammar.specs.Taking.{◌>>=◌, after_sign, after_name}
-use Rattle.method_grammar.specs.Readers.{Readers}
-use Rattle.method_grammar.specs.StatementReading.{block_at}
-use Rattle.method_grammar.specs.MethodReading.{parameters_at, throws_at, modifiers_at, result_at, if_ended}
+use Rattle.java_units.specs.ExpressionReading.{Reading}
+use Rattle.java_units.specs.Taking.{◌>>=◌, after_sign, after_name}
+use Rattle.java_units.specs.Readers.{Readers}
+use Rattle.java_units.specs.StatementReading.{block_at}
+use Rattle.java_units.specs.MethodReading.{parameters_at, throws_at, modifiers_at, result_at, if_ended}
 use Rattle.method_reader.specs.declared.reading.signatures.Signature as signatures
 
 -- what stands from a method's name up to its body

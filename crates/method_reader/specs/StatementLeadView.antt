@@ -3,8 +3,8 @@ use Rattle.std.specs.Prelude.{ℕ, ◌<◌, ◌∷◌, length, map}
 use Rattle.java_tree.specs.KeptPlaces.{Places, kept}
 use Rattle.method_reader.specs.declared.reading.lookahead.StatementLead as leads
 use Rattle.method_reader.specs.declared.reading.lookahead.StatementLead.TheVariants as lead
-use Rattle.method_grammar.specs.Lookahead.{StatementLead, Semicolon, Brace, IfWord, WhileWord, ForWord}
-use Rattle.method_grammar.specs.Lookahead.{SynchronizedWord, ReturnWord, Other}
+use Rattle.java_units.specs.Lookahead.{StatementLead, Semicolon, Brace, IfWord, WhileWord, ForWord}
+use Rattle.java_units.specs.Lookahead.{SynchronizedWord, ReturnWord, Other}
 use Rattle.type_reader.specs.Tokens.{spelled}
 
 abbrev pub statement_lead_of : leads.StatementLead → StatementLead

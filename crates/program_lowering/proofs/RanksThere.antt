@@ -6,8 +6,8 @@ use borrow.Author.Tests.{ltb-true, leb-true}
 use Rattle.std.proofs.lemmas.Bool.{le-leb}
 use Rattle.std.proofs.lemmas.List.{length-map}
 use Rattle.racer_base.specs.declared.ids.MethodId.{MethodId}
-use Rattle.call_graph.specs.Chains.{row_of}
-use Rattle.call_graph.specs.Falling.{number_of, DoFall}
+use Rattle.core_code.specs.Chains.{row_of}
+use Rattle.core_code.specs.Falling.{number_of, DoFall}
 use Rattle.core_code.specs.declared.parts.MethodCore.{MethodCore}
 use Rattle.core_code.specs.Core.{Method, method_of}
 use Rattle.core_code.specs.Calls.{calls_in}

@@ -2,7 +2,7 @@
 use Rattle.std.specs.Prelude.{◌≡◌, ℕ, Bool, true, List, length, nat_le, nat_lt}
 use Rattle.std.specs.List.{list_all}
 use Rattle.racer_base.specs.declared.ids.MethodId.{MethodId}
-use Rattle.call_graph.specs.Falling.{number_of}
+use Rattle.core_code.specs.Falling.{number_of}
 use Rattle.core_code.specs.Core.{Core, Method}
 use Rattle.core_code.specs.CallFacts.{has_ranks}
 

@@ -2,7 +2,7 @@
 ghost use Rattle.std.specs.Prelude.{◌≡◌, ◌++◌, OnOk, IfOk, map};
 ghost use Rattle.core_code.specs.Tree.{tree_of, in_sequence};
 ghost use Rattle.core_code.specs.Gathered.{callees_of_op, callees_of};
-ghost use Rattle.expression_lowering.specs.Views.{folder_of};
+ghost use Rattle.method_lowering.specs.Views.{folder_of};
 ghost use Rattle.method_lowering.specs.Sources.{source_of};
 ghost use Rattle.program_lowering.specs.Calls as wanted;
 

@@ -2,7 +2,7 @@
 ghost use Rattle.std.specs.Prelude.{◌≡◌, IfOk, map};
 ghost use Rattle.core_code.specs.Core.{method_of};
 ghost use Rattle.java_lowering.specs.Programs as wanted;
-ghost use Rattle.expression_lowering.specs.Views.{folder_of};
+ghost use Rattle.method_lowering.specs.Views.{folder_of};
 ghost use Rattle.method_lowering.specs.Sources.{source_of};
 ghost use Rattle.program_lowering.specs.Entries.{is_checked_in, is_entry_in};
 

@@ -1,13 +1,12 @@
 //! Ranks of methods.
 ghost use Rattle.std.specs.Prelude.{◌≡◌, OnOk, map, true};
 ghost use Rattle.std.specs.List.{list_all};
-ghost use Rattle.call_graph.specs.Falling.{number_of};
+ghost use Rattle.core_code.specs.Falling.{number_of};
 ghost use Rattle.core_code.specs.Core.{method_of};
 ghost use Rattle.program_lowering.specs.Ranks as wanted;
 
 use crate::calls::analysed_rows;
-use call_graph::falling_numbers;
-use core_code::MethodCore;
+use core_code::{MethodCore, falling_numbers};
 use racer_base::{Items, Memory, MethodId};
 use std::alloc::Global;
 

@@ -1,6 +1,6 @@
 //! Why methods are not analysed.
 ghost use Rattle.std.specs.Prelude.{◌≡◌, IfOk, map, true};
-ghost use Rattle.call_graph.specs.Chains.{flag_of};
+ghost use Rattle.core_code.specs.Chains.{flag_of};
 ghost use Rattle.java_resolver.specs.Table.{methods};
 ghost use Rattle.java_lowering.specs.Programs.{is_unspelled};
 ghost use Rattle.method_lowering.specs.Sources.{source_of, body_of};

@@ -25,8 +25,8 @@ use Rattle.core_code.specs.KindCheck.{after_get, after_put, field_at, is_base_of
 use Rattle.core_code.specs.Kinds.{StackKind, fits, kind_of}
 use Rattle.core_code.proofs.BoolParts.{first_part}
 use Rattle.core_code.proofs.Membership.{In}
-use Rattle.way_values.specs.Tops.{Tops, top_at}
-use Rattle.way_values.specs.Values.{Point}
+use Rattle.quiet_paths.specs.Tops.{Tops, top_at}
+use Rattle.quiet_paths.specs.Values.{Point}
 use Rattle.quiet_paths.specs.Kept.{IsMet}
 use Rattle.quiet_paths.specs.Meets.{base_path, base_value, touching}
 use Rattle.quiet_paths.specs.Names.{Naming, name_of}

@@ -22,7 +22,7 @@ use Rattle.access_domain.specs.Substitution.{Actuals, actuals_from, substituted,
 use Rattle.core_semantics.specs.declared.object.Value.{Value}
 use Rattle.core_semantics.specs.State.{Store}
 use Rattle.core_semantics.specs.Steps.{base_of}
-use Rattle.way_values.specs.Values.{Point, End, Calls, go_op, on_ok, received, returned_to, values_passed}
+use Rattle.quiet_paths.specs.Values.{Point, End, Calls, go_op, on_ok, received, returned_to, values_passed}
 use Rattle.quiet_paths.specs.Kept.{IsEntered, IsGiven, IsGood, IsKept}
 use Rattle.quiet_paths.specs.Names.{Naming, callee_naming, name_of}
 use Rattle.quiet_paths.specs.Places.{AreHushed, ArePlaces, IsFrame, IsPlace, IsStore}

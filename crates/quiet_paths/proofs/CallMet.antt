@@ -14,8 +14,8 @@ use Rattle.core_code.specs.Core.{Core, Method}
 use Rattle.core_code.specs.KindCheck.{kinds_after_op}
 use Rattle.core_code.specs.Kinds.{StackKind}
 use Rattle.core_code.proofs.Membership.{In}
-use Rattle.way_values.specs.Tops.{Top, Tops, top_at}
-use Rattle.way_values.specs.Values.{Point, received, values_passed}
+use Rattle.quiet_paths.specs.Tops.{Top, Tops, top_at}
+use Rattle.quiet_paths.specs.Values.{Point, received, values_passed}
 use Rattle.quiet_paths.specs.Kept.{AreMet, IsEntered, IsMet}
 use Rattle.quiet_paths.specs.Names.{Naming, callee_naming}
 use Rattle.quiet_paths.specs.Places.{AreHushed, IsFrame, IsStore}

@@ -19,7 +19,7 @@ use Rattle.access_domain.specs.Substitution.{touched}
 use Rattle.access_domain.specs.Substitution.{value_named}
 use Rattle.core_code.specs.Core.{Core}
 use Rattle.core_code.proofs.Membership.{In, in_enumerate_from, in_flat_map}
-use Rattle.way_values.specs.Tops.{Top}
+use Rattle.quiet_paths.specs.Tops.{Top}
 use Rattle.quiet_paths.specs.Kept.{IsMet}
 use Rattle.quiet_paths.specs.Meets.{DoesMeet, base_path, base_value, touching}
 use Rattle.quiet_paths.specs.Names.{Naming, callee_naming, name_of}

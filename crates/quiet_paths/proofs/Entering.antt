@@ -19,7 +19,7 @@ use Rattle.core_code.specs.Core.{Core, Method}
 use Rattle.core_code.specs.KindCheck.{begins_with, below_fitting}
 use Rattle.core_code.specs.Kinds.{StackKind, kind_of, fits}
 use Rattle.core_semantics.specs.declared.object.Value.{Value}
-use Rattle.way_values.specs.Values.{Point, values_passed}
+use Rattle.quiet_paths.specs.Values.{Point, values_passed}
 use Rattle.quiet_paths.specs.Kept.{IsEntered}
 use Rattle.quiet_paths.specs.Names.{Naming, name_of, callee_naming}
 use Rattle.quiet_paths.specs.Places.{ArePlaces, IsPlace}

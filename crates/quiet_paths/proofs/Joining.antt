@@ -11,7 +11,7 @@ use Rattle.access_domain.specs.Flow.{joined_result, lost_result}
 use Rattle.core_code.specs.Core.{Core, Method}
 use Rattle.core_code.specs.Kinds.{StackKind, kind_of}
 use Rattle.core_semantics.specs.declared.object.Value.{Value as Held}
-use Rattle.way_values.specs.Values.{Point}
+use Rattle.quiet_paths.specs.Values.{Point}
 use Rattle.quiet_paths.specs.Names.{Naming, name_of}
 use Rattle.quiet_paths.specs.Quiet.{Quietness}
 use Rattle.quiet_paths.specs.Places.{ArePlaces, AreHushed, IsFrame, IsPlace}

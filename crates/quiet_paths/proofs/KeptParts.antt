@@ -12,7 +12,7 @@ use Rattle.access_domain.specs.Flow.{after as in_turn, both, chosen, joined_next
 use Rattle.access_domain.specs.Operations.{Effects}
 use Rattle.core_semantics.specs.declared.object.Value.{Value}
 use Rattle.core_semantics.specs.State.{Store}
-use Rattle.way_values.specs.Values.{Point, End, Behind, Back, go_on, on_ok}
+use Rattle.quiet_paths.specs.Values.{Point, End, Behind, Back, go_on, on_ok}
 use Rattle.quiet_paths.specs.Kept.{IsBehind, IsKept, IsReturned}
 use Rattle.quiet_paths.specs.Names.{Naming, name_of}
 use Rattle.quiet_paths.specs.Places.{AreHushed, IsFrame, IsPlace, IsStore}

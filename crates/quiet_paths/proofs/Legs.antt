@@ -11,7 +11,7 @@ use Rattle.core_semantics.specs.Runs.{given_to}
 use Rattle.core_semantics.specs.State.{Store}
 use Rattle.core_ways.specs.Stable.{IsStable}
 use Rattle.core_ways.specs.Ways.{record_at}
-use Rattle.way_values.specs.Tops.{Top, top_of}
+use Rattle.quiet_paths.specs.Tops.{Top, top_of}
 use Rattle.quiet_paths.specs.Kept.{AreMet, IsEntered, IsMet}
 use Rattle.quiet_paths.specs.Meets.{DoesMeet, base_path, base_value}
 use Rattle.quiet_paths.specs.Names.{entry_naming}

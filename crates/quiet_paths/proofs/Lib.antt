@@ -1,3 +1,11 @@
+pub mod PassedValues
+pub mod CalledValues
+pub mod SiteOrder
+pub mod LastFields
+pub mod WaySites
+pub mod ReachedValues
+pub mod RecordTops
+pub mod WayEnds
 pub mod Accesses
 pub mod CallKept
 pub mod CallMet

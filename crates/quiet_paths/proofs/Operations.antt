@@ -40,7 +40,7 @@ use Rattle.core_semantics.specs.Objects.{root_path}
 use Rattle.core_semantics.specs.State.{Store}
 use Rattle.core_semantics.specs.Steps.{base_of, going, on_base, put, read, replaced as frame_replaced, written}
 use Rattle.core_ways.specs.Stable.{is_lasting_root}
-use Rattle.way_values.specs.Values.{Behind, Calls, Point, behind, go_op, inner_of, top_value}
+use Rattle.quiet_paths.specs.Values.{Behind, Calls, Point, behind, go_op, inner_of, top_value}
 use Rattle.quiet_paths.specs.Kept.{IsKept}
 use Rattle.quiet_paths.specs.Names.{Naming, name_of}
 use Rattle.quiet_paths.specs.Places.{AreHushed, ArePlaces, IsFrame, IsPlace, IsStore, start_object}

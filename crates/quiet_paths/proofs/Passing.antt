@@ -16,7 +16,7 @@ use Rattle.access_domain.specs.Findings.{Table}
 use Rattle.access_domain.specs.Flow.{chosen, flow, lost_next, lost_result, rounds}
 use Rattle.access_domain.specs.Given.{Given, given_of}
 use Rattle.access_domain.specs.Operations.{Effects, op_effects, popped}
-use Rattle.way_values.specs.Values.{Point, Calls, go, go_op, point_popped}
+use Rattle.quiet_paths.specs.Values.{Point, Calls, go, go_op, point_popped}
 use Rattle.quiet_paths.specs.Kept.{IsGood, IsKept}
 use Rattle.quiet_paths.specs.Names.{Naming}
 use Rattle.quiet_paths.specs.Places.{AreHushed, IsFrame, IsStore}

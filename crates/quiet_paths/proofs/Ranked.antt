@@ -18,8 +18,8 @@ use Rattle.access_domain.specs.Operations.{Effects}
 use Rattle.access_domain.specs.Summaries.{effects_given, known_of, known_of_callees, start_of}
 use Rattle.core_semantics.specs.declared.object.Value.{Value}
 use Rattle.core_semantics.specs.State.{Store}
-use Rattle.way_values.specs.Values.{Point, End, Behind, Back, Calls, call_of, entry_point, go, value_back}
-use Rattle.way_values.proofs.CalledValues.{call_of-code}
+use Rattle.quiet_paths.specs.Values.{Point, End, Behind, Back, Calls, call_of, entry_point, go, value_back}
+use Rattle.quiet_paths.proofs.CalledValues.{call_of-code}
 use Rattle.quiet_paths.specs.Kept.{IsEntered, IsGiven, IsGood, IsKept}
 use Rattle.quiet_paths.specs.Names.{Naming, name_of}
 use Rattle.quiet_paths.specs.Places.{AreHushed, IsFrame, IsPlace, IsStore}

@@ -20,8 +20,8 @@ use Rattle.access_domain.specs.Summaries.{effects_given, known_of, known_of_call
 use Rattle.core_semantics.specs.declared.object.Value.{Value}
 use Rattle.core_semantics.specs.State.{Store}
 use Rattle.core_ways.specs.Ways.{record_at, records_held}
-use Rattle.way_values.specs.Tops.{Top, Tops, to, to_record, top_given, top_of}
-use Rattle.way_values.specs.Values.{call_of, entry_point}
+use Rattle.quiet_paths.specs.Tops.{Top, Tops, to, to_record, top_given, top_of}
+use Rattle.quiet_paths.specs.Values.{call_of, entry_point}
 use Rattle.quiet_paths.specs.Kept.{AreMet, IsEntered, IsMet}
 use Rattle.quiet_paths.specs.Names.{Naming}
 use Rattle.quiet_paths.specs.Places.{AreHushed, IsFrame, IsStore}

@@ -11,7 +11,7 @@ use Rattle.owner_domain.specs.declared.value.Value.TheVariants.{Named}
 use Rattle.access_domain.specs.declared.access.Access.{Access}
 use Rattle.core_code.specs.Core.{Core}
 use Rattle.core_ways.specs.Stable.{IsStable, is_lasting_root}
-use Rattle.way_values.specs.Tops.{Top}
+use Rattle.quiet_paths.specs.Tops.{Top}
 use Rattle.quiet_paths.specs.Meets.{DoesMeet, base_path, base_value}
 use Rattle.quiet_paths.specs.Names.{entry_naming, name_of}
 use Rattle.quiet_paths.specs.Places.{start_object}

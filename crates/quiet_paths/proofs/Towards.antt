@@ -20,8 +20,8 @@ use Rattle.core_code.specs.Kinds.{StackKind}
 use Rattle.core_code.specs.Tree.{Tree, Step as Operate, Nothing, Then, Either, Again, Held, steps_of, Operation}
 use Rattle.core_code.proofs.Membership.{In, in_append}
 use Rattle.core_ways.specs.Ways.{has_site}
-use Rattle.way_values.specs.Tops.{Top, Tops, behind_first, one_lock_more, to, top_at}
-use Rattle.way_values.specs.Values.{Back, Behind, Calls, End, Point, go, on_ok, point_popped}
+use Rattle.quiet_paths.specs.Tops.{Top, Tops, behind_first, one_lock_more, to, top_at}
+use Rattle.quiet_paths.specs.Values.{Back, Behind, Calls, End, Point, go, on_ok, point_popped}
 use Rattle.quiet_paths.specs.Kept.{AreMet, IsKept, IsMet}
 use Rattle.quiet_paths.specs.Names.{Naming}
 use Rattle.quiet_paths.specs.Places.{AreHushed, IsFrame, IsStore}

@@ -13,8 +13,8 @@ use Rattle.core_code.specs.KindCheck.{begins_with}
 use Rattle.core_code.specs.Kinds.{StackKind, kind_of}
 use Rattle.core_semantics.specs.declared.object.Value.{Value}
 use Rattle.core_semantics.specs.State.{Store}
-use Rattle.way_values.specs.Tops.{Top}
-use Rattle.way_values.specs.Values.{Point, End, Behind, Back, entry_point}
+use Rattle.quiet_paths.specs.Tops.{Top}
+use Rattle.quiet_paths.specs.Values.{Point, End, Behind, Back, entry_point}
 use Rattle.quiet_paths.specs.Meets.{DoesMeet}
 use Rattle.quiet_paths.specs.Names.{Naming, name_of}
 use Rattle.quiet_paths.specs.Places.{AreHushed, ArePlaces, IsFrame, IsPlace, IsStore}

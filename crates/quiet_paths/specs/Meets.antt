@@ -12,8 +12,8 @@ use Rattle.core_code.specs.declared.code.Op.TheVariants.{Get, Put}
 use Rattle.core_code.specs.Core.{Core}
 use Rattle.core_semantics.specs.declared.object.Value.{Value}
 use Rattle.core_semantics.specs.declared.object.Value.TheVariants.{Null}
-use Rattle.way_values.specs.Values.{Point}
-use Rattle.way_values.specs.Tops.{Top}
+use Rattle.quiet_paths.specs.Values.{Point}
+use Rattle.quiet_paths.specs.Tops.{Top}
 use Rattle.quiet_paths.specs.Names.{Naming, name_of}
 use Rattle.quiet_paths.specs.Places.{start_object}
 use Rattle.quiet_paths.specs.Quiet.{Quietness, are_declared}

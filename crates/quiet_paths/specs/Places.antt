@@ -17,7 +17,7 @@ use Rattle.core_semantics.specs.declared.object.Value.{Value}
 use Rattle.core_semantics.specs.declared.object.Value.TheVariants.{Object as Ref}
 use Rattle.core_semantics.specs.State.{Store}
 use Rattle.core_semantics.specs.Steps.{kind_of as field_kind}
-use Rattle.way_values.specs.Values.{Point}
+use Rattle.quiet_paths.specs.Values.{Point}
 use Rattle.quiet_paths.specs.Names.{Naming, name_of}
 use Rattle.quiet_paths.specs.Quiet.{Quietness, are_declared, start_path}
 

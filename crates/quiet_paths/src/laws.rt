@@ -10,7 +10,7 @@ ghost use Rattle.core_semantics.specs.Runs.{given_to};
 ghost use Rattle.core_semantics.specs.State.{Store};
 ghost use Rattle.core_ways.specs.Stable.{IsStable};
 ghost use Rattle.core_ways.specs.Ways.{record_at};
-ghost use Rattle.way_values.specs.Tops.{Top, top_of};
+ghost use Rattle.quiet_paths.specs.Tops.{Top, top_of};
 ghost use Rattle.quiet_paths.specs.Meets.{DoesMeet, base_path, base_value};
 ghost use Rattle.quiet_paths.specs.Names.{entry_naming};
 ghost use Rattle.quiet_paths.specs.Places.{IsStore, start_object};

@@ -8,7 +8,7 @@ use Rattle.race_pairs.specs.declared.warning.Warning.{Warning}
 use Rattle.core_ways.specs.declared.mark.Mark.{Mark}
 use Rattle.core_ways.specs.Marks.{Said, said_by}
 use Rattle.witness_build.specs.Warned.{warning_mark}
-use Rattle.race_report.specs.Report.{is_confirmed}
+use Rattle.report_parts.specs.Report.{is_confirmed}
 
 count_mapped : {X Y : Type 0} (f : X → Y) (p : Y → Bool) (xs : List X) →
     count_by (λ x. p (f x)) xs ≡ count_by p (map f xs)

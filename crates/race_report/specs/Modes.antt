@@ -3,8 +3,8 @@ use Rattle.std.specs.Prelude.{ℕ, List, if◌then◌else◌}
 use Rattle.serde_json.specs.Written.{compact_text}
 use Rattle.core_code.specs.Core.{Core}
 use Rattle.race_report.specs.declared.mode.Mode.{Mode}
-use Rattle.race_report.specs.Report.{line, report_text}
-use Rattle.report_json.specs.Json.{report_value}
+use Rattle.report_parts.specs.Report.{line, report_text}
+use Rattle.report_parts.specs.Json.{report_value}
 
 abbrev pub report : Mode → Core → List ℕ
 report mode core =

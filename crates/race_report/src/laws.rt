@@ -1,7 +1,7 @@
 //! The reports of small programs.
 ghost use Rattle.std.specs.Prelude.{◌≡◌, ◌++◌, None, codes, false};
 ghost use Rattle.core_code.specs.Pair.{pair, after_call, call_put};
-ghost use Rattle.race_report.specs.Report.{report_text};
+ghost use Rattle.report_parts.specs.Report.{report_text};
 
 /// The report of a class with two methods, one of which writes without the lock.
 pub fn pair_report()

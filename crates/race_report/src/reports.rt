@@ -7,19 +7,21 @@ ghost use Rattle.race_pairs.specs.Warnings as pairs;
 ghost use Rattle.core_ways.specs.Marks.{said_by};
 ghost use Rattle.witness_build.specs.Warned.{warning_mark};
 ghost use Rattle.report_parts.specs.Written.{Lasts, Puts};
-ghost use Rattle.report_json.specs.Json.{report_value};
+ghost use Rattle.report_parts.specs.Json.{report_value};
 ghost use Rattle.race_report.specs.Modes as said;
-ghost use Rattle.race_report.specs.Report as lines;
+ghost use Rattle.report_parts.specs.Report as lines;
 
 use crate::Mode;
 use crate::marks::push_last;
-use crate::text::{push_counts, push_not_analysed, push_skipped, push_summaries, push_warnings};
+use crate::text::push_warnings;
 use access_domain::Outcome;
 use core_code::Program;
 use core_ways::Mark;
 use race_pairs::Warning;
 use racer_base::Memory;
-use report_parts::{Written, push_end, push_text};
+use report_parts::{
+    Written, push_counts, push_end, push_not_analysed, push_skipped, push_summaries, push_text,
+};
 use std::alloc::Global;
 use std::sync::Arc;
 
@@ -100,7 +102,7 @@ fn push_object(
     ensures lasts { Lasts text.old text.new }
     ensures puts { Puts (lines.line (compact_text (report_value summaries (core program.now)))) text.old text.new }
 {
-    report_json::push_report(text, summaries, program, outcomes, found, marks);
+    report_parts::push_report(text, summaries, program, outcomes, found, marks);
     push_end(text)
 }
 

@@ -1,3 +1,7 @@
+pub mod JsonItems
+pub mod JsonPieces
+pub mod JsonTurns
+pub mod MarkedWarnings
 pub mod ReportOutcomes
 pub mod SiteTables
 pub mod SortedTexts
@@ -7,3 +11,6 @@ pub mod PlaceSteps
 pub mod PutChains
 pub mod LookUps
 pub mod SideParts
+pub mod PutTurns
+pub mod RunLines
+pub mod SummaryTold

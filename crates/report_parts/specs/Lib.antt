@@ -1,4 +1,6 @@
 -- A contract of a public call rests on this: the list of files.
+pub mod Json
+pub mod Pieces
 pub mod ByteOrder
 pub mod Texts
 pub mod Places
@@ -7,3 +9,4 @@ pub mod Sites
 pub mod Sides
 pub mod Marks
 pub mod Written
+pub mod Report

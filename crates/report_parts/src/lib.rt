@@ -1,5 +1,5 @@
-//! What a report tells of a program, before it is laid out: texts, places, the records of warnings, marks,
-//! summaries.
+//! What a report tells of a program: texts, places, the records of warnings, marks, summaries; the lines of a
+//! report, and the report as one object.
 //!
 //! # The definitions
 //!
@@ -10,20 +10,35 @@
 //! - `specs/Marks.antt`: the texts of a mark, of a start path and of the leg of a run.
 //! - `specs/Sites.antt`: the same as the code holds it.
 //! - `specs/Written.antt`: what a function puts behind a text.
+//! - `specs/Report.antt`: the lines of the report.
+//! - `specs/Json.antt`: the report as one object.
+//! - `specs/Pieces.antt`: the pieces of the object's text, as they are put behind one another.
 #![tactic(auto)]
 
+mod json;
 pub mod laws;
+mod lines;
+mod mark_lines;
+mod mark_numbers;
 mod marks;
 mod methods;
 mod sides;
+mod strings;
+mod summary_lines;
 mod tables;
 mod texts;
+mod values;
 mod wobbly;
 mod written;
 
+pub use json::push_report;
+pub use lines::{push_counts, push_not_analysed, push_side, push_skipped};
+pub use mark_lines::push_mark_lines;
+pub use mark_numbers::mark_at;
 pub use marks::{mark_word, push_leg, push_mark, push_start};
 pub use methods::{outcome_of, reason_of, summary_of};
 pub use sides::{Side, Sides, sides_of};
+pub use summary_lines::push_summaries;
 pub use tables::{Site, place_at, sites};
 pub use texts::{
     push_access, push_line, push_method, push_path, push_place, push_record, push_value, touch_text,

@@ -3,7 +3,7 @@ ghost use Rattle.std.specs.Prelude.{◌≡◌, ◌≢◌, ◌<◌, IfOk, IfSome,
 ghost use Rattle.racer_base.specs.Outside.{last_count};
 ghost use Rattle.core_code.specs.Program.{core};
 ghost use Rattle.access_domain.specs.Outcomes.{AreOutcomes};
-ghost use Rattle.folder_sources.specs.Finding.{CountsFaults, FailsByMemory};
+ghost use Rattle.folder_programs.specs.Finding.{CountsFaults, FailsByMemory};
 ghost use Rattle.folder_programs.specs.Programs.{Accepted, source_of};
 ghost use Rattle.top_call.specs.Said.{said_from, HasHeadline, Says};
 ghost use Rattle.top_call.specs.Causes.{asked_of, AsksFor, IsDue, is_said};

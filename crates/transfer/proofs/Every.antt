@@ -13,7 +13,7 @@ use Rattle.std.proofs.lemmas.List.{at_drop_more, drop_all, length-map}
 use Rattle.std.specs.List.{list_any, list_all, flat_map}
 use Rattle.std.specs.Option.{IfSome, option_and_then}
 use Rattle.racer_base.specs.declared.ids.MethodId.{MethodId}
-use Rattle.call_graph.specs.Chains.{row_of}
+use Rattle.core_code.specs.Chains.{row_of}
 use Rattle.core_code.specs.declared.code.Op.{Op as CoreOp}
 use Rattle.core_code.specs.declared.parts.MethodCore.{MethodCore}
 use Rattle.core_code.specs.declared.code.Op.TheVariants.{Push, PushClass, PushPrim, PushNull, New, Dup, Drop, Get, Put}

@@ -23,10 +23,10 @@ use Rattle.access_domain.specs.declared.summary.Outcome.{Outcome}
 use Rattle.access_domain.specs.declared.summary.Outcome.TheVariants as code
 use Rattle.access_domain.specs.Findings.{outcome_from}
 use Rattle.access_domain.specs.Summaries.{outcome_of, known_of_callees, known_at, known_given}
-use Rattle.method_flow.specs.declared.calls.Callee.{Callee}
+use Rattle.transfer.specs.declared.calls.Callee.{Callee}
 use Rattle.transfer.specs.Callees.{Held, AreCallees, outcome_in}
-use Rattle.method_flow.specs.Known.{known_in, outcome_among, table_of}
-use Rattle.method_flow.proofs.Callees.{held}
+use Rattle.transfer.specs.Known.{known_in, outcome_among, table_of}
+use Rattle.transfer.proofs.Callees.{held}
 use Rattle.transfer.proofs.Tables.{is_method, outcome-agree}
 
 -- ---- one more

@@ -1,3 +1,11 @@
+pub mod JoinedResults
+pub mod Adding
+pub mod Marking
+pub mod Stacks
+pub mod Flows
+pub mod Callees
+pub mod Wholes
+pub mod Parameters
 pub mod Tables
 pub mod Handed
 pub mod Every

@@ -4,12 +4,11 @@ ghost use Rattle.std.specs.Arc.{arc_value};
 ghost use Rattle.racer_base.specs.declared.ids.MethodId.{MethodId as Id};
 ghost use Rattle.core_code.specs.Calls.{is_analysed};
 ghost use Rattle.core_code.specs.Program.{core};
-ghost use Rattle.method_flow.specs.Known.{outcome_among};
+ghost use Rattle.transfer.specs.Known.{outcome_among};
 ghost use Rattle.transfer.specs.Callees.{AreCallees, outcome_in};
 
-use crate::Finished;
+use crate::{Callee, Finished, outcome};
 use core_code::Program;
-use method_flow::{Callee, outcome};
 use racer_base::{Memory, MethodId};
 use std::alloc::Global;
 use std::sync::Arc;

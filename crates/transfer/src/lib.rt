@@ -1,15 +1,23 @@
-//! The analysis of one method, given those of the methods that it calls, and of all methods of a program.
+//! The flow of a method's code, given what is known of the methods that it calls; the outcome that comes of it; and the
+//! analysis of all methods of a program.
 //!
 //! The definitions are those of `access_domain`: `specs/Flow.antt`, `specs/Operations.antt` and
 //! `specs/Summaries.antt`. A `Finished` keeps by its type that its outcome is its method's, for its program.
 #![tactic(auto)]
 
 mod analysis;
+mod calls;
 mod finished;
+mod found;
+mod here;
 pub mod laws;
+mod method_outcomes;
+mod operations;
+mod walk;
 mod whole;
 
 pub use analysis::analyse;
+pub use calls::Callee;
 pub use finished::Finished;
-pub use method_flow::{Callee, outcome};
+pub use method_outcomes::outcome;
 pub use whole::outcomes;

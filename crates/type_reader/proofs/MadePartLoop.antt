@@ -6,8 +6,8 @@ use Rattle.java_tree.specs.declared.words.Spelled.{Spelled}
 use Rattle.java_tree.specs.Trees.{Ty, Part}
 use Rattle.type_reader.specs.declared.reading.error.ReadError.{ReadError}
 use Rattle.type_reader.specs.declared.reading.error.ReadError.TheVariants.{Memory, Unformed}
-use Rattle.method_grammar.specs.Taking.{◌>>=◌, match_option, after_sign}
-use Rattle.method_grammar.specs.TypeReading.{is_diamond, made_part_with, made_parts_with}
+use Rattle.java_units.specs.Taking.{◌>>=◌, match_option, after_sign}
+use Rattle.java_units.specs.TypeReading.{is_diamond, made_part_with, made_parts_with}
 use Rattle.type_reader.specs.PointBehind.{point_behind}
 use Rattle.type_reader.specs.Tokens.{spelled}
 use Rattle.type_reader.specs.Finishing.{finished}

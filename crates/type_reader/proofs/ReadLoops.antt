@@ -7,8 +7,8 @@ use Rattle.java_lexer.specs.declared.token.Token.{Token}
 use Rattle.java_tree.specs.declared.words.Spelled.{Spelled}
 use Rattle.type_reader.specs.declared.reading.error.ReadError.{ReadError}
 use Rattle.type_reader.specs.declared.reading.error.ReadError.TheVariants.{Memory, Unformed}
-use Rattle.method_grammar.specs.Taking.{◌>>=◌, after_sign, commas}
-use Rattle.method_grammar.specs.TypeReading.{after_brackets, brackets_at, points}
+use Rattle.java_units.specs.Taking.{◌>>=◌, after_sign, commas}
+use Rattle.java_units.specs.TypeReading.{after_brackets, brackets_at, points}
 use Rattle.type_reader.specs.Tokens.{spelled}
 use Rattle.type_reader.specs.Finishing.{finished}
 use Rattle.type_reader.specs.ReadAnswer.{Fails, Gives}

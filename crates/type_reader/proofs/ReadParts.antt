@@ -2,7 +2,7 @@
 use Rattle.std.proofs.Common.{◌≡◌, Option, Some, None, ap}
 use Rattle.type_reader.specs.declared.reading.error.ReadError.{ReadError}
 use Rattle.type_reader.specs.declared.reading.error.ReadError.TheVariants.{Memory, Unformed}
-use Rattle.method_grammar.specs.Taking.{◌>>=◌}
+use Rattle.java_units.specs.Taking.{◌>>=◌}
 use Rattle.type_reader.specs.ReadAnswer.{Fails}
 
 -- where a part is not read, the whole is not

@@ -4,11 +4,11 @@ use Rattle.std.specs.Prelude.{IsErrOf}
 use Rattle.java_tree.specs.declared.words.Spelled.{Spelled}
 use Rattle.type_reader.specs.declared.reading.error.ReadError.{ReadError}
 use Rattle.type_reader.specs.declared.reading.error.ReadError.TheVariants.{Memory, Unformed}
-use Rattle.method_grammar.specs.MethodReading.{if_ended}
+use Rattle.java_units.specs.MethodReading.{if_ended}
 use Rattle.type_reader.specs.ReadAnswer.{Gives}
 use Rattle.type_reader.specs.Whole.{all_of}
-use Rattle.method_grammar.proofs.Ensuring.{Ensures, of_equation}
-use Rattle.method_grammar.proofs.SoundSteps.{GotOne}
+use Rattle.java_units.proofs.Ensuring.{Ensures, of_equation}
+use Rattle.java_units.proofs.SoundSteps.{GotOne}
 
 abbrev taken : {A : Type 0} → A → List Spelled → A × List Spelled
 taken x rest = (x, rest)

@@ -7,8 +7,8 @@ use Rattle.java_tree.specs.Trees.{Array, Braces, Init, Stmt, Stmts, pack_parts, 
 use Rattle.java_tree.specs.Trees.{pack_inits, pack_stmts}
 use Rattle.java_tree.specs.Operators.{is_step}
 use Rattle.java_tree.specs.Formed.{is_variable}
-use Rattle.method_grammar.specs.Taking.{◌>>=◌, match_option, after_sign, after_angle}
-use Rattle.method_grammar.specs.TypeReading.{after_brackets, brackets_at}
+use Rattle.java_units.specs.Taking.{◌>>=◌, match_option, after_sign, after_angle}
+use Rattle.java_units.specs.TypeReading.{after_brackets, brackets_at}
 
 -- a base of these parts
 abbrev pub named_end : List Part × List Spelled → Option (Base × List Spelled)

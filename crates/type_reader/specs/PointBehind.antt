@@ -2,8 +2,8 @@
 use Rattle.std.specs.Prelude.{List, Option, None, codes, if◌then◌else◌}
 use Rattle.java_tree.specs.declared.words.Spelled.{Spelled}
 use Rattle.java_tree.specs.Trees.{Part}
-use Rattle.method_grammar.specs.Taking.{after_sign}
-use Rattle.method_grammar.specs.TypeReading.{is_diamond}
+use Rattle.java_units.specs.Taking.{after_sign}
+use Rattle.java_units.specs.TypeReading.{is_diamond}
 
 -- the tokens behind the point that goes on from a part, where one does: none does from a part with `< >`
 abbrev pub point_behind : Part → List Spelled → Option (List Spelled)

@@ -1,8 +1,8 @@
 -- No public contract rests on this: what is read where it takes all of the tokens.
 use Rattle.std.specs.Prelude.{List, Option}
 use Rattle.java_tree.specs.declared.words.Spelled.{Spelled}
-use Rattle.method_grammar.specs.Taking.{◌>>=◌}
-use Rattle.method_grammar.specs.MethodReading.{if_ended}
+use Rattle.java_units.specs.Taking.{◌>>=◌}
+use Rattle.java_units.specs.MethodReading.{if_ended}
 
 -- what was read, where no tokens are left behind it
 abbrev pub all_of : {A : Type 0} → Option (A × List Spelled) → Option A

@@ -10,9 +10,9 @@ use Rattle.java_tree.specs.Words.{identifier, sign}
 use Rattle.java_tree.specs.Formed.{has_some}
 use Rattle.java_tree.specs.View.{annotation_of}
 use Rattle.java_tree.specs.Spelling.{behind_points, names_onto}
-use Rattle.method_grammar.specs.Lookahead.{begins_with}
-use Rattle.method_grammar.proofs.Ensuring.{name_is, and_first, and_last}
-use Rattle.method_grammar.proofs.Taken.{sign_is}
+use Rattle.java_units.specs.Lookahead.{begins_with}
+use Rattle.java_units.proofs.Ensuring.{name_is, and_first, and_last}
+use Rattle.java_units.proofs.Taken.{sign_is}
 use Rattle.java_units.specs.Tokens.{plain, plain_all, is_sign_token, is_name, begins}
 use Rattle.java_units.specs.Declarations.{is_type_modifier}
 use Rattle.java_units.specs.Pieces.{Piece, is_annotation}

@@ -13,10 +13,10 @@ use Rattle.java_tree.specs.Words.{identifier}
 use Rattle.java_tree.specs.Formed.{has_some, FormedMethod}
 use Rattle.java_tree.specs.Spelling.{behind_points, names_onto, spelling}
 use Rattle.java_tree.specs.View.{method_of}
-use Rattle.method_grammar.specs.Lookahead.{begins_with}
-use Rattle.method_grammar.specs.Taking.{after_sign}
-use Rattle.method_grammar.proofs.FoundJava.{one_java_method}
-use Rattle.method_grammar.proofs.Taken.{sign_is}
+use Rattle.java_units.specs.Lookahead.{begins_with}
+use Rattle.java_units.specs.Taking.{after_sign}
+use Rattle.java_units.proofs.FoundJava.{one_java_method}
+use Rattle.java_units.proofs.Taken.{sign_is}
 use Rattle.java_units.specs.declared.unit.ClassTree.{ClassTree}
 use Rattle.java_units.specs.declared.unit.Member.{Member}
 use Rattle.java_units.specs.declared.unit.Member.TheVariants as member

@@ -14,10 +14,10 @@ use Rattle.java_tree.specs.KeptPlaces.{ty_places}
 use Rattle.java_tree.specs.Spelling.{ty_onto, modifiers_onto}
 use Rattle.java_tree.specs.Trees.{Ty, Modifier}
 use Rattle.java_tree.specs.View.{ty_of, init_of, modifier_of}
-use Rattle.method_grammar.specs.TypeReading.{ty_at}
-use Rattle.method_grammar.proofs.FoundExpressions.{one_init}
-use Rattle.method_grammar.proofs.FoundTypes.{ty_found}
-use Rattle.method_grammar.proofs.ListedVariables.{one_list}
+use Rattle.java_units.specs.TypeReading.{ty_at}
+use Rattle.java_units.proofs.FoundExpressions.{one_init}
+use Rattle.java_units.proofs.FoundTypes.{ty_found}
+use Rattle.java_units.proofs.ListedVariables.{one_list}
 use Rattle.java_units.specs.FieldDivisions.{BeginsWith, IsVariable, AreVariables, AreDeclared, AreFields}
 use Rattle.java_units.specs.FieldDivisions.{between_commas}
 use Rattle.java_units.specs.Pieces.{items_of}
@@ -25,10 +25,10 @@ use Rattle.java_units.specs.Tokens.{AreLast}
 use Rattle.java_units.proofs.OneDivision.{one_division}
 use Rattle.type_reader.specs.Tokens.{spelled}
 use Rattle.method_reader.proofs.TypeCounts.{ty_count, ty_counts}
-use Rattle.member_reader.specs.FieldModifiers.{field_modifier_at, EndsModifiers, Spells}
-use Rattle.member_reader.proofs.DeclaredFields.{declaration_spells, ends_type_here, variables_begin, push_ends, left_of}
-use Rattle.member_reader.proofs.ModifierSteps.{first_found, ends_type}
-use Rattle.member_reader.proofs.SameEnds.{same_ends, same_size}
+use Rattle.unit_reader.specs.FieldModifiers.{field_modifier_at, EndsModifiers, Spells}
+use Rattle.unit_reader.proofs.DeclaredFields.{declaration_spells, ends_type_here, variables_begin, push_ends, left_of}
+use Rattle.unit_reader.proofs.ModifierSteps.{first_found, ends_type}
+use Rattle.unit_reader.proofs.SameEnds.{same_ends, same_size}
 use Rattle.unit_reader.specs.SameUnits.{SameType, SameInitialiser, SameVariable, SameField}
 
 -- two lists beside one, element by element

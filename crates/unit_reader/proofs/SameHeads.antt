@@ -9,13 +9,13 @@ use Rattle.java_tree.specs.Trees.{Result, NoResult, VoidResult, TypeResult}
 use Rattle.java_tree.specs.Spelling.{result_onto, ty_onto}
 use Rattle.java_tree.specs.Formed.{FormedTy, is_plain_word}
 use Rattle.java_tree.specs.View.{ty_of}
-use Rattle.method_grammar.specs.Taking.{is_keyword_kind}
-use Rattle.method_grammar.proofs.FoundTypes.{one_type}
+use Rattle.java_units.specs.Taking.{is_keyword_kind}
+use Rattle.java_units.proofs.FoundTypes.{one_type}
 use Rattle.java_units.specs.declared.unit.HeadResult.{HeadResult}
 use Rattle.java_units.specs.declared.unit.HeadResult.TheVariants.{Void, Formed, Constructor, Unknown}
 use Rattle.java_units.specs.declared.unit.OutsideHead.{OutsideHead}
 use Rattle.java_units.specs.Heads.{HasHead, HeadSays, IsResult, IsOutside, name_kept}
-use Rattle.member_reader.proofs.ResultSteps.{head_read, behind}
+use Rattle.unit_reader.proofs.ResultSteps.{head_read, behind}
 use Rattle.unit_reader.specs.SameUnits.{SameResult, SameHead}
 use Rattle.unit_reader.proofs.SameFields.{same_places}
 

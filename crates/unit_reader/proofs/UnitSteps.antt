@@ -11,9 +11,9 @@ use Rattle.java_units.specs.declared.unit.ParseFault.{ParseFault}
 use Rattle.java_units.specs.declared.unit.ParseFault.TheVariants.{Unbalanced, TooDeep, NotAUnit, Memory}
 use Rattle.java_units.specs.Pieces.{items_of}
 use Rattle.java_units.specs.Units.{BeginsAt, read_name, is_read, IsClass, IsUnit, IsFault}
-use Rattle.unit_cuts.specs.DeclaredTypes.{AreTypes, IsNoUnit}
-use Rattle.unit_cuts.specs.OpenBrackets.{IsBalanced, IsBracketFault}
-use Rattle.member_reader.proofs.Zips.{Zips, zips_one, zips_done, filter_keeps, filter_drops}
+use Rattle.unit_reader.specs.DeclaredTypes.{AreTypes, IsNoUnit}
+use Rattle.unit_reader.specs.OpenBrackets.{IsBalanced, IsBracketFault}
+use Rattle.unit_reader.proofs.Zips.{Zips, zips_one, zips_done, filter_keeps, filter_drops}
 use Rattle.unit_reader.specs.ReadTypes.{AddsType, AreRead}
 
 -- ---- types

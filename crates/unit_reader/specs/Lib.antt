@@ -1,3 +1,16 @@
+pub mod Fronts
+pub mod FieldModifiers
+pub mod Divisions
+pub mod LastParts
+pub mod ResultParts
+pub mod Sizes
+pub mod OpenBrackets
+pub mod Members
+pub mod FirstDeclaration
+pub mod PieceSizes
+pub mod FormView
+pub mod DeclaredTypes
+pub mod WalkedTypes
 pub mod ClassNames
 pub mod NamesOfAnnotations
 pub mod ReadTypes

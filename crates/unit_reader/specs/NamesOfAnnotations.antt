@@ -7,7 +7,7 @@ use Rattle.java_tree.specs.declared.methods.AnnotationTree.{AnnotationTree}
 use Rattle.java_tree.specs.Formed.{has_some}
 use Rattle.java_tree.specs.Spelling.{names_onto}
 use Rattle.java_tree.specs.View.{annotation_of}
-use Rattle.method_grammar.specs.Lookahead.{begins_with}
+use Rattle.java_units.specs.Lookahead.{begins_with}
 use Rattle.java_units.specs.Tokens.{plain_all, is_sign_token, is_name, signed}
 
 abbrev pub after_point : List Token → Option (Token × List Token)

@@ -6,14 +6,14 @@ ghost use Rattle.java_units.specs.Tokens.{plain, plain_all, is_name};
 ghost use Rattle.java_units.specs.Units.{annotations_before, IsAnnotation};
 ghost use Rattle.unit_reader.specs.NamesOfAnnotations.{after_point, AreNames, fits_names, IsInner};
 
+use crate::declarations::TYPE_MODIFIERS;
+use crate::pieces::{is_annotation, next_piece};
+use crate::tests_of_tokens::{signed, worded_among};
 use java_lexer::Token;
 use java_tree::{AnnotationTree, Spelled};
 use racer_base::{Items, Memory, Text};
 use std::alloc::Global;
 use type_reader::reading::look::{is_name, is_sign};
-use unit_cuts::declarations::TYPE_MODIFIERS;
-use unit_cuts::pieces::{is_annotation, next_piece};
-use unit_cuts::tests_of_tokens::{signed, worded_among};
 
 fn copied(alloc: Global, token: &Token) -> Result<Spelled, Memory>
     ensures { IfOk result (λ copy. copy ≡ plain token.now) }

@@ -6,16 +6,16 @@ ghost use Rattle.java_units.specs.Units.{name_in, read_name, IsClass};
 ghost use Rattle.unit_reader.specs.ClassNames.{named_between};
 
 use super::annotations::annotations;
+use crate::bodies::body;
+use crate::declarations::TYPE_MODIFIERS;
+use crate::forms::behind_words;
+use crate::members::members;
+use crate::pieces::next_piece;
+use crate::tests_of_tokens::{signed, worded};
 use java_lexer::Token;
 use java_units::ClassTree;
-use member_reader::members::members;
 use racer_base::{Memory, Text};
 use std::alloc::Global;
-use unit_cuts::bodies::body;
-use unit_cuts::declarations::TYPE_MODIFIERS;
-use unit_cuts::forms::behind_words;
-use unit_cuts::pieces::next_piece;
-use unit_cuts::tests_of_tokens::{signed, worded};
 
 /// Whether the name of a class that is read stands between these.
 fn is_read_between(word: &[Token], next: &[Token]) -> bool

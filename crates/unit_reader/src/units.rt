@@ -5,12 +5,12 @@ ghost use Rattle.java_units.specs.Units.{is_read, IsClass, BeginsAt, IsUnit, IsF
 ghost use Rattle.unit_reader.specs.ReadTypes.{AddsType, AreRead};
 
 use super::classes::{class, read_name};
+use crate::balance::check_brackets;
+use crate::types::types;
 use java_lexer::{Lexed, Token};
 use java_units::{ClassTree, ParseFault, Unit};
 use racer_base::{Items, Memory};
 use std::alloc::Global;
-use unit_cuts::balance::check_brackets;
-use unit_cuts::types::types;
 
 /// Puts a class behind others. It is let go where memory is refused.
 fn put_class(classes: &mut Items<ClassTree>, class: ClassTree) -> Result<(), Memory>

@@ -3,8 +3,8 @@ ghost use Rattle.std.specs.Prelude.{◌≡◌, ◌<◌, ◌≤◌, ◌^◌, suc,
 ghost use Rattle.java_tree.specs.KeptPlaces.{kept, each_puts, expr_places};
 ghost use Rattle.java_tree.specs.Operators.{assignment_level};
 ghost use Rattle.java_tree.specs.View.{expr_of};
-ghost use Rattle.method_grammar.specs.Taking.{commas};
-ghost use Rattle.method_grammar.specs.ExpressionReading.{call_arguments_with, read_at};
+ghost use Rattle.java_units.specs.Taking.{commas};
+ghost use Rattle.java_units.specs.ExpressionReading.{call_arguments_with, read_at};
 ghost use Rattle.type_reader.specs.Tokens.{spelled};
 ghost use Rattle.type_reader.specs.Finishing.{finished};
 ghost use Rattle.type_reader.specs.Endings.{call_end};
@@ -20,7 +20,7 @@ use type_reader::reading::look::after_sign;
 
 /// The arguments of a call behind its `(`, and the `)` (JLS 15.12).
 #[cycle(expressions)]
-#[tactic(auto, unfolding(method_grammar::specs::ExpressionReading::call_arguments_with))]
+#[tactic(auto, unfolding(java_units::specs::ExpressionReading::call_arguments_with))]
 pub fn call_arguments(
     alloc: Global,
     limit: u32,

@@ -4,7 +4,7 @@ ghost use Rattle.java_lexer.specs.declared.token.TokenKind.TheVariants as kind;
 ghost use Rattle.java_tree.specs.Trees.{Expr};
 ghost use Rattle.java_tree.specs.KeptPlaces.{kept, each_puts, name_places, expr_places};
 ghost use Rattle.java_tree.specs.View.{expr_of, name_of};
-ghost use Rattle.method_grammar.specs.ExpressionReading.{Reading, class_at, name_with};
+ghost use Rattle.java_units.specs.ExpressionReading.{Reading, class_at, name_with};
 ghost use Rattle.expression_reader.specs.ClassFollows.{class_follows, class_end};
 ghost use Rattle.type_reader.specs.Tokens.{spelled};
 ghost use Rattle.type_reader.specs.Finishing.{finished};

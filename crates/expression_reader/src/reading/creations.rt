@@ -3,9 +3,9 @@ ghost use Rattle.std.specs.Prelude.{◌≡◌, ◌<◌, ◌≤◌, ◌^◌, suc,
 ghost use Rattle.java_tree.specs.KeptPlaces.{kept, base_places, expr_places};
 ghost use Rattle.java_tree.specs.Operators.{assignment_level};
 ghost use Rattle.java_tree.specs.View.{base_of, expr_of};
-ghost use Rattle.method_grammar.specs.TypeReading.{made_base_at};
-ghost use Rattle.method_grammar.specs.ExpressionReading.{lengths_with, new_array_with, new_items_with};
-ghost use Rattle.method_grammar.specs.ExpressionReading.{new_object_with, new_with, read_at, array_at};
+ghost use Rattle.java_units.specs.TypeReading.{made_base_at};
+ghost use Rattle.java_units.specs.ExpressionReading.{lengths_with, new_array_with, new_items_with};
+ghost use Rattle.java_units.specs.ExpressionReading.{new_object_with, new_with, read_at, array_at};
 ghost use Rattle.type_reader.specs.Tokens.{spelled};
 ghost use Rattle.type_reader.specs.Finishing.{finished};
 ghost use Rattle.type_reader.specs.Endings.{lengths_end};
@@ -27,7 +27,7 @@ use type_reader::reading::nested::NestedBase;
 
 /// What stands behind a `new` (JLS 15.9, 15.10). The place is that of the `new`.
 #[cycle(expressions)]
-#[tactic(auto, unfolding(method_grammar::specs::ExpressionReading::new_with))]
+#[tactic(auto, unfolding(java_units::specs::ExpressionReading::new_with))]
 pub fn creation(
     alloc: Global,
     limit: u32,
@@ -57,7 +57,7 @@ pub fn creation(
 
 /// An object of this class, behind its `(` (JLS 15.9).
 #[cycle(expressions)]
-#[tactic(auto, unfolding(method_grammar::specs::ExpressionReading::new_object_with))]
+#[tactic(auto, unfolding(java_units::specs::ExpressionReading::new_object_with))]
 fn new_object(
     alloc: Global,
     limit: u32,
@@ -84,7 +84,7 @@ fn new_object(
 
 /// An array of lengths (JLS 15.10.1).
 #[cycle(expressions)]
-#[tactic(auto, unfolding(method_grammar::specs::ExpressionReading::new_array_with))]
+#[tactic(auto, unfolding(java_units::specs::ExpressionReading::new_array_with))]
 fn new_array(
     alloc: Global,
     limit: u32,
@@ -150,7 +150,7 @@ fn lengths(
 
 /// An array of items, behind the first `[ ]` (JLS 15.10.1).
 #[cycle(expressions)]
-#[tactic(auto, unfolding(method_grammar::specs::ExpressionReading::new_items_with))]
+#[tactic(auto, unfolding(java_units::specs::ExpressionReading::new_items_with))]
 fn new_items(
     alloc: Global,
     limit: u32,

@@ -2,9 +2,9 @@
 ghost use Rattle.std.specs.Prelude.{◌≡◌, ◌<◌, ◌≤◌, ◌^◌, suc, length, map, IfOk};
 ghost use Rattle.java_tree.specs.KeptPlaces.{kept, expr_places};
 ghost use Rattle.java_tree.specs.View.{expr_of};
-ghost use Rattle.method_grammar.specs.ExpressionReading.{assign_with, conditional_with, binary_with, select_with};
-ghost use Rattle.method_grammar.specs.ExpressionReading.{index_with, turn_with, climb_with, read_at};
-ghost use Rattle.method_grammar.specs.Leads.{lead};
+ghost use Rattle.java_units.specs.ExpressionReading.{assign_with, conditional_with, binary_with, select_with};
+ghost use Rattle.java_units.specs.ExpressionReading.{index_with, turn_with, climb_with, read_at};
+ghost use Rattle.java_units.specs.Leads.{lead};
 ghost use Rattle.type_reader.specs.Tokens.{spelled};
 ghost use Rattle.expression_reader.specs.TurnView.{turn_of, places_put, IsSmall, IsWithin};
 ghost use Rattle.type_reader.specs.ReadAnswer.{Gives};
@@ -23,7 +23,7 @@ use type_reader::reading::look::{after_sign, name, sign};
 
 /// An expression of a level of at least `level` and a nesting of at most `limit`.
 #[cycle(expressions)]
-#[tactic(auto, unfolding(method_grammar::specs::ExpressionReading::read_at))]
+#[tactic(auto, unfolding(java_units::specs::ExpressionReading::read_at))]
 pub fn read_expression(
     alloc: Global,
     limit: u32,
@@ -48,7 +48,7 @@ pub fn read_expression(
 
 /// The expression that begins with this one: as many turns as the nesting allows.
 #[cycle(expressions)]
-#[tactic(auto, unfolding(method_grammar::specs::ExpressionReading::climb_with))]
+#[tactic(auto, unfolding(java_units::specs::ExpressionReading::climb_with))]
 fn climb(
     alloc: Global,
     limit: u32,
@@ -82,7 +82,7 @@ fn climb(
 
 /// One turn, with what the first token begins.
 #[cycle(expressions)]
-#[tactic(auto, unfolding(method_grammar::specs::ExpressionReading::turn_with))]
+#[tactic(auto, unfolding(java_units::specs::ExpressionReading::turn_with))]
 fn turn<'a>(
     alloc: Global,
     limit: u32,
@@ -117,7 +117,7 @@ fn turn<'a>(
 
 /// An assignment (JLS 15.26).
 #[cycle(expressions)]
-#[tactic(auto, unfolding(method_grammar::specs::ExpressionReading::assign_with))]
+#[tactic(auto, unfolding(java_units::specs::ExpressionReading::assign_with))]
 fn assign<'a>(
     alloc: Global,
     limit: u32,
@@ -140,7 +140,7 @@ fn assign<'a>(
 
 /// `a ? b : c` (JLS 15.25).
 #[cycle(expressions)]
-#[tactic(auto, unfolding(method_grammar::specs::ExpressionReading::conditional_with))]
+#[tactic(auto, unfolding(java_units::specs::ExpressionReading::conditional_with))]
 fn conditional<'a>(
     alloc: Global,
     limit: u32,
@@ -164,7 +164,7 @@ fn conditional<'a>(
 
 /// A binary operator (JLS 15.17 to 15.24).
 #[cycle(expressions)]
-#[tactic(auto, unfolding(method_grammar::specs::ExpressionReading::binary_with))]
+#[tactic(auto, unfolding(java_units::specs::ExpressionReading::binary_with))]
 fn binary<'a>(
     alloc: Global,
     limit: u32,
@@ -187,7 +187,7 @@ fn binary<'a>(
 
 /// A field or a call, behind its point (JLS 15.11, 15.12).
 #[cycle(expressions)]
-#[tactic(auto, unfolding(method_grammar::specs::ExpressionReading::select_with))]
+#[tactic(auto, unfolding(java_units::specs::ExpressionReading::select_with))]
 fn select<'a>(
     alloc: Global,
     limit: u32,
@@ -213,7 +213,7 @@ fn select<'a>(
 
 /// An element, behind its `[` (JLS 15.10.3).
 #[cycle(expressions)]
-#[tactic(auto, unfolding(method_grammar::specs::ExpressionReading::index_with))]
+#[tactic(auto, unfolding(java_units::specs::ExpressionReading::index_with))]
 fn index<'a>(
     alloc: Global,
     limit: u32,

@@ -3,9 +3,9 @@ ghost use Rattle.std.specs.Prelude.{◌≡◌, ◌<◌, ◌≤◌, ◌^◌, suc,
 ghost use Rattle.java_lexer.specs.declared.token.TokenKind.TheVariants as kind;
 ghost use Rattle.java_tree.specs.KeptPlaces.{kept, place_onto, expr_places};
 ghost use Rattle.java_tree.specs.View.{expr_of};
-ghost use Rattle.method_grammar.specs.TypeReading.{ty_at, made_base_at};
-ghost use Rattle.method_grammar.specs.ExpressionReading.{name_with, parens_with, cast_with, prefix_with, operand_of};
-ghost use Rattle.method_grammar.specs.ExpressionReading.{operand_with, read_at, array_at};
+ghost use Rattle.java_units.specs.TypeReading.{ty_at, made_base_at};
+ghost use Rattle.java_units.specs.ExpressionReading.{name_with, parens_with, cast_with, prefix_with, operand_of};
+ghost use Rattle.java_units.specs.ExpressionReading.{operand_with, read_at, array_at};
 ghost use Rattle.expression_reader.specs.FirstParenthesis.{lone_parens_with};
 ghost use Rattle.type_reader.specs.Tokens.{spelled};
 ghost use Rattle.type_reader.specs.ReadAnswer.{Gives};
@@ -24,7 +24,7 @@ use type_reader::reading::look::{after_sign, sign};
 
 /// An expression with no expression at its left.
 #[cycle(expressions)]
-#[tactic(auto, unfolding(method_grammar::specs::ExpressionReading::operand_with))]
+#[tactic(auto, unfolding(java_units::specs::ExpressionReading::operand_with))]
 pub fn operand(
     alloc: Global,
     limit: u32,
@@ -84,7 +84,7 @@ fn word<'a>(
 
 /// What begins with this name: a class, a call or the name (JLS 15.8.2, 15.12, 15.14.1).
 #[cycle(expressions)]
-#[tactic(auto, unfolding(method_grammar::specs::ExpressionReading::name_with))]
+#[tactic(auto, unfolding(java_units::specs::ExpressionReading::name_with))]
 fn named<'a>(
     alloc: Global,
     limit: u32,
@@ -141,7 +141,7 @@ fn signed<'a>(
 
 /// Behind a prefix operator (JLS 15.15).
 #[cycle(expressions)]
-#[tactic(auto, unfolding(method_grammar::specs::ExpressionReading::prefix_with))]
+#[tactic(auto, unfolding(java_units::specs::ExpressionReading::prefix_with))]
 fn prefix<'a>(
     alloc: Global,
     limit: u32,

@@ -2,7 +2,7 @@
 ghost use Rattle.std.specs.Prelude.{◌≡◌, ◌<◌, ◌≤◌, ◌^◌, suc, [], ◌∷◌, length, map, IfOk};
 ghost use Rattle.java_tree.specs.KeptPlaces.{kept, init_places, array_places};
 ghost use Rattle.java_tree.specs.View.{init_of, array_of};
-ghost use Rattle.method_grammar.specs.ExpressionReading.{items_with, braces_with, array_at, init_at};
+ghost use Rattle.java_units.specs.ExpressionReading.{items_with, braces_with, array_at, init_at};
 ghost use Rattle.type_reader.specs.Tokens.{spelled};
 ghost use Rattle.type_reader.specs.Endings.{items_end};
 ghost use Rattle.type_reader.specs.ReadAnswer.{Gives};
@@ -17,7 +17,7 @@ use type_reader::reading::look::{after_sign, sign};
 
 /// An array initialiser of a nesting of at most `limit` (JLS 10.6).
 #[cycle(expressions)]
-#[tactic(auto, unfolding(method_grammar::specs::ExpressionReading::array_at))]
+#[tactic(auto, unfolding(java_units::specs::ExpressionReading::array_at))]
 pub fn read_array(
     alloc: Global,
     limit: u32,
@@ -39,7 +39,7 @@ pub fn read_array(
 
 /// Items of a nesting of at most `limit` and their braces.
 #[cycle(expressions)]
-#[tactic(auto, unfolding(method_grammar::specs::ExpressionReading::braces_with))]
+#[tactic(auto, unfolding(java_units::specs::ExpressionReading::braces_with))]
 fn braces(alloc: Global, limit: u32, tokens: &[Token]) -> Result<(NestedArray, &[Token]), ReadError>
     requires few { length tokens.now < 2 ^ 32 }
     requires room { suc (suc limit) < 2 ^ 32 }

@@ -5,8 +5,8 @@ ghost use Rattle.racer_base.specs.declared.ids.Place.{Place};
 ghost use Rattle.java_lexer.specs.declared.token.TokenKind.TheVariants as kind;
 ghost use Rattle.java_tree.specs.KeptPlaces.{kept, place_onto};
 ghost use Rattle.java_tree.specs.Operators.{is_assignment, is_step, is_prefix, is_signed};
-ghost use Rattle.method_grammar.specs.Leads.{lead_of_angle, lead_of_sign, lead_of_word, lead, one_sign_operators};
-ghost use Rattle.method_grammar.specs.Leads.{opens, opens_operand, opens_signed, is_plain_cast, casts};
+ghost use Rattle.java_units.specs.Leads.{lead_of_angle, lead_of_sign, lead_of_word, lead, one_sign_operators};
+ghost use Rattle.java_units.specs.Leads.{opens, opens_operand, opens_signed, is_plain_cast, casts};
 ghost use Rattle.expression_reader.specs.FirstParenthesis.{behind_first};
 ghost use Rattle.type_reader.specs.Tokens.{spelled};
 ghost use Rattle.expression_reader.specs.MarkLeads.{lead_of_mark};
@@ -164,7 +164,7 @@ fn lead_of_keyword<'a>(text: &'a str, tokens: &'a [Token]) -> Lead<'a>
 }
 
 /// What the first token begins.
-#[tactic(auto, unfolding(method_grammar::specs::Leads::lead))]
+#[tactic(auto, unfolding(java_units::specs::Leads::lead))]
 pub fn lead_at(tokens: &[Token]) -> Lead<'_>
     ensures gives { lead_of result ≡ lead (map spelled tokens.now) }
     ensures places { places_behind result (kept tokens.now) ≡ kept tokens.now }

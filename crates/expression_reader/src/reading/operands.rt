@@ -7,7 +7,7 @@ ghost use Rattle.java_tree.specs.Trees.{Typed, Cast, Literal, This, Name, Call, 
 ghost use Rattle.java_tree.specs.KeptPlaces.{kept, each_puts, ty_places, base_places, expr_places};
 ghost use Rattle.java_tree.specs.KeptPlaces.{array_places};
 ghost use Rattle.java_tree.specs.View.{ty_of, base_of, expr_of, array_of};
-ghost use Rattle.method_grammar.specs.TypeReading.{ty_at, made_base_at};
+ghost use Rattle.java_units.specs.TypeReading.{ty_at, made_base_at};
 ghost use Rattle.expression_reader.specs.Closings.{paren_end, as_read};
 ghost use Rattle.type_reader.specs.Endings.{prefix_end};
 ghost use Rattle.type_reader.specs.Tokens.{spelled};

@@ -4,7 +4,7 @@ ghost use Rattle.java_tree.specs.Trees.{Assign, Conditional, Binary, Postfix, Fi
 ghost use Rattle.java_tree.specs.Nesting.{expr_nesting};
 ghost use Rattle.java_tree.specs.KeptPlaces.{kept, each_puts, expr_places};
 ghost use Rattle.java_tree.specs.View.{expr_of};
-ghost use Rattle.method_grammar.specs.ExpressionReading.{grown, instance_with};
+ghost use Rattle.java_units.specs.ExpressionReading.{grown, instance_with};
 ghost use Rattle.type_reader.specs.Tokens.{spelled};
 ghost use Rattle.expression_reader.specs.Closings.{index_end};
 ghost use Rattle.expression_reader.specs.TurnView.{turn_of, places_put, IsSmall, IsWithin};
@@ -132,7 +132,7 @@ pub fn joined<'a>(
 }
 
 /// The type behind an `instanceof`, and the expression that it makes (JLS 15.20.2).
-#[tactic(auto, unfolding(method_grammar::specs::ExpressionReading::instance_with))]
+#[tactic(auto, unfolding(java_units::specs::ExpressionReading::instance_with))]
 pub fn tested<'a>(
     alloc: Global,
     limit: u32,

@@ -8,7 +8,7 @@ ghost use Rattle.java_units.specs.declared.unit.ClassTree.{ClassTree};
 ghost use Rattle.java_units.specs.declared.unit.Member.TheVariants.{Field};
 ghost use Rattle.java_resolver.specs.NameExamples.{outside, ints, absent};
 ghost use Rattle.java_resolver.specs.Refusals.{refusal};
-ghost use Rattle.call_graph.specs.Chains.{flag_of};
+ghost use Rattle.core_code.specs.Chains.{flag_of};
 ghost use Rattle.core_code.specs.declared.code.Op.TheVariants.{Push, PushClass, PushPrim, Drop, Ret, Call, Unread};
 ghost use Rattle.core_code.specs.declared.code.Reason.TheVariants.{Overload, Outside, Parameters, Recursive};
 ghost use Rattle.core_code.specs.Core.{Method};

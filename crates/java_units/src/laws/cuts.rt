@@ -10,7 +10,7 @@ ghost use Rattle.java_units.specs.Members.{cut_members};
 ghost use Rattle.java_units.specs.ReadVariables.{read_of};
 ghost use Rattle.java_units.specs.MemberCuts.{IsCut};
 
-use method_grammar::laws::one_list_of_variables;
+use crate::grammar_laws::one_list_of_variables;
 
 /// The items of tokens, and also their pieces, are together the tokens.
 pub fn items_are_the_tokens()

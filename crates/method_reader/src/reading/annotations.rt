@@ -4,9 +4,9 @@ ghost use Rattle.java_tree.specs.KeptPlaces.{Places, kept};
 ghost use Rattle.java_tree.specs.MethodPlaces.{no_name, annotation_marks, modifier_marks, each_marks};
 ghost use Rattle.method_reader.specs.LedPlaces.{Leads};
 ghost use Rattle.java_tree.specs.View.{annotation_of, modifier_of};
-ghost use Rattle.method_grammar.specs.Taking.{after_name};
-ghost use Rattle.method_grammar.specs.TypeReading.{points};
-ghost use Rattle.method_grammar.specs.MethodReading.{names_at, annotation_at, annotations_at, modifiers_at};
+ghost use Rattle.java_units.specs.Taking.{after_name};
+ghost use Rattle.java_units.specs.TypeReading.{points};
+ghost use Rattle.java_units.specs.MethodReading.{names_at, annotation_at, annotations_at, modifiers_at};
 ghost use Rattle.method_reader.specs.ModifierReading.{modifier_at};
 ghost use Rattle.type_reader.specs.Tokens.{spelled};
 ghost use Rattle.type_reader.specs.Finishing.{finished};
@@ -49,7 +49,7 @@ fn more_names(
 }
 
 /// An annotation behind its `@`.
-#[tactic(auto, unfolding(method_grammar::specs::MethodReading::annotation_at, method_grammar::specs::MethodReading::names_at))]
+#[tactic(auto, unfolding(java_units::specs::MethodReading::annotation_at, java_units::specs::MethodReading::names_at))]
 pub fn annotation(alloc: Global, tokens: &[Token]) -> Result<(AnnotationTree, &[Token]), ReadError>
     ensures gives { Gives (λ x. (annotation_of x.0, map spelled x.1.now)) result
         (annotation_at (map spelled tokens.now)) }

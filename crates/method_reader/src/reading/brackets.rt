@@ -4,7 +4,7 @@ ghost use Rattle.java_tree.specs.Brackets.{awaited_behind};
 ghost use Rattle.java_tree.specs.KeptPlaces.{Places, kept};
 ghost use Rattle.java_tree.specs.MethodPlaces.{no_place, each_marks};
 ghost use Rattle.method_reader.specs.LedPlaces.{Leads};
-ghost use Rattle.method_grammar.specs.MethodReading.{closed_at, arguments_at};
+ghost use Rattle.java_units.specs.MethodReading.{closed_at, arguments_at};
 ghost use Rattle.method_reader.specs.AwaitedBrackets.{closing, awaited_onto, stepped, first_at};
 ghost use Rattle.type_reader.specs.Tokens.{spelled};
 ghost use Rattle.type_reader.specs.Finishing.{finished};

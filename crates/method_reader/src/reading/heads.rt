@@ -5,12 +5,12 @@ ghost use Rattle.std.specs.Prelude.{◌≡◌, ◌<◌, ◌≤◌, ◌^◌, suc,
 ghost use Rattle.java_tree.specs.KeptPlaces.{kept, maybe_puts, each_puts, ty_places, expr_places, start_places};
 ghost use Rattle.java_tree.specs.Formed.{is_run};
 ghost use Rattle.java_tree.specs.View.{ty_of, expr_of, start_of};
-ghost use Rattle.method_grammar.specs.Taking.{commas};
-ghost use Rattle.method_grammar.specs.StatementReading.{condition_at, expr_until, run_at, runs_until};
+ghost use Rattle.java_units.specs.Taking.{commas};
+ghost use Rattle.java_units.specs.StatementReading.{condition_at, expr_until, run_at, runs_until};
 ghost use Rattle.method_reader.specs.HeadReading.{counted_head_at, each_head_at, declared_head_at, typed_head_at};
 ghost use Rattle.method_reader.specs.HeadReading.{run_head_at, head_at};
 ghost use Rattle.method_reader.specs.HeadView.{head_of, head_places};
-ghost use Rattle.method_grammar.specs.JavaReaders.{method_readers};
+ghost use Rattle.java_units.specs.JavaReaders.{method_readers};
 ghost use Rattle.type_reader.specs.Tokens.{spelled};
 ghost use Rattle.type_reader.specs.Finishing.{finished};
 ghost use Rattle.type_reader.specs.Endings.{as_they_are};
@@ -52,7 +52,7 @@ fn is_run(tree: &Expression) -> bool
 }
 
 /// `( E )`.
-#[tactic(auto, unfolding(method_grammar::specs::StatementReading::condition_at))]
+#[tactic(auto, unfolding(java_units::specs::StatementReading::condition_at))]
 pub fn condition(
     alloc: Global,
     limit: u32,

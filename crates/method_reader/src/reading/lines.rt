@@ -3,8 +3,8 @@ ghost use Rattle.std.specs.Prelude.{◌≡◌, ◌<◌, ◌≤◌, ◌^◌, suc,
 ghost use Rattle.java_tree.specs.KeptPlaces.{kept, stmt_places};
 ghost use Rattle.java_tree.specs.Formed.{is_body};
 ghost use Rattle.java_tree.specs.View.{stmt_of};
-ghost use Rattle.method_grammar.specs.StatementReading.{return_at, local_at, run_line_at, simple_at};
-ghost use Rattle.method_grammar.specs.JavaReaders.{method_readers};
+ghost use Rattle.java_units.specs.StatementReading.{return_at, local_at, run_line_at, simple_at};
+ghost use Rattle.java_units.specs.JavaReaders.{method_readers};
 ghost use Rattle.type_reader.specs.Tokens.{spelled};
 ghost use Rattle.type_reader.specs.ReadAnswer.{Gives};
 
@@ -26,7 +26,7 @@ pub fn is_body(statement: &Statement) -> bool
 }
 
 /// Behind `return` (JLS 14.17).
-#[tactic(auto, unfolding(method_grammar::specs::StatementReading::return_at))]
+#[tactic(auto, unfolding(java_units::specs::StatementReading::return_at))]
 pub fn returned(
     alloc: Global,
     limit: u32,
@@ -45,7 +45,7 @@ pub fn returned(
 }
 
 /// A declaration and its `;` (JLS 14.4).
-#[tactic(auto, unfolding(method_grammar::specs::StatementReading::local_at))]
+#[tactic(auto, unfolding(java_units::specs::StatementReading::local_at))]
 fn local_line(
     alloc: Global,
     limit: u32,
@@ -64,7 +64,7 @@ fn local_line(
 }
 
 /// An expression and its `;` (JLS 14.8).
-#[tactic(auto, unfolding(method_grammar::specs::StatementReading::run_line_at))]
+#[tactic(auto, unfolding(java_units::specs::StatementReading::run_line_at))]
 fn run_line(
     alloc: Global,
     limit: u32,

@@ -3,13 +3,13 @@ ghost use Rattle.std.specs.Prelude.{◌≡◌, ◌++◌};
 ghost use Rattle.std.specs.Prelude.{◌<◌, ◌≤◌, ◌^◌, suc, Some, None, [], ◌∷◌, length, map, IfOk};
 ghost use Rattle.java_tree.specs.KeptPlaces.{kept, each_puts, ty_places, init_places, variable_places};
 ghost use Rattle.java_tree.specs.KeptPlaces.{locals_places};
-ghost use Rattle.method_grammar.specs.TypeReading.{ty_at};
+ghost use Rattle.java_units.specs.TypeReading.{ty_at};
 ghost use Rattle.expression_reader.specs.Closings.{as_read};
 ghost use Rattle.method_reader.specs.HeadReading.{variable_with, locals_with};
 ghost use Rattle.java_tree.specs.View.{ty_of, init_of, variable_of, locals_of};
-ghost use Rattle.method_grammar.specs.Taking.{commas};
-ghost use Rattle.method_grammar.specs.StatementReading.{variable_at, variables_at, locals_at};
-ghost use Rattle.method_grammar.specs.JavaReaders.{method_readers};
+ghost use Rattle.java_units.specs.Taking.{commas};
+ghost use Rattle.java_units.specs.StatementReading.{variable_at, variables_at, locals_at};
+ghost use Rattle.java_units.specs.JavaReaders.{method_readers};
 ghost use Rattle.type_reader.specs.Tokens.{spelled};
 ghost use Rattle.type_reader.specs.Finishing.{finished};
 ghost use Rattle.type_reader.specs.Endings.{as_they_are};
@@ -75,7 +75,7 @@ fn begun(
 }
 
 /// A variable, with what it begins with.
-#[tactic(auto, unfolding(method_grammar::specs::StatementReading::variable_at))]
+#[tactic(auto, unfolding(java_units::specs::StatementReading::variable_at))]
 fn variable(
     alloc: Global,
     limit: u32,
@@ -150,7 +150,7 @@ fn declaration(
 }
 
 /// The variables of a declaration of this type.
-#[tactic(auto, unfolding(method_grammar::specs::StatementReading::variables_at))]
+#[tactic(auto, unfolding(java_units::specs::StatementReading::variables_at))]
 pub fn variables(
     alloc: Global,
     limit: u32,
@@ -172,7 +172,7 @@ pub fn variables(
 }
 
 /// A declaration without its `;`.
-#[tactic(auto, unfolding(method_grammar::specs::StatementReading::locals_at))]
+#[tactic(auto, unfolding(java_units::specs::StatementReading::locals_at))]
 pub fn locals(
     alloc: Global,
     limit: u32,

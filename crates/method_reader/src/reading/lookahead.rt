@@ -6,12 +6,12 @@ ghost use Rattle.java_lexer.specs.declared.token.TokenKind.TheVariants as kind;
 ghost use Rattle.java_tree.specs.Formed.{is_method_modifier};
 ghost use Rattle.java_tree.specs.KeptPlaces.{kept, place_onto};
 ghost use Rattle.java_tree.specs.Brackets.{is_sign};
-ghost use Rattle.method_grammar.specs.Lookahead.{begins_with, is_word_name, is_plain_type, goes_local, looks_local};
-ghost use Rattle.method_grammar.specs.Lookahead.{name_and_colon, statement_lead, is_constructor};
-ghost use Rattle.method_grammar.specs.Lookahead.{after_modifier};
+ghost use Rattle.java_units.specs.Lookahead.{begins_with, is_word_name, is_plain_type, goes_local, looks_local};
+ghost use Rattle.java_units.specs.Lookahead.{name_and_colon, statement_lead, is_constructor};
+ghost use Rattle.java_units.specs.Lookahead.{after_modifier};
 ghost use Rattle.method_reader.specs.StatementLeadView.{statement_lead_of, places_from, LeadIsBelow};
-ghost use Rattle.method_grammar.specs.StatementReading.{final_at};
-ghost use Rattle.method_grammar.specs.Taking.{after_keyword};
+ghost use Rattle.java_units.specs.StatementReading.{final_at};
+ghost use Rattle.java_units.specs.Taking.{after_keyword};
 ghost use Rattle.type_reader.specs.Tokens.{spelled};
 
 use java_lexer::{Token, TokenKind};

@@ -7,10 +7,10 @@ ghost use Rattle.java_tree.specs.MethodPlaces.{AreAt};
 ghost use Rattle.method_reader.specs.LedPlaces.{Leads};
 ghost use Rattle.java_tree.specs.Trees.{pack_stmts};
 ghost use Rattle.java_tree.specs.View.{stmt_of, modifier_of, result_of, method_of};
-ghost use Rattle.method_grammar.specs.MethodReading.{result_at};
+ghost use Rattle.java_units.specs.MethodReading.{result_at};
 ghost use Rattle.method_reader.specs.SignatureReading.{signature_of, signature_marks, method_with, last_block_at};
 ghost use Rattle.method_reader.specs.SignatureReading.{whole_named_at, whole_method_at};
-ghost use Rattle.method_grammar.specs.JavaReaders.{method_readers};
+ghost use Rattle.java_units.specs.JavaReaders.{method_readers};
 ghost use Rattle.type_reader.specs.Tokens.{spelled};
 ghost use Rattle.type_reader.specs.ReadAnswer.{Gives};
 
@@ -27,7 +27,7 @@ use type_reader::reading::look::after_keyword;
 use type_reader::reading::types::read_type;
 
 /// What a method gives, and nothing before a constructor (JLS 8.4.5).
-#[tactic(auto, unfolding(method_grammar::specs::MethodReading::result_at))]
+#[tactic(auto, unfolding(java_units::specs::MethodReading::result_at))]
 fn result_tree(
     alloc: Global,
     limit: u32,

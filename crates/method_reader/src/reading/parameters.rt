@@ -6,9 +6,9 @@ ghost use Rattle.java_tree.specs.KeptPlaces.{Places, kept, all_places, ty_places
 ghost use Rattle.java_tree.specs.MethodPlaces.{each_marks, parameter_marks};
 ghost use Rattle.method_reader.specs.LedPlaces.{Leads};
 ghost use Rattle.java_tree.specs.View.{ty_of, parameter_of};
-ghost use Rattle.method_grammar.specs.Taking.{commas};
-ghost use Rattle.method_grammar.specs.MethodReading.{parameter_at, parameters_at, thrown_at, throws_at};
-ghost use Rattle.method_grammar.specs.JavaReaders.{method_readers};
+ghost use Rattle.java_units.specs.Taking.{commas};
+ghost use Rattle.java_units.specs.MethodReading.{parameter_at, parameters_at, thrown_at, throws_at};
+ghost use Rattle.java_units.specs.JavaReaders.{method_readers};
 ghost use Rattle.type_reader.specs.Tokens.{spelled};
 ghost use Rattle.type_reader.specs.Finishing.{finished};
 ghost use Rattle.type_reader.specs.Endings.{as_they_are};
@@ -25,7 +25,7 @@ use type_reader::reading::look::{after_keyword, after_sign, name};
 use type_reader::reading::types::read_type;
 
 /// A formal parameter (JLS 8.4.1).
-#[tactic(auto, unfolding(method_grammar::specs::MethodReading::parameter_at))]
+#[tactic(auto, unfolding(java_units::specs::MethodReading::parameter_at))]
 fn parameter(
     alloc: Global,
     limit: u32,
@@ -152,7 +152,7 @@ fn more_thrown(
 }
 
 /// The types behind `throws`, where it stands (JLS 8.4.6).
-#[tactic(auto, unfolding(method_grammar::specs::MethodReading::throws_at))]
+#[tactic(auto, unfolding(java_units::specs::MethodReading::throws_at))]
 pub fn throws(
     alloc: Global,
     limit: u32,

@@ -3,7 +3,7 @@ ghost use Rattle.std.specs.Prelude.{◌<◌, ◌≤◌, ◌^◌, length, map, If
 ghost use Rattle.java_tree.specs.KeptPlaces.{kept};
 ghost use Rattle.java_tree.specs.MethodPlaces.{parameter_marks, each_marks};
 ghost use Rattle.java_tree.specs.View.{parameter_of};
-ghost use Rattle.method_grammar.specs.JavaReaders.{method_readers};
+ghost use Rattle.java_units.specs.JavaReaders.{method_readers};
 ghost use Rattle.method_reader.specs.LedPlaces.{Leads};
 ghost use Rattle.method_reader.specs.SignatureReading.{parameter_list_at, signature_at, signature_of};
 ghost use Rattle.method_reader.specs.SignatureReading.{signature_marks};

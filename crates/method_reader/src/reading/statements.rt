@@ -4,11 +4,11 @@ ghost use Rattle.std.specs.Prelude.{◌<◌, ◌≤◌, ◌^◌, suc, length, ma
 ghost use Rattle.java_tree.specs.KeptPlaces.{kept, each_puts, expr_places, stmt_places};
 ghost use Rattle.java_tree.specs.Trees.{pack_stmts};
 ghost use Rattle.java_tree.specs.View.{expr_of, stmt_of};
-ghost use Rattle.method_grammar.specs.Lookahead.{statement_lead};
-ghost use Rattle.method_grammar.specs.StatementReading.{body_at, braces_at, if_at, while_at, sync_at, by_lead};
-ghost use Rattle.method_grammar.specs.StatementReading.{stmt_at, block_at};
+ghost use Rattle.java_units.specs.Lookahead.{statement_lead};
+ghost use Rattle.java_units.specs.StatementReading.{body_at, braces_at, if_at, while_at, sync_at, by_lead};
+ghost use Rattle.java_units.specs.StatementReading.{stmt_at, block_at};
 ghost use Rattle.method_reader.specs.HeadReading.{else_at, headed_at};
-ghost use Rattle.method_grammar.specs.JavaReaders.{method_readers};
+ghost use Rattle.java_units.specs.JavaReaders.{method_readers};
 ghost use Rattle.type_reader.specs.Tokens.{spelled};
 ghost use Rattle.type_reader.specs.ReadAnswer.{Gives};
 
@@ -26,7 +26,7 @@ use type_reader::reading::look::{after_sign, sign};
 
 /// A statement of a nesting of at most `limit`.
 #[cycle(statements)]
-#[tactic(auto, unfolding(method_grammar::specs::StatementReading::stmt_at))]
+#[tactic(auto, unfolding(java_units::specs::StatementReading::stmt_at))]
 pub fn read_statement(
     alloc: Global,
     limit: u32,
@@ -125,7 +125,7 @@ fn braces(
 
 /// The statements of a block, which is a statement of a nesting of at most `limit` (JLS 14.2).
 #[cycle(statements)]
-#[tactic(auto, unfolding(method_grammar::specs::StatementReading::block_at))]
+#[tactic(auto, unfolding(java_units::specs::StatementReading::block_at))]
 pub fn read_block(
     alloc: Global,
     limit: u32,
@@ -147,7 +147,7 @@ pub fn read_block(
 
 /// Behind `if` (JLS 14.9).
 #[cycle(statements)]
-#[tactic(auto, unfolding(method_grammar::specs::StatementReading::if_at))]
+#[tactic(auto, unfolding(java_units::specs::StatementReading::if_at))]
 fn if_statement(
     alloc: Global,
     limit: u32,
@@ -193,7 +193,7 @@ fn otherwise(
 
 /// Behind `while` (JLS 14.12).
 #[cycle(statements)]
-#[tactic(auto, unfolding(method_grammar::specs::StatementReading::while_at))]
+#[tactic(auto, unfolding(java_units::specs::StatementReading::while_at))]
 fn while_statement(
     alloc: Global,
     limit: u32,
@@ -232,7 +232,7 @@ fn for_statement(
 
 /// Behind `synchronized`, which stands at this place (JLS 14.19).
 #[cycle(statements)]
-#[tactic(auto, unfolding(method_grammar::specs::StatementReading::sync_at))]
+#[tactic(auto, unfolding(java_units::specs::StatementReading::sync_at))]
 fn synchronized(
     alloc: Global,
     limit: u32,

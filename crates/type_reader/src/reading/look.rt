@@ -6,9 +6,9 @@ ghost use Rattle.java_lexer.specs.declared.token.TokenKind.TheVariants as kind;
 ghost use Rattle.java_tree.specs.KeptPlaces.{is_kept, kept};
 ghost use Rattle.java_tree.specs.Brackets.{is_sign};
 ghost use Rattle.java_tree.specs.Formed.{is_plain_word};
-ghost use Rattle.method_grammar.specs.Taking.{is_keyword, is_name_kind, after_sign, after_keyword, after_name};
-ghost use Rattle.method_grammar.specs.Taking.{after_angle, after_glued};
-ghost use Rattle.method_grammar.specs.TypeReading.{after_plain, after_brackets, brackets_at};
+ghost use Rattle.java_units.specs.Taking.{is_keyword, is_name_kind, after_sign, after_keyword, after_name};
+ghost use Rattle.java_units.specs.Taking.{after_angle, after_glued};
+ghost use Rattle.java_units.specs.TypeReading.{after_plain, after_brackets, brackets_at};
 ghost use Rattle.type_reader.specs.Tokens.{spelled};
 ghost use Rattle.type_reader.specs.ReadAnswer.{Gives};
 
@@ -189,7 +189,7 @@ pub fn after_brackets(tokens: &[Token]) -> Option<&[Token]>
 }
 
 /// The number of `[ ]` in front, and the tokens behind them.
-#[tactic(auto, unfolding(method_grammar::specs::TypeReading::brackets_at))]
+#[tactic(auto, unfolding(java_units::specs::TypeReading::brackets_at))]
 pub fn brackets(tokens: &[Token]) -> (u32, &[Token])
     requires { length tokens.now < 2 ^ 32 }
     ensures gives { (result.0, map spelled result.1.now) ≡ brackets_at (length (map spelled tokens.now))

@@ -5,9 +5,9 @@ ghost use Rattle.java_tree.specs.KeptPlaces.{kept, ty_places, base_places, part_
 ghost use Rattle.java_tree.specs.Nesting.{parts_nesting};
 ghost use Rattle.java_tree.specs.Trees.{Bare, Generic, Angled, no_argument, pack_parts};
 ghost use Rattle.java_tree.specs.View.{ty_of, base_of, part_of};
-ghost use Rattle.method_grammar.specs.TypeReading.{points, is_diamond, have_diamond, has_diamond, bare_part_at};
-ghost use Rattle.method_grammar.specs.TypeReading.{base_with, bare_ty_at, made_part_with, made_parts_with};
-ghost use Rattle.method_grammar.specs.TypeReading.{made_base_with, made_base_at, ty_at};
+ghost use Rattle.java_units.specs.TypeReading.{points, is_diamond, have_diamond, has_diamond, bare_part_at};
+ghost use Rattle.java_units.specs.TypeReading.{base_with, bare_ty_at, made_part_with, made_parts_with};
+ghost use Rattle.java_units.specs.TypeReading.{made_base_with, made_base_at, ty_at};
 ghost use Rattle.type_reader.specs.PointBehind.{point_behind};
 ghost use Rattle.type_reader.specs.Tokens.{spelled};
 ghost use Rattle.type_reader.specs.Finishing.{finished};
@@ -75,7 +75,7 @@ fn bare_parts(
     Ok(named(parts, 0, rest))
 }
 
-#[tactic(auto, unfolding(method_grammar::specs::TypeReading::base_with))]
+#[tactic(auto, unfolding(java_units::specs::TypeReading::base_with))]
 fn bare_base(alloc: Global, tokens: &[Token]) -> Result<(NestedBase, &[Token]), ReadError>
     requires { length tokens.now < 2 ^ 32 }
     ensures gives { Gives (λ x. (base_of x.0.tree, map spelled x.1.now)) result (base_with bare_part_at
@@ -92,7 +92,7 @@ fn bare_base(alloc: Global, tokens: &[Token]) -> Result<(NestedBase, &[Token]), 
 }
 
 /// A type without type arguments (JLS 15.20.2).
-#[tactic(auto, unfolding(method_grammar::specs::TypeReading::bare_ty_at))]
+#[tactic(auto, unfolding(java_units::specs::TypeReading::bare_ty_at))]
 pub fn read_bare_type(alloc: Global, tokens: &[Token]) -> Result<(NestedType, &[Token]), ReadError>
     requires { length tokens.now < 2 ^ 32 }
     ensures gives { Gives (λ x. (ty_of x.0.tree, map spelled x.1.now)) result (bare_ty_at (map spelled tokens.now)) }
@@ -168,7 +168,7 @@ fn diamond(alloc: Global, name: Ident, glued: bool) -> NestedPart
 }
 
 /// A name with or without type arguments, or with `< >` (JLS 15.9).
-#[tactic(auto, unfolding(method_grammar::specs::TypeReading::made_part_with))]
+#[tactic(auto, unfolding(java_units::specs::TypeReading::made_part_with))]
 fn made_part(
     alloc: Global,
     limit: u32,
@@ -227,7 +227,7 @@ fn made_parts(
 }
 
 /// The base of a type that a `new` makes, within a type of a nesting of at most `limit`.
-#[tactic(auto, unfolding(method_grammar::specs::TypeReading::made_base_at, method_grammar::specs::TypeReading::made_base_with))]
+#[tactic(auto, unfolding(java_units::specs::TypeReading::made_base_at, java_units::specs::TypeReading::made_base_with))]
 pub fn made_base(
     alloc: Global,
     limit: u32,

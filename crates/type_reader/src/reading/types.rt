@@ -5,9 +5,9 @@ ghost use Rattle.java_tree.specs.KeptPlaces.{argument_places};
 ghost use Rattle.java_tree.specs.Nesting.{base_nesting, parts_nesting, arguments_nesting};
 ghost use Rattle.java_tree.specs.Trees.{Plain, Named, pack_parts, pack_arguments};
 ghost use Rattle.java_tree.specs.View.{ty_of, base_of, part_of, angled_of, argument_of};
-ghost use Rattle.method_grammar.specs.Taking.{commas};
-ghost use Rattle.method_grammar.specs.TypeReading.{points, wildcard_with, argument_with, angled_with, part_with};
-ghost use Rattle.method_grammar.specs.TypeReading.{base_with, arrays_behind, ty_at};
+ghost use Rattle.java_units.specs.Taking.{commas};
+ghost use Rattle.java_units.specs.TypeReading.{points, wildcard_with, argument_with, angled_with, part_with};
+ghost use Rattle.java_units.specs.TypeReading.{base_with, arrays_behind, ty_at};
 ghost use Rattle.type_reader.specs.Tokens.{spelled};
 ghost use Rattle.type_reader.specs.Finishing.{finished};
 ghost use Rattle.type_reader.specs.Endings.{named_end, angled_end};
@@ -88,7 +88,7 @@ fn closed(
 
 /// A type of a nesting of at most `limit`.
 #[cycle(types)]
-#[tactic(auto, unfolding(method_grammar::specs::TypeReading::ty_at))]
+#[tactic(auto, unfolding(java_units::specs::TypeReading::ty_at))]
 pub fn read_type(
     alloc: Global,
     limit: u32,
@@ -109,7 +109,7 @@ pub fn read_type(
 
 /// A primitive type, or names joined by points (JLS 4.2, 4.3).
 #[cycle(types)]
-#[tactic(auto, unfolding(method_grammar::specs::TypeReading::base_with))]
+#[tactic(auto, unfolding(java_units::specs::TypeReading::base_with))]
 fn base(alloc: Global, limit: u32, tokens: &[Token]) -> Result<(NestedBase, &[Token]), ReadError>
     requires { length tokens.now < 2 ^ 32 }
     ensures gives { Gives (λ x. (base_of x.0.tree, map spelled x.1.now)) result (base_with (part_with (ty_at limit))
@@ -161,7 +161,7 @@ fn parts(
 
 /// A name with or without type arguments.
 #[cycle(types)]
-#[tactic(auto, unfolding(method_grammar::specs::TypeReading::part_with))]
+#[tactic(auto, unfolding(java_units::specs::TypeReading::part_with))]
 fn part(alloc: Global, limit: u32, tokens: &[Token]) -> Result<(NestedPart, &[Token]), ReadError>
     requires { length tokens.now < 2 ^ 32 }
     ensures gives { Gives (λ x. (part_of x.0.tree, map spelled x.1.now)) result (part_with (ty_at limit)
@@ -189,7 +189,7 @@ fn part(alloc: Global, limit: u32, tokens: &[Token]) -> Result<(NestedPart, &[To
 
 /// Type arguments behind their `<`, and the `>` (JLS 4.5.1).
 #[cycle(types)]
-#[tactic(auto, unfolding(method_grammar::specs::TypeReading::angled_with))]
+#[tactic(auto, unfolding(java_units::specs::TypeReading::angled_with))]
 pub fn angled(
     alloc: Global,
     limit: u32,

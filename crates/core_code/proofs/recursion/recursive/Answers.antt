@@ -1,6 +1,6 @@
 use Rattle.std.proofs.Common.{◌≡◌, List, map, ap, ◌∙◌, subst, IfOk}
 use Rattle.racer_base.specs.declared.ids.MethodId.{MethodId}
-use Rattle.call_graph.specs.Chains.{TellCycles}
+use Rattle.core_code.specs.Chains.{TellCycles}
 use Rattle.core_code.specs.Core.{Method}
 use Rattle.core_code.specs.Program.{core}
 use Rattle.core_code.specs.Recursion.{all_calls_in, all_rows}

@@ -1,7 +1,7 @@
 use Rattle.std.proofs.Common.{◌≡◌, ℕ, false, List, ◌++◌, length, map, sym, ap, ◌∙◌, subst}
 use Rattle.std.proofs.lemmas.List.{length-map}
 use Rattle.racer_base.specs.declared.ids.MethodId.{MethodId}
-use Rattle.call_graph.specs.Falling.{DoFall}
+use Rattle.core_code.specs.Falling.{DoFall}
 use Rattle.core_code.specs.Core.{Method}
 use Rattle.core_code.specs.Program.{core}
 use Rattle.core_code.specs.Calls.{calls_in}

@@ -1,6 +1,6 @@
 use Rattle.std.proofs.Common.{sym, ◌∙◌}
 use Rattle.java_tree.specs.View.{init_of}
-use Rattle.method_grammar.proofs.FoundExpressions.{one_init}
+use Rattle.java_units.proofs.FoundExpressions.{one_init}
 use Rattle.expression_reader.proofs.laws.one_placed_initialiser.Goals as goal
 
 pub returns : goal.returns

@@ -8,7 +8,7 @@ use Rattle.java_lowering.specs.Trees.{pack_stmts}
 use Rattle.java_lowering.specs.TreesOf.{stmt_of}
 use Rattle.java_lowering.specs.Around.{held, push_owner}
 use Rattle.java_lowering.specs.Methods.{block, body_of, locked}
-use Rattle.expression_lowering.specs.Drafts.{code_of}
+use Rattle.method_lowering.specs.Drafts.{code_of}
 use Rattle.method_lowering.specs.Steps.{block_end}
 use Rattle.method_lowering.proofs.Pieces.{gathered}
 use Rattle.method_lowering.proofs.bodies.lower_body.Goals as goal

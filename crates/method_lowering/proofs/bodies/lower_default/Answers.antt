@@ -2,8 +2,8 @@ use Rattle.std.proofs.Common.{◌++◌, refl}
 use Rattle.std.specs.List.{flat_map}
 use Rattle.core_code.specs.Tree.{tree_of}
 use Rattle.java_lowering.specs.Methods.{member_begun}
-use Rattle.expression_lowering.specs.Drafts.{code_of}
-use Rattle.expression_lowering.specs.Views.{folder_of}
+use Rattle.method_lowering.specs.Drafts.{code_of}
+use Rattle.method_lowering.specs.Views.{folder_of}
 use Rattle.method_lowering.specs.Sources.{source_of}
 use Rattle.method_lowering.proofs.Ends.{default-code}
 use Rattle.method_lowering.proofs.bodies.lower_default.Goals as goal

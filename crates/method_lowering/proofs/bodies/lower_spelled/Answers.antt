@@ -1,6 +1,6 @@
 use Rattle.core_code.specs.Tree.{tree_of}
-use Rattle.expression_lowering.specs.Drafts.{code_of}
-use Rattle.expression_lowering.specs.Views.{folder_of}
+use Rattle.method_lowering.specs.Drafts.{code_of}
+use Rattle.method_lowering.specs.Views.{folder_of}
 use Rattle.method_lowering.specs.Sources.{source_of}
 use Rattle.method_lowering.proofs.Ends.{spelled-code}
 use Rattle.method_lowering.proofs.bodies.lower_spelled.Goals as goal

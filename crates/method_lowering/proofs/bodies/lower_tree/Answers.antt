@@ -1,8 +1,8 @@
 use Rattle.std.proofs.Common.{ap, sym}
 use Rattle.java_lowering.specs.Methods.{body_code, entered, parameters_declared}
-use Rattle.expression_lowering.specs.Drafts.{code_of}
-use Rattle.expression_lowering.specs.Parts.{left_at}
-use Rattle.expression_lowering.specs.Views.{folder_of}
+use Rattle.method_lowering.specs.Drafts.{code_of}
+use Rattle.method_lowering.specs.Parts.{left_at}
+use Rattle.method_lowering.specs.Views.{folder_of}
 use Rattle.method_lowering.specs.Sources.{source_of}
 use Rattle.method_lowering.specs.Steps.{fields_first}
 use Rattle.method_lowering.proofs.Ends.{tree-code}

@@ -4,8 +4,8 @@ use Rattle.java_lowering.specs.TreesOf.{init_of}
 use Rattle.java_lowering.specs.Around.{op}
 use Rattle.java_lowering.specs.Assignments.{named, assigned}
 use Rattle.java_lowering.specs.Expressions.{init_code, init_kind}
-use Rattle.expression_lowering.specs.Drafts.{code_of}
-use Rattle.expression_lowering.specs.Views.{value_kind}
+use Rattle.method_lowering.specs.Drafts.{code_of}
+use Rattle.method_lowering.specs.Views.{value_kind}
 use Rattle.method_lowering.proofs.Pieces.{two_pieces}
 use Rattle.method_lowering.proofs.FieldsBegun.{assigned-made}
 use Rattle.method_lowering.proofs.fields.begin_formed.Goals as goal

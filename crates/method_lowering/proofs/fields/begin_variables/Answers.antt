@@ -3,7 +3,7 @@ use Rattle.std.specs.List.{flat_map}
 use Rattle.java_tree.specs.declared.methods.FieldVariable.{FieldVariable}
 use Rattle.java_lowering.specs.Around.{Around, Code}
 use Rattle.java_lowering.specs.Methods.{field_begun}
-use Rattle.expression_lowering.specs.Drafts.{code_of}
+use Rattle.method_lowering.specs.Drafts.{code_of}
 use Rattle.method_lowering.proofs.Pieces.{turn, ended}
 use Rattle.method_lowering.proofs.fields.begin_variables.Goals as goal
 

@@ -2,7 +2,7 @@ use Rattle.std.proofs.Common.{◌≡◌, ◌++◌, drop}
 use Rattle.std.specs.List.{flat_map}
 use Rattle.java_tree.specs.declared.methods.FieldVariable.{FieldVariable}
 use Rattle.java_lowering.specs.Methods.{field_begun}
-use Rattle.expression_lowering.specs.Drafts.{code_of}
+use Rattle.method_lowering.specs.Drafts.{code_of}
 use Rattle.method_lowering.proofs.fields.begin_variables.Given as goal
 
 -- what was made, and then the fields that are left

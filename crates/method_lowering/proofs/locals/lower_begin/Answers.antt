@@ -5,7 +5,7 @@ use Rattle.java_lowering.specs.TreesOf.{init_of}
 use Rattle.java_lowering.specs.Around.{converted}
 use Rattle.java_lowering.specs.Expressions.{init_code, init_kind}
 use Rattle.java_lowering.specs.Statements.{begun, set}
-use Rattle.expression_lowering.specs.Drafts.{code_of}
+use Rattle.method_lowering.specs.Drafts.{code_of}
 use Rattle.method_lowering.proofs.Pieces.{two_pieces}
 use Rattle.method_lowering.proofs.locals.lower_begin.Goals as goal
 

@@ -6,7 +6,7 @@ use Rattle.java_lowering.specs.TreesOf.{init_of, variable_of}
 use Rattle.java_lowering.specs.Around.{Around, Code}
 use Rattle.java_lowering.specs.Scopes.{declared, next_variable, all_declared}
 use Rattle.java_lowering.specs.Statements.{begun, begun_all}
-use Rattle.expression_lowering.specs.Drafts.{code_of}
+use Rattle.method_lowering.specs.Drafts.{code_of}
 use Rattle.method_lowering.proofs.locals.lower_variables.Goals as goal
 
 pub loop-variable-preserved : goal.loop-variable-preserved

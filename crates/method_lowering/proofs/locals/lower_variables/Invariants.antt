@@ -2,7 +2,7 @@ use Rattle.std.proofs.Common.{◌≡◌, ◌++◌, map, drop}
 use Rattle.java_lowering.specs.TreesOf.{variable_of}
 use Rattle.java_lowering.specs.Scopes.{all_declared}
 use Rattle.java_lowering.specs.Statements.{begun_all}
-use Rattle.expression_lowering.specs.Drafts.{code_of}
+use Rattle.method_lowering.specs.Drafts.{code_of}
 use Rattle.method_lowering.proofs.locals.lower_variables.Given as goal
 
 -- what was made, and then the variables that are left

@@ -5,7 +5,7 @@ use Rattle.java_lowering.specs.TreesOf.{expr_of, start_of}
 use Rattle.java_lowering.specs.Around.{Around}
 use Rattle.java_lowering.specs.Scopes.{started}
 use Rattle.java_lowering.specs.Statements.{run_some, start}
-use Rattle.expression_lowering.specs.Drafts.{code_of}
+use Rattle.method_lowering.specs.Drafts.{code_of}
 use Rattle.method_lowering.proofs.Pieces.{two_pieces}
 use Rattle.method_lowering.proofs.loops.begin_for.Goals as goal
 

@@ -4,7 +4,7 @@ use Rattle.std.proofs.lemmas.Result.{on_ok_weaker}
 use Rattle.java_lowering.specs.Trees.{pack_exprs}
 use Rattle.java_lowering.specs.TreesOf.{expr_of}
 use Rattle.java_lowering.specs.Statements.{run_all, run_some}
-use Rattle.expression_lowering.specs.Drafts.{code_of}
+use Rattle.method_lowering.specs.Drafts.{code_of}
 use Rattle.method_lowering.specs.Steps.{repeated_from}
 use Rattle.method_lowering.proofs.Pieces.{two_pieces}
 use Rattle.method_lowering.proofs.loops.end_for.Goals as goal

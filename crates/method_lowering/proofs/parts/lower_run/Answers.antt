@@ -3,7 +3,7 @@ use Rattle.core_code.specs.declared.code.Op.TheVariants.{Drop}
 use Rattle.java_lowering.specs.TreesOf.{expr_of}
 use Rattle.java_lowering.specs.Around.{op}
 use Rattle.java_lowering.specs.Expressions.{code}
-use Rattle.expression_lowering.specs.Drafts.{code_of}
+use Rattle.method_lowering.specs.Drafts.{code_of}
 use Rattle.method_lowering.proofs.Pieces.{two_pieces}
 use Rattle.method_lowering.proofs.parts.lower_run.Goals as goal
 

@@ -4,7 +4,7 @@ use Rattle.java_lowering.specs.Around.{Around, Code}
 use Rattle.java_lowering.specs.Trees.{pack_exprs}
 use Rattle.java_lowering.specs.TreesOf.{expr_of}
 use Rattle.java_lowering.specs.Statements.{run, run_all}
-use Rattle.expression_lowering.specs.Drafts.{code_of}
+use Rattle.method_lowering.specs.Drafts.{code_of}
 use Rattle.method_lowering.proofs.Pieces.{turn, ended}
 use Rattle.method_lowering.proofs.parts.lower_run_all.Goals as goal
 

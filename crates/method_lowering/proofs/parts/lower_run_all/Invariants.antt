@@ -2,7 +2,7 @@ use Rattle.std.proofs.Common.{◌≡◌, ◌++◌, map, drop}
 use Rattle.java_lowering.specs.Trees.{pack_exprs}
 use Rattle.java_lowering.specs.TreesOf.{expr_of}
 use Rattle.java_lowering.specs.Statements.{run_all}
-use Rattle.expression_lowering.specs.Drafts.{code_of}
+use Rattle.method_lowering.specs.Drafts.{code_of}
 use Rattle.method_lowering.proofs.parts.lower_run_all.Given as goal
 
 -- what was made, and then the code of the expressions that are left

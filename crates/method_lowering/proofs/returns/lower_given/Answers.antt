@@ -5,8 +5,8 @@ use Rattle.java_lowering.specs.Around.{Itself, Nothing, Value, converted, op, pu
 use Rattle.java_lowering.specs.Expressions.{code, kind}
 use Rattle.java_lowering.specs.Statements.{run, returned_value}
 use Rattle.core_code.specs.declared.code.Op.TheVariants.{PushPrim}
-use Rattle.expression_lowering.specs.Drafts.{code_of}
-use Rattle.expression_lowering.specs.Views.{given_of}
+use Rattle.method_lowering.specs.Drafts.{code_of}
+use Rattle.method_lowering.specs.Views.{given_of}
 use Rattle.method_lowering.proofs.Pieces.{two_pieces}
 use Rattle.method_lowering.proofs.returns.lower_given.Goals as goal
 

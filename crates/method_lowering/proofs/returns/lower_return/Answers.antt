@@ -5,7 +5,7 @@ use Rattle.core_code.specs.declared.code.Op.TheVariants.{Ret}
 use Rattle.java_lowering.specs.TreesOf.{expr_of}
 use Rattle.java_lowering.specs.Around.{op}
 use Rattle.java_lowering.specs.Statements.{returned_value, returned}
-use Rattle.expression_lowering.specs.Drafts.{code_of}
+use Rattle.method_lowering.specs.Drafts.{code_of}
 use Rattle.method_lowering.proofs.Pieces.{two_pieces}
 use Rattle.method_lowering.proofs.returns.lower_return.Goals as goal
 

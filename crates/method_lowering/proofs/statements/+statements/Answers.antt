@@ -13,7 +13,7 @@ use Rattle.java_lowering.specs.Around.{Around, Code, held, repeated}
 use Rattle.java_lowering.specs.Expressions.{code}
 use Rattle.java_lowering.specs.Scopes.{declared, after, after_all}
 use Rattle.java_lowering.specs.Statements.{run, stmt, stmts}
-use Rattle.expression_lowering.specs.Drafts.{code_of}
+use Rattle.method_lowering.specs.Drafts.{code_of}
 use Rattle.method_lowering.specs.Steps.{repeated_from}
 use Rattle.method_lowering.proofs.Forms.{is_block, is_local, is_run, is_while, is_for, is_each, is_sync, is_return}
 use Rattle.method_lowering.proofs.Forms.{is_empty}

@@ -4,7 +4,7 @@ use Rattle.java_lowering.specs.Trees.{pack_stmts}
 use Rattle.java_lowering.specs.TreesOf.{stmt_of}
 use Rattle.java_lowering.specs.Scopes.{after_all}
 use Rattle.java_lowering.specs.Statements.{stmts}
-use Rattle.expression_lowering.specs.Drafts.{code_of}
+use Rattle.method_lowering.specs.Drafts.{code_of}
 use Rattle.method_lowering.proofs.statements.+statements.Given as goal
 
 -- what was made, and then the statements that are left

@@ -1,7 +1,7 @@
 use Rattle.std.proofs.Common.{sym, ◌∙◌}
 use Rattle.java_tree.specs.KeptPlaces.{kept}
 use Rattle.java_tree.specs.View.{method_of}
-use Rattle.method_grammar.proofs.FoundJava.{one_java_method}
+use Rattle.java_units.proofs.FoundJava.{one_java_method}
 use Rattle.method_reader.proofs.SameMarks.{same_marks}
 use Rattle.method_reader.proofs.laws.one_placed_method.Goals as goal
 

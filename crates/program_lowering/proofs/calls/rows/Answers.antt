@@ -1,6 +1,6 @@
 use Rattle.std.proofs.Common.{List, [], ◌∷◌, ◌++◌, map, refl, ap, ◌∙◌}
 use Rattle.racer_base.specs.declared.ids.MethodId.{MethodId}
-use Rattle.expression_lowering.specs.Views.{folder_of}
+use Rattle.method_lowering.specs.Views.{folder_of}
 use Rattle.method_lowering.specs.declared.sources.Source.{Source}
 use Rattle.method_lowering.specs.Sources.{source_of}
 use Rattle.program_lowering.specs.Calls.{row_in}

@@ -1,5 +1,5 @@
 use Rattle.std.proofs.Common.{◌≡◌, ◌++◌, map, drop}
-use Rattle.expression_lowering.specs.Views.{folder_of}
+use Rattle.method_lowering.specs.Views.{folder_of}
 use Rattle.method_lowering.specs.Sources.{source_of}
 use Rattle.program_lowering.specs.Calls.{row_in}
 use Rattle.program_lowering.proofs.calls.rows.Given as goal

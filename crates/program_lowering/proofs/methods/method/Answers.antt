@@ -1,6 +1,6 @@
 use Rattle.std.proofs.Common.{ap, ◌∙◌}
 use Rattle.core_code.specs.Tree.{tree_of}
-use Rattle.expression_lowering.specs.Views.{folder_of}
+use Rattle.method_lowering.specs.Views.{folder_of}
 use Rattle.method_lowering.specs.Sources.{source_of}
 use Rattle.program_lowering.specs.Entries.{is_entry_in}
 use Rattle.program_lowering.proofs.MethodsMade.{method-made}

@@ -1,7 +1,7 @@
 use Rattle.std.proofs.Common.{◌≡◌, ◌++◌, map, drop}
 use Rattle.core_code.specs.Core.{method_of}
 use Rattle.java_lowering.specs.Programs.{method_cores}
-use Rattle.expression_lowering.specs.Views.{folder_of}
+use Rattle.method_lowering.specs.Views.{folder_of}
 use Rattle.method_lowering.specs.Sources.{source_of}
 use Rattle.program_lowering.proofs.methods.methods.Given as goal
 

@@ -1,5 +1,5 @@
 use Rattle.std.proofs.Common.{◌≡◌, ℕ, true, List, String, Global, map, ap, subst, sym, string_bytes, ◌∙◌}
-use Rattle.call_graph.specs.Chains.{flag_of}
+use Rattle.core_code.specs.Chains.{flag_of}
 use Rattle.core_code.specs.Core.{Core, core_of, method_of}
 use Rattle.core_code.specs.Facts.{are_numbers_in_range, are_entries_analysed, are_sites_in_order, are_stacks_enough}
 use Rattle.core_code.specs.CallFacts.{do_end_by_return, are_calls_right}

@@ -1,6 +1,6 @@
 use Rattle.std.proofs.Common.{List, map, ap, subst, string_bytes, ◌∙◌}
 use Rattle.racer_base.specs.declared.ids.MethodId.{MethodId}
-use Rattle.call_graph.specs.Chains.{TellCycles, flag_of}
+use Rattle.core_code.specs.Chains.{TellCycles, flag_of}
 use Rattle.java_lowering.specs.Programs.{program_of}
 use Rattle.program_lowering.proofs.programs.program_of.Goals as goal
 

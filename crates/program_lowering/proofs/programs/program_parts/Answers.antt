@@ -1,5 +1,5 @@
 use Rattle.std.proofs.Common.{◌≡◌, map, ap, subst, ◌∙◌, IfOk, string_bytes}
-use Rattle.call_graph.specs.Chains.{flag_of}
+use Rattle.core_code.specs.Chains.{flag_of}
 use Rattle.core_code.specs.Core.{Core, core_of}
 use Rattle.java_resolver.specs.Table.{classes, fields, methods}
 use Rattle.method_lowering.specs.Sources.{source_of}

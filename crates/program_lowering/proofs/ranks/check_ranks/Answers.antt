@@ -1,7 +1,7 @@
 use Rattle.std.proofs.Common.{◌≡◌, ℕ, true, List, length, ap, subst, ◌∙◌}
 use Rattle.std.specs.List.{list_all}
 use Rattle.racer_base.specs.declared.ids.MethodId.{MethodId}
-use Rattle.call_graph.specs.Falling.{DoFall}
+use Rattle.core_code.specs.Falling.{DoFall}
 use Rattle.program_lowering.specs.Ranks.{are_few, are_positive}
 use Rattle.program_lowering.proofs.RanksThere.{ranks-there}
 use Rattle.program_lowering.proofs.ranks.check_ranks.Goals as goal

@@ -1,5 +1,5 @@
 use Rattle.std.proofs.Common.{◌≡◌, ◌++◌, drop}
-use Rattle.call_graph.specs.Chains.{flag_of}
+use Rattle.core_code.specs.Chains.{flag_of}
 use Rattle.program_lowering.specs.Reasons.{with_recursive}
 use Rattle.program_lowering.proofs.statuses.statuses.Given as goal
 

@@ -3,7 +3,7 @@ use Rattle.std.specs.List.{flat_map}
 use Rattle.core_code.specs.Program.{core}
 use Rattle.race_pairs.specs.declared.warning.Warning.{Warning}
 use Rattle.race_pairs.specs.Warnings.{warnings}
-use Rattle.race_report.specs.Report.{head_lines, method_lines, warning_lines, last_line}
+use Rattle.report_parts.specs.Report.{head_lines, method_lines, warning_lines, last_line}
 use Rattle.report_parts.proofs.PutChains.{four, same_piece}
 use Rattle.race_report.proofs.reports.push_lines.Goals as goal
 

@@ -1,7 +1,7 @@
 use Rattle.std.proofs.Common.{codes}
 use Rattle.core_code.specs.Program.{core}
 use Rattle.report_parts.specs.Sides.{sides_told}
-use Rattle.race_report.specs.Report.{side_lines}
+use Rattle.report_parts.specs.Report.{side_lines}
 use Rattle.report_parts.proofs.PutChains.{four}
 use Rattle.race_report.proofs.text.push_sides.Goals as goal
 

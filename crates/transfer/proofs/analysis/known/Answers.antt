@@ -2,10 +2,10 @@ use Rattle.std.proofs.Common.{◌+◌, List, ap, ◌∙◌, sym, drop, get_or, a
 use Rattle.std.specs.Arc.{arc_value}
 use Rattle.std.specs.Option.{option_or}
 use Rattle.std.proofs.lemmas.List.{at_drop_more, at_drop_all}
-use Rattle.method_flow.specs.declared.calls.Callee.{Callee}
+use Rattle.transfer.specs.declared.calls.Callee.{Callee}
 use Rattle.transfer.specs.declared.finished.Finished.{Finished}
 use Rattle.transfer.specs.Callees.{Held, outcome_in}
-use Rattle.method_flow.specs.Known.{outcome_among}
+use Rattle.transfer.specs.Known.{outcome_among}
 use Rattle.transfer.proofs.Handed.{one-more, or-none}
 use Rattle.transfer.proofs.analysis.known.Goals as goal
 

@@ -2,7 +2,7 @@ use Rattle.std.proofs.Common.{◌≡◌, drop}
 use Rattle.std.specs.Option.{option_or}
 use Rattle.racer_base.specs.declared.ids.MethodId.{MethodId}
 use Rattle.transfer.specs.Callees.{outcome_in}
-use Rattle.method_flow.specs.Known.{outcome_among}
+use Rattle.transfer.specs.Known.{outcome_among}
 use Rattle.transfer.proofs.analysis.known.Given as goal
 
 -- the methods that are known, and those that are left, are all of them

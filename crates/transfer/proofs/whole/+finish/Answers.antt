@@ -7,8 +7,8 @@ use Rattle.std.specs.List.{list_any}
 use Rattle.std.specs.Option.{IfSome}
 use Rattle.std.specs.Prelude.{slice_index_or}
 use Rattle.racer_base.specs.declared.ids.MethodId.{MethodId}
-use Rattle.call_graph.specs.Chains.{row_of}
-use Rattle.call_graph.specs.Falling.{number_of}
+use Rattle.core_code.specs.Chains.{row_of}
+use Rattle.core_code.specs.Falling.{number_of}
 use Rattle.core_code.specs.Calls.{is_analysed}
 use Rattle.core_code.specs.Program.{core}
 use Rattle.core_code.specs.Rows.{rows_in, rows_of, ranks_in}

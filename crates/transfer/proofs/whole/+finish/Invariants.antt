@@ -2,8 +2,8 @@ use Rattle.std.proofs.Common.{◌≡◌, ◌||◌, true, drop, is_some, All}
 use Rattle.std.specs.List.{list_any}
 use Rattle.std.specs.Arc.{arc_value}
 use Rattle.racer_base.specs.declared.ids.MethodId.{MethodId}
-use Rattle.call_graph.specs.Chains.{row_of}
-use Rattle.call_graph.specs.Falling.{number_of}
+use Rattle.core_code.specs.Chains.{row_of}
+use Rattle.core_code.specs.Falling.{number_of}
 use Rattle.core_code.specs.Program.{core}
 use Rattle.core_code.specs.Rows.{rows_in, ranks_in}
 use Rattle.transfer.specs.Callees.{Held, outcome_in}

@@ -1,6 +1,6 @@
 use Rattle.std.proofs.Common.{sym, ◌∙◌}
 use Rattle.java_tree.specs.View.{ty_of}
-use Rattle.method_grammar.proofs.FoundTypes.{one_type}
+use Rattle.java_units.proofs.FoundTypes.{one_type}
 use Rattle.type_reader.proofs.laws.one_placed_type.Goals as goal
 
 pub returns : goal.returns

@@ -1,7 +1,7 @@
 use Rattle.std.proofs.Common.{sym, ◌∙◌, ap}
 use Rattle.java_units.specs.Pieces.{pieces_of}
 use Rattle.java_units.specs.Units.{annotations_before, IsAnnotation}
-use Rattle.member_reader.proofs.Zips.{zips_done}
+use Rattle.unit_reader.proofs.Zips.{zips_done}
 use Rattle.unit_reader.proofs.AnnotationSteps.{other_here}
 use Rattle.unit_reader.proofs.annotations.annotations.Goals as goal
 

@@ -1,7 +1,7 @@
 use Rattle.std.proofs.Common.{length}
 use Rattle.java_units.specs.Pieces.{pieces_of}
 use Rattle.java_units.specs.Units.{annotations_before, IsAnnotation}
-use Rattle.member_reader.proofs.Zips.{Zips}
+use Rattle.unit_reader.proofs.Zips.{Zips}
 use Rattle.unit_reader.proofs.annotations.annotations.Given as goal
 
 abbrev pub invariant-loop-piece : goal.invariant-loop-piece

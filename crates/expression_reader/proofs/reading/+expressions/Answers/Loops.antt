@@ -6,9 +6,9 @@ use Rattle.std.proofs.lemmas.List.{map_push}
 use Rattle.java_tree.specs.KeptPlaces.{kept, expr_places, init_places}
 use Rattle.java_tree.specs.Operators.{assignment_level}
 use Rattle.java_tree.specs.View.{base_of, expr_of, init_of}
-use Rattle.method_grammar.specs.Taking.{commas}
-use Rattle.method_grammar.specs.ExpressionReading.{read_at, init_at, climb_with, lengths_with}
-use Rattle.method_grammar.specs.ExpressionReading.{items_with}
+use Rattle.java_units.specs.Taking.{commas}
+use Rattle.java_units.specs.ExpressionReading.{read_at, init_at, climb_with, lengths_with}
+use Rattle.java_units.specs.ExpressionReading.{items_with}
 use Rattle.type_reader.specs.Tokens.{spelled}
 use Rattle.type_reader.specs.Finishing.{finished}
 use Rattle.type_reader.specs.Endings.{call_end, lengths_end, items_end}

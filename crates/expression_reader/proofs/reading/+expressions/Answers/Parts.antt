@@ -4,15 +4,15 @@ use Rattle.std.proofs.Common.{◌+◌, arith, refl}
 use Rattle.std.proofs.lemmas.Result.{err_from_is_err_and}
 use Rattle.java_tree.specs.Operators.{assignment_level}
 use Rattle.java_tree.specs.Operators.{conditional_level, unary_level}
-use Rattle.method_grammar.specs.Taking.{after_sign, after_name}
-use Rattle.method_grammar.specs.TypeReading.{ty_at}
-use Rattle.method_grammar.specs.ExpressionReading.{read_at, init_at}
-use Rattle.method_grammar.specs.ExpressionReading.{assign_with, conditional_with, select_with}
-use Rattle.method_grammar.specs.ExpressionReading.{index_with, prefix_with, new_array_with, braces_with}
-use Rattle.method_grammar.specs.ExpressionReading.{call_arguments_with}
+use Rattle.java_units.specs.Taking.{after_sign, after_name}
+use Rattle.java_units.specs.TypeReading.{ty_at}
+use Rattle.java_units.specs.ExpressionReading.{read_at, init_at}
+use Rattle.java_units.specs.ExpressionReading.{assign_with, conditional_with, select_with}
+use Rattle.java_units.specs.ExpressionReading.{index_with, prefix_with, new_array_with, braces_with}
+use Rattle.java_units.specs.ExpressionReading.{call_arguments_with}
 use Rattle.type_reader.specs.Tokens.{spelled}
 use Rattle.type_reader.proofs.ReadParts.{part_fails}
-use Rattle.method_grammar.specs.ExpressionReading.{binary_with}
+use Rattle.java_units.specs.ExpressionReading.{binary_with}
 use Rattle.expression_reader.proofs.reading.+expressions.Goals as goal
 
 pub expressions::assign-returns-in_err-right-clause-gives : goal.expressions::assign-returns-in_err-right-clause-gives

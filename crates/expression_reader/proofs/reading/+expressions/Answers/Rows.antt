@@ -6,11 +6,11 @@ use Rattle.std.specs.Prelude.{bytes_eq}
 use Rattle.java_lexer.specs.declared.token.TokenKind.TheVariants as kind
 use Rattle.java_tree.specs.Operators.{is_prefix}
 use Rattle.java_tree.specs.View.{base_of, expr_of}
-use Rattle.method_grammar.specs.TypeReading.{ty_at, made_base_at}
-use Rattle.method_grammar.specs.ExpressionReading.{operand_of, read_at, array_at}
-use Rattle.method_grammar.specs.ExpressionReading.{new_with}
-use Rattle.method_grammar.specs.ExpressionReading.{call_arguments_with, name_with}
-use Rattle.method_grammar.specs.Leads.{lead, casts}
+use Rattle.java_units.specs.TypeReading.{ty_at, made_base_at}
+use Rattle.java_units.specs.ExpressionReading.{operand_of, read_at, array_at}
+use Rattle.java_units.specs.ExpressionReading.{new_with}
+use Rattle.java_units.specs.ExpressionReading.{call_arguments_with, name_with}
+use Rattle.java_units.specs.Leads.{lead, casts}
 use Rattle.expression_reader.specs.LeadView.{lead_of}
 use Rattle.expression_reader.proofs.TurnSteps.{turn_given, turn_stops}
 use Rattle.expression_reader.proofs.CastChoice.{parens_alone}
@@ -19,9 +19,9 @@ use Rattle.type_reader.proofs.ReadParts.{part_fails}
 use Rattle.type_reader.proofs.ReadLoops.{ends_give}
 use Rattle.expression_reader.proofs.ExpressionLoops.{read_on}
 use Rattle.java_tree.specs.Formed.{is_named}
-use Rattle.method_grammar.specs.TypeReading.{has_diamond}
+use Rattle.java_units.specs.TypeReading.{has_diamond}
 use Rattle.java_tree.specs.Trees.{Typed}
-use Rattle.method_grammar.specs.ExpressionReading.{operand_with, new_object_with}
+use Rattle.java_units.specs.ExpressionReading.{operand_with, new_object_with}
 use Rattle.type_reader.specs.ReadAnswer.{Gives}
 use Rattle.expression_reader.proofs.LastCalls.{first_and_rest}
 use Rattle.expression_reader.proofs.reading.+expressions.Goals as goal

@@ -3,7 +3,7 @@ use Rattle.std.proofs.lemmas.Result.{err_from_is_err_and}
 use Rattle.std.proofs.lemmas.List.{map_push}
 use Rattle.java_tree.specs.KeptPlaces.{kept, name_places}
 use Rattle.java_tree.specs.View.{name_of}
-use Rattle.method_grammar.specs.ExpressionReading.{class_at}
+use Rattle.java_units.specs.ExpressionReading.{class_at}
 use Rattle.expression_reader.specs.ClassFollows.{class_end}
 use Rattle.type_reader.specs.Tokens.{spelled}
 use Rattle.type_reader.specs.Finishing.{finished}

@@ -1,7 +1,7 @@
 use Rattle.std.proofs.Common.{◌≡◌, ◌+◌, ◌≤◌, true, [], ◌∷◌, length, map}
 use Rattle.java_tree.specs.KeptPlaces.{kept, each_puts, name_places}
 use Rattle.java_tree.specs.View.{name_of}
-use Rattle.method_grammar.specs.ExpressionReading.{class_at}
+use Rattle.java_units.specs.ExpressionReading.{class_at}
 use Rattle.expression_reader.specs.ClassFollows.{class_end}
 use Rattle.type_reader.specs.Tokens.{spelled}
 use Rattle.type_reader.specs.Finishing.{finished}

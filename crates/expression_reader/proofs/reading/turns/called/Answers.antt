@@ -6,7 +6,7 @@ use Rattle.java_tree.specs.declared.expressions.Expression.TheFolds.{the_lemmas}
 use Rattle.java_tree.specs.KeptPlaces.{Places, kept, each_puts, expr_places}
 use Rattle.java_tree.specs.Trees.{Expr, CallOn, pack_exprs}
 use Rattle.java_tree.specs.View.{expr_of}
-use Rattle.method_grammar.specs.ExpressionReading.{grown}
+use Rattle.java_units.specs.ExpressionReading.{grown}
 use Rattle.type_reader.specs.Tokens.{spelled}
 use Rattle.type_reader.specs.ReadAnswer.{Gives}
 use Rattle.expression_reader.specs.TurnView.{turn_of, places_put}

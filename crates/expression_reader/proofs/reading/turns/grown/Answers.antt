@@ -5,7 +5,7 @@ use Rattle.java_tree.specs.declared.words.Spelled.{Spelled}
 use Rattle.java_tree.specs.Trees.{Expr}
 use Rattle.java_tree.specs.Nesting.{expr_nesting}
 use Rattle.java_tree.specs.View.{expr_of}
-use Rattle.method_grammar.specs.ExpressionReading.{Next, grown}
+use Rattle.java_units.specs.ExpressionReading.{Next, grown}
 use Rattle.type_reader.specs.Tokens.{spelled}
 use Rattle.expression_reader.proofs.reading.turns.grown.Goals as goal
 

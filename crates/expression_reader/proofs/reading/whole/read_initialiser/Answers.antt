@@ -3,11 +3,11 @@ use Rattle.java_tree.specs.Spelling.{init_onto}
 use Rattle.java_tree.specs.Formed.{FormedInit}
 use Rattle.java_tree.specs.Nesting.{init_nesting}
 use Rattle.java_tree.specs.View.{init_of}
-use Rattle.method_grammar.specs.ExpressionReading.{init_at}
+use Rattle.java_units.specs.ExpressionReading.{init_at}
 use Rattle.type_reader.specs.Tokens.{spelled}
-use Rattle.method_grammar.proofs.FoundExpressions.{init_found, one_init}
-use Rattle.method_grammar.proofs.Taken.{pull_nothing}
-use Rattle.method_grammar.proofs.SoundJava.{java_sound}
+use Rattle.java_units.proofs.FoundExpressions.{init_found, one_init}
+use Rattle.java_units.proofs.Taken.{pull_nothing}
+use Rattle.java_units.proofs.SoundJava.{java_sound}
 use Rattle.type_reader.proofs.WholeTrees.{whole_formed, whole_spelled, whole_small, whole_only, whole_none}
 use Rattle.expression_reader.proofs.reading.whole.read_initialiser.Goals as goal
 

@@ -5,7 +5,7 @@ use Rattle.java_tree.specs.KeptPlaces.{kept}
 use Rattle.java_tree.specs.MethodPlaces.{annotation_marks}
 use Rattle.method_reader.proofs.LedMarks.{one_led, from_equal}
 use Rattle.java_tree.specs.View.{annotation_of}
-use Rattle.method_grammar.specs.MethodReading.{annotations_at}
+use Rattle.java_units.specs.MethodReading.{annotations_at}
 use Rattle.type_reader.specs.Tokens.{spelled}
 use Rattle.method_reader.proofs.AnnotationLoops.{annotation_goes_on, annotation_fails, annotations_end}
 use Rattle.method_reader.proofs.AnnotationLoops.{annotations_run_out}

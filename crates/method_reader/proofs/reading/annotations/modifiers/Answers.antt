@@ -5,7 +5,7 @@ use Rattle.java_tree.specs.KeptPlaces.{kept}
 use Rattle.java_tree.specs.MethodPlaces.{modifier_marks}
 use Rattle.method_reader.proofs.LedMarks.{one_led}
 use Rattle.java_tree.specs.View.{modifier_of}
-use Rattle.method_grammar.specs.MethodReading.{modifiers_at}
+use Rattle.java_units.specs.MethodReading.{modifiers_at}
 use Rattle.type_reader.specs.Tokens.{spelled}
 use Rattle.method_reader.proofs.AnnotationLoops.{modifier_goes_on, modifier_fails, modifiers_end, modifiers_run_out}
 use Rattle.method_reader.proofs.reading.annotations.modifiers.Goals as goal

@@ -3,7 +3,7 @@ use Rattle.java_tree.specs.KeptPlaces.{kept}
 use Rattle.java_tree.specs.MethodPlaces.{each_marks, modifier_marks}
 use Rattle.method_reader.specs.LedPlaces.{Leads}
 use Rattle.java_tree.specs.View.{modifier_of}
-use Rattle.method_grammar.specs.MethodReading.{modifiers_at}
+use Rattle.java_units.specs.MethodReading.{modifiers_at}
 use Rattle.type_reader.specs.Tokens.{spelled}
 use Rattle.type_reader.specs.Finishing.{finished}
 use Rattle.type_reader.specs.Endings.{as_they_are}

@@ -3,8 +3,8 @@ use Rattle.std.proofs.lemmas.Result.{err_from_is_err_and}
 use Rattle.java_tree.specs.KeptPlaces.{kept}
 use Rattle.java_tree.specs.MethodPlaces.{no_name}
 use Rattle.method_reader.proofs.LedMarks.{one_led, name_led}
-use Rattle.method_grammar.specs.Taking.{after_name}
-use Rattle.method_grammar.specs.TypeReading.{points}
+use Rattle.java_units.specs.Taking.{after_name}
+use Rattle.java_units.specs.TypeReading.{points}
 use Rattle.type_reader.specs.Tokens.{spelled}
 use Rattle.type_reader.specs.Finishing.{finished}
 use Rattle.type_reader.specs.Endings.{as_they_are}

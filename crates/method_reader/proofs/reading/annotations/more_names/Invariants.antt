@@ -2,8 +2,8 @@ use Rattle.std.proofs.Common.{◌≡◌, ◌-◌, ◌≤◌, [], ◌∷◌, leng
 use Rattle.java_tree.specs.KeptPlaces.{Places, kept}
 use Rattle.java_tree.specs.MethodPlaces.{each_marks, no_name}
 use Rattle.method_reader.specs.LedPlaces.{Leads}
-use Rattle.method_grammar.specs.Taking.{after_name}
-use Rattle.method_grammar.specs.TypeReading.{points}
+use Rattle.java_units.specs.Taking.{after_name}
+use Rattle.java_units.specs.TypeReading.{points}
 use Rattle.type_reader.specs.Tokens.{spelled}
 use Rattle.type_reader.specs.Finishing.{finished}
 use Rattle.type_reader.specs.Endings.{as_they_are}

@@ -4,7 +4,7 @@ use Rattle.std.proofs.lemmas.Result.{err_from_is_err_and}
 use Rattle.java_tree.specs.KeptPlaces.{kept}
 use Rattle.java_tree.specs.MethodPlaces.{no_place}
 use Rattle.method_reader.proofs.LedMarks.{one_led, token_led}
-use Rattle.method_grammar.specs.MethodReading.{closed_at}
+use Rattle.java_units.specs.MethodReading.{closed_at}
 use Rattle.method_reader.specs.AwaitedBrackets.{closing, awaited_onto}
 use Rattle.type_reader.specs.Tokens.{spelled}
 use Rattle.type_reader.specs.Finishing.{finished}

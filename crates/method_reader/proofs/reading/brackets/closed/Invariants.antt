@@ -2,7 +2,7 @@ use Rattle.std.proofs.Common.{◌≡◌, ◌≤◌, [], ◌∷◌, codes, length
 use Rattle.java_tree.specs.KeptPlaces.{Places, kept}
 use Rattle.java_tree.specs.MethodPlaces.{each_marks, no_place}
 use Rattle.method_reader.specs.LedPlaces.{Leads}
-use Rattle.method_grammar.specs.MethodReading.{closed_at}
+use Rattle.java_units.specs.MethodReading.{closed_at}
 use Rattle.method_reader.specs.AwaitedBrackets.{awaited_onto}
 use Rattle.type_reader.specs.Tokens.{spelled}
 use Rattle.type_reader.specs.Finishing.{finished}

@@ -1,5 +1,5 @@
 use Rattle.std.proofs.Common.{refl, arith}
-use Rattle.method_grammar.specs.StatementReading.{condition_at}
+use Rattle.java_units.specs.StatementReading.{condition_at}
 use Rattle.method_reader.proofs.reading.heads.condition.Goals as goal
 
 pub returns-clause-gives : goal.returns-clause-gives

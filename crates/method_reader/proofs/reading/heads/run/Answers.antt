@@ -1,5 +1,5 @@
 use Rattle.std.proofs.Common.{sym, ap, map, ◌∙◌}
-use Rattle.method_grammar.specs.ExpressionReading.{read_at}
+use Rattle.java_units.specs.ExpressionReading.{read_at}
 use Rattle.type_reader.specs.Tokens.{spelled}
 use Rattle.java_tree.specs.View.{expr_of}
 use Rattle.java_tree.specs.Formed.{is_run}

@@ -1,5 +1,5 @@
 use Rattle.std.proofs.Common.{◌∙◌, ap, arith, length}
-use Rattle.method_grammar.specs.StatementReading.{local_at}
+use Rattle.java_units.specs.StatementReading.{local_at}
 use Rattle.method_reader.proofs.PassedOn.{puts_back, within_back}
 use Rattle.java_tree.specs.KeptPlaces.{kept, stmt_places, locals_places}
 use Rattle.method_reader.proofs.reading.lines.local_line.Goals as goal

@@ -1,5 +1,5 @@
 use Rattle.std.proofs.Common.{◌∙◌, ap, option_map, arith, length}
-use Rattle.method_grammar.specs.StatementReading.{return_at}
+use Rattle.java_units.specs.StatementReading.{return_at}
 use Rattle.method_reader.proofs.PassedOn.{puts_back, within_back}
 use Rattle.java_tree.specs.KeptPlaces.{kept, stmt_places, expr_places, maybe_puts}
 use Rattle.method_reader.proofs.reading.lines.returned.Goals as goal

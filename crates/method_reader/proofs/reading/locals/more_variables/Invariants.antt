@@ -1,9 +1,9 @@
 use Rattle.std.proofs.Common.{◌≡◌, ◌-◌, ◌≤◌, [], ◌∷◌, length, map}
 use Rattle.java_tree.specs.KeptPlaces.{kept, each_puts, variable_places}
 use Rattle.java_tree.specs.View.{variable_of}
-use Rattle.method_grammar.specs.Taking.{commas}
-use Rattle.method_grammar.specs.StatementReading.{variable_at}
-use Rattle.method_grammar.specs.JavaReaders.{method_readers}
+use Rattle.java_units.specs.Taking.{commas}
+use Rattle.java_units.specs.StatementReading.{variable_at}
+use Rattle.java_units.specs.JavaReaders.{method_readers}
 use Rattle.type_reader.specs.Tokens.{spelled}
 use Rattle.type_reader.specs.Finishing.{finished}
 use Rattle.type_reader.specs.Endings.{as_they_are}

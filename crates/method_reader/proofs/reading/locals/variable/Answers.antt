@@ -1,5 +1,5 @@
 use Rattle.std.proofs.Common.{◌∙◌, ap, ◌∷◌}
-use Rattle.method_grammar.specs.StatementReading.{variable_at}
+use Rattle.java_units.specs.StatementReading.{variable_at}
 use Rattle.method_reader.proofs.PassedOn.{puts_back}
 use Rattle.java_tree.specs.KeptPlaces.{Places, kept, variable_places}
 use Rattle.method_reader.proofs.reading.locals.variable.Goals as goal

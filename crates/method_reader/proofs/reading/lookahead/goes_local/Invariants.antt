@@ -1,5 +1,5 @@
 use Rattle.std.proofs.Common.{◌≡◌, true, length, map}
-use Rattle.method_grammar.specs.Lookahead.{goes_local}
+use Rattle.java_units.specs.Lookahead.{goes_local}
 use Rattle.type_reader.specs.Tokens.{spelled}
 use Rattle.method_reader.proofs.reading.lookahead.goes_local.Given as goal
 

@@ -1,5 +1,5 @@
 use Rattle.std.proofs.Common.{refl, sym, ◌∙◌}
-use Rattle.method_grammar.specs.MethodReading.{result_at}
+use Rattle.java_units.specs.MethodReading.{result_at}
 use Rattle.method_reader.proofs.reading.methods.result_tree.Goals as goal
 
 pub returns-then-is_constructor-clause-gives : goal.returns-then-is_constructor-clause-gives

@@ -5,9 +5,9 @@ use Rattle.java_tree.specs.KeptPlaces.{kept}
 use Rattle.java_tree.specs.MethodPlaces.{parameter_marks}
 use Rattle.method_reader.proofs.LedMarks.{one_led, from_equal}
 use Rattle.java_tree.specs.View.{parameter_of}
-use Rattle.method_grammar.specs.Taking.{commas}
-use Rattle.method_grammar.specs.MethodReading.{parameter_at}
-use Rattle.method_grammar.specs.JavaReaders.{method_readers}
+use Rattle.java_units.specs.Taking.{commas}
+use Rattle.java_units.specs.MethodReading.{parameter_at}
+use Rattle.java_units.specs.JavaReaders.{method_readers}
 use Rattle.type_reader.specs.Tokens.{spelled}
 use Rattle.type_reader.specs.Finishing.{finished}
 use Rattle.type_reader.specs.Endings.{as_they_are}

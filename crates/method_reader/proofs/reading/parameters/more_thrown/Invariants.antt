@@ -1,9 +1,9 @@
 use Rattle.std.proofs.Common.{◌++◌, ◌≡◌, ◌-◌, ◌≤◌, [], ◌∷◌, length, map}
 use Rattle.java_tree.specs.KeptPlaces.{kept, all_places, ty_places}
 use Rattle.java_tree.specs.View.{ty_of}
-use Rattle.method_grammar.specs.Taking.{commas}
-use Rattle.method_grammar.specs.MethodReading.{thrown_at}
-use Rattle.method_grammar.specs.JavaReaders.{method_readers}
+use Rattle.java_units.specs.Taking.{commas}
+use Rattle.java_units.specs.MethodReading.{thrown_at}
+use Rattle.java_units.specs.JavaReaders.{method_readers}
 use Rattle.type_reader.specs.Tokens.{spelled}
 use Rattle.type_reader.specs.Finishing.{finished}
 use Rattle.type_reader.specs.Endings.{as_they_are}

@@ -5,7 +5,7 @@ use Rattle.std.proofs.lemmas.List.{length-map}
 use Rattle.method_reader.proofs.ParameterParts.{parameter_is, parameter_lacks}
 use Rattle.std.proofs.lemmas.Result.{err_from_is_err_and}
 use Rattle.type_reader.proofs.ReadParts.{part_fails}
-use Rattle.method_grammar.specs.Taking.{after_name}
+use Rattle.java_units.specs.Taking.{after_name}
 use Rattle.java_tree.specs.KeptPlaces.{kept, ty_places}
 use Rattle.java_tree.specs.MethodPlaces.{each_marks, annotation_marks}
 use Rattle.method_reader.proofs.LedMarks.{from_equal, typed_led}

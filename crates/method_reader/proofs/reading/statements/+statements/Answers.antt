@@ -4,10 +4,10 @@ use Rattle.std.proofs.lemmas.List.{map_push}
 use Rattle.java_tree.specs.KeptPlaces.{kept, expr_places, stmt_places}
 use Rattle.type_reader.proofs.PutPlaces.{one_put}
 use Rattle.java_tree.specs.View.{stmt_of}
-use Rattle.method_grammar.specs.StatementReading.{braces_at, by_lead, stmt_at, block_at, body_at, condition_at}
-use Rattle.method_grammar.specs.StatementReading.{if_at, while_at, sync_at}
-use Rattle.method_grammar.specs.Lookahead.{StatementLead, statement_lead}
-use Rattle.method_grammar.specs.JavaReaders.{method_readers}
+use Rattle.java_units.specs.StatementReading.{braces_at, by_lead, stmt_at, block_at, body_at, condition_at}
+use Rattle.java_units.specs.StatementReading.{if_at, while_at, sync_at}
+use Rattle.java_units.specs.Lookahead.{StatementLead, statement_lead}
+use Rattle.java_units.specs.JavaReaders.{method_readers}
 use Rattle.type_reader.specs.Tokens.{spelled}
 use Rattle.type_reader.specs.Endings.{block_end}
 use Rattle.method_reader.specs.HeadReading.{head_at}

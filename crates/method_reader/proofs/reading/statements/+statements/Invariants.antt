@@ -1,8 +1,8 @@
 use Rattle.std.proofs.Common.{◌≡◌, ◌+◌, ◌*◌, ◌-◌, ◌≤◌, length, map}
 use Rattle.java_tree.specs.KeptPlaces.{kept, each_puts, stmt_places}
 use Rattle.java_tree.specs.View.{stmt_of}
-use Rattle.method_grammar.specs.StatementReading.{stmts_at, braces_at, stmt_at}
-use Rattle.method_grammar.specs.JavaReaders.{method_readers}
+use Rattle.java_units.specs.StatementReading.{stmts_at, braces_at, stmt_at}
+use Rattle.java_units.specs.JavaReaders.{method_readers}
 use Rattle.type_reader.specs.Tokens.{spelled}
 use Rattle.type_reader.specs.Finishing.{finished}
 use Rattle.type_reader.specs.Endings.{block_end}

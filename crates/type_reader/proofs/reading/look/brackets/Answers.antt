@@ -1,5 +1,5 @@
 use Rattle.std.proofs.Common.{◌∙◌, arith, length, map}
-use Rattle.method_grammar.specs.TypeReading.{brackets_at}
+use Rattle.java_units.specs.TypeReading.{brackets_at}
 use Rattle.type_reader.specs.Tokens.{spelled}
 use Rattle.type_reader.proofs.ReadLoops.{bracket_goes_on, bracket_ends}
 use Rattle.type_reader.proofs.reading.look.brackets.Goals as goal

@@ -1,6 +1,6 @@
 use Rattle.std.proofs.Common.{◌≡◌, ◌+◌, ◌-◌, ◌≤◌, length, map}
 use Rattle.java_tree.specs.KeptPlaces.{kept}
-use Rattle.method_grammar.specs.TypeReading.{brackets_at}
+use Rattle.java_units.specs.TypeReading.{brackets_at}
 use Rattle.type_reader.specs.Tokens.{spelled}
 use Rattle.type_reader.proofs.reading.look.brackets.Given as goal
 

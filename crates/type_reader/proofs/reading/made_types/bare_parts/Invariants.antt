@@ -3,7 +3,7 @@ use Rattle.java_tree.specs.KeptPlaces.{kept, all_places, part_places}
 use Rattle.java_tree.specs.Nesting.{parts_nesting}
 use Rattle.java_tree.specs.Trees.{pack_parts}
 use Rattle.java_tree.specs.View.{part_of}
-use Rattle.method_grammar.specs.TypeReading.{points, bare_part_at}
+use Rattle.java_units.specs.TypeReading.{points, bare_part_at}
 use Rattle.type_reader.specs.Tokens.{spelled}
 use Rattle.type_reader.specs.Finishing.{finished}
 use Rattle.type_reader.specs.Endings.{named_end}

@@ -1,7 +1,7 @@
 use Rattle.std.proofs.Common.{◌≡◌, map, drop}
 use Rattle.java_tree.specs.Trees.{pack_parts}
 use Rattle.java_tree.specs.View.{part_of}
-use Rattle.method_grammar.specs.TypeReading.{have_diamond}
+use Rattle.java_units.specs.TypeReading.{have_diamond}
 use Rattle.type_reader.proofs.reading.made_types.have_diamond.Given as goal
 
 abbrev pub invariant-loop-part : goal.invariant-loop-part

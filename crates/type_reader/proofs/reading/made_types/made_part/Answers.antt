@@ -1,8 +1,8 @@
 use Rattle.std.proofs.Common.{map, refl, rules}
 use Rattle.std.proofs.lemmas.Result.{err_from_is_err_and}
 use Rattle.java_tree.specs.declared.types.BaseType.TheFolds.{the_lemmas}
-use Rattle.method_grammar.specs.Taking.{after_name}
-use Rattle.method_grammar.specs.TypeReading.{made_part_with, angled_with, ty_at}
+use Rattle.java_units.specs.Taking.{after_name}
+use Rattle.java_units.specs.TypeReading.{made_part_with, angled_with, ty_at}
 use Rattle.type_reader.specs.Tokens.{spelled}
 use Rattle.type_reader.proofs.ReadParts.{part_fails}
 use Rattle.type_reader.proofs.reading.made_types.made_part.Goals as goal

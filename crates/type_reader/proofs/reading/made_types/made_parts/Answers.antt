@@ -3,7 +3,7 @@ use Rattle.std.proofs.lemmas.Result.{err_from_is_err_and}
 use Rattle.std.proofs.lemmas.List.{map_push}
 use Rattle.java_tree.specs.View.{part_of}
 use Rattle.java_tree.specs.KeptPlaces.{Places, kept, part_places}
-use Rattle.method_grammar.specs.TypeReading.{made_parts_with, ty_at}
+use Rattle.java_units.specs.TypeReading.{made_parts_with, ty_at}
 use Rattle.type_reader.specs.Tokens.{spelled}
 use Rattle.type_reader.specs.Finishing.{finished}
 use Rattle.type_reader.specs.Endings.{named_end}

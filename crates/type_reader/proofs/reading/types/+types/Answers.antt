@@ -5,8 +5,8 @@ use Rattle.java_tree.specs.View.{part_of, argument_of}
 use Rattle.java_tree.specs.KeptPlaces.{kept, part_places, argument_places}
 use Rattle.java_tree.specs.Trees.{Plain}
 use Rattle.java_tree.specs.declared.types.BaseType.TheFolds.{the_lemmas}
-use Rattle.method_grammar.specs.Taking.{commas, after_name}
-use Rattle.method_grammar.specs.TypeReading.{points, part_with, argument_with, angled_with, base_with, ty_at}
+use Rattle.java_units.specs.Taking.{commas, after_name}
+use Rattle.java_units.specs.TypeReading.{points, part_with, argument_with, angled_with, base_with, ty_at}
 use Rattle.type_reader.specs.Tokens.{spelled}
 use Rattle.type_reader.specs.Finishing.{finished}
 use Rattle.type_reader.specs.Endings.{named_end, angled_end}

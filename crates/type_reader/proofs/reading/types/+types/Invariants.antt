@@ -3,8 +3,8 @@ use Rattle.java_tree.specs.KeptPlaces.{kept, all_places, part_places, argument_p
 use Rattle.java_tree.specs.Nesting.{parts_nesting, arguments_nesting}
 use Rattle.java_tree.specs.Trees.{pack_parts, pack_arguments}
 use Rattle.java_tree.specs.View.{part_of, argument_of}
-use Rattle.method_grammar.specs.Taking.{commas}
-use Rattle.method_grammar.specs.TypeReading.{points, part_with, argument_with, ty_at}
+use Rattle.java_units.specs.Taking.{commas}
+use Rattle.java_units.specs.TypeReading.{points, part_with, argument_with, ty_at}
 use Rattle.type_reader.specs.Tokens.{spelled}
 use Rattle.type_reader.specs.Finishing.{finished}
 use Rattle.type_reader.specs.Endings.{named_end, angled_end}

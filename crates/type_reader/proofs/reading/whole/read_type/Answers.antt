@@ -3,10 +3,10 @@ use Rattle.java_tree.specs.Spelling.{ty_onto}
 use Rattle.java_tree.specs.Formed.{FormedTy}
 use Rattle.java_tree.specs.Nesting.{ty_nesting}
 use Rattle.java_tree.specs.View.{ty_of}
-use Rattle.method_grammar.specs.TypeReading.{ty_at}
+use Rattle.java_units.specs.TypeReading.{ty_at}
 use Rattle.type_reader.specs.Tokens.{spelled}
-use Rattle.method_grammar.proofs.FoundTypes.{ty_found, one_type}
-use Rattle.method_grammar.proofs.SoundJava.{java_sound}
+use Rattle.java_units.proofs.FoundTypes.{ty_found, one_type}
+use Rattle.java_units.proofs.SoundJava.{java_sound}
 use Rattle.type_reader.proofs.WholeTrees.{whole_formed, whole_spelled, whole_small, whole_only, whole_none}
 use Rattle.type_reader.proofs.reading.whole.read_type.Goals as goal
 

@@ -1,5 +1,0 @@
-pub mod Members
-pub mod ChainLemmas
-pub mod Components
-pub mod Fallen
-pub mod Passing

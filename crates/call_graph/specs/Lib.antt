@@ -1,4 +1,0 @@
--- A contract of a public call rests on this: the list of files.
-pub mod Chains
-pub mod Falling
-pub mod Shown

@@ -1,6 +1,0 @@
-mod SortedNames
-mod Fronts
-mod Added
-mod Faults
-mod There
-mod Together

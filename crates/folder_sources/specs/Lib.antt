@@ -1,6 +1,0 @@
--- A contract of a public call rests on this: the list of files.
-pub mod Sources
-pub mod Lines
-pub mod Reading
-pub mod Finding
-pub mod Declaring

@@ -1,9 +1,0 @@
-pub mod SameEnds
-pub mod ModifierSteps
-pub mod DeclaredFields
-pub mod VariableSteps
-pub mod DivisionSteps
-pub mod LastPartSteps
-pub mod ResultSteps
-pub mod Zips
-pub mod Refusals

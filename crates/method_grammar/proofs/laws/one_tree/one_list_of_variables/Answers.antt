@@ -1,5 +1,0 @@
-use Rattle.method_grammar.proofs.ListedVariables.{one_list}
-use Rattle.method_grammar.proofs.laws.one_tree.one_list_of_variables.Goals as goal
-
-pub returns : goal.returns
-returns c = one_list

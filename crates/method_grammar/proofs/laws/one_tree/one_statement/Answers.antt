@@ -1,5 +1,0 @@
-use Rattle.method_grammar.proofs.FoundJava.{one_java_statement}
-use Rattle.method_grammar.proofs.laws.one_tree.one_statement.Goals as goal
-
-pub returns : goal.returns
-returns c = one_java_statement

@@ -1,9 +1,0 @@
-pub mod Taking
-pub mod TypeReading
-pub mod Leads
-pub mod ExpressionReading
-pub mod Readers
-pub mod Lookahead
-pub mod StatementReading
-pub mod MethodReading
-pub mod JavaReaders

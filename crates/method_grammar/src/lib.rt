@@ -1,4 +1,0 @@
-//! Methods of Java, read from their tokens.
-#![tactic(auto)]
-
-pub mod laws;

@@ -1,4 +1,0 @@
-pub mod JsonItems
-pub mod JsonPieces
-pub mod JsonTurns
-pub mod MarkedWarnings

@@ -1,3 +1,0 @@
--- A contract of a public call rests on this: the list of files.
-pub mod Json
-pub mod Pieces

@@ -1,0 +1,18 @@
+use Rattle.std.proofs.Common.{codes, subst, sym}
+use Rattle.core_code.specs.Program.{core}
+use Rattle.core_ways.specs.declared.mark.Mark.{Mark}
+use Rattle.core_ways.specs.Marks.{said_by}
+use Rattle.report_parts.specs.Written.{Puts}
+use Rattle.report_parts.specs.Pieces.{detail_text, number_member, place_member}
+use Rattle.report_parts.proofs.PutChains.{two}
+use Rattle.report_parts.proofs.values.push_detail.Goals as goal
+
+pub returns-in-Blocked-clause-puts : goal.returns-in-Blocked-clause-puts
+returns-in-Blocked-clause-puts c =
+    let program = core c.args.program.now in
+    subst (λ (mark : Mark). Puts (detail_text program (said_by mark)) c.args.text.now
+    c.push_mark_number-in-Blocked.new.text) (sym c.in-Blocked.is)
+    (two (place_member program c.in-Blocked.at) (number_member (codes "\"thread\":") c.in-Blocked.thread)
+    c.args.text.now c.push_mark_place-in-Blocked.new.text c.push_mark_number-in-Blocked.new.text
+    c.push_mark_place-in-Blocked.ensures.puts c.push_mark_number-in-Blocked.ensures.lasts
+    c.push_mark_number-in-Blocked.ensures.puts)

@@ -1,0 +1,351 @@
+-- Code that is gone through part by part is gone through whole.
+use Rattle.std.proofs.Common.{◌≡◌, ℕ, suc, ◌+◌, Bool, true, false, cond, List, [], ◌∷◌, ◌++◌}
+use Rattle.std.proofs.Common.{Option, None, Some, length, refl, sym, ap, subst, ◌∙◌}
+use Rattle.std.proofs.lemmas.List.{append-nil}
+use Rattle.std.specs.FinSet as set
+use Rattle.std.specs.Prelude.{Result, Ok, Err, IfOk, slice_index_or, drop}
+use Rattle.racer_base.specs.declared.ids.FieldId.{FieldId}
+use Rattle.racer_base.specs.declared.ids.SiteId.{SiteId}
+use Rattle.racer_base.specs.declared.ids.Touch.{Touch}
+use Rattle.access_paths.specs.declared.path.Path.{Path}
+use Rattle.access_paths.specs.Order.{path_cmp}
+use Rattle.owner_domain.specs.declared.value.Value.{Value}
+use Rattle.owner_domain.specs.declared.value.Value.TheVariants.{Unnamed}
+use Rattle.owner_domain.specs.declared.value.State.{State}
+use Rattle.owner_domain.specs.Values.{field_value, joined_state, lost_state}
+use Rattle.core_code.specs.declared.code.Op.{Op as CoreOp}
+use Rattle.core_code.specs.declared.code.Op.TheVariants.{Push, PushClass, PushPrim, PushNull, New, Dup, Drop, Get, Put}
+use Rattle.core_code.specs.declared.code.Op.TheVariants.{Set, Prim, Outside, Call, Unread, Ret}
+use Rattle.core_code.specs.Program.{core}
+use Rattle.access_domain.specs.declared.access.Access.{Access}
+use Rattle.access_domain.specs.Given.{Given, field_at}
+use Rattle.access_domain.specs.Operations.{Effects, goes_on, op_effects, record_of, top, popped, slot_of}
+use Rattle.access_domain.specs.Flow.{both, after, chosen, rounds, looped, joined_next, lost_next}
+use Rattle.access_domain.proofs.ReachedPaths.{touched-reached}
+use Rattle.transfer.specs.declared.found.Found.{Found}
+use Rattle.transfer.specs.declared.found.Stop.{Stop}
+use Rattle.transfer.specs.declared.found.Stop.TheVariants.{Large, Memory}
+use Rattle.transfer.specs.declared.operations.Frame.{Frame}
+use Rattle.transfer.specs.Frames.{given, record_reached}
+use Rattle.transfer.specs.Known.{table_of}
+use Rattle.transfer.specs.Marks.{marks, all_added, IsNoted, IsStopped, IsMarked, LeadsTo}
+use Rattle.transfer.specs.Walks.{IsFlow, next_of, is_quiet, moved, round_next, round_lost}
+use Rattle.transfer.proofs.Adding.{Alike, chosen-alike, repeated-alike}
+use Rattle.transfer.proofs.Marking.{noted-then, noted-alike, noted-nothing, noted-quiet, stopped-then, stopped-first}
+use Rattle.transfer.proofs.Marking.{stopped-alike, marked-then, marked-alike, noted-kept}
+
+-- ---- records and wobbly paths
+
+pub append-alike : (xs ys : List Path) → Alike (both (marks [] xs) (marks [] ys)) (marks [] (xs ++ ys))
+append-alike xs ys =
+    record {
+      records = refl;
+      wobbly = ap (λ (w : List Path). set.from_list {R = path_cmp} w) (append-nil (xs ++ ys));
+      result = refl;
+      large = refl;
+    }
+
+-- records, and then paths of the same set
+parts-alike : (records : List Access) (ps qs : List Path) → set.from_list {R = path_cmp} ps ≡ set.from_list qs →
+    Alike (both (marks records []) (marks [] ps)) (marks records qs)
+parts-alike records ps qs same =
+    record {
+      records = append-nil records;
+      wobbly = ap (λ (w : List Path). set.from_list {R = path_cmp} w) (append-nil ps) ∙ same;
+      result = refl;
+      large = refl;
+    }
+
+pub noted-parts : (old now new : Found) (records all : List Access) (ps qs : List Path) → records ≡ all →
+    set.from_list {R = path_cmp} ps ≡ set.from_list qs → IsNoted old (marks records []) now →
+    IsNoted now (marks [] ps) new → IsNoted old (marks all qs) new
+noted-parts old now new records all ps qs same paths m k =
+    subst (λ (rs : List Access). IsNoted old (marks rs qs) new) same
+    (noted-alike old (both (marks records []) (marks [] ps)) (marks records qs) new (parts-alike records ps qs paths)
+    (noted-then old (marks records []) now (marks [] ps) new m k))
+
+pub stopped-records : (old : Found) (records all : List Access) (qs : List Path) (stop : Stop) → records ≡ all →
+    IsStopped old (marks records []) stop → IsStopped old (marks all qs) stop
+stopped-records old records all qs stop same m =
+    subst (λ (rs : List Access). IsStopped old (marks rs qs) stop) same
+    (stopped-alike old (both (marks records []) (marks [] qs)) (marks records qs) stop (parts-alike records qs qs refl)
+    (stopped-first old (marks records []) (marks [] qs) stop m))
+
+pub stopped-paths : (old now : Found) (records all : List Access) (ps qs : List Path) (stop : Stop) → records ≡ all →
+    set.from_list {R = path_cmp} ps ≡ set.from_list qs → IsNoted old (marks records []) now →
+    IsStopped now (marks [] ps) stop → IsStopped old (marks all qs) stop
+stopped-paths old now records all ps qs stop same paths m k =
+    subst (λ (rs : List Access). IsStopped old (marks rs qs) stop) same
+    (stopped-alike old (both (marks records []) (marks [] ps)) (marks records qs) stop (parts-alike records ps qs paths)
+    (stopped-then old (marks records []) now (marks [] ps) stop m k))
+
+pub stopped-names : (old : Found) (ps qs : List Path) (stop : Stop) → IsStopped old (marks [] ps) stop →
+    IsStopped old (marks [] (ps ++ qs)) stop
+stopped-names old ps qs stop m =
+    stopped-alike old (both (marks [] ps) (marks [] qs)) (marks [] (ps ++ qs)) stop (append-alike ps qs)
+    (stopped-first old (marks [] ps) (marks [] qs) stop m)
+
+pub marked-names : {X : Type 0} (old now new : Found) (ps qs : List Path) (r : Result X Stop) →
+    IsNoted old (marks [] ps) now → IsMarked now (marks [] qs) new r → IsMarked old (marks [] (ps ++ qs)) new r
+marked-names old now new ps qs r m k =
+    marked-alike old (both (marks [] ps) (marks [] qs)) (marks [] (ps ++ qs)) new r (append-alike ps qs)
+    (marked-then old (marks [] ps) now (marks [] qs) new r m k)
+
+pub flow-alike : (e f : Effects) (here : State) (old new : Found) (r : Result Bool Stop) → e.next ≡ f.next → Alike e f →
+    IsFlow e here old new r → IsFlow f here old new r
+flow-alike e f here old new (Ok goes_on) next same m = (sym next ∙ m.0, noted-alike old e f new same m.1)
+flow-alike e f here old new (Err stop) next same m = stopped-alike old e f stop same m
+
+-- what is found of code, whether it goes on or not
+pub marked-flow : (e : Effects) (here : State) (old new : Found) (r : Result Bool Stop) → IsFlow e here old new r →
+    IsMarked old e new r
+marked-flow e here old new (Ok goes_on) m = m.1
+marked-flow e here old new (Err stop) m = m
+
+-- ---- operations
+
+pub quiet-effects : (g : Given) (locked : Bool) (site : SiteId) (op : CoreOp) (s : State) → is_quiet op ≡ true →
+    op_effects g locked site op s ≡ goes_on (moved op s)
+quiet-effects g locked site (Push v) s e = refl
+quiet-effects g locked site (PushClass c) s e = refl
+quiet-effects g locked site PushPrim s e = refl
+quiet-effects g locked site PushNull s e = refl
+quiet-effects g locked site (New c) s e = refl
+quiet-effects g locked site Dup s e = refl
+quiet-effects g locked site Drop s e = refl
+quiet-effects g locked site (Get f) s e = absurd cc
+quiet-effects g locked site (Put f) s e = absurd cc
+quiet-effects g locked site (Set v) s e = absurd cc
+quiet-effects g locked site (Prim n) s e = refl
+quiet-effects g locked site (Outside n) s e = refl
+quiet-effects g locked site (Call m n) s e = absurd cc
+quiet-effects g locked site (Unread m n) s e = refl
+quiet-effects g locked site Ret s e = absurd cc
+
+-- an operation that finds nothing
+pub flow-quiet : (g : Given) (locked : Bool) (site : SiteId) (op : CoreOp) (s here : State) (found : Found) →
+    is_quiet op ≡ true → here ≡ moved op s → IsFlow (op_effects g locked site op s) here found found (Ok true)
+flow-quiet g locked site op s here found quiet e =
+    subst (λ (x : Effects). IsFlow x here found found (Ok true)) (sym (quiet-effects g locked site op s quiet))
+    (ap Some (sym e), noted-nothing found (moved op s))
+
+-- the record of an access, by the value of the field
+pub record-reached : (frame : Frame) (kind : Touch) (locked : Bool) (site : SiteId) (base : Value) (f : FieldId) →
+    record_reached frame kind locked site (field_value base f) f ≡ record_of (given frame) kind locked site base f
+record-reached frame kind locked site base f =
+    let program = core frame.program.now in
+    ap (λ (o : Option Path). cond (field_at program f).recorded (elim o as (λ _. List Access) [
+      | None ↦ []
+      | Some p ↦ record { path = p; kind = kind; locked = locked; main = frame.main; site = site; below = None } ∷ []
+    ]) []) (sym (touched-reached program (table_of frame.callees.now) frame.main base f))
+
+below : (xs : List Value) → slice_index_or (drop 1 xs) 0 Unnamed ≡ slice_index_or xs 1 Unnamed
+below [] = refl
+below (x ∷ xs) = refl
+
+-- the slot below the top
+pub slot-below : (s : State) → top (popped s 1) ≡ slot_of s 1
+slot-below s = below s.stack
+
+twice : (xs : List Value) → drop 1 (drop 1 xs) ≡ drop 2 xs
+twice [] = refl
+twice (x ∷ xs) = refl
+
+pub popped-twice : (s : State) → popped (popped s 1) 1 ≡ popped s 2
+popped-twice s = λ i. record { vars = s.vars; stack = twice s.stack i }
+
+-- ---- sequences
+
+abbrev after_at : Option State → Effects → (State → Effects) → Effects
+after_at o e rest = elim o as (λ _. Effects) [ None ↦ e | Some s ↦ both e (rest s) ]
+
+flow-both : (e f : Effects) (here : State) (old now new : Found) (r : Result Bool Stop) → IsNoted old e now →
+    IsFlow f here now new r → IsFlow (both e f) here old new r
+flow-both e f here old now new (Ok goes_on) m k = (k.0, noted-then old e now f new m k.1)
+flow-both e f here old now new (Err stop) m k = stopped-then old e now f stop m k
+
+pub flow-then : (e : Effects) (rest : State → Effects) (s here : State) (old now new : Found) (r : Result Bool Stop) →
+    e.next ≡ Some s → IsNoted old e now → IsFlow (rest s) here now new r → IsFlow (after e rest) here old new r
+flow-then e rest s here old now new r next m k =
+    subst (λ (o : Option State). IsFlow (after_at o e rest) here old new r) (sym next)
+    (flow-both e (rest s) here old now new r m k)
+
+pub flow-ended : (e : Effects) (rest : State → Effects) (here : State) (old now : Found) → e.next ≡ None →
+    IsNoted old e now → IsFlow (after e rest) here old now (Ok false)
+flow-ended e rest here old now next m =
+    subst (λ (o : Option State). IsFlow (after_at o e rest) here old now (Ok false)) (sym next) (next, m)
+
+stopped_at : (o : Option State) (e : Effects) (rest : State → Effects) (old : Found) (stop : Stop) →
+    IsStopped old e stop → IsStopped old (after_at o e rest) stop
+stopped_at None e rest old stop m = m
+stopped_at (Some s) e rest old stop m = stopped-first old e (rest s) stop m
+
+pub stopped-after : (e : Effects) (rest : State → Effects) (old : Found) (stop : Stop) → IsStopped old e stop →
+    IsStopped old (after e rest) stop
+stopped-after e rest old stop m = stopped_at e.next e rest old stop m
+
+-- ---- choices
+
+pub flow-chosen : (l r : Effects) (left right : Option State) (here : State) (old now later new : Found)
+    (answer : Result Bool Stop) → l.next ≡ left → r.next ≡ right → IsNoted old l now → IsNoted now r later →
+    IfOk answer (λ goes_on. next_of goes_on here ≡ joined_next left right) →
+    IsMarked later (marks [] (lost_next left right)) new answer → IsFlow (chosen l r) here old new answer
+flow-chosen l r left right here old now later new (Ok goes_on) at_left at_right m k state found = (
+  (λ i. joined_next (at_left i) (at_right i)) ∙ sym state,
+  noted-alike old (both (both l r) (marks [] (lost_next l.next r.next))) (chosen l r) new (chosen-alike l r)
+      (noted-then old (both l r) later (marks [] (lost_next l.next r.next)) new (noted-then old l now r later m k)
+      (subst (λ (ps : List Path). IsNoted later (marks [] ps) new)
+      (λ i. lost_next (sym at_left i) (sym at_right i)) found)),
+)
+flow-chosen l r left right here old now later new (Err stop) at_left at_right m k state found =
+    stopped-alike old (both (both l r) (marks [] (lost_next l.next r.next))) (chosen l r) stop (chosen-alike l r)
+    (stopped-then old (both l r) later (marks [] (lost_next l.next r.next)) stop (noted-then old l now r later m k)
+    (subst (λ (ps : List Path). IsStopped later (marks [] ps) stop)
+    (λ i. lost_next (sym at_left i) (sym at_right i)) found))
+
+stopped_sides : (l r : Effects) (old : Found) (stop : Stop) → IsStopped old (both l r) stop →
+    IsStopped old (chosen l r) stop
+stopped_sides l r old stop m =
+    stopped-alike old (both (both l r) (marks [] (lost_next l.next r.next))) (chosen l r) stop (chosen-alike l r)
+    (stopped-first old (both l r) (marks [] (lost_next l.next r.next)) stop m)
+
+pub stopped-left : (l r : Effects) (old : Found) (stop : Stop) → IsStopped old l stop → IsStopped old (chosen l r) stop
+stopped-left l r old stop m = stopped_sides l r old stop (stopped-first old l r stop m)
+
+pub stopped-right : (l r : Effects) (old now : Found) (stop : Stop) → IsNoted old l now → IsStopped now r stop →
+    IsStopped old (chosen l r) stop
+stopped-right l r old now stop m k = stopped_sides l r old stop (stopped-then old l now r stop m k)
+
+-- ---- loops
+
+-- where nothing is noted, it never stops as Large
+pub stopped-quiet : (quiet old : Found) (e f : Effects) (stop : Stop) → quiet.noted ≡ false → IsStopped quiet e stop →
+    IsStopped old f stop
+stopped-quiet quiet old e f Large off m = absurd cc
+stopped-quiet quiet old e f Memory off m = tt
+
+turn_at : (o : Option State) (body : State → Effects) (n : ℕ) (s : State) →
+    (elim o as (λ _. State × List Path) [
+      | None ↦ rounds body n s
+      | Some end ↦
+          ((rounds body n (joined_state s end)).0, lost_state s end ++ (rounds body n (joined_state s end)).1)
+    ]) ≡ ((rounds body n (round_next s o)).0, round_lost s o ++ (rounds body n (round_next s o)).1)
+turn_at None body n s = refl
+turn_at (Some end) body n s = refl
+
+rounds-turn : (body : State → Effects) (n : ℕ) (s : State) → rounds body (suc n) s ≡ (
+  (rounds body n (round_next s (body s).next)).0,
+  round_lost s (body s).next ++ (rounds body n (round_next s (body s).next)).1,
+)
+rounds-turn body n s = turn_at (body s).next body n s
+
+-- so many rounds are left, and lead to the same state and the same lost paths as all of them do from the beginning
+pub record AreRounds (body : State → Effects) (total left : ℕ) (start here : State) (old now : Found) : Type 0 where
+  pub noted : now.noted ≡ old.noted
+  pub last : (rounds body left here).0 ≡ (rounds body total start).0
+  pub leads : LeadsTo old (marks [] (rounds body total start).1) now (marks [] (rounds body left here).1)
+
+pub rounds-begin : (body : State → Effects) (total : ℕ) (start : State) (old : Found) →
+    AreRounds body total total start start old old
+rounds-begin body total start old = record { noted = refl; last = refl; leads = λ new r m. m }
+
+pub rounds-step : (body : State → Effects) (total left rest : ℕ) (start here end : State) (old now new : Found) →
+    left ≡ suc rest → AreRounds body total left start here old now → end ≡ round_next here (body here).next →
+    IsNoted now (marks [] (round_lost here (body here).next)) new → AreRounds body total rest start end old new
+rounds-step body total left rest start here end old now new e at next m =
+    let next_here = round_next here (body here).next in
+    let lost_here = round_lost here (body here).next in
+    let turn : rounds body left here ≡
+    ((rounds body rest next_here).0, lost_here ++ (rounds body rest next_here).1) =
+    ap (λ (k : ℕ). rounds body k here) e ∙ rounds-turn body rest here in
+    subst (λ (s : State). AreRounds body total rest start s old new) (sym next)
+    (record {
+      noted = noted-kept now (marks [] lost_here) new m ∙ at.noted;
+      last = sym (ap (λ (p : State × List Path). p.0) turn) ∙ at.last;
+      leads = λ later r k.
+          at.leads later r
+          (subst (λ (ps : List Path). IsMarked now (marks [] ps) later r)
+          (sym (ap (λ (p : State × List Path). p.1) turn))
+          (marked-alike now (both (marks [] lost_here) (marks [] (rounds body rest next_here).1))
+          (marks [] (lost_here ++ (rounds body rest next_here).1)) later r
+          (append-alike lost_here (rounds body rest next_here).1)
+          (marked-then now (marks [] lost_here) new (marks [] (rounds body rest next_here).1) later r m k)));
+    })
+
+abbrev total_of : State → ℕ
+total_of s = length s.vars + length s.stack + 1
+
+stopped_lost : (body : State → Effects) (start : State) (old : Found) (stop : Stop) →
+    IsStopped old (marks [] (rounds body (total_of start) start).1) stop → IsStopped old (looped body start) stop
+stopped_lost body start old stop m =
+    let all = rounds body (total_of start) start in
+    stopped-alike old (both (marks [] all.1) (body all.0)) (looped body start) stop (repeated-alike all.1 all.0 body)
+    (stopped-first old (marks [] all.1) (body all.0) stop m)
+
+pub rounds-stopped : (body : State → Effects) (left rest : ℕ) (start here : State) (old now : Found) (stop : Stop) →
+    left ≡ suc rest → AreRounds body (total_of start) left start here old now →
+    IsStopped now (marks [] (round_lost here (body here).next)) stop → IsStopped old (looped body start) stop
+rounds-stopped body left rest start here old now stop e at m =
+    let next_here = round_next here (body here).next in
+    let lost_here = round_lost here (body here).next in
+    let turn : (rounds body left here).1 ≡ lost_here ++ (rounds body rest next_here).1 =
+    ap (λ (p : State × List Path). p.1) (ap (λ (k : ℕ). rounds body k here) e ∙ rounds-turn body rest here) in
+    stopped_lost body start old stop
+    (at.leads now (Err stop)
+    (subst (λ (ps : List Path). IsStopped now (marks [] ps) stop) (sym turn)
+    (stopped-alike now (both (marks [] lost_here) (marks [] (rounds body rest next_here).1))
+    (marks [] (lost_here ++ (rounds body rest next_here).1)) stop
+    (append-alike lost_here (rounds body rest next_here).1)
+    (stopped-first now (marks [] lost_here) (marks [] (rounds body rest next_here).1) stop m))))
+
+-- the paths that all rounds lose are noted
+all_lost : (body : State → Effects) (left : ℕ) (start here : State) (old now : Found) → left ≡ 0 →
+    AreRounds body (total_of start) left start here old now →
+    IsNoted old (marks [] (rounds body (total_of start) start).1) now
+all_lost body left start here old now none at =
+    at.leads now (Ok (tt {0}))
+    (subst (λ (k : ℕ). IsMarked {X = Unit {0}} now (marks [] (rounds body k here).1) now (Ok (tt {0}))) (sym none)
+    (noted-nothing now here))
+
+here_last : (body : State → Effects) (left : ℕ) (start here : State) (old now : Found) → left ≡ 0 →
+    AreRounds body (total_of start) left start here old now → here ≡ (rounds body (total_of start) start).0
+here_last body left start here old now none at = sym (ap (λ (k : ℕ). (rounds body k here).0) none) ∙ at.last
+
+pub rounds-quiet : (body : State → Effects) (left : ℕ) (start here : State) (old now : Found) → left ≡ 0 →
+    AreRounds body (total_of start) left start here old now → now.noted ≡ false →
+    IsFlow (looped body start) here old now (Ok true)
+rounds-quiet body left start here old now none at off =
+    let lost = marks [] (rounds body (total_of start) start).1 in
+    let quiet : old.noted ≡ false = sym at.noted ∙ off in
+    let same : old ≡ now = sym ((all_lost body left start here old now none at).0
+    ∙ ap (λ (b : Bool). cond b (all_added old lost) old) quiet) in (
+      ap Some (sym (here_last body left start here old now none at)),
+      subst (λ (f : Found). IsNoted old (looped body start) f) same (noted-quiet old (looped body start) quiet),
+    )
+
+pub rounds-ended : (body : State → Effects) (left : ℕ) (start here : State) (old now new : Found) → left ≡ 0 →
+    AreRounds body (total_of start) left start here old now → IsNoted now (body here) new →
+    IsFlow (looped body start) here old new (Ok true)
+rounds-ended body left start here old now new none at m =
+    let all = rounds body (total_of start) start in
+    let last : here ≡ all.0 = here_last body left start here old now none at in (
+      ap Some (sym last),
+      noted-alike old (both (marks [] all.1) (body all.0)) (looped body start) new (repeated-alike all.1 all.0 body)
+          (noted-then old (marks [] all.1) now (body all.0) new (all_lost body left start here old now none at)
+          (subst (λ (s : State). IsNoted now (body s) new) last m)),
+    )
+
+pub last-stopped : (body : State → Effects) (left : ℕ) (start here : State) (old now : Found) (stop : Stop) →
+    left ≡ 0 → AreRounds body (total_of start) left start here old now → IsStopped now (body here) stop →
+    IsStopped old (looped body start) stop
+last-stopped body left start here old now stop none at m =
+    let all = rounds body (total_of start) start in
+    let last : here ≡ all.0 = here_last body left start here old now none at in
+    stopped-alike old (both (marks [] all.1) (body all.0)) (looped body start) stop (repeated-alike all.1 all.0 body)
+    (stopped-then old (marks [] all.1) now (body all.0) stop (all_lost body left start here old now none at)
+    (subst (λ (s : State). IsStopped now (body s) stop) last m))
+
+-- what was found is as before where nothing was noted meanwhile
+pub restored : (old now : Found) (e : Effects) → IsNoted (record old { noted = false }) e now →
+    record now { noted = old.noted } ≡ old
+restored old now e m = ap (λ (f : Found). record f { noted = old.noted }) m.0

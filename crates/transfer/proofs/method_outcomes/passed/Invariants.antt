@@ -1,0 +1,8 @@
+use Rattle.std.proofs.Common.{◌≡◌, ◌++◌, drop}
+use Rattle.core_code.specs.Core.{method_of}
+use Rattle.access_domain.specs.Summaries.{parameter_values, passed_values}
+use Rattle.transfer.proofs.method_outcomes.passed.Given as goal
+
+abbrev pub invariant-loop-number : goal.invariant-loop-number
+invariant-loop-number l = l.values.items ++ parameter_values l.number (drop l.number l.method.parameters) ≡
+    passed_values (method_of l.method)

@@ -1,0 +1,75 @@
+-- No public contract rests on this: code that is gone through.
+use Rattle.std.specs.Prelude.{◌≡◌, ℕ, Bool, true, false, List, [], Option, None, Some, Result, Ok, Err}
+use Rattle.std.specs.Prelude.{slice_index_or, slice_set}
+use Rattle.std.specs.FinSet as set
+use Rattle.racer_base.specs.declared.ids.VarId.{VarId}
+use Rattle.access_paths.specs.declared.path.Root.TheVariants.{Class}
+use Rattle.access_paths.specs.Paths.{alone}
+use Rattle.owner_domain.specs.declared.value.Value.TheVariants.{Owned, Named, Unnamed}
+use Rattle.owner_domain.specs.Values.{names_of}
+use Rattle.owner_domain.specs.declared.value.State.{State}
+use Rattle.core_code.specs.declared.code.Op.{Op as CoreOp}
+use Rattle.core_code.specs.declared.code.Op.TheVariants.{Push, PushClass, PushPrim, PushNull, New, Dup, Drop, Get, Put}
+use Rattle.core_code.specs.declared.code.Op.TheVariants.{Set, Prim, Outside, Call, Unread, Ret}
+use Rattle.access_paths.specs.declared.path.Path.{Path}
+use Rattle.owner_domain.specs.Values.{joined_state, lost_state}
+use Rattle.access_domain.specs.declared.summary.Summary.{Summary}
+use Rattle.access_domain.specs.Operations.{Effects, goes_on, top, pushed, popped, replaced, unread}
+use Rattle.transfer.specs.declared.found.Found.{Found}
+use Rattle.transfer.specs.declared.found.Stop.{Stop}
+use Rattle.transfer.specs.Marks.{IsNoted, IsStopped}
+
+-- the state behind a piece of code that goes on or not
+abbrev pub next_of : Bool → State → Option State
+next_of true here = Some here
+next_of false here = None
+
+-- the effects are noted, and where the code goes on the state is that at its end
+abbrev pub IsFlow : Effects → State → Found → Found → Result Bool Stop → Type 0
+IsFlow e here old new (Ok goes_on) = (e.next ≡ next_of goes_on here) × IsNoted old e new
+IsFlow e here old new (Err stop) = IsStopped old e stop
+
+-- whether an operation finds nothing and goes on
+abbrev pub is_quiet : CoreOp → Bool
+is_quiet (Get f) = false
+is_quiet (Put f) = false
+is_quiet (Set v) = false
+is_quiet (Call m n) = false
+is_quiet Ret = false
+is_quiet _ = true
+
+-- the state behind such an operation
+abbrev pub moved : CoreOp → State → State
+moved (Push v) s = pushed s (slice_index_or s.vars v.0 Unnamed)
+moved (PushClass c) s = pushed s (Named (alone (Class c)))
+moved PushPrim s = pushed s Unnamed
+moved PushNull s = pushed s Owned
+moved (New c) s = pushed s Owned
+moved Dup s = pushed s (top s)
+moved Drop s = popped s 1
+moved (Prim n) s = replaced s n Unnamed
+moved (Outside n) s = replaced s n Unnamed
+moved (Unread m n) s = replaced s n Unnamed
+moved _ s = s
+
+abbrev pub set_effects : VarId → State → Effects
+set_effects v s =
+    record (goes_on (record { vars = slice_set s.vars v.0 (top s); stack = s.stack })) { wobbly = names_of (top s) }
+
+-- a call of a method that finds too much
+abbrev pub large_effects : State → ℕ → Effects
+large_effects s n = record (unread s n) { large = true }
+
+-- what a summary holds, and a push of its result
+abbrev pub summary_effects : Summary → State → Effects
+summary_effects summary s =
+    record (goes_on (pushed s summary.result)) { records = summary.accesses; wobbly = set.items summary.wobbly }
+
+-- the state behind a round of a loop, whose body ends in this state or none, and the paths that are lost there
+abbrev pub round_next : State → Option State → State
+round_next s None = s
+round_next s (Some end) = joined_state s end
+
+abbrev pub round_lost : State → Option State → List Path
+round_lost s None = []
+round_lost s (Some end) = lost_state s end
