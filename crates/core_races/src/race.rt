@@ -19,7 +19,7 @@ pub fn races(machine: &Machine) -> bool
 {
     match (machine.next_touch(0), machine.next_touch(1)) {
         (Some((o, f, kind)), Some((p, g, other))) => {
-            o == p && f == g && (writes(kind) | writes(other))
+            o == p && f == g && (writes(kind) || writes(other))
         }
         _ => false,
     }
