@@ -14,3 +14,5 @@ pub mod Named
 pub mod Different
 pub mod FirstStamps
 pub mod Ranks
+pub mod Analysed
+pub mod RowCallees

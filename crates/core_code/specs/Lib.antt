@@ -17,3 +17,5 @@ pub mod Recursion
 pub mod Rows
 pub mod Gathered
 pub mod Stamps
+pub mod Counting
+pub mod NoProgram
