@@ -14,28 +14,20 @@ use Rattle.std.specs.List.{list_any, list_all, flat_map}
 use Rattle.std.specs.Option.{IfSome, option_and_then}
 use Rattle.racer_base.specs.declared.ids.MethodId.{MethodId}
 use Rattle.core_code.specs.Chains.{row_of}
-use Rattle.core_code.specs.declared.code.Op.{Op as CoreOp}
 use Rattle.core_code.specs.declared.parts.MethodCore.{MethodCore}
-use Rattle.core_code.specs.declared.code.Op.TheVariants.{Push, PushClass, PushPrim, PushNull, New, Dup, Drop, Get, Put}
-use Rattle.core_code.specs.declared.code.Op.TheVariants.{Set, Prim, Outside, Call, Unread, Ret}
 use Rattle.core_code.specs.declared.code.Reason.{Reason}
 use Rattle.core_code.specs.Calls.{called_by, calls_in, calls_of, method_at, is_analysed}
-use Rattle.core_code.specs.CallFacts.{is_right_call, has_right_calls, are_calls_right, takes}
 use Rattle.core_code.specs.Core.{Core, Method, method_of}
 use Rattle.core_code.specs.Program.{core}
 use Rattle.core_code.specs.Rows.{different, rows_of}
-use Rattle.core_code.specs.Tree.{Operation, steps_of}
 use Rattle.access_domain.specs.declared.summary.Outcome.{Outcome}
-use Rattle.access_domain.specs.Records.{firsts}
 use Rattle.access_domain.specs.Findings.{Known, outcome_from}
-use Rattle.access_domain.proofs.Different.{list_any-firsts}
-use Rattle.call_subst.proofs.SameSets.{any-append}
 use Rattle.access_domain.specs.Summaries.{outcome_of, outcomes_from, known_given, known_of_callees}
+use Rattle.core_code.proofs.RowCallees.{is_method, or-left, or-right, nat_eq-same, analysed_at, in_row_called}
 use Rattle.transfer.specs.declared.finished.Finished.{Finished}
 use Rattle.transfer.specs.Callees.{Held, AreCallees, outcome_in}
 use Rattle.transfer.specs.Tables.{IsFinished, IsTable, finished_at}
-use Rattle.transfer.proofs.Handed.{nat_eq-same, both-true, analysed_at, found_at}
-use Rattle.transfer.proofs.Tables.{is_method, or-right, or-left}
+use Rattle.transfer.proofs.Handed.{both-true, found_at}
 
 -- ---- the table
 
@@ -93,28 +85,6 @@ pub past-end : (table : List (Option Held)) (m : MethodId) → false ≡ ltb m.0
 past-end table m past =
     sym (ap place_of (slice_get_past table m.0 (ltb-false m.0 (length table) (sym past))))
 
--- ---- rows
-
-abbrev same_number : MethodId → MethodId → Bool
-same_number a b = nat_eq a.0 b.0
-
-different-firsts : (ms : List MethodId) → different ms ≡ firsts same_number ms
-different-firsts [] = refl
-different-firsts (m ∷ ms) =
-    ap (λ (rest : List MethodId). m ∷ filter (λ (n : MethodId). not (nat_eq m.0 n.0)) rest) (different-firsts ms)
-
-in_row : (n : MethodId) (ms : List MethodId) → list_any (is_method n) (different ms) ≡ list_any (is_method n) ms
-in_row n ms =
-    ap (list_any (is_method n)) (different-firsts ms)
-    ∙ list_any-firsts (is_method n) same_number
-    (λ x y same. ap (is_method n) (sym (nat_eq-same x y same))) ms
-
-row_at : (ms : List Method) (i : ℕ) (method : Method) → slice_get ms i ≡ Some method →
-    slice_index_or (map (λ (m : Method). different (calls_in m.code)) ms) i [] ≡ different (calls_in method.code)
-row_at [] i method is = absurd cc
-row_at (m ∷ ms) zero method is = let same : m ≡ method = cc in ap (λ (x : Method). different (calls_in x.code)) same
-row_at (m ∷ ms) (suc i) method is = row_at ms i method is
-
 -- ---- reading a row
 
 read_itself : {X : Type 0} (xs : List X) (i : ℕ) (d : X) → i < length xs →
@@ -128,101 +98,6 @@ pub read_at : {X : Type 0} (xs ys : List X) (i : ℕ) (d : X) → xs ≡ ys → 
 read_at {X} xs ys i d same within =
     subst (λ (zs : List X). (i < length zs) × (slice_index_or xs i d ≡ get_or zs i (slice_index_or xs i d))) same
     (within, read_itself xs i d within)
-
-pub read_any : (ms : List MethodId) (i : ℕ) (n : MethodId) → i < length ms → n ≡ get_or ms i n →
-    list_any (is_method n) ms ≡ true
-read_any [] i n within is = absurd (omega arith)
-read_any (m ∷ ms) zero n within is =
-    or-left (nat_eq m.0 n.0) (list_any (is_method n) ms) (eq-eqb m.0 n.0 (ap (λ (k : MethodId). k.0) (sym is)))
-read_any (m ∷ ms) (suc i) n within is =
-    or-right (nat_eq m.0 n.0) (list_any (is_method n) ms) (read_any ms i n (omega arith) is)
-
--- ---- the methods in a row are analysed
-
-alone : (b : Bool) → (b || false) ≡ true → b ≡ true
-alone true e = refl
-alone false e = absurd cc
-
-analysed_in : (program : Core) (n : MethodId) (op : CoreOp) → is_right_call program op ≡ true →
-    list_any (is_method n) (called_by op) ≡ true → is_analysed program n ≡ true
-analysed_in program n (Call m k) right there =
-    let same : m ≡ n = nat_eq-same m n (alone (nat_eq m.0 n.0) there) in
-    ap (is_analysed program) (sym same) ∙ (both-true (is_analysed program m) (takes program m k) right).0
-analysed_in program n (Push v) right there = absurd cc
-analysed_in program n (PushClass c) right there = absurd cc
-analysed_in program n PushPrim right there = absurd cc
-analysed_in program n PushNull right there = absurd cc
-analysed_in program n (New c) right there = absurd cc
-analysed_in program n Dup right there = absurd cc
-analysed_in program n Drop right there = absurd cc
-analysed_in program n (Get f) right there = absurd cc
-analysed_in program n (Put f) right there = absurd cc
-analysed_in program n (Set v) right there = absurd cc
-analysed_in program n (Prim k) right there = absurd cc
-analysed_in program n (Outside k) right there = absurd cc
-analysed_in program n (Unread m k) right there = absurd cc
-analysed_in program n Ret right there = absurd cc
-
-analysed_among : (program : Core) (n : MethodId) (ops : List Operation) →
-    list_all (λ (o : Operation). is_right_call program o.op) ops ≡ true →
-    list_any (is_method n) (flat_map (λ (o : Operation). called_by o.op) ops) ≡ true → is_analysed program n ≡ true
-analysed_among program n [] right there = absurd cc
-analysed_among program n (o ∷ ops) right there =
-    let rest = flat_map (λ (x : Operation). called_by x.op) ops in
-    let others = list_all (λ (x : Operation). is_right_call program x.op) ops in
-    let parts = both-true (is_right_call program o.op) others right in
-    elim (list_any (is_method n) (called_by o.op)) as (λ b. list_any (is_method n) (called_by o.op) ≡ b →
-    (b || list_any (is_method n) rest) ≡ true → is_analysed program n ≡ true) [
-      | true ↦ λ e _. analysed_in program n o.op parts.0 e
-      | false ↦ λ _ k. analysed_among program n ops parts.1 k
-    ] refl (sym (any-append (is_method n) (called_by o.op) rest) ∙ there)
-
-right_at : (program : Core) (ms : List Method) (i : ℕ) (method : Method) →
-    list_all (has_right_calls program) ms ≡ true → slice_get ms i ≡ Some method → has_right_calls program method ≡ true
-right_at program [] i method all is = absurd cc
-right_at program (m ∷ ms) zero method all is =
-    let same : m ≡ method = cc in
-    ap (has_right_calls program) (sym same)
-    ∙ (both-true (has_right_calls program m) (list_all (has_right_calls program) ms) all).0
-right_at program (m ∷ ms) (suc i) method all is =
-    right_at program ms i method
-    (both-true (has_right_calls program m) (list_all (has_right_calls program) ms) all).1 is
-
-method_there : (o : Option Method) → analysed_at o ≡ true → (method : Method) × (o ≡ Some method)
-method_there None e = absurd cc
-method_there (Some method) e = (method, refl)
-
--- the row of an analysed method has the methods that its code calls
-pub in_row_called : (program : Core) (m n : MethodId) → is_analysed program m ≡ true →
-    list_any (is_method n) (row_of (rows_of program) m) ≡ list_any (is_method n) (calls_of program m)
-in_row_called program m n analysed =
-    let found = method_there (method_at program m) analysed in
-    ap (list_any (is_method n)) (row_at program.methods m.0 found.0 found.1)
-    ∙ in_row n (calls_in found.0.code)
-    ∙ sym (ap (λ (o : Option Method). list_any (is_method n) (elim o as (λ _. List MethodId) [
-      | None ↦ []
-      | Some method ↦ calls_in method.code
-    ])) found.1)
-
--- an analysed method has a row
-pub row_there : (program : Core) (rows : List (List MethodId)) (m : MethodId) → is_analysed program m ≡ true →
-    rows ≡ rows_of program → m.0 < length rows
-row_there program rows m analysed are =
-    let found = method_there (method_at program m) analysed in
-    let within = slice_get_within program.methods m.0 found.0 found.1 in
-    let count : length rows ≡ length program.methods =
-    ap length are ∙ length-map program.methods (λ (method : Method). different (calls_in method.code)) in
-    omega (arith, within, count)
-
-pub row_analysed : (program : Core) (m n : MethodId) → are_calls_right program ≡ true → is_analysed program m ≡ true →
-    list_any (is_method n) (row_of (rows_of program) m) ≡ true → is_analysed program n ≡ true
-row_analysed program m n right analysed there =
-    let found = method_there (method_at program m) analysed in
-    analysed_among program n (steps_of found.0.code) (right_at program program.methods m.0 found.0 right found.1)
-    (sym (ap (λ (o : Option Method). list_any (is_method n) (elim o as (λ _. List MethodId) [
-      | None ↦ []
-      | Some method ↦ calls_in method.code
-    ])) found.1) ∙ sym (in_row_called program m n analysed) ∙ there)
 
 -- ---- one more callee
 

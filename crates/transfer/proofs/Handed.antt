@@ -5,7 +5,6 @@ use Rattle.std.proofs.Common.{refl, sym, ap, ◌∙◌, option_map, nat_eq, nat_
 use Rattle.std.proofs.Common.{All, slice_get, get_or, map, length}
 use Rattle.std.proofs.Common.{arith}
 use Rattle.std.proofs.Math.Nat.{add-zero, zero-add}
-use Rattle.std.proofs.lemmas.Bool.Decides.{nat_tests}
 use Rattle.std.proofs.lemmas.Bool.{ltb-true}
 use Rattle.std.proofs.lemmas.List.Elements.{All-head, All-tail}
 use Rattle.std.specs.Arc.{arc_value}
@@ -27,7 +26,8 @@ use Rattle.transfer.specs.declared.calls.Callee.{Callee}
 use Rattle.transfer.specs.Callees.{Held, AreCallees, outcome_in}
 use Rattle.transfer.specs.Known.{known_in, outcome_among, table_of}
 use Rattle.transfer.proofs.Callees.{held}
-use Rattle.transfer.proofs.Tables.{is_method, outcome-agree}
+use Rattle.core_code.proofs.RowCallees.{is_method, nat_eq-same, analysed_at}
+use Rattle.transfer.proofs.Tables.{outcome-agree}
 
 -- ---- one more
 
@@ -83,9 +83,6 @@ known-held_option (Some o) = ap Some (known-held o)
 pub table-outcome : (callees : List Callee) (n : MethodId) →
     option_map outcome_from (table_of callees n) ≡ outcome_among callees n
 table-outcome callees n = known-held_option (outcome_among callees n)
-
-pub nat_eq-same : (n m : MethodId) → nat_eq n.0 m.0 ≡ true → n ≡ m
-nat_eq-same n m e = grind (arith, nat_tests)
 
 -- the outcome of a finished method is that of its number
 pub outcome-right : (program : Core) (finished : List Held) (n : MethodId) →
@@ -171,9 +168,6 @@ outcome-known program m method callees finished ranks is analysed same are =
     (λ x. cond (is_none x.status) (Some (known_given program (known_of_callees program m) x)) None) o)) is)
 
 -- ---- the method of a number
-
-abbrev pub analysed_at : Option Method → Bool
-analysed_at o = elim o as (λ _. Bool) [ None ↦ false | Some method ↦ is_none method.status ]
 
 pub in_range : (ms : List MethodCore) (i : ℕ) → analysed_at (slice_get (map method_of ms) i) ≡ true → i < length ms
 in_range [] i e = absurd cc

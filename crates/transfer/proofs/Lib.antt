@@ -9,3 +9,4 @@ pub mod Parameters
 pub mod Tables
 pub mod Handed
 pub mod Every
+pub mod Movable

@@ -20,6 +20,7 @@ use Rattle.core_code.specs.declared.code.Op.TheVariants.{Set, Prim, Outside, Cal
 use Rattle.core_code.specs.Calls.{called_by, calls_in}
 use Rattle.core_code.specs.Core.{Core, Method}
 use Rattle.core_code.specs.Tree.{Tree, Step, Nothing, Then, Either, Again, Held, Operation, steps_of}
+use Rattle.core_code.proofs.RowCallees.{is_method, or-left, or-right}
 use Rattle.access_domain.specs.declared.summary.Summary.{Summary}
 use Rattle.access_domain.specs.declared.summary.Outcome.TheVariants as code
 use Rattle.access_domain.specs.Records.{first_of_keys, different_paths}
@@ -189,9 +190,6 @@ known-agree core t u main locked site m n s (Some (Whole f)) (Some (Whole h)) e 
     s n same
 
 -- whether it is this method
-abbrev pub is_method : MethodId → MethodId → Bool
-is_method n m = nat_eq m.0 n.0
-
 op-agree : (core : Core) (t u : Table) (main locked : Bool) (site : SiteId) (op : CoreOp) (s : State) →
     ((n : MethodId) → list_any (is_method n) (called_by op) ≡ true → Same t u n) →
     Agree (op_effects (given_of core t main) locked site op s) (op_effects (given_of core u main) locked site op s)
@@ -229,13 +227,6 @@ any_call-append p (x ∷ xs) ys =
     or-back : (a b c : Bool) → (a || (b || c)) ≡ ((a || b) || c)
     or-back true b c = refl
     or-back false b c = refl
-
-pub or-left : (a b : Bool) → a ≡ true → (a || b) ≡ true
-or-left a b e = ap (λ c. c || b) e
-
-pub or-right : (a b : Bool) → b ≡ true → (a || b) ≡ true
-or-right true b e = refl
-or-right false b e = e
 
 abbrev AreSame : Table → Table → List Operation → Type 0
 AreSame t u ops = (n : MethodId) → list_any (is_method n) (calls_at ops) ≡ true → Same t u n

@@ -13,6 +13,7 @@ mod here;
 pub mod laws;
 mod method_outcomes;
 mod operations;
+mod piece;
 mod walk;
 mod whole;
 

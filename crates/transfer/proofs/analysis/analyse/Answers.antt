@@ -7,8 +7,9 @@ use Rattle.core_code.specs.Core.{Method, method_of}
 use Rattle.core_code.specs.Program.{core, methods}
 use Rattle.access_domain.specs.Findings.{outcome_from}
 use Rattle.access_domain.specs.Summaries.{known_given, outcome_of}
+use Rattle.core_code.proofs.RowCallees.{analysed_at}
 use Rattle.transfer.specs.Known.{table_of}
-use Rattle.transfer.proofs.Handed.{analysed_at, in_range, found_at, outcome-known}
+use Rattle.transfer.proofs.Handed.{in_range, found_at, outcome-known}
 use Rattle.transfer.proofs.analysis.analyse.Goals as goal
 
 pub bounds-methods-method : goal.bounds-methods-method

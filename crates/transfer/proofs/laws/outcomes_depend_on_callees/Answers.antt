@@ -1,8 +1,8 @@
 use Rattle.std.proofs.Common.{sym}
 use Rattle.std.proofs.lemmas.Map.Views.{Contains-from_any}
 use Rattle.core_code.specs.Calls.{calls_in}
-use Rattle.transfer.proofs.Handed.{nat_eq-same}
-use Rattle.transfer.proofs.Tables.{is_method, outcome-agree}
+use Rattle.core_code.proofs.RowCallees.{nat_eq-same, is_method}
+use Rattle.transfer.proofs.Tables.{outcome-agree}
 use Rattle.transfer.proofs.laws.outcomes_depend_on_callees.Goals as goal
 
 pub returns : goal.returns

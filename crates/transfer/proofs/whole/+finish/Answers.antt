@@ -12,11 +12,11 @@ use Rattle.core_code.specs.Falling.{number_of}
 use Rattle.core_code.specs.Calls.{is_analysed}
 use Rattle.core_code.specs.Program.{core}
 use Rattle.core_code.specs.Rows.{rows_in, rows_of, ranks_in}
+use Rattle.core_code.proofs.RowCallees.{is_method, or-right, read_any, row_analysed, row_there}
 use Rattle.transfer.specs.Callees.{Held, AreCallees, outcome_in}
 use Rattle.transfer.specs.declared.finished.Finished.{Finished}
 use Rattle.transfer.specs.Tables.{IsFinished, finished_at}
-use Rattle.transfer.proofs.Tables.{is_method, or-right}
-use Rattle.transfer.proofs.Every.{read_at, read_any, row_analysed, row_there, one-fewer, row-done}
+use Rattle.transfer.proofs.Every.{read_at, one-fewer, row-done}
 use Rattle.transfer.proofs.whole.+finish.Goals as goal
 
 pub finish-requires : goal.finish-requires

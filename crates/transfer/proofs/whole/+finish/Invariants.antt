@@ -6,9 +6,9 @@ use Rattle.core_code.specs.Chains.{row_of}
 use Rattle.core_code.specs.Falling.{number_of}
 use Rattle.core_code.specs.Program.{core}
 use Rattle.core_code.specs.Rows.{rows_in, ranks_in}
+use Rattle.core_code.proofs.RowCallees.{is_method}
 use Rattle.transfer.specs.Callees.{Held, outcome_in}
 use Rattle.transfer.specs.Tables.{IsTable}
-use Rattle.transfer.proofs.Tables.{is_method}
 use Rattle.transfer.proofs.whole.+finish.Given as goal
 
 abbrev pub decreases-finish : goal.decreases-finish
