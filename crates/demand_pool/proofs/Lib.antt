@@ -1,0 +1,4 @@
+pub mod Turns
+pub mod After
+pub mod Found
+pub mod Passing
