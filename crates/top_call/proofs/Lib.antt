@@ -1,2 +1,5 @@
 mod Written
 mod OneStatus
+mod OneReport
+mod Ranges
+mod Tails

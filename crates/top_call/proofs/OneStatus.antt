@@ -1,8 +1,8 @@
--- Where the sources of a folder are one thing, two runs on it with the same words say the same.
-use Rattle.std.proofs.Common.{◌≡◌, ◌≢◌, ◌⊎◌, inl, inr, ℕ, ◌<◌, Bool, true, false, List, Option, None, Some, refl, sym, ap}
-use Rattle.std.proofs.Common.{subst, ◌∙◌, arith}
+-- Where the sources of a folder are one thing, no two statuses have their cause in one call.
+use Rattle.std.proofs.Common.{◌≡◌, ◌≢◌, ◌⊎◌, inl, inr, ℕ, ◌<◌, Bool, true, false, List, Option, None, Some, refl}
+use Rattle.std.proofs.Common.{sym, ap, subst, ◌∙◌, arith}
 use Rattle.std.specs.Option.{IfSome}
-use Rattle.racer_base.specs.Outside.{Told, Files, taken_and}
+use Rattle.racer_base.specs.Outside.{Told, Files}
 use Rattle.race_report.specs.declared.mode.Mode.{Mode}
 use Rattle.folder_programs.specs.OneReading.{OneSource}
 use Rattle.top_call.specs.declared.said.Said.{Said}
@@ -10,12 +10,13 @@ use Rattle.top_call.specs.declared.status.Status.{Status}
 use Rattle.top_call.specs.declared.status.Status.TheVariants.{Clean, Warned, Usage, FolderFault, SinkFault, Refused}
 use Rattle.top_call.specs.declared.status.Status.TheVariants.{Memory, NoRace, NotAWitness}
 use Rattle.top_call.specs.Words.{Wanted, Request, ReportOn, NotBuilt, request_of}
-use Rattle.top_call.specs.Said.{Says, said_from}
+use Rattle.top_call.specs.Said.{Says, said_from, usage_text, not_built_text}
 use Rattle.top_call.specs.Causes.{Asked, Wrote, IsUsage, IsNotBuilt, IsFault, IsSaid, IsDue, IsAnswer, IsCut, IsCause}
 use Rattle.top_call.specs.Causes.{is_said, IsWhole, IsWholeAnswer}
 
 -- what is said of files is due
-pub said_due : (s : Status) (asked : Asked) (text : List ℕ) → is_said s ≡ true → IsSaid s asked text → IsDue s asked text
+pub said_due : (s : Status) (asked : Asked) (text : List ℕ) → is_said s ≡ true → IsSaid s asked text
+    → IsDue s asked text
 said_due Clean asked text e h = h
 said_due Warned asked text e h = h
 said_due Refused asked text e h = inr h
@@ -27,17 +28,18 @@ said_due SinkFault asked text e h = absurd (let bad : ◌≡◌ {A = Bool} false
 said_due Memory asked text e h = absurd (let bad : ◌≡◌ {A = Bool} false true = e in cc)
 
 -- a text that is due is the usage line, that of what is not built, the line of a fault, or what is said of the files
-data Due (s : Status) (asked : Asked) (text : List ℕ) : Type 0 where
+pub data Due (s : Status) (asked : Asked) (text : List ℕ) : Type 0 where
   by_usage : s ≡ Usage → IsUsage asked text → Due s asked text
   by_building : s ≡ Refused → IsNotBuilt asked text → Due s asked text
   by_fault : s ≡ FolderFault → IsFault asked text → Due s asked text
   by_said : IsSaid s asked text → Due s asked text
 
-refused_due : (asked : Asked) (text : List ℕ) → IsNotBuilt asked text ⊎ IsSaid Refused asked text → Due Refused asked text
+refused_due : (asked : Asked) (text : List ℕ) → IsNotBuilt asked text ⊎ IsSaid Refused asked text
+    → Due Refused asked text
 refused_due asked text (inl h) = by_building refl h
 refused_due asked text (inr h) = by_said h
 
-due_of : (s : Status) (asked : Asked) (text : List ℕ) → IsDue s asked text → Due s asked text
+pub due_of : (s : Status) (asked : Asked) (text : List ℕ) → IsDue s asked text → Due s asked text
 due_of Clean asked text h = by_said h
 due_of Warned asked text h = by_said h
 due_of Usage asked text h = by_usage refl h
@@ -60,66 +62,92 @@ asks_both o w e f = let bad : ◌≡◌ {A = Option Request} (Some NotBuilt) (So
 same_wanted : (w v : Wanted) → ◌≡◌ {A = Option Request} (Some (ReportOn w)) (Some (ReportOn v)) → w ≡ v
 same_wanted w v e = cc
 
-rose : (a b : ℕ) → a < b → b ≡ a → ⊥
+pub rose : (a b : ℕ) → a < b → b ≡ a → ⊥
 rose a b h e = omega arith
 
--- one status, and one text
-abbrev Same : Status → Status → List ℕ → List ℕ → Type 0
-Same s t x y = (s ≡ t) × (x ≡ y)
+-- ---- what is due, by what the words ask for
 
-says_only : OneSource → (w v : Wanted) (files : Files) (a b : Said) → w ≡ v → Says w files a → Says v files b → a ≡ b
-says_only one w v files a b e f g =
-    f.said_so ∙ ap (said_from w.mode) (one files f.source g.source f.is g.is)
-    ∙ ap (λ (u : Wanted). said_from u.mode g.source) e ∙ sym g.said_so
+pub usage_due : (s : Status) (asked : Asked) (text : List ℕ) → request_of asked.words ≡ None → Due s asked text
+    → (s ≡ Usage) × (text ≡ usage_text)
+usage_due s asked text none (by_usage e u) = (e, u.line)
+usage_due s asked text none (by_building e u) = absurd (asks_nothing _ _ none u.asks)
+usage_due s asked text none (by_fault e u) = absurd (asks_nothing _ _ none u.asks)
+usage_due s asked text none (by_said u) = absurd (asks_nothing _ _ none u.asks)
 
-module _ (one : OneSource) (a b : Asked) (words : a.words ≡ b.words) (told : Told) (tells : a.told ≡ Some told)
-    (tells_too : b.told ≡ Some told) where
-  asks_of : (w : Request) → request_of b.words ≡ Some w → request_of a.words ≡ Some w
-  asks_of w e = ap request_of words ∙ e
+pub not_built_due : (s : Status) (asked : Asked) (text : List ℕ) → request_of asked.words ≡ Some NotBuilt
+    → Due s asked text → (s ≡ Refused) × (text ≡ not_built_text)
+not_built_due s asked text asks (by_usage e u) = absurd (asks_nothing _ _ u.nothing asks)
+not_built_due s asked text asks (by_building e u) = (e, u.line)
+not_built_due s asked text asks (by_fault e u) = absurd (asks_both _ _ asks u.asks)
+not_built_due s asked text asks (by_said u) = absurd (asks_both _ _ asks u.asks)
 
-  said_only : (s t : Status) (x y : List ℕ) → IsSaid s a x → IsSaid t b y → Same s t x y
-  said_only s t x y f g =
-      let first = at_told (λ (u : Told). Says f.wanted u.files (record { status = s; text = x })) a.told told tells f.said in
-      let second = at_told (λ (u : Told). Says g.wanted u.files (record { status = t; text = y })) b.told told tells_too g.said in
-      let same = says_only one f.wanted g.wanted told.files (record { status = s; text = x }) (record { status = t; text = y })
-      (same_wanted f.wanted g.wanted (sym f.asks ∙ asks_of (ReportOn g.wanted) g.asks)) first second in
-      (ap (λ (said : Said). said.status) same, ap (λ (said : Said). said.text) same)
+fault_due : (s : Status) (asked : Asked) (text : List ℕ) (wanted : Wanted)
+    → request_of asked.words ≡ Some (ReportOn wanted) → asked.before < asked.after → Due s asked text → s ≡ FolderFault
+fault_due s asked text wanted asks fault (by_usage e u) = absurd (asks_nothing _ _ u.nothing asks)
+fault_due s asked text wanted asks fault (by_building e u) = absurd (asks_both _ _ u.asks asks)
+fault_due s asked text wanted asks fault (by_fault e u) = e
+fault_due s asked text wanted asks fault (by_said u) = absurd (rose _ _ fault u.no_fault)
 
-  due_only : (s t : Status) (x y : List ℕ) → (a.after ≡ a.before → b.after ≡ b.before)
-      → (b.after ≡ b.before → a.after ≡ a.before) → Due s a x → Due t b y → Same s t x y
-  due_only s t x y there back (by_usage f u) (by_usage g v) = (f ∙ sym g, u.line ∙ sym v.line)
-  due_only s t x y there back (by_usage f u) (by_building g v) =
-      absurd (asks_nothing _ _ u.nothing (asks_of NotBuilt v.asks))
-  due_only s t x y there back (by_usage f u) (by_fault g v) =
-      absurd (asks_nothing _ _ u.nothing (asks_of (ReportOn v.wanted) v.asks))
-  due_only s t x y there back (by_usage f u) (by_said v) =
-      absurd (asks_nothing _ _ u.nothing (asks_of (ReportOn v.wanted) v.asks))
-  due_only s t x y there back (by_building f u) (by_usage g v) =
-      absurd (asks_nothing _ _ (ap request_of words ∙ v.nothing) u.asks)
-  due_only s t x y there back (by_building f u) (by_building g v) = (f ∙ sym g, u.line ∙ sym v.line)
-  due_only s t x y there back (by_building f u) (by_fault g v) =
-      absurd (asks_both _ v.wanted u.asks (asks_of (ReportOn v.wanted) v.asks))
-  due_only s t x y there back (by_building f u) (by_said v) =
-      absurd (asks_both _ v.wanted u.asks (asks_of (ReportOn v.wanted) v.asks))
-  due_only s t x y there back (by_fault f u) (by_usage g v) =
-      absurd (asks_nothing _ _ (ap request_of words ∙ v.nothing) u.asks)
-  due_only s t x y there back (by_fault f u) (by_building g v) =
-      absurd (asks_both _ u.wanted (asks_of NotBuilt v.asks) u.asks)
-  due_only s t x y there back (by_fault f u) (by_fault g v) = (f ∙ sym g, u.line ∙ sym v.line)
-  due_only s t x y there back (by_fault f u) (by_said v) = absurd (rose _ _ u.fault (back v.no_fault))
-  due_only s t x y there back (by_said u) (by_usage g v) =
-      absurd (asks_nothing _ _ (ap request_of words ∙ v.nothing) u.asks)
-  due_only s t x y there back (by_said u) (by_building g v) =
-      absurd (asks_both _ u.wanted (asks_of NotBuilt v.asks) u.asks)
-  due_only s t x y there back (by_said u) (by_fault g v) = absurd (rose _ _ v.fault (there u.no_fault))
-  due_only s t x y there back (by_said u) (by_said v) = said_only s t x y u v
+says_due : (s : Status) (asked : Asked) (text : List ℕ) (told : Told) (wanted : Wanted) → asked.told ≡ Some told
+    → request_of asked.words ≡ Some (ReportOn wanted) → asked.after ≡ asked.before → Due s asked text
+    → Says wanted told.files (record { status = s; text = text })
+says_due s asked text told wanted tells asks quiet (by_usage e u) = absurd (asks_nothing _ _ u.nothing asks)
+says_due s asked text told wanted tells asks quiet (by_building e u) = absurd (asks_both _ _ u.asks asks)
+says_due s asked text told wanted tells asks quiet (by_fault e u) = absurd (rose _ _ u.fault quiet)
+says_due s asked text told wanted tells asks quiet (by_said u) =
+    let said : Said = record { status = s; text = text } in
+    subst (λ (w : Wanted). Says w told.files said) (same_wanted u.wanted wanted (sym u.asks ∙ asks))
+    (at_told (λ (t : Told). Says u.wanted t.files said) asked.told told tells u.said)
 
--- a call ends with its whole answer, or with a fault of the sink
-data Ending (s : Status) (asked : Asked) (wrote : Wrote) : Type 0 where
+-- where the words ask for a report on the folder that tells itself, and it did not fail, what was written whole is what
+-- is said of its files
+pub whole_answer : (s : Status) (asked : Asked) (wrote : Wrote) (text : List ℕ) → IsDue s asked text
+    → IsWhole wrote text
+    → (told : Told) (wanted : Wanted) → asked.told ≡ Some told → request_of asked.words ≡ Some (ReportOn wanted)
+    → asked.after ≡ asked.before → IsWholeAnswer wanted told.files s wrote
+whole_answer s asked wrote text due is_whole told wanted tells asks quiet =
+    record {
+      said = record { status = s; text = text };
+      says = says_due s asked text told wanted tells asks quiet (due_of s asked text due);
+      gives = refl;
+      whole = is_whole;
+    }
+
+-- ---- what is said of one folder in one mode is one, but for the history
+
+pub report_only : OneSource → (files : Files) (first second : Wanted) (a b : Said) → first.mode ≡ second.mode
+    → (f : Says first files a) (g : Says second files b)
+    → said_from first.mode f.source ≡ said_from second.mode g.source
+report_only one files first second a b mode f g =
+    ap (λ (m : Mode). said_from m f.source) mode
+    ∙ ap (said_from second.mode) (one files f.source g.source f.is g.is)
+
+pub says_status : OneSource → (files : Files) (first second : Wanted) (a b : Said) → first.mode ≡ second.mode
+    → Says first files a → Says second files b → a.status ≡ b.status
+says_status one files first second a b mode f g =
+    ap (λ (said : Said). said.status) f.said_so
+    ∙ ap (λ (said : Said). said.status) (report_only one files first second a b mode f g)
+    ∙ sym (ap (λ (said : Said). said.status) g.said_so)
+
+due_status : OneSource → (s t : Status) (asked : Asked) (told : Told) (x y : List ℕ) → asked.told ≡ Some told
+    → Due s asked x → Due t asked y → s ≡ t
+due_status one s t asked told x y tells (by_usage e u) g = e ∙ sym (usage_due t asked y u.nothing g).0
+due_status one s t asked told x y tells (by_building e u) g = e ∙ sym (not_built_due t asked y u.asks g).0
+due_status one s t asked told x y tells (by_fault e u) g = e ∙ sym (fault_due t asked y u.wanted u.asks u.fault g)
+due_status one s t asked told x y tells (by_said u) g =
+    let first : Said = record { status = s; text = x } in
+    let second : Said = record { status = t; text = y } in
+    says_status one told.files u.wanted u.wanted first second refl
+    (says_due s asked x told u.wanted tells u.asks u.no_fault (by_said u))
+    (says_due t asked y told u.wanted tells u.asks u.no_fault g)
+
+-- ---- the end of a call: its whole answer, or a fault of the sink
+
+pub data Ending (s : Status) (asked : Asked) (wrote : Wrote) : Type 0 where
   whole : IsAnswer s asked wrote → Ending s asked wrote
   cut : s ≡ SinkFault → IsCut asked wrote → Ending s asked wrote
 
-ending_of : (s : Status) (asked : Asked) (wrote : Wrote) → s ≢ Memory → IsCause s asked wrote → Ending s asked wrote
+pub ending_of : (s : Status) (asked : Asked) (wrote : Wrote) → s ≢ Memory → IsCause s asked wrote → Ending s asked wrote
 ending_of Clean asked wrote n h = whole h
 ending_of Warned asked wrote n h = whole h
 ending_of Usage asked wrote n h = whole h
@@ -133,8 +161,7 @@ ending_of NotAWitness asked wrote n h = whole h
 ending_only : OneSource → (s t : Status) (asked : Asked) (wrote : Wrote) (told : Told) → asked.told ≡ Some told
     → Ending s asked wrote → Ending t asked wrote → s ≡ t
 ending_only one s t asked wrote told e (whole f) (whole g) =
-    (due_only one asked asked refl told e e s t f.text g.text (λ h. h) (λ h. h) (due_of s asked f.text f.due)
-    (due_of t asked g.text g.due)).0
+    due_status one s t asked told f.text g.text e (due_of s asked f.text f.due) (due_of t asked g.text g.due)
 ending_only one s t asked wrote told e (whole f) (cut g h) = absurd (rose _ _ h.front.fault f.whole.no_fault)
 ending_only one s t asked wrote told e (cut f h) (whole g) = absurd (rose _ _ h.front.fault g.whole.no_fault)
 ending_only one s t asked wrote told e (cut f h) (cut g k) = f ∙ sym g
@@ -144,54 +171,3 @@ pub one_status : OneSource → (s t : Status) (asked : Asked) (wrote : Wrote) (t
     → IsCause t asked wrote → s ≡ t
 one_status one s t asked wrote told bytes e taken m n f g =
     ending_only one s t asked wrote told e (ending_of s asked wrote m f) (ending_of t asked wrote n g)
-
--- where neither side failed, two runs write the same
-bytes_only : OneSource → (s t : Status) (a b : Asked) (v w : Wrote) (told : Told) → a.words ≡ b.words
-    → a.told ≡ Some told → b.told ≡ Some told → a.after ≡ a.before → b.after ≡ b.before
-    → v.taken_before ≡ w.taken_before → v.after ≡ v.before → w.after ≡ w.before → Ending s a v → Ending t b w
-    → (s ≡ t) × (v.taken_after ≡ w.taken_after)
-bytes_only one s t a b v w told words tells too quiet_a quiet_b taken kept_v kept_w (whole f) (whole g) =
-    let same = due_only one a b words told tells too s t f.text g.text (λ _. quiet_b) (λ _. quiet_a)
-    (due_of s a f.text f.due) (due_of t b g.text g.due) in (
-      same.0,
-      f.whole.taken ∙ ap (λ (before : Option (List ℕ)). taken_and before f.text) taken
-          ∙ ap (taken_and w.taken_before) same.1 ∙ sym g.whole.taken,
-    )
-bytes_only one s t a b v w told words tells too quiet_a quiet_b taken kept_v kept_w (whole f) (cut e g) =
-    absurd (rose _ _ g.front.fault kept_w)
-bytes_only one s t a b v w told words tells too quiet_a quiet_b taken kept_v kept_w (cut e f) (whole g) =
-    absurd (rose _ _ f.front.fault kept_v)
-bytes_only one s t a b v w told words tells too quiet_a quiet_b taken kept_v kept_w (cut e f) (cut d g) =
-    absurd (rose _ _ f.front.fault kept_v)
-
-pub same_bytes : OneSource → (s t : Status) (a b : Asked) (v w : Wrote) (told : Told) → a.words ≡ b.words
-    → a.told ≡ Some told → b.told ≡ Some told → a.after ≡ a.before → b.after ≡ b.before
-    → v.taken_before ≡ w.taken_before → v.after ≡ v.before → w.after ≡ w.before → s ≢ Memory → t ≢ Memory
-    → IsCause s a v → IsCause t b w → (s ≡ t) × (v.taken_after ≡ w.taken_after)
-same_bytes one s t a b v w told words tells too quiet_a quiet_b taken kept_v kept_w m n f g =
-    bytes_only one s t a b v w told words tells too quiet_a quiet_b taken kept_v kept_w (ending_of s a v m f)
-    (ending_of t b w n g)
-
--- ---- completeness
-
--- where the words ask for a report on the folder that tells itself, and it did not fail, what was written whole is what is
--- said of its files
-pub whole_answer : (s : Status) (asked : Asked) (wrote : Wrote) (text : List ℕ) → IsDue s asked text → IsWhole wrote text
-    → (told : Told) (mode : Mode) → asked.told ≡ Some told
-    → request_of asked.words ≡ Some (ReportOn (record { folder = told.name; mode = mode })) → asked.after ≡ asked.before
-    → IsWholeAnswer (record { folder = told.name; mode = mode }) told.files s wrote
-whole_answer s asked wrote text due is_whole told mode tells asks quiet = by (due_of s asked text due)
-  where
-    by : Due s asked text → IsWholeAnswer (record { folder = told.name; mode = mode }) told.files s wrote
-    by (by_usage f u) = absurd (asks_nothing _ _ u.nothing asks)
-    by (by_building f u) = absurd (asks_both _ _ u.asks asks)
-    by (by_fault f u) = absurd (rose _ _ u.fault quiet)
-    by (by_said u) =
-        let same : u.wanted ≡ record { folder = told.name; mode = mode } = same_wanted u.wanted _ (sym u.asks ∙ asks) in
-        let says = at_told (λ (t : Told). Says u.wanted t.files (record { status = s; text = text })) asked.told told tells u.said in
-        record {
-          said = record { status = s; text = text };
-          says = subst (λ (w : Wanted). Says w told.files (record { status = s; text = text })) same says;
-          gives = refl;
-          whole = is_whole;
-        }

@@ -7,7 +7,6 @@ use Rattle.top_call.specs.declared.said.Said.{Said}
 use Rattle.top_call.specs.declared.status.Status.{Status}
 use Rattle.top_call.specs.declared.status.Status.TheVariants.{Clean, Warned, Usage, FolderFault, SinkFault, Refused}
 use Rattle.top_call.specs.declared.status.Status.TheVariants.{Memory, NoRace, NotAWitness}
-use Rattle.race_report.specs.declared.mode.Mode.{Mode}
 use Rattle.top_call.specs.Words.{Wanted, ReportOn, NotBuilt, request_of}
 use Rattle.top_call.specs.Said.{usage_text, fault_text, not_built_text, Says}
 
@@ -26,7 +25,7 @@ asked_of told faults words old new =
 -- the words ask for a report on the folder that tells itself so
 abbrev pub AsksFor : List (String Global) → Told → Type 0
 AsksFor words told =
-    (mode : Mode) × (request_of (map string_bytes words) ≡ Some (ReportOn (record { folder = told.name; mode = mode })))
+    (wanted : Wanted) × (wanted.folder ≡ told.name) × (request_of (map string_bytes words) ≡ Some (ReportOn wanted))
 
 -- What can be seen of its sink: the counts of faults, and the bytes taken where it tells them.
 pub record Wrote : Type 0 where
@@ -145,7 +144,6 @@ pub record IsWholeAnswer (wanted : Wanted) (files : Files) (status : Status) (wr
 -- was refused
 abbrev pub IsComplete : Status → Asked → Wrote → Type 0
 IsComplete status asked wrote =
-    (told : Told) (mode : Mode) → asked.told ≡ Some told
-    → request_of asked.words ≡ Some (ReportOn (record { folder = told.name; mode = mode }))
-    → asked.after ≡ asked.before → wrote.after ≡ wrote.before
-    → (status ≡ Memory) ⊎ IsWholeAnswer (record { folder = told.name; mode = mode }) told.files status wrote
+    (told : Told) (wanted : Wanted) → asked.told ≡ Some told → wanted.folder ≡ told.name
+    → request_of asked.words ≡ Some (ReportOn wanted) → asked.after ≡ asked.before → wrote.after ≡ wrote.before
+    → (status ≡ Memory) ⊎ IsWholeAnswer wanted told.files status wrote

@@ -3,4 +3,5 @@ pub mod Number
 pub mod Words
 pub mod Said
 pub mod Causes
+pub mod Reports
 pub mod Requests

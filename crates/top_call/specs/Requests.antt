@@ -1,8 +1,40 @@
--- No public contract rests on this: what is seen of a request of the code.
+-- No public contract rests on this: what is seen of a request of the code, and of what is said to it.
+use Rattle.std.specs.Prelude.{◌≡◌, ℕ, ◌<◌, ◌≤◌, Bool, true, false, List, []}
+use Rattle.command_line.specs.Words.{Asked, Report, Replay, Made}
+use Rattle.core_code.specs.Core.{Core}
+use Rattle.folder_programs.specs.Programs.{Source}
+use Rattle.summary_store.specs.declared.machine.Event.{Event}
+use Rattle.top_call_history.specs.History.{history_text}
 use Rattle.top_call.specs.declared.request.Request.{Request}
 use Rattle.top_call.specs.declared.request.Request.TheVariants as request
+use Rattle.top_call.specs.declared.said.Said.{Said}
+use Rattle.top_call.specs.declared.wanted.Wanted.{Wanted}
+use Rattle.top_call.specs.Said.{said_from, with_tail, IsBehind}
 use Rattle.top_call.specs.Words as words
 
+-- what is seen of a wanted report
+abbrev pub wanted_of : Wanted → words.Wanted
+wanted_of wanted =
+    record { folder = wanted.folder; mode = wanted.mode; workers = wanted.workers; history = wanted.history }
+
+-- what is seen of a request
 abbrev pub seen : Request → words.Request
-seen (request.ReportOn wanted) = words.ReportOn (record { folder = wanted.folder; mode = wanted.mode })
+seen (request.ReportOn wanted) = words.ReportOn (wanted_of wanted)
 seen request.NotBuilt = words.NotBuilt
+
+-- a report is asked for by 1 to 64 workers
+abbrev pub HasWorkers : Asked → Type 0
+HasWorkers (Report folder workers json summaries history) = (0 < workers) × (workers ≤ 64)
+HasWorkers (Replay folder witness) = Unit {0}
+HasWorkers (Made count workers) = Unit {0}
+
+-- the lines of a history, where they are asked for
+abbrev pub lines_of : Bool → Core → List Event → List ℕ
+lines_of false program history = []
+lines_of true program history = history_text program history
+
+-- this is what is said of a source, with lines behind it that may stand there
+pub record IsSaidWith (wanted : words.Wanted) (source : Source) (said : Said) : Type 0 where
+  pub tail : List ℕ
+  pub is_behind : IsBehind wanted source tail
+  pub said_so : said ≡ with_tail (said_from wanted.mode source) tail

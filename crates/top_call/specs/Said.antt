@@ -1,12 +1,17 @@
 -- A contract of a public call rests on this: what a run has to say, and the status that goes with it.
-use Rattle.std.specs.Prelude.{◌≡◌, ℕ, List, [], ◌∷◌, codes}
-use Rattle.confirmed_races.specs.Headline.{AreConfirmed}
+use Rattle.std.specs.Prelude.{◌≡◌, ℕ, Bool, true, false, List, [], ◌∷◌, ◌++◌, codes}
 use Rattle.racer_base.specs.Outside.{Files}
+use Rattle.core_code.specs.Core.{Core}
 use Rattle.race_pairs.specs.declared.warning.Warning.{Warning}
 use Rattle.race_pairs.specs.Warnings.{warnings}
 use Rattle.race_report.specs.declared.mode.Mode.{Mode}
 use Rattle.race_report.specs.Modes.{report}
+use Rattle.confirmed_races.specs.Headline.{AreConfirmed}
 use Rattle.folder_programs.specs.Programs.{Source, Refusal, Accepted, IsSource}
+use Rattle.summary_store.specs.declared.machine.Event.{Event}
+use Rattle.summary_store.specs.Machine.{Legal, IsComplete}
+use Rattle.summary_store.specs.Setups.{setup_of}
+use Rattle.top_call_history.specs.History.{history_text}
 use Rattle.top_call.specs.declared.said.Said.{Said}
 use Rattle.top_call.specs.declared.status.Status.{Status}
 use Rattle.top_call.specs.declared.status.Status.TheVariants.{Clean, Warned, Refused}
@@ -38,9 +43,32 @@ abbrev pub HasHeadline : Source → Type 0
 HasHeadline (Refusal line) = Unit {0}
 HasHeadline (Accepted program) = AreConfirmed program
 
+-- these are the lines of a legal and complete history of so many workers on a program
+pub record IsHistory (program : Core) (workers : ℕ) (lines : List ℕ) : Type 0 where
+  pub history : List Event
+  pub legal : Legal (setup_of program workers) history
+  pub complete : IsComplete (setup_of program workers) history
+  pub lines_are : lines ≡ history_text program history
+
+-- what stands behind the report on a program: nothing, or where a history is asked for, its lines
+abbrev pub IsTail : Bool → ℕ → Core → List ℕ → Type 0
+IsTail false workers program tail = tail ≡ []
+IsTail true workers program tail = IsHistory program workers tail
+
+-- what stands behind what is said of a source
+abbrev pub IsBehind : Wanted → Source → List ℕ → Type 0
+IsBehind wanted (Refusal line) tail = tail ≡ []
+IsBehind wanted (Accepted program) tail = IsTail wanted.history wanted.workers program tail
+
+-- the same with this behind its text
+abbrev pub with_tail : Said → List ℕ → Said
+with_tail said tail = record { status = said.status; text = said.text ++ tail }
+
 -- this is what is said to one who wants a report on a folder with these files
 pub record Says (wanted : Wanted) (files : Files) (said : Said) : Type 0 where
   pub source : Source
   pub is : IsSource files source
-  pub said_so : said ≡ said_from wanted.mode source
+  pub tail : List ℕ
+  pub is_behind : IsBehind wanted source tail
+  pub said_so : said ≡ with_tail (said_from wanted.mode source) tail
   pub headline : HasHeadline source

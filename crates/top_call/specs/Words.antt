@@ -1,22 +1,25 @@
 -- A contract of a public call rests on this: what the words of a command line ask for, of what the program can do yet.
-use Rattle.std.specs.Prelude.{ℕ, List, Option, option_map, if◌then◌else◌}
+use Rattle.std.specs.Prelude.{ℕ, Bool, List, Option, option_map}
 use Rattle.race_report.specs.declared.mode.Mode.{Mode}
 use Rattle.command_line.specs.Words.{Asked, Report, Replay, Made, asked}
 
--- a report on the folder of this name
+-- a report on the folder of this name, by so many workers, with their history or without
 pub record Wanted : Type 0 where
   pub folder : List ℕ
   pub mode : Mode
+  pub workers : ℕ
+  pub history : Bool
 
--- a history, a replay and a made folder are not built yet, and the number of workers has no effect
+-- a replay and a made folder are not built yet
 pub data Request : Type 0 where
   ReportOn : Wanted → Request
   NotBuilt : Request
 
+-- what a command line's words ask the program for
 abbrev pub request_for : Asked → Request
 request_for (Report folder workers json summaries history) =
-    if history then NotBuilt
-    else ReportOn (record { folder = folder; mode = record { json = json; summaries = summaries } })
+    let mode : Mode = record { json = json; summaries = summaries } in
+    ReportOn (record { folder = folder; mode = mode; workers = workers; history = history })
 request_for (Replay folder witness) = NotBuilt
 request_for (Made count workers) = NotBuilt
 

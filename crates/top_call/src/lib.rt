@@ -5,6 +5,7 @@ pub mod laws;
 mod request;
 mod said;
 mod status;
+mod wanted;
 mod whole_run;
 mod writing;
 

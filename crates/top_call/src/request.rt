@@ -2,19 +2,13 @@
 ghost use Rattle.std.specs.Prelude.{◌≡◌, map, string_bytes, option_map, IfOk};
 ghost use Rattle.command_line.specs.Requests.{asked_of};
 ghost use Rattle.top_call.specs.Words.{request_for, request_of};
-ghost use Rattle.top_call.specs.Requests.{seen};
+ghost use Rattle.top_call.specs.Requests.{seen, HasWorkers};
 
+use crate::wanted::Wanted;
 use command_line::read_words;
 use race_report::Mode;
-use racer_base::{Memory, Text};
+use racer_base::Memory;
 use std::alloc::Global;
-
-/// A report on the folder of this name.
-#[derive(Drop)]
-pub struct Wanted {
-    pub folder: Text,
-    pub mode: Mode,
-}
 
 /// What is asked for, of what the program can do yet.
 #[derive(Drop)]
@@ -25,15 +19,18 @@ pub enum Request {
 
 /// What a request of the command line asks the program for.
 fn request_for(asked: command_line::Request) -> Request
+    requires { HasWorkers (asked_of asked) }
     ensures { seen result ≡ request_for (asked_of asked) }
 {
     match asked {
-        command_line::Request::Report(report) if !report.history => Request::ReportOn(Wanted {
+        command_line::Request::Report(report) => Request::ReportOn(Wanted {
             folder: report.folder,
             mode: Mode {
                 json: report.json,
                 summaries: report.summaries,
             },
+            workers: report.workers,
+            history: report.history,
         }),
         _ => Request::NotBuilt,
     }

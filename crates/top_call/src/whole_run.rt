@@ -12,16 +12,16 @@ use std::sync::Wait;
 use std::thread::Threads;
 
 /// Reads the folder that the words after the program's name ask for, and writes its report, or the line
-/// that says why there is none, to the sink.
+/// that says why there is none, to the sink; behind the report, where the words ask for it, the history of the workers.
 ///
 /// The text is made whole before the first write, and writing takes no memory.
 pub fn run<R: Threads + Wait + Sync, F: Folder, S: Sink, G: Gate + Sync>(
-    _rt: &R,
+    rt: &R,
     alloc: Global,
     words: &[String],
     folder: &mut F,
     sink: &mut S,
-    _gate: &G,
+    gate: &G,
 ) -> Status
     requires folder { F.faults folder.old < last_count }
     requires sink { S.faults sink.old < last_count }
@@ -44,7 +44,7 @@ pub fn run<R: Threads + Wait + Sync, F: Folder, S: Sink, G: Gate + Sync>(
     ensures room { IsRoomFor (S.room sink.old) (asked_of F.told F.faults words.now folder.old folder.new) →
         result ≢ Status.SinkFault }
 {
-    match what_to_say(alloc, words, folder) {
+    match what_to_say(rt, alloc, words, folder, gate) {
         Err(_) => Status::Memory,
         Ok(said) => match write_all(sink, said.text.as_str().as_bytes()) {
             Ok(()) => said.status,

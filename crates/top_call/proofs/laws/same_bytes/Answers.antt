@@ -1,4 +1,4 @@
-use Rattle.top_call.proofs.OneStatus.{same_bytes}
+use Rattle.top_call.proofs.OneReport.{same_bytes}
 use Rattle.top_call.proofs.laws.same_bytes.Goals as goal
 
 pub returns : goal.returns

@@ -5,12 +5,13 @@ use Rattle.top_call.proofs.OneStatus.{whole_answer}
 use Rattle.top_call.proofs.whole_run.run.Goals as goal
 
 pub returns-in-Ok-write_all-clause-complete : goal.returns-in-Ok-write_all-clause-complete
-returns-in-Ok-write_all-clause-complete g c = λ told mode tells asks quiet kept.
-    let asked = asked_of g.F.Folder.told g.F.Folder.faults c.args.words.now c.args.folder.now c.what_to_say.new.folder in
+returns-in-Ok-write_all-clause-complete g c = λ told wanted tells named asks quiet kept.
+    let folder = c.what_to_say.new.folder in
+    let asked = asked_of g.F.Folder.told g.F.Folder.faults c.args.words.now c.args.folder.now folder in
     let wrote = wrote_of g.S.Sink.faults g.S.Sink.taken c.args.sink.now c.write_all.new.sink in
     let text = c.as_bytes.ensures.value ∙ c.as_str.ensures in
     inr (whole_answer c.in-Ok.said.status asked wrote c.in-Ok.said.text c.in-Ok.ensures.due
     (record {
       taken = c.in-Ok-write_all.ensures.whole ∙ ap (taken_and (g.S.Sink.taken c.args.sink.now)) text;
       no_fault = kept;
-    }) told mode tells asks quiet)
+    }) told wanted tells asks quiet)
