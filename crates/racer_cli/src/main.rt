@@ -2,9 +2,15 @@
 #![tactic(auto)]
 
 #[cfg(test)]
+mod gates;
+#[cfg(test)]
 mod outside;
 #[cfg(test)]
+mod store_alone;
+#[cfg(test)]
 mod tests;
+#[cfg(test)]
+mod workers;
 
 use disk_folder::DirFolder;
 use racer_base::{OpenGate, StdSink};

@@ -5,6 +5,7 @@ ghost use Rattle.memory_outside.specs.MemorySink as sinks;
 
 use super::*;
 use memory_outside::{MemoryFolder, MemorySink};
+use racer_base::Gate;
 use std::alloc::Global;
 use std::sync::Wait;
 use std::test::Fail;
@@ -12,17 +13,17 @@ use std::thread::Threads;
 
 /// One call of `run` on a folder of the name `src`, and what it answers and writes.
 #[derive(Clone, Copy)]
-struct Row<'a> {
-    words: &'a [&'a str],
-    files: &'a [(&'a str, &'a [u8])],
+pub(crate) struct Row<'a> {
+    pub words: &'a [&'a str],
+    pub files: &'a [(&'a str, &'a [u8])],
     /// The calls on the folder that fail, by their numbers from 0.
-    folder_fails: &'a [u32],
+    pub folder_fails: &'a [u32],
     /// How many bytes the sink takes at most in one call.
-    most: usize,
+    pub most: usize,
     /// The calls on the sink that fail.
-    sink_fails: &'a [u32],
-    status: Status,
-    text: &'a [u8],
+    pub sink_fails: &'a [u32],
+    pub status: Status,
+    pub text: &'a [u8],
 }
 
 const EMPTY: &[u8] = b"racer report 1\nfiles 0 classes 0 methods 0\nwarnings 0 confirmed 0\n";
@@ -31,7 +32,7 @@ const USAGE: &[u8] =
     b"usage: racer (FOLDER | --made N) [--workers N] [--json] [--summaries] [--history] [--replay NAME]\n";
 
 /// A report on an empty folder, into a sink that takes all at once.
-const PLAIN: Row = Row {
+pub(crate) const PLAIN: Row = Row {
     words: &["src"],
     files: &[],
     folder_fails: &[],
@@ -120,10 +121,6 @@ const CALLS: &[Row] = &[
         words: &["--made", "800"],
         ..NOT_BUILT
     },
-    Row {
-        words: &["src", "--history"],
-        ..NOT_BUILT
-    },
     PLAIN,
     Row {
         words: &["src", "--workers", "64"],
@@ -132,6 +129,17 @@ const CALLS: &[Row] = &[
     Row {
         words: &["src", "--json"],
         text: b"{\"classes\":0,\"files\":0,\"methods\":0,\"not_analysed\":[],\"profile\":1,\"skipped\":[],\"warnings\":[]}\n",
+        ..PLAIN
+    },
+    Row {
+        words: &["src", "--workers", "1", "--history"],
+        text: b"racer report 1\nfiles 0 classes 0 methods 0\nwarnings 0 confirmed 0\nleave 0\n",
+        ..PLAIN
+    },
+    Row {
+        words: &["src", "--json", "--workers", "1", "--history"],
+        text: b"{\"classes\":0,\"files\":0,\"methods\":0,\"not_analysed\":[],\"profile\":1,\"skipped\":[],\"warnings\":[]}\n\
+          leave 0\n",
         ..PLAIN
     },
     Row {
@@ -164,8 +172,39 @@ const CALLS: &[Row] = &[
     },
 ];
 
+/// A method that calls another.
+const DINNER: Row = Row {
+    files: &[(
+        "Dinner.java",
+        b"@ThreadSafe\npublic class Dinner {\n  private int mTemperature;\n  public void makeDinner() {\n    boilWater();\n\
+          \x20 }\n  private void boilWater() {\n    mTemperature = 100;\n  }\n}\n",
+    )],
+    status: Status::Warned,
+    text: b"racer report 1\nfiles 1 classes 1 methods 3\n\
+      warning Dinner.makeDinner/0 write this.mTemperature\n at Dinner.java:5:5\n at Dinner.java:8:5\n\
+      \x20with Dinner.makeDinner/0 write this.mTemperature\n at Dinner.java:5:5\n at Dinner.java:8:5\n\
+      \x20mark confirmed\n first 0 turns - steps 4\n second 1 turns - steps 4\nwarnings 1 confirmed 1\n",
+    ..PLAIN
+};
+
 /// Folders that are accepted and that are refused.
 const SOURCES: &[Row] = &[
+    DINNER,
+    Row {
+        words: &["src", "--workers", "64"],
+        ..DINNER
+    },
+    Row {
+        words: &["src", "--workers", "1", "--history"],
+        text: b"racer report 1\nfiles 1 classes 1 methods 3\n\
+          warning Dinner.makeDinner/0 write this.mTemperature\n at Dinner.java:5:5\n at Dinner.java:8:5\n\
+          \x20with Dinner.makeDinner/0 write this.mTemperature\n at Dinner.java:5:5\n at Dinner.java:8:5\n\
+          \x20mark confirmed\n first 0 turns - steps 4\n second 1 turns - steps 4\nwarnings 1 confirmed 1\n\
+          take 0 Dinner.<new>/0\npublish 0 Dinner.<new>/0\ntake 0 Dinner.makeDinner/0\n\
+          park 0 Dinner.makeDinner/0 Dinner.boilWater/0\ntake 0 Dinner.boilWater/0\npublish 0 Dinner.boilWater/0\n\
+          take 0 Dinner.makeDinner/0\npublish 0 Dinner.makeDinner/0\nleave 0\n",
+        ..DINNER
+    },
     Row {
         files: &[(
             "A.java",
@@ -243,7 +282,7 @@ fn files(alloc: Global, files: &[(&str, &[u8])]) -> Result<Vec<(String, Vec<u8>)
 }
 
 /// The folder of a row.
-fn folder(alloc: Global, row: &Row) -> Result<MemoryFolder, Fail>
+pub(crate) fn folder(alloc: Global, row: &Row) -> Result<MemoryFolder, Fail>
     ensures { IfOk result (λ folder. faults_of folder ≡ 0) }
 {
     let failing = row.folder_fails.to_vec(alloc)?;
@@ -269,18 +308,32 @@ fn sink(alloc: Global, row: &Row) -> Result<MemorySink, Fail>
     }
 }
 
-/// Whether a call of `run` answers and writes what the row says.
-fn holds<R: Threads + Wait + Sync>(rt: &R, alloc: Global, row: &Row) -> Result<bool, Fail> {
+/// What the call of `run` of a row answers, and the sink with what it writes.
+pub(crate) fn called<R: Threads + Wait + Sync, G: Gate + Sync>(
+    rt: &R,
+    alloc: Global,
+    row: &Row,
+    gate: &G,
+) -> Result<(Status, MemorySink), Fail> {
     let words = strings(alloc, row.words)?;
     let mut folder = folder(alloc, row)?;
     let mut sink = sink(alloc, row)?;
-    let words = words.as_slice();
-    let status = run(rt, alloc, words, &mut folder, &mut sink, &OpenGate);
+    let status = run(rt, alloc, words.as_slice(), &mut folder, &mut sink, gate);
+    Ok((status, sink))
+}
+
+/// Whether a call of `run` answers and writes what the row says.
+fn holds<R: Threads + Wait + Sync>(rt: &R, alloc: Global, row: &Row) -> Result<bool, Fail> {
+    let (status, sink) = called(rt, alloc, row, &OpenGate)?;
     Ok(status == row.status && sink.taken() == row.text)
 }
 
 /// How many rows hold before the first that does not.
-fn held<R: Threads + Wait + Sync>(rt: &R, alloc: Global, rows: &[Row]) -> Result<usize, Fail> {
+pub(crate) fn held<R: Threads + Wait + Sync>(
+    rt: &R,
+    alloc: Global,
+    rows: &[Row],
+) -> Result<usize, Fail> {
     for (i, row) in rows.iter().enumerate() {
         if !holds(rt, alloc, row)? {
             return Ok(i);
