@@ -1,4 +1,4 @@
--- No public contract rests on this: the invariant that the legs of a warning keep.
+-- A contract of a public call rests on this: `legs_meet_records`. The invariant that the legs of a warning keep.
 use Rattle.std.specs.Prelude.{◌≡◌, Bool, true, false, List, [], ◌∷◌, Option, None, Some, Contains, IsTrue, map}
 use Rattle.racer_base.specs.declared.ids.ClassId.{ClassId}
 use Rattle.racer_base.specs.declared.ids.FieldId.{FieldId}

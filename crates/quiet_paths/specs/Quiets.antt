@@ -1,4 +1,5 @@
--- No public contract rests on this: the quiet paths of the two entries of a warning are as the invariant needs them.
+-- A contract of a public call rests on this: `legs_meet_records`. The quiet paths of the two entries of a warning are
+-- as the invariant needs them.
 use Rattle.std.proofs.Common.{◌≡◌, ◌+◌, Bool, true, false, ◌&&◌, [], ◌∷◌, ◌++◌, Some, length, take}
 use Rattle.std.proofs.Common.{refl, sym, ap, ◌∙◌, subst, arith}
 use Rattle.std.specs.Prelude.{IsTrue}

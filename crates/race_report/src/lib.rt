@@ -2,10 +2,8 @@
 //!
 //! # The definitions
 //!
-//! - `specs/Report.antt`: the text, a line a function.
-//! - `specs/Modes.antt`: which of the two a report is.
-//!
-//! The object stands in `report_json`, and what either tells in `report_parts`.
+//! `specs/Modes.antt` says which of the two a report is. The lines of the one and the object of the other stand in
+//! `report_parts`, and so does what either tells.
 #![tactic(auto)]
 
 pub mod laws;
