@@ -1,4 +1,4 @@
--- A contract of a public call rests on this: `Store::start` of summary_store. How often methods stand in lists, and
+-- A contract of a public call rests on this: `Store::take` of summary_store. How often methods stand in lists, and
 -- which methods of a program are analysed.
 use Rattle.std.specs.Prelude.{ℕ, ◌+◌, ◌<◌, List, [], ◌∷◌, Bool, cond, ◌==◌, map, is_none}
 use Rattle.racer_base.specs.declared.ids.MethodId.{MethodId}

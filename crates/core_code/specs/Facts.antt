@@ -9,6 +9,7 @@ use Rattle.racer_base.specs.declared.ids.SiteId.{SiteId}
 use Rattle.racer_base.specs.declared.ids.Kind.{Kind}
 use Rattle.racer_base.specs.declared.ids.Kind.TheVariants.{Plain, Declared, Other}
 use Rattle.racer_base.specs.declared.ids.Place.{Place}
+use Rattle.racer_base.specs.declared.limits.TheConstants.{MAX_PARAMETERS}
 use Rattle.core_code.specs.declared.code.Op.{Op as CoreOp}
 use Rattle.core_code.specs.declared.code.Op.TheVariants.{Push, PushClass, PushPrim, PushNull, New, Dup, Drop, Get, Put}
 use Rattle.core_code.specs.declared.code.Op.TheVariants.{Set, Prim, Outside, Call, Unread, Ret}
@@ -154,3 +155,12 @@ is_stack_enough m = is_some (height_after m.code 0)
 
 abbrev pub are_stacks_enough : Core → Bool
 are_stacks_enough core = list_all is_stack_enough core.methods
+
+-- An analysed method has few parameters. Entries are told by their names and, in decimal digits, by how many parameters
+-- they have, and two numbers below 2^64 differ where their digits do.
+
+abbrev pub has_few_parameters : Method → Bool
+has_few_parameters m = is_some m.status || nat_le (length m.parameters) MAX_PARAMETERS
+
+abbrev pub are_parameters_few : Core → Bool
+are_parameters_few core = list_all has_few_parameters core.methods

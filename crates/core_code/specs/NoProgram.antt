@@ -18,4 +18,5 @@ no_program =
       classes_differ = refl;
       fields_differ = refl;
       methods_differ = refl;
+      parameters_few = refl;
     }

@@ -5,7 +5,8 @@
 --       void put() { this.a = 1; }
 --       void both() { synchronized (this) { this.a = 2; this.b = 3; } }
 --     }
-use Rattle.std.specs.Prelude.{ℕ, true, false, [], ◌∷◌, Option, None, codes}
+use Rattle.std.specs.Prelude.{ℕ, true, false, [], ◌∷◌, Option, None, codes, map}
+use Rattle.std.specs.List.{range_with_len}
 use Rattle.racer_base.specs.declared.ids.Kind.TheVariants.{Plain, Declared}
 use Rattle.racer_base.specs.declared.ids.Place.{Place}
 use Rattle.core_code.specs.declared.code.Op.{Op as CoreOp}
@@ -137,3 +138,7 @@ after_call call status =
                 (step 0 (at 5 8) this ∷ step 1 (at 5 8) call ∷ step 2 (at 5 8) PushPrim ∷ step 3 (at 5 8) Ret ∷ []);
           } ∷ [];
     }
+
+-- a method with so many parameters that has this status
+abbrev pub with_parameters : ℕ → Option Reason → Method
+with_parameters count status = record method_put { parameters = map (λ k. Plain) (range_with_len 0 count); status = status }

@@ -10,11 +10,11 @@ ghost use Rattle.core_code.specs.Calls.{rank_of, calls_of};
 ghost use Rattle.racer_base.specs.declared.ids.SiteId.{SiteId};
 ghost use Rattle.core_code.specs.Tree.{Tree, Operation, can_end, steps_of, op_at};
 ghost use Rattle.core_code.specs.Facts.{are_numbers_in_range, are_sites_in_order, are_entries_analysed};
-ghost use Rattle.core_code.specs.Facts.{are_stacks_enough};
+ghost use Rattle.core_code.specs.Facts.{are_stacks_enough, are_parameters_few, has_few_parameters};
 ghost use Rattle.core_code.specs.Facts.{sites_of, counts_from, height_after};
 ghost use Rattle.core_code.specs.Pair.{pair, step, at, put_at, this, method_put, method_both, lock_elsewhere};
 ghost use Rattle.core_code.specs.Pair.{with_method, class_pair, field_a, field_b, method_new, in_class};
-ghost use Rattle.core_code.specs.Pair.{call_put, unread_put, after_call};
+ghost use Rattle.core_code.specs.Pair.{call_put, unread_put, after_call, with_parameters};
 ghost use Rattle.core_code.specs.CallFacts.{do_end_by_return, are_calls_right, has_ranks};
 ghost use Rattle.core_code.specs.KindCheck.{are_kinded};
 ghost use Rattle.core_code.specs.Names.{is_identifier, are_identifiers, do_classes_differ, do_fields_differ};
@@ -35,6 +35,7 @@ pub fn pair_is_a_program()
     ensures classes { IsTrue (do_classes_differ pair) }
     ensures fields { IsTrue (do_fields_differ pair) }
     ensures methods { IsTrue (do_methods_differ pair) }
+    ensures parameters { IsTrue (are_parameters_few pair) }
     ensures no_field { are_numbers_in_range (record pair { fields = [] }) ≡ false }
     ensures no_file { are_numbers_in_range (record pair { files = [] }) ≡ false }
     ensures no_variable { are_numbers_in_range (with_method (record method_put { variables = [] })) ≡ false }
@@ -63,6 +64,13 @@ pub fn names_of_programs()
         (record pair { methods = method_put ∷ record method_put { status = Some Overload } ∷ [] }) ≡ true }
     ensures counts { do_methods_differ
         (record pair { methods = method_put ∷ record method_put { parameters = Plain ∷ [] } ∷ [] }) ≡ true }
+{}
+
+/// Which methods have few parameters: 64 and no more, where they are analysed.
+pub fn parameters_of_programs()
+    ensures most { has_few_parameters (with_parameters 64 None) ≡ true }
+    ensures more { has_few_parameters (with_parameters 65 None) ≡ false }
+    ensures not_analysed { has_few_parameters (with_parameters 65 (Some Overload)) ≡ true }
 {}
 
 /// When calls, ranks and the ends of code are right. The methods of the class are 0, 1 and 2.

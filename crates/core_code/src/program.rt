@@ -2,7 +2,7 @@
 ghost use Rattle.std.specs.Prelude.{IsTrue};
 ghost use Rattle.core_code.specs.Core.{core_of};
 ghost use Rattle.core_code.specs.Facts.{are_numbers_in_range, are_sites_in_order, are_entries_analysed};
-ghost use Rattle.core_code.specs.Facts.{are_stacks_enough};
+ghost use Rattle.core_code.specs.Facts.{are_stacks_enough, are_parameters_few};
 ghost use Rattle.core_code.specs.CallFacts.{do_end_by_return, are_calls_right, has_ranks};
 ghost use Rattle.core_code.specs.KindCheck.{are_kinded};
 ghost use Rattle.core_code.specs.Names.{are_identifiers, do_classes_differ, do_fields_differ, do_methods_differ};
@@ -26,6 +26,7 @@ pub struct Program {
     pub ghost classes_differ: { IsTrue (do_classes_differ (core_of parts)) },
     pub ghost fields_differ: { IsTrue (do_fields_differ (core_of parts)) },
     pub ghost methods_differ: { IsTrue (do_methods_differ (core_of parts)) },
+    pub ghost parameters_few: { IsTrue (are_parameters_few (core_of parts)) },
 }
 
 impl Program {
@@ -33,7 +34,7 @@ impl Program {
     ghost use Rattle.core_code.specs.Core.{core_of, method_of};
     ghost use Rattle.core_code.specs.Program.{core, files, skipped, classes, fields, methods};
     ghost use Rattle.core_code.specs.Facts.{are_numbers_in_range, are_sites_in_order, are_entries_analysed};
-    ghost use Rattle.core_code.specs.Facts.{are_stacks_enough};
+    ghost use Rattle.core_code.specs.Facts.{are_stacks_enough, are_parameters_few};
     ghost use Rattle.core_code.specs.CallFacts.{do_end_by_return, are_calls_right, has_ranks};
     ghost use Rattle.core_code.specs.KindCheck.{are_kinded};
     ghost use Rattle.core_code.specs.Names.{are_identifiers, do_classes_differ, do_fields_differ, do_methods_differ};
@@ -52,6 +53,7 @@ impl Program {
         requires classes_differ { IsTrue (do_classes_differ (core_of parts)) }
         requires fields_differ { IsTrue (do_fields_differ (core_of parts)) }
         requires methods_differ { IsTrue (do_methods_differ (core_of parts)) }
+        requires parameters_few { IsTrue (are_parameters_few (core_of parts)) }
         ensures { core result ≡ core_of parts }
     {
         Program { parts }

@@ -1,6 +1,7 @@
 -- What every program of units keeps.
 use Rattle.std.proofs.Common.{◌≡◌, ℕ, zero, suc, Bool, true, false, cond, not, ◌&&◌, ◌||◌, List, [], ◌∷◌, Option, Some}
-use Rattle.std.proofs.Common.{None, map, refl, ap, ◌∙◌, slice_get, is_some, is_none, length, nat_lt}
+use Rattle.std.proofs.Common.{None, map, refl, ap, ◌∙◌, slice_get, is_some, is_none, length, nat_lt, nat_le, arith}
+use Rattle.std.proofs.lemmas.Bool.Decides.{nat_tests}
 use Rattle.std.specs.List.{list_all}
 use Rattle.std.specs.Option.{option_or}
 use Rattle.racer_base.specs.declared.ids.MethodId.{MethodId}
@@ -15,7 +16,7 @@ use Rattle.core_code.specs.declared.code.Reason.TheVariants.{Overload, Outside, 
 use Rattle.core_code.specs.Tree.{can_end, in_sequence}
 use Rattle.core_code.specs.Core.{Core, Method}
 use Rattle.core_code.specs.Facts.{is_stack_enough, are_stacks_enough, is_in_order, are_sites_in_order, may_be_entry}
-use Rattle.core_code.specs.Facts.{are_entries_analysed}
+use Rattle.core_code.specs.Facts.{are_entries_analysed, has_few_parameters, are_parameters_few}
 use Rattle.core_code.specs.CallFacts.{has_right_calls, are_calls_right, ends_by_return, do_end_by_return}
 use Rattle.java_lowering.specs.Around.{Folder}
 use Rattle.java_lowering.specs.Methods.{Body, Default, Spelled, Unspelled, Source, entered, fields_begun}
@@ -23,7 +24,7 @@ use Rattle.java_lowering.specs.Methods.{parameters_declared}
 use Rattle.java_lowering.specs.Methods.{spelled_code, method_code}
 use Rattle.java_lowering.specs.Programs.{sources_of, status_of, declared_in, statuses_from, folder_of, class_core}
 use Rattle.java_lowering.specs.Programs.{is_overloaded}
-use Rattle.java_lowering.specs.Programs.{local_count, where_so}
+use Rattle.java_lowering.specs.Programs.{local_count, where_so, is_unspelled}
 use Rattle.java_lowering.specs.Programs.{is_checked, is_entry, method_core, method_cores, program_of}
 use Rattle.java_lowering.proofs.Runs.{whole_high, whole_calls}
 use Rattle.java_lowering.proofs.FoundElements.{Each}
@@ -52,6 +53,26 @@ outside-some : (b : Bool) (rest : Option Reason) →
     is_some (option_or (cond b (Some Overload) None) (option_or (Some Outside) rest)) ≡ true
 outside-some true rest = refl
 outside-some false rest = refl
+
+-- ---- parameters
+
+few-or_more : (limit count : ℕ) (rest : Option Reason) →
+    (is_some (option_or (where_so (nat_lt limit count) Parameters) rest) || nat_le count limit) ≡ true
+few-or_more limit count rest = by (nat_lt limit count) refl
+  where
+    by : (b : Bool) → nat_lt limit count ≡ b →
+        (is_some (option_or (where_so b Parameters) rest) || nat_le count limit) ≡ true
+    by true e = refl
+    by false e =
+        let few : nat_le count limit ≡ true = grind (arith, nat_tests, e) in
+        or-true (is_some rest) (nat_le count limit) few
+
+few-or_reason : (overloaded unspelled : Bool) (count : ℕ) (rest : Option Reason) →
+    (is_some (option_or (where_so overloaded Overload) (option_or (where_so unspelled Outside)
+    (option_or (where_so (nat_lt MAX_PARAMETERS count) Parameters) rest))) || nat_le count MAX_PARAMETERS) ≡ true
+few-or_reason true unspelled count rest = refl
+few-or_reason false true count rest = refl
+few-or_reason false false count rest = few-or_more MAX_PARAMETERS count rest
 
 module _ (files : List (List ℕ)) (units : List unit_type.Unit) (is_recursive : MethodId → Bool) where
   abbrev folder : Folder
@@ -148,3 +169,19 @@ module _ (files : List (List ℕ)) (units : List unit_type.Unit) (is_recursive :
 
   pub ends-by_return : do_end_by_return program ≡ true
   ends-by_return = all-end (sources_of units) 0
+
+  few : (n : ℕ) (s : Source) → has_few_parameters (method_core folder s (status_by n s)) ≡ true
+  few n s =
+      few-or_reason (is_overloaded (declared_in units).methods s.info) (is_unspelled s.body) (length s.info.parameters)
+      (option_or (where_so (nat_lt MAX_LOCALS (local_count (declared_in units) s)) Locals)
+      (where_so (is_recursive (record { 0 = n })) Recursive))
+
+  all-few : (sources : List Source) (n : ℕ) →
+      list_all has_few_parameters
+      (method_cores folder sources (statuses_from (declared_in units) is_recursive n sources)) ≡ true
+  all-few [] n = refl
+  all-few (s ∷ sources) n =
+      both (has_few_parameters (method_core folder s (status_by n s))) _ (few n s) (all-few sources (suc n))
+
+  pub parameters-few : are_parameters_few program ≡ true
+  parameters-few = all-few (sources_of units) 0

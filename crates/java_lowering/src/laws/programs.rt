@@ -13,7 +13,7 @@ ghost use Rattle.core_code.specs.declared.code.Op.TheVariants.{Push, PushClass, 
 ghost use Rattle.core_code.specs.declared.code.Reason.TheVariants.{Overload, Outside, Parameters, Recursive};
 ghost use Rattle.core_code.specs.Core.{Method};
 ghost use Rattle.core_code.specs.Facts.{are_numbers_in_range, are_sites_in_order, are_entries_analysed};
-ghost use Rattle.core_code.specs.Facts.{are_stacks_enough};
+ghost use Rattle.core_code.specs.Facts.{are_stacks_enough, are_parameters_few};
 ghost use Rattle.core_code.specs.CallFacts.{do_end_by_return, are_calls_right};
 ghost use Rattle.core_code.specs.KindCheck.{are_kinded};
 ghost use Rattle.core_code.specs.Names.{are_identifiers, do_classes_differ, do_fields_differ, do_methods_differ};
@@ -101,8 +101,8 @@ pub fn conditions_of_units()
 {}
 
 /// What every program of units keeps, whichever methods are taken for recursive. Whatever the units, the code of all
-/// methods is kinded, pops no empty stack and calls rightly, that of an analysed method ends by a return alone, and
-/// analysed methods differ. Numbers are in range where the places of the units are in the files, names are identifiers
+/// methods is kinded, pops no empty stack and calls rightly, that of an analysed method ends by a return alone,
+/// analysed methods differ, and have few parameters. Numbers are in range where the places of the units are in the files, names are identifiers
 /// where those of the units are, and classes and fields differ where the units are not refused.
 pub fn facts_of_programs()
     ensures kinded { (files : List (List ℕ)) (units : List Unit) (is_recursive : MethodId → Bool) →
@@ -119,6 +119,8 @@ pub fn facts_of_programs()
         IsTrue (do_end_by_return (program_of files units is_recursive)) }
     ensures methods { (files : List (List ℕ)) (units : List Unit) (is_recursive : MethodId → Bool) →
         IsTrue (do_methods_differ (program_of files units is_recursive)) }
+    ensures parameters { (files : List (List ℕ)) (units : List Unit) (is_recursive : MethodId → Bool) →
+        IsTrue (are_parameters_few (program_of files units is_recursive)) }
     ensures numbers { (files : List (List ℕ)) (units : List Unit) (is_recursive : MethodId → Bool) →
         IsTrue (are_in_files files units) → IsTrue (are_numbers_in_range (program_of files units is_recursive)) }
     ensures identifiers { (files : List (List ℕ)) (units : List Unit) (is_recursive : MethodId → Bool) →

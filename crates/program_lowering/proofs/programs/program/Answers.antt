@@ -2,13 +2,14 @@ use Rattle.std.proofs.Common.{◌≡◌, ℕ, true, List, String, Global, map, a
 use Rattle.core_code.specs.Chains.{flag_of}
 use Rattle.core_code.specs.Core.{Core, core_of, method_of}
 use Rattle.core_code.specs.Facts.{are_numbers_in_range, are_entries_analysed, are_sites_in_order, are_stacks_enough}
+use Rattle.core_code.specs.Facts.{are_parameters_few}
 use Rattle.core_code.specs.CallFacts.{do_end_by_return, are_calls_right}
 use Rattle.core_code.specs.KindCheck.{are_kinded}
 use Rattle.core_code.specs.Names.{are_identifiers, do_classes_differ, do_fields_differ, do_methods_differ}
 use Rattle.java_lowering.proofs.KindedPrograms.{program-kinded}
 use Rattle.java_lowering.proofs.NumbersInRange.{numbers-in_range}
 use Rattle.java_lowering.proofs.ProgramFacts.{stacks-enough, calls-right, sites-in_order, entries-analysed}
-use Rattle.java_lowering.proofs.ProgramFacts.{ends-by_return}
+use Rattle.java_lowering.proofs.ProgramFacts.{ends-by_return, parameters-few}
 use Rattle.java_lowering.proofs.ProgramNames.{identifiers-there, classes-differ, fields-differ, methods-differ}
 use Rattle.program_lowering.proofs.programs.program.Goals as goal
 
@@ -80,6 +81,12 @@ of-requires-clause-methods_differ c =
     let P : Core → Type 0 = λ core. do_methods_differ core ≡ true in
     subst P (sym c.in_ok-parts.ensures)
     (methods-differ (names_of c.args.files.now) c.args.units.now (flag_of c.args.recursive.now))
+
+pub of-requires-clause-parameters_few : goal.of-requires-clause-parameters_few
+of-requires-clause-parameters_few c =
+    let P : Core → Type 0 = λ core. are_parameters_few core ≡ true in
+    subst P (sym c.in_ok-parts.ensures)
+    (parameters-few (names_of c.args.files.now) c.args.units.now (flag_of c.args.recursive.now))
 
 pub of-requires-clause-ranks_there : goal.of-requires-clause-ranks_there
 of-requires-clause-ranks_there c =

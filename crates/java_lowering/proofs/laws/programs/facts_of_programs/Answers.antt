@@ -1,6 +1,6 @@
 use Rattle.java_lowering.proofs.KindedPrograms.{program-kinded}
 use Rattle.java_lowering.proofs.ProgramFacts.{stacks-enough, calls-right, sites-in_order, entries-analysed}
-use Rattle.java_lowering.proofs.ProgramFacts.{ends-by_return}
+use Rattle.java_lowering.proofs.ProgramFacts.{ends-by_return, parameters-few}
 use Rattle.java_lowering.proofs.ProgramNames.{identifiers-there, classes-differ, fields-differ, methods-differ}
 use Rattle.java_lowering.proofs.NumbersInRange.{numbers-in_range}
 use Rattle.java_lowering.proofs.laws.programs.facts_of_programs.Goals as goal
@@ -25,6 +25,9 @@ returns-clause-ends c files units is_recursive = ends-by_return files units is_r
 
 pub returns-clause-methods : goal.returns-clause-methods
 returns-clause-methods c files units is_recursive = methods-differ files units is_recursive
+
+pub returns-clause-parameters : goal.returns-clause-parameters
+returns-clause-parameters c files units is_recursive = parameters-few files units is_recursive
 
 pub returns-clause-numbers : goal.returns-clause-numbers
 returns-clause-numbers c files units is_recursive placed = numbers-in_range files units is_recursive placed
