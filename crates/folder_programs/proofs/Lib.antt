@@ -16,3 +16,4 @@ mod OneRefusal
 mod OneSource
 mod OneReading
 mod Conditions
+mod OtherFiles

@@ -10,7 +10,10 @@ ghost use Rattle.java_resolver.specs.Refusals.{refusal};
 ghost use Rattle.core_code.specs.Core.{Core};
 ghost use Rattle.java_lowering.specs.Programs.{program_of, draft_of, call_edges, IsLowered};
 ghost use Rattle.unit_reader.specs.SameUnits.{SameUnit};
+ghost use Rattle.racer_base.specs.Outside.{Files};
 ghost use Rattle.folder_programs.specs.OneReading.{OneReading, OneSource};
+ghost use Rattle.folder_programs.specs.Programs.{IsProgram};
+ghost use Rattle.folder_programs.specs.Sources.{source_names, contents};
 
 use unit_reader::laws::one_unit;
 
@@ -51,3 +54,10 @@ pub fn one_source()
 {
     one_reading();
 }
+
+/// Whether the sources of a folder are this program depends on their names and their bytes alone, whatever other files
+/// the folder has.
+pub fn other_files_are_not_seen()
+    ensures { (a b : Files) (program : Core) → source_names a ≡ source_names b → contents a ≡ contents b
+        → IsProgram a program → IsProgram b program }
+{}
