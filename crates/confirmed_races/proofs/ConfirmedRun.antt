@@ -1,7 +1,7 @@
 -- The run of a confirmed warning races, where each way leads to the object of its record's path.
 use Rattle.std.proofs.Common.{◌≡◌, ℕ, Bool, true, false, cond, not, ◌&&◌, ◌||◌, List, [], ◌∷◌, Option, None, Some}
 use Rattle.std.proofs.Common.{refl, sym}
-use Rattle.std.proofs.Common.{ap, subst, ◌∙◌, slice_get, ◌⊎◌, inl, inr}
+use Rattle.std.proofs.Common.{ap, subst, ◌∙◌, slice_get}
 use Rattle.std.specs.List.{Contains}
 use Rattle.racer_base.specs.declared.ids.MethodId.{MethodId}
 use Rattle.racer_base.specs.declared.ids.Touch.{Touch}
@@ -19,25 +19,24 @@ use Rattle.core_code.specs.Calls.{method_at}
 use Rattle.core_code.specs.Core.{Core, Method}
 use Rattle.core_semantics.specs.declared.object.Start.TheVariants.{All, Only}
 use Rattle.core_semantics.specs.declared.object.StartPath.{StartPath}
-use Rattle.core_semantics.specs.Legs.{Leg, run, runs}
-use Rattle.core_semantics.specs.Runs.{begun, given_to, is_in, races, thread_at, writes}
+use Rattle.core_semantics.specs.Legs.{Leg, run}
+use Rattle.core_semantics.specs.Runs.{begun, given_to, is_in, thread_at, writes}
 use Rattle.core_semantics.specs.State.{State, Store, Thread, other_of, thread_of}
 use Rattle.core_semantics.specs.Steps.{entered}
-use Rattle.core_ways.specs.Marks.{Confirmed, Pair, Said, Unnamed, first_halt, is_locked, leg_along, legs_of, mark_of}
+use Rattle.core_ways.specs.Marks.{Confirmed, Said, Unnamed, first_halt, is_locked, leg_along, mark_of}
 use Rattle.core_ways.specs.Marks.{objects_of}
-use Rattle.core_ways.specs.Stable.{IsStable, is_lasting_root, unstable_prefix}
+use Rattle.core_ways.specs.Stable.{IsStable, is_lasting_root}
 use Rattle.core_ways.specs.Ways.{record_at, records_held, way_of}
 use Rattle.confirmed_races.specs.Heaps.{Heap, state_in}
 use Rattle.race_pairs.specs.declared.warning.Warning.{Warning}
-use Rattle.race_pairs.specs.Pairs.{IsPair, IsRecord}
+use Rattle.race_pairs.specs.Pairs.{IsPair}
 use Rattle.race_pairs.specs.Warnings.{conflicts, records_of, warnings, records_held as pairs_held}
 use Rattle.race_pairs.proofs.WarningPairs.{both_pass, warning_is_pair}
-use Rattle.quiet_paths.specs.Ends.{EndsAtAccess, IsAtAccess}
-use Rattle.witness_build.specs.Warned.{pair_of, warning_mark}
+use Rattle.confirmed_races.specs.Warned.{pair_of, warning_mark}
 use Rattle.confirmed_races.specs.Races.{RacesOn, Touches}
 use Rattle.confirmed_races.proofs.LegPairs.{AreOthers, LegLeads, TouchesAs, both-touch, unlocked-free}
 use Rattle.confirmed_races.proofs.MarkParts.{IsConfirmedBy, mark-parts}
-use Rattle.confirmed_races.proofs.WitnessRuns.{EndsFrom, LegsCome, LegsComeIn, both-race, legs-come, legs-come-in}
+use Rattle.confirmed_races.proofs.WitnessRuns.{EndsFrom, LegsCome, both-race, legs-come, legs-come-in}
 use Rattle.confirmed_races.proofs.WitnessRuns.{two_legs}
 
 -- ---- both threads

@@ -1,10 +1,9 @@
 -- Each confirmed warning races.
-use Rattle.std.proofs.Common.{◌≡◌, ℕ, true, List, [], ◌∷◌, None, Some, refl, sym, ap, subst, ◌∙◌, inl, inr}
+use Rattle.std.proofs.Common.{◌≡◌, List, Some, refl, sym, subst, ◌∙◌, inl, inr}
 use Rattle.std.specs.List.{Contains}
-use Rattle.access_paths.specs.declared.path.Path.{Path}
 use Rattle.access_domain.specs.declared.access.Access.{Access}
 use Rattle.core_code.specs.declared.program.Program.{Program}
-use Rattle.core_code.specs.Core.{Core, Method}
+use Rattle.core_code.specs.Core.{Core}
 use Rattle.core_code.specs.Program.{core as core_of}
 use Rattle.core_semantics.specs.declared.object.Start.TheVariants.{All}
 use Rattle.core_semantics.specs.declared.object.StartPath.{StartPath}
@@ -20,7 +19,7 @@ use Rattle.quiet_paths.specs.Places.{IsStore}
 use Rattle.quiet_paths.specs.Quiets.{quietness_of}
 use Rattle.quiet_paths.proofs.Entries.{empty-store}
 use Rattle.quiet_paths.proofs.Legs.{leg-leads}
-use Rattle.witness_build.specs.Warned.{warning_mark}
+use Rattle.confirmed_races.specs.Warned.{warning_mark}
 use Rattle.confirmed_races.specs.Races.{RacesOn}
 use Rattle.confirmed_races.proofs.ConfirmedRun.{IsFound, IsReady, confirmed-found, confirmed-race}
 

@@ -1,12 +1,11 @@
 -- Two legs, one after the other, in the heap of all start paths.
-use Rattle.std.proofs.Common.{◌≡◌, ℕ, zero, suc, ◌<◌, Bool, true, false, List, [], ◌∷◌, Option, None, Some, length}
+use Rattle.std.proofs.Common.{◌≡◌, ℕ, zero, suc, true, false, List, [], ◌∷◌, Option, Some, length}
 use Rattle.std.proofs.Common.{nat_lt}
 use Rattle.std.proofs.Common.{refl, sym, ap, subst, ◌∙◌, slice_get, slice_index_or, arith}
 use Rattle.std.proofs.lemmas.Bool.{lt-ltb}
 use Rattle.std.specs.Option.{option_and_then}
 use Rattle.racer_base.specs.declared.ids.FieldId.{FieldId}
 use Rattle.racer_base.specs.declared.ids.MethodId.{MethodId}
-use Rattle.racer_base.specs.declared.ids.Place.{Place}
 use Rattle.racer_base.specs.declared.ids.Touch.{Touch}
 use Rattle.racer_base.specs.declared.ids.Touch.TheVariants.{Read, Write}
 use Rattle.access_paths.specs.declared.path.Path.{Path}
@@ -21,20 +20,17 @@ use Rattle.core_semantics.specs.declared.answer.Holder.{Holder}
 use Rattle.core_semantics.specs.declared.object.Object.{Object}
 use Rattle.core_semantics.specs.declared.object.Object.TheVariants.{Start as StartOf}
 use Rattle.core_semantics.specs.declared.object.Value.{Value}
-use Rattle.core_semantics.specs.declared.object.Value.TheVariants.{Null, Object as Ref}
-use Rattle.core_semantics.specs.Runs.{Access as Touching, access_of, frame_touch, given_to, innermost, next_of}
+use Rattle.core_semantics.specs.declared.object.Value.TheVariants.{Null}
+use Rattle.core_semantics.specs.Runs.{access_of, frame_touch, given_to}
 use Rattle.core_semantics.specs.Runs.{next_touch}
 use Rattle.core_semantics.specs.Runs.{op_touch, todo_touch}
-use Rattle.core_semantics.specs.State.{Frame, State, Store, Thread, Todo, Operate, other_of, thread_of}
-use Rattle.core_semantics.specs.Steps.{entered, slot_of, top as top_value}
+use Rattle.core_semantics.specs.State.{Frame, State, Store, Thread, Todo, other_of, thread_of}
 use Rattle.quiet_paths.specs.Ends.{IsAtAccess}
 use Rattle.quiet_paths.specs.Sites.{field_of}
 use Rattle.quiet_paths.specs.Tops.{Top, top_of}
-use Rattle.quiet_paths.specs.Values.{Point}
 use Rattle.quiet_paths.specs.Meets.{base_path, base_slot, base_value}
 use Rattle.quiet_paths.specs.Places.{start_object}
 use Rattle.quiet_paths.specs.Quiet.{start_path}
-use Rattle.confirmed_races.specs.Races.{Touches}
 
 -- ---- what the next step touches
 

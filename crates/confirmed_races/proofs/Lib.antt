@@ -1,3 +1,4 @@
+pub mod WholeWarnings
 pub mod SameSteps
 pub mod SameRuns
 pub mod Legs
@@ -6,4 +7,3 @@ pub mod MarkParts
 pub mod WitnessRuns
 pub mod ConfirmedRun
 pub mod ConfirmedWarnings
-pub mod ShownRaces

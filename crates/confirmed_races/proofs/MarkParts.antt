@@ -1,5 +1,5 @@
 -- What a confirmed mark says of the parts that it was made of.
-use Rattle.std.proofs.Common.{◌≡◌, ℕ, Bool, true, false, cond, List, [], ◌∷◌, Option, None, Some, refl, sym, ap, ◌∙◌}
+use Rattle.std.proofs.Common.{◌≡◌, ℕ, true, false, cond, List, ◌∷◌, Option, None, Some, refl}
 use Rattle.std.proofs.Common.{unwrap_or}
 use Rattle.racer_base.specs.declared.ids.Place.{Place}
 use Rattle.access_paths.specs.declared.path.Path.{Path}

@@ -1,6 +1,6 @@
 -- One step in two heaps.
-use Rattle.std.proofs.Common.{◌≡◌, ℕ, suc, true, false, cond, ◌&&◌, List, [], ◌∷◌, Option, None, Some}
-use Rattle.std.proofs.Common.{refl, ap, ◌∙◌, nat_eq, nat_lt, slice_index_or, drop}
+use Rattle.std.proofs.Common.{◌≡◌, ℕ, true, false, cond, ◌&&◌, List, [], ◌∷◌, Option, None, Some}
+use Rattle.std.proofs.Common.{refl, ap, ◌∙◌, nat_eq, nat_lt, slice_index_or}
 use Rattle.std.specs.Prelude.{Result, Ok, Err}
 use Rattle.std.specs.List.{list_any}
 use Rattle.racer_base.specs.declared.ids.FieldId.{FieldId}
@@ -18,7 +18,7 @@ use Rattle.core_semantics.specs.declared.object.Object.{Object}
 use Rattle.core_semantics.specs.declared.object.Value.TheVariants.{Null}
 use Rattle.core_semantics.specs.Objects.{same_monitor}
 use Rattle.core_semantics.specs.State.{Frame, State, Store, Thread, Todo, Operate, Choose, Repeat, Lock, Unlock}
-use Rattle.core_semantics.specs.State.{before, thread_of, other_of, with_thread}
+use Rattle.core_semantics.specs.State.{thread_of, other_of, with_thread}
 use Rattle.core_semantics.specs.Steps.{After, Inner, Next, Goes, Sticks, Waits, Ends, Spot, base_of, called_method}
 use Rattle.core_semantics.specs.Steps.{entering, going, inner, inner_step, lock_with, locking, monitor_of}
 use Rattle.core_semantics.specs.Steps.{on_base, op_step, operated, passed_from, put, read, replaced, returned, slot_of}

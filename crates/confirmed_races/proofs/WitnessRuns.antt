@@ -1,14 +1,14 @@
 -- The run of a witness, in the heap of all start paths and in that of its objects.
-use Rattle.std.proofs.Common.{◌≡◌, ℕ, Bool, true, false, cond, ◌&&◌, ◌||◌, List, [], ◌∷◌, Option, None, Some, refl}
+use Rattle.std.proofs.Common.{◌≡◌, ℕ, Bool, true, ◌&&◌, ◌||◌, List, [], ◌∷◌, None, Some, refl}
 use Rattle.std.proofs.Common.{sym, ap}
-use Rattle.std.proofs.Common.{◌∙◌, subst, option_map, nat_eq}
+use Rattle.std.proofs.Common.{◌∙◌, subst, option_map}
 use Rattle.std.proofs.lemmas.Bool.{eq-eqb}
 use Rattle.std.specs.Option.{option_and_then}
 use Rattle.racer_base.specs.declared.ids.FieldId.{FieldId}
 use Rattle.racer_base.specs.declared.ids.MethodId.{MethodId}
 use Rattle.racer_base.specs.declared.ids.Touch.{Touch}
 use Rattle.access_paths.specs.declared.path.Path.{Path}
-use Rattle.access_paths.specs.Paths.{last_of, same_field}
+use Rattle.access_paths.specs.Paths.{same_field}
 use Rattle.access_domain.specs.declared.access.Access.{Access}
 use Rattle.core_code.specs.Core.{Core, Method}
 use Rattle.core_semantics.specs.declared.answer.Turn.{Turn}
@@ -17,9 +17,9 @@ use Rattle.core_semantics.specs.declared.object.Start.TheVariants.{All, Only}
 use Rattle.core_semantics.specs.declared.object.StartPath.{StartPath}
 use Rattle.core_semantics.specs.Legs.{Leg, Ran, Came, Broke, run, run_leg, runs, whole}
 use Rattle.core_semantics.specs.Objects.{same_object}
-use Rattle.core_semantics.specs.Runs.{Access as Touching, begun, do_meet, given_to, is_in, next_touch, races, writes}
+use Rattle.core_semantics.specs.Runs.{begun, do_meet, given_to, is_in, races, writes}
 use Rattle.core_semantics.specs.Same.{same_object-itself}
-use Rattle.core_semantics.specs.State.{State, Store, other_of, thread_of}
+use Rattle.core_semantics.specs.State.{State}
 use Rattle.core_ways.specs.Marks.{first_halt, leg_along, objects_of, reads, reads_of_legs}
 use Rattle.core_ways.specs.Ways.{Trip, way_of}
 use Rattle.confirmed_races.specs.Heaps.{HasAll, Heap, ran_in, state_in}
@@ -27,8 +27,7 @@ use Rattle.confirmed_races.proofs.Legs.{objects-read, run-from-objects}
 use Rattle.confirmed_races.proofs.SameRuns.{all-first, runs-same}
 use Rattle.quiet_paths.specs.Meets.{base_path}
 use Rattle.quiet_paths.specs.Ends.{EndsAtAccess, IsAtAccess}
-use Rattle.confirmed_races.specs.Races.{Touches}
-use Rattle.confirmed_races.proofs.LegPairs.{AreOthers, LegLeads, TouchesAs, both-touch, start_of, unlocked-free}
+use Rattle.confirmed_races.proofs.LegPairs.{TouchesAs, start_of}
 use Rattle.confirmed_races.proofs.MarkParts.{first-made}
 
 -- ---- a race

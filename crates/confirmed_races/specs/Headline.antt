@@ -10,7 +10,7 @@ use Rattle.core_ways.specs.Stable.{IsStable}
 use Rattle.core_ways.specs.Ways.{record_at}
 use Rattle.race_pairs.specs.declared.warning.Warning.{Warning}
 use Rattle.race_pairs.specs.Warnings.{warnings}
-use Rattle.witness_build.specs.Warned.{pair_of, warning_mark}
+use Rattle.confirmed_races.specs.Warned.{pair_of, warning_mark}
 use Rattle.confirmed_races.specs.Races.{RacesOn}
 
 -- a warning is marked confirmed, with its two legs and the objects that they read, and that run ends in its race

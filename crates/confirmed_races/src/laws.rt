@@ -1,5 +1,5 @@
-//! Laws of the runs of confirmed warnings, of the heaps in which they begin, and of the reports that show them.
-ghost use Rattle.std.specs.Prelude.{◌≡◌, ℕ, List, Some, option_map, codes};
+//! Laws of the marks of warnings, of the runs of confirmed ones, and of the heaps in which these begin.
+ghost use Rattle.std.specs.Prelude.{◌≡◌, ℕ, List, Some, option_map};
 ghost use Rattle.std.specs.List.{Contains};
 ghost use Rattle.racer_base.specs.declared.ids.MethodId.{MethodId};
 ghost use Rattle.core_code.specs.Core.{Core};
@@ -12,16 +12,15 @@ ghost use Rattle.core_semantics.specs.declared.object.StartPath.{StartPath};
 ghost use Rattle.core_semantics.specs.Legs.{Leg, run, runs};
 ghost use Rattle.core_semantics.specs.Runs.{begun, is_in, next_touch, races};
 ghost use Rattle.core_semantics.specs.State.{State};
-ghost use Rattle.core_ways.specs.Marks.{objects_of, reads, Confirmed};
+ghost use Rattle.core_ways.specs.Marks.{legs_of, objects_of, reads, Confirmed, IsWhole};
+ghost use Rattle.core_ways.specs.Stable.{IsStable};
 ghost use Rattle.core_ways.specs.Ways.{record_at};
 ghost use Rattle.race_pairs.specs.declared.warning.Warning.{Warning};
 ghost use Rattle.race_pairs.specs.Warnings.{warnings};
-ghost use Rattle.witness_build.specs.Warned.{warning_mark};
-ghost use Rattle.report_parts.specs.Marks.{mark_word};
 ghost use Rattle.confirmed_races.specs.Heaps.{HasAll, Heap, ran_in, state_in};
 ghost use Rattle.confirmed_races.specs.Headline.{AreConfirmed};
 ghost use Rattle.confirmed_races.specs.Races.{RacesOn};
-ghost use Rattle.confirmed_races.specs.Shown.{DoWholeWarningsRace, ShowsRace};
+ghost use Rattle.confirmed_races.specs.Warned.{pair_of, warning_mark};
 
 /// Steps from a state in which all start paths are objects go the same way, the heap aside, in each heap that has what
 /// they read: they come to the same state with the same turns left, or break before the same step for the same reason.
@@ -46,6 +45,15 @@ pub fn run_from_the_objects_read()
         ≡ option_map (state_in (is_in (Only objects))) (run core legs (begun core m1 m2 All)) }
 {}
 
+/// A warning whose path is stable in both methods and whose two ways are whole is confirmed, with its legs and the
+/// objects that they read.
+pub fn whole_warnings_are_confirmed()
+    ensures { (core : Core) (w : Warning) (r : Access) → record_at core w.entry w.access ≡ Some r →
+        IsStable core w.entry w.partner r.path → IsWhole core (pair_of w) →
+        warning_mark core w ≡ Confirmed
+        (objects_of core (legs_of core (pair_of w)) (begun core w.entry w.partner All)) (legs_of core (pair_of w)) }
+{}
+
 /// Each warning of the list of warnings that is marked confirmed carries a start heap and a schedule after which the
 /// next steps of both threads touch one cell, that of the warning's path, and at least one of them writes it. In that
 /// run no step is held, and behind the first leg its thread holds no monitor.
@@ -60,17 +68,3 @@ pub fn confirmed_warnings_race()
 pub fn whole_warnings_race()
     ensures { (p : Program) → AreConfirmed (core p) }
 {}
-
-/// In the report on a program each warning whose path is stable in both methods and whose two ways are whole has lines
-/// that are a run: these objects at the start, and these legs after which the next steps of both threads touch one
-/// cell, at least one of them writing it. And wherever a warning's lines say that it is confirmed, the objects and legs
-/// below are such a run.
-pub fn reports_show_races()
-    ensures whole { (p : Program) → DoWholeWarningsRace (core p) }
-    ensures printed { (p : Program) (w : Warning) (r : Access) → Contains (warnings (core p)) w →
-        record_at (core p) w.entry w.access ≡ Some r →
-        mark_word (warning_mark (core p) w) ≡ codes "confirmed" → ShowsRace (core p) w r.path }
-{
-    confirmed_warnings_race();
-    whole_warnings_race();
-}

@@ -1,8 +1,8 @@
-//! A confirmed warning races: the run of its witness ends before two steps that touch the cell of its path, at least one
-//! of which writes it; it is the same run where only the start paths are objects that its reads gave; and the lines below
-//! `mark confirmed` in a report are that run.
+//! A confirmed warning races: the run of its witness ends before two steps that touch the cell of its path, at least
+//! one of which writes it; and it is the same run where only the start paths are objects that its reads gave.
 //!
-//! `specs/Headline.antt` and `specs/Shown.antt` have the statements.
+//! The mark of a warning stands in `specs/Marks.antt` of `core_ways`, over the two entries of the warning and the
+//! numbers of their records; `specs/Warned.antt` says which these are. `specs/Headline.antt` has the statements.
 #![tactic(auto)]
 
 pub mod laws;

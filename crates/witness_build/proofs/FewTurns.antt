@@ -47,7 +47,7 @@ few-method core m =
     few-along (known_below (straight 0) (trip_given core) core (rank_of core m)) (parts_of core m)
     (few-below core (rank_of core m))
 
-few-way : (core : Core) (m : MethodId) (i : ℕ) → Few (way_of core m i)
+pub few-way : (core : Core) (m : MethodId) (i : ℕ) → Few (way_of core m i)
 few-way core m i = few-along (trip_of core) (way_parts core m i) (few-method core)
 
 -- a way that is taken is short enough for a leg

@@ -5,5 +5,5 @@ pub mod FewTurns
 pub mod SaidOfWays
 pub mod FoundPrefixes
 pub mod WarningMarks
-pub mod WholeWarnings
+pub mod ReplayedRuns
 pub mod MarkTurns

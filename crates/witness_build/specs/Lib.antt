@@ -1,4 +1,4 @@
 -- A contract of a public call rests on this: the list of files.
-pub mod Warned
+pub mod Replayed
 pub mod Found
 pub mod RunLegs

@@ -1,7 +1,7 @@
 //! The marks of warnings: what is known of each, with a run that ends in a race where it is confirmed.
 //!
-//! The definition stands in `specs/Marks.antt` of `core_ways`, over the two entries of a warning and the numbers of
-//! their records; `specs/Warned.antt` says which these are.
+//! `mark` gives the mark that `specs/Warned.antt` of `confirmed_races` defines. `specs/Replayed.antt` says what a
+//! confirmed one has more, so that the file of its witness can be replayed.
 #![tactic(auto)]
 
 pub mod laws;

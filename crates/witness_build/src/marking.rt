@@ -1,5 +1,6 @@
 //! The mark of a warning.
 ghost use Rattle.std.specs.Prelude.{◌≡◌, ◌+◌, ◌<◌, ◌∷◌, [], IfOk, option_map, unwrap_or};
+ghost use Rattle.std.specs.List.{Contains};
 ghost use Rattle.core_code.specs.Program.{core};
 ghost use Rattle.access_domain.specs.Outcomes.{AreOutcomes};
 ghost use Rattle.core_semantics.specs.declared.object.Start.TheVariants.{All};
@@ -10,7 +11,9 @@ ghost use Rattle.core_ways.specs.Ways.{Trip, way_of};
 ghost use Rattle.core_ways.specs.Both.{AreBoth, AreShort, IsShort, said_of};
 ghost use Rattle.core_ways.specs.Ends.{nowhere};
 ghost use Rattle.witness_build.specs.RunLegs.{IsSaid};
-ghost use Rattle.witness_build.specs.Warned.{pair_of, warning_mark};
+ghost use Rattle.race_pairs.specs.Warnings.{warnings};
+ghost use Rattle.confirmed_races.specs.Warned.{pair_of, warning_mark};
+ghost use Rattle.witness_build.specs.Replayed.{AreRight, DoRace, IfConfirmed};
 
 use crate::prefixes::unstable_prefix;
 use access_domain::Outcomes;
@@ -180,7 +183,11 @@ pub fn mark(
     warning: &Warning,
 ) -> Result<Mark, Memory>
     requires { AreOutcomes (core program.now) outcomes.now.items }
-    ensures { IfOk result (λ mark. said_by mark ≡ warning_mark (core program.now) warning.now) }
+    ensures mark { IfOk result (λ mark. said_by mark ≡ warning_mark (core program.now) warning.now) }
+    ensures objects { Contains (warnings (core program.now)) warning.now → IfOk result (λ mark.
+        IfConfirmed (λ objects legs. AreRight (core program.now) warning.now objects) (said_by mark)) }
+    ensures race { Contains (warnings (core program.now)) warning.now → IfOk result (λ mark.
+        IfConfirmed (DoRace (core program.now) warning.now) (said_by mark)) }
 {
     let Some(record) = record_of(outcomes, warning.entry, warning.access) else {
         return Ok(Mark::Unnamed);

@@ -3,7 +3,7 @@ ghost use Rattle.std.specs.Prelude.{◌≡◌, IfOk, map};
 ghost use Rattle.core_code.specs.Program.{core};
 ghost use Rattle.access_domain.specs.Outcomes.{AreOutcomes};
 ghost use Rattle.core_ways.specs.Marks.{said_by};
-ghost use Rattle.witness_build.specs.Warned.{warning_mark};
+ghost use Rattle.confirmed_races.specs.Warned.{warning_mark};
 
 use crate::mark;
 use access_domain::Outcomes;

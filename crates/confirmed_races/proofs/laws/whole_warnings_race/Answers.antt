@@ -1,4 +1,4 @@
-use Rattle.witness_build.proofs.WholeWarnings.{whole_confirmed}
+use Rattle.confirmed_races.proofs.WholeWarnings.{whole_confirmed}
 use Rattle.confirmed_races.proofs.ConfirmedWarnings.{confirmed-warnings-race}
 use Rattle.confirmed_races.proofs.laws.whole_warnings_race.Goals as goal
 

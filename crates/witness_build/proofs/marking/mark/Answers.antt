@@ -3,20 +3,21 @@ use Rattle.std.specs.Option.{option_copied}
 use Rattle.access_domain.specs.Outcomes.{outcomes_held}
 use Rattle.core_code.specs.Program.{core}
 use Rattle.core_ways.specs.Marks.{mark_by_calls}
-use Rattle.witness_build.specs.Warned.{pair_of, warning_mark}
+use Rattle.confirmed_races.specs.Warned.{pair_of, warning_mark}
+use Rattle.witness_build.proofs.ReplayedRuns.{marked-race, marked-right}
 use Rattle.witness_build.proofs.WarningMarks.{found-record, locked-record, mark-none, mark-stable, mark-unnamed}
 use Rattle.witness_build.proofs.WarningMarks.{mark-unstable, said-then}
 use Rattle.witness_build.proofs.marking.mark.Goals as goal
 
-pub returns-in_default : goal.returns-in_default
-returns-in_default c =
+pub returns-in_default-clause-mark : goal.returns-in_default-clause-mark
+returns-in_default-clause-mark c =
     let program = core c.args.program.now in
     let w = c.args.warning.now in
     mark-none program w (found-record program (outcomes_held c.args.outcomes.now.items) w (option_copied c.record_of.result)
     _ c.requires c.record_of.ensures (ap option_copied c.in_default.is))
 
-pub returns-then-is_some : goal.returns-then-is_some
-returns-then-is_some c =
+pub returns-then-is_some-clause-mark : goal.returns-then-is_some-clause-mark
+returns-then-is_some-clause-mark c =
     let program = core c.args.program.now in
     let w = c.args.warning.now in
     let r = c.in-Some.record.now in
@@ -25,8 +26,8 @@ returns-then-is_some c =
     c.record_of.ensures (ap option_copied c.in-Some.is))
     (sym c.is_some.ensures ∙ c.if-is_some.true)
 
-pub returns-in-Some-prefix : goal.returns-in-Some-prefix
-returns-in-Some-prefix c =
+pub returns-in-Some-prefix-clause-mark : goal.returns-in-Some-prefix-clause-mark
+returns-in-Some-prefix-clause-mark c =
     let program = core c.args.program.now in
     let w = c.args.warning.now in
     let r = c.in-Some.record.now in
@@ -44,8 +45,8 @@ mark_by_ways-requires-clause-locked c =
     (found-record program (outcomes_held c.args.outcomes.now.items) w (option_copied c.record_of.result) _ c.requires
     c.record_of.ensures (ap option_copied c.in-Some.is))
 
-pub returns : goal.returns
-returns c =
+pub returns-clause-mark : goal.returns-clause-mark
+returns-clause-mark c =
     let program = core c.args.program.now in
     let w = c.args.warning.now in
     let r = c.in-Some.record.now in
@@ -55,3 +56,10 @@ returns c =
     c.record_of.ensures (ap option_copied c.in-Some.is))
     (sym c.is_some.ensures ∙ c.if-is_some.false) (sym c.in_ok-prefix.ensures ∙ c.in_default-prefix.is))
     c.mark_by_ways.ensures
+
+pub returns-clause-objects : goal.returns-clause-objects
+returns-clause-objects c =
+    marked-right c.args.program.now c.args.warning.now c.mark_by_ways.result (returns-clause-mark c)
+
+pub returns-clause-race : goal.returns-clause-race
+returns-clause-race c = marked-race c.args.program.now c.args.warning.now c.mark_by_ways.result (returns-clause-mark c)

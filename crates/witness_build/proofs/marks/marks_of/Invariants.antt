@@ -1,7 +1,7 @@
 use Rattle.std.proofs.Common.{◌≡◌, ◌++◌, drop, map}
 use Rattle.core_code.specs.Program.{core}
 use Rattle.core_ways.specs.Marks.{said_by}
-use Rattle.witness_build.specs.Warned.{warning_mark}
+use Rattle.confirmed_races.specs.Warned.{warning_mark}
 use Rattle.witness_build.proofs.marks.marks_of.Given as goal
 
 -- the marks so far, and those of the warnings that are left

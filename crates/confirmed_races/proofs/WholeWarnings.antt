@@ -20,7 +20,7 @@ use Rattle.core_ways.specs.Stable.{IsStable, is_lasting_root}
 use Rattle.core_ways.specs.Ways.{Trip, way_of, record_at}
 use Rattle.core_ways.specs.Marks.{Pair, IsWhole, Confirmed, is_locked, legs_of, ways_in_order, objects_of, mark_of}
 use Rattle.core_ways.specs.Marks.{mark_by_calls, mark_by_length, mark_by_run, first_unread, first_long, first_halt}
-use Rattle.witness_build.specs.Warned.{pair_of, warning_mark}
+use Rattle.confirmed_races.specs.Warned.{pair_of, warning_mark}
 
 not_some : (r : Root) → is_lasting_root r ≡ true → is_some_root r ≡ false
 not_some This e = refl
