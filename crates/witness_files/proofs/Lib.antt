@@ -1,0 +1,5 @@
+pub mod TwoItems
+pub mod ReadBack
+pub mod Floatless
+pub mod WholeFile
+pub mod Digits
