@@ -7,7 +7,7 @@ use Rattle.core_code.specs.Core.{Core}
 use Rattle.race_pairs.specs.declared.warning.Warning.{Warning}
 use Rattle.core_ways.specs.declared.mark.Mark.{Mark}
 use Rattle.core_ways.specs.Marks.{Said, said_by}
-use Rattle.witness_build.specs.Warned.{warning_mark}
+use Rattle.confirmed_races.specs.Warned.{warning_mark}
 use Rattle.report_parts.specs.Report.{is_confirmed}
 
 count_mapped : {X Y : Type 0} (f : X → Y) (p : Y → Bool) (xs : List X) →

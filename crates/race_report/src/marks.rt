@@ -2,7 +2,7 @@
 ghost use Rattle.std.specs.Prelude.{◌≡◌, count_by, map};
 ghost use Rattle.core_code.specs.Program.{core};
 ghost use Rattle.core_ways.specs.Marks.{said_by};
-ghost use Rattle.witness_build.specs.Warned.{warning_mark};
+ghost use Rattle.confirmed_races.specs.Warned.{warning_mark};
 ghost use Rattle.report_parts.specs.Written.{Lasts, Puts};
 ghost use Rattle.report_parts.specs.Report as said;
 

@@ -5,7 +5,7 @@ ghost use Rattle.core_code.specs.Program.{core};
 ghost use Rattle.access_domain.specs.Outcomes.{AreOutcomes};
 ghost use Rattle.race_pairs.specs.Warnings as pairs;
 ghost use Rattle.core_ways.specs.Marks.{said_by};
-ghost use Rattle.witness_build.specs.Warned.{warning_mark};
+ghost use Rattle.confirmed_races.specs.Warned.{warning_mark};
 ghost use Rattle.report_parts.specs.Written.{Lasts, Puts};
 ghost use Rattle.report_parts.specs.Json.{report_value};
 ghost use Rattle.race_report.specs.Modes as said;

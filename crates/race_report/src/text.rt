@@ -8,7 +8,7 @@ ghost use Rattle.report_parts.specs.Sites.{AreSites};
 ghost use Rattle.report_parts.specs.Told as told;
 ghost use Rattle.report_parts.specs.Written.{Lasts, Puts};
 ghost use Rattle.core_ways.specs.Marks.{said_by};
-ghost use Rattle.witness_build.specs.Warned.{warning_mark};
+ghost use Rattle.confirmed_races.specs.Warned.{warning_mark};
 ghost use Rattle.report_parts.specs.Report as said;
 
 use access_domain::Outcome;

@@ -1,5 +1,5 @@
 -- The objects of a report as items of an array.
-use Rattle.std.proofs.Common.{◌≡◌, ℕ, Bool, true, List, [], ◌++◌, Option, None, Some, IfSome, codes, option_map}
+use Rattle.std.proofs.Common.{◌≡◌, ℕ, Bool, true, List, [], ◌∷◌, ◌++◌, Option, None, Some, IfSome, codes, option_map}
 use Rattle.std.proofs.Common.{map, sym, ap, ◌∙◌, append_assoc, string_bytes}
 use Rattle.serde_json.specs.Data.{Data, string, boolean, object, put, no_members}
 use Rattle.serde_json.specs.View.{items_of}
@@ -18,6 +18,7 @@ use Rattle.report_parts.specs.Json.{texts, reason_values, found_values, side_mem
 use Rattle.report_parts.specs.Json.{count, place_value}
 use Rattle.report_parts.specs.Pieces.{PutsItems, reason_object, summary_object, detail_text, side_first, side_last}
 use Rattle.report_parts.specs.Pieces.{warning_object}
+use Rattle.report_parts.proofs.WitnessPieces.{witness_told}
 
 -- these items are one, whose text is this
 abbrev pub IsItem : List Data → List ℕ → Type 0
@@ -142,33 +143,39 @@ unfolding serde_json_on_literals
 blocked_pieces p n w = simp append_assoc
 
 -- the object of a mark
-abbrev mark_object : Core → Said → List ℕ
-mark_object core said =
-    codes "{" ++ detail_text core said ++ (codes "\"word\":" ++ compact_text (string (mark_word said))) ++ codes "}"
+abbrev mark_object : Core → Sides → Said → List ℕ
+mark_object core sides said =
+    codes "{" ++ detail_text core sides said ++ (codes "\"word\":" ++ compact_text (string (mark_word said)))
+    ++ codes "}"
 
-mark_told : (core : Core) (said : Said) → compact_text (mark_value core said) ≡ mark_object core said
-mark_told core Unnamed = word_pieces (string (mark_word Unnamed))
-mark_told core (Unstable before) =
+mark_told : (core : Core) (sides : Sides) (said : Said) →
+    compact_text (mark_value core sides said) ≡ mark_object core sides said
+mark_told core sides Unnamed = word_pieces (string (mark_word Unnamed))
+mark_told core sides (Unstable before) =
     let word : Data = string (mark_word (Unstable before)) in
     path_pieces (string (path_text core before)) word
     ∙ word_after (codes "{") (codes "\"path\":") (compact_text (string (path_text core before))) (codes ",")
     (codes "\"word\":") (compact_text word) (codes "}")
-mark_told core (Unread at) =
+mark_told core sides (Unread at) =
     let word : Data = string (mark_word (Unread at)) in
     place_pieces (place_value core at) word
     ∙ word_after (codes "{") (codes "\"place\":") (compact_text (place_value core at)) (codes ",")
     (codes "\"word\":") (compact_text word) (codes "}")
-mark_told core (Long steps) =
+mark_told core sides (Long steps) =
     let word : Data = string (mark_word (Long steps)) in
     steps_pieces (count steps) word
     ∙ word_after (codes "{") (codes "\"steps\":") (compact_text (count steps)) (codes ",")
     (codes "\"word\":") (compact_text word) (codes "}")
-mark_told core (Blocked thread at) =
+mark_told core sides (Blocked thread at) =
     let word : Data = string (mark_word (Blocked thread at)) in
     blocked_pieces (place_value core at) (count thread) word
     ∙ word_after_two (codes "{") (codes "\"place\":") (compact_text (place_value core at)) (codes ",")
     (codes "\"thread\":") (compact_text (count thread)) (codes "\"word\":") (compact_text word) (codes "}")
-mark_told core (Confirmed objects legs) = word_pieces (string (mark_word (Confirmed objects legs)))
+mark_told core sides (Confirmed objects []) = word_pieces (string (codes "confirmed"))
+mark_told core sides (Confirmed objects (leg ∷ [])) = word_pieces (string (codes "confirmed"))
+mark_told core sides (Confirmed objects (first ∷ second ∷ [])) =
+    witness_told core sides objects first second (string (codes "confirmed"))
+mark_told core sides (Confirmed objects (first ∷ second ∷ third ∷ legs)) = word_pieces (string (codes "confirmed"))
 
 partner_pieces : (a k l n m p : Data) →
     compact_text (object (put (codes "at") a (put (codes "kind") k (put (codes "locked") l (put (codes "main") n
@@ -212,7 +219,7 @@ warning_grouped : (first last detail word first_b last_b : List ℕ) →
 warning_grouped first last detail word first_b last_b = simp append_assoc
 
 warning_told : (core : Core) (mark : Said) (sides : Sides) →
-    compact_text (object (side_members core sides.first (put (codes "mark") (mark_value core mark)
+    compact_text (object (side_members core sides.first (put (codes "mark") (mark_value core sides mark)
     (put (codes "with") (object (side_members core sides.partner no_members)) no_members)))) ≡
     warning_object core mark sides
 warning_told core mark sides =
@@ -224,16 +231,16 @@ warning_told core mark sides =
     let method : Data = string (method_text core side.method) in
     let path : Data = string (path_text core side.access.path) in
     let partner : Data = object (side_members core sides.partner no_members) in
-    warning_pieces at kind locked main method path (mark_value core mark) partner
+    warning_pieces at kind locked main method path (mark_value core sides mark) partner
     ∙ sides_around (codes "{\"at\":") (compact_text at) (codes ",\"kind\":") (compact_text kind)
     (codes ",\"locked\":") (compact_text locked) (codes ",\"main\":") (compact_text main) (codes ",\"mark\":")
-    (compact_text (mark_value core mark)) (codes ",\"method\":") (compact_text method) (codes ",\"path\":")
+    (compact_text (mark_value core sides mark)) (codes ",\"method\":") (compact_text method) (codes ",\"path\":")
     (compact_text path) (codes ",\"with\":") (compact_text partner) (codes "}")
     ∙ ap (λ t. side_first core side ++ codes ",\"mark\":" ++ t ++ side_last core side ++ codes ",\"with\":"
-    ++ compact_text (object (side_members core sides.partner no_members)) ++ codes "}") (mark_told core mark)
-    ∙ ap (λ t. side_first core side ++ codes ",\"mark\":" ++ mark_object core mark ++ side_last core side
+    ++ compact_text (object (side_members core sides.partner no_members)) ++ codes "}") (mark_told core sides mark)
+    ∙ ap (λ t. side_first core side ++ codes ",\"mark\":" ++ mark_object core sides mark ++ side_last core side
     ++ codes ",\"with\":" ++ t ++ codes "}") (partner_told core sides.partner)
-    ∙ warning_grouped (side_first core side) (side_last core side) (detail_text core mark)
+    ∙ warning_grouped (side_first core side) (side_last core side) (detail_text core sides mark)
     (codes "\"word\":" ++ compact_text (string (mark_word mark))) (side_first core sides.partner)
     (side_last core sides.partner)
 

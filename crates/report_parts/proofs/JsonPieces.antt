@@ -19,7 +19,7 @@ use Rattle.report_parts.specs.Json.{place_value, warning_values, summary_values}
 use Rattle.report_parts.specs.Pieces.{PutsMembers, counts_text, first_text, last_text, not_analysed_text, places_strings}
 use Rattle.report_parts.specs.Pieces.{summaries_text}
 
-one : decimal 1 ≡ codes "1"
+pub one : decimal 1 ≡ codes "1"
 one = decimal_digit 1 (lit< tt)
 
 -- an array of places

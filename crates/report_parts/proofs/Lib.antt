@@ -14,3 +14,4 @@ pub mod SideParts
 pub mod PutTurns
 pub mod RunLines
 pub mod SummaryTold
+pub mod WitnessPieces

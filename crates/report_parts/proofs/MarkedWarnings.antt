@@ -7,7 +7,7 @@ use Rattle.core_code.specs.Core.{Core}
 use Rattle.race_pairs.specs.declared.warning.Warning.{Warning}
 use Rattle.core_ways.specs.declared.mark.Mark.{Mark}
 use Rattle.core_ways.specs.Marks.{Said, said_by}
-use Rattle.witness_build.specs.Warned.{warning_mark}
+use Rattle.confirmed_races.specs.Warned.{warning_mark}
 
 -- there are as many marks as warnings
 pub as_long : (core : Core) (found : List Warning) (marks : List Mark) →

@@ -40,3 +40,7 @@ seven a b c d e f g s t u v w x y z put_a last_b put_b last_c put_c last_d put_d
 -- a piece that is another one
 pub same_piece : (a b : List ℕ) (old new : Written) → Puts a old new → a ≡ b → Puts b old new
 same_piece a b old new put same = λ h. put h ∙ ap (λ t. string_bytes old.so_far ++ t) same
+
+-- what stands before the pieces of an object
+pub behind : (before a b c : List ℕ) → before ++ a ++ b ++ c ≡ before ++ (a ++ b ++ c)
+behind before a b c = simp append_assoc

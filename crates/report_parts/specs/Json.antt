@@ -9,11 +9,13 @@ use Rattle.core_code.specs.Core.{Core, Method}
 use Rattle.access_domain.specs.Findings.{Findings}
 use Rattle.race_pairs.specs.declared.warning.Warning.{Warning}
 use Rattle.race_pairs.specs.Warnings.{warnings}
-use Rattle.core_ways.specs.Marks.{Said, Unstable, Unread, Long, Blocked}
-use Rattle.witness_build.specs.Warned.{warning_mark}
+use Rattle.core_ways.specs.Marks.{Said, Unstable, Unread, Long, Blocked, Confirmed}
+use Rattle.confirmed_races.specs.Warned.{warning_mark}
+use Rattle.witness_files.specs.Written.{data_of}
 use Rattle.report_parts.specs.Marks.{mark_word}
 use Rattle.report_parts.specs.Texts.{place_text, method_text, path_text, touch_text, value_text}
 use Rattle.report_parts.specs.Told.{reason_of, found_of, access_text, wobbly_texts, Side, Sides, sides_of}
+use Rattle.report_parts.specs.WitnessFiles.{file_of_run}
 
 abbrev pub values : List Data → Data
 values all = array (items_of all)
@@ -62,18 +64,20 @@ side_members core side others =
     (put (codes "method") (string (method_text core side.method))
     (put (codes "path") (string (path_text core side.access.path)) others)))))
 
--- the members of a mark beside its word, and others
-abbrev pub detail_members : Core → Said → Members → Members
-detail_members core (Unstable before) others = put (codes "path") (string (path_text core before)) others
-detail_members core (Unread at) others = put (codes "place") (place_value core at) others
-detail_members core (Long steps) others = put (codes "steps") (count steps) others
-detail_members core (Blocked thread at) others =
+-- the members of the mark of a warning beside its word, and others; a run that confirms a warning has two legs
+abbrev pub detail_members : Core → Sides → Said → Members → Members
+detail_members core sides (Unstable before) others = put (codes "path") (string (path_text core before)) others
+detail_members core sides (Unread at) others = put (codes "place") (place_value core at) others
+detail_members core sides (Long steps) others = put (codes "steps") (count steps) others
+detail_members core sides (Blocked thread at) others =
     put (codes "place") (place_value core at) (put (codes "thread") (count thread) others)
-detail_members core _ others = others
+detail_members core sides (Confirmed objects (first ∷ second ∷ [])) others =
+    put (codes "witness") (data_of (file_of_run core sides objects first second)) others
+detail_members core sides _ others = others
 
-abbrev pub mark_value : Core → Said → Data
-mark_value core said =
-    object (detail_members core said (put (codes "word") (string (mark_word said)) no_members))
+abbrev pub mark_value : Core → Sides → Said → Data
+mark_value core sides said =
+    object (detail_members core sides said (put (codes "word") (string (mark_word said)) no_members))
 
 -- the object of a warning with these records and this mark
 abbrev pub marked_values : Core → Said → Option Sides → List Data
@@ -81,7 +85,7 @@ marked_values core mark None = []
 marked_values core mark (Some sides) =
     object
     (side_members core sides.first
-    (put (codes "mark") (mark_value core mark)
+    (put (codes "mark") (mark_value core sides mark)
     (put (codes "with") (object (side_members core sides.partner no_members)) no_members))) ∷ []
 
 abbrev pub warning_values : Core → Warning → List Data

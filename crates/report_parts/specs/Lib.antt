@@ -8,5 +8,6 @@ pub mod Told
 pub mod Sites
 pub mod Sides
 pub mod Marks
+pub mod WitnessFiles
 pub mod Written
 pub mod Report

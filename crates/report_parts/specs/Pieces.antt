@@ -1,21 +1,26 @@
 -- No public contract rests on this: the pieces of the text of a report's object, as they are put behind one another.
-use Rattle.std.specs.Prelude.{◌≡◌, ℕ, Bool, true, false, List, [], ◌++◌, codes, length, map, string_bytes}
+use Rattle.std.specs.Prelude.{◌≡◌, ℕ, Bool, true, false, List, [], ◌∷◌, ◌++◌, codes, length, map, string_bytes}
 use Rattle.std.specs.List.{flat_map, enumerate_from}
 use Rattle.std.specs.Fmt.{decimal}
 use Rattle.serde_json.specs.Data.{Data, Members, string, boolean}
 use Rattle.serde_json.specs.View.{items_of}
 use Rattle.serde_json.specs.Written.{compact_text, items_text, members_text}
+use Rattle.racer_base.specs.declared.ids.ClassId.{ClassId}
 use Rattle.racer_base.specs.declared.ids.Place.{Place}
 use Rattle.access_paths.specs.declared.path.Path.{Path}
+use Rattle.access_paths.specs.Text.{name_at}
 use Rattle.owner_domain.specs.declared.value.Value.{Value}
 use Rattle.core_code.specs.Core.{Core, Method}
 use Rattle.access_domain.specs.declared.access.Access.{Access}
 use Rattle.race_pairs.specs.declared.warning.Warning.{Warning}
-use Rattle.core_ways.specs.Marks.{Said, Unnamed, Unstable, Unread, Long, Blocked, Confirmed}
+use Rattle.core_semantics.specs.declared.object.StartPath.{StartPath}
+use Rattle.core_semantics.specs.Legs.{Leg}
+use Rattle.core_ways.specs.Marks.{Said, Unstable, Unread, Long, Blocked, Confirmed}
 use Rattle.report_parts.specs.declared.written.Written.{Written}
-use Rattle.report_parts.specs.Marks.{mark_word}
-use Rattle.report_parts.specs.Texts.{place_text, method_text, path_text, touch_text, value_text}
+use Rattle.report_parts.specs.Marks.{mark_word, start_text, turn_text}
+use Rattle.report_parts.specs.Texts.{class_names, place_text, method_text, path_text, touch_text, value_text}
 use Rattle.report_parts.specs.Told.{access_text, Side, Sides}
+use Rattle.report_parts.specs.WitnessFiles.{entry_text}
 use Rattle.report_parts.specs.Json.{values, not_analysed_values, summary_values, place_value, warning_values}
 
 -- Items of an array were put, where no piece was left out: `later` says whether one stands before them, and `behind`
@@ -49,6 +54,9 @@ records_strings core number records = strings (map (access_text core (record { 0
 
 abbrev pub method_string : Core → Method → List ℕ
 method_string core method = compact_text (string (method_text core method))
+
+abbrev pub class_string : Core → ClassId → List ℕ
+class_string core class = compact_text (string (name_at (class_names core) class.0))
 
 abbrev pub path_string : Core → Side → List ℕ
 path_string core side = compact_text (string (path_text core side.access.path))
@@ -93,19 +101,51 @@ place_member core place = codes "\"place\":" ++ compact_text (place_value core p
 abbrev pub number_member : List ℕ → ℕ → List ℕ
 number_member name number = name ++ decimal number ++ codes ","
 
--- the members of a mark before its word
-abbrev pub detail_text : Core → Said → List ℕ
-detail_text core Unnamed = []
-detail_text core (Unstable before) = path_member core before
-detail_text core (Unread at) = place_member core at
-detail_text core (Long steps) = number_member (codes "\"steps\":") steps
-detail_text core (Blocked thread at) = place_member core at ++ number_member (codes "\"thread\":") thread
-detail_text core (Confirmed objects legs) = []
+abbrev pub entry_string : Method → List ℕ
+entry_string method = compact_text (string (entry_text method))
+
+abbrev pub leg_numbers : Leg → List ℕ
+leg_numbers leg = codes "{\"steps\":" ++ decimal leg.steps ++ codes ",\"thread\":" ++ decimal leg.thread
+
+-- the object of a leg
+abbrev pub leg_object : Leg → List ℕ
+leg_object leg =
+    leg_numbers leg ++ (codes ",\"turns\":" ++ compact_text (string (flat_map turn_text leg.turns))) ++ codes "}"
+
+abbrev pub starts_strings : Core → List StartPath → List ℕ
+starts_strings core objects = strings (map (start_text core) objects)
+
+-- the entries of a run
+abbrev pub entries_member : Method → Method → List ℕ
+entries_member first second =
+    (codes ",\"entries\":[" ++ entry_string first) ++ (codes "," ++ entry_string second) ++ codes "]"
+
+-- the legs of a run
+abbrev pub legs_member : Leg → Leg → List ℕ
+legs_member first second =
+    (codes ",\"legs\":[" ++ leg_object first) ++ (codes "," ++ leg_object second) ++ codes "]"
+
+-- the file of a run
+abbrev pub witness_member : Core → Sides → List StartPath → Leg → Leg → List ℕ
+witness_member core sides objects first second =
+    (codes "\"witness\":{\"class\":" ++ class_string core sides.first.method.class)
+    ++ entries_member sides.first.method sides.partner.method ++ legs_member first second
+    ++ (codes ",\"objects\":" ++ starts_strings core objects) ++ codes ",\"version\":1},"
+
+-- the members of the mark of a warning before its word
+abbrev pub detail_text : Core → Sides → Said → List ℕ
+detail_text core sides (Unstable before) = path_member core before
+detail_text core sides (Unread at) = place_member core at
+detail_text core sides (Long steps) = number_member (codes "\"steps\":") steps
+detail_text core sides (Blocked thread at) =
+    place_member core at ++ number_member (codes "\"thread\":") thread
+detail_text core sides (Confirmed objects (first ∷ second ∷ [])) = witness_member core sides objects first second
+detail_text core sides _ = []
 
 -- the mark of a warning, behind other members
-abbrev pub mark_member : Core → Said → List ℕ
-mark_member core said =
-    codes ",\"mark\":{" ++ detail_text core said
+abbrev pub mark_member : Core → Sides → Said → List ℕ
+mark_member core sides said =
+    codes ",\"mark\":{" ++ detail_text core sides said
     ++ (codes "\"word\":" ++ compact_text (string (mark_word said))) ++ codes "}"
 
 -- the partner of a warning, and the end of its object
@@ -115,7 +155,7 @@ partner_member core side = codes ",\"with\":" ++ side_first core side ++ side_la
 -- the object of a warning
 abbrev pub warning_object : Core → Said → Sides → List ℕ
 warning_object core mark sides =
-    side_first core sides.first ++ mark_member core mark ++ side_last core sides.first
+    side_first core sides.first ++ mark_member core sides mark ++ side_last core sides.first
     ++ partner_member core sides.partner
 
 abbrev pub counts_text : Core → List ℕ

@@ -14,7 +14,7 @@ use Rattle.race_pairs.specs.Warnings.{warnings}
 use Rattle.core_semantics.specs.declared.object.StartPath.{StartPath}
 use Rattle.core_semantics.specs.Legs.{Leg}
 use Rattle.core_ways.specs.Marks.{Said, Confirmed}
-use Rattle.witness_build.specs.Warned.{warning_mark}
+use Rattle.confirmed_races.specs.Warned.{warning_mark}
 use Rattle.report_parts.specs.Marks.{mark_text, start_text, leg_text}
 use Rattle.report_parts.specs.Texts.{place_text, method_text, record_text, value_text}
 use Rattle.report_parts.specs.Told.{reason_of, found_of, access_text, wobbly_texts, Side, Sides, sides_of}

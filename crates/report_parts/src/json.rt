@@ -7,7 +7,7 @@ ghost use Rattle.core_code.specs.Program.{core};
 ghost use Rattle.access_domain.specs.Findings.{summary_from};
 ghost use Rattle.access_domain.specs.Outcomes.{AreOutcomes};
 ghost use Rattle.core_ways.specs.Marks.{said_by};
-ghost use Rattle.witness_build.specs.Warned.{warning_mark};
+ghost use Rattle.confirmed_races.specs.Warned.{warning_mark};
 ghost use Rattle.report_parts.specs.Sides.{sides_told};
 ghost use Rattle.report_parts.specs.Sites.{AreSites};
 ghost use Rattle.report_parts.specs.Told as told;

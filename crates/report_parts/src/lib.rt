@@ -8,6 +8,7 @@
 //! - `specs/Places.antt`: the places of a record, from its site down to its access.
 //! - `specs/Told.antt`: why a method has no summary, what a summary tells, the two records of a warning.
 //! - `specs/Marks.antt`: the texts of a mark, of a start path and of the leg of a run.
+//! - `specs/WitnessFiles.antt`: the witness file of a run.
 //! - `specs/Sites.antt`: the same as the code holds it.
 //! - `specs/Written.antt`: what a function puts behind a text.
 //! - `specs/Report.antt`: the lines of the report.
@@ -28,6 +29,7 @@ mod summary_lines;
 mod tables;
 mod texts;
 mod values;
+mod witness;
 mod wobbly;
 mod written;
 

@@ -1,6 +1,7 @@
 //! The texts of the mark of a warning, put behind a text.
 ghost use Rattle.std.specs.Prelude.{◌≡◌, ◌++◌, codes};
 ghost use Rattle.std.specs.Fmt.{decimal};
+ghost use Rattle.std.specs.List.{flat_map};
 ghost use Rattle.core_code.specs.Program.{core};
 ghost use Rattle.core_ways.specs.Marks.{leg_of, said_by};
 ghost use Rattle.report_parts.specs.Marks as said;
@@ -115,6 +116,16 @@ fn turn_text(turn: Turn) -> &'static str
     }
 }
 
+/// Puts `L` and `R` behind a text.
+pub(crate) fn push_letters(text: &mut Written, turns: &[Turn])
+    ensures lasts { Lasts text.old text.new }
+    ensures puts { Puts (flat_map said.turn_text turns.now) text.old text.new }
+{
+    for turn in turns {
+        push_text(text, turn_text(*turn))
+    }
+}
+
 /// Puts `L` and `R`, or `-` for no turn, behind a text.
 fn push_turns(text: &mut Written, turns: &[Turn])
     ensures lasts { Lasts text.old text.new }
@@ -122,9 +133,8 @@ fn push_turns(text: &mut Written, turns: &[Turn])
 {
     if turns.is_empty() {
         push_text(text, "-")
-    }
-    for turn in turns {
-        push_text(text, turn_text(*turn))
+    } else {
+        push_letters(text, turns)
     }
 }
 

@@ -10,6 +10,7 @@ ghost use Rattle.report_parts.specs.Told as told;
 ghost use Rattle.report_parts.specs.Written.{Lasts, Puts};
 ghost use Rattle.report_parts.specs.Pieces as pieces;
 
+use crate::texts::class_name;
 use crate::{
     Site, Written, place_at, push_access, push_method, push_path, push_place, push_text, push_value,
 };
@@ -17,12 +18,12 @@ use access_domain::Access;
 use access_paths::Path;
 use core_code::{MethodCore, Program};
 use owner_domain::Value as Returned;
-use racer_base::{Memory, Place};
+use racer_base::{ClassId, Memory, Place};
 use serde_json::Value;
 use std::alloc::Global;
 
 /// A comma, where a value stands before.
-fn comma(later: bool) -> &'static str
+pub(crate) fn comma(later: bool) -> &'static str
     ensures { result.now ≡ comma_if later }
 {
     if later { "," } else { "" }
@@ -71,7 +72,7 @@ pub(crate) fn push_string(text: &mut Written, before: &str, piece: &str)
 }
 
 /// A text that was written.
-fn push_written(text: &mut Written, before: &str, inner: &Written)
+pub(crate) fn push_written(text: &mut Written, before: &str, inner: &Written)
     ensures inner { text.new.is_cut ≡ false → inner.now.is_cut ≡ false }
     ensures lasts { Lasts text.old text.new }
     ensures puts { Puts (before.now ++ compact_text (string (string_bytes inner.now.so_far))) text.old text.new }
@@ -108,6 +109,14 @@ pub(crate) fn push_method_string(
     let mut inner = Written::new(text.alloc);
     push_method(&mut inner, program, method);
     push_written(text, before, &inner)
+}
+
+/// The name of a class.
+pub(crate) fn push_class_string(text: &mut Written, before: &str, program: &Program, class: ClassId)
+    ensures lasts { Lasts text.old text.new }
+    ensures puts { Puts (before.now ++ pieces.class_string (core program.now) class) text.old text.new }
+{
+    push_string(text, before, class_name(program, class))
 }
 
 pub(crate) fn push_path_string(text: &mut Written, before: &str, program: &Program, path: &Path)

@@ -12,6 +12,7 @@ use crate::strings::{
     push_access_strings, push_flag, push_method_string, push_path_string, push_place_string,
     push_place_strings, push_result_string, push_string, push_strings,
 };
+use crate::witness::push_witness_member;
 use crate::{Side, Sides, Site, Written, mark_word, push_number, push_text, touch_text};
 use access_domain::Summary;
 use access_paths::Path;
@@ -108,12 +109,14 @@ fn push_mark_number(text: &mut Written, name: &str, number: u32)
 }
 
 /// The members of a mark before its word.
-fn push_detail(text: &mut Written, program: &Program, mark: &Mark)
+fn push_detail(text: &mut Written, program: &Program, sides: &Sides<'_>, mark: &Mark)
     ensures lasts { Lasts text.old text.new }
-    ensures puts { Puts (pieces.detail_text (core program.now) (said_by mark.now)) text.old text.new }
+    ensures puts { Puts (pieces.detail_text (core program.now) (sides_told sides.now) (said_by mark.now))
+        text.old text.new }
 {
     match mark {
-        Mark::Unnamed | Mark::Confirmed(_) => {}
+        Mark::Unnamed => {}
+        Mark::Confirmed(witness) => push_witness_member(text, program, sides, witness),
         Mark::Unstable(before) => push_mark_path(text, program, before),
         Mark::Unread(at) => push_mark_place(text, program, *at),
         Mark::Long(steps) => push_mark_number(text, "\"steps\":", *steps),
@@ -125,12 +128,13 @@ fn push_detail(text: &mut Written, program: &Program, mark: &Mark)
 }
 
 /// The mark of a warning.
-fn push_mark(text: &mut Written, program: &Program, mark: &Mark)
+fn push_mark(text: &mut Written, program: &Program, sides: &Sides<'_>, mark: &Mark)
     ensures lasts { Lasts text.old text.new }
-    ensures puts { Puts (pieces.mark_member (core program.now) (said_by mark.now)) text.old text.new }
+    ensures puts { Puts (pieces.mark_member (core program.now) (sides_told sides.now) (said_by mark.now))
+        text.old text.new }
 {
     push_text(text, ",\"mark\":{");
-    push_detail(text, program, mark);
+    push_detail(text, program, sides, mark);
     push_string(text, "\"word\":", mark_word(mark));
     push_text(text, "}")
 }
@@ -153,7 +157,7 @@ pub(crate) fn push_marked(text: &mut Written, program: &Program, sides: &Sides<'
         text.old text.new }
 {
     push_side_first(text, program, &sides.first);
-    push_mark(text, program, mark);
+    push_mark(text, program, sides, mark);
     push_side_last(text, program, &sides.first);
     push_partner(text, program, &sides.partner)
 }

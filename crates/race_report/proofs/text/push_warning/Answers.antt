@@ -2,7 +2,7 @@ use Rattle.std.proofs.Common.{ap}
 use Rattle.core_code.specs.Program.{core}
 use Rattle.core_ways.specs.Marks.{said_by}
 use Rattle.report_parts.specs.Told.{sides_of}
-use Rattle.witness_build.specs.Warned.{warning_mark}
+use Rattle.confirmed_races.specs.Warned.{warning_mark}
 use Rattle.report_parts.specs.Report.{mark_lines, sides_lines}
 use Rattle.report_parts.proofs.PutChains.{two, same_piece}
 use Rattle.race_report.proofs.text.push_warning.Goals as goal

@@ -9,7 +9,7 @@ pub returns-clause-puts : goal.returns-clause-puts
 returns-clause-puts c =
     let program = core c.args.program.now in
     let sides = sides_told c.args.sides.now in
-    four (side_first program sides.first) (mark_member program (said_by c.args.mark.now))
+    four (side_first program sides.first) (mark_member program sides (said_by c.args.mark.now))
     (side_last program sides.first) (partner_member program sides.partner) c.args.text.now
     c.push_side_first.new.text c.push_mark.new.text c.push_side_last.new.text c.push_partner.new.text
     c.push_side_first.ensures.puts c.push_mark.ensures.lasts c.push_mark.ensures.puts c.push_side_last.ensures.lasts
