@@ -1,0 +1,20 @@
+//! The entries and the start paths that the texts of a witness file name.
+//!
+//! Roots and fields are found by indexes, which are made once for all texts of a file.
+//!
+//! # The definitions
+//!
+//! - `specs/Names.antt`: the entries, the roots and the fields that names are.
+//! - `specs/Objects.antt`: the start paths that texts are.
+//! - `specs/Indexes.antt`: what the indexes find, and how far a text leads.
+#![tactic(auto)]
+
+mod entries;
+mod fields;
+mod objects;
+mod reached;
+mod roots;
+mod walk;
+
+pub use entries::{Entry, class_name, entry_named, entry_text};
+pub use objects::{Named, objects_named};

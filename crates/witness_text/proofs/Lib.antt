@@ -1,0 +1,13 @@
+pub mod Assembled
+pub mod Differing
+pub mod EntriesFound
+pub mod EntryTexts
+pub mod FirstFound
+pub mod LegsRun
+pub mod NamedFields
+pub mod NamesInTexts
+pub mod Replayed
+pub mod ReportReplays
+pub mod RootsFound
+pub mod Warnings
+pub mod WithinLimits

@@ -1,0 +1,22 @@
+-- No public contract rests on this: a leg that is run, as far as it comes.
+use Rattle.std.specs.Prelude.{◌≡◌, ℕ, ◌+◌, [], ◌∷◌, Option, None, Some}
+use Rattle.core_semantics.specs.Legs.{Ran, Came, Broke}
+use Rattle.core_semantics.specs.State.{State}
+
+-- all steps were made and no turn is left, or after how many the leg stops
+pub data Replayed : Type 0 where
+  Through : (to : State) → Replayed
+  Stops : (steps : ℕ) → Replayed
+
+-- of a leg of so many steps, of which some were made before
+abbrev pub replayed : ℕ → ℕ → Ran → Replayed
+replayed made most (Came to []) = Through to
+replayed made most (Came to (turn ∷ turns)) = Stops most
+replayed made most (Broke halt at steps) = Stops (made + steps)
+
+-- what is told of it, and the state behind it
+abbrev pub IsReplayed : Replayed → Option ℕ → State → Type 0
+IsReplayed (Through to) None s = to ≡ s
+IsReplayed (Through to) (Some n) s = ⊥
+IsReplayed (Stops n) None s = ⊥
+IsReplayed (Stops n) (Some m) s = m ≡ n
