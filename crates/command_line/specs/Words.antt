@@ -2,9 +2,10 @@
 use Rattle.std.specs.Prelude.{ℕ, Bool, false, not, ◌&&◌, ◌||◌, ◌==◌, ◌+◌, ◌*◌, ◌-◌, List, [], ◌∷◌, Option}
 use Rattle.std.specs.Prelude.{None, Some, length, fold, codes, bytes_eq, nat_le, is_some, option_map, if◌then◌else◌}
 use Rattle.std.specs.Prelude.{option_and_then}
-use Rattle.std.specs.List.{list_all}
+use Rattle.std.specs.List.{list_all, list_any}
 use Rattle.racer_base.specs.declared.limits.TheConstants.{MAX_WORKERS}
-use Rattle.command_line.specs.Uses.{Word, Line, line}
+use Rattle.command_line.specs.Uses.{Word, Line, Label, Folder, Workers, Json, Summaries, History, labels, name_of, line}
+use Rattle.command_line.specs.Uses.{Replay as LabelReplay, Made as LabelMade}
 
 pub data Asked : Type 0 where
   Report : (folder : Word) → (workers : ℕ) → (json summaries history : Bool) → Asked
@@ -35,32 +36,68 @@ abbrev pub workers_of : Option Word → Option ℕ
 workers_of None = Some 4
 workers_of (Some word) = up_to MAX_WORKERS word
 
+-- ---- what may stand beside what
+
+-- a command line asks for a report, for the replay of a witness, or for a made folder
+pub data Form : Type 0 where
+  ForReport : Form
+  ForReplay : Form
+  ForMade : Form
+
+-- the table: what may stand on a command line of each form
+abbrev pub stands_on : Form → List Label
+stands_on ForReport = Folder ∷ Workers ∷ Json ∷ Summaries ∷ History ∷ []
+stands_on ForReplay = Folder ∷ LabelReplay ∷ []
+stands_on ForMade = LabelMade ∷ Workers ∷ []
+
+-- the form of a line, by the option that stands there for it
+abbrev pub form_of : Line → Form
+form_of line = if is_some line.made then ForMade else if is_some line.replay then ForReplay else ForReport
+
+abbrev pub is_given : Line → Label → Bool
+is_given line Folder = is_some line.folder
+is_given line Workers = is_some line.workers
+is_given line LabelReplay = is_some line.replay
+is_given line LabelMade = is_some line.made
+is_given line Json = line.json
+is_given line Summaries = line.summaries
+is_given line History = line.history
+
+abbrev pub may_stand : Form → Label → Bool
+may_stand form label = list_any (λ l. bytes_eq (name_of l) (name_of label)) (stands_on form)
+
+-- all that stands on the line may stand there
+abbrev pub is_right : Line → Label → Bool
+is_right line label = not (is_given line label) || may_stand (form_of line) label
+
+abbrev pub stands_right : Line → Bool
+stands_right line = list_all (is_right line) (Folder ∷ labels)
+
+-- ---- what is asked for
+
 -- a report on the folder
-abbrev pub report : Word → Line → Option Asked
-report folder line = if is_name folder
+abbrev pub report : Line → Word → Option Asked
+report line folder = if is_name folder
     then option_map (λ n. Report folder n line.json line.summaries line.history) (workers_of line.workers) else None
 
-abbrev pub has_flag : Line → Bool
-has_flag line = line.json || (line.summaries || line.history)
+-- the replay of a witness of the folder
+abbrev pub replay : Word → Word → Option Asked
+replay folder witness = if is_name folder && is_name witness then Some (Replay folder witness) else None
 
--- a replay, beside which only the folder stands
-abbrev pub replay : Word → Word → Line → Option Asked
-replay folder witness line =
-    if is_name folder && (is_name witness && not (has_flag line || is_some line.workers))
-    then Some (Replay folder witness) else None
+-- a folder made of so many classes
+abbrev pub made : Line → Word → Option Asked
+made line count = option_and_then (λ n. option_map (Made n) (workers_of line.workers)) (up_to 800 count)
 
--- a made folder, beside which only the number of workers stands
-abbrev pub made : Word → Line → Option Asked
-made count line = if has_flag line then None
-    else option_and_then (λ n. option_map (Made n) (workers_of line.workers)) (up_to 800 count)
+-- what a line of this form asks for
+abbrev pub asked_as : Form → Line → Option Asked
+asked_as ForReport line = option_and_then (report line) line.folder
+asked_as ForReplay line =
+    option_and_then (λ folder. option_and_then (replay folder) line.replay) line.folder
+asked_as ForMade line = option_and_then (made line) line.made
 
--- exactly one of the folder and the number of made files
-abbrev pub asked_by : Option Word → Option Word → Option Word → Line → Option Asked
-asked_by (Some folder) None None line = report folder line
-asked_by (Some folder) None (Some witness) line = replay folder witness line
-asked_by None (Some count) None line = made count line
-asked_by _ _ _ line = None
+abbrev pub asked_by : Line → Option Asked
+asked_by line = if stands_right line then asked_as (form_of line) line else None
 
 -- what the words ask for, if they are those of a command line
 abbrev pub asked : List Word → Option Asked
-asked words = option_and_then (λ l. asked_by l.folder l.made l.replay l) (line words)
+asked words = option_and_then asked_by (line words)

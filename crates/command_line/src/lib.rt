@@ -2,6 +2,7 @@
 #![tactic(auto)]
 
 mod command;
+mod forms;
 pub mod laws;
 mod line;
 mod numbers;

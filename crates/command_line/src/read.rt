@@ -2,8 +2,10 @@
 ghost use Rattle.std.specs.Prelude.{◌≡◌, map, string_bytes, option_map, IfOk};
 ghost use Rattle.command_line.specs.Lines.{line_view};
 ghost use Rattle.command_line.specs.Requests.{asked_of};
-ghost use Rattle.command_line.specs.Words.{asked, asked_by, is_name, has_flag, report, replay, made};
+ghost use Rattle.command_line.specs.Forms.{form_view};
+ghost use Rattle.command_line.specs.Words.{asked, asked_as, asked_by, is_name, report, replay, made};
 
+use crate::forms::{Form, form_of, stands_right};
 use crate::line::{GivenLine, given_line};
 use crate::numbers::{made_of, workers_of};
 use crate::request::{MadeRequest, ReplayRequest, ReportRequest, Request};
@@ -16,15 +18,9 @@ fn is_name(word: &str) -> bool
     !word.is_empty() && word != "-"
 }
 
-fn has_flag(line: &GivenLine<'_>) -> bool
-    ensures { result ≡ has_flag (line_view line.now) }
-{
-    line.json || line.summaries || line.history
-}
-
 /// A report on the folder.
 fn report(alloc: Global, folder: &str, line: &GivenLine<'_>) -> Result<Option<Request>, Memory>
-    ensures { IfOk result (λ r. option_map asked_of r ≡ report folder.now (line_view line.now)) }
+    ensures { IfOk result (λ r. option_map asked_of r ≡ report (line_view line.now) folder.now) }
 {
     if !is_name(folder) {
         return Ok(None);
@@ -41,16 +37,11 @@ fn report(alloc: Global, folder: &str, line: &GivenLine<'_>) -> Result<Option<Re
     })))
 }
 
-/// A replay, beside which only the folder stands.
-fn replay(
-    alloc: Global,
-    folder: &str,
-    witness: &str,
-    line: &GivenLine<'_>,
-) -> Result<Option<Request>, Memory>
-    ensures { IfOk result (λ r. option_map asked_of r ≡ replay folder.now witness.now (line_view line.now)) }
+/// The replay of a witness of the folder.
+fn replay(alloc: Global, folder: &str, witness: &str) -> Result<Option<Request>, Memory>
+    ensures { IfOk result (λ r. option_map asked_of r ≡ replay folder.now witness.now) }
 {
-    if !is_name(folder) || !is_name(witness) || has_flag(line) || line.workers.is_some() {
+    if !is_name(folder) || !is_name(witness) {
         return Ok(None);
     }
     let folder = Text::from_str(alloc, folder)?;
@@ -58,29 +49,35 @@ fn replay(
     Ok(Some(Request::Replay(ReplayRequest { folder, witness })))
 }
 
-/// A made folder, beside which only the number of workers stands.
+/// A folder made of so many classes.
 fn made(count: &str, line: &GivenLine<'_>) -> Option<Request>
-    ensures { option_map asked_of result ≡ made count.now (line_view line.now) }
+    ensures { option_map asked_of result ≡ made (line_view line.now) count.now }
 {
-    if has_flag(line) {
-        return None;
-    }
     let count = made_of(count)?;
     let workers = workers_of(line.workers)?;
     Some(Request::Made(MadeRequest { count, workers }))
 }
 
-/// What the line asks for.
-fn asked(alloc: Global, line: &GivenLine<'_>) -> Result<Option<Request>, Memory>
-    ensures { IfOk result (λ r. option_map asked_of r ≡ asked_by (line_view line.now).folder (line_view line.now).made
-        (line_view line.now).replay (line_view line.now)) }
+/// What a line of this form asks for.
+fn asked_as(alloc: Global, form: Form, line: &GivenLine<'_>) -> Result<Option<Request>, Memory>
+    ensures { IfOk result (λ r. option_map asked_of r ≡ asked_as (form_view form) (line_view line.now)) }
 {
-    match (line.folder, line.made, line.replay) {
-        (Some(folder), None, None) => report(alloc, folder, line),
-        (Some(folder), None, Some(witness)) => replay(alloc, folder, witness, line),
-        (None, Some(count), None) => Ok(made(count, line)),
+    match (form, line.folder, line.replay, line.made) {
+        (Form::Report, Some(folder), _, _) => report(alloc, folder, line),
+        (Form::Replay, Some(folder), Some(witness), _) => replay(alloc, folder, witness),
+        (Form::Made, _, _, Some(count)) => Ok(made(count, line)),
         _ => Ok(None),
     }
+}
+
+/// What the line asks for.
+fn asked_by(alloc: Global, line: &GivenLine<'_>) -> Result<Option<Request>, Memory>
+    ensures { IfOk result (λ r. option_map asked_of r ≡ asked_by (line_view line.now)) }
+{
+    if !stands_right(line) {
+        return Ok(None);
+    }
+    asked_as(alloc, form_of(line), line)
 }
 
 /// What the words behind the program's name ask for, or nothing where they are no command line: `FOLDER`, with
@@ -90,7 +87,7 @@ pub fn read_words(alloc: Global, words: &[String]) -> Result<Option<Request>, Me
     ensures { IfOk result (λ r. option_map asked_of r ≡ asked (map string_bytes words.now)) }
 {
     match given_line(alloc, words)? {
-        Some(line) => asked(alloc, &line),
+        Some(line) => asked_by(alloc, &line),
         None => Ok(None),
     }
 }
