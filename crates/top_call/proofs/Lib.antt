@@ -3,3 +3,5 @@ mod OneStatus
 mod OneReport
 mod Ranges
 mod Tails
+mod JsonBytes
+mod CutWitnesses

@@ -11,7 +11,7 @@ use Rattle.top_call_history.specs.History.{history_text}
 use Rattle.top_call.specs.declared.said.Said.{Said}
 use Rattle.top_call.specs.Said.{said_from, with_tail, IsTail}
 use Rattle.top_call.specs.Requests.{lines_of, IsSaidWith}
-use Rattle.top_call.specs.Words.{Wanted}
+use Rattle.top_call.specs.Words.{WantedReport}
 
 -- nothing stands behind
 pub no_tail : (said : Said) → said ≡ with_tail said []
@@ -31,11 +31,11 @@ tail_is false workers program history legal complete = refl
 tail_is true workers program history legal complete =
     record { history = history; legal = legal; complete = complete; lines_are = refl }
 
-if_ok : {A E : Type 0} (r : Result A E) (x : A) (P : A → Type 0) → P x → IfOk r (λ y. y ≡ x) → IfOk r P
+pub if_ok : {A E : Type 0} (r : Result A E) (x : A) (P : A → Type 0) → P x → IfOk r (λ y. y ≡ x) → IfOk r P
 if_ok (Ok y) x P h e = subst P (sym e) h
 if_ok (Err e) x P h tt = tt
 
-pub with_lines : {E : Type 0} (r : Result Said E) (program : Core) (wanted : Wanted) (said : Said)
+pub with_lines : {E : Type 0} (r : Result Said E) (program : Core) (wanted : WantedReport) (said : Said)
     (history : List Event) → said ≡ said_from wanted.mode (Accepted program)
     → Legal (setup_of program wanted.workers) history
     → IsComplete (setup_of program wanted.workers) history

@@ -1,14 +1,18 @@
 -- A contract of a public call rests on this: why a run ends with a status.
-use Rattle.std.specs.Prelude.{◌≡◌, ◌⊎◌, ℕ, Bool, true, false, ◌<◌, ◌≤◌, IfSome}
+use Rattle.std.specs.Prelude.{◌≡◌, ◌⊎◌, ℕ, Bool, true, ◌<◌, ◌≤◌, IfSome, IsSomeAnd}
 use Rattle.std.specs.Prelude.{List, Option, None, Some, String, length, map, take, string_bytes}
+use Rattle.std.specs.FinMap.{contains_key}
 use Rattle.std.specs.Global.{Global}
-use Rattle.racer_base.specs.Outside.{Told, Files, taken_and}
+use Rattle.racer_base.specs.Outside.{Told, taken_and}
 use Rattle.top_call.specs.declared.said.Said.{Said}
 use Rattle.top_call.specs.declared.status.Status.{Status}
 use Rattle.top_call.specs.declared.status.Status.TheVariants.{Clean, Warned, Usage, FolderFault, SinkFault, Refused}
 use Rattle.top_call.specs.declared.status.Status.TheVariants.{Memory, NoRace, NotAWitness}
-use Rattle.top_call.specs.Words.{Wanted, ReportOn, NotBuilt, request_of}
-use Rattle.top_call.specs.Said.{usage_text, fault_text, not_built_text, Says}
+use Rattle.top_call.specs.Words.{Request, ReportOn, ReplayOf, MadeOf, request_of, is_on_folder}
+use Rattle.top_call.specs.Said.{usage_text, fault_text, SaysReport}
+use Rattle.top_call.specs.Replays.{SaysReplay}
+use Rattle.top_call.specs.Made.{SaysMade}
+use Rattle.top_call.specs.Statuses.{is_report_status, is_replay_status, is_made_status}
 
 -- What can be seen of a call's words and folder: the words, what the folder tells, and its counts of faults.
 pub record Asked : Type 0 where
@@ -22,10 +26,17 @@ abbrev pub asked_of : {F : Type 0} → (F → Option Told) → (F → ℕ) → L
 asked_of told faults words old new =
     record { words = map string_bytes words; told = told old; before = faults old; after = faults new }
 
--- the words ask for a report on the folder that tells itself so
+-- the request can be answered over a folder that tells this: it is the folder that is asked for, and a witness is one of
+-- its files
+abbrev pub IsFor : Request → Told → Type 0
+IsFor (ReportOn wanted) told = wanted.folder ≡ told.name
+IsFor (ReplayOf wanted) told = (wanted.folder ≡ told.name) × (contains_key told.files wanted.witness ≡ true)
+IsFor (MadeOf wanted) told = Unit {0}
+
+-- the words make such a request
 abbrev pub AsksFor : List (String Global) → Told → Type 0
 AsksFor words told =
-    (wanted : Wanted) × (wanted.folder ≡ told.name) × (request_of (map string_bytes words) ≡ Some (ReportOn wanted))
+    (request : Request) × IsFor request told × (request_of (map string_bytes words) ≡ Some request)
 
 -- What can be seen of its sink: the counts of faults, and the bytes taken where it tells them.
 pub record Wrote : Type 0 where
@@ -62,35 +73,40 @@ pub record IsUsage (asked : Asked) (text : List ℕ) : Type 0 where
   pub line : text ≡ usage_text
   pub no_fault : asked.after ≡ asked.before
 
--- the words ask for what is not built yet, and the folder was left alone
-pub record IsNotBuilt (asked : Asked) (text : List ℕ) : Type 0 where
-  pub asks : request_of asked.words ≡ Some NotBuilt
-  pub line : text ≡ not_built_text
-  pub no_fault : asked.after ≡ asked.before
-
--- the words ask for a report on a folder, and its count of faults rose
+-- the words ask for something on a folder, and its count of faults rose
 pub record IsFault (asked : Asked) (text : List ℕ) : Type 0 where
-  pub wanted : Wanted
-  pub asks : request_of asked.words ≡ Some (ReportOn wanted)
+  pub request : Request
+  pub asks : request_of asked.words ≡ Some request
+  pub on_folder : is_on_folder request ≡ true
   pub line : text ≡ fault_text
   pub fault : asked.before < asked.after
 
--- the words ask for a report on this folder, which did not fail, and this is what is said of its files
-pub record IsSaid (status : Status) (asked : Asked) (text : List ℕ) : Type 0 where
-  pub wanted : Wanted
-  pub asks : request_of asked.words ≡ Some (ReportOn wanted)
-  pub entered : IfSome asked.told (λ told. wanted.folder ≡ told.name)
-  pub said : IfSome asked.told (λ told. Says wanted told.files (record { status = status; text = text }))
-  pub no_fault : asked.after ≡ asked.before
+-- the folder that was entered is the one that is asked for
+abbrev pub IsEntered : Request → Told → Type 0
+IsEntered (ReportOn wanted) told = wanted.folder ≡ told.name
+IsEntered (ReplayOf wanted) told = wanted.folder ≡ told.name
+IsEntered (MadeOf wanted) told = Unit {0}
 
--- the statuses of what is said of a folder's files
-abbrev pub is_said : Status → Bool
-is_said Clean = true
-is_said Warned = true
-is_said Refused = true
-is_said NoRace = true
-is_said NotAWitness = true
-is_said _ = false
+-- this is what is said to a request, by what the folder tells
+abbrev pub Says : Request → Option Told → Said → Type 0
+Says (ReportOn wanted) tells said = IfSome tells (λ told. SaysReport wanted told.files said)
+Says (ReplayOf wanted) tells said = IfSome tells (λ told. SaysReplay wanted told.files said)
+Says (MadeOf wanted) tells said = SaysMade wanted said
+
+-- the statuses of what is said to a request
+abbrev pub is_said_to : Request → Status → Bool
+is_said_to (ReportOn wanted) = is_report_status
+is_said_to (ReplayOf wanted) = is_replay_status
+is_said_to (MadeOf wanted) = is_made_status
+
+-- the words make this request, the folder did not fail, and this is what is said
+pub record IsSaid (status : Status) (asked : Asked) (text : List ℕ) : Type 0 where
+  pub request : Request
+  pub asks : request_of asked.words ≡ Some request
+  pub entered : IfSome asked.told (IsEntered request)
+  pub said : Says request asked.told (record { status = status; text = text })
+  pub fits : is_said_to request status ≡ true
+  pub no_fault : asked.after ≡ asked.before
 
 -- what each status comes from, but for those of the sink and of memory, and the text that is due then
 abbrev pub IsDue : Status → Asked → List ℕ → Type 0
@@ -99,7 +115,7 @@ IsDue Warned asked text = IsSaid Warned asked text
 IsDue Usage asked text = IsUsage asked text
 IsDue FolderFault asked text = IsFault asked text
 IsDue SinkFault asked text = ⊥
-IsDue Refused asked text = IsNotBuilt asked text ⊎ IsSaid Refused asked text
+IsDue Refused asked text = IsSaid Refused asked text
 IsDue Memory asked text = ⊥
 IsDue NoRace asked text = IsSaid NoRace asked text
 IsDue NotAWitness asked text = IsSaid NotAWitness asked text
@@ -133,17 +149,22 @@ IsCause Memory asked wrote = IsNothing wrote
 IsCause NoRace asked wrote = IsAnswer NoRace asked wrote
 IsCause NotAWitness asked wrote = IsAnswer NotAWitness asked wrote
 
--- what is said to one who wants this was written whole, and gives the status
-pub record IsWholeAnswer (wanted : Wanted) (files : Files) (status : Status) (wrote : Wrote) : Type 0 where
+-- what is said to the request was written whole, and gives the status
+pub record IsWholeAnswer (request : Request) (tells : Option Told) (status : Status) (wrote : Wrote) : Type 0 where
   pub said : Said
-  pub says : Says wanted files said
+  pub says : Says request tells said
   pub gives : status ≡ said.status
   pub whole : IsWhole wrote said.text
 
--- where the words ask for a report on the folder that tells itself, and no count rose, the answer is whole, or memory
--- was refused
+-- a made folder is asked for; or a folder that tells itself, and has the file of a witness that is asked for
+abbrev pub CanAnswer : Request → Option Told → Type 0
+CanAnswer (ReportOn wanted) tells = IsSomeAnd tells (IsFor (ReportOn wanted))
+CanAnswer (ReplayOf wanted) tells = IsSomeAnd tells (IsFor (ReplayOf wanted))
+CanAnswer (MadeOf wanted) tells = Unit {0}
+
+-- where the words make such a request, and no count rose, the answer is whole, or memory was refused
 abbrev pub IsComplete : Status → Asked → Wrote → Type 0
 IsComplete status asked wrote =
-    (told : Told) (wanted : Wanted) → asked.told ≡ Some told → wanted.folder ≡ told.name
-    → request_of asked.words ≡ Some (ReportOn wanted) → asked.after ≡ asked.before → wrote.after ≡ wrote.before
-    → (status ≡ Memory) ⊎ IsWholeAnswer wanted told.files status wrote
+    (request : Request) → request_of asked.words ≡ Some request → CanAnswer request asked.told
+    → asked.after ≡ asked.before → wrote.after ≡ wrote.before
+    → (status ≡ Memory) ⊎ IsWholeAnswer request asked.told status wrote

@@ -8,25 +8,34 @@ use Rattle.top_call_history.specs.History.{history_text}
 use Rattle.top_call.specs.declared.request.Request.{Request}
 use Rattle.top_call.specs.declared.request.Request.TheVariants as request
 use Rattle.top_call.specs.declared.said.Said.{Said}
-use Rattle.top_call.specs.declared.wanted.Wanted.{Wanted}
+use Rattle.top_call.specs.declared.wanted.WantedReport.{WantedReport}
+use Rattle.top_call.specs.declared.wanted.WantedReplay.{WantedReplay}
+use Rattle.top_call.specs.declared.wanted.WantedMade.{WantedMade}
 use Rattle.top_call.specs.Said.{said_from, with_tail, IsBehind}
 use Rattle.top_call.specs.Words as words
 
 -- what is seen of a wanted report
-abbrev pub wanted_of : Wanted → words.Wanted
+abbrev pub wanted_of : WantedReport → words.WantedReport
 wanted_of wanted =
     record { folder = wanted.folder; mode = wanted.mode; workers = wanted.workers; history = wanted.history }
+
+abbrev pub replay_of : WantedReplay → words.WantedReplay
+replay_of wanted = record { folder = wanted.folder; witness = wanted.witness }
+
+abbrev pub made_of : WantedMade → words.WantedMade
+made_of wanted = record { number = wanted.number; workers = wanted.workers }
 
 -- what is seen of a request
 abbrev pub seen : Request → words.Request
 seen (request.ReportOn wanted) = words.ReportOn (wanted_of wanted)
-seen request.NotBuilt = words.NotBuilt
+seen (request.ReplayOf wanted) = words.ReplayOf (replay_of wanted)
+seen (request.MadeOf wanted) = words.MadeOf (made_of wanted)
 
--- a report is asked for by 1 to 64 workers
-abbrev pub HasWorkers : Asked → Type 0
-HasWorkers (Report folder workers json summaries history) = (0 < workers) × (workers ≤ 64)
-HasWorkers (Replay folder witness) = Unit {0}
-HasWorkers (Made count workers) = Unit {0}
+-- 1 to 64 workers are asked for, and a folder of up to 800 classes
+abbrev pub IsInRange : Asked → Type 0
+IsInRange (Report folder workers json summaries history) = (0 < workers) × (workers ≤ 64)
+IsInRange (Replay folder witness) = Unit {0}
+IsInRange (Made count workers) = (count ≤ 800) × ((0 < workers) × (workers ≤ 64))
 
 -- the lines of a history, where they are asked for
 abbrev pub lines_of : Bool → Core → List Event → List ℕ
@@ -34,7 +43,7 @@ lines_of false program history = []
 lines_of true program history = history_text program history
 
 -- this is what is said of a source, with lines behind it that may stand there
-pub record IsSaidWith (wanted : words.Wanted) (source : Source) (said : Said) : Type 0 where
+pub record IsSaidWith (wanted : words.WantedReport) (source : Source) (said : Said) : Type 0 where
   pub tail : List ℕ
   pub is_behind : IsBehind wanted source tail
   pub said_so : said ≡ with_tail (said_from wanted.mode source) tail

@@ -7,6 +7,7 @@ use Rattle.race_pairs.specs.Warnings.{warnings}
 use Rattle.race_report.specs.declared.mode.Mode.{Mode}
 use Rattle.race_report.specs.Modes.{report}
 use Rattle.confirmed_races.specs.Headline.{AreConfirmed}
+use Rattle.witness_text.specs.Replaying.{DoWitnessesReplay}
 use Rattle.folder_programs.specs.Programs.{Source, Refusal, Accepted, IsSource}
 use Rattle.summary_store.specs.declared.machine.Event.{Event}
 use Rattle.summary_store.specs.Machine.{Legal, IsComplete}
@@ -15,7 +16,7 @@ use Rattle.top_call_history.specs.History.{history_text}
 use Rattle.top_call.specs.declared.said.Said.{Said}
 use Rattle.top_call.specs.declared.status.Status.{Status}
 use Rattle.top_call.specs.declared.status.Status.TheVariants.{Clean, Warned, Refused}
-use Rattle.top_call.specs.Words.{Wanted}
+use Rattle.top_call.specs.Words.{WantedReport}
 
 abbrev pub usage_text : List ℕ
 usage_text =
@@ -24,9 +25,6 @@ usage_text =
 
 abbrev pub fault_text : List ℕ
 fault_text = codes "folder fault\n"
-
-abbrev pub not_built_text : List ℕ
-not_built_text = codes "refused not built yet\n"
 
 -- the status of a report with these warnings
 abbrev pub report_status : List Warning → Status
@@ -43,6 +41,11 @@ abbrev pub HasHeadline : Source → Type 0
 HasHeadline (Refusal line) = Unit {0}
 HasHeadline (Accepted program) = AreConfirmed program
 
+-- each member `witness` of a confirmed mark in the JSON report is a witness file whose replay says that it races
+abbrev pub HasReplays : Source → Type 0
+HasReplays (Refusal line) = Unit {0}
+HasReplays (Accepted program) = DoWitnessesReplay program
+
 -- these are the lines of a legal and complete history of so many workers on a program
 pub record IsHistory (program : Core) (workers : ℕ) (lines : List ℕ) : Type 0 where
   pub history : List Event
@@ -56,7 +59,7 @@ IsTail false workers program tail = tail ≡ []
 IsTail true workers program tail = IsHistory program workers tail
 
 -- what stands behind what is said of a source
-abbrev pub IsBehind : Wanted → Source → List ℕ → Type 0
+abbrev pub IsBehind : WantedReport → Source → List ℕ → Type 0
 IsBehind wanted (Refusal line) tail = tail ≡ []
 IsBehind wanted (Accepted program) tail = IsTail wanted.history wanted.workers program tail
 
@@ -65,10 +68,11 @@ abbrev pub with_tail : Said → List ℕ → Said
 with_tail said tail = record { status = said.status; text = said.text ++ tail }
 
 -- this is what is said to one who wants a report on a folder with these files
-pub record Says (wanted : Wanted) (files : Files) (said : Said) : Type 0 where
+pub record SaysReport (wanted : WantedReport) (files : Files) (said : Said) : Type 0 where
   pub source : Source
   pub is : IsSource files source
   pub tail : List ℕ
   pub is_behind : IsBehind wanted source tail
   pub said_so : said ≡ with_tail (said_from wanted.mode source) tail
   pub headline : HasHeadline source
+  pub replays : HasReplays source

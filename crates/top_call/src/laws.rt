@@ -1,13 +1,14 @@
-//! Laws of the definitions that the contract of `run` cites.
-ghost use Rattle.std.specs.Prelude.{◌≡◌, ◌≢◌, ℕ, List, Some};
+//! Laws of why a run ends as it does, of what two runs write, and of witnesses that are cut out of a report.
+ghost use Rattle.std.specs.Prelude.{◌≡◌, ◌≢◌, ℕ, List, Some, codes};
 ghost use Rattle.racer_base.specs.Outside.{Told};
 ghost use Rattle.top_call.specs.declared.status.Status.{Status};
-ghost use Rattle.top_call.specs.declared.status.Status.TheVariants.{Memory};
-ghost use Rattle.top_call.specs.Words.{Wanted, ReportOn, request_of};
-ghost use Rattle.top_call.specs.Causes.{Asked, Wrote, IsCause};
+ghost use Rattle.top_call.specs.declared.status.Status.TheVariants.{Clean, Memory};
+ghost use Rattle.top_call.specs.Words.{WantedReport, WantedReplay, ReportOn, ReplayOf, request_of};
+ghost use Rattle.top_call.specs.Witnesses.{IsCall, IsCutOut};
+ghost use Rattle.top_call.specs.Causes.{Asked, Wrote, IsCause, IsWhole};
 ghost use Rattle.top_call.specs.Reports.{AsksNoHistory, WroteOneReport};
 
-use folder_programs::laws::one_source;
+use folder_programs::laws::{one_source, other_files_are_not_seen};
 
 /// Where folder and sink tell their meanings, no two statuses other than
 /// want of memory have their cause in one call.
@@ -28,7 +29,7 @@ pub fn same_bytes()
         v.taken_before ≡ w.taken_before → v.after ≡ v.before → w.after ≡ w.before → s ≢ Memory → t ≢ Memory →
         IsCause s a v → IsCause t b w →
         (s ≡ t) × (AsksNoHistory a.words → v.taken_after ≡ w.taken_after)
-        × ((wanted : Wanted) → request_of a.words ≡ Some (ReportOn wanted) →
+        × ((wanted : WantedReport) → request_of a.words ≡ Some (ReportOn wanted) →
         WroteOneReport told.files wanted wanted v w) }
 {
     one_source();
@@ -38,7 +39,7 @@ pub fn same_bytes()
 /// same folder in the same mode, on folders that tell the same and without a fault, end with one status and write one
 /// report, unless memory was refused. Behind it stands the history, in a run whose words ask for it, and else nothing.
 pub fn same_report()
-    ensures { (s t : Status) (a b : Asked) (v w : Wrote) (told : Told) (first second : Wanted) →
+    ensures { (s t : Status) (a b : Asked) (v w : Wrote) (told : Told) (first second : WantedReport) →
         request_of a.words ≡ Some (ReportOn first) → request_of b.words ≡ Some (ReportOn second) →
         first.folder ≡ second.folder → first.mode ≡ second.mode →
         a.told ≡ Some told → b.told ≡ Some told → a.after ≡ a.before → b.after ≡ b.before →
@@ -46,4 +47,16 @@ pub fn same_report()
         IsCause s a v → IsCause t b w → (s ≡ t) × WroteOneReport told.files first second v w }
 {
     one_source();
+}
+
+/// A witness that a user cuts out of a JSON report, with at most 1 MiB, and puts into a folder with the same sources,
+/// replays: a call that asks for it there ends clean, and writes that the threads race. The member `witness` that is cut
+/// out is that of the report on the program that the sources of a first call are, in whichever mode that call wrote it.
+pub fn cut_witnesses_replay()
+    ensures { (s t : Status) (a b : Asked) (v w : Wrote) (from to : Told) (report : WantedReport) (replay : WantedReplay) →
+        IsCall (ReportOn report) from s a v → IsCall (ReplayOf replay) to t b w →
+        IsCutOut from.files to.files replay.witness → (t ≡ Clean) × IsWhole w (codes "races\n") }
+{
+    one_source();
+    other_files_are_not_seen();
 }

@@ -1,7 +1,11 @@
 //! The call that the program makes, and the statuses that a run ends with.
 #![tactic(auto)]
 
+mod answers;
 pub mod laws;
+mod made;
+mod replays;
+mod reports;
 mod request;
 mod said;
 mod status;
@@ -9,6 +13,8 @@ mod wanted;
 mod whole_run;
 mod writing;
 
-pub use said::{Said, said_of};
+pub use replays::replayed;
+pub use reports::said_of;
+pub use said::Said;
 pub use status::Status;
 pub use whole_run::run;

@@ -2,28 +2,29 @@
 ghost use Rattle.std.specs.Prelude.{◌≡◌, map, string_bytes, option_map, IfOk};
 ghost use Rattle.command_line.specs.Requests.{asked_of};
 ghost use Rattle.top_call.specs.Words.{request_for, request_of};
-ghost use Rattle.top_call.specs.Requests.{seen, HasWorkers};
+ghost use Rattle.top_call.specs.Requests.{seen, IsInRange};
 
-use crate::wanted::Wanted;
+use crate::wanted::{WantedMade, WantedReplay, WantedReport};
 use command_line::read_words;
 use race_report::Mode;
 use racer_base::Memory;
 use std::alloc::Global;
 
-/// What is asked for, of what the program can do yet.
+/// What is asked for.
 #[derive(Drop)]
 pub enum Request {
-    ReportOn(Wanted),
-    NotBuilt,
+    ReportOn(WantedReport),
+    ReplayOf(WantedReplay),
+    MadeOf(WantedMade),
 }
 
 /// What a request of the command line asks the program for.
 fn request_for(asked: command_line::Request) -> Request
-    requires { HasWorkers (asked_of asked) }
+    requires { IsInRange (asked_of asked) }
     ensures { seen result ≡ request_for (asked_of asked) }
 {
     match asked {
-        command_line::Request::Report(report) => Request::ReportOn(Wanted {
+        command_line::Request::Report(report) => Request::ReportOn(WantedReport {
             folder: report.folder,
             mode: Mode {
                 json: report.json,
@@ -32,7 +33,14 @@ fn request_for(asked: command_line::Request) -> Request
             workers: report.workers,
             history: report.history,
         }),
-        _ => Request::NotBuilt,
+        command_line::Request::Replay(replay) => Request::ReplayOf(WantedReplay {
+            folder: replay.folder,
+            witness: replay.witness,
+        }),
+        command_line::Request::Made(made) => Request::MadeOf(WantedMade {
+            number: made.count,
+            workers: made.workers,
+        }),
     }
 }
 

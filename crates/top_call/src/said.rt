@@ -1,39 +1,9 @@
 //! What a run has to say.
-ghost use Rattle.std.specs.Prelude.{◌≡◌, ◌≢◌, ◌<◌, ◌≤◌, IfOk, IfSome, OnOk, true};
-ghost use Rattle.std.specs.Arc.{arc_value};
-ghost use Rattle.racer_base.specs.Outside.{last_count};
-ghost use Rattle.core_code.specs.Program.{core};
-ghost use Rattle.access_domain.specs.Outcomes.{AreOutcomes};
-ghost use Rattle.folder_programs.specs.Finding.{CountsFaults, FailsByMemory};
-ghost use Rattle.folder_programs.specs.Programs.{Accepted, source_of};
-ghost use Rattle.summary_store.specs.Machine.{IsComplete, Legal};
-ghost use Rattle.summary_store.specs.Setups.{setup_of};
-ghost use Rattle.top_call.specs.Said.{said_from, with_tail, HasHeadline, Says};
-ghost use Rattle.top_call.specs.Requests.{lines_of, wanted_of, IsSaidWith};
-ghost use Rattle.top_call.specs.Causes.{asked_of, AsksFor, IsDue, is_said};
+ghost use Rattle.std.specs.Prelude.{◌≡◌, IfOk};
 
-use crate::request::{Request, requested};
 use crate::status::Status;
-use crate::wanted::Wanted;
-use access_domain::Outcomes;
-use confirmed_races::laws::whole_warnings_race;
-use core_code::{Program, call_rows};
-use demand_pool::{Pooled, run_pool};
-use folder_programs::{FoundProgram, folder_program};
-use race_pairs::warnings;
-use race_report::{Mode, report_text};
-use racer_base::{Folder, FolderFault, Gate, Memory, Text};
-use report_parts::{Written, push_text};
+use racer_base::{Memory, Text};
 use std::alloc::Global;
-use std::sync::{Arc, Wait};
-use std::thread::Threads;
-use summary_store::Event;
-use top_call_history::push_history;
-use witness_build::marks_of;
-
-/// The usage line.
-const USAGE: &str =
-    "usage: racer (FOLDER | --made N) [--workers N] [--json] [--summaries] [--history] [--replay NAME]\n";
 
 /// The text that a run writes, and the status that it has once the text is written.
 #[derive(Drop)]
@@ -42,174 +12,12 @@ pub struct Said {
     pub text: Text,
 }
 
-/// The report on a program whose methods have these outcomes, with its status.
-pub fn said_of(
-    alloc: Global,
-    mode: Mode,
-    program: &Program,
-    outcomes: &Outcomes,
-) -> Result<Said, Memory>
-    requires { AreOutcomes (core program.now) outcomes.now.items }
-    ensures status { IfOk result (λ said. is_said said.status ≡ true) }
-    ensures said { IfOk result (λ said. said ≡ said_from mode (Accepted (core program.now))) }
-{
-    let found = warnings(alloc, program, outcomes)?;
-    let marks = marks_of(alloc, program, outcomes, found.as_slice())?;
-    let text = report_text(
-        alloc,
-        mode,
-        program,
-        outcomes.as_slice(),
-        found.as_slice(),
-        marks.as_slice(),
-    )?;
-    let status = if found.is_empty() {
-        Status::Clean
-    } else {
-        Status::Warned
-    };
-    Ok(Said {
-        status,
-        text: Text::from(text),
-    })
-}
-
-/// What comes of this many workers on a program.
-fn pooled<R: Threads + Wait + Sync, G: Gate + Sync>(
-    rt: &R,
-    alloc: Global,
-    program: &Arc<Program>,
-    workers: u32,
-    gate: &G,
-) -> Result<Pooled, Memory>
-    requires { (0 < workers) × (workers ≤ 64) }
-    ensures legal { IfOk result (λ p. Legal (setup_of (core (arc_value program.now)) workers) p.history.items) }
-    ensures complete { IfOk result (λ p.
-        IsComplete (setup_of (core (arc_value program.now)) workers) p.history.items) }
-    ensures outcomes { IfOk result (λ p. AreOutcomes (core (arc_value program.now)) p.outcomes.items) }
-{
-    let rows = Arc::new(alloc, call_rows(alloc, &**program)?)?;
-    run_pool(rt, alloc, program, &rows, workers, gate)
-}
-
-/// The report on a program, with the history of its workers behind it where that is asked for.
-fn reported<R: Threads + Wait + Sync, G: Gate + Sync>(
-    rt: &R,
-    alloc: Global,
-    wanted: &Wanted,
-    program: &Arc<Program>,
-    gate: &G,
-) -> Result<Said, Memory>
-    ensures status { IfOk result (λ said. is_said said.status ≡ true) }
-    ensures said { IfOk result (λ said.
-        IsSaidWith (wanted_of wanted.now) (Accepted (core (arc_value program.now))) said) }
-{
-    let Pooled { history, outcomes } = pooled(rt, alloc, program, wanted.workers, gate)?;
-    let said = said_of(alloc, wanted.mode, &**program, &outcomes)?;
-    with_history(alloc, wanted.history, said, &**program, history.as_slice())
-}
-
-/// The same with the lines of a history behind the text, where they are asked for.
-fn with_history(
-    alloc: Global,
-    asked: bool,
-    said: Said,
-    program: &Program,
-    history: &[Event],
-) -> Result<Said, Memory>
-    ensures { IfOk result (λ new. new ≡ with_tail said (lines_of asked (core program.now) history.now)) }
-{
-    if !asked {
-        return Ok(said);
-    }
-    let mut text = Written::new(alloc);
-    push_text(&mut text, said.text.as_str());
-    push_history(&mut text, program, history);
-    Ok(Said {
-        status: said.status,
-        text: Text::from(text.finished()?),
-    })
-}
-
-/// What is said of what was found in a folder.
-fn said_of_found<R: Threads + Wait + Sync, G: Gate + Sync>(
-    rt: &R,
-    alloc: Global,
-    wanted: &Wanted,
-    found: FoundProgram,
-    gate: &G,
-) -> Result<Said, Memory>
-    ensures status { IfOk result (λ said. is_said said.status ≡ true) }
-    ensures said { IfOk result (λ said. IsSaidWith (wanted_of wanted.now) (source_of found) said) }
-    ensures headline { HasHeadline (source_of found) }
-{
-    whole_warnings_race();
-    match found {
-        FoundProgram::Accepted(program) => {
-            let program = Arc::new(alloc, program)?;
-            reported(rt, alloc, wanted, &program, gate)
-        }
-        FoundProgram::Refused(text) => Ok(Said {
-            status: Status::Refused,
-            text,
-        }),
-    }
-}
-
-/// What is said to one who wants a report on a folder.
-fn answered<R: Threads + Wait + Sync, F: Folder, G: Gate + Sync>(
-    rt: &R,
-    alloc: Global,
-    folder: &mut F,
-    wanted: &Wanted,
-    gate: &G,
-) -> Result<Said, FolderFault>
-    ensures status { IfOk result (λ said. is_said said.status ≡ true) }
-    ensures count { CountsFaults result (F.faults folder.old) (F.faults folder.new) }
-    ensures entered { OnOk result (IfSome (F.told folder.old) (λ told. wanted.now.folder ≡ told.name)) }
-    ensures said { IfOk result (λ said. IfSome (F.told folder.old) (λ told.
-        Says (wanted_of wanted.now) told.files said)) }
-    ensures steady { F.steady folder.old →
-        IfSome (F.told folder.old) (λ told. wanted.now.folder ≡ told.name → FailsByMemory result) }
-{
-    let found = folder_program(alloc, folder, wanted.folder.as_str())?;
-    Ok(said_of_found(rt, alloc, wanted, found, gate)?)
-}
-
 /// A line with its status.
-fn line(alloc: Global, status: Status, text: &str) -> Result<Said, Memory>
+pub fn line(alloc: Global, status: Status, text: &str) -> Result<Said, Memory>
     ensures { IfOk result (λ said. said ≡ record { status = status; text = text.now }) }
 {
     Ok(Said {
         status,
         text: Text::from_str(alloc, text)?,
     })
-}
-
-/// What is to be said to these words, over this folder.
-pub fn what_to_say<R: Threads + Wait + Sync, F: Folder, G: Gate + Sync>(
-    rt: &R,
-    alloc: Global,
-    words: &[String],
-    folder: &mut F,
-    gate: &G,
-) -> Result<Said, Memory>
-    requires { F.faults folder.old < last_count }
-    ensures due { IfOk result (λ said.
-        IsDue said.status (asked_of F.told F.faults words.now folder.old folder.new) said.text) }
-    ensures steady { F.steady folder.old → IfSome (F.told folder.old) (λ told.
-        AsksFor words.now told → IfOk result (λ said. said.status ≢ Status.FolderFault)) }
-{
-    let wanted = match requested(alloc, words)? {
-        None => return line(alloc, Status::Usage, USAGE),
-        Some(Request::NotBuilt) => {
-            return line(alloc, Status::Refused, "refused not built yet\n");
-        }
-        Some(Request::ReportOn(wanted)) => wanted,
-    };
-    match answered(rt, alloc, folder, &wanted, gate) {
-        Err(FolderFault::Memory) => Err(Memory),
-        Err(FolderFault::Failed) => line(alloc, Status::FolderFault, "folder fault\n"),
-        Ok(said) => Ok(said),
-    }
 }

@@ -8,7 +8,7 @@ use std::process::ExitCode;
 /// How a run ended.
 #[derive(Clone, Copy, PartialEq, Eq)]
 pub enum Status {
-    /// A report without a warning was written whole.
+    /// A report without a warning was written whole, or the line that a replayed witness races.
     Clean,
     /// A report with a warning was written whole.
     Warned,
@@ -37,7 +37,7 @@ impl Status {
     }
 
     /// The number of the exit status.
-    fn number(self) -> u8
+    pub fn number(self) -> u8
         ensures { result ≡ number_of self }
     {
         match self {

@@ -1,4 +1,4 @@
-//! The report that is asked for.
+//! What can be asked for.
 ghost use Rattle.std.specs.Prelude.{◌<◌, ◌≤◌};
 
 use race_report::Mode;
@@ -6,10 +6,26 @@ use racer_base::Text;
 
 /// A report on the folder of this name, by 1 to 64 workers, with their history or without.
 #[derive(Drop)]
-pub struct Wanted {
+pub struct WantedReport {
     pub folder: Text,
     pub mode: Mode,
     pub workers: u32,
     pub history: bool,
+    pub ghost in_range: { (0 < workers) × (workers ≤ 64) },
+}
+
+/// The replay of a witness: the folder, and the name of the witness's file in it.
+#[derive(Drop)]
+pub struct WantedReplay {
+    pub folder: Text,
+    pub witness: Text,
+}
+
+/// A report in numbers on a folder made of up to 800 classes, by 1 to 64 workers.
+#[derive(Drop)]
+pub struct WantedMade {
+    pub number: u32,
+    pub workers: u32,
+    pub ghost most: { number ≤ 800 },
     pub ghost in_range: { (0 < workers) × (workers ≤ 64) },
 }

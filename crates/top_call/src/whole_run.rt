@@ -1,9 +1,10 @@
 //! The call that the program makes.
-ghost use Rattle.std.specs.Prelude.{◌≢◌, ◌<◌, IfSome};
+ghost use Rattle.std.specs.Prelude.{◌≡◌, ◌≢◌, ◌<◌, IfSome, map, string_bytes};
 ghost use Rattle.racer_base.specs.Outside.{last_count};
 ghost use Rattle.top_call.specs.Causes.{asked_of, wrote_of, AsksFor, IsRoomFor, IsCause, IsComplete};
+ghost use Rattle.top_call.specs.Words.{LeavesFolder};
 
-use crate::said::what_to_say;
+use crate::answers::what_to_say;
 use crate::status::Status;
 use crate::writing::write_all;
 use racer_base::{Folder, Gate, Sink};
@@ -11,8 +12,9 @@ use std::alloc::Global;
 use std::sync::Wait;
 use std::thread::Threads;
 
-/// Reads the folder that the words after the program's name ask for, and writes its report, or the line
-/// that says why there is none, to the sink; behind the report, where the words ask for it, the history of the workers.
+/// Does what the words after the program's name ask for, and writes what comes of it to the sink: the report on a folder,
+/// behind it, where the words ask for it, the history of the workers; the verdict on a witness of the folder; the report on
+/// a made folder, in numbers; or the line that says why there is none.
 ///
 /// The text is made whole before the first write, and writing takes no memory.
 pub fn run<R: Threads + Wait + Sync, F: Folder, S: Sink, G: Gate + Sync>(
@@ -31,7 +33,7 @@ pub fn run<R: Threads + Wait + Sync, F: Folder, S: Sink, G: Gate + Sync>(
         (asked_of F.told F.faults words.now folder.old folder.new)
         (wrote_of S.faults S.taken sink.old sink.new) }
 
-    // Where no count rose, a folder that tells itself and is asked for is answered whole, or memory was refused.
+    // Where no count rose, a request that can be answered is answered whole, or memory was refused.
     ensures complete { IsComplete result
         (asked_of F.told F.faults words.now folder.old folder.new)
         (wrote_of S.faults S.taken sink.old sink.new) }
@@ -39,6 +41,9 @@ pub fn run<R: Threads + Wait + Sync, F: Folder, S: Sink, G: Gate + Sync>(
     // A steady folder that is asked for has no fault.
     ensures steady { F.steady folder.old →
         IfSome (F.told folder.old) (λ told. AsksFor words.now told → result ≢ Status.FolderFault) }
+
+    // Words that ask for nothing on the folder leave it as it is.
+    ensures left { LeavesFolder (map string_bytes words.now) → folder.new ≡ folder.old }
 
     // A sink with room for whatever text may be due has no fault.
     ensures room { IsRoomFor (S.room sink.old) (asked_of F.told F.faults words.now folder.old folder.new) →

@@ -7,7 +7,7 @@ use Rattle.summary_store.specs.declared.machine.Event.{Event}
 use Rattle.top_call.specs.Said.{said_from, with_tail}
 use Rattle.top_call.specs.Requests.{lines_of, wanted_of}
 use Rattle.top_call.proofs.Tails.{with_lines}
-use Rattle.top_call.proofs.said.reported.Goals as goal
+use Rattle.top_call.proofs.reports.reported.Goals as goal
 
 pub returns-clause-said : goal.returns-clause-said
 returns-clause-said g c =

@@ -1,4 +1,4 @@
-use Rattle.top_call.proofs.said.pooled.Goals as goal
+use Rattle.top_call.proofs.reports.pooled.Goals as goal
 
 pub returns-clause-legal : goal.returns-clause-legal
 returns-clause-legal g c = c.run_pool.ensures.legal

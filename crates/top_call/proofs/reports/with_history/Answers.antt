@@ -3,7 +3,7 @@ use Rattle.core_code.specs.Program.{core}
 use Rattle.report_parts.proofs.PutChains.{two}
 use Rattle.top_call_history.specs.History.{history_text}
 use Rattle.top_call.proofs.Tails.{behind}
-use Rattle.top_call.proofs.said.with_history.Goals as goal
+use Rattle.top_call.proofs.reports.with_history.Goals as goal
 
 pub returns : goal.returns
 returns c =
