@@ -6,6 +6,8 @@ mod gates;
 #[cfg(test)]
 mod outside;
 #[cfg(test)]
+mod replays;
+#[cfg(test)]
 mod store_alone;
 #[cfg(test)]
 mod tests;

@@ -51,22 +51,14 @@ const WRONG: Row = Row {
 };
 
 /// A folder that fails.
-const FAULT: Row = Row {
+pub(crate) const FAULT: Row = Row {
     status: Status::FolderFault,
     text: b"folder fault\n",
     ..PLAIN
 };
 
-/// What is not built yet.
-const NOT_BUILT: Row = Row {
-    folder_fails: &[0],
-    status: Status::Refused,
-    text: b"refused not built yet\n",
-    ..PLAIN
-};
-
 /// Sources that are refused.
-const REFUSED: Row = Row {
+pub(crate) const REFUSED: Row = Row {
     status: Status::Refused,
     ..PLAIN
 };
@@ -106,20 +98,21 @@ const CALLS: &[Row] = &[
         ..WRONG
     },
     Row {
+        words: &["src", "--replay", "w.json", "--workers", "4"],
+        ..WRONG
+    },
+    Row {
+        words: &["--made", "1", "--history"],
+        folder_fails: &[0],
+        ..WRONG
+    },
+    Row {
         words: &["src", "--what"],
         ..WRONG
     },
     Row {
         words: &["src", "lib"],
         ..WRONG
-    },
-    Row {
-        words: &["src", "--replay", "w.json"],
-        ..NOT_BUILT
-    },
-    Row {
-        words: &["--made", "800"],
-        ..NOT_BUILT
     },
     PLAIN,
     Row {

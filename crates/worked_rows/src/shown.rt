@@ -1,6 +1,7 @@
 //! What one word asks to be shown.
 use crate::methods::put_program;
 use crate::page::Page;
+use crate::replays::put_replays;
 use crate::reports::put_reports;
 use crate::tokens::{put_fault, put_tokens};
 use crate::units::put_unit;
@@ -8,7 +9,7 @@ use core_code::Program;
 use disk_folder::DirFolder;
 use folder_programs::{FoundProgram, folder_program};
 use java_lexer::lex;
-use racer_base::{FileId, Folder, FolderFault, Memory};
+use racer_base::{FileId, Folder, FolderFault};
 use std::alloc::Global;
 use std::io;
 
@@ -73,15 +74,20 @@ fn put_file(
     Ok(())
 }
 
-/// The program of a folder, or both reports on it where it stands below `report`.
+/// The program of a folder; both reports on it where it stands below `report`, and the replays of its witness files where
+/// it stands below `replay`.
 fn put_accepted(
     alloc: Global,
+    folder: &mut DirFolder<HostRuntime>,
     page: &mut Page,
     name: &str,
     program: Program,
-) -> Result<(), Memory> {
+) -> Result<(), FolderFault> {
     if name.starts_with("report/") {
-        return put_reports(alloc, page, program);
+        return Ok(put_reports(alloc, page, program)?);
+    }
+    if name.starts_with("replay/") {
+        return put_replays(alloc, folder, page, &program);
     }
     put_program(page, &program);
     Ok(())
@@ -95,7 +101,7 @@ fn put_folder(
     name: &str,
 ) -> Result<(), FolderFault> {
     match folder_program(alloc, folder, name)? {
-        FoundProgram::Accepted(program) => Ok(put_accepted(alloc, page, name, program)?),
+        FoundProgram::Accepted(program) => put_accepted(alloc, folder, page, name, program),
         FoundProgram::Refused(line) => {
             page.put(line.as_str());
             Ok(())
