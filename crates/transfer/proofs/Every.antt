@@ -1,25 +1,25 @@
 -- Methods that are finished one after another, each behind those that it calls.
 use Rattle.std.proofs.Common.{◌≡◌, ℕ, zero, suc, ◌+◌, ◌-◌, ◌<◌, ◌≤◌, Bool, true, false, cond}
-use Rattle.std.proofs.Common.{◌&&◌, ◌||◌, not, List, [], ◌∷◌}
-use Rattle.std.proofs.Common.{◌++◌, Option, None, Some, length, map, filter, drop, refl, sym, ap, subst, ◌∙◌, arith}
+use Rattle.std.proofs.Common.{◌&&◌, ◌||◌, List, [], ◌∷◌}
+use Rattle.std.proofs.Common.{◌++◌, Option, None, Some, length, map, drop, refl, sym, ap, subst, ◌∙◌, arith}
 use Rattle.std.proofs.Common.{option_map, nat_eq, is_none, is_some, All, slice_get, slice_set}
 use Rattle.std.proofs.Common.{slice_index_or, ◌⊎◌, inl, inr}
 use Rattle.std.proofs.Common.{append_assoc, add-one, replicate, get_or}
 use Rattle.std.specs.Arc.{arc_value}
 use Rattle.std.proofs.Math.Dec.{ltb}
 use Rattle.std.proofs.lemmas.Bool.{eq-eqb, ltb-true, ltb-false}
-use Rattle.std.proofs.lemmas.Option.{slice_get_read, slice_get_past, slice_get_within}
+use Rattle.std.proofs.lemmas.Option.{slice_get_read, slice_get_past}
 use Rattle.std.proofs.lemmas.List.{at_drop_more, drop_all, length-map}
-use Rattle.std.specs.List.{list_any, list_all, flat_map}
+use Rattle.std.specs.List.{list_any, list_all}
 use Rattle.std.specs.Option.{IfSome, option_and_then}
 use Rattle.racer_base.specs.declared.ids.MethodId.{MethodId}
 use Rattle.core_code.specs.Chains.{row_of}
 use Rattle.core_code.specs.declared.parts.MethodCore.{MethodCore}
 use Rattle.core_code.specs.declared.code.Reason.{Reason}
-use Rattle.core_code.specs.Calls.{called_by, calls_in, calls_of, method_at, is_analysed}
+use Rattle.core_code.specs.Calls.{calls_of, method_at, is_analysed}
 use Rattle.core_code.specs.Core.{Core, Method, method_of}
 use Rattle.core_code.specs.Program.{core}
-use Rattle.core_code.specs.Rows.{different, rows_of}
+use Rattle.core_code.specs.Rows.{rows_of}
 use Rattle.access_domain.specs.declared.summary.Outcome.{Outcome}
 use Rattle.access_domain.specs.Findings.{Known, outcome_from}
 use Rattle.access_domain.specs.Summaries.{outcome_of, outcomes_from, known_given, known_of_callees}
@@ -27,7 +27,7 @@ use Rattle.core_code.proofs.RowCallees.{is_method, or-left, or-right, nat_eq-sam
 use Rattle.transfer.specs.declared.finished.Finished.{Finished}
 use Rattle.transfer.specs.Callees.{Held, AreCallees, outcome_in}
 use Rattle.transfer.specs.Tables.{IsFinished, IsTable, finished_at}
-use Rattle.transfer.proofs.Handed.{both-true, found_at}
+use Rattle.transfer.proofs.Handed.{found_at}
 
 -- ---- the table
 

@@ -1,6 +1,6 @@
 -- Code that is gone through part by part is gone through whole.
-use Rattle.std.proofs.Common.{◌≡◌, ℕ, suc, ◌+◌, Bool, true, false, cond, List, [], ◌∷◌, ◌++◌}
-use Rattle.std.proofs.Common.{Option, None, Some, length, refl, sym, ap, subst, ◌∙◌}
+use Rattle.std.proofs.Common.{◌≡◌, ℕ, suc, Bool, true, false, cond, List, [], ◌∷◌, ◌++◌}
+use Rattle.std.proofs.Common.{Option, None, Some, refl, sym, ap, subst, ◌∙◌}
 use Rattle.std.proofs.lemmas.List.{append-nil}
 use Rattle.std.specs.FinSet as set
 use Rattle.std.specs.Prelude.{Result, Ok, Err, IfOk, slice_index_or, drop}
@@ -29,7 +29,8 @@ use Rattle.transfer.specs.declared.operations.Frame.{Frame}
 use Rattle.transfer.specs.Frames.{given, record_reached}
 use Rattle.transfer.specs.Known.{table_of}
 use Rattle.transfer.specs.Marks.{marks, all_added, IsNoted, IsStopped, IsMarked, LeadsTo}
-use Rattle.transfer.specs.Walks.{IsFlow, next_of, is_quiet, moved, round_next, round_lost}
+use Rattle.transfer.specs.Rounds.{round_next, round_lost, rounds_of}
+use Rattle.transfer.specs.Walks.{IsFlow, next_of, is_quiet, moved}
 use Rattle.transfer.proofs.Adding.{Alike, chosen-alike, repeated-alike}
 use Rattle.transfer.proofs.Marking.{noted-then, noted-alike, noted-nothing, noted-quiet, stopped-then, stopped-first}
 use Rattle.transfer.proofs.Marking.{stopped-alike, marked-then, marked-alike, noted-kept}
@@ -233,7 +234,7 @@ turn_at : (o : Option State) (body : State → Effects) (n : ℕ) (s : State) �
 turn_at None body n s = refl
 turn_at (Some end) body n s = refl
 
-rounds-turn : (body : State → Effects) (n : ℕ) (s : State) → rounds body (suc n) s ≡ (
+pub rounds-turn : (body : State → Effects) (n : ℕ) (s : State) → rounds body (suc n) s ≡ (
   (rounds body n (round_next s (body s).next)).0,
   round_lost s (body s).next ++ (rounds body n (round_next s (body s).next)).1,
 )
@@ -272,50 +273,31 @@ rounds-step body total left rest start here end old now new e at next m =
           (marked-then now (marks [] lost_here) new (marks [] (rounds body rest next_here).1) later r m k)));
     })
 
-abbrev total_of : State → ℕ
-total_of s = length s.vars + length s.stack + 1
-
-stopped_lost : (body : State → Effects) (start : State) (old : Found) (stop : Stop) →
-    IsStopped old (marks [] (rounds body (total_of start) start).1) stop → IsStopped old (looped body start) stop
+pub stopped_lost : (body : State → Effects) (start : State) (old : Found) (stop : Stop) →
+    IsStopped old (marks [] (rounds body (rounds_of start) start).1) stop → IsStopped old (looped body start) stop
 stopped_lost body start old stop m =
-    let all = rounds body (total_of start) start in
+    let all = rounds body (rounds_of start) start in
     stopped-alike old (both (marks [] all.1) (body all.0)) (looped body start) stop (repeated-alike all.1 all.0 body)
     (stopped-first old (marks [] all.1) (body all.0) stop m)
 
-pub rounds-stopped : (body : State → Effects) (left rest : ℕ) (start here : State) (old now : Found) (stop : Stop) →
-    left ≡ suc rest → AreRounds body (total_of start) left start here old now →
-    IsStopped now (marks [] (round_lost here (body here).next)) stop → IsStopped old (looped body start) stop
-rounds-stopped body left rest start here old now stop e at m =
-    let next_here = round_next here (body here).next in
-    let lost_here = round_lost here (body here).next in
-    let turn : (rounds body left here).1 ≡ lost_here ++ (rounds body rest next_here).1 =
-    ap (λ (p : State × List Path). p.1) (ap (λ (k : ℕ). rounds body k here) e ∙ rounds-turn body rest here) in
-    stopped_lost body start old stop
-    (at.leads now (Err stop)
-    (subst (λ (ps : List Path). IsStopped now (marks [] ps) stop) (sym turn)
-    (stopped-alike now (both (marks [] lost_here) (marks [] (rounds body rest next_here).1))
-    (marks [] (lost_here ++ (rounds body rest next_here).1)) stop
-    (append-alike lost_here (rounds body rest next_here).1)
-    (stopped-first now (marks [] lost_here) (marks [] (rounds body rest next_here).1) stop m))))
-
 -- the paths that all rounds lose are noted
-all_lost : (body : State → Effects) (left : ℕ) (start here : State) (old now : Found) → left ≡ 0 →
-    AreRounds body (total_of start) left start here old now →
-    IsNoted old (marks [] (rounds body (total_of start) start).1) now
+pub all_lost : (body : State → Effects) (left : ℕ) (start here : State) (old now : Found) → left ≡ 0 →
+    AreRounds body (rounds_of start) left start here old now →
+    IsNoted old (marks [] (rounds body (rounds_of start) start).1) now
 all_lost body left start here old now none at =
     at.leads now (Ok (tt {0}))
     (subst (λ (k : ℕ). IsMarked {X = Unit {0}} now (marks [] (rounds body k here).1) now (Ok (tt {0}))) (sym none)
     (noted-nothing now here))
 
-here_last : (body : State → Effects) (left : ℕ) (start here : State) (old now : Found) → left ≡ 0 →
-    AreRounds body (total_of start) left start here old now → here ≡ (rounds body (total_of start) start).0
+pub here_last : (body : State → Effects) (left : ℕ) (start here : State) (old now : Found) → left ≡ 0 →
+    AreRounds body (rounds_of start) left start here old now → here ≡ (rounds body (rounds_of start) start).0
 here_last body left start here old now none at = sym (ap (λ (k : ℕ). (rounds body k here).0) none) ∙ at.last
 
 pub rounds-quiet : (body : State → Effects) (left : ℕ) (start here : State) (old now : Found) → left ≡ 0 →
-    AreRounds body (total_of start) left start here old now → now.noted ≡ false →
+    AreRounds body (rounds_of start) left start here old now → now.noted ≡ false →
     IsFlow (looped body start) here old now (Ok true)
 rounds-quiet body left start here old now none at off =
-    let lost = marks [] (rounds body (total_of start) start).1 in
+    let lost = marks [] (rounds body (rounds_of start) start).1 in
     let quiet : old.noted ≡ false = sym at.noted ∙ off in
     let same : old ≡ now = sym ((all_lost body left start here old now none at).0
     ∙ ap (λ (b : Bool). cond b (all_added old lost) old) quiet) in (
@@ -324,10 +306,10 @@ rounds-quiet body left start here old now none at off =
     )
 
 pub rounds-ended : (body : State → Effects) (left : ℕ) (start here : State) (old now new : Found) → left ≡ 0 →
-    AreRounds body (total_of start) left start here old now → IsNoted now (body here) new →
+    AreRounds body (rounds_of start) left start here old now → IsNoted now (body here) new →
     IsFlow (looped body start) here old new (Ok true)
 rounds-ended body left start here old now new none at m =
-    let all = rounds body (total_of start) start in
+    let all = rounds body (rounds_of start) start in
     let last : here ≡ all.0 = here_last body left start here old now none at in (
       ap Some (sym last),
       noted-alike old (both (marks [] all.1) (body all.0)) (looped body start) new (repeated-alike all.1 all.0 body)
@@ -336,10 +318,10 @@ rounds-ended body left start here old now new none at m =
     )
 
 pub last-stopped : (body : State → Effects) (left : ℕ) (start here : State) (old now : Found) (stop : Stop) →
-    left ≡ 0 → AreRounds body (total_of start) left start here old now → IsStopped now (body here) stop →
+    left ≡ 0 → AreRounds body (rounds_of start) left start here old now → IsStopped now (body here) stop →
     IsStopped old (looped body start) stop
 last-stopped body left start here old now stop none at m =
-    let all = rounds body (total_of start) start in
+    let all = rounds body (rounds_of start) start in
     let last : here ≡ all.0 = here_last body left start here old now none at in
     stopped-alike old (both (marks [] all.1) (body all.0)) (looped body start) stop (repeated-alike all.1 all.0 body)
     (stopped-then old (marks [] all.1) now (body all.0) stop (all_lost body left start here old now none at)

@@ -3,6 +3,9 @@ pub mod Adding
 pub mod Marking
 pub mod Stacks
 pub mod Flows
+pub mod SameValues
+pub mod EarlyEnds
+pub mod Rounding
 pub mod Callees
 pub mod Wholes
 pub mod Parameters

@@ -1,11 +1,9 @@
 -- No public contract rests on this. A finished method may go to another thread: first its program, then its outcome,
 -- then itself, since a `search` that goes down through all of them at once runs out of steps.
-use denote.RattleType.{RattleType}
 use denote.Param.Send.{IsSend, IsSync, sendable}
 use Rattle.std.proofs.Crossing.{crosses}
 use Rattle.core_code.specs.contracts.program.Program as Program
 use Rattle.core_code.specs.contracts.parts.MethodCore as MethodCore
-use Rattle.access_domain.specs.contracts.summary.Outcome as Outcome
 use Rattle.transfer.specs.contracts.finished.Finished as Finished
 use Rattle.core_code.proofs.code.Code.TheLaws.TheKnot as knot
 use Rattle.access_domain.proofs.summary.Outcome.TheSendSync as outcome

@@ -1,7 +1,7 @@
 -- The flow of code depends on what is known of the methods that it calls, and there not on the order of wobbly paths.
 use Rattle.std.proofs.Common.{◌≡◌, ℕ, zero, suc, ◌+◌, Bool, true, false, cond, ◌||◌, List}
 use Rattle.std.proofs.Common.{[], ◌∷◌, ◌++◌, Option, None, Some}
-use Rattle.std.proofs.Common.{length, refl, sym, ap, subst, ◌∙◌, option_map, nat_eq, nat_lt, unwrap_or}
+use Rattle.std.proofs.Common.{length, refl, sym, ap, subst, ◌∙◌, option_map, nat_lt, unwrap_or}
 use Rattle.std.proofs.lemmas.Bool.{eq-eqb}
 use Rattle.std.specs.FinSet as set
 use Rattle.std.specs.List.{list_any, flat_map, enumerate_from}

@@ -2,6 +2,7 @@
 pub mod Known
 pub mod Marks
 pub mod Frames
+pub mod Rounds
 pub mod Walks
 pub mod Callees
 pub mod Tables

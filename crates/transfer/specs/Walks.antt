@@ -1,5 +1,5 @@
 -- No public contract rests on this: code that is gone through.
-use Rattle.std.specs.Prelude.{◌≡◌, ℕ, Bool, true, false, List, [], Option, None, Some, Result, Ok, Err}
+use Rattle.std.specs.Prelude.{◌≡◌, ℕ, Bool, true, false, [], Option, None, Some, Result, Ok, Err, OnOk}
 use Rattle.std.specs.Prelude.{slice_index_or, slice_set}
 use Rattle.std.specs.FinSet as set
 use Rattle.racer_base.specs.declared.ids.VarId.{VarId}
@@ -11,13 +11,13 @@ use Rattle.owner_domain.specs.declared.value.State.{State}
 use Rattle.core_code.specs.declared.code.Op.{Op as CoreOp}
 use Rattle.core_code.specs.declared.code.Op.TheVariants.{Push, PushClass, PushPrim, PushNull, New, Dup, Drop, Get, Put}
 use Rattle.core_code.specs.declared.code.Op.TheVariants.{Set, Prim, Outside, Call, Unread, Ret}
-use Rattle.access_paths.specs.declared.path.Path.{Path}
-use Rattle.owner_domain.specs.Values.{joined_state, lost_state}
 use Rattle.access_domain.specs.declared.summary.Summary.{Summary}
+use Rattle.access_domain.specs.Flow.{rounds}
 use Rattle.access_domain.specs.Operations.{Effects, goes_on, top, pushed, popped, replaced, unread}
 use Rattle.transfer.specs.declared.found.Found.{Found}
 use Rattle.transfer.specs.declared.found.Stop.{Stop}
-use Rattle.transfer.specs.Marks.{IsNoted, IsStopped}
+use Rattle.transfer.specs.Marks.{IsNoted, IsStopped, IsMarked, marks}
+use Rattle.transfer.specs.Rounds.{rounds_of}
 
 -- the state behind a piece of code that goes on or not
 abbrev pub next_of : Bool → State → Option State
@@ -65,11 +65,8 @@ abbrev pub summary_effects : Summary → State → Effects
 summary_effects summary s =
     record (goes_on (pushed s summary.result)) { records = summary.accesses; wobbly = set.items summary.wobbly }
 
--- the state behind a round of a loop, whose body ends in this state or none, and the paths that are lost there
-abbrev pub round_next : State → Option State → State
-round_next s None = s
-round_next s (Some end) = joined_state s end
-
-abbrev pub round_lost : State → Option State → List Path
-round_lost s None = []
-round_lost s (Some end) = lost_state s end
+-- so many rounds of a loop are done as there are: the state is that behind them, and the paths that are lost there
+-- are noted
+abbrev pub AreRoundsDone : (State → Effects) → State → State → Found → Found → Result (Unit {0}) Stop → Type 0
+AreRoundsDone body s here old new r =
+    OnOk r (here ≡ (rounds body (rounds_of s) s).0) × IsMarked old (marks [] (rounds body (rounds_of s) s).1) new r

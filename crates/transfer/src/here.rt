@@ -1,5 +1,5 @@
 //! The values of a method's variables, and those on its operand stack.
-ghost use Rattle.std.specs.Prelude.{◌≡◌, ◌+◌, [], IfOk, OnOk, length, slice_index_or, slice_set};
+ghost use Rattle.std.specs.Prelude.{◌≡◌, ◌+◌, [], true, IfOk, OnOk, length, slice_index_or, slice_set};
 ghost use Rattle.owner_domain.specs.declared.value.Value.TheVariants.{Unnamed as NotNamed};
 ghost use Rattle.access_domain.specs.Operations.{top, pushed, popped, replaced, passed_from};
 
@@ -145,6 +145,13 @@ impl Here {
             return Err(Memory);
         };
         Ok(Here { vars, stack })
+    }
+
+    /// Whether the values are found to be the same, slot by slot.
+    pub fn is_same(&self, other: &Here) -> bool
+        ensures { result ≡ true → self.now ≡ other.now }
+    {
+        self.vars == other.vars && self.stack == other.stack
     }
 
     /// The values as a state.

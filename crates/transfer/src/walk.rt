@@ -5,7 +5,8 @@ ghost use Rattle.core_code.specs.Tree.{tree_of, in_sequence, Again};
 ghost use Rattle.access_domain.specs.Flow.{flow, joined_next, lost_next};
 ghost use Rattle.transfer.specs.Frames.{given};
 ghost use Rattle.transfer.specs.Marks.{IsMarked, marks};
-ghost use Rattle.transfer.specs.Walks.{IsFlow, next_of, round_next, round_lost};
+ghost use Rattle.transfer.specs.Rounds.{round_next, round_lost};
+ghost use Rattle.transfer.specs.Walks.{IsFlow, AreRoundsDone, next_of};
 
 use crate::found::{Found, Stop};
 use crate::here::Here;
@@ -90,11 +91,9 @@ fn repeat(
     ensures { IsFlow (flow (given frame.now) (Again (tree_of body.now)) locked here.old) here.new found.old found.new
         result }
 {
-    for round in 0..here.rounds() {
-        match go_round(alloc, frame, locked, body, here, found) {
-            Ok(()) => {}
-            Err(stop) => return Err(stop),
-        }
+    match go_rounds(alloc, frame, locked, body, here, found) {
+        Ok(()) => {}
+        Err(stop) => return Err(stop),
     }
     if !found.noted {
         return Ok(true);
@@ -110,7 +109,30 @@ fn repeat(
     }
 }
 
-/// One round of a loop, of which the lost paths alone are noted.
+/// The rounds of a loop, up to the first that leaves the values as they were.
+#[cycle(codes)]
+fn go_rounds(
+    alloc: Global,
+    frame: &Frame,
+    locked: bool,
+    body: &Code,
+    here: &mut Here,
+    found: &mut Found,
+) -> Result<(), Stop>
+    ensures { AreRoundsDone (flow (given frame.now) (tree_of body.now) locked) here.old here.new found.old found.new
+        result }
+{
+    for round in 0..here.rounds() {
+        match go_round(alloc, frame, locked, body, here, found) {
+            Ok(true) => {}
+            Ok(false) => return Ok(()),
+            Err(stop) => return Err(stop),
+        }
+    }
+    Ok(())
+}
+
+/// One round of a loop, of which the lost paths alone are noted; whether it changed the values.
 #[cycle(codes)]
 fn go_round(
     alloc: Global,
@@ -119,9 +141,10 @@ fn go_round(
     body: &Code,
     here: &mut Here,
     found: &mut Found,
-) -> Result<(), Stop>
+) -> Result<bool, Stop>
     ensures state { OnOk result (here.new
         ≡ round_next here.old (flow (given frame.now) (tree_of body.now) locked here.old).next) }
+    ensures unchanged { IfOk result (λ changed. changed ≡ false → here.new ≡ here.old) }
     ensures found { IsMarked found.old
         (marks [] (round_lost here.old (flow (given frame.now) (tree_of body.now) locked here.old).next)) found.new
         result }
@@ -139,7 +162,7 @@ fn go_round(
     if goes_on {
         return meet(alloc, here, end, found);
     }
-    Ok(())
+    Ok(false)
 }
 
 /// Goes on from the ends of two ways, those that have one; whether there is one.
@@ -164,7 +187,7 @@ fn settle(
         return Ok(true);
     }
     match meet(alloc, here, other, found) {
-        Ok(()) => Ok(true),
+        Ok(_) => Ok(true),
         Err(stop) => Err(stop),
     }
 }
@@ -180,14 +203,20 @@ fn joined(alloc: Global, here: &Here, other: Here) -> Result<(State, Vec<Path>),
     join(alloc, &left.into_state(), &other.into_state())
 }
 
-/// Joins the values here with others, and notes the paths that are lost.
-fn meet(alloc: Global, here: &mut Here, other: Here, found: &mut Found) -> Result<(), Stop>
+/// Joins the values here with others, and notes the paths that are lost; whether that changed the values.
+fn meet(alloc: Global, here: &mut Here, other: Here, found: &mut Found) -> Result<bool, Stop>
     ensures state { OnOk result (here.new ≡ joined_state here.old other) }
+    ensures unchanged { IfOk result (λ changed. changed ≡ false → here.new ≡ here.old) }
     ensures found { IsMarked found.old (marks [] (lost_state here.old other)) found.new result }
 {
     let Ok((state, lost)) = joined(alloc, here, other) else {
         return Err(Stop::Memory);
     };
-    *here = Here::of_state(state);
-    found.note_paths(lost)
+    let next = Here::of_state(state);
+    let changed = !here.is_same(&next);
+    *here = next;
+    match found.note_paths(lost) {
+        Ok(()) => Ok(changed),
+        Err(stop) => Err(stop),
+    }
 }

@@ -1,4 +1,4 @@
-use Rattle.std.proofs.Common.{◌≡◌, ◌+◌, ◌-◌, ◌<◌, suc, ℕ, get_or, List, map, drop, length, Bool}
+use Rattle.std.proofs.Common.{◌≡◌, ◌+◌, ◌-◌, ◌<◌, suc, ℕ, get_or, List, map, drop, Bool, length}
 use Rattle.std.proofs.Common.{true, false, Ok, Err, refl, sym, ap}
 use Rattle.std.proofs.Common.{subst, ◌∙◌, arith, rules}
 use Rattle.std.proofs.lemmas.List.{at_drop_more, at_drop_all}
@@ -9,11 +9,13 @@ use Rattle.core_code.specs.Tree.{Tree, Step as Operate, Then, Either, Again, tre
 use Rattle.access_domain.specs.Flow.{flow}
 use Rattle.transfer.specs.Frames.{given}
 use Rattle.transfer.specs.Marks.{IsNoted, IsStopped}
+use Rattle.transfer.specs.Rounds.{rounds_of}
 use Rattle.transfer.specs.Walks.{IsFlow, next_of}
 use Rattle.transfer.proofs.Flows.{flow-then, flow-ended, stopped-after, flow-chosen, stopped-left, stopped-right}
-use Rattle.transfer.proofs.Flows.{AreRounds, rounds-begin, rounds-step, rounds-stopped, rounds-quiet, rounds-ended}
-use Rattle.transfer.proofs.Flows.{last-stopped}
+use Rattle.transfer.proofs.Flows.{AreRounds, rounds-begin, rounds-step, rounds-quiet, rounds-ended, last-stopped}
+use Rattle.transfer.proofs.Flows.{stopped_lost}
 use Rattle.transfer.proofs.Marking.{noted-nothing}
+use Rattle.transfer.proofs.Rounding.{rounds-settled, rounds-done, rounds-stopped, rounds-left}
 use Rattle.transfer.proofs.walk.+codes.Goals as goal
 
 pub go-returns-in-Err : goal.go-returns-in-Err
@@ -121,65 +123,90 @@ go_through-returns t c =
     (sym (at_drop_all (λ ps. in_sequence (map tree_of ps)) parts at.part-index (omega arith)))
     (refl, noted-nothing at.found at.here))
 
-pub repeat-loop-round-init : goal.repeat-loop-round-init
-repeat-loop-round-init t c =
+pub go_rounds-loop-round-init : goal.go_rounds-loop-round-init
+go_rounds-loop-round-init t c =
     let start = c.args.here.now in
     let body = flow (given c.args.frame.now) (tree_of c.args.body.now) c.args.locked in
-    let total = length start.vars + length start.stack + 1 in
+    let total = rounds_of start in
     let all : total ≡ total - 0 = omega arith in
     subst (λ (left : ℕ). AreRounds body total left start start c.args.found.now c.args.found.now) all
     (rounds-begin body total start c.args.found.now)
 
-pub repeat-loop-round-preserved : goal.repeat-loop-round-preserved
-repeat-loop-round-preserved t c =
+pub go_rounds-loop-round-preserved : goal.go_rounds-loop-round-preserved
+go_rounds-loop-round-preserved t c =
     let start = c.args.here.now in
     let body = flow (given c.args.frame.now) (tree_of c.args.body.now) c.args.locked in
-    let total = length start.vars + length start.stack + 1 in
+    let total = rounds_of start in
     let at = c.loop-round in
     let one : total - at.round ≡ suc (total - (at.round + 1)) =
     omega (arith, c.loop-round-test.true, c.rounds-round-end.ensures) in
+    let done = c.in-Ok-true.ensures in
     rounds-step body total (total - at.round) (total - (at.round + 1)) start at.here c.go_round.new.here
-    c.args.found.now at.found c.go_round.new.found one at.invariant c.in-Ok.ensures.state c.in-Ok.ensures.found
+    c.args.found.now at.found c.go_round.new.found one at.invariant done.state done.found
+
+pub go_rounds-returns-in-Err : goal.go_rounds-returns-in-Err
+go_rounds-returns-in-Err t c =
+    let start = c.args.here.now in
+    let body = flow (given c.args.frame.now) (tree_of c.args.body.now) c.args.locked in
+    let total = rounds_of start in
+    let at = c.loop-round in
+    let one : total - at.round ≡ suc (total - (at.round + 1)) =
+    omega (arith, c.loop-round-test.true, c.rounds-round-end.ensures) in
+    rounds-stopped body (total - at.round) (total - (at.round + 1)) start at.here c.go_round.new.here
+    c.args.found.now at.found c.go_round.new.found c.in-Err.stop one at.invariant c.in-Err.ensures.found
+
+pub go_rounds-returns-in-Ok-false : goal.go_rounds-returns-in-Ok-false
+go_rounds-returns-in-Ok-false t c =
+    let start = c.args.here.now in
+    let body = flow (given c.args.frame.now) (tree_of c.args.body.now) c.args.locked in
+    let total = rounds_of start in
+    let at = c.loop-round in
+    let one : total - at.round ≡ suc (total - (at.round + 1)) =
+    omega (arith, c.loop-round-test.true, c.rounds-round-end.ensures) in
+    rounds-settled body (total - at.round) (total - (at.round + 1)) start at.here c.go_round.new.here
+    c.args.found.now at.found c.go_round.new.found one at.invariant c.in-Ok-false.ensures.state
+    (c.in-Ok-false.ensures.unchanged c.in-Ok-false.field-0-test) c.in-Ok-false.ensures.found
+
+pub go_rounds-returns : goal.go_rounds-returns
+go_rounds-returns t c =
+    let start = c.args.here.now in
+    let body = flow (given c.args.frame.now) (tree_of c.args.body.now) c.args.locked in
+    let at = c.loop-round in
+    let none : rounds_of start - at.round ≡ 0 = omega (arith, c.loop-round-test.false, c.rounds-round-end.ensures) in
+    rounds-done body (rounds_of start - at.round) start at.here c.args.found.now at.found none at.invariant
 
 pub repeat-returns-in-Err : goal.repeat-returns-in-Err
 repeat-returns-in-Err t c =
-    let start = c.args.here.now in
-    let body = flow (given c.args.frame.now) (tree_of c.args.body.now) c.args.locked in
-    let total = length start.vars + length start.stack + 1 in
-    let at = c.loop-round in
-    let one : total - at.round ≡ suc (total - (at.round + 1)) =
-    omega (arith, c.loop-round-test.true, c.rounds-round-end.ensures) in
-    rounds-stopped body (total - at.round) (total - (at.round + 1)) start at.here c.args.found.now at.found
-    c.in-Err.stop one at.invariant c.in-Err.ensures.found
+    stopped_lost (flow (given c.args.frame.now) (tree_of c.args.body.now) c.args.locked) c.args.here.now
+    c.args.found.now c.in-Err.stop c.in-Err.ensures.1
 
 pub repeat-returns-then-not-found : goal.repeat-returns-then-not-found
 repeat-returns-then-not-found t c =
     let start = c.args.here.now in
     let body = flow (given c.args.frame.now) (tree_of c.args.body.now) c.args.locked in
-    let total = length start.vars + length start.stack + 1 in
-    let at = c.loop-round in
-    let none : total - at.round ≡ 0 = omega (arith, c.loop-round-test.false, c.rounds-round-end.ensures) in
-    rounds-quiet body (total - at.round) start at.here c.args.found.now at.found none at.invariant c.if-not-found.true
+    let now = c.go_rounds.new in
+    rounds-quiet body 0 start now.here c.args.found.now now.found refl
+    (rounds-left body start now.here c.args.found.now now.found c.in-Ok.ensures) c.if-not-found.true
 
 pub repeat-returns-in-Ok-ended : goal.repeat-returns-in-Ok-ended
 repeat-returns-in-Ok-ended t c =
     let start = c.args.here.now in
     let body = flow (given c.args.frame.now) (tree_of c.args.body.now) c.args.locked in
-    let total = length start.vars + length start.stack + 1 in
-    let at = c.loop-round in
-    let none : total - at.round ≡ 0 = omega (arith, c.loop-round-test.false, c.rounds-round-end.ensures) in
-    rounds-ended body (total - at.round) start at.here c.args.found.now at.found c.go-ended.new.found none at.invariant
-    (subst (λ (s : State). IsNoted at.found (body s) c.go-ended.new.found) c.in-Ok-copied.ensures c.in-Ok-ended.ensures.1)
+    let now = c.go_rounds.new in
+    rounds-ended body 0 start now.here c.args.found.now now.found c.go-ended.new.found refl
+    (rounds-left body start now.here c.args.found.now now.found c.in-Ok.ensures)
+    (subst (λ (s : State). IsNoted now.found (body s) c.go-ended.new.found) c.in-Ok-copied.ensures
+    c.in-Ok-ended.ensures.1)
 
 pub repeat-returns-in-Err-ended : goal.repeat-returns-in-Err-ended
 repeat-returns-in-Err-ended t c =
     let start = c.args.here.now in
     let body = flow (given c.args.frame.now) (tree_of c.args.body.now) c.args.locked in
-    let total = length start.vars + length start.stack + 1 in
-    let at = c.loop-round in
-    let none : total - at.round ≡ 0 = omega (arith, c.loop-round-test.false, c.rounds-round-end.ensures) in
-    last-stopped body (total - at.round) start at.here c.args.found.now at.found c.in-Err-ended.stop none at.invariant
-    (subst (λ (s : State). IsStopped at.found (body s) c.in-Err-ended.stop) c.in-Ok-copied.ensures c.in-Err-ended.ensures)
+    let now = c.go_rounds.new in
+    last-stopped body 0 start now.here c.args.found.now now.found c.in-Err-ended.stop refl
+    (rounds-left body start now.here c.args.found.now now.found c.in-Ok.ensures)
+    (subst (λ (s : State). IsStopped now.found (body s) c.in-Err-ended.stop) c.in-Ok-copied.ensures
+    c.in-Err-ended.ensures)
 
 pub go-returns-in-Op : goal.go-returns-in-Op
 go-returns-in-Op t c =

@@ -1,4 +1,4 @@
-use Rattle.std.proofs.Common.{◌+◌, ◌-◌, Bool, map, drop, length}
+use Rattle.std.proofs.Common.{◌-◌, Bool, map, drop}
 use Rattle.std.specs.Prelude.{Result}
 use Rattle.owner_domain.specs.declared.value.State.{State}
 use Rattle.core_code.specs.Tree.{tree_of, in_sequence}
@@ -6,6 +6,7 @@ use Rattle.access_domain.specs.Flow.{flow}
 use Rattle.transfer.specs.declared.found.Found.{Found}
 use Rattle.transfer.specs.declared.found.Stop.{Stop}
 use Rattle.transfer.specs.Frames.{given}
+use Rattle.transfer.specs.Rounds.{rounds_of}
 use Rattle.transfer.specs.Walks.{IsFlow}
 use Rattle.transfer.proofs.Flows.{AreRounds}
 use Rattle.transfer.proofs.walk.+codes.Given as goal
@@ -17,8 +18,7 @@ invariant-go_through-loop-part l = (here : State) (new : Found) (r : Result Bool
     new r →
     IsFlow (flow (given l.frame) (in_sequence (map tree_of l.parts)) l.locked l.fn.here) here l.fn.found new r
 
-abbrev pub invariant-repeat-loop-round : goal.invariant-repeat-loop-round
-invariant-repeat-loop-round l =
-    let total = length l.fn.here.vars + length l.fn.here.stack + 1 in
-    AreRounds (flow (given l.frame) (tree_of l.body) l.locked) total (total - l.round) l.fn.here l.here
-    l.fn.found l.found
+abbrev pub invariant-go_rounds-loop-round : goal.invariant-go_rounds-loop-round
+invariant-go_rounds-loop-round l =
+    AreRounds (flow (given l.frame) (tree_of l.body) l.locked) (rounds_of l.fn.here) (rounds_of l.fn.here - l.round)
+    l.fn.here l.here l.fn.found l.found
