@@ -5,7 +5,8 @@ use Rattle.report_parts.specs.Report.{line}
 use Rattle.witness_files.specs.declared.fault.Field.{Field}
 use Rattle.witness_files.specs.declared.fault.Field.TheVariants.{Version, Class, Entries, Objects, Legs}
 use Rattle.witness_text.specs.declared.verdict.Verdict.{Verdict}
-use Rattle.witness_text.specs.declared.verdict.Verdict.TheVariants.{Races, NoSuchEntry, NoSuchObject, StopsAt, NoConflict}
+use Rattle.witness_text.specs.declared.verdict.Verdict.TheVariants.{Races, NoSuchEntry, NoSuchObject, StopsAt}
+use Rattle.witness_text.specs.declared.verdict.Verdict.TheVariants.{NoConflict}
 
 -- a member of a witness file
 abbrev pub field_name : Field → List ℕ

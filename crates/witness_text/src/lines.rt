@@ -65,8 +65,8 @@ fn push_verdict_line(text: &mut Written, verdict: Verdict)
     push_end(text)
 }
 
-/// The line of a verdict: `races`, `no such entry`, `no such object I`, `stops at leg L step S` or `no conflict`, and a line
-/// feed.
+/// The line of a verdict: `races`, `no such entry`, `no such object I`, `stops at leg L step S` or `no conflict`, and a
+/// line feed.
 pub fn verdict_line(alloc: Global, verdict: Verdict) -> Result<String, Memory>
     ensures { IfOk result (λ text. string_bytes text ≡ said.verdict_line verdict) }
 {
