@@ -20,17 +20,11 @@ const RACES: Row = Row {
     ..PLAIN
 };
 
-/// A replay whose threads do not race.
-const NO_RACE: Row = Row {
-    words: REPLAY,
-    status: Status::NoRace,
-    ..PLAIN
-};
-
 /// A file that is no witness.
 const NO_WITNESS: Row = Row {
     words: REPLAY,
     status: Status::NotAWitness,
+    text: b"not a witness: version\n",
     ..PLAIN
 };
 
@@ -41,73 +35,11 @@ const MADE: Row = Row {
     ..PLAIN
 };
 
-/// Replays.
+/// Replays: what the folder's calls and the order of refusals come to. What each file is answered is data of the stored run.
 const REPLAYS: &[Row] = &[
     RACES,
     Row {
-        files: &[
-            ("Gate.java", GATE),
-            (
-                "w.json",
-                b"{\"class\":\"Gate\",\"entries\":[\"b/0\",\"a/0\"],\"legs\":[{\"steps\":3,\"thread\":0,\"turns\":\"\"},{\"steps\":9,\"thread\":1,\"turns\":\"\"}],\"objects\":[],\"version\":1}",
-            ),
-        ],
-        text: b"stops at leg 1 step 1\n",
-        ..NO_RACE
-    },
-    Row {
-        files: &[
-            ("Gate.java", GATE),
-            (
-                "w.json",
-                b"{\"class\":\"Gate\",\"entries\":[\"b/0\",\"a/0\"],\"legs\":[{\"steps\":8,\"thread\":1,\"turns\":\"\"},{\"steps\":3,\"thread\":0,\"turns\":\"\"}],\"objects\":[],\"version\":1}",
-            ),
-        ],
-        text: b"no conflict\n",
-        ..NO_RACE
-    },
-    Row {
-        files: &[
-            ("Gate.java", GATE),
-            (
-                "w.json",
-                b"{\"class\":\"Gate\",\"entries\":[\"b/0\",\"z/0\"],\"legs\":[{\"steps\":9,\"thread\":1,\"turns\":\"\"},{\"steps\":3,\"thread\":0,\"turns\":\"\"}],\"objects\":[],\"version\":1}",
-            ),
-        ],
-        text: b"no such entry\n",
-        ..NO_RACE
-    },
-    Row {
-        files: &[
-            ("Gate.java", GATE),
-            (
-                "w.json",
-                b"{\"class\":\"Gate\",\"entries\":[\"b/0\",\"a/0\"],\"legs\":[{\"steps\":9,\"thread\":1,\"turns\":\"\"},{\"steps\":3,\"thread\":0,\"turns\":\"\"}],\"objects\":[\"this.q\"],\"version\":1}",
-            ),
-        ],
-        text: b"no such object 0\n",
-        ..NO_RACE
-    },
-    Row {
-        files: &[
-            ("Gate.java", GATE),
-            (
-                "w.json",
-                b"{\"class\":\"Gate\",\"entries\":[\"b/0\",\"a/0\"],\"legs\":[{\"steps\":9,\"thread\":1,\"turns\":\"\"},{\"steps\":3,\"thread\":0,\"turns\":\"\"}],\"objects\":[],\"version\":1",
-            ),
-        ],
-        text: b"not a witness: json\n",
-        ..NO_WITNESS
-    },
-    Row {
-        files: &[
-            ("Gate.java", GATE),
-            (
-                "w.json",
-                b"{\"class\":\"Gate\",\"entries\":[\"b/0\",\"a/0\"],\"objects\":[],\"version\":1}",
-            ),
-        ],
-        text: b"not a witness: legs\n",
+        files: &[("Gate.java", GATE), ("w.json", b"{}")],
         ..NO_WITNESS
     },
     Row {
@@ -121,41 +53,21 @@ const REPLAYS: &[Row] = &[
         text: b"refused A.java:1:1 not a unit\n",
         ..REFUSED
     },
-    // Each call on the folder fails once: enter, names, the source, the witness.
     Row {
-        words: REPLAY,
-        files: &[("Gate.java", GATE), ("w.json", WITNESS)],
-        folder_fails: &[0],
-        ..FAULT
-    },
-    Row {
-        words: REPLAY,
-        files: &[("Gate.java", GATE), ("w.json", WITNESS)],
-        folder_fails: &[1],
-        ..FAULT
-    },
-    Row {
-        words: REPLAY,
-        files: &[("Gate.java", GATE), ("w.json", WITNESS)],
         folder_fails: &[2],
-        ..FAULT
+        status: Status::FolderFault,
+        text: b"folder fault\n",
+        ..RACES
     },
     Row {
-        words: REPLAY,
-        files: &[("Gate.java", GATE), ("w.json", WITNESS)],
         folder_fails: &[3],
-        ..FAULT
+        status: Status::FolderFault,
+        text: b"folder fault\n",
+        ..RACES
     },
     Row {
         folder_fails: &[4],
         ..RACES
-    },
-    // A witness is read under any name of the folder, and judged by its bytes alone.
-    Row {
-        words: &["src", "--replay", "Gate.java"],
-        files: &[("Gate.java", GATE)],
-        text: b"not a witness: json\n",
-        ..NO_WITNESS
     },
     Row {
         most: 1,
