@@ -2,5 +2,5 @@ pub mod Different
 pub mod Firsts
 pub mod RecordOrigins
 pub mod AdditionLemmas
-pub mod KeyOrder
+pub mod KeysOfRecords
 pub mod ReachedPaths

@@ -1,17 +1,17 @@
 //! Access records.
 ghost use Rattle.std.specs.Prelude.{◌≡◌, ◌≤◌, ◌<◌, [], ◌∷◌, ◌++◌, ◌==◌, Some, length, slice_get, true};
 ghost use Rattle.std.specs.Prelude.{IfOk, OnOk, OnErr, is_ok, if◌then◌else◌};
-ghost use Rattle.std.specs.BTreeSet.{Updates};
 ghost use Rattle.std.specs.List.{list_any};
 ghost use Rattle.racer_base.specs.declared.limits.TheConstants.{MAX_SUMMARY_KEYS};
-ghost use Rattle.access_domain.specs.Keys.{key_cmp, key_of};
+ghost use Rattle.access_domain.specs.Keys.{key_eq, key_of};
+ghost use Rattle.indexmap.specs.IndexSet.{insert_key};
 ghost use Rattle.access_domain.specs.Records.{is_write, same_key, first_of_keys};
 ghost use Rattle.wobbly_paths.specs.Sets.{IsAnswer};
 
 use access_paths::Path;
+use indexmap::IndexSet;
 use racer_base::{MAX_SUMMARY_KEYS, Memory, SiteId, Touch};
 use std::alloc::Global;
-use std::collections::BTreeSet;
 use std::marker::Model;
 use wobbly_paths::Adding;
 
@@ -42,8 +42,8 @@ impl Access {
     }
 }
 
-/// What all records of one key share, in an order.
-#[derive(PartialEq, Eq, PartialOrd, Ord, Drop)]
+/// What all records of one key share.
+#[derive(PartialEq, Eq, Hash, Drop)]
 struct Key {
     path: Path,
     is_write: bool,
@@ -57,7 +57,7 @@ pub struct Accesses {
     alloc: Global,
     items: Vec<Access>,
     /// The keys of the records.
-    keys: BTreeSet<Key>,
+    keys: IndexSet<Key>,
 }
 
 impl Model for Accesses {
@@ -82,7 +82,7 @@ impl Accesses {
         Accesses {
             alloc,
             items: Vec::new(alloc),
-            keys: BTreeSet::new(alloc),
+            keys: IndexSet::new(alloc),
         }
     }
 
@@ -192,12 +192,12 @@ fn key_of(alloc: Global, access: &Access) -> Result<Key, Memory>
 /// Puts a record at the end, and its key among the keys. Where memory is refused, both are as before.
 fn put(
     items: &mut Vec<Access>,
-    keys: &mut BTreeSet<Key>,
+    keys: &mut IndexSet<Key>,
     access: Access,
     key: Key,
 ) -> Result<(), Memory>
     ensures items { items.new.items ≡ (if is_ok result then items.old.items ++ access ∷ [] else items.old.items) }
-    ensures added { OnOk result (Updates key_cmp keys.old keys.new key true) }
+    ensures keys { OnOk result (keys.new.keys ≡ insert_key key_eq keys.old.keys key) }
     ensures same { OnErr result (keys.new.keys ≡ keys.old.keys) }
 {
     items.push(access)?;

@@ -1,3 +1,4 @@
 pub mod Extension
 pub mod FieldsText
 pub mod RootText
+pub mod Numbers

@@ -3,3 +3,4 @@ pub mod Paths
 pub mod Order
 pub mod Text
 pub mod Same
+pub mod Table

@@ -6,7 +6,9 @@
 
 pub mod laws;
 mod path;
+mod table;
 mod text;
 
 pub use path::{Path, Root};
+pub use table::PathTable;
 pub use text::path_text;

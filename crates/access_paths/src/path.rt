@@ -6,6 +6,7 @@ ghost use Rattle.access_paths.specs.Paths.{alone, some_path, extended, is_prefix
 use racer_base::{ClassId, FieldId, Items, MAX_PATH_FIELDS, Memory};
 use std::alloc::Global;
 use std::cmp::Ordering;
+use std::hash::{Hash, Hasher};
 
 /// Where a path begins.
 #[derive(Clone, Copy, PartialEq, Eq)]
@@ -165,6 +166,20 @@ impl Ord for Path {
 
     fn cmp(&self, other: &Path) -> Ordering {
         compare(self, other)
+    }
+}
+
+impl Hash for Path {
+    ghost use Rattle.access_paths.specs.Table.{path_input, path_input-respects};
+
+    ghost hash_input = { path_input };
+
+    ghost respects_eq = { path_input-respects };
+
+    fn hash<H: Hasher>(&self, state: &mut H) {
+        self.root.form().hash(state);
+        self.root.number().hash(state);
+        self.fields.as_slice().hash(state);
     }
 }
 

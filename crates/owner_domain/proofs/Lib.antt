@@ -3,3 +3,5 @@ pub mod BothWays
 pub mod Along
 pub mod Shorter
 pub mod OneJoined
+pub mod Reading
+pub mod NumbersJoined

@@ -6,7 +6,9 @@
 
 mod joining;
 pub mod laws;
+mod numbered;
 mod value;
 
 pub use joining::{join, join_value};
+pub use numbered::{NumberedState, NumberedValue, join_numbered};
 pub use value::{State, Value};

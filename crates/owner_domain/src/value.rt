@@ -6,6 +6,7 @@ ghost use Rattle.owner_domain.specs.Values.{along};
 use access_paths::Path;
 use racer_base::{FieldId, Items, MAX_PATH_FIELDS, Memory};
 use std::alloc::Global;
+use std::hash::{Hash, Hasher};
 
 /// What is known of a value.
 #[derive(Drop)]
@@ -81,6 +82,31 @@ impl PartialEq for Value {
             (Value::Owned, Value::Owned) | (Value::Unnamed, Value::Unnamed) => true,
             (Value::Named(path), Value::Named(other_path)) => path == other_path,
             _ => false,
+        }
+    }
+}
+
+impl Eq for Value {
+    ghost use Rattle.owner_domain.specs.SameValue.{same_value-equivalence};
+
+    ghost laws = { same_value-equivalence };
+}
+
+impl Hash for Value {
+    ghost use Rattle.owner_domain.specs.SameValue.{value_input, value_input-respects};
+
+    ghost hash_input = { value_input };
+
+    ghost respects_eq = { value_input-respects };
+
+    fn hash<H: Hasher>(&self, state: &mut H) {
+        match self {
+            Value::Owned => 0u32.hash(state),
+            Value::Named(path) => {
+                1u32.hash(state);
+                path.hash(state);
+            }
+            Value::Unnamed => 2u32.hash(state),
         }
     }
 }

@@ -9,7 +9,7 @@ pub struct FileId(pub u32);
 pub struct ClassId(pub u32);
 
 /// The number of a field among those of all classes, from 0 in source order.
-#[derive(Clone, Copy, PartialEq, Eq, PartialOrd, Ord)]
+#[derive(Clone, Copy, PartialEq, Eq, PartialOrd, Ord, Hash)]
 pub struct FieldId(pub u32);
 
 /// The number of a method among those of all classes, from 0 in source order.

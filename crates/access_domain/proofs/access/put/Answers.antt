@@ -25,8 +25,8 @@ taken_off {X} old pushed new x n put len rest =
     let one : n - 1 ≡ length old = omega (arith, len, ap length put, length-append old (x ∷ [])) in
     rest ∙ (λ i. take (one i) (put i)) ∙ all_but_last old x
 
-pub returns-clause-added : goal.returns-clause-added
-returns-clause-added c = of_ok c.insert.result _ c.if-is_err.ensures.value c.insert.ensures.updates
+pub returns-clause-keys : goal.returns-clause-keys
+returns-clause-keys c = of_ok c.insert.result _ c.if-is_err.ensures.value c.insert.ensures.keys
 
 pub returns-then-is_err-clause-items : goal.returns-then-is_err-clause-items
 returns-then-is_err-clause-items c =

@@ -1,31 +1,30 @@
-use Rattle.std.proofs.Common.{◌≡◌, ◌<◌, ◌≤◌, true, false, List, [], ◌∷◌, ◌++◌, length, refl, sym, ap, subst, ◌∙◌, arith}
-use Rattle.std.specs.BTreeSet.{Updates}
+use Rattle.std.proofs.Common.{◌≡◌, ◌<◌, ◌≤◌, false, List, [], ◌∷◌, ◌++◌, length, refl, sym, ap, subst, ◌∙◌, arith}
+use Rattle.indexmap.specs.IndexSet.{insert_key}
 use Rattle.std.specs.List.{list_any}
 use Rattle.racer_base.specs.declared.limits.TheConstants.{MAX_SUMMARY_KEYS}
 use Rattle.access_domain.specs.declared.access.Access.{Access}
-use Rattle.access_domain.specs.declared.access.Key.{Key}
-use Rattle.access_domain.specs.Keys.{key_of, key_cmp, HasKeysOf}
+use Rattle.access_domain.specs.Keys.{key_eq, key_of, HasKeysOf}
 use Rattle.access_domain.specs.Records.{same_key, first_of_keys, IsWithin}
 use Rattle.access_domain.proofs.Firsts.{IsWithin-push}
-use Rattle.access_domain.proofs.KeyOrder.{HasKeysOf-added}
+use Rattle.access_domain.proofs.KeysOfRecords.{HasKeysOf-added}
 use Rattle.access_domain.proofs.access.Accesses.add.Goals as goal
 
 pub invariant_of-self-2 : goal.invariant_of-self-2
 invariant_of-self-2 c =
     let access : Access = c.args.access in
     let items : List Access = c.self.inside.items.items in
-    let old = c.self.inside.keys in
-    let new = c.put.new.keys in
+    let old = c.self.inside.keys.keys in
+    let new = c.put.new.keys.keys in
     let fresh : list_any (λ r. same_key r access) items ≡ false =
     ap (list_any (λ r. same_key r access)) c.self.view_is ∙ sym c.look_up-there.ensures.there ∙ c.if-there.false in
     let room : length items < MAX_SUMMARY_KEYS = omega arith in
     let grown : c.put.new.items.items ≡ items ++ access ∷ [] =
     c.in-Ok-put.ensures.items ∙ ap (λ (x : Access). items ++ x ∷ []) c.look_up-there.ensures.same in
     let key_is : c.in-Ok.key ≡ key_of access = c.in-Ok.ensures ∙ ap key_of c.look_up-there.ensures.same in
-    let updates : Updates key_cmp old new (key_of access) true =
-    subst (λ (k : Key). Updates key_cmp old new k true) key_is c.in-Ok-put.ensures.added in (
+    let put : new ≡ insert_key key_eq old (key_of access) =
+    c.in-Ok-put.ensures.keys ∙ ap (insert_key key_eq old) key_is in (
       subst IsWithin (sym grown) (IsWithin-push items access c.self.invariant.0 fresh room),
-      subst (HasKeysOf new.keys) (sym grown) (HasKeysOf-added old new items access c.self.invariant.1 updates),
+      subst (HasKeysOf new) (sym grown) (HasKeysOf-added old new items access c.self.invariant.1 fresh put),
     )
 
 pub returns-clause-firsts : goal.returns-clause-firsts
