@@ -1,5 +1,5 @@
 pub mod Turns
 pub mod Sizes
 pub mod SameSets
-pub mod Named
+pub mod NamedValues
 pub mod Whole

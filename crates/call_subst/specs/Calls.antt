@@ -1,4 +1,4 @@
--- No public contract rests on this: the parts of what is found of a callee, in its caller.
+-- A contract of a public call rests on this: the parts of what is found of a callee, in its caller.
 use Rattle.std.specs.Prelude.{ℕ, List}
 use Rattle.std.specs.List.{enumerate_from, flat_map}
 use Rattle.access_paths.specs.declared.path.Path.{Path}

@@ -8,4 +8,5 @@ pub mod laws;
 mod naming;
 mod substitution;
 
-pub use substitution::substitute;
+pub use naming::{Call, is_static, named};
+pub use substitution::{record_there, substitute, substitute_value};

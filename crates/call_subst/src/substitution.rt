@@ -4,6 +4,8 @@ ghost use Rattle.std.specs.Option.{option_to_list};
 ghost use Rattle.std.specs.FinSet as set;
 ghost use Rattle.racer_base.specs.declared.limits.TheConstants.{MAX_SUMMARY_KEYS};
 ghost use Rattle.core_code.specs.Program.{core};
+ghost use Rattle.access_domain.specs.Given.{is_static_method};
+ghost use Rattle.access_domain.specs.Substitution.{actuals_from, substituted_value};
 ghost use Rattle.access_domain.specs.Additions.{keys_added, paths_added};
 ghost use Rattle.access_domain.specs.Records.{first_of_keys};
 ghost use Rattle.call_subst.specs.Substitutes.{IsSubstituted};
@@ -52,7 +54,7 @@ pub fn substitute(
 }
 
 /// A record of the callee with its index, in the caller; none where its object is owned.
-fn access_there(
+pub fn record_there(
     alloc: Global,
     call: &Call,
     index: u32,
@@ -85,7 +87,7 @@ fn add_record(
     ensures all { OnOk result (kept.new ≡ keys_added kept.old (record_at call.now (index, access.now))) }
     ensures count { OnOk result (length kept.new ≤ length kept.old + 1) }
 {
-    let Some(made) = access_there(alloc, call, index, access)? else {
+    let Some(made) = record_there(alloc, call, index, access)? else {
         return Ok(());
     };
     match kept.add(made) {
@@ -132,4 +134,26 @@ fn paths_there(alloc: Global, call: &Call, paths: &[Path]) -> Result<Wobbly, Mem
         add_path(alloc, call, path, &mut kept)?;
     }
     Ok(kept)
+}
+
+/// A value of a method that is called with these values, in its caller.
+pub fn substitute_value(
+    alloc: Global,
+    program: &Program,
+    callee: MethodId,
+    actuals: &[Value],
+    value: &Value,
+) -> Result<Value, Memory>
+    ensures { IfOk result (λ made. made ≡ substituted_value
+        (actuals_from (is_static_method (core program.now) callee) actuals.now) value.now) }
+{
+    let call = Call {
+        program,
+        is_static: is_static(program, callee),
+        actuals,
+        locked: false,
+        main: false,
+        site: SiteId(0),
+    };
+    value_there(alloc, &call, value)
 }

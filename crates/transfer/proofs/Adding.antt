@@ -60,31 +60,17 @@ paths-both w result e f =
     (any-append (eq_by_cmp path_cmp q) (e.wobbly ++ f.wobbly) lost_here
     ∙ ap (λ b. b || is_among q lost_here) (any-append (eq_by_cmp path_cmp q) e.wobbly f.wobbly))))
 
-abbrev found_of : Bool → List Access → PathSet → Option Value → Found
-found_of noted records wobbly result =
-    record { noted = noted; records = records; wobbly = wobbly; result = result }
-
-both_of : (noted : Bool) (records : List Access) (w : PathSet) (result : Option Value) (e f : Effects) →
-    added (added (found_of noted records w result) e) f ≡ added (found_of noted records w result) (both e f)
-both_of false records w result e f = refl
-both_of true records w result e f = (λ i.
-    found_of true (sym (keys_added-append records e.records f.records) i) (paths-both w result e f i)
-    (joined_result-assoc result e.result f.result i))
+abbrev found_of : List Access → PathSet → Option Value → Found
+found_of records wobbly result = record { records = records; wobbly = wobbly; result = result }
 
 pub added-both : (found : Found) (e f : Effects) → added (added found e) f ≡ added found (both e f)
-added-both found e f = both_of found.noted found.records found.wobbly found.result e f
-
-noted_of : (noted : Bool) (records : List Access) (w : PathSet) (result : Option Value) (e : Effects) →
-    (added (found_of noted records w result) e).noted ≡ noted
-noted_of false records w result e = refl
-noted_of true records w result e = refl
-
-pub added-noted : (found : Found) (e : Effects) → (added found e).noted ≡ found.noted
-added-noted found e = noted_of found.noted found.records found.wobbly found.result e
+added-both found e f = (λ i.
+    found_of (sym (keys_added-append found.records e.records f.records) i) (paths-both found.wobbly found.result e f i)
+    (joined_result-assoc found.result e.result f.result i))
 
 -- ---- effects with the same records, result and set of wobbly paths
 
-paths-same : (w : PathSet) (xs ys : List Path) → set.from_list {R = path_cmp} xs ≡ set.from_list ys →
+pub paths-same : (w : PathSet) (xs ys : List Path) → set.from_list {R = path_cmp} xs ≡ set.from_list ys →
     paths_added w xs ≡ paths_added w ys
 paths-same w xs ys same =
     set.same_set path_cmp-total path_cmp-IsAntisymmetric _ _
@@ -111,26 +97,17 @@ paths_after-alike found e f same =
     ∙ ap (λ (r : Option Value). paths_added (paths_added found.wobbly f.wobbly) (lost_result found.result r))
     same.result
 
-alike_of : (noted : Bool) (records : List Access) (w : PathSet) (result : Option Value) (e f : Effects) → Alike e f →
-    added (found_of noted records w result) e ≡ added (found_of noted records w result) f
-alike_of false records w result e f same = refl
-alike_of true records w result e f same = (λ i.
-    found_of true (keys_added records (same.records i)) (paths_after-alike (found_of true records w result) e f same i)
-    (joined_result result (same.result i)))
-
 pub added-alike : (found : Found) (e f : Effects) → Alike e f → added found e ≡ added found f
-added-alike found e f same = alike_of found.noted found.records found.wobbly found.result e f same
+added-alike found e f same = (λ i.
+    found_of (keys_added found.records (same.records i)) (paths_after-alike found e f same i)
+    (joined_result found.result (same.result i)))
 
 -- ---- nothing
 
-nothing_of : (noted : Bool) (records : List Access) (w : PathSet) (result : Option Value) (s : State) →
-    found_of noted records w result ≡ added (found_of noted records w result) (goes_on s)
-nothing_of false records w result s = refl
-nothing_of true records w result s = (λ i.
-    found_of true records (paths_added w (sym (lost_result-none result) i)) (sym (joined_result-none result) i))
-
 pub added-nothing : (found : Found) (s : State) → found ≡ added found (goes_on s)
-added-nothing found s = nothing_of found.noted found.records found.wobbly found.result s
+added-nothing found s = (λ i.
+    found_of found.records (paths_added found.wobbly (sym (lost_result-none found.result) i))
+    (sym (joined_result-none found.result) i))
 
 -- ---- choices, and loops
 

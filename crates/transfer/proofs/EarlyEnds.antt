@@ -12,7 +12,7 @@ use Rattle.access_domain.specs.Additions.{paths_added}
 use Rattle.access_domain.specs.Operations.{Effects}
 use Rattle.access_domain.specs.Flow.{rounds}
 use Rattle.access_domain.proofs.AdditionLemmas.{contains_added, paths_added-append, paths_added-empty}
-use Rattle.transfer.specs.Rounds.{round_next, round_lost, IsSettled}
+use Rattle.transfer_loops.specs.Rounds.{round_next, round_lost, IsSettled}
 use Rattle.transfer.proofs.Flows.{rounds-turn}
 
 or_again : (a b : Bool) → ((a || b) || b) ≡ (a || b)

@@ -24,16 +24,15 @@ use Rattle.access_domain.specs.Flow.{both, after, chosen, rounds, looped, joined
 use Rattle.access_domain.proofs.ReachedPaths.{touched-reached}
 use Rattle.transfer.specs.declared.found.Found.{Found}
 use Rattle.transfer.specs.declared.found.Stop.{Stop}
-use Rattle.transfer.specs.declared.found.Stop.TheVariants.{Large, Memory}
 use Rattle.transfer.specs.declared.operations.Frame.{Frame}
 use Rattle.transfer.specs.Frames.{given, record_reached}
 use Rattle.transfer.specs.Known.{table_of}
-use Rattle.transfer.specs.Marks.{marks, all_added, IsNoted, IsStopped, IsMarked, LeadsTo}
-use Rattle.transfer.specs.Rounds.{round_next, round_lost, rounds_of}
+use Rattle.transfer.specs.Marks.{marks, IsNoted, IsStopped, IsMarked, LeadsTo}
+use Rattle.transfer_loops.specs.Rounds.{round_next, round_lost, rounds_of}
 use Rattle.transfer.specs.Walks.{IsFlow, next_of, is_quiet, moved}
 use Rattle.transfer.proofs.Adding.{Alike, chosen-alike, repeated-alike}
-use Rattle.transfer.proofs.Marking.{noted-then, noted-alike, noted-nothing, noted-quiet, stopped-then, stopped-first}
-use Rattle.transfer.proofs.Marking.{stopped-alike, marked-then, marked-alike, noted-kept}
+use Rattle.transfer.proofs.Marking.{noted-then, noted-alike, noted-nothing, stopped-then, stopped-first}
+use Rattle.transfer.proofs.Marking.{stopped-alike, marked-then, marked-alike}
 
 -- ---- records and wobbly paths
 
@@ -46,8 +45,11 @@ append-alike xs ys =
       large = refl;
     }
 
+pub records-alike : (xs ys : List Access) → Alike (both (marks xs []) (marks ys [])) (marks (xs ++ ys) [])
+records-alike xs ys = record { records = refl; wobbly = refl; result = refl; large = refl }
+
 -- records, and then paths of the same set
-parts-alike : (records : List Access) (ps qs : List Path) → set.from_list {R = path_cmp} ps ≡ set.from_list qs →
+pub parts-alike : (records : List Access) (ps qs : List Path) → set.from_list {R = path_cmp} ps ≡ set.from_list qs →
     Alike (both (marks records []) (marks [] ps)) (marks records qs)
 parts-alike records ps qs same =
     record {
@@ -91,6 +93,39 @@ pub marked-names : {X : Type 0} (old now new : Found) (ps qs : List Path) (r : R
 marked-names old now new ps qs r m k =
     marked-alike old (both (marks [] ps) (marks [] qs)) (marks [] (ps ++ qs)) new r (append-alike ps qs)
     (marked-then old (marks [] ps) now (marks [] qs) new r m k)
+
+-- some records of what is left were noted
+pub records-led : (old : Found) (whole : Effects) (now new : Found) (left xs rest : List Access) → left ≡ xs ++ rest →
+    LeadsTo old whole now (marks left []) → IsNoted now (marks xs []) new → LeadsTo old whole new (marks rest [])
+records-led old whole now new left xs rest cut leads m = λ later r k.
+    leads later r
+    (subst (λ (ys : List Access). IsMarked now (marks ys []) later r) (sym cut)
+    (marked-alike now (both (marks xs []) (marks rest [])) (marks (xs ++ rest) []) later r (records-alike xs rest)
+    (marked-then now (marks xs []) new (marks rest []) later r m k)))
+
+pub records-ended : (old : Found) (whole : Effects) (now last : Found) (left xs rest : List Access) (stop : Stop) →
+    left ≡ xs ++ rest → LeadsTo old whole now (marks left []) → IsStopped now (marks xs []) stop →
+    IsStopped old whole stop
+records-ended old whole now last left xs rest stop cut leads m =
+    leads last (Err stop)
+    (subst (λ (ys : List Access). IsStopped now (marks ys []) stop) (sym cut)
+    (stopped-alike now (both (marks xs []) (marks rest [])) (marks (xs ++ rest) []) stop (records-alike xs rest)
+    (stopped-first now (marks xs []) (marks rest []) stop m)))
+
+-- the same of paths
+pub paths-led : (old : Found) (whole : Effects) (now new : Found) (left xs rest : List Path) → left ≡ xs ++ rest →
+    LeadsTo old whole now (marks [] left) → IsNoted now (marks [] xs) new → LeadsTo old whole new (marks [] rest)
+paths-led old whole now new left xs rest cut leads m = λ later r k.
+    leads later r
+    (subst (λ (ys : List Path). IsMarked now (marks [] ys) later r) (sym cut)
+    (marked-names now new later xs rest r m k))
+
+pub paths-ended : (old : Found) (whole : Effects) (now last : Found) (left xs rest : List Path) (stop : Stop) →
+    left ≡ xs ++ rest → LeadsTo old whole now (marks [] left) → IsStopped now (marks [] xs) stop →
+    IsStopped old whole stop
+paths-ended old whole now last left xs rest stop cut leads m =
+    leads last (Err stop)
+    (subst (λ (ys : List Path). IsStopped now (marks [] ys) stop) (sym cut) (stopped-names now xs rest stop m))
 
 pub flow-alike : (e f : Effects) (here : State) (old new : Found) (r : Result Bool Stop) → e.next ≡ f.next → Alike e f →
     IsFlow e here old new r → IsFlow f here old new r
@@ -219,12 +254,6 @@ stopped-right l r old now stop m k = stopped_sides l r old stop (stopped-then ol
 
 -- ---- loops
 
--- where nothing is noted, it never stops as Large
-pub stopped-quiet : (quiet old : Found) (e f : Effects) (stop : Stop) → quiet.noted ≡ false → IsStopped quiet e stop →
-    IsStopped old f stop
-stopped-quiet quiet old e f Large off m = absurd cc
-stopped-quiet quiet old e f Memory off m = tt
-
 turn_at : (o : Option State) (body : State → Effects) (n : ℕ) (s : State) →
     (elim o as (λ _. State × List Path) [
       | None ↦ rounds body n s
@@ -242,13 +271,12 @@ rounds-turn body n s = turn_at (body s).next body n s
 
 -- so many rounds are left, and lead to the same state and the same lost paths as all of them do from the beginning
 pub record AreRounds (body : State → Effects) (total left : ℕ) (start here : State) (old now : Found) : Type 0 where
-  pub noted : now.noted ≡ old.noted
   pub last : (rounds body left here).0 ≡ (rounds body total start).0
   pub leads : LeadsTo old (marks [] (rounds body total start).1) now (marks [] (rounds body left here).1)
 
 pub rounds-begin : (body : State → Effects) (total : ℕ) (start : State) (old : Found) →
     AreRounds body total total start start old old
-rounds-begin body total start old = record { noted = refl; last = refl; leads = λ new r m. m }
+rounds-begin body total start old = record { last = refl; leads = λ new r m. m }
 
 pub rounds-step : (body : State → Effects) (total left rest : ℕ) (start here end : State) (old now new : Found) →
     left ≡ suc rest → AreRounds body total left start here old now → end ≡ round_next here (body here).next →
@@ -261,7 +289,6 @@ rounds-step body total left rest start here end old now new e at next m =
     ap (λ (k : ℕ). rounds body k here) e ∙ rounds-turn body rest here in
     subst (λ (s : State). AreRounds body total rest start s old new) (sym next)
     (record {
-      noted = noted-kept now (marks [] lost_here) new m ∙ at.noted;
       last = sym (ap (λ (p : State × List Path). p.0) turn) ∙ at.last;
       leads = λ later r k.
           at.leads later r
@@ -293,18 +320,6 @@ pub here_last : (body : State → Effects) (left : ℕ) (start here : State) (ol
     AreRounds body (rounds_of start) left start here old now → here ≡ (rounds body (rounds_of start) start).0
 here_last body left start here old now none at = sym (ap (λ (k : ℕ). (rounds body k here).0) none) ∙ at.last
 
-pub rounds-quiet : (body : State → Effects) (left : ℕ) (start here : State) (old now : Found) → left ≡ 0 →
-    AreRounds body (rounds_of start) left start here old now → now.noted ≡ false →
-    IsFlow (looped body start) here old now (Ok true)
-rounds-quiet body left start here old now none at off =
-    let lost = marks [] (rounds body (rounds_of start) start).1 in
-    let quiet : old.noted ≡ false = sym at.noted ∙ off in
-    let same : old ≡ now = sym ((all_lost body left start here old now none at).0
-    ∙ ap (λ (b : Bool). cond b (all_added old lost) old) quiet) in (
-      ap Some (sym (here_last body left start here old now none at)),
-      subst (λ (f : Found). IsNoted old (looped body start) f) same (noted-quiet old (looped body start) quiet),
-    )
-
 pub rounds-ended : (body : State → Effects) (left : ℕ) (start here : State) (old now new : Found) → left ≡ 0 →
     AreRounds body (rounds_of start) left start here old now → IsNoted now (body here) new →
     IsFlow (looped body start) here old new (Ok true)
@@ -326,8 +341,3 @@ last-stopped body left start here old now stop none at m =
     stopped-alike old (both (marks [] all.1) (body all.0)) (looped body start) stop (repeated-alike all.1 all.0 body)
     (stopped-then old (marks [] all.1) now (body all.0) stop (all_lost body left start here old now none at)
     (subst (λ (s : State). IsStopped now (body s) stop) last m))
-
--- what was found is as before where nothing was noted meanwhile
-pub restored : (old now : Found) (e : Effects) → IsNoted (record old { noted = false }) e now →
-    record now { noted = old.noted } ≡ old
-restored old now e m = ap (λ (f : Found). record f { noted = old.noted }) m.0

@@ -4,8 +4,12 @@ pub mod Marking
 pub mod Stacks
 pub mod Flows
 pub mod SameValues
+pub mod MetValues
 pub mod EarlyEnds
 pub mod Rounding
+pub mod HighEnough
+pub mod ShorterBodies
+pub mod ResumedRounds
 pub mod Callees
 pub mod Wholes
 pub mod Parameters

@@ -1,5 +1,5 @@
 -- What is noted of one piece of code and then of another is noted of both.
-use Rattle.std.proofs.Common.{◌≡◌, ℕ, ◌+◌, ◌≤◌, Bool, true, false, cond, ◌&&◌, ◌||◌, List, [], ◌∷◌, ◌++◌, Option}
+use Rattle.std.proofs.Common.{◌≡◌, ℕ, ◌+◌, ◌≤◌, Bool, true, false, cond, ◌||◌, List, [], ◌∷◌, ◌++◌, Option}
 use Rattle.std.proofs.Common.{Some, length, nat_lt, refl, sym, ap, ◌∙◌, arith, length-append}
 use Rattle.std.proofs.lemmas.Bool.{ltb-true, lt-ltb}
 use Rattle.std.specs.FinSet as set
@@ -21,10 +21,10 @@ use Rattle.access_domain.proofs.AdditionLemmas.{keys_added-append, keys_added-lo
 use Rattle.transfer.specs.declared.found.Found.{Found}
 use Rattle.transfer.specs.declared.found.Stop.{Stop}
 use Rattle.transfer.specs.declared.found.Stop.TheVariants.{Large, Memory}
-use Rattle.transfer.specs.Marks.{marks, returns_of, paths_after, all_added, added, is_many, IsNoted, IsStopped}
+use Rattle.transfer.specs.Marks.{marks, returns_of, paths_after, added, is_many, IsNoted, IsStopped}
 use Rattle.transfer.specs.Marks.{IsMarked}
 use Rattle.transfer.proofs.JoinedResults.{joined_result-none, lost_result-none}
-use Rattle.transfer.proofs.Adding.{Alike, paths-both, added-both, added-noted}
+use Rattle.transfer.proofs.Adding.{Alike, paths-both, added-both}
 use Rattle.transfer.proofs.Adding.{added-alike, paths_after-alike, added-nothing}
 
 -- ---- tests
@@ -33,10 +33,9 @@ or_true : (b : Bool) → (b || true) ≡ true
 or_true true = refl
 or_true false = refl
 
-no_or : (n a b : Bool) → (n && a) ≡ false → (n && b) ≡ false → (n && (a || b)) ≡ false
-no_or true true b h g = h
-no_or true false b h g = g
-no_or false a b h g = refl
+no_or : (a b : Bool) → a ≡ false → b ≡ false → (a || b) ≡ false
+no_or true b h g = h
+no_or false b h g = g
 
 later_true : (a b m : Bool) → (b || m) ≡ true → ((a || b) || m) ≡ true
 later_true true b m h = refl
@@ -50,21 +49,17 @@ sooner_true : (a b m n : Bool) → (m ≡ true → n ≡ true) → (a || m) ≡ 
 sooner_true true b m n f h = refl
 sooner_true false b m n f h = ap (λ (t : Bool). b || t) (f h) ∙ or_true b
 
-no_and : (n : Bool) → (n && false) ≡ false
-no_and true = refl
-no_and false = refl
-
 lt_more : (n m : ℕ) → n ≤ m → nat_lt MAX_SUMMARY_KEYS n ≡ true → nat_lt MAX_SUMMARY_KEYS m ≡ true
 lt_more n m more h = let many = ltb-true MAX_SUMMARY_KEYS n h in lt-ltb MAX_SUMMARY_KEYS m (omega arith)
 
 -- ---- too many
 
-many-both : (found : Found) (e f : Effects) → is_many (all_added found e) f ≡ is_many found (both e f)
+many-both : (found : Found) (e f : Effects) → is_many (added found e) f ≡ is_many found (both e f)
 many-both found e f = (λ i.
     nat_lt MAX_SUMMARY_KEYS (length (sym (keys_added-append found.records e.records f.records) i))
     || nat_lt MAX_SUMMARY_KEYS (set.len (paths-both found.wobbly found.result e f i)))
 
-still_many : (found : Found) (e f : Effects) → is_many found e ≡ true → is_many (all_added found e) f ≡ true
+still_many : (found : Found) (e f : Effects) → is_many found e ≡ true → is_many (added found e) f ≡ true
 still_many found e f =
     let keys = keys_added found.records e.records in
     let paths = paths_after found e in
@@ -78,38 +73,26 @@ still_many found e f =
     (lt_more (length keys) (length (keys_added keys f.records)) (keys_added-longer keys f.records))
     (lt_more (set.len paths) (set.len most) (omega arith))
 
-is_all : (found : Found) (e : Effects) → found.noted ≡ true → added found e ≡ all_added found e
-is_all found e noted = ap (λ (b : Bool). cond b (all_added found e) found) noted
-
 -- ---- one and then another
-
-pub noted-kept : (old : Found) (e : Effects) (now : Found) → IsNoted old e now → now.noted ≡ old.noted
-noted-kept old e now m = ap (λ (g : Found). g.noted) m.0 ∙ added-noted old e
 
 pub noted-then : (old : Found) (e : Effects) (now : Found) (f : Effects) (new : Found) → IsNoted old e now →
     IsNoted now f new → IsNoted old (both e f) new
 noted-then old e now f new m k = (
   k.0 ∙ ap (λ (g : Found). added g f) m.0 ∙ added-both old e f,
-  no_or old.noted e.large f.large m.1 (ap (λ (b : Bool). b && f.large) (sym (noted-kept old e now m)) ∙ k.1),
+  no_or e.large f.large m.1 k.1,
 )
 
 pub stopped-then : (old : Found) (e : Effects) (now : Found) (f : Effects) (stop : Stop) → IsNoted old e now →
     IsStopped now f stop → IsStopped old (both e f) stop
 stopped-then old e now f Large m k =
-    let noted : old.noted ≡ true = sym (noted-kept old e now m) ∙ k.0 in (
-      noted,
-      later_true e.large f.large (is_many old (both e f))
-          (ap (λ (b : Bool). f.large || b)
-          (sym (ap (λ (g : Found). is_many g f) (m.0 ∙ is_all old e noted) ∙ many-both old e f)) ∙ k.1),
-    )
+    later_true e.large f.large (is_many old (both e f))
+    (ap (λ (b : Bool). f.large || b) (sym (ap (λ (g : Found). is_many g f) m.0 ∙ many-both old e f)) ∙ k)
 stopped-then old e now f Memory m k = tt
 
 pub stopped-first : (old : Found) (e f : Effects) (stop : Stop) → IsStopped old e stop → IsStopped old (both e f) stop
-stopped-first old e f Large m = (
-  m.0,
-  sooner_true e.large f.large (is_many old e) (is_many old (both e f))
-      (λ many. sym (many-both old e f) ∙ still_many old e f many) m.1,
-)
+stopped-first old e f Large m =
+    sooner_true e.large f.large (is_many old e) (is_many old (both e f))
+    (λ many. sym (many-both old e f) ∙ still_many old e f many) m
 stopped-first old e f Memory m = tt
 
 -- the same of effects that are alike
@@ -117,71 +100,57 @@ stopped-first old e f Memory m = tt
 pub noted-alike : (old : Found) (e f : Effects) (new : Found) → Alike e f → IsNoted old e new → IsNoted old f new
 noted-alike old e f new same m = (
   m.0 ∙ added-alike old e f same,
-  ap (λ (b : Bool). old.noted && b) (sym same.large) ∙ m.1,
+  sym same.large ∙ m.1,
 )
 
 pub stopped-alike : (old : Found) (e f : Effects) (stop : Stop) → Alike e f → IsStopped old e stop →
     IsStopped old f stop
-stopped-alike old e f Large same m = (
-  m.0,
-  (λ i. sym same.large i || (nat_lt MAX_SUMMARY_KEYS (length (keys_added old.records (sym same.records i)))
-      || nat_lt MAX_SUMMARY_KEYS (set.len (sym (paths_after-alike old e f same) i)))) ∙ m.1,
-)
+stopped-alike old e f Large same m =
+    (λ i. sym same.large i || (nat_lt MAX_SUMMARY_KEYS (length (keys_added old.records (sym same.records i)))
+    || nat_lt MAX_SUMMARY_KEYS (set.len (sym (paths_after-alike old e f same) i)))) ∙ m
 stopped-alike old e f Memory same m = tt
 
--- nothing, and where nothing is noted
+-- nothing
 
 pub noted-nothing : (old : Found) (s : State) → IsNoted old (goes_on s) old
-noted-nothing old s = (added-nothing old s, no_and old.noted)
-
-pub noted-quiet : (old : Found) (e : Effects) → old.noted ≡ false → IsNoted old e old
-noted-quiet old e quiet = (
-  sym (ap (λ (b : Bool). cond b (all_added old e) old) quiet),
-  ap (λ (b : Bool). b && e.large) quiet,
-)
+noted-nothing old s = (added-nothing old s, refl)
 
 -- ---- one record, and one path
 
-abbrev pub with_parts : Found → List Access → PathSet → Option Value → Found
-with_parts old records wobbly result =
-    record { noted = old.noted; records = records; wobbly = wobbly; result = result }
+abbrev pub with_parts : List Access → PathSet → Option Value → Found
+with_parts records wobbly result = record { records = records; wobbly = wobbly; result = result }
 
-pub noted-records : (old : Found) (records xs : List Access) → old.noted ≡ true →
-    records ≡ keys_added old.records xs →
-    IsNoted old (marks xs []) (with_parts old records old.wobbly old.result)
-noted-records old records xs noted more = (
-  (λ i. with_parts old (more i) (paths_added old.wobbly (sym (lost_result-none old.result) i))
-      (sym (joined_result-none old.result) i)) ∙ sym (is_all old (marks xs []) noted),
-  no_and old.noted,
+pub noted-records : (old : Found) (records xs : List Access) → records ≡ keys_added old.records xs →
+    IsNoted old (marks xs []) (with_parts records old.wobbly old.result)
+noted-records old records xs more = (
+  (λ i. with_parts (more i) (paths_added old.wobbly (sym (lost_result-none old.result) i))
+      (sym (joined_result-none old.result) i)),
+  refl,
 )
 
-pub noted-paths : (old : Found) (wobbly : PathSet) (ps : List Path) → old.noted ≡ true →
-    wobbly ≡ paths_added old.wobbly ps →
-    IsNoted old (marks [] ps) (with_parts old old.records wobbly old.result)
-noted-paths old wobbly ps noted more = (
-  (λ i. with_parts old old.records (more i) old.result)
-      ∙ (λ i. with_parts old old.records (paths_added (paths_added old.wobbly ps) (sym (lost_result-none old.result) i))
-      (sym (joined_result-none old.result) i)) ∙ sym (is_all old (marks [] ps) noted),
-  no_and old.noted,
+pub noted-paths : (old : Found) (wobbly : PathSet) (ps : List Path) → wobbly ≡ paths_added old.wobbly ps →
+    IsNoted old (marks [] ps) (with_parts old.records wobbly old.result)
+noted-paths old wobbly ps more = (
+  (λ i. with_parts old.records (more i) old.result)
+      ∙ (λ i. with_parts old.records (paths_added (paths_added old.wobbly ps) (sym (lost_result-none old.result) i))
+      (sym (joined_result-none old.result) i)),
+  refl,
 )
 
-pub full-record : (old : Found) (x : Access) → old.noted ≡ true →
-    list_any (λ r. same_key r x) old.records ≡ false → length old.records ≡ MAX_SUMMARY_KEYS →
-    IsStopped old (marks (x ∷ []) []) Large
-full-record old x noted fresh full =
+pub full-record : (old : Found) (x : Access) → list_any (λ r. same_key r x) old.records ≡ false →
+    length old.records ≡ MAX_SUMMARY_KEYS → IsStopped old (marks (x ∷ []) []) Large
+full-record old x fresh full =
     let grown : key_added old.records x ≡ old.records ++ x ∷ [] =
     ap (λ (b : Bool). cond b old.records (old.records ++ x ∷ [])) fresh in
     let long : length (old.records ++ x ∷ []) ≡ length old.records + 1 = length-append old.records (x ∷ []) in
     let many : nat_lt MAX_SUMMARY_KEYS (length (key_added old.records x)) ≡ true =
     ap (λ (rs : List Access). nat_lt MAX_SUMMARY_KEYS (length rs)) grown
-    ∙ lt-ltb MAX_SUMMARY_KEYS (length (old.records ++ x ∷ [])) (omega arith) in (
-      noted,
-      ap (λ (b : Bool). b || nat_lt MAX_SUMMARY_KEYS (set.len (paths_after old (marks (x ∷ []) [])))) many,
-    )
+    ∙ lt-ltb MAX_SUMMARY_KEYS (length (old.records ++ x ∷ [])) (omega arith) in
+    ap (λ (b : Bool). b || nat_lt MAX_SUMMARY_KEYS (set.len (paths_after old (marks (x ∷ []) [])))) many
 
-pub full-path : (old : Found) (p : Path) → old.noted ≡ true → set.contains old.wobbly p ≡ false →
+pub full-path : (old : Found) (p : Path) → set.contains old.wobbly p ≡ false →
     set.len old.wobbly ≡ MAX_SUMMARY_KEYS → IsStopped old (marks [] (p ∷ [])) Large
-full-path old p noted fresh full =
+full-path old p fresh full =
     let count : set.len (set.insert old.wobbly p) ≡ set.len old.wobbly + 1 =
     set.len-insert path_cmp-total old.wobbly p
     ∙ ap (λ (b : Bool). cond b (set.len old.wobbly) (set.len old.wobbly + 1)) fresh in
@@ -189,11 +158,9 @@ full-path old p noted fresh full =
     ap (paths_added (set.insert old.wobbly p)) (lost_result-none old.result) in
     let many : nat_lt MAX_SUMMARY_KEYS (set.len (paths_after old (marks [] (p ∷ [])))) ≡ true =
     ap (λ (w : PathSet). nat_lt MAX_SUMMARY_KEYS (set.len w)) same
-    ∙ lt-ltb MAX_SUMMARY_KEYS (set.len (set.insert old.wobbly p)) (omega arith) in (
-      noted,
-      ap (λ (b : Bool). nat_lt MAX_SUMMARY_KEYS (length old.records) || b) many
-          ∙ or_true (nat_lt MAX_SUMMARY_KEYS (length old.records)),
-    )
+    ∙ lt-ltb MAX_SUMMARY_KEYS (set.len (set.insert old.wobbly p)) (omega arith) in
+    ap (λ (b : Bool). nat_lt MAX_SUMMARY_KEYS (length old.records) || b) many
+    ∙ or_true (nat_lt MAX_SUMMARY_KEYS (length old.records))
 
 -- ---- whatever the answer
 
@@ -210,27 +177,24 @@ module _ {X : Type 0} where
 
   -- a value that is returned behind others
   pub marked-return : (old : Found) (earlier v made : Value) (names : List Path) (new : Found) (r : Result X Stop) →
-      old.noted ≡ true → old.result ≡ Some earlier → made ≡ joined earlier v → names ≡ lost earlier v →
-      IsMarked (with_parts old old.records old.wobbly (Some made)) (marks [] names) new r →
+      old.result ≡ Some earlier → made ≡ joined earlier v → names ≡ lost earlier v →
+      IsMarked (with_parts old.records old.wobbly (Some made)) (marks [] names) new r →
       IsMarked old (returns_of v) new r
-  marked-return old earlier v made names new (Ok x) noted was is loses m =
-      let now = with_parts old old.records old.wobbly (Some made) in
+  marked-return old earlier v made names new (Ok x) was is loses m =
+      let now = with_parts old.records old.wobbly (Some made) in
       let wobbly : paths_after now (marks [] names) ≡ paths_after old (returns_of v) =
       ap (paths_added old.wobbly) (loses ∙ sym (ap (λ (o : Option Value). lost_result o (Some v)) was)) in
       let value : Some made ≡ joined_result old.result (Some v) =
       ap Some is ∙ sym (ap (λ (o : Option Value). joined_result o (Some v)) was) in (
-        m.0 ∙ is_all now (marks [] names) noted ∙ (λ i. with_parts old old.records (wobbly i) (value i))
-            ∙ sym (is_all old (returns_of v) noted),
-        no_and old.noted,
+        m.0 ∙ (λ i. with_parts old.records (wobbly i) (value i)),
+        refl,
       )
-  marked-return old earlier v made names new (Err Large) noted was is loses m =
-      let now = with_parts old old.records old.wobbly (Some made) in
+  marked-return old earlier v made names new (Err Large) was is loses m =
+      let now = with_parts old.records old.wobbly (Some made) in
       let wobbly : paths_after now (marks [] names) ≡ paths_after old (returns_of v) =
-      ap (paths_added old.wobbly) (loses ∙ sym (ap (λ (o : Option Value). lost_result o (Some v)) was)) in (
-        noted,
-        (λ i. nat_lt MAX_SUMMARY_KEYS (length old.records) || nat_lt MAX_SUMMARY_KEYS (set.len (sym wobbly i))) ∙ m.1,
-      )
-  marked-return old earlier v made names new (Err Memory) noted was is loses m = tt
+      ap (paths_added old.wobbly) (loses ∙ sym (ap (λ (o : Option Value). lost_result o (Some v)) was)) in
+      (λ i. nat_lt MAX_SUMMARY_KEYS (length old.records) || nat_lt MAX_SUMMARY_KEYS (set.len (sym wobbly i))) ∙ m
+  marked-return old earlier v made names new (Err Memory) was is loses m = tt
 
 pub nothing_left : {X : Type 0} (xs : List X) (n : ℕ) → n ≡ length xs → n ≡ 0 → xs ≡ []
 nothing_left [] n e z = refl

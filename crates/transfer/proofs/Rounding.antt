@@ -1,5 +1,5 @@
 -- The rounds of a loop, up to the first that leaves the values as they were, stand for all of them.
-use Rattle.std.proofs.Common.{◌≡◌, ℕ, zero, suc, Bool, true, false, cond, ◌&&◌, List, [], ◌++◌}
+use Rattle.std.proofs.Common.{◌≡◌, ℕ, zero, suc, List, [], ◌++◌}
 use Rattle.std.proofs.Common.{refl, sym, ap, subst, ◌∙◌}
 use Rattle.std.proofs.lemmas.List.{append-nil}
 use Rattle.std.specs.Prelude.{Ok, Err}
@@ -11,50 +11,39 @@ use Rattle.access_domain.specs.Operations.{Effects}
 use Rattle.access_domain.specs.Flow.{rounds, both}
 use Rattle.transfer.specs.declared.found.Found.{Found}
 use Rattle.transfer.specs.declared.found.Stop.{Stop}
-use Rattle.transfer.specs.Marks.{marks, all_added, added, IsNoted, IsStopped, IsMarked}
-use Rattle.transfer.specs.Rounds.{round_next, round_lost, rounds_of}
+use Rattle.transfer.specs.Marks.{marks, added, IsNoted, IsStopped, IsMarked}
+use Rattle.transfer_loops.specs.Rounds.{round_next, round_lost, rounds_of}
 use Rattle.transfer.specs.Walks.{AreRoundsDone}
 use Rattle.transfer.proofs.JoinedResults.{joined_result-none, lost_result-none}
-use Rattle.transfer.proofs.Marking.{noted-kept, marked-then, marked-alike, stopped-first, stopped-alike}
+use Rattle.transfer.proofs.Marking.{marked-then, marked-alike, stopped-first, stopped-alike}
 use Rattle.transfer.proofs.Flows.{append-alike, AreRounds, rounds-step, rounds-turn, all_lost, here_last}
 use Rattle.transfer.proofs.EarlyEnds.{added_again}
 
 abbrev with_paths : Found → PathSet → Found
-with_paths found paths =
-    record { noted = found.noted; records = found.records; wobbly = paths; result = found.result }
+with_paths found paths = record { records = found.records; wobbly = paths; result = found.result }
 
 -- what lost paths make of what was found
 adds_paths : (found : Found) (ps : List Path) →
-    all_added found (marks [] ps) ≡ with_paths found (paths_added found.wobbly ps)
+    added found (marks [] ps) ≡ with_paths found (paths_added found.wobbly ps)
 adds_paths found ps =
     (λ i. record {
-      noted = found.noted;
       records = found.records;
       wobbly = paths_added (paths_added found.wobbly ps) (lost_result-none found.result i);
       result = joined_result-none found.result i;
     })
 
-twice : (b : Bool) (found : Found) (ps : List Path) → found.noted ≡ b →
-    added (cond b (all_added found (marks [] ps)) found) (marks [] ps) ≡ cond b (all_added found (marks [] ps)) found
-twice true found ps e =
+twice : (found : Found) (ps : List Path) →
+    added (added found (marks [] ps)) (marks [] ps) ≡ added found (marks [] ps)
+twice found ps =
     let more = with_paths found (paths_added found.wobbly ps) in
     ap (λ (f : Found). added f (marks [] ps)) (adds_paths found ps)
-    ∙ ap (λ b. cond b (all_added more (marks [] ps)) more) e
     ∙ adds_paths more ps
     ∙ ap (with_paths found) (added_again found.wobbly ps)
     ∙ sym (adds_paths found ps)
-twice false found ps e = ap (λ b. cond b (all_added found (marks [] ps)) found) e
-
-never : (b : Bool) → (b && false) ≡ false
-never true = refl
-never false = refl
 
 -- paths that were noted are noted again
 noted-again : (old new : Found) (ps : List Path) → IsNoted old (marks [] ps) new → IsNoted new (marks [] ps) new
-noted-again old new ps m = (
-  sym (ap (λ (f : Found). added f (marks [] ps)) m.0 ∙ twice old.noted old ps refl ∙ sym m.0),
-  never new.noted,
-)
+noted-again old new ps m = (sym (ap (λ (f : Found). added f (marks [] ps)) m.0 ∙ twice old ps ∙ sym m.0), refl)
 
 -- all rounds that are left do what the last one did, which left the values as they were
 none_left : (body : State → Effects) (total left : ℕ) (start here : State) (old now : Found) →
@@ -114,7 +103,6 @@ pub rounds-left : (body : State → Effects) (start here : State) (old now : Fou
 rounds-left body start here old now m =
     let lost = (rounds body (rounds_of start) start).1 in
     record {
-      noted = noted-kept old (marks [] lost) now m.1;
       last = m.0;
       leads = λ new r k.
           subst (λ (ps : List Path). IsMarked old (marks [] ps) new r) (append-nil lost)

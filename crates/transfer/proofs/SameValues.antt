@@ -1,19 +1,22 @@
--- Lists of values that are found to be the same are equal.
-use Rattle.std.proofs.Common.{◌≡◌, Bool, true, false, ◌&&◌, List, [], ◌∷◌, refl}
-use Rattle.std.specs.Cmp.Lexicographic.{pointwise}
+-- Values and states are the same as themselves.
+use Rattle.std.proofs.Common.{◌≡◌, Bool, true, false, not, ◌&&◌, List, [], ◌∷◌, refl, ap, ◌∙◌}
 use Rattle.owner_domain.specs.declared.value.Value.{Value}
-use Rattle.owner_domain.specs.Values.{same_value}
-use Rattle.owner_domain.specs.SameValue.{equal_of_same_value}
+use Rattle.owner_domain.specs.declared.value.State.{State}
+use Rattle.owner_domain.specs.SameValue.{same_value-itself}
+use Rattle.transfer_loops.specs.Rounds.{same_values, same_state}
+use Rattle.transfer_loops.proofs.Settled.{same_state-equal}
 
-both_true : (a b : Bool) → (a && b) ≡ true → (a ≡ true) × (b ≡ true)
-both_true true true e = (refl, refl)
-both_true true false e = cc
-both_true false b e = cc
+pub values-itself : (xs : List Value) → same_values xs xs ≡ true
+values-itself [] = refl
+values-itself (a ∷ xs) = ap (λ b. b && same_values xs xs) (same_value-itself a) ∙ values-itself xs
 
-pub equal_values : (xs ys : List Value) → pointwise same_value xs ys ≡ true → xs ≡ ys
-equal_values [] [] e = refl
-equal_values [] (y ∷ ys) e = cc
-equal_values (x ∷ xs) [] e = cc
-equal_values (x ∷ xs) (y ∷ ys) e =
-    let same = both_true (same_value x y) (pointwise same_value xs ys) e in
-    (λ i. equal_of_same_value x y same.0 i ∷ equal_values xs ys same.1 i)
+pub same-itself : (s : State) → same_state s s ≡ true
+same-itself s = ap (λ b. b && same_values s.stack s.stack) (values-itself s.vars) ∙ values-itself s.stack
+
+-- where nothing is found to have changed the states are equal
+pub kept-state : (changed : Bool) (new old : State) → changed ≡ not (same_state new old) → changed ≡ false → new ≡ old
+kept-state changed new old test same = same_state-equal new old (by_not changed (same_state new old) test same)
+  where
+    by_not : (a b : Bool) → a ≡ not b → a ≡ false → b ≡ true
+    by_not a true e same = refl
+    by_not a false e same = cc

@@ -53,5 +53,5 @@ outcome-large e m =
     (nat_lt MAX_SUMMARY_KEYS (length (different_paths e.wobbly))))
     ∙ (λ i. e.large || (nat_lt MAX_SUMMARY_KEYS (length (sym (keys_added-nil e.records) i))
     || nat_lt MAX_SUMMARY_KEYS (sym count i)))
-    ∙ m.1 in
+    ∙ m in
     sym (ap (λ (b : Bool). outcome_from (cond b Large (Whole (findings_from e)))) many)

@@ -2,7 +2,9 @@
 pub mod Known
 pub mod Marks
 pub mod Frames
-pub mod Rounds
+pub mod NotedCalls
 pub mod Walks
 pub mod Callees
 pub mod Tables
+pub mod Resumes
+pub mod Heights

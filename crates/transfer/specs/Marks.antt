@@ -1,6 +1,6 @@
 -- No public contract rests on this: what was found so far, and what is found behind it.
-use Rattle.std.specs.Prelude.{◌≡◌, Bool, true, false, ◌&&◌, ◌||◌, List, [], None, Some, length, nat_lt}
-use Rattle.std.specs.Prelude.{if◌then◌else◌, Result, Ok, Err, unwrap_or}
+use Rattle.std.specs.Prelude.{◌≡◌, Bool, true, false, ◌||◌, List, [], None, Some, length, nat_lt}
+use Rattle.std.specs.Prelude.{Result, Ok, Err, unwrap_or}
 use Rattle.std.specs.FinSet as set
 use Rattle.racer_base.specs.declared.limits.TheConstants.{MAX_SUMMARY_KEYS}
 use Rattle.access_paths.specs.declared.path.Path.{Path}
@@ -26,24 +26,20 @@ returns_of value = record { next = None; records = []; wobbly = []; result = Som
 
 -- nothing was found
 abbrev pub nothing : Found
-nothing = record { noted = true; records = []; wobbly = set.empty; result = None }
+nothing = record { records = []; wobbly = set.empty; result = None }
 
 -- the wobbly paths behind these effects
 abbrev pub paths_after : Found → Effects → PathSet
 paths_after found e = paths_added (paths_added found.wobbly e.wobbly) (lost_result found.result e.result)
 
-abbrev pub all_added : Found → Effects → Found
-all_added found e =
+-- what is found behind these effects
+abbrev pub added : Found → Effects → Found
+added found e =
     record {
-      noted = found.noted;
       records = keys_added found.records e.records;
       wobbly = paths_after found e;
       result = joined_result found.result e.result;
     }
-
--- what is found behind these effects, where anything is noted
-abbrev pub added : Found → Effects → Found
-added found e = if found.noted then all_added found e else found
 
 abbrev pub is_many : Found → Effects → Bool
 is_many found e =
@@ -52,11 +48,11 @@ is_many found e =
 
 -- the effects are noted
 abbrev pub IsNoted : Found → Effects → Found → Type 0
-IsNoted old e new = (new ≡ added old e) × ((old.noted && e.large) ≡ false)
+IsNoted old e new = (new ≡ added old e) × (e.large ≡ false)
 
 -- it stops as Large where there are too many; where memory is refused nothing is said
 abbrev pub IsStopped : Found → Effects → Stop → Type 0
-IsStopped old e Large = (old.noted ≡ true) × ((e.large || is_many old e) ≡ true)
+IsStopped old e Large = (e.large || is_many old e) ≡ true
 IsStopped old e Memory = Unit {0}
 
 abbrev pub IsMarked : {X : Type 0} → Found → Effects → Found → Result X Stop → Type 0

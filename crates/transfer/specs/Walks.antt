@@ -1,7 +1,7 @@
 -- No public contract rests on this: code that is gone through.
-use Rattle.std.specs.Prelude.{◌≡◌, ℕ, Bool, true, false, [], Option, None, Some, Result, Ok, Err, OnOk}
+use Rattle.std.specs.Prelude.{◌≡◌, Bool, true, false, [], Option, None, Some, Result, Ok, Err, OnOk}
 use Rattle.std.specs.Prelude.{slice_index_or, slice_set}
-use Rattle.std.specs.FinSet as set
+use Rattle.racer_base.specs.declared.ids.SiteId.{SiteId}
 use Rattle.racer_base.specs.declared.ids.VarId.{VarId}
 use Rattle.access_paths.specs.declared.path.Root.TheVariants.{Class}
 use Rattle.access_paths.specs.Paths.{alone}
@@ -11,13 +11,17 @@ use Rattle.owner_domain.specs.declared.value.State.{State}
 use Rattle.core_code.specs.declared.code.Op.{Op as CoreOp}
 use Rattle.core_code.specs.declared.code.Op.TheVariants.{Push, PushClass, PushPrim, PushNull, New, Dup, Drop, Get, Put}
 use Rattle.core_code.specs.declared.code.Op.TheVariants.{Set, Prim, Outside, Call, Unread, Ret}
-use Rattle.access_domain.specs.declared.summary.Summary.{Summary}
+use Rattle.access_domain.specs.Findings.{Findings}
+use Rattle.access_domain.specs.Given.{Given}
+use Rattle.access_domain.specs.Substitution.{substituted}
 use Rattle.access_domain.specs.Flow.{rounds}
-use Rattle.access_domain.specs.Operations.{Effects, goes_on, top, pushed, popped, replaced, unread}
+use Rattle.access_domain.specs.Operations.{Effects, goes_on, top, pushed, popped, replaced}
 use Rattle.transfer.specs.declared.found.Found.{Found}
 use Rattle.transfer.specs.declared.found.Stop.{Stop}
+use Rattle.transfer.specs.declared.noted_calls.NotedCall.{NotedCall}
+use Rattle.transfer.specs.NotedCalls.{passed_by}
 use Rattle.transfer.specs.Marks.{IsNoted, IsStopped, IsMarked, marks}
-use Rattle.transfer.specs.Rounds.{rounds_of}
+use Rattle.transfer_loops.specs.Rounds.{rounds_of}
 
 -- the state behind a piece of code that goes on or not
 abbrev pub next_of : Bool → State → Option State
@@ -56,14 +60,15 @@ abbrev pub set_effects : VarId → State → Effects
 set_effects v s =
     record (goes_on (record { vars = slice_set s.vars v.0 (top s); stack = s.stack })) { wobbly = names_of (top s) }
 
--- a call of a method that finds too much
-abbrev pub large_effects : State → ℕ → Effects
-large_effects s n = record (unread s n) { large = true }
+-- whether an operation calls a method
+abbrev pub is_call : CoreOp → Bool
+is_call (Call m n) = true
+is_call _ = false
 
--- what a summary holds, and a push of its result
-abbrev pub summary_effects : Summary → State → Effects
-summary_effects summary s =
-    record (goes_on (pushed s summary.result)) { records = summary.accesses; wobbly = set.items summary.wobbly }
+-- what is found of a callee at such a call, in the caller's values
+abbrev pub call_marks : Given → NotedCall → Findings → SiteId → Effects
+call_marks g c f site =
+    marks (substituted g (passed_by g c) f c.locked site).records (substituted g (passed_by g c) f c.locked site).wobbly
 
 -- so many rounds of a loop are done as there are: the state is that behind them, and the paths that are lost there
 -- are noted

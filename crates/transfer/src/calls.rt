@@ -1,20 +1,28 @@
 //! Calls.
-ghost use Rattle.std.specs.Prelude.{◌≡◌, Some};
+ghost use Rattle.std.specs.Prelude.{◌≡◌, Bool, [], IfOk, OnOk, Some};
+ghost use Rattle.racer_base.specs.declared.ids.SiteId.{SiteId as Site};
 ghost use Rattle.std.specs.Option.{option_copied};
-ghost use Rattle.core_code.specs.declared.code.Op.TheVariants.{Call};
+ghost use Rattle.core_code.specs.declared.code.Op.TheVariants.{Call as CallOf};
 ghost use Rattle.access_domain.specs.Findings.{Whole};
-ghost use Rattle.access_domain.specs.Operations.{call_effects, op_effects};
+ghost use Rattle.access_domain.specs.Operations.{op_effects, passed_from, replaced};
+ghost use Rattle.access_domain.specs.Substitution.{actuals_from, substituted_value};
+ghost use Rattle.call_subst.specs.Calls.{records_at, paths_at};
 ghost use Rattle.transfer.specs.Frames.{given};
 ghost use Rattle.transfer.specs.Known.{findings_in, outcome_among};
-ghost use Rattle.transfer.specs.Walks.{IsFlow, large_effects, summary_effects};
+ghost use Rattle.transfer.specs.Marks.{IsMarked, marks};
+ghost use Rattle.transfer.specs.NotedCalls.{AreFound};
+ghost use Rattle.transfer.specs.Walks.{IsFlow, call_marks};
 
 use crate::found::{Found, Stop};
 use crate::here::Here;
+use crate::noted_calls::NotedCall;
 use crate::operations::Frame;
-use access_domain::{Outcome, Summary};
-use call_subst::substitute;
+use access_domain::{Accesses, Outcome, Summary};
+use access_paths::Path;
+use call_subst::{Call, is_static, named, record_there, substitute_value};
+use indexmap::IndexSet;
 use owner_domain::Value;
-use racer_base::{MethodId, SiteId};
+use racer_base::{Items, Memory, MethodId, SiteId};
 use std::alloc::Global;
 use std::sync::Arc;
 
@@ -46,10 +54,13 @@ pub fn call(
     method: MethodId,
     count: u32,
     here: &mut Here,
+    calls: &mut IndexSet<NotedCall>,
     found: &mut Found,
 ) -> Result<bool, Stop>
-    ensures { IsFlow (op_effects (given frame.now) locked site (Call method count) here.old) here.new found.old
+    requires { AreFound (given frame.now) calls.old.keys found.old }
+    ensures flow { IsFlow (op_effects (given frame.now) locked site (CallOf method count) here.old) here.new found.old
         found.new result }
+    ensures calls { OnOk result (AreFound (given frame.now) calls.new.keys found.new) }
 {
     match outcome_among(frame.callees, method) {
         None => {
@@ -58,88 +69,172 @@ pub fn call(
             };
             Ok(true)
         }
-        Some(Outcome::Large) => call_large(count, here, found),
+        Some(Outcome::Large) => Err(Stop::Large),
         Some(Outcome::Summary(summary)) => {
-            call_known(
-                alloc, frame, locked, site, method, count, summary, here, found,
-            )
+            let Ok(made) = pass(alloc, frame, locked, method, count, summary, here) else {
+                return Err(Stop::Memory);
+            };
+            match note_call(alloc, frame, made, site, summary, calls, found) {
+                Ok(()) => Ok(true),
+                Err(stop) => Err(stop),
+            }
         }
     }
 }
 
-/// Calls a method that finds too much.
-fn call_large(count: u32, here: &mut Here, found: &mut Found) -> Result<bool, Stop>
-    ensures { IsFlow (large_effects here.old count) here.new found.old found.new result }
-{
-    if found.noted {
-        return Err(Stop::Large);
-    }
-    let Ok(()) = here.replace(count, Value::Unnamed) else {
-        return Err(Stop::Memory);
-    };
-    Ok(true)
-}
-
-/// Calls a method of this summary.
-fn call_known(
+/// Takes the values that a call passes, and pushes what it returns.
+fn pass(
     alloc: Global,
     frame: &Frame,
     locked: bool,
-    site: SiteId,
     method: MethodId,
     count: u32,
     summary: &Summary,
     here: &mut Here,
-    found: &mut Found,
-) -> Result<bool, Stop>
-    ensures { IsFlow (call_effects (given frame.now) locked site method count here.old
-        (Some (Whole (findings_in summary.now)))) here.new found.old found.new result }
+) -> Result<NotedCall, Memory>
+    ensures call { IfOk result (λ made. made ≡ record {
+      callee = method;
+      locked = locked;
+      actuals = passed_from here.old count;
+    }) }
+    ensures next { OnOk result (here.new ≡ replaced here.old count (substituted_value
+        (actuals_from ((given frame.now).is_static method) (passed_from here.old count)) summary.now.result)) }
 {
-    let Ok(actuals) = here.take(count) else {
-        return Err(Stop::Memory);
-    };
-    let Ok(made) = substitute(
+    let actuals = here.take(count)?;
+    let value = substitute_value(
         alloc,
         frame.program,
         method,
-        summary,
         actuals.as_slice(),
+        &summary.result,
+    )?;
+    here.push(value)?;
+    Ok(NotedCall {
+        callee: method,
         locked,
-        frame.main,
-        site,
-    ) else {
-        return Err(Stop::Memory);
-    };
-    note_summary(alloc, made, here, found)
+        actuals: Items::from(actuals),
+    })
 }
 
-/// Notes what is found of a callee, and pushes what it returns.
-fn note_summary(
+/// Notes what a call of a method with this summary finds, unless one like it was noted before.
+fn note_call(
     alloc: Global,
-    made: Summary,
-    here: &mut Here,
+    frame: &Frame,
+    made: NotedCall,
+    site: SiteId,
+    summary: &Summary,
+    calls: &mut IndexSet<NotedCall>,
     found: &mut Found,
-) -> Result<bool, Stop>
-    ensures { IsFlow (summary_effects made here.old) here.new found.old found.new result }
+) -> Result<(), Stop>
+    requires known { (given frame.now).known_of made.callee ≡ Some (Whole (findings_in summary.now)) }
+    requires calls { AreFound (given frame.now) calls.old.keys found.old }
+    ensures found { IsMarked found.old (call_marks (given frame.now) made (findings_in summary.now) site) found.new
+        result }
+    ensures calls { OnOk result (AreFound (given frame.now) calls.new.keys found.new) }
 {
-    let Summary {
-        accesses,
-        wobbly,
-        result,
-    } = made;
-    let Ok(paths) = wobbly.paths(alloc) else {
-        return Err(Stop::Memory);
-    };
-    match found.note_records(accesses.into_vec()) {
+    if calls.contains(&made) {
+        return Ok(());
+    }
+    match note_callee(alloc, frame, &made, site, summary, found) {
         Ok(()) => {}
         Err(stop) => return Err(stop),
     }
-    match found.note_paths(paths) {
+    let Ok(_) = calls.insert(made) else {
+        return Err(Stop::Memory);
+    };
+    Ok(())
+}
+
+/// Notes the records and the wobbly paths of a callee, in the caller's values.
+fn note_callee(
+    alloc: Global,
+    frame: &Frame,
+    made: &NotedCall,
+    site: SiteId,
+    summary: &Summary,
+    found: &mut Found,
+) -> Result<(), Stop>
+    ensures { IsMarked found.old (call_marks (given frame.now) made.now (findings_in summary.now) site) found.new
+        result }
+{
+    let call = Call {
+        program: frame.program,
+        is_static: is_static(frame.program, made.callee),
+        actuals: made.actuals.as_slice(),
+        locked: made.locked,
+        main: frame.main,
+        site,
+    };
+    let Ok(paths) = summary.wobbly.paths(alloc) else {
+        return Err(Stop::Memory);
+    };
+    match note_records(alloc, &call, &summary.accesses, found) {
         Ok(()) => {}
         Err(stop) => return Err(stop),
     }
-    let Ok(()) = here.push(result) else {
-        return Err(Stop::Memory);
-    };
-    Ok(true)
+    note_names(alloc, &call, paths.as_slice(), found)
+}
+
+/// Notes the records of a callee, in the caller's values.
+fn note_records(
+    alloc: Global,
+    call: &Call,
+    records: &Accesses,
+    found: &mut Found,
+) -> Result<(), Stop>
+    ensures { IsMarked found.old (marks (records_at call.now 0 records.now) []) found.new result }
+{
+    for index in 0..records.len() {
+        let Ok(made) = record_there(alloc, call, index, records.get(index)) else {
+            return Err(Stop::Memory);
+        };
+        match found.note_any_record(made) {
+            Ok(()) => {}
+            Err(stop) => return Err(stop),
+        }
+    }
+    Ok(())
+}
+
+/// Notes what these paths of a callee name in the caller.
+fn note_names(alloc: Global, call: &Call, paths: &[Path], found: &mut Found) -> Result<(), Stop>
+    ensures { IsMarked found.old (marks [] (paths_at call.now paths.now)) found.new result }
+{
+    for path in paths {
+        let Ok(value) = named(alloc, call, path) else {
+            return Err(Stop::Memory);
+        };
+        match found.note_name(value) {
+            Ok(()) => {}
+            Err(stop) => return Err(stop),
+        }
+    }
+    Ok(())
+}
+
+/// Takes the values that a call passes, and pushes what it returns.
+pub fn move_call(
+    alloc: Global,
+    frame: &Frame,
+    method: MethodId,
+    count: u32,
+    here: &mut Here,
+) -> Result<(), Memory>
+    ensures { OnOk result ((locked : Bool) (site : Site) →
+        (op_effects (given frame.now) locked site (CallOf method count) here.old).next ≡ Some here.new) }
+{
+    match outcome_among(frame.callees, method) {
+        Some(Outcome::Summary(summary)) => {
+            let actuals = here.take(count)?;
+            let value = substitute_value(
+                alloc,
+                frame.program,
+                method,
+                actuals.as_slice(),
+                &summary.result,
+            )?;
+            here.push(value)
+        }
+        _ => here.replace(count, Value::Unnamed),
+    }
 }

@@ -1,6 +1,7 @@
 //! What is found of a method while its code is gone through.
 ghost use Rattle.std.specs.Prelude.{◌≡◌, true, [], ◌∷◌, None};
 ghost use Rattle.std.specs.FinSet as set;
+ghost use Rattle.std.specs.Option.{option_to_list};
 ghost use Rattle.owner_domain.specs.Values.{names_of};
 ghost use Rattle.transfer.specs.Marks.{IsMarked, marks, returns_of};
 
@@ -33,8 +34,6 @@ impl From<Memory> for Stop {
 /// What was found so far.
 #[derive(Drop)]
 pub struct Found {
-    /// Whether anything is noted: in all rounds of a loop but the last nothing is.
-    pub noted: bool,
     pub records: Accesses,
     pub wobbly: Wobbly,
     /// The join of the values that were returned.
@@ -44,10 +43,9 @@ pub struct Found {
 impl Found {
     /// Nothing.
     pub fn nothing(alloc: Global) -> Found
-        ensures { result ≡ record { noted = true; records = []; wobbly = set.empty; result = None } }
+        ensures { result ≡ record { records = []; wobbly = set.empty; result = None } }
     {
         Found {
-            noted: true,
             records: Accesses::new(alloc),
             wobbly: Wobbly::new(alloc),
             result: None,
@@ -58,9 +56,6 @@ impl Found {
     pub fn note_record(&mut self, access: Access) -> Result<(), Stop>
         ensures { IsMarked self.old (marks (access ∷ []) []) self.new result }
     {
-        if !self.noted {
-            return Ok(());
-        }
         match self.records.add(access) {
             Adding::Added | Adding::Present => Ok(()),
             Adding::Full => Err(Stop::Large),
@@ -72,9 +67,6 @@ impl Found {
     pub fn note_path(&mut self, path: Path) -> Result<(), Stop>
         ensures { IsMarked self.old (marks [] (path ∷ [])) self.new result }
     {
-        if !self.noted {
-            return Ok(());
-        }
         match self.wobbly.add(path) {
             Adding::Added | Adding::Present => Ok(()),
             Adding::Full => Err(Stop::Large),
@@ -92,17 +84,14 @@ impl Found {
         }
     }
 
-    /// Notes these records.
-    pub fn note_records(&mut self, records: Vec<Access>) -> Result<(), Stop>
-        ensures { IsMarked self.old (marks records.items []) self.new result }
+    /// Notes a record, where there is one.
+    pub fn note_any_record(&mut self, access: Option<Access>) -> Result<(), Stop>
+        ensures { IsMarked self.old (marks (option_to_list access) []) self.new result }
     {
-        for access in records {
-            match self.note_record(access) {
-                Ok(()) => {}
-                Err(stop) => return Err(stop),
-            }
+        match access {
+            Some(access) => self.note_record(access),
+            None => Ok(()),
         }
-        Ok(())
     }
 
     /// Notes these wobbly paths.
@@ -122,9 +111,6 @@ impl Found {
     pub fn note_result(&mut self, alloc: Global, value: Value) -> Result<(), Stop>
         ensures { IsMarked self.old (returns_of value) self.new result }
     {
-        if !self.noted {
-            return Ok(());
-        }
         let Some(earlier) = self.result.take() else {
             self.result = Some(value);
             return Ok(());

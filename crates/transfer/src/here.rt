@@ -1,10 +1,14 @@
 //! The values of a method's variables, and those on its operand stack.
-ghost use Rattle.std.specs.Prelude.{◌≡◌, ◌+◌, [], true, IfOk, OnOk, length, slice_index_or, slice_set};
+ghost use Rattle.std.specs.Prelude.{◌≡◌, ◌+◌, [], not, IfOk, OnOk, length, slice_index_or, slice_set};
+ghost use Rattle.owner_domain.specs.Values.{joined_state, lost_state};
 ghost use Rattle.owner_domain.specs.declared.value.Value.TheVariants.{Unnamed as NotNamed};
 ghost use Rattle.access_domain.specs.Operations.{top, pushed, popped, replaced, passed_from};
+ghost use Rattle.transfer_loops.specs.Rounds.{same_state};
 
-use owner_domain::{State, Value};
-use racer_base::{Items, Memory, VarId};
+use crate::meeting::{lose_values, meet_values};
+use access_paths::Path;
+use owner_domain::Value;
+use racer_base::{Memory, VarId};
 use std::alloc::Global;
 use std::marker::Model;
 
@@ -37,6 +41,13 @@ impl Here {
             vars,
             stack: Vec::new(alloc),
         }
+    }
+
+    /// How many values lie on the stack.
+    pub fn height(&self) -> usize
+        ensures { result ≡ length self.now.stack }
+    {
+        self.stack.len()
     }
 
     /// How many rounds of a loop there are: one more than there are values.
@@ -147,35 +158,48 @@ impl Here {
         Ok(Here { vars, stack })
     }
 
-    /// Whether the values are found to be the same, slot by slot.
-    pub fn is_same(&self, other: &Here) -> bool
-        ensures { result ≡ true → self.now ≡ other.now }
+    /// Joins the values with others; whether that changed them.
+    pub fn meet(&mut self, other: Here) -> bool
+        ensures state { self.new ≡ joined_state self.old other }
+        ensures changed { result ≡ not (same_state self.new self.old) }
     {
-        self.vars == other.vars && self.stack == other.stack
+        let mut others = other.stack;
+        others.reverse();
+        self.stack.reverse();
+        let vars = meet_values(&mut self.vars, other.vars.as_slice());
+        let stack = meet_values(&mut self.stack, others.as_slice());
+        self.stack.reverse();
+        vars || stack
     }
 
-    /// The values as a state.
-    pub fn into_state(self) -> State
-        ensures { result ≡ self }
+    /// Joins the values with others; whether that changed them, and the paths that are lost, in order of slots.
+    pub fn meet_losing(
+        &mut self,
+        alloc: Global,
+        mut other: Here,
+    ) -> Result<(bool, Vec<Path>), Memory>
+        ensures state { OnOk result (self.new ≡ joined_state self.old other) }
+        ensures changed { IfOk result (λ made. made.0 ≡ not (same_state self.new self.old)) }
+        ensures lost { IfOk result (λ made. made.1.items ≡ lost_state self.old other) }
     {
-        let mut stack = self.stack;
-        stack.reverse();
-        State {
-            vars: Items::from(self.vars),
-            stack: Items::from(stack),
-        }
-    }
-
-    /// The values of a state.
-    pub fn of_state(state: State) -> Here
-        ensures { result ≡ state }
-    {
-        let mut stack = state.stack.into_vec();
-        stack.reverse();
-        Here {
-            vars: state.vars.into_vec(),
-            stack,
-        }
+        let mut lost = Vec::new(alloc);
+        lose_values(
+            alloc,
+            self.vars.as_slice(),
+            other.vars.as_slice(),
+            &mut lost,
+        )?;
+        self.stack.reverse();
+        other.stack.reverse();
+        lose_values(
+            alloc,
+            self.stack.as_slice(),
+            other.stack.as_slice(),
+            &mut lost,
+        )?;
+        self.stack.reverse();
+        other.stack.reverse();
+        Ok((self.meet(other), lost))
     }
 }
 

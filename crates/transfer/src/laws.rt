@@ -11,7 +11,7 @@ ghost use Rattle.access_domain.specs.Findings.{Table, outcome_from};
 ghost use Rattle.access_domain.specs.Flow.{rounds};
 ghost use Rattle.access_domain.specs.Operations.{Effects};
 ghost use Rattle.access_domain.specs.Summaries.{known_given};
-ghost use Rattle.transfer.specs.Rounds.{IsSettled};
+ghost use Rattle.transfer_loops.specs.Rounds.{IsSettled};
 
 /// The outcome of a method depends on its code and on the outcomes of the methods that it calls, and on nothing else
 /// that is known of methods.

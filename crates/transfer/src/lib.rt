@@ -11,9 +11,12 @@ mod finished;
 mod found;
 mod here;
 pub mod laws;
+mod meeting;
 mod method_outcomes;
+mod noted_calls;
 mod operations;
 mod piece;
+mod resuming;
 mod walk;
 mod whole;
 

@@ -1,8 +1,9 @@
 //! The outcome of a method of one code.
-ghost use Rattle.std.specs.Prelude.{◌≡◌, ◌≤◌, IfOk, length};
+ghost use Rattle.std.specs.Prelude.{◌≡◌, ◌≤◌, true, IfOk, length};
 ghost use Rattle.std.specs.FinSet as set;
 ghost use Rattle.racer_base.specs.declared.limits.TheConstants.{MAX_SUMMARY_KEYS};
 ghost use Rattle.core_code.specs.Core.{method_of};
+ghost use Rattle.core_code.specs.Facts.{is_stack_enough};
 ghost use Rattle.core_code.specs.Program.{core};
 ghost use Rattle.access_domain.specs.Findings.{outcome_from};
 ghost use Rattle.access_domain.specs.Operations.{Effects};
@@ -18,6 +19,7 @@ use crate::walk::go;
 use access_domain::{Outcome, Summary};
 use access_paths::{Path, Root};
 use core_code::{MethodCore, Program};
+use indexmap::IndexSet;
 use owner_domain::Value;
 use racer_base::{Kind, Memory};
 use std::alloc::Global;
@@ -72,7 +74,6 @@ fn summary_of(found: Found) -> Summary
     ensures few_paths { set.len result.wobbly ≤ MAX_SUMMARY_KEYS }
 {
     let Found {
-        noted: _,
         records,
         wobbly,
         result,
@@ -105,6 +106,7 @@ pub fn outcome(
     method: &MethodCore,
     callees: &[Callee],
 ) -> Result<Outcome, Memory>
+    requires { is_stack_enough (method_of method.now) ≡ true }
     ensures { IfOk result (λ found.
         found ≡ outcome_from (known_given (core program.now) (table_of callees.now) (method_of method.now))) }
 {
@@ -118,7 +120,16 @@ pub fn outcome(
     };
     let mut here = Here::new(alloc, values);
     let mut found = Found::nothing(alloc);
-    let walked = go(alloc, &frame, false, &method.code, &mut here, &mut found);
+    let mut calls = IndexSet::new(alloc);
+    let walked = go(
+        alloc,
+        &frame,
+        false,
+        &method.code,
+        &mut here,
+        &mut calls,
+        &mut found,
+    );
     mem::drop(here);
     outcome_found(walked, found)
 }

@@ -1,19 +1,24 @@
 //! Operations.
 ghost use Rattle.std.specs.Prelude.{◌≡◌, ◌++◌, IfOk, OnOk, [], true, false, if◌then◌else◌};
+ghost use Rattle.racer_base.specs.declared.ids.SiteId.{SiteId as Site};
+ghost use Rattle.std.specs.Prelude.{Bool};
 ghost use Rattle.owner_domain.specs.declared.value.Value.TheVariants.{Unnamed as NotNamed};
 ghost use Rattle.owner_domain.specs.Values.{field_value, names_of};
 ghost use Rattle.core_code.specs.declared.code.Op.TheVariants.{Get, Put};
 ghost use Rattle.access_domain.specs.Operations.{op_effects, popped, top};
 ghost use Rattle.transfer.specs.Frames.{given, record_reached};
 ghost use Rattle.transfer.specs.Marks.{IsMarked, marks, returns_of};
-ghost use Rattle.transfer.specs.Walks.{IsFlow, is_quiet, moved, set_effects};
+ghost use Rattle.transfer.specs.NotedCalls.{AreFound};
+ghost use Rattle.transfer.specs.Walks.{IsFlow, is_call, is_quiet, moved, next_of, set_effects};
 
-use crate::calls::{Callee, call};
+use crate::calls::{Callee, call, move_call};
 use crate::found::{Found, Stop};
 use crate::here::Here;
+use crate::noted_calls::NotedCall;
 use access_domain::{Access, path_reached, touched_field};
 use access_paths::{Path, Root};
 use core_code::{Op, Program};
+use indexmap::IndexSet;
 use owner_domain::Value;
 use racer_base::{FieldId, Memory, SiteId, Touch, VarId};
 use std::alloc::Global;
@@ -218,21 +223,21 @@ fn find_out(
     here: &mut Here,
     found: &mut Found,
 ) -> Result<bool, Stop>
-    requires { is_quiet op ≡ false }
+    requires quiet { is_quiet op ≡ false }
+    requires call { is_call op ≡ false }
     ensures { IsFlow (op_effects (given frame.now) locked site op here.old) here.new found.old found.new result }
 {
     match op {
         Op::Get(f) => get(alloc, frame, locked, site, f, here, found),
         Op::Put(f) => put(alloc, frame, locked, site, f, here, found),
         Op::Set(variable) => set(alloc, variable, here, found),
-        Op::Call(method, count) => call(alloc, frame, locked, site, method, count, here, found),
         Op::Ret => give_back(alloc, here, found),
         _ => unreachable!(),
     }
 }
 
-/// Does one operation; whether the code goes on behind it.
-pub fn step(
+/// Does one operation that is no call; whether the code goes on behind it.
+fn step(
     alloc: Global,
     frame: &Frame,
     locked: bool,
@@ -241,6 +246,7 @@ pub fn step(
     here: &mut Here,
     found: &mut Found,
 ) -> Result<bool, Stop>
+    requires { is_call op ≡ false }
     ensures { IsFlow (op_effects (given frame.now) locked site op here.old) here.new found.old found.new result }
 {
     if !is_quiet(op) {
@@ -250,4 +256,64 @@ pub fn step(
         return Err(Stop::Memory);
     };
     Ok(true)
+}
+
+/// Does one operation; whether the code goes on behind it.
+pub fn operate(
+    alloc: Global,
+    frame: &Frame,
+    locked: bool,
+    site: SiteId,
+    op: Op,
+    here: &mut Here,
+    calls: &mut IndexSet<NotedCall>,
+    found: &mut Found,
+) -> Result<bool, Stop>
+    requires { AreFound (given frame.now) calls.old.keys found.old }
+    ensures flow { IsFlow (op_effects (given frame.now) locked site op here.old) here.new found.old found.new result }
+    ensures calls { OnOk result (AreFound (given frame.now) calls.new.keys found.new) }
+{
+    match op {
+        Op::Call(method, count) => {
+            call(
+                alloc, frame, locked, site, method, count, here, calls, found,
+            )
+        }
+        _ => step(alloc, frame, locked, site, op, here, found),
+    }
+}
+
+/// Does one operation for the state behind it alone; whether the code goes on behind it.
+pub fn move_any(alloc: Global, frame: &Frame, op: Op, here: &mut Here) -> Result<bool, Memory>
+    ensures { IfOk result (λ goes_on. (locked : Bool) (site : Site) →
+        (op_effects (given frame.now) locked site op here.old).next ≡ next_of goes_on here.new) }
+{
+    match op {
+        Op::Get(f) => {
+            let value = pop_field(alloc, here, f)?;
+            let plain = touched_field(frame.program, f).plain;
+            here.push(value_read(plain, value))?;
+            Ok(true)
+        }
+        Op::Put(_) => {
+            let value = here.pop();
+            mem::drop(here.pop());
+            here.push(value)?;
+            Ok(true)
+        }
+        Op::Set(variable) => {
+            let value = here.top(alloc)?;
+            here.set(variable, value);
+            Ok(true)
+        }
+        Op::Call(method, count) => {
+            move_call(alloc, frame, method, count, here)?;
+            Ok(true)
+        }
+        Op::Ret => Ok(false),
+        _ => {
+            move_on(alloc, op, here)?;
+            Ok(true)
+        }
+    }
 }

@@ -8,7 +8,7 @@ use Rattle.core_code.specs.Program.{core}
 use Rattle.access_domain.specs.Reached.{reached_path}
 use Rattle.access_domain.specs.Substitution.{substituted_path}
 use Rattle.call_subst.specs.Calls.{given, actuals}
-use Rattle.call_subst.proofs.Named.{last_at, none_substituted, reached-substituted}
+use Rattle.call_subst.proofs.NamedValues.{last_at, none_substituted, reached-substituted}
 use Rattle.call_subst.proofs.naming.path_there.Goals as goal
 
 pub returns-in_ok-value-in-Some : goal.returns-in_ok-value-in-Some

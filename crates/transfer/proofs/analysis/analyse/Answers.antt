@@ -9,6 +9,7 @@ use Rattle.access_domain.specs.Findings.{outcome_from}
 use Rattle.access_domain.specs.Summaries.{known_given, outcome_of}
 use Rattle.core_code.proofs.RowCallees.{analysed_at}
 use Rattle.transfer.specs.Known.{table_of}
+use Rattle.transfer.proofs.HighEnough.{enough_at}
 use Rattle.transfer.proofs.Handed.{in_range, found_at, outcome-known}
 use Rattle.transfer.proofs.analysis.analyse.Goals as goal
 
@@ -46,3 +47,16 @@ invariant_of-result c =
           (arc_value c.args.program.now).ranks_there at analysed c.in-Ok.ensures c.requires.callees
           ∙ ap (λ (p : Program). outcome_of (core p) m) (sym c.in_ok-clone.ensures.cases);
     }
+
+pub outcome-requires : goal.outcome-requires
+outcome-requires c =
+    let program = arc_value c.args.program.now in
+    let ms = c.methods.result.now in
+    let x = c.index-methods-method.result in
+    let all : map method_of ms ≡ methods program = c.methods.ensures ∙ ap methods c.deref.ensures in
+    let within : c.args.method.0 < length ms =
+    in_range ms c.args.method.0
+    (subst (λ (xs : List Method). analysed_at (slice_get xs c.args.method.0) ≡ true) (sym all) c.requires.analysed) in
+    enough_at (methods program) c.args.method.0 (method_of x) program.stacks_enough
+    (ap (λ (xs : List Method). slice_get xs c.args.method.0) (sym all)
+    ∙ found_at ms c.args.method.0 x within c.index-methods-method.is)

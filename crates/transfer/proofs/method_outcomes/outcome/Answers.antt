@@ -27,4 +27,4 @@ returns c =
     (subst (λ (s : State). IsFlow (flow g method.code false s) walked.new.here nothing walked.new.found walked.result)
     start
     (subst (λ (f : Found). IsFlow (flow g method.code false c.new-here.result) walked.new.here f walked.new.found
-    walked.result) c.nothing-found.ensures walked.ensures)))
+    walked.result) c.nothing-found.ensures walked.ensures.flow)))

@@ -6,9 +6,9 @@ use Rattle.transfer.proofs.found.Found.note_path.Goals as goal
 pub returns-in-Added : goal.returns-in-Added
 returns-in-Added c =
     let old = c.args.self.now in
-    noted-paths old c.add.new.self (c.args.path ∷ []) c.if-not-self.false
+    noted-paths old c.add.new.self (c.args.path ∷ [])
     (added_path old.wobbly c.add.new.self c.args.path c.add.result c.add.ensures.cases c.in-Added.is)
 
 pub returns-in-Full : goal.returns-in-Full
 returns-in-Full c =
-    full-path c.args.self.now c.args.path c.if-not-self.false c.in-Full.ensures.cases.0 c.in-Full.ensures.cases.1
+    full-path c.args.self.now c.args.path c.in-Full.ensures.cases.0 c.in-Full.ensures.cases.1

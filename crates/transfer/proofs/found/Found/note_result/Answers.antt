@@ -9,7 +9,7 @@ returns c =
     let earlier = c.in-Some.earlier in
     let value = c.args.value in
     marked-return c.args.self.now earlier value c.in-Ok.joined c.join_value.new.names.items
-    c.note_paths.new.self c.note_paths.result c.if-not-self.false
+    c.note_paths.new.self c.note_paths.result
     (sym c.take.ensures.value ∙ c.in-Some.is)
     c.in-Ok.ensures.value
     (c.in-Ok.ensures.lost ∙ ap (λ (names : List Path). names ++ lost earlier value) c.new-lost.ensures.items)

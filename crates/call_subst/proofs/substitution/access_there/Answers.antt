@@ -1,5 +1,0 @@
-use Rattle.std.proofs.Common.{rules}
-use Rattle.call_subst.proofs.substitution.access_there.Goals as goal
-
-pub returns-after-access-2 : goal.returns-after-access-2
-returns-after-access-2 c = search rules

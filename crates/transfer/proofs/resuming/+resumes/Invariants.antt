@@ -1,0 +1,28 @@
+use Rattle.std.proofs.Common.{◌≡◌, ◌+◌, ◌-◌, map, drop, length}
+use Rattle.core_code.specs.Tree.{tree_of, in_sequence}
+use Rattle.transfer_loops.specs.Resuming.{loops, resumed, iterated}
+use Rattle.transfer.specs.Frames.{given}
+use Rattle.transfer.specs.Resumes.{heads_in}
+use Rattle.transfer.proofs.resuming.+resumes.Given as goal
+
+-- the rounds that are left, from here on, give what all give from the beginning on
+abbrev pub invariant-resume_rounds-loop-round : goal.invariant-resume_rounds-loop-round
+invariant-resume_rounds-loop-round l =
+    let go = resumed (given l.frame) (tree_of l.body) l.locked l.first in
+    record {
+      same : iterated go (l.rounds - l.round) (heads_in l.heads.items) l.here ≡
+          iterated go l.rounds (heads_in l.initial.heads.items) l.initial.here;
+      long : length l.heads.items ≡ length l.initial.heads.items;
+    }
+
+-- the parts that are left, from here on, give what all give from the beginning on
+abbrev pub invariant-resume_through-loop-index : goal.invariant-resume_through-loop-index
+invariant-resume_through-loop-index l =
+    let rest = in_sequence (map tree_of (drop l.index l.parts)) in
+    let all = in_sequence (map tree_of l.parts) in
+    record {
+      same : resumed (given l.frame) rest l.locked l.number (heads_in l.heads.items) l.here ≡
+          resumed (given l.frame) all l.locked l.first (heads_in l.initial.heads.items) l.initial.here;
+      number : l.number + loops rest ≡ l.first + loops all;
+      long : length l.heads.items ≡ length l.initial.heads.items;
+    }

@@ -1,0 +1,309 @@
+//! Code gone through for the state at its end alone, with the states in which its loops were left.
+ghost use Rattle.std.specs.Prelude.{◌≡◌, ◌+◌, ◌≤◌, Bool, false, map, length, IfOk, OnOk};
+ghost use Rattle.racer_base.specs.declared.ids.SiteId.{SiteId as Site};
+ghost use Rattle.core_code.specs.Tree.{tree_of, in_sequence, Again};
+ghost use Rattle.access_domain.specs.Flow.{joined_next};
+ghost use Rattle.access_domain.specs.Operations.{op_effects};
+ghost use Rattle.transfer_loops.specs.Rounds.{same_state};
+ghost use Rattle.transfer_loops.specs.Resuming.{loops, entered};
+ghost use Rattle.transfer.specs.Resumes.{heads_in, IsResumed, IsRound, AreResumedRounds};
+ghost use Rattle.transfer.specs.Frames.{given};
+ghost use Rattle.transfer.specs.Walks.{next_of};
+
+use crate::here::Here;
+use crate::operations::{Frame, move_any};
+use core_code::Code;
+use racer_base::Memory;
+use std::alloc::Global;
+use std::mem;
+
+/// Where code was left.
+#[derive(Clone, Copy)]
+pub struct Passed {
+    /// The number of the next loop behind the code.
+    pub next: usize,
+    pub goes_on: bool,
+}
+
+/// How many loops code has.
+#[cycle(counts)]
+pub fn count_loops(code: &Code) -> Result<usize, Memory>
+    ensures { IfOk result (λ count. count ≡ loops (tree_of code.now)) }
+{
+    match code {
+        Code::Op(_, _, _) => Ok(0),
+        Code::Seq(parts) => count_all(parts.as_slice()),
+        Code::Choice(left, right) => {
+            let Ok(first) = count_loops(left) else {
+                return Err(Memory);
+            };
+            let Ok(second) = count_loops(right) else {
+                return Err(Memory);
+            };
+            sum(first, second)
+        }
+        Code::Loop(body) => {
+            let Ok(inner) = count_loops(body) else {
+                return Err(Memory);
+            };
+            sum(1, inner)
+        }
+        Code::Sync(_, body) => count_loops(body),
+    }
+}
+
+/// How many loops pieces of code have.
+#[cycle(counts)]
+fn count_all(parts: &[Code]) -> Result<usize, Memory>
+    ensures { IfOk result (λ count. count ≡ loops (in_sequence (map tree_of parts.now))) }
+{
+    let mut count = 0usize;
+    for part in parts {
+        let Ok(more) = count_loops(part) else {
+            return Err(Memory);
+        };
+        let Ok(all) = sum(count, more) else {
+            return Err(Memory);
+        };
+        count = all;
+    }
+    Ok(count)
+}
+
+fn sum(a: usize, b: usize) -> Result<usize, Memory>
+    ensures { IfOk result (λ sum. sum ≡ a + b) }
+{
+    match a.checked_add(b) {
+        Some(sum) => Ok(sum),
+        None => Err(Memory),
+    }
+}
+
+/// Goes through a piece of code whose loops have the numbers from `first` on.
+#[cycle(resumes)]
+pub fn resume(
+    alloc: Global,
+    frame: &Frame,
+    locked: bool,
+    code: &Code,
+    first: usize,
+    here: &mut Here,
+    heads: &mut Vec<Option<Here>>,
+) -> Result<Passed, Memory>
+    requires { first + loops (tree_of code.now) ≤ length heads.old.items }
+    ensures { IsResumed (given frame.now) (tree_of code.now) locked first here.old here.new heads.old.items
+        heads.new.items result }
+{
+    match code {
+        Code::Op(_, _, op) => match move_any(alloc, frame, *op, here) {
+            Ok(goes_on) => Ok(Passed {
+                next: first,
+                goes_on,
+            }),
+            Err(memory) => Err(memory),
+        },
+        Code::Seq(parts) => {
+            resume_through(alloc, frame, locked, parts.as_slice(), first, here, heads)
+        }
+        Code::Choice(left, right) => {
+            let Ok(mut other) = here.copied(alloc) else {
+                return Err(Memory);
+            };
+            let Ok(one) = resume(alloc, frame, locked, left, first, here, heads) else {
+                return Err(Memory);
+            };
+            let Ok(two) = resume(alloc, frame, locked, right, one.next, &mut other, heads) else {
+                return Err(Memory);
+            };
+            Ok(Passed {
+                next: two.next,
+                goes_on: meet_ends(one.goes_on, two.goes_on, here, other),
+            })
+        }
+        Code::Loop(body) => resume_loop(alloc, frame, locked, body, first, here, heads),
+        Code::Sync(_, body) => {
+            mem::drop(here.pop());
+            resume(alloc, frame, true, body, first, here, heads)
+        }
+    }
+}
+
+/// Goes through pieces of code one after another, up to the first that does not go on.
+#[cycle(resumes)]
+fn resume_through(
+    alloc: Global,
+    frame: &Frame,
+    locked: bool,
+    parts: &[Code],
+    first: usize,
+    here: &mut Here,
+    heads: &mut Vec<Option<Here>>,
+) -> Result<Passed, Memory>
+    requires { first + loops (in_sequence (map tree_of parts.now)) ≤ length heads.old.items }
+    ensures { IsResumed (given frame.now) (in_sequence (map tree_of parts.now)) locked first here.old here.new
+        heads.old.items heads.new.items result }
+{
+    let mut number = first;
+    for index in 0..parts.len() {
+        let Ok(passed) = resume(alloc, frame, locked, &parts[index], number, here, heads) else {
+            return Err(Memory);
+        };
+        number = passed.next;
+        if !passed.goes_on {
+            return pass_over(number, &parts[index + 1..]);
+        }
+    }
+    Ok(Passed {
+        next: number,
+        goes_on: true,
+    })
+}
+
+/// Passes pieces of code over that are not reached, whose loops have the numbers from `first` on.
+fn pass_over(first: usize, parts: &[Code]) -> Result<Passed, Memory>
+    ensures { IfOk result (λ passed. (passed.next ≡ first + loops (in_sequence (map tree_of parts.now)))
+        × (passed.goes_on ≡ false)) }
+{
+    let Ok(count) = count_all(parts) else {
+        return Err(Memory);
+    };
+    let Ok(next) = sum(first, count) else {
+        return Err(Memory);
+    };
+    Ok(Passed {
+        next,
+        goes_on: false,
+    })
+}
+
+/// Goes through a loop: on from the state in which it was left, until a round changes nothing. Where the first one
+/// changes nothing no state is kept.
+#[cycle(resumes)]
+fn resume_loop(
+    alloc: Global,
+    frame: &Frame,
+    locked: bool,
+    body: &Code,
+    first: usize,
+    here: &mut Here,
+    heads: &mut Vec<Option<Here>>,
+) -> Result<Passed, Memory>
+    requires { first + loops (Again (tree_of body.now)) ≤ length heads.old.items }
+    ensures { IsResumed (given frame.now) (Again (tree_of body.now)) locked first here.old here.new heads.old.items
+        heads.new.items result }
+{
+    let rounds = here.rounds();
+    let Ok(()) = go_on(alloc, &heads[first], here) else {
+        return Err(Memory);
+    };
+    let Ok((next, changed)) = resume_round(alloc, frame, locked, body, first + 1, here, heads)
+    else {
+        return Err(Memory);
+    };
+    if !changed {
+        return Ok(Passed {
+            next,
+            goes_on: true,
+        });
+    }
+    let Ok(()) = resume_rounds(
+        alloc,
+        frame,
+        locked,
+        body,
+        first + 1,
+        rounds - 1,
+        here,
+        heads,
+    ) else {
+        return Err(Memory);
+    };
+    let Ok(left) = here.copied(alloc) else {
+        return Err(Memory);
+    };
+    heads[first] = Some(left);
+    Ok(Passed {
+        next,
+        goes_on: true,
+    })
+}
+
+/// At most so many rounds of a loop, up to the first that changes nothing.
+#[cycle(resumes)]
+fn resume_rounds(
+    alloc: Global,
+    frame: &Frame,
+    locked: bool,
+    body: &Code,
+    first: usize,
+    rounds: usize,
+    here: &mut Here,
+    heads: &mut Vec<Option<Here>>,
+) -> Result<(), Memory>
+    requires { first + loops (tree_of body.now) ≤ length heads.old.items }
+    ensures { AreResumedRounds (given frame.now) (tree_of body.now) locked first rounds here.old here.new
+        heads.old.items heads.new.items result }
+{
+    for round in 0..rounds {
+        let Ok((_, changed)) = resume_round(alloc, frame, locked, body, first, here, heads) else {
+            return Err(Memory);
+        };
+        if !changed {
+            return Ok(());
+        }
+    }
+    Ok(())
+}
+
+/// One round of a loop: the number of the next loop behind it, and whether the round changed anything.
+#[cycle(resumes)]
+fn resume_round(
+    alloc: Global,
+    frame: &Frame,
+    locked: bool,
+    body: &Code,
+    first: usize,
+    here: &mut Here,
+    heads: &mut Vec<Option<Here>>,
+) -> Result<(usize, bool), Memory>
+    requires { first + loops (tree_of body.now) ≤ length heads.old.items }
+    ensures { IsRound (given frame.now) (tree_of body.now) locked first here.old here.new heads.old.items
+        heads.new.items result }
+{
+    let Ok(mut end) = here.copied(alloc) else {
+        return Err(Memory);
+    };
+    let Ok(passed) = resume(alloc, frame, locked, body, first, &mut end, heads) else {
+        return Err(Memory);
+    };
+    if !passed.goes_on {
+        return Ok((passed.next, false));
+    }
+    let changed = here.meet(end);
+    Ok((passed.next, changed))
+}
+
+/// The state where two ways meet that each go on or not; whether there is one.
+fn meet_ends(left_goes_on: bool, right_goes_on: bool, here: &mut Here, other: Here) -> bool
+    ensures { next_of result here.new ≡ joined_next (next_of left_goes_on here.old) (next_of right_goes_on other) }
+{
+    if !right_goes_on {
+        return left_goes_on;
+    }
+    if left_goes_on {
+        here.meet(other);
+    } else {
+        *here = other;
+    }
+    true
+}
+
+/// Joins the state in which a loop was left, if it was, with the values here.
+fn go_on(alloc: Global, left: &Option<Here>, here: &mut Here) -> Result<(), Memory>
+    ensures { OnOk result (here.new ≡ entered left.now here.old) }
+{
+    if let Some(left) = left {
+        here.meet(left.copied(alloc)?);
+    }
+    Ok(())
+}

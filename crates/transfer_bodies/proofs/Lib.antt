@@ -1,0 +1,4 @@
+pub mod StillCode
+pub mod ShorterCode
+pub mod KeptParts
+pub mod WhatIsMade

@@ -1,0 +1,4 @@
+pub mod Settled
+pub mod Monotone
+pub mod Heights
+pub mod Resumed
