@@ -1,6 +1,6 @@
 //! Laws of paths.
 ghost use Rattle.std.specs.Prelude.{◌≡◌, ℕ, Bool, true, false, [], ◌∷◌, ◌++◌, ◌&&◌, ◌+◌, ◌<◌, ◌↔◌, length, Some};
-ghost use Rattle.std.specs.Prelude.{None, IsTrue, List, Option, codes};
+ghost use Rattle.std.specs.Prelude.{None, IsTrue, List, Option, codes, nat_eq};
 ghost use Rattle.std.specs.Option.{option_and_then};
 ghost use Rattle.std.specs.Ordering.{eq_by_cmp};
 ghost use Rattle.std.specs.Cmp.{IsTotalOrder};
@@ -10,6 +10,7 @@ ghost use Rattle.access_paths.specs.declared.path.Path.{Path};
 ghost use Rattle.access_paths.specs.declared.path.Root.TheVariants.{This, Class, Formal, Some as SomeOf};
 ghost use Rattle.access_paths.specs.Paths.{same_path, extended_along, extended, is_prefix, alone};
 ghost use Rattle.access_paths.specs.Order.{path_cmp};
+ghost use Rattle.access_paths.specs.Table.{IsTable, interned, path_at};
 ghost use Rattle.access_paths.specs.Text.{path_text};
 
 /// Paths are the same exactly where they are equal, and the order ties no others.
@@ -24,6 +25,15 @@ pub fn same_is_equal()
 pub fn extension_composes()
     ensures { (p : Path) (fs gs : List FieldId) →
         extended_along p (fs ++ gs) ≡ option_and_then (λ q. extended_along q gs) (extended_along p fs) }
+{}
+
+/// In a table two numbers are equal exactly where their paths are the same, and where a path is put in each number keeps
+/// its path.
+pub fn numbers_stand_for_paths()
+    ensures same { (table : List Path) (i j : ℕ) → IsTable table → i < length table → j < length table →
+        same_path (path_at table i) (path_at table j) ≡ nat_eq i j }
+    ensures kept { (table : List Path) (p : Path) (i : ℕ) → i < length table →
+        path_at (interned table p) i ≡ path_at table i }
 {}
 
 /// The texts of paths with each form of root.

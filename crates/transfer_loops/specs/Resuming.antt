@@ -28,7 +28,8 @@ no_heads i = None
 abbrev pub put_head : Heads → ℕ → State → Heads
 put_head h k x i = if nat_eq i k then Some x else h i
 
--- the heads behind a loop that was left in this state: where its first round changed nothing the one that there is serves
+-- the heads behind a loop that was left in this state: where its first round changed nothing the one that there is
+-- serves
 abbrev pub kept_head : Bool → Heads → ℕ → State → Heads
 kept_head settled h k x = if settled then h else put_head h k x
 
@@ -44,15 +45,21 @@ is_settled go h x = same_state (round_next x (go h x).0) x
 -- at most so many rounds, up to the first that leaves the state unchanged
 abbrev pub iterated : (Heads → State → Option State × Heads) → ℕ → Heads → State → State × Heads
 iterated go zero h x = (x, h)
-iterated go (suc n) h x = if is_settled go h x then (x, (go h x).1) else iterated go n (go h x).1 (round_next x (go h x).0)
+iterated go (suc n) h x =
+    if is_settled go h x then (x, (go h x).1) else iterated go n (go h x).1 (round_next x (go h x).0)
 
 -- the state at the end of code whose loops have numbers from k on, and in which each loop was left
 abbrev pub resumed : Given → Tree → Bool → ℕ → Heads → State → Option State × Heads
 resumed g (Step site place op) locked k h s = ((op_effects g locked site op s).next, h)
 resumed g Nothing locked k h s = (Some s, h)
-resumed g (Then first rest) locked k h s = elim (resumed g first locked k h s).0 [ None ↦ (None, (resumed g first locked k h s).1) | Some t ↦ resumed g rest locked (k + loops first) (resumed g first locked k h s).1 t ]
+resumed g (Then first rest) locked k h s =
+    elim (resumed g first locked k h s).0 [
+      | None ↦ (None, (resumed g first locked k h s).1)
+      | Some t ↦ resumed g rest locked (k + loops first) (resumed g first locked k h s).1 t
+    ]
 resumed g (Either left right) locked k h s = (
-  joined_next (resumed g left locked k h s).0 (resumed g right locked (k + loops left) (resumed g left locked k h s).1 s).0,
+  joined_next (resumed g left locked k h s).0
+      (resumed g right locked (k + loops left) (resumed g left locked k h s).1 s).0,
   (resumed g right locked (k + loops left) (resumed g left locked k h s).1 s).1,
 )
 resumed g (Again body) locked k h s = (
@@ -71,7 +78,12 @@ OnNext (Some t) P = P t
 abbrev pub IsSound : Given → Tree → Bool → ℕ → Heads → State → Type 0
 IsSound g (Step site place op) locked k h s = Unit {0}
 IsSound g Nothing locked k h s = Unit {0}
-IsSound g (Then first rest) locked k h s = IsSound g first locked k h s × OnNext (flow g first locked s).next (λ t. IsSound g rest locked (k + loops first) h t)
-IsSound g (Either left right) locked k h s = IsSound g left locked k h s × IsSound g right locked (k + loops left) h s
-IsSound g (Again body) locked k h s = OnNext (h k) (λ x. BelowState x (rounds (flow g body locked) (rounds_of s) s).0) × IsSound g body locked (suc k) h (rounds (flow g body locked) (rounds_of s) s).0
+IsSound g (Then first rest) locked k h s =
+    IsSound g first locked k h s
+    × OnNext (flow g first locked s).next (λ t. IsSound g rest locked (k + loops first) h t)
+IsSound g (Either left right) locked k h s =
+    IsSound g left locked k h s × IsSound g right locked (k + loops left) h s
+IsSound g (Again body) locked k h s =
+    OnNext (h k) (λ x. BelowState x (rounds (flow g body locked) (rounds_of s) s).0)
+    × IsSound g body locked (suc k) h (rounds (flow g body locked) (rounds_of s) s).0
 IsSound g (Held place body) locked k h s = IsSound g body true k h (popped s 1)
