@@ -1,5 +1,5 @@
 -- What a store into the map of cells gives.
-use Rattle.std.proofs.Common.{◌≡◌, cond, ◌&&◌, Some, nat_cmp, sym, ap, ◌∙◌}
+use Rattle.std.proofs.Common.{◌≡◌, Bool, true, false, cond, ◌&&◌, Some, nat_cmp, refl, sym, ap, ◌∙◌}
 use Rattle.std.specs.BTreeMap.{BTreeMap, Updates, get}
 use Rattle.std.specs.Cmp.{both_tied, unsigned_ties}
 use Rattle.std.specs.Ordering.{is_eq}
@@ -18,8 +18,15 @@ use Rattle.core_semantics.specs.Same.{tied}
 pub cell_tied : (o p : Object) (f g : FieldId) →
     is_eq (cell_cmp (cell_of o f) (cell_of p g)) ≡ (same_object o p && same_field f g)
 cell_tied o p f g =
-    sym (both_tied (same_object o p) (same_field f g) (object_cmp o p) (nat_cmp f.0 g.0) (sym (tied o p))
-    (unsigned_ties f.0 g.0))
+    sym (both_tied (same_field f g) (same_object o p) (nat_cmp f.0 g.0) (object_cmp o p) (unsigned_ties f.0 g.0)
+    (sym (tied o p)))
+    ∙ either_order (same_field f g) (same_object o p)
+  where
+    either_order : (a b : Bool) → (a && b) ≡ (b && a)
+    either_order true true = refl
+    either_order true false = refl
+    either_order false true = refl
+    either_order false false = refl
 
 pub put_cells : (old new : BTreeMap Cell Value) (o made : Object) (f : FieldId) (v : Value) → made ≡ o →
     Updates cell_cmp old new (cell_of made f) (Some v) →

@@ -15,10 +15,10 @@ use Rattle.core_semantics.specs.declared.store.Heap.{Heap}
 use Rattle.core_semantics.specs.Order.{object_cmp}
 
 abbrev pub cell_cmp : Cell → Cell → Ordering
-cell_cmp c d = ordering_then (object_cmp c.object d.object) (nat_cmp c.field d.field)
+cell_cmp c d = ordering_then (nat_cmp c.field d.field) (object_cmp c.object d.object)
 
 abbrev pub cell_of : Object → FieldId → Cell
-cell_of o f = record { object = o; field = f.0 }
+cell_of o f = record { field = f.0; object = o }
 
 -- what is seen of cells: what each field of an object holds, where something was stored there
 abbrev pub cells_of : Cells → Object → FieldId → Option Value

@@ -7,6 +7,7 @@ pub mod State
 pub mod Steps
 pub mod Runs
 pub mod Cells
+pub mod Changes
 pub mod CellOrder
 pub mod Answers
 pub mod View

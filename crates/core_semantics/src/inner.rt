@@ -18,7 +18,7 @@ use racer_base::{ClassId, FieldId, Kind, Memory, VarId};
 use std::alloc::Global;
 
 /// The kind of a field.
-fn kind_of(program: &Program, f: FieldId) -> Kind
+pub(crate) fn kind_of(program: &Program, f: FieldId) -> Kind
     ensures { result ≡ kind_of (core program.now) f }
 {
     match program.fields().get(f.0 as usize) {

@@ -6,6 +6,7 @@
 mod ahead;
 mod answer;
 mod calls;
+mod changes;
 mod frame;
 mod inner;
 mod later;
@@ -21,5 +22,6 @@ mod thread;
 mod touch;
 
 pub use answer::{Holder, StepAnswer, Turn, Why};
+pub use changes::{FieldChange, Sight};
 pub use machine::{Machine, begin};
 pub use object::{Object, Start, StartPath, StartRoot, Value};

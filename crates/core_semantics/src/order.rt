@@ -88,5 +88,9 @@ fn compare(a: &Object, b: &Object) -> Ordering
     ensures { result ≡ object_cmp a.now b.now }
 {
     let numbers = a.numbers().cmp(&b.numbers());
-    numbers.then(a.fields().cmp(b.fields()))
+    if numbers.is_eq() {
+        a.fields().cmp(b.fields())
+    } else {
+        numbers
+    }
 }

@@ -14,8 +14,8 @@ use std::collections::{BTreeMap, BTreeSet};
 /// A field of an object.
 #[derive(PartialEq, Eq, PartialOrd, Ord, Drop)]
 struct Cell {
-    object: Object,
     field: u32,
+    object: Object,
 }
 
 /// What was stored in the fields of objects.
@@ -50,8 +50,8 @@ impl Cells {
         ensures { IfOk result (λ found. option_copied found ≡ cells_of self.now object.now field) }
     {
         let cell = Cell {
-            object: object.copied(alloc)?,
             field: field.0,
+            object: object.copied(alloc)?,
         };
         Ok(self.stored.get(&cell))
     }
@@ -68,8 +68,8 @@ impl Cells {
         ensures err { OnErr result (cells_of self.new ≡ cells_of self.old) }
     {
         let cell = Cell {
-            object: object.copied(alloc)?,
             field: field.0,
+            object: object.copied(alloc)?,
         };
         self.stored.insert(cell, value)?;
         Ok(())

@@ -30,7 +30,7 @@ fn place_of(next: NextStep) -> Option<Place>
 }
 
 /// Whether a step is a choice or a loop.
-fn is_turn(next: NextStep) -> bool
+pub(crate) fn is_turn(next: NextStep) -> bool
     ensures { result ≡ is_turn (step_of next.entry) }
 {
     match next {
@@ -67,7 +67,7 @@ impl Frame<'_> {
 
 impl Machine<'_> {
     /// Thread 0, or thread 1 at any other number.
-    fn thread(&self, number: u32) -> &Thread<'_>
+    pub(crate) fn thread(&self, number: u32) -> &Thread<'_>
         ensures { seen_of result.now ≡ thread_of (state_of self.now) number }
     {
         if number == 0 {

@@ -60,7 +60,7 @@ gathered-count old (x ∷ xs) =
     let more = gathered-count (path_added old x) xs in
     omega arith
 
--- ---- the objects beside the paths
+-- ---- what was gathered is gathered again
 
 any-push : (p : StartPath → Bool) (old : List StartPath) (x : StartPath) →
     list_any p (old ++ x ∷ []) ≡ (list_any p old || p x)
@@ -70,6 +70,68 @@ any-push p (y ∷ old) x = ap (λ b. p y || b) (any-push p old x)
       | true ↦ refl
       | false ↦ refl
     ])
+
+among-added : (seen : List StartPath) (x y : StartPath) → is_among seen x ≡ true → is_among (path_added seen y) x ≡ true
+among-added seen x y there =
+    elim (is_among seen y) as (λ b. is_among (cond b seen (seen ++ y ∷ [])) x ≡ true) [
+      | true ↦ there
+      | false ↦
+          any-push (λ q. same_start_path q x) seen y
+          ∙ ap (λ b. b || same_start_path y x) there
+    ]
+
+stays-among : (seen xs : List StartPath) (x : StartPath) → is_among seen x ≡ true → is_among (gathered seen xs) x ≡ true
+stays-among seen [] x there = there
+stays-among seen (y ∷ ys) x there = stays-among (path_added seen y) ys x (among-added seen x y there)
+
+right-true : (a : Bool) → (a || true) ≡ true
+right-true true = refl
+right-true false = refl
+
+-- the path that was added is there
+is-added : (seen : List StartPath) (y x : StartPath) → same_start_path y x ≡ true →
+    is_among (path_added seen y) x ≡ true
+is-added seen y x same =
+    let equal : y ≡ x = exact y x same in
+    elim (is_among seen y) as (λ b. is_among seen y ≡ b → is_among (cond b seen (seen ++ y ∷ [])) x ≡ true) [
+      | true ↦ λ e. ap (is_among seen) (sym equal) ∙ e
+      | false ↦ λ e.
+          any-push (λ q. same_start_path q x) seen y
+          ∙ ap (λ b. is_among seen x || b) same
+          ∙ right-true (is_among seen x)
+    ] refl
+
+first-or-later : (seen ys : List StartPath) (y x : StartPath) (b : Bool) → same_start_path y x ≡ b →
+    (is_among ys x ≡ true → is_among (gathered (path_added seen y) ys) x ≡ true) → (b || is_among ys x) ≡ true →
+    is_among (gathered (path_added seen y) ys) x ≡ true
+first-or-later seen ys y x true same later there = stays-among (path_added seen y) ys x (is-added seen y x same)
+first-or-later seen ys y x false same later there = later there
+
+gathers-all : (seen xs : List StartPath) (x : StartPath) → is_among xs x ≡ true → is_among (gathered seen xs) x ≡ true
+gathers-all seen [] x there = absurd cc
+gathers-all seen (y ∷ ys) x there =
+    first-or-later seen ys y x (same_start_path y x) refl (gathers-all (path_added seen y) ys x) there
+
+added-last : (seen old : List StartPath) (x : StartPath) →
+    gathered seen (path_added old x) ≡ path_added (gathered seen old) x
+added-last seen old x =
+    elim (is_among old x) as (λ b. is_among old x ≡ b →
+    gathered seen (cond b old (old ++ x ∷ [])) ≡ path_added (gathered seen old) x) [
+      | true ↦ λ e.
+          ap (λ b. cond b (gathered seen old) (gathered seen old ++ x ∷ [])) (sym (gathers-all seen old x e))
+      | false ↦ λ e. gathered-append seen old (x ∷ [])
+    ] refl
+
+gathered-in-turn : (seen old xs : List StartPath) →
+    gathered seen (gathered old xs) ≡ gathered (gathered seen old) xs
+gathered-in-turn seen old [] = refl
+gathered-in-turn seen old (x ∷ xs) =
+    gathered-in-turn seen (path_added old x) xs ∙ ap (λ ps. gathered ps xs) (added-last seen old x)
+
+pub gathered-again : (seen xs : List StartPath) → gathered seen (gathered [] xs) ≡ gathered seen xs
+gathered-again seen xs = gathered-in-turn seen [] xs
+
+-- ---- the objects beside the paths
 
 either : (a b : Bool) → cond a true b ≡ (b || a)
 either true true = refl

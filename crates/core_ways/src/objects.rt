@@ -91,6 +91,35 @@ impl Objects {
         Ok(())
     }
 
+    /// Adds a copy of a path, unless it is there.
+    fn add_copy(&mut self, path: &StartPath) -> Result<(), Memory>
+        ensures { OnOk result (self.new ≡ path_added self.old path.now) }
+    {
+        let Ok(copy) = path.copied(self.alloc) else {
+            return Err(Memory);
+        };
+        self.add(copy)
+    }
+
+    /// Adds paths in order, each unless it is there.
+    fn add_each(&mut self, paths: &[StartPath]) -> Result<(), Memory>
+        ensures { OnOk result (self.new ≡ gathered self.old paths.now) }
+    {
+        for path in paths {
+            let Ok(()) = self.add_copy(path) else {
+                return Err(Memory);
+            };
+        }
+        Ok(())
+    }
+
+    /// Adds others in order, each unless it is there.
+    pub fn add_all(&mut self, others: &Objects) -> Result<(), Memory>
+        ensures { OnOk result (self.new ≡ gathered self.old others.now) }
+    {
+        self.add_each(others.paths.as_slice())
+    }
+
     /// Adds a path that has a field.
     fn add_long(&mut self, path: StartPath) -> Result<(), Memory>
         ensures { OnOk result (self.new ≡ gathered self.old (paths_in (Ref (StartOf path)))) }
@@ -124,7 +153,7 @@ impl Objects {
     }
 
     /// The same where there is a value.
-    pub(crate) fn add_read(&mut self, value: Option<Value>) -> Result<(), Memory>
+    pub fn add_read(&mut self, value: Option<Value>) -> Result<(), Memory>
         ensures { OnOk result (self.new ≡ gathered self.old (paths_of value)) }
     {
         match value {

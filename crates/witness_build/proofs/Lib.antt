@@ -1,5 +1,3 @@
-pub mod LegEnds
-pub mod SaidByRun
 pub mod LeastPrefix
 pub mod FewTurns
 pub mod SaidOfWays

@@ -1,5 +1,5 @@
 //! The mark of a warning.
-ghost use Rattle.std.specs.Prelude.{◌≡◌, ◌+◌, ◌<◌, ◌∷◌, [], IfOk, option_map, unwrap_or};
+ghost use Rattle.std.specs.Prelude.{◌≡◌, ◌+◌, ◌<◌, ◌∷◌, [], IfOk, OnOk, option_map, unwrap_or};
 ghost use Rattle.std.specs.List.{Contains};
 ghost use Rattle.core_code.specs.Program.{core};
 ghost use Rattle.access_domain.specs.Outcomes.{AreOutcomes};
@@ -10,7 +10,8 @@ ghost use Rattle.core_ways.specs.Marks.{Blocked, is_locked, leg_of, mark_by_call
 ghost use Rattle.core_ways.specs.Ways.{Trip, way_of};
 ghost use Rattle.core_ways.specs.Both.{AreBoth, AreShort, IsShort, said_of};
 ghost use Rattle.core_ways.specs.Ends.{nowhere};
-ghost use Rattle.witness_build.specs.RunLegs.{IsSaid};
+ghost use Rattle.legs_apart.specs.RunLegs.{IsSaid};
+ghost use Rattle.leg_walks.specs.Told.{AreWalks};
 ghost use Rattle.race_pairs.specs.Warnings.{warnings};
 ghost use Rattle.confirmed_races.specs.Warned.{pair_of, warning_mark};
 ghost use Rattle.witness_build.specs.Replayed.{AreRight, DoRace, IfConfirmed};
@@ -22,6 +23,7 @@ use core_semantics::{Machine, Start, begin};
 use core_ways::{
     Both, Leg, Mark, Objects, Target, WayTaken, Witness, let_go, record_of, run_leg, ways,
 };
+use leg_walks::{Walked, Walks, let_go as let_walks_go};
 use race_pairs::Warning;
 use racer_base::{FileId, Items, Memory, Place};
 use std::alloc::Global;
@@ -94,21 +96,64 @@ fn mark_of_stopped_run(
     stopped
 }
 
-/// Runs both legs, one after the other, with all start paths as objects.
-fn mark_by_run(
+/// The same from walks, where they tell of both legs, and else from a run.
+fn mark_of_stopped_walk<'a>(
     alloc: Global,
-    program: &Program,
+    program: &'a Program,
+    walks: &mut Walks<'a>,
+    warning: &Warning,
+    objects: &mut Objects,
+    first: &Leg,
+    second: &Leg,
+) -> Result<Option<Mark>, Memory>
+    requires walks { AreWalks (core program.now) walks.old }
+    requires threads { first.now.thread + second.now.thread ≡ 1 }
+    requires none { objects.old ≡ [] }
+    ensures walks { OnOk result (AreWalks (core program.now) walks.new) }
+    ensures said { IfOk result (λ stopped. IsSaid (core program.now) (leg_of first.now) (leg_of second.now)
+        (begun (core program.now) warning.now.entry warning.now.partner All) objects.new
+        (option_map said_by stopped)) }
+{
+    match walks.walk(
+        program,
+        warning.entry,
+        warning.partner,
+        objects,
+        first,
+        second,
+    )? {
+        Walked::Stopped(thread, place) => Ok(Some(Mark::Blocked(thread, place))),
+        Walked::Past => Ok(None),
+        Walked::Unknown => mark_of_stopped_run(alloc, program, warning, objects, first, second),
+    }
+}
+
+/// Runs both legs, one after the other, with all start paths as objects.
+fn mark_by_run<'a>(
+    alloc: Global,
+    program: &'a Program,
+    walks: &mut Walks<'a>,
     warning: &Warning,
     first: Leg,
     second: Leg,
 ) -> Result<Mark, Memory>
-    requires { first.thread + second.thread ≡ 1 }
-    ensures { IfOk result (λ mark. said_by mark ≡ mark_by_run (core program.now) (leg_of first ∷ leg_of second ∷ [])
+    requires walks { AreWalks (core program.now) walks.old }
+    requires threads { first.thread + second.thread ≡ 1 }
+    ensures walks { OnOk result (AreWalks (core program.now) walks.new) }
+    ensures mark { IfOk result (λ mark. said_by mark
+        ≡ mark_by_run (core program.now) (leg_of first ∷ leg_of second ∷ [])
         (begun (core program.now) warning.now.entry warning.now.partner All)) }
 {
     let mut objects = Objects::new(alloc);
-    let Ok(stopped) = mark_of_stopped_run(alloc, program, warning, &mut objects, &first, &second)
-    else {
+    let Ok(stopped) = mark_of_stopped_walk(
+        alloc,
+        program,
+        walks,
+        warning,
+        &mut objects,
+        &first,
+        &second,
+    ) else {
         return Err(Memory);
     };
     if let Some(mark) = stopped {
@@ -122,22 +167,32 @@ fn mark_by_run(
 }
 
 /// The mark where these are the ways of these threads, in running order.
-fn mark_along(
+fn mark_along<'a>(
     alloc: Global,
-    program: &Program,
+    program: &'a Program,
+    walks: &mut Walks<'a>,
     warning: &Warning,
     first: u32,
     second: u32,
     both: Both,
 ) -> Result<Mark, Memory>
+    requires walks { AreWalks (core program.now) walks.old }
     requires threads { first + second ≡ 1 }
     requires short { AreShort both }
-    ensures { (a b : Trip) → AreBoth a b both → IfOk result (λ mark.
+    ensures walks { OnOk result (AreWalks (core program.now) walks.new) }
+    ensures mark { (a b : Trip) → AreBoth a b both → IfOk result (λ mark.
         said_by mark ≡ said_of (core program.now) (pair_of warning.now) first second a b) }
 {
     match both {
         Both::Taken(one, other) => {
-            mark_by_run(alloc, program, warning, leg(first, one), leg(second, other))
+            mark_by_run(
+                alloc,
+                program,
+                walks,
+                warning,
+                leg(first, one),
+                leg(second, other),
+            )
         }
         Both::Unread(place) => Ok(Mark::Unread(place)),
         Both::Long(steps) => Ok(Mark::Long(steps)),
@@ -145,16 +200,19 @@ fn mark_along(
 }
 
 /// The mark of a warning on a path that is stable. Where its record is locked, the partner goes first.
-fn mark_by_ways(
+fn mark_by_ways<'a>(
     alloc: Global,
-    program: &Program,
+    program: &'a Program,
     outcomes: &Outcomes,
+    walks: &mut Walks<'a>,
     warning: &Warning,
     locked: bool,
 ) -> Result<Mark, Memory>
     requires outcomes { AreOutcomes (core program.now) outcomes.now.items }
+    requires walks { AreWalks (core program.now) walks.old }
     requires locked { is_locked (core program.now) warning.now.entry warning.now.access ≡ locked }
-    ensures { IfOk result (λ mark. said_by mark ≡ mark_by_calls (core program.now) (pair_of warning.now)) }
+    ensures walks { OnOk result (AreWalks (core program.now) walks.new) }
+    ensures mark { IfOk result (λ mark. said_by mark ≡ mark_by_calls (core program.now) (pair_of warning.now)) }
 {
     let entry = Target {
         method: warning.entry,
@@ -166,10 +224,10 @@ fn mark_by_ways(
     };
     if locked {
         let both = ways(alloc, program, outcomes, partner, entry)?;
-        mark_along(alloc, program, warning, 1, 0, both)
+        mark_along(alloc, program, walks, warning, 1, 0, both)
     } else {
         let both = ways(alloc, program, outcomes, entry, partner)?;
-        mark_along(alloc, program, warning, 0, 1, both)
+        mark_along(alloc, program, walks, warning, 0, 1, both)
     }
 }
 
@@ -189,6 +247,25 @@ pub fn mark(
     ensures race { Contains (warnings (core program.now)) warning.now → IfOk result (λ mark.
         IfConfirmed (DoRace (core program.now) warning.now) (said_by mark)) }
 {
+    let mut walks = Walks::new(alloc);
+    let mark = mark_from(alloc, program, outcomes, &mut walks, warning);
+    let_walks_go(walks);
+    mark
+}
+
+/// The same, with walks that go on from one warning to the next.
+pub(crate) fn mark_from<'a>(
+    alloc: Global,
+    program: &'a Program,
+    outcomes: &Outcomes,
+    walks: &mut Walks<'a>,
+    warning: &Warning,
+) -> Result<Mark, Memory>
+    requires outcomes { AreOutcomes (core program.now) outcomes.now.items }
+    requires walks { AreWalks (core program.now) walks.old }
+    ensures walks { OnOk result (AreWalks (core program.now) walks.new) }
+    ensures mark { IfOk result (λ mark. said_by mark ≡ warning_mark (core program.now) warning.now) }
+{
     let Some(record) = record_of(outcomes, warning.entry, warning.access) else {
         return Ok(Mark::Unnamed);
     };
@@ -207,5 +284,5 @@ pub fn mark(
     if let Some(prefix) = prefix {
         return Ok(Mark::Unstable(prefix));
     }
-    mark_by_ways(alloc, program, outcomes, warning, record.locked)
+    mark_by_ways(alloc, program, outcomes, walks, warning, record.locked)
 }

@@ -1,5 +1,5 @@
 //! The shortest prefix of a path that may name another object later.
-ghost use Rattle.std.specs.Prelude.{◌≡◌, ◌≤◌, IfOk, length};
+ghost use Rattle.std.specs.Prelude.{◌≡◌, ◌≤◌, Some as SomeOf, IfOk, length};
 ghost use Rattle.std.specs.Option.{option_copied};
 ghost use Rattle.core_code.specs.Program.{core};
 ghost use Rattle.access_domain.specs.Outcomes.{AreOutcomes};
@@ -15,17 +15,6 @@ use core_ways::wobbly_of;
 use racer_base::{Items, MAX_PATH_FIELDS, Memory, MethodId};
 use std::alloc::Global;
 use wobbly_paths::Wobbly;
-
-/// How many fields the shortest proper prefix of a path has that is among these.
-fn prefix_in(wobbly: Option<&Wobbly>, path: &Path) -> Option<u32>
-    requires { length path.now.fields ≤ MAX_PATH_FIELDS }
-    ensures { IsLeast (holds_front (option_copied wobbly.entry) path.now) (length path.now.fields) result }
-{
-    match wobbly {
-        Some(wobbly) => wobbly.unstable_prefix(path),
-        None => None,
-    }
-}
 
 /// The smaller of two numbers, of those that there are.
 fn least(a: Option<u32>, b: Option<u32>) -> Option<u32>
@@ -52,6 +41,32 @@ fn front(alloc: Global, path: &Path, fields: u32) -> Result<Path, Memory>
     })
 }
 
+/// How many fields the shortest proper prefix of a path has that is in a set.
+fn prefix_among(alloc: Global, wobbly: &Wobbly, path: &Path) -> Result<Option<u32>, Memory>
+    requires { length path.now.fields ≤ MAX_PATH_FIELDS }
+    ensures { IfOk result (λ least. IsLeast (holds_front (SomeOf wobbly.now) path.now) (length path.now.fields) least) }
+{
+    for fields in 0..path.fields.len() {
+        let prefix = front(alloc, path, fields as u32)?;
+        if wobbly.has(&prefix) {
+            return Ok(Some(fields as u32));
+        }
+    }
+    Ok(None)
+}
+
+/// The same, where there is a set.
+fn prefix_in(alloc: Global, wobbly: Option<&Wobbly>, path: &Path) -> Result<Option<u32>, Memory>
+    requires { length path.now.fields ≤ MAX_PATH_FIELDS }
+    ensures { IfOk result (λ least. IsLeast (holds_front (option_copied wobbly.entry) path.now)
+        (length path.now.fields) least) }
+{
+    let Some(wobbly) = wobbly else {
+        return Ok(None);
+    };
+    prefix_among(alloc, wobbly, path)
+}
+
 /// The shortest proper prefix of a path that is wobbly in one of two methods. No path of a record has more fields than
 /// a path may have.
 pub(crate) fn unstable_prefix(
@@ -68,8 +83,8 @@ pub(crate) fn unstable_prefix(
     if path.fields.len() > MAX_PATH_FIELDS {
         return Err(Memory);
     }
-    let first = prefix_in(wobbly_of(outcomes, m1), path);
-    let second = prefix_in(wobbly_of(outcomes, m2), path);
+    let first = prefix_in(alloc, wobbly_of(outcomes, m1), path)?;
+    let second = prefix_in(alloc, wobbly_of(outcomes, m2), path)?;
     match least(first, second) {
         Some(fields) => Ok(Some(front(alloc, path, fields)?)),
         None => Ok(None),

@@ -29,7 +29,7 @@ use Rattle.report_parts.specs.WitnessFiles.{file_named}
 use Rattle.confirmed_races.specs.Warned.{pair_of, warning_mark}
 use Rattle.confirmed_races.proofs.MarkParts.{IsConfirmedBy, mark-parts}
 use Rattle.witness_build.proofs.FewTurns.{few-way}
-use Rattle.witness_build.proofs.LegEnds.{leg-count, run-reads}
+use Rattle.legs_apart.proofs.LegEnds.{leg-count, run-reads}
 use Rattle.witness_files.proofs.ReadBack.{IsLeg, IsWithin}
 
 -- ---- the parts of a confirmed mark

@@ -74,7 +74,7 @@ impl Wobbly {
     }
 
     /// Whether a path is in the set.
-    fn has(&self, path: &Path) -> bool
+    pub fn has(&self, path: &Path) -> bool
         ensures { result ≡ set.contains self.now path.now }
     {
         self.paths.contains(path)

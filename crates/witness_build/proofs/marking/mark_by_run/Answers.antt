@@ -7,7 +7,7 @@ use Rattle.core_semantics.specs.Runs.{begun}
 use Rattle.core_ways.specs.declared.mark.Mark.{Mark}
 use Rattle.core_ways.specs.Marks.{leg_of, said_by}
 use Rattle.std.proofs.Common.{Option}
-use Rattle.witness_build.specs.RunLegs.{IsSaid}
+use Rattle.legs_apart.specs.RunLegs.{IsSaid}
 use Rattle.witness_build.proofs.marking.mark_by_run.Goals as goal
 
 pub invariant_of-result : goal.invariant_of-result
@@ -16,12 +16,12 @@ invariant_of-result c =
     let read =
     subst
     (λ (found : Option Mark). IsSaid program (leg_of c.args.first) (leg_of c.args.second)
-    (begun program c.args.warning.now.entry c.args.warning.now.partner All) c.mark_of_stopped_run.new.objects
+    (begun program c.args.warning.now.entry c.args.warning.now.partner All) c.mark_of_stopped_walk.new.objects
     (option_map said_by found))
-    c.in_default-stopped.is c.in-Ok.ensures in
+    c.in_default-stopped.is c.in-Ok.ensures.said in
     record {
       few_objects =
           subst (λ (objects : List StartPath). length objects ≤ 2 * MAX_WAY_STEPS)
           (sym (c.from.ensures ∙ c.into_vec.ensures)) read.few;
-      both_threads = c.requires;
+      both_threads = c.requires.threads;
     }

@@ -21,18 +21,18 @@ mark_along-requires-else-locked-clause-short c =
     both-short (core c.args.program.now) w.entry w.partner w.access w.partner_access c.in_ok-both-2.both
     c.in_ok-both-2.ensures
 
-pub returns-in_ok-both : goal.returns-in_ok-both
-returns-in_ok-both c =
+pub returns-in_ok-both-clause-mark : goal.returns-in_ok-both-clause-mark
+returns-in_ok-both-clause-mark c =
     let program = core c.args.program.now in
     let w = c.args.warning.now in
     let first = way_of program w.partner w.partner_access in
     let second = way_of program w.entry w.access in
     said-then c.mark_along.result (said_of program (pair_of w) 1 0 first second) (mark_by_calls program (pair_of w))
     (said-locked program (pair_of w) (c.requires.locked ∙ c.if-locked.true))
-    (c.mark_along.ensures first second c.in_ok-both.ensures)
+    (c.mark_along.ensures.mark first second c.in_ok-both.ensures)
 
-pub returns-in_ok-both-2 : goal.returns-in_ok-both-2
-returns-in_ok-both-2 c =
+pub returns-in_ok-both-2-clause-mark : goal.returns-in_ok-both-2-clause-mark
+returns-in_ok-both-2-clause-mark c =
     let program = core c.args.program.now in
     let w = c.args.warning.now in
     let first = way_of program w.entry w.access in
@@ -40,4 +40,4 @@ returns-in_ok-both-2 c =
     said-then c.mark_along-else-locked.result (said_of program (pair_of w) 0 1 first second)
     (mark_by_calls program (pair_of w))
     (said-unlocked program (pair_of w) (c.requires.locked ∙ c.if-locked.false))
-    (c.mark_along-else-locked.ensures first second c.in_ok-both-2.ensures)
+    (c.mark_along-else-locked.ensures.mark first second c.in_ok-both-2.ensures)

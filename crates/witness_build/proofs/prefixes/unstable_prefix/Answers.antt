@@ -13,15 +13,15 @@ returns-in_ok-front-in-Some c =
     ap (λ (p : Path). Some p) c.in_ok-front-in-Some.ensures
     ∙ ap (option_map (λ (n : ℕ). front n path)) (sym c.in-Some.is)
     ∙ unstable-is (core c.args.program.now) (outcomes_held c.args.outcomes.now.items) c.args.m1 c.args.m2 path
-    (option_copied c.wobbly_of.result) (option_copied c.wobbly_of-2.result) c.prefix_in-first.result
-    c.prefix_in-second.result c.least.result c.requires c.wobbly_of.ensures c.wobbly_of-2.ensures
-    c.prefix_in-first.ensures c.prefix_in-second.ensures c.least.ensures
+    (option_copied c.wobbly_of.result) (option_copied c.wobbly_of-2.result) c.in_ok-first.first
+    c.in_ok-second.second c.least.result c.requires c.wobbly_of.ensures c.wobbly_of-2.ensures
+    c.in_ok-first.ensures c.in_ok-second.ensures c.least.ensures
 
 pub returns-in-None : goal.returns-in-None
 returns-in-None c =
     let path = c.args.path.now in
     ap (option_map (λ (n : ℕ). front n path)) (sym c.in-None.is)
     ∙ unstable-is (core c.args.program.now) (outcomes_held c.args.outcomes.now.items) c.args.m1 c.args.m2 path
-    (option_copied c.wobbly_of.result) (option_copied c.wobbly_of-2.result) c.prefix_in-first.result
-    c.prefix_in-second.result c.least.result c.requires c.wobbly_of.ensures c.wobbly_of-2.ensures
-    c.prefix_in-first.ensures c.prefix_in-second.ensures c.least.ensures
+    (option_copied c.wobbly_of.result) (option_copied c.wobbly_of-2.result) c.in_ok-first.first
+    c.in_ok-second.second c.least.result c.requires c.wobbly_of.ensures c.wobbly_of-2.ensures
+    c.in_ok-first.ensures c.in_ok-second.ensures c.least.ensures

@@ -16,7 +16,7 @@ use Rattle.core_ways.specs.Marks.{Said, Blocked, Confirmed, first_halt, mark_by_
 use Rattle.core_ways.specs.Ends.{EndsIn, Ended, Past, Stopped, ended, leg_end, leg_reads, nowhere}
 use Rattle.core_ways.specs.Gathered.{gathered}
 use Rattle.core_ways.proofs.Gathering.{gathered-append, gathered-count, gathered-firsts}
-use Rattle.witness_build.proofs.LegEnds.{leg-count, run-ends, run-reads}
+use Rattle.legs_apart.proofs.LegEnds.{leg-count, run-ends, run-reads}
 
 abbrev end_of : Core → Leg → State → Ended
 end_of core leg s = leg_end core leg.thread leg.steps leg.turns s

@@ -1,0 +1,6 @@
+pub mod KeptFields
+pub mod Fronts
+pub mod Sights
+pub mod WalkSteps
+pub mod WalkTurns
+pub mod ApartWalks

@@ -1,0 +1,3 @@
+-- No public contract rests on this: the list of files.
+pub mod Walks
+pub mod Told

@@ -1,0 +1,12 @@
+pub mod Steps
+pub mod Legs
+pub mod Prefixes
+pub mod Stored
+pub mod Storing
+pub mod NoPlain
+pub mod Beginnings
+pub mod LegEnds
+pub mod SaidByRun
+pub mod Marks
+pub mod Starts
+pub mod Walked

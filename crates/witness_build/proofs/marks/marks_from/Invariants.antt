@@ -1,0 +1,15 @@
+use Rattle.std.proofs.Common.{◌≡◌, ◌++◌, drop, map}
+use Rattle.core_code.specs.Program.{core}
+use Rattle.core_ways.specs.Marks.{said_by}
+use Rattle.confirmed_races.specs.Warned.{warning_mark}
+use Rattle.leg_walks.specs.Told.{AreWalks}
+use Rattle.witness_build.proofs.marks.marks_from.Given as goal
+
+-- the marks so far, and those of the warnings that are left; and the walks are walks
+abbrev pub invariant-loop-warning : goal.invariant-loop-warning
+invariant-loop-warning l =
+    record {
+      marks : map said_by l.marks.items ++ map (warning_mark (core l.program)) (drop l.warning-index l.found)
+          ≡ map (warning_mark (core l.program)) l.found;
+      walks : AreWalks (core l.program) l.walks;
+    }
