@@ -1,0 +1,3 @@
+package shop.stock;
+
+record Ticket(int number) { }

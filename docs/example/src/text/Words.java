@@ -1,0 +1,9 @@
+package text;
+
+class Words {
+  int count;
+
+  void add() {
+    count++;
+  }
+}
