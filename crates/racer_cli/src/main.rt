@@ -6,6 +6,8 @@ mod gates;
 #[cfg(test)]
 mod outside;
 #[cfg(test)]
+mod path_numbers;
+#[cfg(test)]
 mod replays;
 #[cfg(test)]
 mod store_alone;
