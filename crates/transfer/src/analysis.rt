@@ -7,7 +7,9 @@ ghost use Rattle.core_code.specs.Program.{core};
 ghost use Rattle.transfer.specs.Known.{outcome_among};
 ghost use Rattle.transfer.specs.Callees.{AreCallees, outcome_in};
 
-use crate::{Callee, Finished, outcome};
+use crate::Finished;
+use crate::calls::Callee;
+use crate::method_outcomes::outcome;
 use core_code::Program;
 use racer_base::{Memory, MethodId};
 use std::alloc::Global;

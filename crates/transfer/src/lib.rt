@@ -21,7 +21,5 @@ mod walk;
 mod whole;
 
 pub use analysis::analyse;
-pub use calls::Callee;
 pub use finished::Finished;
-pub use method_outcomes::outcome;
 pub use whole::outcomes;
