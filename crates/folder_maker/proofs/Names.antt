@@ -8,7 +8,7 @@ use Rattle.std.proofs.lemmas.Map.Text.{is_eq-slice_cmp}
 use Rattle.std.proofs.lemmas.Slice.Eq.{bytes_eq-Decides}
 use Rattle.std.proofs.lemmas.Simd.{map-map}
 use Rattle.racer_base.specs.Outside.{same_name}
-use Rattle.memory_outside.specs.FileList.{names_of}
+use Rattle.racer_memory.specs.FileList.{names_of}
 use Rattle.folder_maker.specs.Folders.{file_name, made_file, made_files}
 use Rattle.folder_maker.proofs.Files.{Files, seen}
 

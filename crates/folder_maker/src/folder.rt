@@ -1,11 +1,11 @@
 //! The folder.
 ghost use Rattle.std.specs.Prelude.{◌≡◌, ◌≤◌, codes, IfOk, Some, map, string_bytes};
 ghost use Rattle.std.specs.FinMap.{from_entries};
-ghost use Rattle.memory_outside.specs.MemoryFolder.{IsSteady, told_of};
+ghost use Rattle.racer_memory.specs.MemoryFolder.{IsSteady, told_of};
 ghost use Rattle.folder_maker.specs.Folders as made;
 
 use crate::classes::{class_text, file_name};
-use memory_outside::MemoryFolder;
+use racer_memory::MemoryFolder;
 use racer_base::Memory;
 use std::alloc::Global;
 

@@ -14,13 +14,13 @@ use Rattle.java_tree.specs.declared.methods.ResultTree.{ResultTree}
 use Rattle.java_tree.specs.declared.methods.ResultTree.TheVariants as result
 use Rattle.java_tree.specs.Spelling.{spelling}
 use Rattle.java_tree.specs.View.{ty_of, method_of}
-use Rattle.java_units.specs.declared.unit.Unit.{Unit}
-use Rattle.java_units.specs.declared.unit.ClassTree.{ClassTree}
-use Rattle.java_units.specs.declared.unit.Member.{Member}
-use Rattle.java_units.specs.declared.unit.Member.TheVariants.{Field, Method, Outside, Skipped}
-use Rattle.java_units.specs.declared.unit.OutsideHead.{OutsideHead}
-use Rattle.java_units.specs.declared.unit.HeadResult.{HeadResult}
-use Rattle.java_units.specs.declared.unit.HeadResult.TheVariants as head
+use Rattle.java_parser_grammar.specs.declared.unit.Unit.{Unit}
+use Rattle.java_parser_grammar.specs.declared.unit.ClassTree.{ClassTree}
+use Rattle.java_parser_grammar.specs.declared.unit.Member.{Member}
+use Rattle.java_parser_grammar.specs.declared.unit.Member.TheVariants.{Field, Method, Outside, Skipped}
+use Rattle.java_parser_grammar.specs.declared.unit.OutsideHead.{OutsideHead}
+use Rattle.java_parser_grammar.specs.declared.unit.HeadResult.{HeadResult}
+use Rattle.java_parser_grammar.specs.declared.unit.HeadResult.TheVariants as head
 use Rattle.java_resolver.specs.declared.infos.ClassInfo.{ClassInfo}
 use Rattle.java_resolver.specs.declared.infos.FieldInfo.{FieldInfo}
 use Rattle.java_resolver.specs.declared.infos.MethodInfo.{MethodInfo}

@@ -16,11 +16,11 @@ use Rattle.java_tree.specs.declared.methods.MethodTree.{MethodTree}
 use Rattle.java_tree.specs.declared.methods.ParameterTree.{ParameterTree}
 use Rattle.java_tree.specs.declared.methods.ResultTree.{ResultTree}
 use Rattle.java_tree.specs.Trees.{Ty, Typed, Named, no_part, part_then, Part}
-use Rattle.java_units.specs.declared.unit.Unit.{Unit}
-use Rattle.java_units.specs.declared.unit.ClassTree.{ClassTree}
-use Rattle.java_units.specs.declared.unit.Member.{Member}
-use Rattle.java_units.specs.declared.unit.Member.TheVariants.{Outside}
-use Rattle.java_units.specs.declared.unit.HeadResult.{HeadResult}
+use Rattle.java_parser_grammar.specs.declared.unit.Unit.{Unit}
+use Rattle.java_parser_grammar.specs.declared.unit.ClassTree.{ClassTree}
+use Rattle.java_parser_grammar.specs.declared.unit.Member.{Member}
+use Rattle.java_parser_grammar.specs.declared.unit.Member.TheVariants.{Outside}
+use Rattle.java_parser_grammar.specs.declared.unit.HeadResult.{HeadResult}
 use Rattle.java_resolver.specs.declared.infos.ClassInfo.{ClassInfo}
 use Rattle.java_resolver.specs.declared.infos.FieldInfo.{FieldInfo}
 use Rattle.java_resolver.specs.declared.infos.MethodInfo.{MethodInfo}

@@ -10,7 +10,7 @@ use crate::fault::ResolveFault;
 use crate::infos::ClassInfo;
 use crate::numbers::{Key, Named, add_number, no_numbers, number_at};
 use crate::words::is_checked;
-use java_units::{ClassTree, Unit};
+use java_parser_grammar::{ClassTree, Unit};
 use racer_base::{ClassId, Memory};
 use std::alloc::Global;
 use std::marker::Model;

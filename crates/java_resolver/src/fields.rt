@@ -15,7 +15,7 @@ use crate::kinds::kind_of;
 use crate::numbers::{Named, add_number, no_numbers, number_at, number_of};
 use crate::words::has_word;
 use java_tree::{FieldTree, FieldVariable};
-use java_units::{ClassTree, Member};
+use java_parser_grammar::{ClassTree, Member};
 use racer_base::{ClassId, FieldId, Memory};
 use std::alloc::Global;
 use std::marker::Model;

@@ -7,7 +7,7 @@ ghost use Rattle.java_resolver.specs.TypeKinds.{base_kind, kind_of};
 
 use crate::classes::Classes;
 use java_tree::{BaseType, ResultTree, TypePart, TypeTree};
-use java_units::HeadResult;
+use java_parser_grammar::HeadResult;
 use racer_base::{ClassId, Kind};
 
 /// The kind of a type of this one name.

@@ -14,7 +14,7 @@ use crate::kinds::kind_of;
 use crate::methods::{Methods, methods_of};
 use crate::scope::{Meaning, Scope, ScopeVariable};
 use java_tree::TypeTree;
-use java_units::Unit;
+use java_parser_grammar::Unit;
 use racer_base::{ClassId, FieldId, Kind, MethodId};
 use std::alloc::Global;
 

@@ -7,8 +7,8 @@ use Rattle.core_code.specs.Core.{Core}
 use Rattle.race_pairs.specs.declared.warning.Warning.{Warning}
 use Rattle.core_ways.specs.declared.mark.Mark.{Mark}
 use Rattle.core_ways.specs.Marks.{Said, said_by}
-use Rattle.confirmed_races.specs.Warned.{warning_mark}
-use Rattle.report_parts.specs.Report.{is_confirmed}
+use Rattle.witness_build_laws.specs.Warned.{warning_mark}
+use Rattle.race_report_parts.specs.Report.{is_confirmed}
 
 count_mapped : {X Y : Type 0} (f : X → Y) (p : Y → Bool) (xs : List X) →
     count_by (λ x. p (f x)) xs ≡ count_by p (map f xs)

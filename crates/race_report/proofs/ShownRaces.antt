@@ -11,12 +11,12 @@ use Rattle.core_semantics.specs.Legs.{Leg}
 use Rattle.core_semantics.specs.Runs.{begun}
 use Rattle.core_ways.specs.Marks.{Said, Unnamed, Unstable, Unread, Long, Blocked, Confirmed, legs_of, objects_of}
 use Rattle.core_ways.specs.Ways.{record_at}
-use Rattle.confirmed_races.specs.Warned.{pair_of, warning_mark}
-use Rattle.report_parts.specs.Marks.{mark_word}
-use Rattle.report_parts.specs.Told.{sides_of}
-use Rattle.report_parts.specs.Report.{mark_lines, sides_lines}
-use Rattle.confirmed_races.specs.Headline.{AreConfirmed}
-use Rattle.confirmed_races.specs.Races.{RacesOn}
+use Rattle.witness_build_laws.specs.Warned.{pair_of, warning_mark}
+use Rattle.race_report_parts.specs.Marks.{mark_word}
+use Rattle.race_report_parts.specs.Told.{sides_of}
+use Rattle.race_report_parts.specs.Report.{mark_lines, sides_lines}
+use Rattle.witness_build_laws.specs.Headline.{AreConfirmed}
+use Rattle.witness_build_laws.specs.Races.{RacesOn}
 use Rattle.race_report.specs.Shown.{DoWholeWarningsRace, ShowsRace}
 
 -- each confirmed warning races

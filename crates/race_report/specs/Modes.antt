@@ -5,8 +5,8 @@ use Rattle.serde_json.specs.Written.{compact_text}
 use Rattle.core_code.specs.Core.{Core}
 use Rattle.race_report.specs.declared.mode.Mode.{Mode}
 use Rattle.race_pairs.specs.Warnings.{warnings}
-use Rattle.report_parts.specs.Report.{line, counts_line, last_line, report_text}
-use Rattle.report_parts.specs.Json.{report_value}
+use Rattle.race_report_parts.specs.Report.{line, counts_line, last_line, report_text}
+use Rattle.race_report_parts.specs.Json.{report_value}
 
 abbrev pub report : Mode → Core → List ℕ
 report mode core =

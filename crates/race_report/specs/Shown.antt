@@ -11,10 +11,10 @@ use Rattle.core_semantics.specs.Legs.{Leg}
 use Rattle.core_ways.specs.Marks.{IsWhole}
 use Rattle.core_ways.specs.Stable.{IsStable}
 use Rattle.core_ways.specs.Ways.{record_at}
-use Rattle.confirmed_races.specs.Warned.{pair_of}
-use Rattle.report_parts.specs.Told.{sides_of}
-use Rattle.report_parts.specs.Report.{line, legs_lines, object_line, sides_lines, warning_lines}
-use Rattle.confirmed_races.specs.Races.{RacesOn}
+use Rattle.witness_build_laws.specs.Warned.{pair_of}
+use Rattle.race_report_parts.specs.Told.{sides_of}
+use Rattle.race_report_parts.specs.Report.{line, legs_lines, object_line, sides_lines, warning_lines}
+use Rattle.witness_build_laws.specs.Races.{RacesOn}
 
 -- The lines of a warning on this path are its two records and then a run: these objects and these legs stand below
 -- `mark confirmed`, and the legs, run from these objects, end in a race in the cell of the path.

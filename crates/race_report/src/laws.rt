@@ -8,12 +8,12 @@ ghost use Rattle.access_domain.specs.declared.access.Access.{Access};
 ghost use Rattle.core_ways.specs.Ways.{record_at};
 ghost use Rattle.race_pairs.specs.declared.warning.Warning.{Warning};
 ghost use Rattle.race_pairs.specs.Warnings.{warnings};
-ghost use Rattle.confirmed_races.specs.Warned.{warning_mark};
-ghost use Rattle.report_parts.specs.Marks.{mark_word};
-ghost use Rattle.report_parts.specs.Report.{report_text};
+ghost use Rattle.witness_build_laws.specs.Warned.{warning_mark};
+ghost use Rattle.race_report_parts.specs.Marks.{mark_word};
+ghost use Rattle.race_report_parts.specs.Report.{report_text};
 ghost use Rattle.race_report.specs.Shown.{DoWholeWarningsRace, ShowsRace};
 
-use confirmed_races::laws::{confirmed_warnings_race, whole_warnings_race};
+use witness_build_laws::laws::{confirmed_warnings_race, whole_warnings_race};
 
 /// The report of a class with two methods, one of which writes without the lock.
 pub fn pair_report()

@@ -3,7 +3,7 @@
 //! # The definitions
 //!
 //! `specs/Modes.antt` says which of the two a report is. The lines of the one and the object of the other stand in
-//! `report_parts`, and so does what either tells. `specs/Shown.antt` says what run the lines of a warning show.
+//! `race_report_parts`, and so does what either tells. `specs/Shown.antt` says what run the lines of a warning show.
 #![tactic(auto)]
 
 pub mod laws;

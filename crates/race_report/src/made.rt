@@ -3,8 +3,8 @@ ghost use Rattle.std.specs.Prelude.{◌≡◌, IfOk, map, string_bytes};
 ghost use Rattle.core_code.specs.Program.{core};
 ghost use Rattle.race_pairs.specs.Warnings as pairs;
 ghost use Rattle.core_ways.specs.Marks.{said_by};
-ghost use Rattle.confirmed_races.specs.Warned.{warning_mark};
-ghost use Rattle.report_parts.specs.Written.{Lasts, Puts};
+ghost use Rattle.witness_build_laws.specs.Warned.{warning_mark};
+ghost use Rattle.race_report_parts.specs.Written.{Lasts, Puts};
 ghost use Rattle.race_report.specs.Modes.{made_report};
 
 use crate::marks::push_last;
@@ -12,7 +12,7 @@ use core_code::Program;
 use core_ways::Mark;
 use race_pairs::Warning;
 use racer_base::Memory;
-use report_parts::{Written, push_counts, push_end, push_number, push_text};
+use race_report_parts::{Written, push_counts, push_end, push_number, push_text};
 use std::alloc::Global;
 
 /// Puts the lines of a folder made of so many classes behind a text.

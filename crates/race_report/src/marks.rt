@@ -2,14 +2,14 @@
 ghost use Rattle.std.specs.Prelude.{◌≡◌, count_by, map};
 ghost use Rattle.core_code.specs.Program.{core};
 ghost use Rattle.core_ways.specs.Marks.{said_by};
-ghost use Rattle.confirmed_races.specs.Warned.{warning_mark};
-ghost use Rattle.report_parts.specs.Written.{Lasts, Puts};
-ghost use Rattle.report_parts.specs.Report as said;
+ghost use Rattle.witness_build_laws.specs.Warned.{warning_mark};
+ghost use Rattle.race_report_parts.specs.Written.{Lasts, Puts};
+ghost use Rattle.race_report_parts.specs.Report as said;
 
 use core_code::Program;
 use core_ways::Mark;
 use race_pairs::Warning;
-use report_parts::{Written, push_count, push_end, push_text};
+use race_report_parts::{Written, push_count, push_end, push_text};
 
 fn is_confirmed(mark: &Mark) -> bool
     ensures { result ≡ said.is_confirmed (said_by mark.now) }

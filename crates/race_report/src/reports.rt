@@ -5,11 +5,11 @@ ghost use Rattle.core_code.specs.Program.{core};
 ghost use Rattle.access_domain.specs.Outcomes.{AreOutcomes};
 ghost use Rattle.race_pairs.specs.Warnings as pairs;
 ghost use Rattle.core_ways.specs.Marks.{said_by};
-ghost use Rattle.confirmed_races.specs.Warned.{warning_mark};
-ghost use Rattle.report_parts.specs.Written.{Lasts, Puts};
-ghost use Rattle.report_parts.specs.Json.{report_value};
+ghost use Rattle.witness_build_laws.specs.Warned.{warning_mark};
+ghost use Rattle.race_report_parts.specs.Written.{Lasts, Puts};
+ghost use Rattle.race_report_parts.specs.Json.{report_value};
 ghost use Rattle.race_report.specs.Modes as said;
-ghost use Rattle.report_parts.specs.Report as lines;
+ghost use Rattle.race_report_parts.specs.Report as lines;
 
 use crate::Mode;
 use crate::marks::push_last;
@@ -19,7 +19,7 @@ use core_code::Program;
 use core_ways::Mark;
 use race_pairs::Warning;
 use racer_base::Memory;
-use report_parts::{
+use race_report_parts::{
     Written, push_counts, push_end, push_not_analysed, push_skipped, push_summaries, push_text,
 };
 use std::alloc::Global;
@@ -102,7 +102,7 @@ fn push_object(
     ensures lasts { Lasts text.old text.new }
     ensures puts { Puts (lines.line (compact_text (report_value summaries (core program.now)))) text.old text.new }
 {
-    report_parts::push_report(text, summaries, program, outcomes, found, marks);
+    race_report_parts::push_report(text, summaries, program, outcomes, found, marks);
     push_end(text)
 }
 

@@ -3,19 +3,19 @@ ghost use Rattle.std.specs.Prelude.{◌≡◌, Some, map};
 ghost use Rattle.std.specs.List.{flat_map};
 ghost use Rattle.core_code.specs.Program.{core};
 ghost use Rattle.access_domain.specs.Outcomes.{AreOutcomes};
-ghost use Rattle.report_parts.specs.Sides.{sides_told};
-ghost use Rattle.report_parts.specs.Sites.{AreSites};
-ghost use Rattle.report_parts.specs.Told as told;
-ghost use Rattle.report_parts.specs.Written.{Lasts, Puts};
+ghost use Rattle.race_report_parts.specs.Sides.{sides_told};
+ghost use Rattle.race_report_parts.specs.Sites.{AreSites};
+ghost use Rattle.race_report_parts.specs.Told as told;
+ghost use Rattle.race_report_parts.specs.Written.{Lasts, Puts};
 ghost use Rattle.core_ways.specs.Marks.{said_by};
-ghost use Rattle.confirmed_races.specs.Warned.{warning_mark};
-ghost use Rattle.report_parts.specs.Report as said;
+ghost use Rattle.witness_build_laws.specs.Warned.{warning_mark};
+ghost use Rattle.race_report_parts.specs.Report as said;
 
 use access_domain::Outcome;
 use core_code::Program;
 use core_ways::Mark;
 use race_pairs::Warning;
-use report_parts::{
+use race_report_parts::{
     Sides, Site, Written, mark_at, push_mark_lines, push_side, push_text, sides_of, sites,
 };
 use std::sync::Arc;

@@ -1,5 +1,5 @@
 //! Tests of a folder of the file system and of standard output, whose contracts tell nothing of content.
-use disk_folder::DirFolder;
+use racer_disk::DirFolder;
 use racer_base::{Failed, Folder, FolderFault, Sink, StdSink};
 use std::alloc::{AllocError, Global};
 use std::fmt::Display;

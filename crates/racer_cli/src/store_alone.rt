@@ -9,7 +9,7 @@ use crate::tests::{PLAIN, Row, folder};
 use access_domain::{Access, Outcome, Summary};
 use core_code::{CallRows, Program, call_rows};
 use demand_pool::{Given, run_workers};
-use folder_programs::{FoundProgram, folder_program};
+use racer_sources::{FoundProgram, folder_program};
 use owner_domain::Value;
 use racer_base::Memory;
 use std::alloc::Global;

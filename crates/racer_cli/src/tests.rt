@@ -1,10 +1,10 @@
 //! Tests of the top call, each a row of words, files and failing calls with what is to come of it.
 ghost use Rattle.std.specs.Prelude.{◌≡◌, ◌<◌, IfOk};
-ghost use Rattle.memory_outside.specs.MemoryFolder.{faults_of};
-ghost use Rattle.memory_outside.specs.MemorySink as sinks;
+ghost use Rattle.racer_memory.specs.MemoryFolder.{faults_of};
+ghost use Rattle.racer_memory.specs.MemorySink as sinks;
 
 use super::*;
-use memory_outside::{MemoryFolder, MemorySink};
+use racer_memory::{MemoryFolder, MemorySink};
 use racer_base::Gate;
 use std::alloc::Global;
 use std::sync::Wait;

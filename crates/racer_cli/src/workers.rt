@@ -3,7 +3,7 @@
 use super::*;
 use crate::gates::{Meeting, Watching};
 use crate::tests::{PLAIN, Row, called, held};
-use memory_outside::MemorySink;
+use racer_memory::MemorySink;
 use std::alloc::Global;
 use std::str;
 use std::sync::Wait;

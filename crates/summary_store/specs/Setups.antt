@@ -1,4 +1,4 @@
--- A contract of a public call rests on this: `take_at`, and `run` of top_call. The demand machine of a program.
+-- A contract of a public call rests on this: `take_at`, and `run` of racer_run. The demand machine of a program.
 use Rattle.std.specs.Prelude.{ℕ, List}
 use Rattle.core_code.specs.declared.program.Program.{Program}
 use Rattle.core_code.specs.Core.{Core}

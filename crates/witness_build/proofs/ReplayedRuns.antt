@@ -19,11 +19,11 @@ use Rattle.core_semantics.specs.declared.object.StartPath.{StartPath}
 use Rattle.core_semantics.specs.Legs.{Leg}
 use Rattle.core_ways.specs.declared.mark.Mark.{Mark}
 use Rattle.core_ways.specs.Marks.{Said, Unnamed, Unstable, Unread, Long, Blocked, Confirmed, legs_of, said_by}
-use Rattle.confirmed_races.specs.Warned.{pair_of, warning_mark}
-use Rattle.confirmed_races.proofs.ConfirmedRun.{IsFound, confirmed-found}
-use Rattle.confirmed_races.proofs.ConfirmedWarnings.{confirmed-warnings-race}
-use Rattle.right_objects.specs.Reached.{is_right, roots_of}
-use Rattle.right_objects.proofs.RightObjects.{objects-right}
+use Rattle.witness_build_laws.specs.Warned.{pair_of, warning_mark}
+use Rattle.witness_build_laws.proofs.ConfirmedRun.{IsFound, confirmed-found}
+use Rattle.witness_build_laws.proofs.ConfirmedWarnings.{confirmed-warnings-race}
+use Rattle.core_ways_objects.specs.Reached.{is_right, roots_of}
+use Rattle.core_ways_objects.proofs.RightObjects.{objects-right}
 use Rattle.witness_build.specs.Replayed.{AreRight, CanReplay, DoRace, IfConfirmed}
 
 -- an entry of a program is analysed

@@ -13,7 +13,7 @@ use Rattle.core_ways.specs.Marks.{Pair, Said, Unnamed, Unstable, is_locked, mark
 use Rattle.core_ways.specs.Stable.{unstable_prefix}
 use Rattle.core_ways.specs.Ways.{record_at}
 use Rattle.race_pairs.specs.declared.warning.Warning.{Warning}
-use Rattle.confirmed_races.specs.Warned.{pair_of, warning_mark}
+use Rattle.witness_build_laws.specs.Warned.{pair_of, warning_mark}
 use Rattle.witness_build.proofs.FoundPrefixes.{record-found}
 
 abbrev mark_by : Core → Warning → Option Access → Said

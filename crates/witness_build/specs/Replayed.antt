@@ -9,8 +9,8 @@ use Rattle.core_semantics.specs.declared.object.StartPath.{StartPath}
 use Rattle.core_semantics.specs.Legs.{Leg}
 use Rattle.core_ways.specs.Marks.{Said, Unnamed, Unstable, Unread, Long, Blocked, Confirmed}
 use Rattle.core_ways.specs.Ways.{record_at}
-use Rattle.confirmed_races.specs.Races.{RacesOn}
-use Rattle.right_objects.specs.Reached.{is_right, roots_of}
+use Rattle.witness_build_laws.specs.Races.{RacesOn}
+use Rattle.core_ways_objects.specs.Reached.{is_right, roots_of}
 
 -- each of these objects is a right start path for the two entries of a warning
 pub record AreRight (core : Core) (w : Warning) (objects : List StartPath) : Type 0 where

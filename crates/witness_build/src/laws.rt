@@ -8,7 +8,7 @@ ghost use Rattle.core_semantics.specs.Legs.{Leg};
 ghost use Rattle.core_ways.specs.Marks.{Confirmed};
 ghost use Rattle.race_pairs.specs.declared.warning.Warning.{Warning};
 ghost use Rattle.race_pairs.specs.Warnings.{warnings};
-ghost use Rattle.confirmed_races.specs.Warned.{warning_mark};
+ghost use Rattle.witness_build_laws.specs.Warned.{warning_mark};
 ghost use Rattle.witness_build.specs.Replayed.{CanReplay};
 
 /// Each warning of the list of warnings that is marked confirmed has what the file of its witness needs to be replayed:

@@ -1,6 +1,6 @@
 //! The marks of warnings: what is known of each, with a run that ends in a race where it is confirmed.
 //!
-//! `mark` gives the mark that `specs/Warned.antt` of `confirmed_races` defines. `specs/Replayed.antt` says what a
+//! `mark` gives the mark that `specs/Warned.antt` of `witness_build_laws` defines. `specs/Replayed.antt` says what a
 //! confirmed one has more, so that the file of its witness can be replayed.
 #![tactic(auto)]
 

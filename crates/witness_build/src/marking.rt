@@ -10,10 +10,10 @@ ghost use Rattle.core_ways.specs.Marks.{Blocked, is_locked, leg_of, mark_by_call
 ghost use Rattle.core_ways.specs.Ways.{Trip, way_of};
 ghost use Rattle.core_ways.specs.Both.{AreBoth, AreShort, IsShort, said_of};
 ghost use Rattle.core_ways.specs.Ends.{nowhere};
-ghost use Rattle.legs_apart.specs.RunLegs.{IsSaid};
-ghost use Rattle.leg_walks.specs.Told.{AreWalks};
+ghost use Rattle.witness_build_apart.specs.RunLegs.{IsSaid};
+ghost use Rattle.witness_build_walks.specs.Told.{AreWalks};
 ghost use Rattle.race_pairs.specs.Warnings.{warnings};
-ghost use Rattle.confirmed_races.specs.Warned.{pair_of, warning_mark};
+ghost use Rattle.witness_build_laws.specs.Warned.{pair_of, warning_mark};
 ghost use Rattle.witness_build.specs.Replayed.{AreRight, DoRace, IfConfirmed};
 
 use crate::prefixes::unstable_prefix;
@@ -23,7 +23,7 @@ use core_semantics::{Machine, Start, begin};
 use core_ways::{
     Both, Leg, Mark, Objects, Target, WayTaken, Witness, let_go, record_of, run_leg, ways,
 };
-use leg_walks::{Walked, Walks, let_go as let_walks_go};
+use witness_build_walks::{Walked, Walks, let_go as let_walks_go};
 use race_pairs::Warning;
 use racer_base::{FileId, Items, Memory, Place};
 use std::alloc::Global;

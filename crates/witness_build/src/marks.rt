@@ -3,14 +3,14 @@ ghost use Rattle.std.specs.Prelude.{◌≡◌, IfOk, map};
 ghost use Rattle.core_code.specs.Program.{core};
 ghost use Rattle.access_domain.specs.Outcomes.{AreOutcomes};
 ghost use Rattle.core_ways.specs.Marks.{said_by};
-ghost use Rattle.confirmed_races.specs.Warned.{warning_mark};
-ghost use Rattle.leg_walks.specs.Told.{AreWalks};
+ghost use Rattle.witness_build_laws.specs.Warned.{warning_mark};
+ghost use Rattle.witness_build_walks.specs.Told.{AreWalks};
 
 use crate::marking::mark_from;
 use access_domain::Outcomes;
 use core_code::Program;
 use core_ways::Mark;
-use leg_walks::{Walks, let_go};
+use witness_build_walks::{Walks, let_go};
 use race_pairs::Warning;
 use racer_base::Memory;
 use std::alloc::Global;

@@ -31,15 +31,15 @@ use Rattle.core_semantics.specs.declared.object.StartRoot.{StartRoot}
 use Rattle.core_semantics.specs.declared.object.StartRoot.TheVariants.{This, Class, Param}
 use Rattle.core_semantics.specs.Runs.{begun, races}
 use Rattle.core_semantics.specs.State.{State}
-use Rattle.report_parts.specs.Marks.{start_root_text, start_text}
-use Rattle.report_parts.specs.Texts.{class_names, field_names}
-use Rattle.right_objects.specs.Reached.{Reached, Roots, TheClass, behind, behind_field, has_field, is_right}
-use Rattle.right_objects.specs.Reached.{reached_from, roots_of}
+use Rattle.race_report_parts.specs.Marks.{start_root_text, start_text}
+use Rattle.race_report_parts.specs.Texts.{class_names, field_names}
+use Rattle.core_ways_objects.specs.Reached.{Reached, Roots, TheClass, behind, behind_field, has_field, is_right}
+use Rattle.core_ways_objects.specs.Reached.{reached_from, roots_of}
 use Rattle.witness_text.specs.declared.verdict.Verdict.TheVariants.{Races}
-use Rattle.report_parts.specs.WitnessFiles.{entry_text, file_named}
-use Rattle.witness_names.specs.Names.{entry_named}
-use Rattle.witness_names.specs.Objects.{object_named, objects_named, path_along, path_named}
-use Rattle.witness_names.specs.declared.objects.Named.TheVariants.{All as AllNamed}
+use Rattle.race_report_parts.specs.WitnessFiles.{entry_text, file_named}
+use Rattle.witness_text_names.specs.Names.{entry_named}
+use Rattle.witness_text_names.specs.Objects.{object_named, objects_named, path_along, path_named}
+use Rattle.witness_text_names.specs.declared.objects.Named.TheVariants.{All as AllNamed}
 use Rattle.witness_text.specs.Verdicts.{entries_verdict, race_verdict, run_verdict, verdict}
 use Rattle.witness_text.proofs.Differing.{in-at, mapped-at, passes-in}
 use Rattle.witness_text.proofs.EntriesFound.{entry-few, entry-found}

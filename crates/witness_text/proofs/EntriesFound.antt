@@ -19,9 +19,9 @@ use Rattle.core_code.specs.Program.{core as core_of}
 use Rattle.core_code.proofs.BoolParts.{first_part, last_part}
 use Rattle.core_code.proofs.Membership.{In}
 use Rattle.access_paths.specs.Text.{name_at}
-use Rattle.report_parts.specs.Texts.{class_names}
-use Rattle.report_parts.specs.WitnessFiles.{entry_text}
-use Rattle.witness_names.specs.Names.{entry_named, is_named}
+use Rattle.race_report_parts.specs.Texts.{class_names}
+use Rattle.race_report_parts.specs.WitnessFiles.{entry_text}
+use Rattle.witness_text_names.specs.Names.{entry_named, is_named}
 use Rattle.witness_text.proofs.Differing.{OneOf, found-kept, in-at, mapped-at, one-index, passes-in, there}
 use Rattle.witness_text.proofs.EntryTexts.{entry-told}
 use Rattle.witness_text.proofs.NamedFields.{both, text-equal, text-refl}

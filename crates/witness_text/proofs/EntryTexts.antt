@@ -4,7 +4,7 @@ use Rattle.std.proofs.Common.{refl, sym, subst, ◌∙◌, arith, append_assoc}
 use Rattle.std.specs.Fmt.{decimal}
 use Rattle.std.proofs.lemmas.Fmt.{decimal_by_steps, decimal_injective}
 use Rattle.core_code.specs.Core.{Method}
-use Rattle.report_parts.specs.WitnessFiles.{entry_text}
+use Rattle.race_report_parts.specs.WitnessFiles.{entry_text}
 
 -- no byte is a slash (47)
 abbrev NoSlash : List ℕ → Type 0

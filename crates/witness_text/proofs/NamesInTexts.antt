@@ -9,7 +9,7 @@ use Rattle.racer_base.specs.declared.ids.FieldId.{FieldId}
 use Rattle.racer_base.specs.Name.{is_digit, is_letter, is_word, is_word_byte}
 use Rattle.core_code.proofs.BoolParts.{first_part, last_part}
 use Rattle.access_paths.specs.Text.{fields_text, name_at}
-use Rattle.witness_names.specs.Names.{names_in}
+use Rattle.witness_text_names.specs.Names.{names_in}
 
 abbrev pub is_dot : ℕ → Bool
 is_dot b = b == 46

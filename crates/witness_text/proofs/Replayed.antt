@@ -7,12 +7,12 @@ use Rattle.core_semantics.specs.declared.object.StartPath.{StartPath}
 use Rattle.core_semantics.specs.Legs.{Leg, Ran, Came, Broke, run, runs, whole}
 use Rattle.core_semantics.specs.Runs.{races}
 use Rattle.core_semantics.specs.State.{State}
-use Rattle.report_parts.specs.Marks.{start_text}
+use Rattle.race_report_parts.specs.Marks.{start_text}
 use Rattle.witness_text.specs.declared.verdict.Verdict.{Verdict}
 use Rattle.witness_text.specs.declared.verdict.Verdict.TheVariants.{NoConflict, Races, StopsAt}
-use Rattle.witness_names.specs.Objects.{before, object_named, objects_named}
-use Rattle.witness_names.specs.declared.objects.Named.{Named}
-use Rattle.witness_names.specs.declared.objects.Named.TheVariants.{All, NoneAt}
+use Rattle.witness_text_names.specs.Objects.{before, object_named, objects_named}
+use Rattle.witness_text_names.specs.declared.objects.Named.{Named}
+use Rattle.witness_text_names.specs.declared.objects.Named.TheVariants.{All, NoneAt}
 use Rattle.witness_text.specs.Replays.{IsReplayed, replayed}
 use Rattle.witness_text.specs.Verdicts.{legs_verdict, race_verdict}
 

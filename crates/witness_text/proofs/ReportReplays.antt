@@ -11,15 +11,15 @@ use Rattle.core_semantics.specs.declared.object.StartPath.{StartPath}
 use Rattle.core_semantics.specs.Legs.{Leg}
 use Rattle.core_ways.specs.Marks.{Said, Unnamed, Unstable, Unread, Long, Blocked, Confirmed}
 use Rattle.race_pairs.specs.declared.warning.Warning.{Warning}
-use Rattle.confirmed_races.specs.Warned.{warning_mark}
-use Rattle.report_parts.specs.Json.{mark_value}
-use Rattle.report_parts.specs.Marks.{start_text}
-use Rattle.report_parts.specs.Places.{Held}
-use Rattle.report_parts.specs.Told.{Side, Sides, side_from, side_of, sides_from, sides_of}
-use Rattle.report_parts.specs.WitnessFiles.{file_named, file_of_run}
-use Rattle.witness_files.specs.Files.{File, file_of}
-use Rattle.witness_files.specs.Written.{data_of}
-use Rattle.witness_files.proofs.ReadBack.{written-is-read}
+use Rattle.witness_build_laws.specs.Warned.{warning_mark}
+use Rattle.race_report_parts.specs.Json.{mark_value}
+use Rattle.race_report_parts.specs.Marks.{start_text}
+use Rattle.race_report_parts.specs.Places.{Held}
+use Rattle.race_report_parts.specs.Told.{Side, Sides, side_from, side_of, sides_from, sides_of}
+use Rattle.race_report_parts.specs.WitnessFiles.{file_named, file_of_run}
+use Rattle.witness_text_files.specs.Files.{File, file_of}
+use Rattle.witness_text_files.specs.Written.{data_of}
+use Rattle.witness_text_files.proofs.ReadBack.{written-is-read}
 use Rattle.witness_text.specs.declared.verdict.Verdict.TheVariants.{Races}
 use Rattle.witness_text.specs.Replaying.{IsRacing}
 use Rattle.witness_text.specs.Verdicts.{verdict}

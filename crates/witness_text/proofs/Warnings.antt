@@ -14,13 +14,13 @@ use Rattle.core_semantics.specs.Runs.{begun, races}
 use Rattle.core_semantics.specs.State.{State}
 use Rattle.race_pairs.specs.declared.warning.Warning.{Warning}
 use Rattle.race_pairs.specs.Pairs.{IsPair}
-use Rattle.report_parts.specs.Marks.{start_text}
-use Rattle.report_parts.specs.Texts.{class_names}
-use Rattle.report_parts.specs.WitnessFiles.{entry_text, file_named}
+use Rattle.race_report_parts.specs.Marks.{start_text}
+use Rattle.race_report_parts.specs.Texts.{class_names}
+use Rattle.race_report_parts.specs.WitnessFiles.{entry_text, file_named}
 use Rattle.witness_build.specs.Replayed.{AreRight, CanReplay}
-use Rattle.witness_files.specs.declared.fault.Field.{Field}
-use Rattle.witness_files.specs.Answers.{IsFileOf}
-use Rattle.witness_files.specs.Files.{File, file_of}
+use Rattle.witness_text_files.specs.declared.fault.Field.{Field}
+use Rattle.witness_text_files.specs.Answers.{IsFileOf}
+use Rattle.witness_text_files.specs.Files.{File, file_of}
 use Rattle.witness_text.specs.declared.verdict.Verdict.TheVariants.{Races}
 use Rattle.witness_text.specs.Verdicts.{verdict}
 use Rattle.witness_text.specs.Witnesses.{file_of_witness}

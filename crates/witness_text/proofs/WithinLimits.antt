@@ -24,13 +24,13 @@ use Rattle.core_ways.specs.Stable.{unstable_prefix}
 use Rattle.core_ways.specs.Ways.{Trip, record_at, way_of}
 use Rattle.core_ways.proofs.Gathering.{gathered-count, gathered-firsts}
 use Rattle.race_pairs.specs.declared.warning.Warning.{Warning}
-use Rattle.report_parts.specs.Marks.{start_text}
-use Rattle.report_parts.specs.WitnessFiles.{file_named}
-use Rattle.confirmed_races.specs.Warned.{pair_of, warning_mark}
-use Rattle.confirmed_races.proofs.MarkParts.{IsConfirmedBy, mark-parts}
+use Rattle.race_report_parts.specs.Marks.{start_text}
+use Rattle.race_report_parts.specs.WitnessFiles.{file_named}
+use Rattle.witness_build_laws.specs.Warned.{pair_of, warning_mark}
+use Rattle.witness_build_laws.proofs.MarkParts.{IsConfirmedBy, mark-parts}
 use Rattle.witness_build.proofs.FewTurns.{few-way}
-use Rattle.legs_apart.proofs.LegEnds.{leg-count, run-reads}
-use Rattle.witness_files.proofs.ReadBack.{IsLeg, IsWithin}
+use Rattle.witness_build_apart.proofs.LegEnds.{leg-count, run-reads}
+use Rattle.witness_text_files.proofs.ReadBack.{IsLeg, IsWithin}
 
 -- ---- the parts of a confirmed mark
 

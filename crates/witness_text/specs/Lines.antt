@@ -1,9 +1,9 @@
 -- A contract of a public call rests on this: the lines that tell a verdict, or why a file is no witness.
 use Rattle.std.specs.Prelude.{ℕ, List, ◌++◌, codes}
 use Rattle.std.specs.Fmt.{decimal}
-use Rattle.report_parts.specs.Report.{line}
-use Rattle.witness_files.specs.declared.fault.Field.{Field}
-use Rattle.witness_files.specs.declared.fault.Field.TheVariants.{Version, Class, Entries, Objects, Legs}
+use Rattle.race_report_parts.specs.Report.{line}
+use Rattle.witness_text_files.specs.declared.fault.Field.{Field}
+use Rattle.witness_text_files.specs.declared.fault.Field.TheVariants.{Version, Class, Entries, Objects, Legs}
 use Rattle.witness_text.specs.declared.verdict.Verdict.{Verdict}
 use Rattle.witness_text.specs.declared.verdict.Verdict.TheVariants.{Races, NoSuchEntry, NoSuchObject, StopsAt}
 use Rattle.witness_text.specs.declared.verdict.Verdict.TheVariants.{NoConflict}

@@ -6,10 +6,10 @@ use Rattle.serde_json.specs.Find.{get}
 use Rattle.core_code.specs.Core.{Core}
 use Rattle.race_pairs.specs.declared.warning.Warning.{Warning}
 use Rattle.race_pairs.specs.Warnings.{warnings}
-use Rattle.confirmed_races.specs.Warned.{warning_mark}
-use Rattle.report_parts.specs.Json.{mark_value}
-use Rattle.report_parts.specs.Told.{Sides, sides_of}
-use Rattle.witness_files.specs.Files.{File, file_of}
+use Rattle.witness_build_laws.specs.Warned.{warning_mark}
+use Rattle.race_report_parts.specs.Json.{mark_value}
+use Rattle.race_report_parts.specs.Told.{Sides, sides_of}
+use Rattle.witness_text_files.specs.Files.{File, file_of}
 use Rattle.witness_text.specs.declared.verdict.Verdict.TheVariants.{Races}
 use Rattle.witness_text.specs.Verdicts.{verdict}
 

@@ -7,11 +7,11 @@ use Rattle.core_semantics.specs.declared.object.Start.TheVariants.{Only}
 use Rattle.core_semantics.specs.Legs.{Leg, Came, Broke, runs}
 use Rattle.core_semantics.specs.Runs.{begun, races}
 use Rattle.core_semantics.specs.State.{State}
-use Rattle.witness_files.specs.Files.{File}
-use Rattle.witness_names.specs.declared.objects.Named.{Named}
-use Rattle.witness_names.specs.declared.objects.Named.TheVariants.{All, NoneAt}
-use Rattle.witness_names.specs.Names.{Found, entry_named}
-use Rattle.witness_names.specs.Objects.{objects_named}
+use Rattle.witness_text_files.specs.Files.{File}
+use Rattle.witness_text_names.specs.declared.objects.Named.{Named}
+use Rattle.witness_text_names.specs.declared.objects.Named.TheVariants.{All, NoneAt}
+use Rattle.witness_text_names.specs.Names.{Found, entry_named}
+use Rattle.witness_text_names.specs.Objects.{objects_named}
 use Rattle.witness_text.specs.declared.verdict.Verdict.{Verdict}
 use Rattle.witness_text.specs.declared.verdict.Verdict.TheVariants.{NoConflict, NoSuchEntry, NoSuchObject, Races}
 use Rattle.witness_text.specs.declared.verdict.Verdict.TheVariants.{StopsAt}

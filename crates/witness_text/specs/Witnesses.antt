@@ -9,10 +9,10 @@ use Rattle.core_semantics.specs.Legs.{Leg}
 use Rattle.core_ways.specs.declared.mark.Witness.{Witness}
 use Rattle.core_ways.specs.Marks.{leg_of}
 use Rattle.race_pairs.specs.declared.warning.Warning.{Warning}
-use Rattle.report_parts.specs.Marks.{start_text}
-use Rattle.report_parts.specs.Texts.{class_names}
-use Rattle.report_parts.specs.WitnessFiles.{entry_text}
-use Rattle.witness_files.specs.Files.{File}
+use Rattle.race_report_parts.specs.Marks.{start_text}
+use Rattle.race_report_parts.specs.Texts.{class_names}
+use Rattle.race_report_parts.specs.WitnessFiles.{entry_text}
+use Rattle.witness_text_files.specs.Files.{File}
 
 -- the class and the text of a method; empty where there is no such method, which no warning names
 abbrev pub class_text : Core → MethodId → List ℕ

@@ -15,7 +15,7 @@ use core_races::races;
 use core_semantics::{Machine, StepAnswer, Turn};
 use core_ways::Leg;
 use racer_base::Memory;
-use witness_files::WitnessFile;
+use witness_text_files::WitnessFile;
 
 /// One step of a thread; these turns, which are left then, where it was made.
 fn go<'a, 't>(

@@ -1,13 +1,13 @@
 //! The lines of verdicts.
 ghost use Rattle.std.specs.Prelude.{◌≡◌, IfOk, string_bytes};
-ghost use Rattle.report_parts.specs.Written.{Lasts, Puts};
+ghost use Rattle.race_report_parts.specs.Written.{Lasts, Puts};
 ghost use Rattle.witness_text.specs.Lines as said;
 
 use crate::Verdict;
 use racer_base::Memory;
-use report_parts::{Written, push_end, push_number, push_text};
+use race_report_parts::{Written, push_end, push_number, push_text};
 use std::alloc::Global;
-use witness_files::Field;
+use witness_text_files::Field;
 
 /// The name of a member of a witness file.
 pub fn field_name(field: Field) -> &'static str

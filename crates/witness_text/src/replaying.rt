@@ -5,8 +5,8 @@ ghost use Rattle.core_code.specs.Program.{core};
 ghost use Rattle.core_semantics.specs.declared.object.Start.TheVariants.{Only};
 ghost use Rattle.core_semantics.specs.Runs.{begun};
 ghost use Rattle.core_ways.specs.Marks.{leg_of};
-ghost use Rattle.witness_files.specs.Answers.{seen};
-ghost use Rattle.witness_names.specs.Objects as named;
+ghost use Rattle.witness_text_files.specs.Answers.{seen};
+ghost use Rattle.witness_text_names.specs.Objects as named;
 ghost use Rattle.witness_text.specs.Verdicts.{legs_verdict, race_verdict, run_verdict, verdict};
 
 use crate::Verdict;
@@ -16,8 +16,8 @@ use core_semantics::{Start, StartPath, begin};
 use core_ways::let_go;
 use racer_base::{Items, Memory};
 use std::alloc::Global;
-use witness_files::WitnessFile;
-use witness_names::{Entry, Named, entry_named, objects_named};
+use witness_text_files::WitnessFile;
+use witness_text_names::{Entry, Named, entry_named, objects_named};
 
 /// The verdict of the run of two entries, where there are these objects at the begin.
 fn run_verdict(

@@ -4,9 +4,9 @@ ghost use Rattle.serde_json.specs.View.{view};
 ghost use Rattle.serde_json.specs.Written.{compact_text};
 ghost use Rattle.core_code.specs.Program.{core};
 ghost use Rattle.core_ways.specs.Marks.{leg_of};
-ghost use Rattle.report_parts.specs.Marks.{start_text};
-ghost use Rattle.witness_files.specs.Answers.{IsFileOf, seen};
-ghost use Rattle.witness_files.specs.Written.{data_of};
+ghost use Rattle.race_report_parts.specs.Marks.{start_text};
+ghost use Rattle.witness_text_files.specs.Answers.{IsFileOf, seen};
+ghost use Rattle.witness_text_files.specs.Written.{data_of};
 ghost use Rattle.witness_text.specs.Witnesses as said;
 
 use core_code::Program;
@@ -14,11 +14,11 @@ use core_semantics::StartPath;
 use core_ways::{Leg, Witness};
 use race_pairs::Warning;
 use racer_base::{ClassId, Items, Memory, MethodId, Text};
-use report_parts::{Written, push_start};
+use race_report_parts::{Written, push_start};
 use serde_json::Value;
 use std::alloc::Global;
-use witness_files::{WitnessFile, file_value, write_file};
-use witness_names::{class_name, entry_text};
+use witness_text_files::{WitnessFile, file_value, write_file};
+use witness_text_names::{class_name, entry_text};
 
 /// The name of the class of a method, empty where there is no such method.
 fn class_text(program: &Program, method: MethodId) -> &str

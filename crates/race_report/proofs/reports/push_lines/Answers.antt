@@ -3,8 +3,8 @@ use Rattle.std.specs.List.{flat_map}
 use Rattle.core_code.specs.Program.{core}
 use Rattle.race_pairs.specs.declared.warning.Warning.{Warning}
 use Rattle.race_pairs.specs.Warnings.{warnings}
-use Rattle.report_parts.specs.Report.{head_lines, method_lines, warning_lines, last_line}
-use Rattle.report_parts.proofs.PutChains.{four, same_piece}
+use Rattle.race_report_parts.specs.Report.{head_lines, method_lines, warning_lines, last_line}
+use Rattle.race_report_parts.proofs.PutChains.{four, same_piece}
 use Rattle.race_report.proofs.reports.push_lines.Goals as goal
 
 pub returns-clause-puts : goal.returns-clause-puts

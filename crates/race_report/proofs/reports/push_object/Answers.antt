@@ -1,8 +1,8 @@
 use Rattle.std.proofs.Common.{codes}
 use Rattle.serde_json.specs.Written.{compact_text}
 use Rattle.core_code.specs.Program.{core}
-use Rattle.report_parts.specs.Json.{report_value}
-use Rattle.report_parts.proofs.PutChains.{two}
+use Rattle.race_report_parts.specs.Json.{report_value}
+use Rattle.race_report_parts.proofs.PutChains.{two}
 use Rattle.race_report.proofs.reports.push_object.Goals as goal
 
 pub returns-clause-puts : goal.returns-clause-puts

@@ -1,10 +1,10 @@
 use Rattle.std.proofs.Common.{cond, sym, ap}
 use Rattle.serde_json.specs.Written.{compact_text}
 use Rattle.core_code.specs.Program.{core}
-use Rattle.report_parts.specs.Json.{report_value}
-use Rattle.report_parts.proofs.PutChains.{same_piece}
+use Rattle.race_report_parts.specs.Json.{report_value}
+use Rattle.race_report_parts.proofs.PutChains.{same_piece}
 use Rattle.race_report.specs.Modes.{report}
-use Rattle.report_parts.specs.Report.{line, report_text}
+use Rattle.race_report_parts.specs.Report.{line, report_text}
 use Rattle.race_report.proofs.reports.push_report.Goals as goal
 
 pub returns-else-mode-clause-puts : goal.returns-else-mode-clause-puts

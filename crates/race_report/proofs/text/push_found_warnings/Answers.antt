@@ -1,9 +1,9 @@
 use Rattle.std.proofs.Common.{refl, arith}
 use Rattle.std.specs.List.{flat_map}
 use Rattle.core_code.specs.Program.{core}
-use Rattle.report_parts.proofs.MarkedWarnings.{as_long, mark_read}
-use Rattle.report_parts.specs.Report as said
-use Rattle.report_parts.proofs.PutTurns.{put_next, put_all}
+use Rattle.race_report_parts.proofs.MarkedWarnings.{as_long, mark_read}
+use Rattle.race_report_parts.specs.Report as said
+use Rattle.race_report_parts.proofs.PutTurns.{put_next, put_all}
 use Rattle.race_report.proofs.text.push_found_warnings.Goals as goal
 
 pub push_warning-requires-clause-mark : goal.push_warning-requires-clause-mark

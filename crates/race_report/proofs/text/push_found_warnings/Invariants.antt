@@ -1,8 +1,8 @@
 use Rattle.std.proofs.Common.{drop}
 use Rattle.std.specs.List.{flat_map}
 use Rattle.core_code.specs.Program.{core}
-use Rattle.report_parts.specs.Written.{Lasts, Leaves}
-use Rattle.report_parts.specs.Report as said
+use Rattle.race_report_parts.specs.Written.{Lasts, Leaves}
+use Rattle.race_report_parts.specs.Report as said
 use Rattle.race_report.proofs.text.push_found_warnings.Given as goal
 
 -- the warnings that are left

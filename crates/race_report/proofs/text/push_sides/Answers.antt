@@ -1,8 +1,8 @@
 use Rattle.std.proofs.Common.{codes}
 use Rattle.core_code.specs.Program.{core}
-use Rattle.report_parts.specs.Sides.{sides_told}
-use Rattle.report_parts.specs.Report.{side_lines}
-use Rattle.report_parts.proofs.PutChains.{four}
+use Rattle.race_report_parts.specs.Sides.{sides_told}
+use Rattle.race_report_parts.specs.Report.{side_lines}
+use Rattle.race_report_parts.proofs.PutChains.{four}
 use Rattle.race_report.proofs.text.push_sides.Goals as goal
 
 pub returns-clause-puts : goal.returns-clause-puts

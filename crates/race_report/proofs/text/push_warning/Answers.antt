@@ -1,10 +1,10 @@
 use Rattle.std.proofs.Common.{ap}
 use Rattle.core_code.specs.Program.{core}
 use Rattle.core_ways.specs.Marks.{said_by}
-use Rattle.report_parts.specs.Told.{sides_of}
-use Rattle.confirmed_races.specs.Warned.{warning_mark}
-use Rattle.report_parts.specs.Report.{mark_lines, sides_lines}
-use Rattle.report_parts.proofs.PutChains.{two, same_piece}
+use Rattle.race_report_parts.specs.Told.{sides_of}
+use Rattle.witness_build_laws.specs.Warned.{warning_mark}
+use Rattle.race_report_parts.specs.Report.{mark_lines, sides_lines}
+use Rattle.race_report_parts.proofs.PutChains.{two, same_piece}
 use Rattle.race_report.proofs.text.push_warning.Goals as goal
 
 pub returns-clause-puts : goal.returns-clause-puts

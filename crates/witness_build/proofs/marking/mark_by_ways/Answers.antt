@@ -3,7 +3,7 @@ use Rattle.core_code.specs.Program.{core}
 use Rattle.core_ways.specs.Marks.{mark_by_calls}
 use Rattle.core_ways.specs.Ways.{way_of}
 use Rattle.core_ways.specs.Both.{said_of}
-use Rattle.confirmed_races.specs.Warned.{pair_of}
+use Rattle.witness_build_laws.specs.Warned.{pair_of}
 use Rattle.witness_build.proofs.FewTurns.{both-short}
 use Rattle.witness_build.proofs.SaidOfWays.{said-locked, said-unlocked}
 use Rattle.witness_build.proofs.WarningMarks.{said-then}

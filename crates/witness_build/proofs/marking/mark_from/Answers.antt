@@ -3,7 +3,7 @@ use Rattle.std.specs.Option.{option_copied}
 use Rattle.access_domain.specs.Outcomes.{outcomes_held}
 use Rattle.core_code.specs.Program.{core}
 use Rattle.core_ways.specs.Marks.{mark_by_calls}
-use Rattle.confirmed_races.specs.Warned.{pair_of, warning_mark}
+use Rattle.witness_build_laws.specs.Warned.{pair_of, warning_mark}
 use Rattle.witness_build.proofs.WarningMarks.{found-record, locked-record, mark-none, mark-stable, mark-unnamed}
 use Rattle.witness_build.proofs.WarningMarks.{mark-unstable, said-then}
 use Rattle.witness_build.proofs.marking.mark_from.Goals as goal

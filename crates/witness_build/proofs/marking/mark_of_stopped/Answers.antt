@@ -3,8 +3,8 @@ use Rattle.core_code.specs.Program.{core}
 use Rattle.core_semantics.specs.declared.object.StartPath.{StartPath}
 use Rattle.core_semantics.specs.View.{state_of}
 use Rattle.core_ways.specs.Marks.{Confirmed, leg_of}
-use Rattle.legs_apart.proofs.SaidByRun.{both-gathered, few-gathered, leg-past, leg-stopped, said-both, said-first}
-use Rattle.legs_apart.proofs.SaidByRun.{said-second}
+use Rattle.witness_build_apart.proofs.SaidByRun.{both-gathered, few-gathered, leg-past, leg-stopped, said-both, said-first}
+use Rattle.witness_build_apart.proofs.SaidByRun.{said-second}
 use Rattle.witness_build.proofs.marking.mark_of_stopped.Goals as goal
 
 pub returns-then-not-branch : goal.returns-then-not-branch

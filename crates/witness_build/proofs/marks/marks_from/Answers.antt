@@ -1,7 +1,7 @@
 use Rattle.std.proofs.Common.{◌∙◌}
 use Rattle.core_code.specs.Program.{core}
 use Rattle.core_ways.specs.Marks.{said_by}
-use Rattle.confirmed_races.specs.Warned.{warning_mark}
+use Rattle.witness_build_laws.specs.Warned.{warning_mark}
 use Rattle.witness_build.proofs.MarkTurns.{seen_turn, seen_all}
 use Rattle.witness_build.proofs.marks.marks_from.Goals as goal
 

@@ -1,8 +1,8 @@
 use Rattle.std.proofs.Common.{◌≡◌, ◌++◌, drop, map}
 use Rattle.core_code.specs.Program.{core}
 use Rattle.core_ways.specs.Marks.{said_by}
-use Rattle.confirmed_races.specs.Warned.{warning_mark}
-use Rattle.leg_walks.specs.Told.{AreWalks}
+use Rattle.witness_build_laws.specs.Warned.{warning_mark}
+use Rattle.witness_build_walks.specs.Told.{AreWalks}
 use Rattle.witness_build.proofs.marks.marks_from.Given as goal
 
 -- the marks so far, and those of the warnings that are left; and the walks are walks

@@ -1,6 +1,6 @@
 use Rattle.std.proofs.Common.{[], ◌∷◌}
 use Rattle.core_code.specs.Program.{core}
-use Rattle.witness_files.specs.Answers.{seen}
+use Rattle.witness_text_files.specs.Answers.{seen}
 use Rattle.witness_text.proofs.Warnings.{bytes-replay}
 use Rattle.witness_text.proofs.laws.confirmed_witnesses_replay.Goals as goal
 

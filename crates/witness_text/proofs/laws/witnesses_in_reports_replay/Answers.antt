@@ -1,6 +1,6 @@
 use Rattle.std.proofs.Common.{[], ◌∷◌, refl}
 use Rattle.core_code.specs.Program.{core}
-use Rattle.confirmed_races.specs.Warned.{warning_mark}
+use Rattle.witness_build_laws.specs.Warned.{warning_mark}
 use Rattle.witness_text.proofs.ReportReplays.{member-races}
 use Rattle.witness_text.proofs.Warnings.{can-replay}
 use Rattle.witness_text.proofs.laws.witnesses_in_reports_replay.Goals as goal

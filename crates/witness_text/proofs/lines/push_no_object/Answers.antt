@@ -1,6 +1,6 @@
 use Rattle.std.proofs.Common.{codes}
 use Rattle.std.specs.Fmt.{decimal}
-use Rattle.report_parts.proofs.PutChains.{two}
+use Rattle.race_report_parts.proofs.PutChains.{two}
 use Rattle.witness_text.proofs.lines.push_no_object.Goals as goal
 
 pub returns-clause-puts : goal.returns-clause-puts

@@ -2,7 +2,7 @@ use Rattle.std.proofs.Common.{ℕ, List, [], ◌∷◌, ◌++◌, map, refl, ap,
 use Rattle.core_code.specs.Program.{core}
 use Rattle.core_code.proofs.Loops.{at_end, one_turn}
 use Rattle.core_semantics.specs.declared.object.StartPath.{StartPath}
-use Rattle.report_parts.specs.Marks.{start_text}
+use Rattle.race_report_parts.specs.Marks.{start_text}
 use Rattle.witness_text.proofs.witness.path_texts.Goals as goal
 
 pub loop-start-preserved : goal.loop-start-preserved

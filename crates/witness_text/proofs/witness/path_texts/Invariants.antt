@@ -1,6 +1,6 @@
 use Rattle.std.proofs.Common.{◌≡◌, ◌++◌, drop, map}
 use Rattle.core_code.specs.Program.{core}
-use Rattle.report_parts.specs.Marks.{start_text}
+use Rattle.race_report_parts.specs.Marks.{start_text}
 use Rattle.witness_text.proofs.witness.path_texts.Given as goal
 
 -- what was made, and what is left

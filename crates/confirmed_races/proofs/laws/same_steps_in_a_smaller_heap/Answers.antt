@@ -1,7 +1,0 @@
-use Rattle.std.proofs.Common.{ap}
-use Rattle.confirmed_races.specs.Heaps.{Heap}
-use Rattle.confirmed_races.proofs.SameRuns.{runs-same}
-use Rattle.confirmed_races.proofs.laws.same_steps_in_a_smaller_heap.Goals as goal
-
-pub returns : goal.returns
-returns c = λ core t n turns s heap full all. runs-same core heap t n turns s (λ p. ap (λ (h : Heap). h p) full) all

@@ -1,0 +1,77 @@
+-- The calls that are gathered are those of the operations.
+use Rattle.std.proofs.Common.{◌≡◌, ℕ, suc, Bool, true, false, List, [], ◌∷◌, ◌++◌, map, length, refl, sym, ap}
+use Rattle.std.proofs.Common.{◌∙◌, arith, append-nil}
+use Rattle.std.specs.Prelude.{sum_by}
+use Rattle.std.specs.List.{flat_map}
+use Rattle.std.proofs.lemmas.List.Concat.{flat_map-append}
+use Rattle.std.proofs.lemmas.List.Sums.{sum_by-cons}
+use Rattle.racer_base.specs.declared.ids.MethodId.{MethodId}
+use Rattle.core_code.specs.declared.parts.MethodCore.{MethodCore}
+use Rattle.core_code.specs.Tree.{Tree, Step, Nothing, Then, Either, Again, Held, Operation, steps_of, tree_of}
+use Rattle.core_code.specs.Core.{Method, method_of}
+use Rattle.core_code.specs.Calls.{called_by, calls_in}
+use Rattle.core_code.specs.Recursion.{named_by, all_calls_in}
+use Rattle.core_code.specs.Rows.{different}
+use Rattle.core_code.specs.Gathered.{callees_of}
+use Rattle.core_lowering_rules.specs.Around.{Folder}
+use Rattle.core_lowering_rules.specs.Methods.{Source}
+use Rattle.core_lowering_rules.specs.Programs.{method_cores, statuses_from}
+use Rattle.core_lowering.specs.Calls.{code_in, row_in, analysed_rows, edges}
+
+abbrev named_at : Operation → List MethodId
+named_at o = named_by o.op
+
+abbrev called_at : Operation → List MethodId
+called_at o = called_by o.op
+
+together : (f : Operation → List MethodId) (a b : Tree) (x y : List MethodId) → x ≡ flat_map f (steps_of a) →
+    y ≡ flat_map f (steps_of b) → x ++ y ≡ flat_map f (steps_of a ++ steps_of b)
+together f a b x y e h =
+    ap (λ (front : List MethodId). front ++ y) e
+    ∙ ap (λ (back : List MethodId). flat_map f (steps_of a) ++ back) h
+    ∙ sym (flat_map-append f (steps_of a) (steps_of b))
+
+pub all-gathered : (code : Tree) → callees_of true code ≡ all_calls_in code
+all-gathered (Step site place op) = sym (append-nil (named_by op))
+all-gathered Nothing = refl
+all-gathered (Then a b) = together named_at a b _ _ (all-gathered a) (all-gathered b)
+all-gathered (Either a b) = together named_at a b _ _ (all-gathered a) (all-gathered b)
+all-gathered (Again body) = all-gathered body
+all-gathered (Held place body) = all-gathered body
+
+pub analysed-gathered : (code : Tree) → callees_of false code ≡ calls_in code
+analysed-gathered (Step site place op) = sym (append-nil (called_by op))
+analysed-gathered Nothing = refl
+analysed-gathered (Then a b) = together called_at a b _ _ (analysed-gathered a) (analysed-gathered b)
+analysed-gathered (Either a b) = together called_at a b _ _ (analysed-gathered a) (analysed-gathered b)
+analysed-gathered (Again body) = analysed-gathered body
+analysed-gathered (Held place body) = analysed-gathered body
+
+abbrev all_calls : Method → List MethodId
+all_calls m = all_calls_in m.code
+
+-- the rows of methods that have statuses
+pub rows-same : (folder declared : Folder) (is_recursive : MethodId → Bool) (n : ℕ) (sources : List Source) →
+    map (row_in folder) sources ≡
+    map all_calls (method_cores folder sources (statuses_from declared is_recursive n sources))
+rows-same folder declared is_recursive n [] = refl
+rows-same folder declared is_recursive n (s ∷ sources) =
+    ap (λ (row : List MethodId). row ∷ map (row_in folder) sources) (all-gathered (code_in folder s))
+    ∙ ap (λ (rows : List (List MethodId)). all_calls_in (code_in folder s) ∷ rows)
+    (rows-same folder declared is_recursive (suc n) sources)
+
+pub edges-same : (methods : List Method) →
+    edges (map all_calls methods) ≡ sum_by (λ (m : Method). length (different (all_calls_in m.code))) methods
+edges-same [] = refl
+edges-same (m ∷ ms) =
+    let next = sum_by-cons (λ (k : Method). length (different (all_calls_in k.code))) m ms in
+    let rest = edges-same ms in omega arith
+
+abbrev analysed_calls : Method → List MethodId
+analysed_calls m = calls_in m.code
+
+pub analysed-same : (methods : List MethodCore) → analysed_rows methods ≡ map analysed_calls (map method_of methods)
+analysed-same [] = refl
+analysed-same (m ∷ ms) =
+    ap (λ (row : List MethodId). row ∷ analysed_rows ms) (analysed-gathered (tree_of m.code))
+    ∙ ap (λ (rows : List (List MethodId)). calls_in (tree_of m.code) ∷ rows) (analysed-same ms)

@@ -1,0 +1,117 @@
+-- Methods that are called as one have one first method.
+use Rattle.std.proofs.Common.{◌≡◌, ℕ, Bool, true, false, cond, ◌&&◌, List, [], ◌∷◌, Option, Some, None, length}
+use Rattle.std.proofs.Common.{refl, sym, ap, ◌∙◌, subst, slice_get, nat_eq, nat_lt, arith}
+use Rattle.std.specs.Prelude.{option_map, count_by, bytes_eq, if◌then◌else◌}
+use borrow.Author.Tests.{eqb-true}
+use Rattle.std.proofs.lemmas.Bool.{false≢true, eq-eqb}
+use Rattle.std.proofs.lemmas.List.Sums.{sum_by-cons}
+use Rattle.std.proofs.lemmas.Option.{same_Some, none-some}
+use Rattle.racer_base.specs.declared.ids.ClassId.{ClassId}
+use Rattle.racer_base.specs.declared.ids.MethodId.{MethodId}
+use Rattle.java_tree.specs.SameParts.{bytes_is, bytes_refl}
+use Rattle.java_resolver.specs.declared.infos.MethodInfo.{MethodInfo}
+use Rattle.java_resolver.specs.Firsts.{first_that}
+use Rattle.java_resolver.specs.Meanings.{is_called, found}
+use Rattle.core_code.proofs.BoolParts.{both, first_part, last_part}
+use Rattle.core_lowering_rules.specs.Programs.{is_overloaded}
+use Rattle.core_lowering_rules.proofs.FoundElements.{first-passes}
+use Rattle.core_lowering.specs.Counts.{first_of, is_number, tally}
+
+-- ---- methods that are called as one
+
+record CalledAs (a b : MethodInfo) : Type 0 where
+  pub class : a.class ≡ b.class
+  pub name : a.name ≡ b.name
+  pub many : length a.parameters ≡ length b.parameters
+
+abbrev as_one : MethodInfo → MethodInfo → Bool
+as_one a b = is_called a.class a.name (length a.parameters) b
+
+called-as : (a b : MethodInfo) → as_one a b ≡ true → CalledAs b a
+called-as a b h =
+    let front = first_part (nat_eq b.class.0 a.class.0 && nat_eq (length b.parameters) (length a.parameters)) _ h in
+    record {
+      class =
+          ap (λ (n : ℕ). let made : ClassId = record { 0 = n } in made)
+          (eqb-true b.class.0 a.class.0 (first_part (nat_eq b.class.0 a.class.0) _ front));
+      name =
+          bytes_is b.name a.name
+          (last_part (nat_eq b.class.0 a.class.0 && nat_eq (length b.parameters) (length a.parameters)) _ h);
+      many =
+          eqb-true (length b.parameters) (length a.parameters) (last_part (nat_eq b.class.0 a.class.0) _ front);
+    }
+
+is-one : (a b : MethodInfo) → CalledAs b a → as_one a b ≡ true
+is-one a b s =
+    both (nat_eq b.class.0 a.class.0 && nat_eq (length b.parameters) (length a.parameters)) _
+    (both (nat_eq b.class.0 a.class.0) _ (eq-eqb b.class.0 a.class.0 (ap (λ (c : ClassId). c.0) s.class))
+    (eq-eqb (length b.parameters) (length a.parameters) s.many))
+    (subst (λ (text : List ℕ). bytes_eq text a.name ≡ true) (sym s.name) (bytes_refl a.name))
+
+first-same : (methods : List MethodInfo) (a b : MethodInfo) → CalledAs b a → first_of methods b ≡ first_of methods a
+first-same methods a b s =
+    ap (λ (c : ClassId). found methods c b.name (length b.parameters)) s.class
+    ∙ ap (λ text. found methods a.class text (length b.parameters)) s.name
+    ∙ ap (λ n. found methods a.class a.name n) s.many
+
+numbered : (o : Option ℕ) (m : MethodId) →
+    option_map (λ n. let made : MethodId = record { 0 = n } in made) o ≡ Some m → o ≡ Some m.0
+numbered None m e = absurd (none-some _ e)
+numbered (Some n) m e = ap (λ (k : MethodId). Some k.0) (same_Some _ _ e)
+
+-- the first method of one is called as it
+first-there : (methods : List MethodInfo) (a : MethodInfo) (f : MethodId) → first_of methods a ≡ Some f →
+    (y : MethodInfo) × (slice_get methods f.0 ≡ Some y) × CalledAs y a
+first-there methods a f e =
+    let y = first-passes (as_one a) methods f.0 (numbered (first_that (as_one a) methods) f e) in
+    (y.0, y.1, called-as a y.0 y.2)
+
+-- two methods with one first method are called as one
+one-first : (methods : List MethodInfo) (a b : MethodInfo) (f g : MethodId) → first_of methods a ≡ Some f →
+    first_of methods b ≡ Some g → g.0 ≡ f.0 → as_one a b ≡ true
+one-first methods a b f g e h same =
+    let x = first-there methods a f e in
+    let y = first-there methods b g h in
+    let z : y.0 ≡ x.0 = same_Some _ _ (sym y.1 ∙ ap (slice_get methods) same ∙ x.1) in
+    is-one a b (record {
+      class = sym y.2.class ∙ ap (λ (m : MethodInfo). m.class) z ∙ x.2.class;
+      name = sym y.2.name ∙ ap (λ (m : MethodInfo). m.name) z ∙ x.2.name;
+      many = sym y.2.many ∙ ap (λ (m : MethodInfo). length m.parameters) z ∙ x.2.many;
+    })
+
+abbrev one_if : Bool → ℕ
+one_if t = if t then 1 else 0
+
+one_if-cond : (t : Bool) → one_if t ≡ cond t 1 0
+one_if-cond true = refl
+one_if-cond false = refl
+
+module _ (methods : List MethodInfo) (a : MethodInfo) (f : MethodId) (first : first_of methods a ≡ Some f) where
+  others : (b : MethodInfo) (g : MethodId) → first_of methods b ≡ Some g → as_one a b ≡ false → (t : Bool) →
+      nat_eq g.0 f.0 ≡ t → t ≡ false
+  others b g e h true k =
+      absurd (false≢true (sym h ∙ one-first methods a b f g first e (eqb-true g.0 f.0 k)))
+  others b g e h false k = refl
+
+  not_one : (b : MethodInfo) (o : Option MethodId) → first_of methods b ≡ o → as_one a b ≡ false →
+      is_number o f.0 ≡ false
+  not_one b None e h = refl
+  not_one b (Some g) e h = others b g e h (nat_eq g.0 f.0) refl
+
+  same-by : (b : MethodInfo) (t : Bool) → as_one a b ≡ t → is_number (first_of methods b) f.0 ≡ t
+  same-by b true h =
+      ap (λ (o : Option MethodId). is_number o f.0) (first-same methods a b (called-as a b h) ∙ first)
+      ∙ eq-eqb f.0 f.0 refl
+  same-by b false h = not_one b (first_of methods b) refl h
+
+  tally-counts : (some : List MethodInfo) → tally methods f.0 some ≡ count_by (as_one a) some
+  tally-counts [] = refl
+  tally-counts (b ∷ bs) =
+      let next = sum_by-cons (λ m. cond (as_one a m) 1 0) b bs in
+      let rest = tally-counts bs in
+      let same : one_if (is_number (first_of methods b) f.0) ≡ one_if (as_one a b) =
+      ap one_if (same-by b (as_one a b) refl) in
+      let counted = one_if-cond (as_one a b) in omega arith
+
+  pub overload-counted : (count : ℕ) → count ≡ tally methods f.0 methods → nat_lt 1 count ≡ is_overloaded methods a
+  overload-counted count e = ap (nat_lt 1) (e ∙ tally-counts methods)

@@ -1,0 +1,76 @@
+-- What the code makes of tables and units is their program.
+use Rattle.std.proofs.Common.{◌≡◌, ℕ, Bool, true, List, [], Option, map, ap, ◌∙◌}
+use Rattle.std.specs.List.{flat_map}
+use Rattle.racer_base.specs.declared.ids.MethodId.{MethodId}
+use Rattle.java_parser_grammar.specs.declared.unit.Unit as unit_type
+use Rattle.java_resolver.specs.declared.infos.ClassInfo.{ClassInfo}
+use Rattle.java_resolver.specs.declared.infos.FieldInfo.{FieldInfo}
+use Rattle.java_resolver.specs.declared.infos.MethodInfo.{MethodInfo}
+use Rattle.java_resolver.specs.Declarations.{classes_of, fields_of, methods_of}
+use Rattle.core_code.specs.declared.code.Reason.{Reason}
+use Rattle.core_code.specs.Core.{Core}
+use Rattle.core_code.specs.Recursion.{all_rows}
+use Rattle.core_lowering_rules.specs.Around.{Folder}
+use Rattle.core_lowering_rules.specs.Methods.{Source}
+use Rattle.core_lowering_rules.specs.Programs.{sources_of, declared_in, statuses_from, folder_of, class_core, field_core}
+use Rattle.core_lowering_rules.specs.Programs.{method_cores, skipped_in, in_order, program_of, draft_of}
+use Rattle.core_lowering.specs.Calls.{row_in}
+use Rattle.core_lowering.specs.Reasons.{own_reason, with_recursive}
+use Rattle.core_lowering.proofs.SameReasons.{statuses-same}
+use Rattle.core_lowering.proofs.SameCalls.{rows-same}
+
+abbrev folder_in : List ClassInfo → List FieldInfo → List MethodInfo → List (Option Reason) → Folder
+folder_in classes fields methods statuses =
+    record { classes = classes; fields = fields; methods = methods; statuses = statuses }
+
+-- the program of these lists
+abbrev pub core_in : List (List ℕ) → List unit_type.Unit → List ClassInfo → List FieldInfo → List MethodInfo →
+    List (Option Reason) → List Source → Core
+core_in files units classes fields methods statuses sources =
+    record {
+      files = files;
+      skipped = in_order (flat_map skipped_in units);
+      classes = map class_core classes;
+      fields = map field_core fields;
+      methods = method_cores (folder_in classes fields methods statuses) sources statuses;
+    }
+
+module _ (units : List unit_type.Unit) (classes : List ClassInfo) (fields : List FieldInfo)
+    (methods : List MethodInfo) (sources : List Source) (c : classes ≡ classes_of units) (f : fields ≡ fields_of units)
+    (m : methods ≡ methods_of units) (s : sources ≡ sources_of units) where
+  statuses-are : (is_recursive : MethodId → Bool) (statuses : List (Option Reason)) →
+      statuses ≡ with_recursive is_recursive 0 (map (own_reason methods) sources) →
+      statuses ≡ statuses_from (declared_in units) is_recursive 0 (sources_of units)
+  statuses-are is_recursive statuses e =
+      e ∙ ap (λ (ms : List MethodInfo). with_recursive is_recursive 0 (map (own_reason ms) sources)) m
+      ∙ ap (λ (ss : List Source). with_recursive is_recursive 0 (map (own_reason (methods_of units)) ss)) s
+      ∙ statuses-same (declared_in units) is_recursive 0 (sources_of units)
+
+  pub program-made : (files : List (List ℕ)) (is_recursive : MethodId → Bool) (statuses : List (Option Reason)) →
+      statuses ≡ with_recursive is_recursive 0 (map (own_reason methods) sources) →
+      core_in files units classes fields methods statuses sources ≡ program_of files units is_recursive
+  program-made files is_recursive statuses e =
+      let made = statuses_from (declared_in units) is_recursive 0 (sources_of units) in
+      ap (λ (cs : List ClassInfo). core_in files units cs fields methods statuses sources) c
+      ∙ ap (λ (fs : List FieldInfo). core_in files units (classes_of units) fs methods statuses sources) f
+      ∙ ap (λ (ms : List MethodInfo). core_in files units (classes_of units) (fields_of units) ms statuses sources) m
+      ∙ ap (λ (ss : List Source).
+      core_in files units (classes_of units) (fields_of units) (methods_of units) statuses ss) s
+      ∙ ap (λ (st : List (Option Reason)).
+      core_in files units (classes_of units) (fields_of units) (methods_of units) st (sources_of units))
+      (statuses-are is_recursive statuses e)
+
+  pub rows-made : (statuses : List (Option Reason)) →
+      statuses ≡ with_recursive (λ n. true) 0 (map (own_reason methods) sources) →
+      map (row_in (folder_in classes fields methods statuses)) sources ≡ all_rows (draft_of [] units)
+  rows-made statuses e =
+      ap (λ (cs : List ClassInfo). map (row_in (folder_in cs fields methods statuses)) sources) c
+      ∙ ap (λ (fs : List FieldInfo). map (row_in (folder_in (classes_of units) fs methods statuses)) sources) f
+      ∙ ap (λ (ms : List MethodInfo).
+      map (row_in (folder_in (classes_of units) (fields_of units) ms statuses)) sources) m
+      ∙ ap (λ (ss : List Source).
+      map (row_in (folder_in (classes_of units) (fields_of units) (methods_of units) statuses)) ss) s
+      ∙ ap (λ (st : List (Option Reason)).
+      map (row_in (folder_in (classes_of units) (fields_of units) (methods_of units) st)) (sources_of units))
+      (statuses-are (λ n. true) statuses e)
+      ∙ rows-same (folder_of units (λ n. true)) (declared_in units) (λ n. true) 0 (sources_of units)

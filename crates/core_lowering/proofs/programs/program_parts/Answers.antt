@@ -1,0 +1,21 @@
+use Rattle.std.proofs.Common.{◌≡◌, map, ap, subst, ◌∙◌, IfOk, string_bytes}
+use Rattle.core_code.specs.Chains.{flag_of}
+use Rattle.core_code.specs.Core.{Core, core_of}
+use Rattle.java_resolver.specs.Table.{classes, fields, methods}
+use Rattle.core_lowering_methods.specs.Sources.{source_of}
+use Rattle.core_lowering.specs.Reasons.{with_recursive}
+use Rattle.core_lowering.proofs.SameReasons.{sources-reasons}
+use Rattle.core_lowering.proofs.SamePrograms.{program-made}
+use Rattle.core_lowering.proofs.programs.program_parts.Goals as goal
+
+pub returns : goal.returns
+returns c =
+    let table = c.args.table.now in
+    subst (λ (core : Core). IfOk c.parts.result (λ parts. core_of parts ≡ core))
+    (program-made c.args.units.now (classes table) (fields table) (methods table) (map source_of c.args.sources.now)
+    c.requires.classes c.requires.fields c.requires.methods c.requires.sources
+    (map (λ file. string_bytes file) c.args.files.now) (flag_of c.args.recursive.now) c.as_slice.result.now
+    (c.as_slice.ensures.value ∙ c.in_ok-statuses.ensures
+    ∙ ap (λ reasons. with_recursive (flag_of c.args.recursive.now) 0 reasons)
+    (c.requires.reasons ∙ sources-reasons (methods table) c.args.sources.now)))
+    c.parts.ensures

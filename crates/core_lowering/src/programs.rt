@@ -1,0 +1,256 @@
+//! The program of the units of a folder.
+ghost use Rattle.std.specs.Prelude.{◌≡◌, ◌≤◌, [], IfOk, IfErr, IsTrue, None, map};
+ghost use Rattle.std.specs.List.{flat_map};
+ghost use Rattle.std.specs.String.{string_bytes};
+ghost use Rattle.racer_base.specs.declared.limits.TheConstants.{MAX_CALL_EDGES};
+ghost use Rattle.core_code.specs.Chains.{flag_of};
+ghost use Rattle.core_code.specs.Core.{core_of};
+ghost use Rattle.core_code.specs.Program as program;
+ghost use Rattle.core_code.specs.Recursion.{all_rows};
+ghost use Rattle.java_resolver.specs.Declarations.{classes_of, fields_of, methods_of};
+ghost use Rattle.java_resolver.specs.Refusals.{refusal};
+ghost use Rattle.java_resolver.specs.Table as seen;
+ghost use Rattle.core_lowering_rules.specs.Conditions.{are_in_files, are_named};
+ghost use Rattle.core_lowering_rules.specs.Programs as wanted;
+ghost use Rattle.core_lowering_rules.specs.Programs.{draft_of, IsLowered};
+ghost use Rattle.core_lowering_methods.specs.Views.{folder_of};
+ghost use Rattle.core_lowering_methods.specs.Sources.{source_of};
+ghost use Rattle.core_lowering.specs.Lowered.{calls_of, IsFault};
+ghost use Rattle.core_lowering.specs.Reasons.{reason_of};
+
+use crate::calls::rows;
+use crate::classes::{classes, fields, file_names};
+use crate::edges::count_edges;
+use crate::fault::LowerFault;
+use crate::methods::methods;
+use crate::ranks::check_ranks;
+use crate::skipped::skipped_of;
+use crate::sources::sources_of;
+use crate::statuses::{all_recursive, own_reasons, statuses};
+use core_code::{Parts, Program, Reason, on_cycles};
+use java_resolver::Table;
+use java_parser_grammar::Unit;
+use core_lowering_methods::Source;
+use racer_base::{Items, MAX_CALL_EDGES, Memory, MethodId};
+use std::alloc::Global;
+
+/// The methods that each method calls, whatever their status, and how many different pairs of the two there are.
+#[derive(Drop)]
+struct Calls {
+    rows: Items<Items<MethodId>>,
+    edges: u32,
+}
+
+/// The methods that each method calls, whatever their status.
+fn draft_rows(
+    alloc: Global,
+    table: &Table,
+    units: &[Unit],
+    reasons: &[Option<Reason>],
+    sources: &[Source],
+) -> Result<Vec<Items<MethodId>>, Memory>
+    requires classes { seen.classes table.now ≡ classes_of units.now }
+    requires fields { seen.fields table.now ≡ fields_of units.now }
+    requires methods { seen.methods table.now ≡ methods_of units.now }
+    requires sources { map source_of sources.now ≡ wanted.sources_of units.now }
+    requires reasons { reasons.now ≡ map (reason_of (seen.methods table.now)) sources.now }
+    ensures { IfOk result (λ rows. rows.items ≡ all_rows (draft_of [] units.now)) }
+{
+    let draft = all_recursive(alloc, reasons)?;
+    rows(alloc, table, draft.as_slice(), sources)
+}
+
+/// The calls of all methods, and how many different ones they are.
+fn find_calls(
+    alloc: Global,
+    table: &Table,
+    units: &[Unit],
+    reasons: &[Option<Reason>],
+    sources: &[Source],
+) -> Result<Calls, Memory>
+    requires classes { seen.classes table.now ≡ classes_of units.now }
+    requires fields { seen.fields table.now ≡ fields_of units.now }
+    requires methods { seen.methods table.now ≡ methods_of units.now }
+    requires sources { map source_of sources.now ≡ wanted.sources_of units.now }
+    requires reasons { reasons.now ≡ map (reason_of (seen.methods table.now)) sources.now }
+    ensures rows { IfOk result (λ calls. calls.rows ≡ all_rows (draft_of [] units.now)) }
+    ensures edges { IfOk result (λ calls. calls_of units.now ≡ calls.edges) }
+{
+    let rows = draft_rows(alloc, table, units, reasons, sources)?;
+    let edges = count_edges(alloc, rows.as_slice())?;
+    Ok(Calls {
+        rows: Items::from(rows),
+        edges,
+    })
+}
+
+/// What the program is made of, where these are the reasons why methods are not analysed.
+fn parts(
+    alloc: Global,
+    table: &Table,
+    units: &[Unit],
+    files: &[String],
+    statuses: &[Option<Reason>],
+    sources: &[Source],
+) -> Result<Parts, Memory>
+    ensures { IfOk result (λ parts. core_of parts ≡ record {
+      files = map (λ file. string_bytes file) files.now;
+      skipped = wanted.in_order (flat_map wanted.skipped_in units.now);
+      classes = map wanted.class_core (seen.classes table.now);
+      fields = map wanted.field_core (seen.fields table.now);
+      methods = wanted.method_cores (folder_of table.now statuses.now) (map source_of sources.now) statuses.now;
+    }) }
+{
+    Ok(Parts {
+        files: file_names(alloc, files)?,
+        skipped: skipped_of(alloc, units)?,
+        classes: classes(alloc, table.classes())?,
+        fields: fields(alloc, table.fields())?,
+        methods: methods(alloc, table, statuses, sources)?,
+    })
+}
+
+/// What the program is made of, where the methods of these flags are recursive.
+fn program_parts(
+    alloc: Global,
+    table: &Table,
+    units: &[Unit],
+    files: &[String],
+    reasons: &[Option<Reason>],
+    recursive: &[bool],
+    sources: &[Source],
+) -> Result<Parts, Memory>
+    requires classes { seen.classes table.now ≡ classes_of units.now }
+    requires fields { seen.fields table.now ≡ fields_of units.now }
+    requires methods { seen.methods table.now ≡ methods_of units.now }
+    requires sources { map source_of sources.now ≡ wanted.sources_of units.now }
+    requires reasons { reasons.now ≡ map (reason_of (seen.methods table.now)) sources.now }
+    ensures { IfOk result (λ parts. core_of parts ≡
+        wanted.program_of (map (λ file. string_bytes file) files.now) units.now (flag_of recursive.now)) }
+{
+    let statuses = statuses(alloc, reasons, recursive)?;
+    parts(alloc, table, units, files, statuses.as_slice(), sources)
+}
+
+/// The program where the methods of these flags are recursive.
+fn program(
+    alloc: Global,
+    table: &Table,
+    units: &[Unit],
+    files: &[String],
+    reasons: &[Option<Reason>],
+    recursive: &[bool],
+    sources: &[Source],
+) -> Result<Program, Memory>
+    requires classes { seen.classes table.now ≡ classes_of units.now }
+    requires fields { seen.fields table.now ≡ fields_of units.now }
+    requires methods { seen.methods table.now ≡ methods_of units.now }
+    requires accepted { refusal units.now ≡ None }
+    requires named { IsTrue (are_named units.now) }
+    requires placed { IsTrue (are_in_files (map (λ file. string_bytes file) files.now) units.now) }
+    requires sources { map source_of sources.now ≡ wanted.sources_of units.now }
+    requires reasons { reasons.now ≡ map (reason_of (seen.methods table.now)) sources.now }
+    ensures { IfOk result (λ made. program.core made ≡
+        wanted.program_of (map (λ file. string_bytes file) files.now) units.now (flag_of recursive.now)) }
+{
+    let parts = program_parts(alloc, table, units, files, reasons, recursive, sources)?;
+    check_ranks(alloc, parts.methods.as_slice())?;
+    Ok(Program::of(parts))
+}
+
+/// The program of units whose calls are these.
+fn program_of(
+    alloc: Global,
+    table: &Table,
+    units: &[Unit],
+    files: &[String],
+    reasons: &[Option<Reason>],
+    sources: &[Source],
+    rows: &[Items<MethodId>],
+) -> Result<Program, Memory>
+    requires classes { seen.classes table.now ≡ classes_of units.now }
+    requires fields { seen.fields table.now ≡ fields_of units.now }
+    requires methods { seen.methods table.now ≡ methods_of units.now }
+    requires accepted { refusal units.now ≡ None }
+    requires named { IsTrue (are_named units.now) }
+    requires placed { IsTrue (are_in_files (map (λ file. string_bytes file) files.now) units.now) }
+    requires sources { map source_of sources.now ≡ wanted.sources_of units.now }
+    requires reasons { reasons.now ≡ map (reason_of (seen.methods table.now)) sources.now }
+    requires rows { rows.now ≡ all_rows (draft_of [] units.now) }
+    ensures { IfOk result (λ made.
+        IsLowered (map (λ file. string_bytes file) files.now) units.now (program.core made)) }
+{
+    let flags = on_cycles(alloc, rows)?;
+    let made = program(
+        alloc,
+        table,
+        units,
+        files,
+        reasons,
+        flags.as_slice(),
+        sources,
+    )?;
+    Ok(made)
+}
+
+/// What is known of the methods of units.
+#[derive(Drop)]
+struct Known<'a> {
+    sources: Vec<Source<'a>>,
+    reasons: Vec<Option<Reason>>,
+}
+
+/// The sources of the methods, and why they are not analysed, apart from recursion.
+fn find_known<'a>(alloc: Global, table: &'a Table, units: &'a [Unit]) -> Result<Known<'a>, Memory>
+    requires methods { seen.methods table.now ≡ methods_of units.now }
+    ensures sources { IfOk result (λ known. map source_of known.sources.items ≡ wanted.sources_of units.now) }
+    ensures reasons { IfOk result (λ known.
+        known.reasons.items ≡ map (reason_of (seen.methods table.now)) known.sources.items) }
+{
+    let sources = sources_of(alloc, table.methods(), units)?;
+    let reasons = own_reasons(alloc, table, sources.as_slice())?;
+    Ok(Known { sources, reasons })
+}
+
+/// The program of the units of a folder, from their table and the names of its files.
+pub fn lower(
+    alloc: Global,
+    table: &Table,
+    units: &[Unit],
+    files: &[String],
+) -> Result<Program, LowerFault>
+    requires classes { seen.classes table.now ≡ classes_of units.now }
+    requires fields { seen.fields table.now ≡ fields_of units.now }
+    requires methods { seen.methods table.now ≡ methods_of units.now }
+    requires accepted { refusal units.now ≡ None }
+    requires named { IsTrue (are_named units.now) }
+    requires placed { IsTrue (are_in_files (map (λ file. string_bytes file) files.now) units.now) }
+    ensures ok { IfOk result (λ made.
+        IsLowered (map (λ file. string_bytes file) files.now) units.now (program.core made)) }
+    ensures few { IfOk result (λ _. calls_of units.now ≤ MAX_CALL_EDGES) }
+    ensures err { IfErr result (IsFault units.now) }
+{
+    let Ok(known) = find_known(alloc, table, units) else {
+        return Err(LowerFault::Memory);
+    };
+    let sources = known.sources.as_slice();
+    let reasons = known.reasons.as_slice();
+    let Ok(calls) = find_calls(alloc, table, units, reasons, sources) else {
+        return Err(LowerFault::Memory);
+    };
+    if calls.edges as usize > MAX_CALL_EDGES {
+        return Err(LowerFault::TooManyCalls(calls.edges));
+    }
+    let Ok(made) = program_of(
+        alloc,
+        table,
+        units,
+        files,
+        reasons,
+        sources,
+        calls.rows.as_slice(),
+    ) else {
+        return Err(LowerFault::Memory);
+    };
+    Ok(made)
+}

@@ -1,0 +1,18 @@
+use Rattle.std.proofs.Common.{◌∙◌, rules}
+use Rattle.core_lowering_methods.specs.Drafts.{code_of}
+use Rattle.core_lowering_methods.proofs.Numbering.{chosen-numbered, chosen-put}
+use Rattle.core_lowering_methods.proofs.draft.Draft.choose.Goals as goal
+
+pub invariant_of-self-2 : goal.invariant_of-self-2
+invariant_of-self-2 c =
+    record {
+      in_order =
+          chosen-numbered c.args.self.now.parts.items c.choose.new.parts.items c.replace-next.result c.args.left
+          c.args.right
+          (c.args.self.now.in_order.0, c.replace-next.ensures.value ∙ c.args.self.now.in_order.1) (search rules);
+    }
+
+pub returns : goal.returns
+unfolding code_of
+returns c =
+    chosen-put c.args.self.now.parts.items c.choose.new.parts.items c.args.left c.args.right (search rules)

@@ -1,0 +1,17 @@
+use Rattle.std.proofs.Common.{◌≡◌, take, drop, ap, rules}
+use Rattle.core_code.specs.declared.code.Code.TheFolds.{the_lemmas}
+use Rattle.core_code.specs.declared.code.Code.TheVariants.{Sync}
+use Rattle.core_code.specs.Tree.{Held, tree_of}
+use Rattle.core_lowering_methods.specs.Erased.{whole_of}
+use Rattle.core_lowering_methods.proofs.Pushed.{pushed}
+use Rattle.core_lowering_methods.proofs.draft.hold.Goals as goal
+
+pub returns : goal.returns
+returns c =
+    let old = c.args.parts.now.items in
+    let body = c.in_ok-body.body in
+    let shape : tree_of (Sync c.args.place body) ≡ Held c.args.place (tree_of body.value) =
+    search (rules, the_lemmas) in
+    pushed c.taken.new.parts.items c.push.new.self.items (take c.args.at old) (Sync c.args.place body)
+    (Held c.args.place (tree_of body.value)) (Held c.args.place (whole_of (drop c.args.at old)))
+    c.in_ok-push.ensures.items c.in_ok-body.ensures.kept shape (ap (Held c.args.place) c.in_ok-body.ensures.taken)

@@ -1,0 +1,9 @@
+-- A contract of a public call rests on this: what is seen of a `Draft`.
+use Rattle.std.specs.Prelude.{map}
+use Rattle.core_lowering_rules.specs.Around.{Code}
+use Rattle.core_lowering_methods.specs.declared.draft.Draft.{Draft}
+use Rattle.core_lowering_methods.specs.Erased.{part_of}
+
+-- the parts so far, in which no operation has its site yet
+unfoldable pub code_of : Draft → Code
+code_of draft = map part_of draft.parts.items

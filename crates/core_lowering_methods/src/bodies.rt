@@ -1,0 +1,284 @@
+//! The code of methods and constructors (JLS 8.3.2, 8.4, 8.8, 12.5).
+ghost use Rattle.std.specs.Prelude.{◌≡◌, [], ◌++◌, OnOk, IfOk};
+ghost use Rattle.std.specs.List.{flat_map};
+ghost use Rattle.core_code.specs.Tree.{tree_of, in_sequence};
+ghost use Rattle.core_lowering_rules.specs.Methods.{Default, Spelled, Unspelled, result_of, result_of_tree, entered};
+ghost use Rattle.core_lowering_rules.specs.Methods.{parameters_declared, body_of, body_code, ended, spelled_code, code_in};
+ghost use Rattle.core_lowering_rules.specs.Methods.{kinds_in, member_begun, method_code, method_kinds};
+ghost use Rattle.core_lowering_rules.specs.Sites.{numbered};
+ghost use Rattle.core_lowering_methods.specs.Drafts.{code_of};
+ghost use Rattle.core_lowering_methods.specs.Views.{given_of, folder_of};
+ghost use Rattle.core_lowering_methods.specs.Parts.{left_at};
+ghost use Rattle.core_lowering_methods.specs.Sources.{source_of};
+ghost use Rattle.core_lowering_methods.specs.Sources as seen;
+ghost use Rattle.core_lowering_methods.specs.Steps.{fields_first, block_end};
+
+use crate::fields::begin_members;
+use crate::returns::lower_return_nothing;
+use crate::sources::{Body, Source};
+use crate::statements::lower_block;
+use crate::{Around, Draft, Given};
+use core_code::{Code, Reason};
+use java_resolver::{MethodInfo, Table, has_word};
+use java_tree::{MethodTree, ParameterTree, ResultTree};
+use java_parser_grammar::Member;
+use racer_base::{Items, Kind, Memory};
+use std::alloc::Global;
+
+/// The code of a method, and the kinds of its variables.
+#[derive(Drop)]
+pub struct Lowered {
+    pub code: Code,
+    pub kinds: Items<Kind>,
+}
+
+// ---- where the code begins
+
+/// What a method of a tree gives, where a value of it has this kind.
+fn given_by_tree(kind: Kind, tree: &ResultTree) -> Given
+    ensures { given_of result ≡ result_of_tree kind tree.now }
+{
+    match tree {
+        ResultTree::Constructor => Given::Itself,
+        ResultTree::Void => Given::Nothing,
+        ResultTree::Of(_) => Given::Value(kind),
+    }
+}
+
+/// What a method gives.
+fn given_by(info: &MethodInfo, body: &Body) -> Given
+    ensures { given_of result ≡ result_of info.now.result (seen.body_of body.now) }
+{
+    match body {
+        Body::Default => Given::Itself,
+        Body::Spelled(m) => given_by_tree(info.result, &m.result),
+        Body::Unspelled => Given::Value(info.result),
+    }
+}
+
+/// Before the parameters.
+fn enter<'a>(
+    alloc: Global,
+    table: &'a Table,
+    statuses: &'a [Option<Reason>],
+    source: &Source,
+) -> Result<Around<'a>, Memory>
+    ensures { IfOk result (λ around. around ≡ entered (folder_of table.now statuses.now) (source_of source.now)) }
+{
+    let info = source.info;
+    let given = given_by(info, &source.body);
+    Around::new(
+        alloc,
+        table,
+        statuses,
+        info.place,
+        given,
+        info.class,
+        info.is_static,
+    )
+}
+
+fn declare_parameters(
+    alloc: Global,
+    around: &mut Around,
+    parameters: &[ParameterTree],
+) -> Result<(), Memory>
+    ensures { OnOk result (around.new ≡ parameters_declared around.old parameters.now) }
+{
+    for parameter in parameters {
+        let kind = around.type_kind(&parameter.kind);
+        around.declare(alloc, kind, &parameter.name)?;
+    }
+    Ok(())
+}
+
+/// Behind the parameters.
+fn enter_spelled<'a>(
+    alloc: Global,
+    table: &'a Table,
+    statuses: &'a [Option<Reason>],
+    source: &Source,
+    m: &MethodTree,
+) -> Result<Around<'a>, Memory>
+    ensures { IfOk result (λ around. around
+        ≡ parameters_declared (entered (folder_of table.now statuses.now) (source_of source.now)) m.now.parameters) }
+{
+    let mut around = enter(alloc, table, statuses, source)?;
+    declare_parameters(alloc, &mut around, m.parameters.as_slice())?;
+    Ok(around)
+}
+
+// ---- what the body is made of
+
+/// Of a constructor, the fields of its object, without variables in scope.
+fn begin_object(
+    alloc: Global,
+    table: &Table,
+    statuses: &[Option<Reason>],
+    source: &Source,
+    m: &MethodTree,
+    draft: &mut Draft,
+) -> Result<(), Memory>
+    ensures { OnOk result (code_of draft.new ≡ code_of draft.old ++ fields_first (left_at 0 (parameters_declared
+        (entered (folder_of table.now statuses.now) (source_of source.now)) m.now.parameters))
+        source.now.members.now m.now) }
+{
+    if !matches!(m.result, ResultTree::Constructor) {
+        return Ok(());
+    }
+    let mut bare = enter_spelled(alloc, table, statuses, source, m)?;
+    bare.leave(0);
+    begin_members(alloc, &bare, source.members, draft)
+}
+
+/// The body of a method, under a lock where it is synchronized (JLS 8.4.3.6).
+fn lower_body(
+    alloc: Global,
+    around: &mut Around,
+    m: &MethodTree,
+    draft: &mut Draft,
+) -> Result<(), Memory>
+    ensures around { OnOk result (around.new ≡ block_end around.old (body_of m.now)) }
+    ensures code { OnOk result (code_of draft.new ≡ code_of draft.old ++ body_code around.old m.now) }
+{
+    if !has_word(m.modifiers.as_slice(), "synchronized") {
+        return lower_block(alloc, around, m.body.as_slice(), draft);
+    }
+    around.push_owner(draft)?;
+    let place = around.place();
+    let body = draft.len();
+    lower_block(alloc, around, m.body.as_slice(), draft)?;
+    draft.hold(alloc, place, body)
+}
+
+/// An end that can be reached is as `return;`.
+fn end(around: &Around, draft: &mut Draft) -> Result<(), Memory>
+    ensures { OnOk result (code_of draft.new ≡ ended around.now (code_of draft.old)) }
+{
+    if draft.can_end() {
+        lower_return_nothing(around, draft)
+    } else {
+        Ok(())
+    }
+}
+
+// ---- methods
+
+/// The fields of an object, and the end of its constructor.
+fn lower_fields(
+    alloc: Global,
+    around: &Around,
+    members: &[Member],
+    draft: &mut Draft,
+) -> Result<(), Memory>
+    ensures { OnOk result (code_of draft.new ≡ ended around.now
+        (code_of draft.old ++ flat_map (member_begun around.now) members.now)) }
+{
+    begin_members(alloc, around, members, draft)?;
+    end(around, draft)
+}
+
+/// The constructor that a class has without declaring it.
+fn lower_default(
+    alloc: Global,
+    table: &Table,
+    statuses: &[Option<Reason>],
+    source: &Source,
+) -> Result<Lowered, Memory>
+    ensures code { IfOk result (λ lowered. tree_of lowered.code ≡ numbered 0 (in_sequence (code_in
+        (entered (folder_of table.now statuses.now) (source_of source.now)) (source_of source.now) Default))) }
+    ensures kinds { IfOk result (λ lowered. lowered.kinds ≡ kinds_in
+        (entered (folder_of table.now statuses.now) (source_of source.now)) (source_of source.now) Default) }
+{
+    let around = enter(alloc, table, statuses, source)?;
+    let mut draft = Draft::new(alloc);
+    lower_fields(alloc, &around, source.members, &mut draft)?;
+    Ok(Lowered {
+        code: draft.into_code(),
+        kinds: around.into_kinds(),
+    })
+}
+
+/// The code of a tree, behind its parameters.
+fn lower_tree(
+    alloc: Global,
+    table: &Table,
+    statuses: &[Option<Reason>],
+    source: &Source,
+    m: &MethodTree,
+    around: &mut Around,
+    draft: &mut Draft,
+) -> Result<(), Memory>
+    requires entered { around.old
+        ≡ parameters_declared (entered (folder_of table.now statuses.now) (source_of source.now)) m.now.parameters }
+    requires start { code_of draft.old ≡ [] }
+    ensures around { OnOk result (around.new ≡ block_end around.old (body_of m.now)) }
+    ensures code { OnOk result (code_of draft.new
+        ≡ ended around.old (spelled_code around.old source.now.members.now m.now)) }
+{
+    begin_object(alloc, table, statuses, source, m, draft)?;
+    lower_body(alloc, around, m, draft)?;
+    end(around, draft)
+}
+
+/// A method that a tree spells.
+fn lower_spelled(
+    alloc: Global,
+    table: &Table,
+    statuses: &[Option<Reason>],
+    source: &Source,
+    m: &MethodTree,
+) -> Result<Lowered, Memory>
+    ensures code { IfOk result (λ lowered. tree_of lowered.code ≡ numbered 0 (in_sequence (code_in
+        (entered (folder_of table.now statuses.now) (source_of source.now)) (source_of source.now) (Spelled m.now)))) }
+    ensures kinds { IfOk result (λ lowered. lowered.kinds ≡ kinds_in
+        (entered (folder_of table.now statuses.now) (source_of source.now)) (source_of source.now) (Spelled m.now)) }
+{
+    let mut around = enter_spelled(alloc, table, statuses, source, m)?;
+    let mut draft = Draft::new(alloc);
+    lower_tree(alloc, table, statuses, source, m, &mut around, &mut draft)?;
+    Ok(Lowered {
+        code: draft.into_code(),
+        kinds: around.into_kinds(),
+    })
+}
+
+/// A method that no tree spells has no code.
+fn lower_unspelled(
+    alloc: Global,
+    table: &Table,
+    statuses: &[Option<Reason>],
+    source: &Source,
+) -> Result<Lowered, Memory>
+    ensures code { IfOk result (λ lowered. tree_of lowered.code ≡ numbered 0 (in_sequence (code_in
+        (entered (folder_of table.now statuses.now) (source_of source.now)) (source_of source.now) Unspelled))) }
+    ensures kinds { IfOk result (λ lowered. lowered.kinds ≡ kinds_in
+        (entered (folder_of table.now statuses.now) (source_of source.now)) (source_of source.now) Unspelled) }
+{
+    let entered = enter(alloc, table, statuses, source)?;
+    let mut kinds = entered.into_kinds().into_vec();
+    kinds.extend_from_slice(source.info.parameters.as_slice())?;
+    Ok(Lowered {
+        code: Draft::new(alloc).into_code(),
+        kinds: Items::from(kinds),
+    })
+}
+
+/// The code of a method and the kinds of its variables, where these are the reasons why methods are not analysed.
+pub fn lower_method(
+    alloc: Global,
+    table: &Table,
+    statuses: &[Option<Reason>],
+    source: &Source,
+) -> Result<Lowered, Memory>
+    ensures code { IfOk result (λ lowered. tree_of lowered.code ≡ numbered 0 (in_sequence
+        (method_code (folder_of table.now statuses.now) (source_of source.now)))) }
+    ensures kinds { IfOk result (λ lowered. lowered.kinds
+        ≡ method_kinds (folder_of table.now statuses.now) (source_of source.now)) }
+{
+    match &source.body {
+        Body::Default => lower_default(alloc, table, statuses, source),
+        Body::Spelled(m) => lower_spelled(alloc, table, statuses, source, m),
+        Body::Unspelled => lower_unspelled(alloc, table, statuses, source),
+    }
+}

@@ -1,0 +1,127 @@
+//! What the fields of an object begin with (JLS 8.3.2, 12.5).
+ghost use Rattle.std.specs.Prelude.{◌≡◌, ◌++◌, OnOk};
+ghost use Rattle.std.specs.List.{flat_map};
+ghost use Rattle.java_tree.specs.declared.methods.FieldInitialiser.TheVariants.{Formed, Unread};
+ghost use Rattle.core_lowering_rules.specs.Methods.{field_begun, member_begun, unread};
+ghost use Rattle.core_lowering_methods.specs.Drafts.{code_of};
+ghost use Rattle.core_lowering_methods.specs.Views.{value_kind};
+
+use crate::{Around, Draft, ValueKind, assign, lower_initialiser, named};
+use core_code::Op;
+use java_resolver::has_word;
+use java_tree::{FieldInitialiser, FieldVariable, Ident, Initialiser};
+use java_parser_grammar::Member;
+use racer_base::{Kind, Memory};
+use std::alloc::Global;
+
+/// A field that begins with what has a tree.
+fn begin_formed(
+    alloc: Global,
+    around: &Around,
+    x: &Ident,
+    initialiser: &Initialiser,
+    draft: &mut Draft,
+) -> Result<(), Memory>
+    ensures { OnOk result (code_of draft.new ≡ code_of draft.old
+        ++ field_begun around.now x.now (Formed initialiser.now)) }
+{
+    let storage = named(around, x, draft)?;
+    let given = lower_initialiser(alloc, around, initialiser, draft)?;
+    assign(around, storage, given, draft)?;
+    around.op(draft, Op::Drop)
+}
+
+/// A value that is not read.
+fn push_unread(around: &Around, kind: ValueKind, draft: &mut Draft) -> Result<(), Memory>
+    ensures { OnOk result (code_of draft.new ≡ code_of draft.old ++ unread around.now (value_kind kind)) }
+{
+    match kind {
+        ValueKind::Of(Kind::Plain) => around.op(draft, Op::PushPrim),
+        _ => around.op(draft, Op::Outside(0)),
+    }
+}
+
+/// A field that begins with what has no tree.
+fn begin_unread(around: &Around, x: &Ident, draft: &mut Draft) -> Result<(), Memory>
+    ensures { OnOk result (code_of draft.new ≡ code_of draft.old ++ field_begun around.now x.now Unread) }
+{
+    let storage = named(around, x, draft)?;
+    push_unread(around, storage.kind(), draft)?;
+    assign(around, storage, ValueKind::Of(Kind::Other), draft)?;
+    around.op(draft, Op::Drop)
+}
+
+/// A field of the object, where it has an initialiser.
+fn begin_field(
+    alloc: Global,
+    around: &Around,
+    field: &FieldVariable,
+    draft: &mut Draft,
+) -> Result<(), Memory>
+    ensures { OnOk result (code_of draft.new ≡ code_of draft.old
+        ++ field_begun around.now field.now.name field.now.initialiser) }
+{
+    match &field.initialiser {
+        FieldInitialiser::Absent => Ok(()),
+        FieldInitialiser::Formed(initialiser) => begin_formed(
+            alloc,
+            around,
+            &field.name,
+            initialiser,
+            draft,
+        ),
+        FieldInitialiser::Unread => begin_unread(around, &field.name, draft),
+    }
+}
+
+/// The fields of a declaration.
+fn begin_variables(
+    alloc: Global,
+    around: &Around,
+    fields: &[FieldVariable],
+    draft: &mut Draft,
+) -> Result<(), Memory>
+    ensures { OnOk result (code_of draft.new ≡ code_of draft.old
+        ++ flat_map (λ v. field_begun around.now v.name v.initialiser) fields.now) }
+{
+    for field in fields {
+        begin_field(alloc, around, field, draft)?;
+    }
+    Ok(())
+}
+
+/// The fields of a member.
+fn begin_member(
+    alloc: Global,
+    around: &Around,
+    member: &Member,
+    draft: &mut Draft,
+) -> Result<(), Memory>
+    ensures { OnOk result (code_of draft.new ≡ code_of draft.old ++ member_begun around.now member.now) }
+{
+    match member {
+        Member::Field(f) => {
+            if has_word(f.modifiers.as_slice(), "static") {
+                Ok(())
+            } else {
+                begin_variables(alloc, around, f.variables.as_slice(), draft)
+            }
+        }
+        _ => Ok(()),
+    }
+}
+
+/// The fields of all members.
+pub fn begin_members(
+    alloc: Global,
+    around: &Around,
+    members: &[Member],
+    draft: &mut Draft,
+) -> Result<(), Memory>
+    ensures { OnOk result (code_of draft.new ≡ code_of draft.old ++ flat_map (member_begun around.now) members.now) }
+{
+    for member in members {
+        begin_member(alloc, around, member, draft)?;
+    }
+    Ok(())
+}

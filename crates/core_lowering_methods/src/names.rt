@@ -1,0 +1,79 @@
+//! Names of classes, and `this`.
+ghost use Rattle.std.specs.Prelude.{◌≡◌, ◌++◌, OnOk, IfOk};
+ghost use Rattle.racer_base.specs.declared.ids.Kind.TheVariants.{Other};
+ghost use Rattle.java_resolver.specs.declared.scope.Meaning.{Meaning};
+ghost use Rattle.core_lowering_rules.specs.TreesOf.{expr_of};
+ghost use Rattle.core_lowering_rules.specs.ValueKinds.{Of};
+ghost use Rattle.core_lowering_rules.specs.Expressions.{class_meant, class_before, class_written, class_object, this_object};
+ghost use Rattle.core_lowering_rules.specs.Expressions.{this_kind};
+ghost use Rattle.core_lowering_methods.specs.Drafts.{code_of};
+ghost use Rattle.core_lowering_methods.specs.Views.{value_kind};
+
+use crate::around::Around;
+use crate::draft::Draft;
+use crate::value_kind::ValueKind;
+use core_code::Op;
+use java_resolver::Meaning;
+use java_tree::{Expression, Ident};
+use racer_base::{ClassId, Kind, Memory, VarId};
+
+/// The class that a name means.
+fn class_meant(meaning: Meaning) -> Option<ClassId>
+    ensures { result ≡ class_meant meaning }
+{
+    match meaning {
+        Meaning::Class(c) => Some(c),
+        _ => None,
+    }
+}
+
+/// The class that an expression before a `.` names.
+pub fn class_before(around: &Around, e: &Expression) -> Option<ClassId>
+    ensures { result ≡ class_before around.now (expr_of e.now) }
+{
+    match e {
+        Expression::Name(x) => class_meant(around.meaning(x)),
+        _ => None,
+    }
+}
+
+/// The class of the folder that is written before `.class`, as one name.
+fn class_written(around: &Around, names: &[Ident]) -> Option<ClassId>
+    ensures { result ≡ class_written around.now names.now }
+{
+    match names {
+        [x] => around.class_named(x.text.as_str()),
+        _ => None,
+    }
+}
+
+/// `x.class`
+pub fn class_object(
+    around: &Around,
+    names: &[Ident],
+    draft: &mut Draft,
+) -> Result<ValueKind, Memory>
+    ensures code { OnOk result (code_of draft.new ≡ code_of draft.old
+        ++ class_object around.now (class_written around.now names.now)) }
+    ensures kind { IfOk result (λ k. value_kind k ≡ Of Other) }
+{
+    match class_written(around, names) {
+        Some(c) => around.value(draft, Op::PushClass(c), ValueKind::Of(Kind::Other)),
+        None => around.value(draft, Op::Outside(0), ValueKind::Of(Kind::Other)),
+    }
+}
+
+/// `this`
+pub fn this_object(around: &Around, draft: &mut Draft) -> Result<ValueKind, Memory>
+    ensures code { OnOk result (code_of draft.new ≡ code_of draft.old ++ this_object around.now) }
+    ensures kind { IfOk result (λ k. value_kind k ≡ this_kind around.now) }
+{
+    if around.is_static() {
+        return around.value(draft, Op::Outside(0), ValueKind::Of(Kind::Other));
+    }
+    around.value(
+        draft,
+        Op::Push(VarId(0)),
+        ValueKind::Of(Kind::Declared(around.class())),
+    )
+}

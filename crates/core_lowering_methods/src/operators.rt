@@ -1,0 +1,61 @@
+//! Operators and literals, by what they are lowered to.
+ghost use Rattle.std.specs.Prelude.{◌≡◌, ◌++◌, OnOk, IfOk};
+ghost use Rattle.core_lowering_rules.specs.TreesOf.{is_assignment, is_logical, is_count, literal};
+ghost use Rattle.core_lowering_rules.specs.ValueKinds.{Of};
+ghost use Rattle.core_lowering_rules.specs.Expressions.{code, kind, cast};
+ghost use Rattle.core_lowering_methods.specs.Drafts.{code_of};
+ghost use Rattle.core_lowering_methods.specs.Views.{value_kind};
+
+use crate::around::Around;
+use crate::draft::Draft;
+use crate::value_kind::ValueKind;
+use core_code::Op;
+use java_lexer::TokenKind;
+use racer_base::{Kind, Memory};
+
+pub fn is_assignment(op: &str) -> bool
+    ensures { result ≡ is_assignment op.now }
+{
+    op == "="
+}
+
+pub fn is_logical(op: &str) -> bool
+    ensures { result ≡ is_logical op.now }
+{
+    op == "&&" || op == "||"
+}
+
+pub fn is_count(op: &str) -> bool
+    ensures { result ≡ is_count op.now }
+{
+    op == "++" || op == "--"
+}
+
+/// A literal (JLS 15.8.1).
+pub fn literal(
+    around: &Around,
+    token: TokenKind,
+    text: &str,
+    draft: &mut Draft,
+) -> Result<ValueKind, Memory>
+    ensures code { OnOk result (code_of draft.new ≡ code_of draft.old ++ code around.now (literal token text.now)) }
+    ensures kind { IfOk result (λ k. value_kind k ≡ kind around.now (literal token text.now)) }
+{
+    match token {
+        TokenKind::Text => around.value(draft, Op::Outside(0), ValueKind::Of(Kind::Other)),
+        TokenKind::Fixed if text == "null" => around.value(draft, Op::PushNull, ValueKind::Null),
+        _ => around.value(draft, Op::PushPrim, ValueKind::Of(Kind::Plain)),
+    }
+}
+
+/// A value on its way through a cast to a kind.
+pub fn cast(around: &Around, kind: Kind, draft: &mut Draft) -> Result<ValueKind, Memory>
+    ensures code { OnOk result (code_of draft.new ≡ code_of draft.old ++ cast around.now kind) }
+    ensures kind { IfOk result (λ k. value_kind k ≡ Of kind) }
+{
+    match kind {
+        Kind::Plain => around.value(draft, Op::Prim(1), ValueKind::Of(kind)),
+        Kind::Declared(_) => around.value(draft, Op::Outside(1), ValueKind::Of(kind)),
+        Kind::Other => around.value(draft, Op::Outside(1), ValueKind::Of(kind)),
+    }
+}

@@ -1,0 +1,64 @@
+//! Parts of statements: expressions whose values are not used, and stores to variables (JLS 14.8, 14.9).
+ghost use Rattle.std.specs.Prelude.{◌≡◌, ◌++◌, OnOk, map, option_map};
+ghost use Rattle.core_lowering_rules.specs.Trees.{pack_exprs};
+ghost use Rattle.core_lowering_rules.specs.TreesOf.{expr_of};
+ghost use Rattle.core_lowering_rules.specs.Statements.{run, run_all, run_some, set};
+ghost use Rattle.core_lowering_methods.specs.Drafts.{code_of};
+
+use crate::{Around, Draft, lower_expression};
+use core_code::Op;
+use java_tree::Expression;
+use racer_base::{Memory, VarId};
+use std::alloc::Global;
+
+/// An expression whose value is not used.
+pub fn lower_run(
+    alloc: Global,
+    around: &Around,
+    e: &Expression,
+    draft: &mut Draft,
+) -> Result<(), Memory>
+    ensures { OnOk result (code_of draft.new ≡ code_of draft.old ++ run around.now (expr_of e.now)) }
+{
+    lower_expression(alloc, around, e, draft)?;
+    around.op(draft, Op::Drop)
+}
+
+/// Such expressions, one after another.
+pub fn lower_run_all(
+    alloc: Global,
+    around: &Around,
+    all: &[Expression],
+    draft: &mut Draft,
+) -> Result<(), Memory>
+    ensures { OnOk result (code_of draft.new ≡ code_of draft.old
+        ++ run_all around.now (pack_exprs (map expr_of all.now))) }
+{
+    for e in all {
+        lower_run(alloc, around, e, draft)?;
+    }
+    Ok(())
+}
+
+/// Such an expression, where there is one.
+pub fn lower_run_some(
+    alloc: Global,
+    around: &Around,
+    e: &Option<Expression>,
+    draft: &mut Draft,
+) -> Result<(), Memory>
+    ensures { OnOk result (code_of draft.new ≡ code_of draft.old ++ run_some around.now (option_map expr_of e.now)) }
+{
+    match e {
+        Some(e) => lower_run(alloc, around, e, draft),
+        None => Ok(()),
+    }
+}
+
+/// Stores the value on top of the stack.
+pub fn set(around: &Around, v: VarId, draft: &mut Draft) -> Result<(), Memory>
+    ensures { OnOk result (code_of draft.new ≡ code_of draft.old ++ set around.now v) }
+{
+    around.op(draft, Op::Set(v))?;
+    around.op(draft, Op::Drop)
+}

@@ -1,0 +1,245 @@
+-- Code whose places are in their files, and whose classes and unread methods are there.
+use Rattle.std.proofs.Common.{◌≡◌, ℕ, zero, suc, ◌+◌, ◌<◌, Bool, true, false, cond, ◌&&◌, List, [], ◌∷◌, ◌++◌}
+use Rattle.std.proofs.Common.{Option, Some, None}
+use Rattle.std.proofs.Common.{length, refl, ap, ◌∙◌, slice_get, nat_lt, is_some, arith}
+use Rattle.std.specs.List.{list_all}
+use borrow.Author.Tests.{ltb-true}
+use Rattle.std.proofs.lemmas.Bool.{false≢true, lt-ltb}
+use Rattle.std.proofs.lemmas.List.Folds.{list_all-append}
+use Rattle.racer_base.specs.declared.ids.Place.{Place}
+use Rattle.racer_base.specs.declared.ids.Kind.{Kind}
+use Rattle.core_code.specs.declared.code.Op.{Op as CoreOp}
+use Rattle.core_code.specs.declared.code.Op.TheVariants.{Push, PushClass, PushPrim, PushNull, New, Dup, Drop, Get, Put}
+use Rattle.core_code.specs.declared.code.Op.TheVariants.{Set, Prim, Outside, Call, Unread, Ret}
+use Rattle.core_code.specs.declared.parts.FieldCore.{FieldCore}
+use Rattle.core_code.specs.Tree.{Tree, Step, Nothing, Then, Either, Again, Held, steps_of}
+use Rattle.core_code.specs.Tree.{in_sequence}
+use Rattle.core_code.specs.Core.{Core, Method}
+use Rattle.core_code.specs.Kinds.{StackKind, joined_stack}
+use Rattle.core_code.specs.KindCheck.{Kinds, and_then, where_true, kinds_after, kinds_after_op, same_stack}
+use Rattle.core_code.specs.KindCheck.{field_at, variable_at, after_push, after_set, after_get, after_put, after_call}
+use Rattle.core_code.specs.Calls.{method_at}
+use Rattle.core_code.specs.Facts.{is_place, is_class, is_method, is_op, is_code}
+use Rattle.core_code.proofs.BoolParts.{both, first_part, last_part}
+use Rattle.core_code.proofs.InRange.{then_in_range, held_in_range}
+use Rattle.core_lowering_rules.specs.Around.{Code, op_at, choice, repeated, held}
+use Rattle.core_lowering_rules.specs.Sites.{numbered}
+
+-- ---- what the check of kinds does not look at
+
+abbrev pub is_named_op : Core → CoreOp → Bool
+is_named_op core (PushClass c) = is_class core c
+is_named_op core (New c) = is_class core c
+is_named_op core (Unread m n) = is_method core m
+is_named_op core (Push v) = true
+is_named_op core PushPrim = true
+is_named_op core PushNull = true
+is_named_op core Dup = true
+is_named_op core Drop = true
+is_named_op core (Get f) = true
+is_named_op core (Put f) = true
+is_named_op core (Set v) = true
+is_named_op core (Prim n) = true
+is_named_op core (Outside n) = true
+is_named_op core (Call m n) = true
+is_named_op core Ret = true
+
+abbrev pub is_sound : Core → Tree → Bool
+is_sound core (Step site place o) = is_place core place && is_named_op core o
+is_sound core Nothing = true
+is_sound core (Then first rest) = is_sound core first && is_sound core rest
+is_sound core (Either left right) = is_sound core left && is_sound core right
+is_sound core (Again body) = is_sound core body
+is_sound core (Held place body) = is_place core place && is_sound core body
+
+-- the code of parts
+pub record Fine (core : Core) (code : Code) : Type 0 where
+  pub fine : list_all (is_sound core) code ≡ true
+
+module _ (core : Core) where
+  sound-sequence : (code : Code) → is_sound core (in_sequence code) ≡ list_all (is_sound core) code
+  sound-sequence [] = refl
+  sound-sequence (part ∷ code) = ap (λ b. is_sound core part && b) (sound-sequence code)
+
+  pub whole : {code : Code} → Fine core code → is_sound core (in_sequence code) ≡ true
+  whole {code} f = sound-sequence code ∙ f.fine
+
+  pub empty : Fine core []
+  empty = record { fine = refl }
+
+  pub joined : {a b : Code} → Fine core a → Fine core b → Fine core (a ++ b)
+  joined {a} {b} p q =
+      record {
+        fine =
+            list_all-append (is_sound core) a b
+            ∙ both (list_all (is_sound core) a) (list_all (is_sound core) b) p.fine q.fine;
+      }
+
+  pub joined_3 : {a b c : Code} → Fine core a → Fine core b → Fine core c → Fine core (a ++ b ++ c)
+  joined_3 p q r = joined (joined p q) r
+
+  pub joined_4 : {a b c d : Code} → Fine core a → Fine core b → Fine core c → Fine core d → Fine core (a ++ b ++ c ++ d)
+  joined_4 p q r s = joined (joined_3 p q r) s
+
+  pub joined_5 : {a b c d e : Code} → Fine core a → Fine core b → Fine core c → Fine core d → Fine core e →
+      Fine core (a ++ b ++ c ++ d ++ e)
+  joined_5 p q r s t = joined (joined_4 p q r s) t
+
+  pub joined_6 : {a b c d e f : Code} → Fine core a → Fine core b → Fine core c → Fine core d → Fine core e →
+      Fine core f → Fine core (a ++ b ++ c ++ d ++ e ++ f)
+  joined_6 p q r s t u = joined (joined_5 p q r s t) u
+
+  pub joined_7 : {a b c d e f g : Code} → Fine core a → Fine core b → Fine core c → Fine core d → Fine core e →
+      Fine core f → Fine core g → Fine core (a ++ b ++ c ++ d ++ e ++ f ++ g)
+  joined_7 p q r s t u v = joined (joined_6 p q r s t u) v
+
+  pub one : (place : Place) (o : CoreOp) → is_place core place ≡ true → is_named_op core o ≡ true →
+      Fine core (op_at place o)
+  one place o p q =
+      record {
+        fine =
+            both (is_place core place && is_named_op core o) true
+            (both (is_place core place) (is_named_op core o) p q) refl;
+      }
+
+  pub either : {a b : Code} → Fine core a → Fine core b → Fine core (choice a b)
+  either {a} {b} p q =
+      record {
+        fine =
+            both (is_sound core (in_sequence a) && is_sound core (in_sequence b)) true
+            (both (is_sound core (in_sequence a)) (is_sound core (in_sequence b)) (whole p) (whole q)) refl;
+      }
+
+  pub again : {a : Code} → Fine core a → Fine core (repeated a)
+  again {a} p = record { fine = both (is_sound core (in_sequence a)) true (whole p) refl }
+
+  pub under : {a : Code} (place : Place) → is_place core place ≡ true → Fine core a → Fine core (held place a)
+  under {a} place there p =
+      record {
+        fine =
+            both (is_place core place && is_sound core (in_sequence a)) true
+            (both (is_place core place) (is_sound core (in_sequence a)) there (whole p)) refl;
+      }
+
+  pub by_test : {a b : Code} (test : Bool) → Fine core a → Fine core b → Fine core (cond test a b)
+  by_test true p q = p
+  by_test false p q = q
+
+  -- ---- numbers of sites
+
+  sound-numbered : (t : Tree) (n : ℕ) → is_sound core (numbered n t) ≡ is_sound core t
+  sound-numbered (Step site place o) n = refl
+  sound-numbered Nothing n = refl
+  sound-numbered (Then first rest) n =
+      ap (λ b. b && is_sound core (numbered (n + length (steps_of first)) rest)) (sound-numbered first n)
+      ∙ ap (λ b. is_sound core first && b) (sound-numbered rest (n + length (steps_of first)))
+  sound-numbered (Either left right) n =
+      ap (λ b. b && is_sound core (numbered (n + length (steps_of left)) right)) (sound-numbered left n)
+      ∙ ap (λ b. is_sound core left && b) (sound-numbered right (n + length (steps_of left)))
+  sound-numbered (Again body) n = sound-numbered body n
+  sound-numbered (Held place body) n = ap (λ b. is_place core place && b) (sound-numbered body n)
+
+  -- ---- what the check of kinds shows
+
+  pub found-below : {A : Type 0} (xs : List A) (n : ℕ) → is_some (slice_get xs n) ≡ true → nat_lt n (length xs) ≡ true
+  found-below [] n h = absurd (false≢true h)
+  found-below (x ∷ xs) zero h = lt-ltb 0 (suc (length xs)) (omega arith)
+  found-below (x ∷ xs) (suc n) h =
+      let below : n < length xs = ltb-true n (length xs) (found-below xs n h) in
+      lt-ltb (suc n) (suc (length xs)) (omega arith)
+
+module _ (core : Core) (m : Method) where
+  abbrev IsChecked : CoreOp → List StackKind → Type 0
+  IsChecked o stack =
+      is_some (kinds_after_op core m o stack) ≡ true → is_named_op core o ≡ true →
+      is_op core (length m.variables) o ≡ true
+
+  pushed : (o : Option Kind) (stack : List StackKind) → is_some (after_push o stack) ≡ true → is_some o ≡ true
+  pushed None stack h = h
+  pushed (Some kind) stack h = refl
+
+  set-there : (o : Option Kind) (stack : List StackKind) → is_some (after_set o stack) ≡ true → is_some o ≡ true
+  set-there None stack h = h
+  set-there (Some kind) stack h = refl
+
+  got : (o : Option FieldCore) (stack : List StackKind) → is_some (after_get o stack) ≡ true → is_some o ≡ true
+  got None stack h = h
+  got (Some field) stack h = refl
+
+  put-there : (o : Option FieldCore) (stack : List StackKind) → is_some (after_put o stack) ≡ true → is_some o ≡ true
+  put-there None stack h = h
+  put-there (Some field) stack h = refl
+
+  called : (o : Option Method) (stack : List StackKind) → is_some (after_call o stack) ≡ true → is_some o ≡ true
+  called None stack h = h
+  called (Some callee) stack h = refl
+
+  op-in_range : (o : CoreOp) (stack : List StackKind) → IsChecked o stack
+  op-in_range (Push v) stack h k =
+      found-below core m.variables v.0 (pushed (variable_at m v) stack h)
+  op-in_range (Set v) stack h k = found-below core m.variables v.0 (set-there (variable_at m v) stack h)
+  op-in_range (Get f) stack h k = found-below core core.fields f.0 (got (field_at core f) stack h)
+  op-in_range (Put f) stack h k = found-below core core.fields f.0 (put-there (field_at core f) stack h)
+  op-in_range (Call n c) stack h k = found-below core core.methods n.0 (called (method_at core n) stack h)
+  op-in_range (PushClass c) stack h k = k
+  op-in_range (New c) stack h k = k
+  op-in_range (Unread n c) stack h k = k
+  op-in_range PushPrim stack h k = refl
+  op-in_range PushNull stack h k = refl
+  op-in_range Dup stack h k = refl
+  op-in_range Drop stack h k = refl
+  op-in_range (Prim n) stack h k = refl
+  op-in_range (Outside n) stack h k = refl
+  op-in_range Ret stack h k = refl
+
+  abbrev InRange : Tree → Type 0
+  InRange t = is_code core (length m.variables) t ≡ true
+
+  -- the operations and the locks of two parts
+  two-in_range : (a b : Tree) → InRange a → InRange b → InRange (Then a b)
+  two-in_range a b p q = then_in_range core (length m.variables) a b p q
+
+  first-some : (o : Kinds) (f : List StackKind → Kinds) → is_some (and_then o f) ≡ true →
+      (s : List StackKind) × (o ≡ Some s) × (is_some (f s) ≡ true)
+  first-some None f h = absurd (false≢true h)
+  first-some (Some s) f h = (s, refl, h)
+
+  some-by : (o : Kinds) (s : List StackKind) → o ≡ Some s → is_some o ≡ true
+  some-by o s e = ap (is_some {T = List StackKind}) e
+
+  pub in_range : (t : Tree) (stack : List StackKind) → is_some (kinds_after core m t stack) ≡ true →
+      is_sound core t ≡ true → InRange t
+  in_range (Step site place o) stack h k =
+      let there = first_part (is_place core place) (is_named_op core o) k in
+      let right = op-in_range o stack h (last_part (is_place core place) (is_named_op core o) k) in
+      both ((is_place core place && is_op core (length m.variables) o) && true) true
+      (both (is_place core place && is_op core (length m.variables) o) true
+      (both (is_place core place) (is_op core (length m.variables) o) there right) refl) refl
+  in_range Nothing stack h k = refl
+  in_range (Then first rest) stack h k =
+      let between = first-some (kinds_after core m first stack) (λ s. kinds_after core m rest s) h in
+      two-in_range first rest
+      (in_range first stack (some-by (kinds_after core m first stack) between.0 between.1)
+      (first_part (is_sound core first) _ k))
+      (in_range rest between.0 between.2 (last_part (is_sound core first) _ k))
+  in_range (Either left right) stack h k =
+      let one = first-some (kinds_after core m left stack)
+      (λ a. and_then (kinds_after core m right stack) (λ b. joined_stack a b)) h in
+      let other = first-some (kinds_after core m right stack) (λ b. joined_stack one.0 b) one.2 in
+      two-in_range left right
+      (in_range left stack (some-by (kinds_after core m left stack) one.0 one.1) (first_part (is_sound core left) _ k))
+      (in_range right stack (some-by (kinds_after core m right stack) other.0 other.1)
+      (last_part (is_sound core left) _ k))
+  in_range (Again body) stack h k =
+      let after = first-some (kinds_after core m body stack) (λ after. where_true (same_stack stack after) stack) h in
+      in_range body stack (some-by (kinds_after core m body stack) after.0 after.1) k
+  in_range (Held place body) [] h k = absurd (false≢true h)
+  in_range (Held place body) (lock ∷ stack) h k =
+      held_in_range core (length m.variables) place body (first_part (is_place core place) (is_sound core body) k)
+      (in_range body stack h (last_part (is_place core place) (is_sound core body) k))
+
+  -- the numbered code of a method
+  pub code-in_range : {code : Code} → Fine core code →
+      is_some (kinds_after core m (numbered 0 (in_sequence code)) []) ≡ true → InRange (numbered 0 (in_sequence code))
+  code-in_range {code} f h =
+      in_range (numbered 0 (in_sequence code)) [] h (sound-numbered core (in_sequence code) 0 ∙ whole core f)

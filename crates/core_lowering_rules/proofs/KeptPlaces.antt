@@ -1,0 +1,197 @@
+-- The places that units keep, part by part.
+use Rattle.std.proofs.Common.{◌≡◌, ℕ, suc, ◌+◌, ◌≤◌, Bool, true, false, cond, List, [], ◌∷◌}
+use Rattle.std.proofs.Common.{◌++◌, None, map, length, refl, sym, ◌∙◌, nat_lt, arith}
+use Rattle.std.specs.List.{flat_map, list_all}
+use Rattle.std.proofs.lemmas.Bool.{lt-ltb}
+use Rattle.std.proofs.lemmas.List.Folds.{list_all-append}
+use Rattle.racer_base.specs.declared.ids.ClassId.{ClassId}
+use Rattle.racer_base.specs.declared.ids.Place.{Place}
+use Rattle.java_tree.specs.declared.words.Spelled.{Spelled as SpelledToken}
+use Rattle.java_tree.specs.declared.methods.AnnotationTree.{AnnotationTree}
+use Rattle.java_tree.specs.declared.methods.ModifierTree as modifiers
+use Rattle.java_tree.specs.declared.methods.ModifierTree.TheVariants as modifier
+use Rattle.java_tree.specs.declared.methods.MethodTree.{MethodTree}
+use Rattle.java_tree.specs.declared.methods.ParameterTree.{ParameterTree}
+use Rattle.java_tree.specs.Words.{keyword}
+use Rattle.java_tree.specs.KeptPlaces.{Places, is_kept, all_places, each_puts, ty_places, stmt_places}
+use Rattle.java_tree.specs.MethodPlaces.{Marks, some_onto, each_marks, no_place, no_name, annotation_marks}
+use Rattle.java_tree.specs.MethodPlaces.{modifier_marks, result_places, parameter_marks, method_marks}
+use Rattle.java_parser_grammar.specs.declared.unit.Unit as unit_type
+use Rattle.java_parser_grammar.specs.declared.unit.ClassTree.{ClassTree}
+use Rattle.java_parser_grammar.specs.declared.unit.Member.{Member}
+use Rattle.java_parser_grammar.specs.declared.unit.Member.TheVariants as member
+use Rattle.java_resolver.specs.Declarations.{trees_of}
+use Rattle.java_resolver.specs.Declarations.{by_class}
+use Rattle.core_code.proofs.BoolParts.{both, first_part, last_part}
+use Rattle.core_lowering_rules.specs.Methods.{Body, Default, Spelled, Unspelled}
+use Rattle.core_lowering_rules.specs.Programs.{skipped_member, skipped_in, put_in, is_before, in_order}
+use Rattle.core_lowering_rules.specs.Conditions.{kept_of, member_places, class_places}
+use Rattle.core_lowering_rules.specs.Conditions.{unit_places}
+use Rattle.core_lowering_rules.proofs.FoundElements.{Each}
+use Rattle.core_lowering_rules.proofs.KindedPrograms.{each-append}
+
+-- ---- lists
+
+pub each-all : {A : Type 0} (test : A → Bool) (xs : List A) → Each (λ x. test x ≡ true) xs → list_all test xs ≡ true
+each-all test [] all = refl
+each-all test (x ∷ xs) all = both (test x) _ all.0 (each-all test xs all.1)
+
+pub each-from : {A B : Type 0} (P : A → Type 0) (Q : B → Type 0) (f : A → List B) → ((x : A) → P x → Each Q (f x)) →
+    (xs : List A) → Each P xs → Each Q (flat_map f xs)
+each-from P Q f step [] all = tt
+each-from P Q f step (x ∷ xs) all =
+    each-append Q (f x) (flat_map f xs) (step x all.0) (each-from P Q f step xs all.1)
+
+pub bounded-by_class : {A : Type 0} (P : A → Type 0) (Q : ClassTree → Type 0) (f : ClassId → ClassTree → List A)
+    (total : ℕ) →
+    ((c : ClassId) (tree : ClassTree) → nat_lt c.0 total ≡ true → Q tree → Each P (f c tree)) →
+    (n : ℕ) (trees : List ClassTree) → n + length trees ≤ total → Each Q trees → Each P (by_class f n trees)
+bounded-by_class P Q f total step n [] within all = tt
+bounded-by_class P Q f total step n (c ∷ cs) within all =
+    let below : nat_lt n total ≡ true = lt-ltb n total (omega arith) in
+    each-append P (f (record { 0 = n }) c) (by_class f (suc n) cs) (step (record { 0 = n }) c below all.0)
+    (bounded-by_class P Q f total step (suc n) cs (omega arith) all.1)
+
+module _ (test : Place → Bool) where
+  abbrev All : List Place → Type 0
+  All ps = list_all test ps ≡ true
+
+  pub all-two : (ps qs : List Place) → All (ps ++ qs) → All ps × All qs
+  all-two ps qs h =
+      let e = sym (list_all-append test ps qs) ∙ h in
+      (first_part (list_all test ps) _ e, last_part (list_all test ps) _ e)
+
+  pub each-places : {A : Type 0} (f : A → List Place) (xs : List A) → All (flat_map f xs) → Each (λ x. All (f x)) xs
+  each-places f [] h = tt
+  each-places f (x ∷ xs) h = let p = all-two (f x) (flat_map f xs) h in (p.0, each-places f xs p.1)
+
+  all-places : {A : Type 0} (f : A → List Place) (xs : List A) → Each (λ x. All (f x)) xs → All (flat_map f xs)
+  all-places f [] all = refl
+  all-places f (x ∷ xs) all =
+      list_all-append test (f x) (flat_map f xs)
+      ∙ both (list_all test (f x)) (list_all test (flat_map f xs)) all.0 (all-places f xs all.1)
+
+  -- ---- the places that a method keeps
+
+  abbrev Kept : Marks → Type 0
+  Kept marks = All (kept_of marks)
+
+  some-behind : (ps : Places) (rest : Marks) → Kept (some_onto ps rest) → Kept rest
+  some-behind [] rest h = h
+  some-behind (p ∷ ps) rest h = some-behind ps rest (last_part (test p) _ h)
+
+  some-front : (ps : Places) (rest : Marks) → Kept (some_onto ps rest) → All ps
+  some-front [] rest h = refl
+  some-front (p ∷ ps) rest h =
+      both (test p) _ (first_part (test p) _ h) (some-front ps rest (last_part (test p) _ h))
+
+  each-behind : {A : Type 0} (f : A → Marks → Marks) → ((x : A) (rest : Marks) → Kept (f x rest) → Kept rest) →
+      (xs : List A) (rest : Marks) → Kept (each_marks f xs rest) → Kept rest
+  each-behind f step [] rest h = h
+  each-behind f step (x ∷ xs) rest h = each-behind f step xs rest (step x (each_marks f xs rest) h)
+
+  unkept : (b : Bool) (rest : Marks) → Kept (cond b (None ∷ rest) rest) → Kept rest
+  unkept true rest h = h
+  unkept false rest h = h
+
+  place-behind : (t : SpelledToken) (rest : Marks) → Kept (no_place t rest) → Kept rest
+  place-behind t rest h = unkept (is_kept t.kind t.text) rest h
+
+  name-behind : (x : List ℕ) (rest : Marks) → Kept (no_name x rest) → Kept rest
+  name-behind x rest h = h
+
+  annotation-behind : (n : AnnotationTree) (rest : Marks) → Kept (annotation_marks n rest) → Kept rest
+  annotation-behind n rest h =
+      each-behind no_place place-behind n.arguments rest
+      (each-behind no_name name-behind n.names (each_marks no_place n.arguments rest) h)
+
+  modifier-behind : (m : modifiers.ModifierTree) (rest : Marks) → Kept (modifier_marks m rest) → Kept rest
+  modifier-behind (modifier.Word text) rest h = place-behind (keyword text) rest h
+  modifier-behind (modifier.Annotated n) rest h = annotation-behind n rest h
+
+  parameter-behind : (p : ParameterTree) (rest : Marks) → Kept (parameter_marks p rest) → Kept rest
+  parameter-behind p rest h =
+      some-behind (p.name.place ∷ []) rest
+      (some-behind (ty_places p.kind) (some_onto (p.name.place ∷ []) rest)
+      (each-behind annotation_marks annotation-behind p.annotations
+      (some_onto (ty_places p.kind) (some_onto (p.name.place ∷ []) rest)) h))
+
+  -- the place of the name, and those of the body
+  pub method-places : (t : MethodTree) → Kept (method_marks t) →
+      (test t.name.place ≡ true) × All (each_puts (map stmt_places t.body) [])
+  method-places t h =
+      let body = some_onto (each_puts (map stmt_places t.body) []) [] in
+      let throws = some_onto (all_places (map ty_places t.throws)) body in
+      let parameters = each_marks parameter_marks t.parameters throws in
+      let name = some_onto (t.name.place ∷ []) parameters in
+      let p = each-behind modifier_marks modifier-behind t.modifiers (some_onto (result_places t.result) name) h in
+      let q = some-behind (result_places t.result) name p in
+      let r = each-behind parameter_marks parameter-behind t.parameters throws
+      (some-behind (t.name.place ∷ []) parameters q) in (
+        first_part (test t.name.place) _ (some-front (t.name.place ∷ []) parameters q),
+        some-front (each_puts (map stmt_places t.body) []) []
+            (some-behind (all_places (map ty_places t.throws)) body r),
+      )
+
+  -- ---- skipped places
+
+  put-all : (b : Bool) (p q : Place) (qs more : List Place) → test p ≡ true → test q ≡ true → All qs → All more →
+      All (cond b (q ∷ more) (p ∷ q ∷ qs))
+  put-all true p q qs more h k all most = both (test q) _ k most
+  put-all false p q qs more h k all most = both (test p) _ h (both (test q) _ k all)
+
+  put_in-all : (p : Place) (ps : List Place) → test p ≡ true → All ps → All (put_in p ps)
+  put_in-all p [] h all = both (test p) true h refl
+  put_in-all p (q ∷ qs) h all =
+      put-all (is_before q p) p q qs (put_in p qs) h (first_part (test q) _ all) (last_part (test q) _ all)
+      (put_in-all p qs h (last_part (test q) _ all))
+
+  in_order-all : (ps : List Place) → All ps → All (in_order ps)
+  in_order-all [] all = refl
+  in_order-all (p ∷ ps) all =
+      put_in-all p (in_order ps) (first_part (test p) _ all) (in_order-all ps (last_part (test p) _ all))
+
+  skipped_member-all : (x : Member) → All (member_places x) → All (skipped_member x)
+  skipped_member-all (member.Skipped place) h = h
+  skipped_member-all (member.Method t) h = refl
+  skipped_member-all (member.Outside o) h = refl
+  skipped_member-all (member.Field f) h = refl
+
+  each-step : {A : Type 0} (f g : A → List Place) → ((x : A) → All (f x) → All (g x)) → (xs : List A) →
+      All (flat_map f xs) → All (flat_map g xs)
+  each-step f g step [] h = refl
+  each-step f g step (x ∷ xs) h =
+      let p = all-two (f x) (flat_map f xs) h in
+      list_all-append test (g x) (flat_map g xs)
+      ∙ both (list_all test (g x)) (list_all test (flat_map g xs)) (step x p.0) (each-step f g step xs p.1)
+
+  pub members-all : (c : ClassTree) → All (class_places c) → All (flat_map member_places c.members)
+  members-all c h = last_part (test c.place) _ h
+
+  skipped_in-all : (u : unit_type.Unit) → All (unit_places u) → All (skipped_in u)
+  skipped_in-all u h =
+      let p = all-two u.skipped (flat_map class_places u.classes) h in
+      list_all-append test u.skipped (flat_map (λ (c : ClassTree). flat_map skipped_member c.members) u.classes)
+      ∙ both (list_all test u.skipped) _ p.0
+      (each-step class_places (λ (c : ClassTree). flat_map skipped_member c.members)
+      (λ c k. each-step member_places skipped_member skipped_member-all c.members (members-all c k)) u.classes p.1)
+
+  pub skipped-all : (units : List unit_type.Unit) → All (flat_map unit_places units) →
+      All (in_order (flat_map skipped_in units))
+  skipped-all units h =
+      in_order-all (flat_map skipped_in units) (each-step unit_places skipped_in skipped_in-all units h)
+
+  abbrev pub PlacedClass : ClassTree → Type 0
+  PlacedClass c = All (class_places c)
+
+  pub trees-placed : (units : List unit_type.Unit) → All (flat_map unit_places units) →
+      Each PlacedClass (trees_of units)
+  trees-placed units h =
+      each-from (λ u. All (unit_places u)) PlacedClass (λ (u : unit_type.Unit). u.classes)
+      (λ u k. each-places class_places u.classes (let p = all-two u.skipped (flat_map class_places u.classes) k in p.1))
+      units (each-places unit_places units h)
+
+  abbrev pub PlacedBody : Body → Type 0
+  PlacedBody Default = Unit {0}
+  PlacedBody (Spelled t) = Kept (method_marks t)
+  PlacedBody Unspelled = Unit {0}

@@ -1,0 +1,393 @@
+-- The trees that are lowered are placed where the places that the code's trees keep are.
+use Rattle.std.proofs.Common.{◌≡◌, ℕ, Bool, true, false, cond, List, [], ◌∷◌, ◌++◌, Option, Some, None, map}
+use Rattle.std.proofs.Common.{sym, ◌∙◌, subst, rules}
+use Rattle.std.specs.Prelude.{option_map, codes, bytes_eq}
+use Rattle.std.specs.List.{list_all}
+use Rattle.std.proofs.lemmas.List.Folds.{list_all-append}
+use Rattle.racer_base.specs.declared.ids.Place.{Place}
+use Rattle.java_lexer.specs.declared.token.TokenKind.{TokenKind}
+use Rattle.java_lexer.specs.declared.token.TokenKind.TheVariants as token
+use Rattle.java_tree.specs.declared.words.Ident.{Ident}
+use Rattle.java_tree.specs.declared.expressions.Expression.{Expression, roll-Expression, map-Expression}
+use Rattle.java_tree.specs.declared.expressions.Initialiser.{Initialiser, roll-Initialiser, map-Initialiser}
+use Rattle.java_tree.specs.declared.expressions.ArrayTree.{ArrayTree, roll-ArrayTree, map-ArrayTree}
+use Rattle.java_tree.specs.declared.expressions.Expression.TheOpen as expression
+use Rattle.java_tree.specs.declared.expressions.Expression.TheFolds.{ind-Expression, ind-Initialiser, the_lemmas}
+use Rattle.java_tree.specs.declared.statements.VariableTree.{VariableTree}
+use Rattle.java_tree.specs.declared.statements.LocalsTree.{LocalsTree}
+use Rattle.java_tree.specs.declared.statements.StartTree.{StartTree}
+use Rattle.java_tree.specs.declared.statements.StartTree.TheVariants as start
+use Rattle.java_tree.specs.declared.statements.Statement.{Statement, roll-Statement, map-Statement}
+use Rattle.java_tree.specs.declared.statements.Statement.TheOpen as statement
+use Rattle.java_tree.specs.declared.statements.Statement.TheFolds.{ind-Statement}
+use Rattle.java_tree.specs.declared.statements.Statement.TheFolds as statements
+use Rattle.java_tree.specs.KeptPlaces.{Puts, each_puts, maybe_puts, name_places, ty_places, expr_places, init_places}
+use Rattle.java_tree.specs.KeptPlaces.{array_places, variable_places, locals_places, start_places, stmt_places}
+use Rattle.java_tree.specs.KeptPlaces as kept
+use Rattle.core_code.proofs.BoolParts.{first_part, last_part}
+use Rattle.core_lowering_rules.specs.Trees.{Expr, Text, This, ClassOf, Read, Unary, Cast, Binary, Logical, Conditional}
+use Rattle.core_lowering_rules.specs.Trees.{Assign, Combine, Count, Call, CallOn, New, NewArray, NewItems, Paren}
+use Rattle.core_lowering_rules.specs.Trees as tree
+use Rattle.core_lowering_rules.specs.Trees.{Init, Inits, Stmt, pack_exprs, pack_inits, pack_stmts}
+use Rattle.core_lowering_rules.specs.TreesOf.{access_of, literal, is_assignment, assignment, is_logical, binary, is_count}
+use Rattle.core_lowering_rules.specs.TreesOf.{prefix, call, expr_of, init_of, items_of, variable_of, start_of, if_of, stmt_of}
+use Rattle.core_lowering_rules.specs.TreesOf as lowered
+use Rattle.core_lowering_rules.proofs.PlacedTrees.{PlacedExpr, PlacedAccess, PlacedExprs, PlacedInit, PlacedInits}
+use Rattle.core_lowering_rules.proofs.PlacedTrees.{PlacedOption, PlacedBegin, PlacedVariables, PlacedStart, PlacedStmt}
+use Rattle.core_lowering_rules.proofs.PlacedTrees.{PlacedStmts}
+
+module _ (test : Place → Bool) where
+  -- where the places that are put before some pass, and these, this holds, and these pass
+  abbrev pub Splits : Puts → Type 0 → Type 0
+  Splits puts P = (rest : List Place) → list_all test (puts rest) ≡ true → P × (list_all test rest ≡ true)
+
+  abbrev pub HasExpr : Expression → Type 0
+  HasExpr e = Splits (expr_places e) (PlacedExpr test (expr_of e))
+
+  abbrev pub HasInit : Initialiser → Type 0
+  HasInit i = Splits (init_places i) (PlacedInit test (init_of i))
+
+  abbrev HasItems : ArrayTree → Type 0
+  HasItems a = Splits (array_places a) (PlacedInits test (items_of a))
+
+  abbrev Exprs : Type 0
+  Exprs = (e : Expression) × HasExpr e
+
+  abbrev Initialisers : Type 0
+  Initialisers = (i : Initialiser) × HasInit i
+
+  abbrev Arrays : Type 0
+  Arrays = (a : ArrayTree) × HasItems a
+
+  behind : (ps rest : List Place) → list_all test (ps ++ rest) ≡ true → list_all test rest ≡ true
+  behind ps rest h = last_part (list_all test ps) _ (sym (list_all-append test ps rest) ∙ h)
+
+  front : (p : Place) (rest : List Place) → list_all test (p ∷ rest) ≡ true → test p ≡ true
+  front p rest h = first_part (test p) _ h
+
+  after : (p : Place) (rest : List Place) → list_all test (p ∷ rest) ≡ true → list_all test rest ≡ true
+  after p rest h = last_part (test p) _ h
+
+  -- ---- expressions
+
+  access-placed : (e : Expr) → PlacedExpr test e → PlacedAccess test (access_of e)
+  access-placed (Read a) h = h
+  access-placed tree.Prim h = tt
+  access-placed Text h = tt
+  access-placed tree.Null h = tt
+  access-placed This h = tt
+  access-placed (ClassOf xs) h = tt
+  access-placed (Unary e) h = tt
+  access-placed (Cast t e) h = tt
+  access-placed (Binary a b) h = tt
+  access-placed (Logical a b) h = tt
+  access-placed (Conditional c a b) h = tt
+  access-placed (Assign a e) h = tt
+  access-placed (Combine a e) h = tt
+  access-placed (Count a) h = tt
+  access-placed (Call x es) h = tt
+  access-placed (CallOn e x es) h = tt
+  access-placed (New place t es) h = tt
+  access-placed (NewArray place lengths) h = tt
+  access-placed (NewItems place items) h = tt
+  access-placed (Paren e) h = tt
+
+  either-placed : (b : Bool) (s t : Expr) → PlacedExpr test s → PlacedExpr test t → PlacedExpr test (cond b s t)
+  either-placed true s t p q = p
+  either-placed false s t p q = q
+
+  literal-placed : (k : TokenKind) (text : List ℕ) → PlacedExpr test (literal k text)
+  literal-placed token.Name text = tt
+  literal-placed token.Keyword text = tt
+  literal-placed token.Fixed text = either-placed (bytes_eq text (codes "null")) tree.Null tree.Prim tt tt
+  literal-placed token.Number text = tt
+  literal-placed token.Character text = tt
+  literal-placed token.Text text = tt
+  literal-placed token.Sign text = tt
+
+  exprs-split : (es : List Exprs) →
+      Splits (each_puts (map expr_places (map (λ e. e.0) es)))
+      (PlacedExprs test (pack_exprs (map expr_of (map (λ e. e.0) es))))
+  exprs-split [] rest h = (tt, h)
+  exprs-split (e ∷ es) rest h =
+      let p = e.1 (each_puts (map expr_places (map (λ e. e.0) es)) rest) h in
+      let q = exprs-split es rest p.1 in ((p.0, q.0), q.1)
+
+  inits-split : (is : List Initialisers) →
+      Splits (each_puts (map init_places (map (λ e. e.0) is)))
+      (PlacedInits test (pack_inits (map init_of (map (λ e. e.0) is))))
+  inits-split [] rest h = (tt, h)
+  inits-split (i ∷ is) rest h =
+      let p = i.1 (each_puts (map init_places (map (λ e. e.0) is)) rest) h in
+      let q = inits-split is rest p.1 in ((p.0, q.0), q.1)
+
+  names-split : (xs : List Ident) (rest : List Place) → list_all test (each_puts (map name_places xs) rest) ≡ true →
+      list_all test rest ≡ true
+  names-split [] rest h = h
+  names-split (x ∷ xs) rest h = names-split xs rest (after x.place (each_puts (map name_places xs) rest) h)
+
+  -- one layer
+  abbrev Layer : Type 0
+  Layer = expression.Expression-F Exprs Initialisers Arrays
+
+  abbrev plain : Layer → expression.Expression-F Expression Initialiser ArrayTree
+  plain y =
+      map-Expression Exprs Initialisers Arrays Expression Initialiser ArrayTree (λ e. e.0) (λ e. e.0) (λ e. e.0) y
+
+  abbrev places_in : expression.Expression-F Expression Initialiser ArrayTree → Puts
+  places_in x =
+      kept.expr_step
+      (map-Expression Expression Initialiser ArrayTree Puts Puts Puts expr_places init_places array_places x)
+
+  abbrev lowered_in : expression.Expression-F Expression Initialiser ArrayTree → Expr
+  lowered_in x =
+      lowered.expr_step (map-Expression Expression Initialiser ArrayTree Expr Init Inits expr_of init_of items_of x)
+
+  expr-split : (y : Layer) → Splits (places_in (plain y)) (PlacedExpr test (lowered_in (plain y)))
+  expr-split (expression.Assign a op b) rest h =
+      let p = a.value.1 (expr_places b.value.0 rest) h in
+      let q = b.value.1 rest p.1 in
+      let access = access-placed (expr_of a.value.0) p.0 in (
+        either-placed (is_assignment op) (Assign (access_of (expr_of a.value.0)) (expr_of b.value.0))
+            (Combine (access_of (expr_of a.value.0)) (expr_of b.value.0)) (access, q.0) (access, q.0),
+        q.1,
+      )
+  expr-split (expression.Conditional a b c) rest h =
+      let p = a.value.1 (expr_places b.value.0 (expr_places c.value.0 rest)) h in
+      let q = b.value.1 (expr_places c.value.0 rest) p.1 in
+      let r = c.value.1 rest q.1 in ((p.0, q.0, r.0), r.1)
+  expr-split (expression.Binary a op b) rest h =
+      let p = a.value.1 (expr_places b.value.0 rest) h in
+      let q = b.value.1 rest p.1 in (
+        either-placed (is_logical op) (Logical (expr_of a.value.0) (expr_of b.value.0))
+            (Binary (expr_of a.value.0) (expr_of b.value.0)) (p.0, q.0) (p.0, q.0),
+        q.1,
+      )
+  expr-split (expression.InstanceOf a t) rest h =
+      let p = a.value.1 (ty_places t ++ rest) h in (p.0, behind (ty_places t) rest p.1)
+  expr-split (expression.Prefix op a) rest h =
+      let p = a.value.1 rest h in (
+        either-placed (is_count op) (Count (access_of (expr_of a.value.0))) (Unary (expr_of a.value.0))
+            (access-placed (expr_of a.value.0) p.0) p.0,
+        p.1,
+      )
+  expr-split (expression.Cast t a) rest h = a.value.1 rest (behind (ty_places t) (expr_places a.value.0 rest) h)
+  expr-split (expression.Postfix a op) rest h =
+      let p = a.value.1 rest h in (access-placed (expr_of a.value.0) p.0, p.1)
+  expr-split (expression.Literal k text) rest h = (literal-placed k text, h)
+  expr-split expression.This rest h = (tt, h)
+  expr-split (expression.Name x) rest h = (front x.place rest h, after x.place rest h)
+  expr-split (expression.Paren a) rest h = a.value.1 rest h
+  expr-split (expression.Field a x) rest h =
+      let p = a.value.1 (x.place ∷ rest) h in ((p.0, front x.place rest p.1), after x.place rest p.1)
+  expr-split (expression.Index a i) rest h =
+      let p = a.value.1 (expr_places i.value.0 rest) h in
+      let q = i.value.1 rest p.1 in ((p.0, q.0), q.1)
+  expr-split (expression.Call None x all) rest h =
+      let others = each_puts (map expr_places (map (λ e. e.0) all.items)) rest in
+      let q = exprs-split all.items rest (after x.place others h) in ((front x.place others h, q.0), q.1)
+  expr-split (expression.Call (Some a) x all) rest h =
+      let others = each_puts (map expr_places (map (λ e. e.0) all.items)) rest in
+      let p = a.value.1 (x.place ∷ others) h in
+      let q = exprs-split all.items rest (after x.place others p.1) in
+      ((p.0, front x.place others p.1, q.0), q.1)
+  expr-split (expression.ClassOf xs) rest h = (tt, names-split xs.items rest h)
+  expr-split (expression.New place t all) rest h =
+      let others = each_puts (map expr_places (map (λ e. e.0) all.items)) rest in
+      let q = exprs-split all.items rest (behind (ty_places t) others (after place (ty_places t ++ others) h)) in
+      ((front place (ty_places t ++ others) h, q.0), q.1)
+  expr-split (expression.NewArray place t lengths n) rest h =
+      let others = each_puts (map expr_places (map (λ e. e.0) lengths.items)) rest in
+      let q = exprs-split lengths.items rest (behind (ty_places t) others (after place (ty_places t ++ others) h)) in
+      ((front place (ty_places t ++ others) h, q.0), q.1)
+  expr-split (expression.NewItems place t n items) rest h =
+      let others = array_places items.0 rest in
+      let q = items.1 rest (behind (ty_places t) others (after place (ty_places t ++ others) h)) in
+      ((front place (ty_places t ++ others) h, q.0), q.1)
+
+  expr-has : (x : expression.Expression-F Expression Initialiser ArrayTree) (y : Layer) → plain y ≡ x →
+      HasExpr (roll-Expression x)
+  expr-has x y is =
+      let places : expr_places (roll-Expression (plain y)) ≡ places_in (plain y) = search (rules, the_lemmas) in
+      let lower : expr_of (roll-Expression (plain y)) ≡ lowered_in (plain y) = search (rules, the_lemmas) in
+      subst (λ z. HasExpr (roll-Expression z)) is
+      (subst (λ (f : Puts). Splits f (PlacedExpr test (expr_of (roll-Expression (plain y))))) (sym places)
+      (subst (λ (t : Expr). Splits (places_in (plain y)) (PlacedExpr test t)) (sym lower) (expr-split y)))
+
+  abbrev InitLayer : Type 0
+  InitLayer = expression.Initialiser-F Exprs Initialisers Arrays
+
+  abbrev plain_init : InitLayer → expression.Initialiser-F Expression Initialiser ArrayTree
+  plain_init y =
+      map-Initialiser Exprs Initialisers Arrays Expression Initialiser ArrayTree (λ e. e.0) (λ e. e.0) (λ e. e.0) y
+
+  init-case : (y : InitLayer) → HasInit (roll-Initialiser (plain_init y))
+  init-case (expression.Value e) =
+      let places : init_places (roll-Initialiser (plain_init (expression.Value e))) ≡ expr_places e.0 =
+      search (rules, the_lemmas) in
+      let lower : init_of (roll-Initialiser (plain_init (expression.Value e))) ≡ tree.Value (expr_of e.0) =
+      search (rules, the_lemmas) in
+      subst (λ (f : Puts). Splits f (PlacedInit test (init_of (roll-Initialiser (plain_init (expression.Value e))))))
+      (sym places)
+      (subst (λ (t : Init). Splits (expr_places e.0) (PlacedInit test t)) (sym lower) e.1)
+  init-case (expression.Items items) =
+      let places : init_places (roll-Initialiser (plain_init (expression.Items items))) ≡ array_places items.0 =
+      search (rules, the_lemmas) in
+      let lower : init_of (roll-Initialiser (plain_init (expression.Items items))) ≡ tree.Items (items_of items.0) =
+      search (rules, the_lemmas) in
+      subst
+      (λ (f : Puts). Splits f (PlacedInit test (init_of (roll-Initialiser (plain_init (expression.Items items))))))
+      (sym places)
+      (subst (λ (t : Init). Splits (array_places items.0) (PlacedInit test t)) (sym lower) items.1)
+
+  init-has : (x : expression.Initialiser-F Expression Initialiser ArrayTree) (y : InitLayer) → plain_init y ≡ x →
+      HasInit (roll-Initialiser x)
+  init-has x y is = subst (λ z. HasInit (roll-Initialiser z)) is (init-case y)
+
+  abbrev ArrayLayer : Type 0
+  ArrayLayer = expression.ArrayTree-F Exprs Initialisers Arrays
+
+  abbrev plain_array : ArrayLayer → expression.ArrayTree-F Expression Initialiser ArrayTree
+  plain_array y =
+      map-ArrayTree Exprs Initialisers Arrays Expression Initialiser ArrayTree (λ e. e.0) (λ e. e.0) (λ e. e.0) y
+
+  abbrev in_array : ArrayLayer → List Initialiser
+  in_array y = map (λ e. e.0) y.items.items
+
+  array-case : (y : ArrayLayer) → HasItems (roll-ArrayTree (plain_array y))
+  array-case y =
+      let places : array_places (roll-ArrayTree (plain_array y)) ≡ each_puts (map init_places (in_array y)) =
+      search (rules, the_lemmas) in
+      let lower : items_of (roll-ArrayTree (plain_array y)) ≡ pack_inits (map init_of (in_array y)) =
+      search (rules, the_lemmas) in
+      subst (λ (f : Puts). Splits f (PlacedInits test (items_of (roll-ArrayTree (plain_array y))))) (sym places)
+      (subst (λ (t : Inits). Splits (each_puts (map init_places (in_array y))) (PlacedInits test t)) (sym lower)
+      (inits-split y.items.items))
+
+  array-has : (x : expression.ArrayTree-F Expression Initialiser ArrayTree) (y : ArrayLayer) → plain_array y ≡ x →
+      HasItems (roll-ArrayTree x)
+  array-has x y is = subst (λ z. HasItems (roll-ArrayTree z)) is (array-case y)
+
+  pub expr-kept : (e : Expression) → HasExpr e
+  expr-kept = ind-Expression HasExpr HasInit HasItems expr-has init-has array-has
+
+  pub init-kept : (i : Initialiser) → HasInit i
+  init-kept = ind-Initialiser HasExpr HasInit HasItems expr-has init-has array-has
+
+  -- ---- parts of statements
+
+  all-kept : (es : List Expression) →
+      Splits (each_puts (map expr_places es)) (PlacedExprs test (pack_exprs (map expr_of es)))
+  all-kept [] rest h = (tt, h)
+  all-kept (e ∷ es) rest h =
+      let p = expr-kept e (each_puts (map expr_places es) rest) h in
+      let q = all-kept es rest p.1 in ((p.0, q.0), q.1)
+
+  some-kept : (o : Option Expression) →
+      Splits (maybe_puts (option_map expr_places o)) (PlacedOption test (option_map expr_of o))
+  some-kept None rest h = (tt, h)
+  some-kept (Some e) rest h = expr-kept e rest h
+
+  begin-kept : (o : Option Initialiser) →
+      Splits (maybe_puts (option_map init_places o)) (PlacedBegin test (option_map init_of o))
+  begin-kept None rest h = (tt, h)
+  begin-kept (Some i) rest h = init-kept i rest h
+
+  variables-kept : (vs : List VariableTree) →
+      Splits (each_puts (map variable_places vs)) (PlacedVariables test (map variable_of vs))
+  variables-kept [] rest h = (tt, h)
+  variables-kept (v ∷ vs) rest h =
+      let others = each_puts (map variable_places vs) rest in
+      let p = begin-kept v.initialiser others
+      (after v.name.place (maybe_puts (option_map init_places v.initialiser) others) h) in
+      let q = variables-kept vs rest p.1 in ((p.0, q.0), q.1)
+
+  locals-kept : (l : LocalsTree) → Splits (locals_places l) (PlacedVariables test (map variable_of l.variables))
+  locals-kept l rest h =
+      variables-kept l.variables rest (behind (ty_places l.kind) (each_puts (map variable_places l.variables) rest) h)
+
+  start-kept : (i : StartTree) → Splits (start_places i) (PlacedStart test (start_of i))
+  start-kept (start.Local l) rest h = locals-kept l rest h
+  start-kept (start.Expressions all) rest h = all-kept all rest h
+
+  -- ---- statements
+
+  abbrev pub HasStmt : Statement → Type 0
+  HasStmt s = Splits (stmt_places s) (PlacedStmt test (stmt_of s))
+
+  abbrev Stmts : Type 0
+  Stmts = (s : Statement) × HasStmt s
+
+  abbrev StmtLayer : Type 0
+  StmtLayer = statement.Statement-F Stmts
+
+  abbrev plain_stmt : StmtLayer → statement.Statement-F Statement
+  plain_stmt y = map-Statement Stmts Statement (λ s. s.0) y
+
+  abbrev stmt_places_in : statement.Statement-F Statement → Puts
+  stmt_places_in x = kept.stmt_step (map-Statement Statement Puts stmt_places x)
+
+  abbrev stmt_lowered_in : statement.Statement-F Statement → Stmt
+  stmt_lowered_in x = lowered.stmt_step (map-Statement Statement Stmt stmt_of x)
+
+  stmts-split : (ss : List Stmts) →
+      Splits (each_puts (map stmt_places (map (λ s. s.0) ss)))
+      (PlacedStmts test (pack_stmts (map stmt_of (map (λ s. s.0) ss))))
+  stmts-split [] rest h = (tt, h)
+  stmts-split (s ∷ ss) rest h =
+      let p = s.1 (each_puts (map stmt_places (map (λ s. s.0) ss)) rest) h in
+      let q = stmts-split ss rest p.1 in ((p.0, q.0), q.1)
+
+  stmt-split : (y : StmtLayer) →
+      Splits (stmt_places_in (plain_stmt y)) (PlacedStmt test (stmt_lowered_in (plain_stmt y)))
+  stmt-split (statement.Block ss) rest h = stmts-split ss.items rest h
+  stmt-split (statement.Local l) rest h = locals-kept l rest h
+  stmt-split (statement.Expr e) rest h = expr-kept e rest h
+  stmt-split (statement.If e s None) rest h =
+      let p = expr-kept e (stmt_places s.value.0 rest) h in
+      let q = s.value.1 rest p.1 in ((p.0, q.0), q.1)
+  stmt-split (statement.If e s (Some t)) rest h =
+      let p = expr-kept e (stmt_places s.value.0 (stmt_places t.value.0 rest)) h in
+      let q = s.value.1 (stmt_places t.value.0 rest) p.1 in
+      let r = t.value.1 rest q.1 in ((p.0, q.0, r.0), r.1)
+  stmt-split (statement.While e s) rest h =
+      let p = expr-kept e (stmt_places s.value.0 rest) h in
+      let q = s.value.1 rest p.1 in ((p.0, q.0), q.1)
+  stmt-split (statement.For i condition updates s) rest h =
+      let last = stmt_places s.value.0 rest in
+      let third = each_puts (map expr_places updates.items) last in
+      let a = start-kept i (maybe_puts (option_map expr_places condition) third) h in
+      let b = some-kept condition third a.1 in
+      let c = all-kept updates.items last b.1 in
+      let d = s.value.1 rest c.1 in ((a.0, b.0, c.0, d.0), d.1)
+  stmt-split (statement.ForEach is_final t x e s) rest h =
+      let last = stmt_places s.value.0 rest in
+      let p = expr-kept e last
+      (after x.place (expr_places e last) (behind (ty_places t) (x.place ∷ expr_places e last) h)) in
+      let q = s.value.1 rest p.1 in ((p.0, q.0), q.1)
+  stmt-split (statement.Sync place e ss) rest h =
+      let last = each_puts (map stmt_places (map (λ s. s.0) ss.items)) rest in
+      let p = expr-kept e last (after place (expr_places e last) h) in
+      let q = stmts-split ss.items rest p.1 in ((front place (expr_places e last) h, p.0, q.0), q.1)
+  stmt-split (statement.Return e) rest h = some-kept e rest h
+  stmt-split statement.Empty rest h = (tt, h)
+
+  stmt-has : (x : statement.Statement-F Statement) (y : StmtLayer) → plain_stmt y ≡ x → HasStmt (roll-Statement x)
+  stmt-has x y is =
+      let places : stmt_places (roll-Statement (plain_stmt y)) ≡ stmt_places_in (plain_stmt y) =
+      search (rules, statements.the_lemmas) in
+      let lower : stmt_of (roll-Statement (plain_stmt y)) ≡ stmt_lowered_in (plain_stmt y) =
+      search (rules, statements.the_lemmas) in
+      subst (λ z. HasStmt (roll-Statement z)) is
+      (subst (λ (f : Puts). Splits f (PlacedStmt test (stmt_of (roll-Statement (plain_stmt y))))) (sym places)
+      (subst (λ (t : Stmt). Splits (stmt_places_in (plain_stmt y)) (PlacedStmt test t)) (sym lower) (stmt-split y)))
+
+  stmt-kept : (s : Statement) → HasStmt s
+  stmt-kept = ind-Statement HasStmt stmt-has
+
+  pub stmts-kept : (ss : List Statement) →
+      Splits (each_puts (map stmt_places ss)) (PlacedStmts test (pack_stmts (map stmt_of ss)))
+  stmts-kept [] rest h = (tt, h)
+  stmts-kept (s ∷ ss) rest h =
+      let p = stmt-kept s (each_puts (map stmt_places ss) rest) h in
+      let q = stmts-kept ss rest p.1 in ((p.0, q.0), q.1)

@@ -1,0 +1,187 @@
+-- What every program of units keeps.
+use Rattle.std.proofs.Common.{◌≡◌, ℕ, zero, suc, Bool, true, false, cond, not, ◌&&◌, ◌||◌, List, [], ◌∷◌, Option, Some}
+use Rattle.std.proofs.Common.{None, map, refl, ap, ◌∙◌, slice_get, is_some, is_none, length, nat_lt, nat_le, arith}
+use Rattle.std.proofs.lemmas.Bool.Decides.{nat_tests}
+use Rattle.std.specs.List.{list_all}
+use Rattle.std.specs.Option.{option_or}
+use Rattle.racer_base.specs.declared.ids.MethodId.{MethodId}
+use Rattle.racer_base.specs.declared.limits.TheConstants.{MAX_PARAMETERS, MAX_LOCALS}
+use Rattle.java_parser_grammar.specs.declared.unit.Unit as unit_type
+use Rattle.java_parser_grammar.specs.declared.unit.Member.{Member}
+use Rattle.java_resolver.specs.declared.infos.ClassInfo.{ClassInfo}
+use Rattle.java_resolver.specs.declared.infos.MethodInfo.{MethodInfo}
+use Rattle.java_resolver.specs.Declarations.{names_of}
+use Rattle.core_code.specs.declared.code.Reason.{Reason}
+use Rattle.core_code.specs.declared.code.Reason.TheVariants.{Overload, Outside, Parameters, Locals, Recursive}
+use Rattle.core_code.specs.Tree.{can_end, in_sequence}
+use Rattle.core_code.specs.Core.{Core, Method}
+use Rattle.core_code.specs.Facts.{is_stack_enough, are_stacks_enough, is_in_order, are_sites_in_order, may_be_entry}
+use Rattle.core_code.specs.Facts.{are_entries_analysed, has_few_parameters, are_parameters_few}
+use Rattle.core_code.specs.CallFacts.{has_right_calls, are_calls_right, ends_by_return, do_end_by_return}
+use Rattle.core_lowering_rules.specs.Around.{Folder}
+use Rattle.core_lowering_rules.specs.Methods.{Body, Default, Spelled, Unspelled, Source, entered, fields_begun}
+use Rattle.core_lowering_rules.specs.Methods.{parameters_declared}
+use Rattle.core_lowering_rules.specs.Methods.{spelled_code, method_code}
+use Rattle.core_lowering_rules.specs.Programs.{sources_of, status_of, declared_in, statuses_from, folder_of, class_core}
+use Rattle.core_lowering_rules.specs.Programs.{is_overloaded}
+use Rattle.core_lowering_rules.specs.Programs.{local_count, where_so, is_unspelled}
+use Rattle.core_lowering_rules.specs.Programs.{is_checked, is_entry, method_core, method_cores, program_of}
+use Rattle.core_lowering_rules.proofs.Runs.{whole_high, whole_calls}
+use Rattle.core_lowering_rules.proofs.FoundElements.{Each}
+use Rattle.core_lowering_rules.proofs.KindedMethods.{method-keeps}
+use Rattle.core_lowering_rules.proofs.KindedPrograms.{IsRightSource, folder-stands, sources-right, or-true}
+use Rattle.core_lowering_rules.proofs.NumberedCode.{height-numbered, calls-numbered, sites-numbered, ended-ends}
+use Rattle.core_code.proofs.BoolParts.{both}
+
+-- ---- entries
+
+checked-same : (classes : List ClassInfo) (n : ℕ) →
+    elim (slice_get (map class_core classes) n) as (λ _. Bool) [ None ↦ false | Some class ↦ class.checked ] ≡
+    elim (slice_get classes n) as (λ _. Bool) [ None ↦ false | Some class ↦ class.checked ]
+checked-same [] n = refl
+checked-same (c ∷ classes) zero = refl
+checked-same (c ∷ classes) (suc n) = checked-same classes n
+
+entry-test : (a b c d e : Bool) → (not (a && b && c && d && e) || (a && b)) ≡ true
+entry-test false b c d e = refl
+entry-test true false c d e = refl
+entry-test true true c d e = or-true (not (true && true && c && d && e)) true refl
+
+-- ---- ends
+
+outside-some : (b : Bool) (rest : Option Reason) →
+    is_some (option_or (cond b (Some Overload) None) (option_or (Some Outside) rest)) ≡ true
+outside-some true rest = refl
+outside-some false rest = refl
+
+-- ---- parameters
+
+few-or_more : (limit count : ℕ) (rest : Option Reason) →
+    (is_some (option_or (where_so (nat_lt limit count) Parameters) rest) || nat_le count limit) ≡ true
+few-or_more limit count rest = by (nat_lt limit count) refl
+  where
+    by : (b : Bool) → nat_lt limit count ≡ b →
+        (is_some (option_or (where_so b Parameters) rest) || nat_le count limit) ≡ true
+    by true e = refl
+    by false e =
+        let few : nat_le count limit ≡ true = grind (arith, nat_tests, e) in
+        or-true (is_some rest) (nat_le count limit) few
+
+few-or_reason : (overloaded unspelled : Bool) (count : ℕ) (rest : Option Reason) →
+    (is_some (option_or (where_so overloaded Overload) (option_or (where_so unspelled Outside)
+    (option_or (where_so (nat_lt MAX_PARAMETERS count) Parameters) rest))) || nat_le count MAX_PARAMETERS) ≡ true
+few-or_reason true unspelled count rest = refl
+few-or_reason false true count rest = refl
+few-or_reason false false count rest = few-or_more MAX_PARAMETERS count rest
+
+module _ (files : List (List ℕ)) (units : List unit_type.Unit) (is_recursive : MethodId → Bool) where
+  abbrev folder : Folder
+  folder = folder_of units is_recursive
+
+  abbrev program : Core
+  program = program_of files units is_recursive
+
+  -- a test that all methods pass
+  all-pass : (test : Method → Bool) →
+      ((s : Source) (status : Option Reason) → IsRightSource (names_of units) s → test
+      (method_core folder s status) ≡ true) →
+      (sources : List Source) (statuses : List (Option Reason)) → Each (IsRightSource (names_of units)) sources →
+      list_all test (method_cores folder sources statuses) ≡ true
+  all-pass test passes [] statuses right = refl
+  all-pass test passes (s ∷ sources) [] right = refl
+  all-pass test passes (s ∷ sources) (status ∷ statuses) right =
+      both (test (method_core folder s status)) _ (passes s status right.0)
+      (all-pass test passes sources statuses right.1)
+
+  enough : (s : Source) (status : Option Reason) → IsRightSource (names_of units) s →
+      is_stack_enough (method_core folder s status) ≡ true
+  enough s status right =
+      let m = method_core folder s status in
+      let keeps = method-keeps program folder
+      (folder-stands files units is_recursive) s.info s.members status s.body right
+      in
+      ap (is_some {T = ℕ})
+      (height-numbered (in_sequence (method_code folder s)) 0 0 ∙ whole_high program m keeps)
+
+  right-calls : (s : Source) (status : Option Reason) → IsRightSource (names_of units) s →
+      has_right_calls program (method_core folder s status) ≡ true
+  right-calls s status right =
+      let m = method_core folder s status in
+      let keeps = method-keeps program folder
+      (folder-stands files units is_recursive) s.info s.members status s.body right
+      in
+      calls-numbered program (in_sequence (method_code folder s)) 0 ∙ whole_calls program m keeps
+
+  entry : (s : Source) (status : Option Reason) → IsRightSource (names_of units) s →
+      may_be_entry program (method_core folder s status) ≡ true
+  entry s status right =
+      ap (λ b. not (is_entry folder s.info status) || (is_none status && b))
+      (checked-same folder.classes s.info.class.0)
+      ∙ entry-test (is_none status) (is_checked folder s.info.class) (not s.info.is_private)
+      (not s.info.is_constructor) (not s.info.not_thread_safe)
+
+  pub stacks-enough : are_stacks_enough program ≡ true
+  stacks-enough = all-pass is_stack_enough enough (sources_of units) folder.statuses (sources-right units)
+
+  pub calls-right : are_calls_right program ≡ true
+  calls-right =
+      all-pass (has_right_calls program) right-calls (sources_of units) folder.statuses (sources-right units)
+
+  pub sites-in_order : are_sites_in_order program ≡ true
+  sites-in_order =
+      all-pass is_in_order (λ s status right. sites-numbered (in_sequence (method_code folder s)) 0) (sources_of units)
+      folder.statuses (sources-right units)
+
+  pub entries-analysed : are_entries_analysed program ≡ true
+  entries-analysed =
+      all-pass (may_be_entry program) entry (sources_of units) folder.statuses (sources-right units)
+
+  abbrev status_by : ℕ → Source → Option Reason
+  status_by n s = status_of (declared_in units) (is_recursive (record { 0 = n })) s
+
+  ends : (n : ℕ) (info : MethodInfo) (members : List Member) (body : Body) →
+      let s : Source = record { info = info; members = members; body = body } in
+      ends_by_return (method_core folder s (status_by n s)) ≡ true
+  ends n info members Default =
+      let s : Source = record { info = info; members = members; body = Default } in
+      or-true (is_some (status_by n s)) (not (can_end (method_core folder s (status_by n s)).code))
+      (ap not (ended-ends (entered folder s) (fields_begun (entered folder s) members)))
+  ends n info members (Spelled t) =
+      let s : Source = record { info = info; members = members; body = Spelled t } in
+      let inside = parameters_declared (entered folder s) t.parameters in
+      or-true (is_some (status_by n s)) (not (can_end (method_core folder s (status_by n s)).code))
+      (ap not (ended-ends (entered folder s) (spelled_code inside members t)))
+  ends n info members Unspelled =
+      let s : Source = record { info = info; members = members; body = Unspelled } in
+      ap (λ b. b || not (can_end (method_core folder s (status_by n s)).code))
+      (outside-some (is_overloaded (declared_in units).methods info)
+      (option_or (where_so (nat_lt MAX_PARAMETERS (length info.parameters)) Parameters)
+      (option_or (where_so (nat_lt MAX_LOCALS (local_count (declared_in units) s)) Locals)
+      (where_so (is_recursive (record { 0 = n })) Recursive))))
+
+  all-end : (sources : List Source) (n : ℕ) →
+      list_all ends_by_return
+      (method_cores folder sources (statuses_from (declared_in units) is_recursive n sources)) ≡ true
+  all-end [] n = refl
+  all-end (s ∷ sources) n =
+      both (ends_by_return (method_core folder s (status_by n s))) _ (ends n s.info s.members s.body)
+      (all-end sources (suc n))
+
+  pub ends-by_return : do_end_by_return program ≡ true
+  ends-by_return = all-end (sources_of units) 0
+
+  few : (n : ℕ) (s : Source) → has_few_parameters (method_core folder s (status_by n s)) ≡ true
+  few n s =
+      few-or_reason (is_overloaded (declared_in units).methods s.info) (is_unspelled s.body) (length s.info.parameters)
+      (option_or (where_so (nat_lt MAX_LOCALS (local_count (declared_in units) s)) Locals)
+      (where_so (is_recursive (record { 0 = n })) Recursive))
+
+  all-few : (sources : List Source) (n : ℕ) →
+      list_all has_few_parameters
+      (method_cores folder sources (statuses_from (declared_in units) is_recursive n sources)) ≡ true
+  all-few [] n = refl
+  all-few (s ∷ sources) n =
+      both (has_few_parameters (method_core folder s (status_by n s))) _ (few n s) (all-few sources (suc n))
+
+  pub parameters-few : are_parameters_few program ≡ true
+  parameters-few = all-few (sources_of units) 0

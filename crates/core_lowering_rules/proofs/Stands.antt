@@ -1,0 +1,65 @@
+-- What is known of a program and a method where code of the method is lowered.
+use Rattle.std.proofs.Common.{◌≡◌, true, false, cond, List, ◌∷◌, Some, map}
+use Rattle.std.proofs.Common.{ap, ◌∙◌, slice_get}
+use Rattle.std.specs.Prelude.{option_map}
+use Rattle.std.proofs.lemmas.Option.{slice_get-map}
+use Rattle.racer_base.specs.declared.ids.ClassId.{ClassId}
+use Rattle.racer_base.specs.declared.ids.FieldId.{FieldId}
+use Rattle.racer_base.specs.declared.ids.MethodId.{MethodId}
+use Rattle.racer_base.specs.declared.ids.Kind.{Kind}
+use Rattle.racer_base.specs.declared.ids.Kind.TheVariants.{Plain, Declared}
+use Rattle.java_resolver.specs.declared.infos.FieldInfo.{FieldInfo}
+use Rattle.java_resolver.specs.declared.infos.MethodInfo.{MethodInfo}
+use Rattle.java_resolver.specs.declared.scope.ScopeVariable.{ScopeVariable}
+use Rattle.core_code.specs.declared.parts.FieldCore.{FieldCore}
+use Rattle.core_code.specs.Core.{Core, Method}
+use Rattle.core_code.specs.Calls.{method_at, taken_by}
+use Rattle.core_code.specs.Calls as core_calls
+use Rattle.std.proofs.Common.{false, is_none}
+use Rattle.core_code.specs.KindCheck.{field_at, variable_at}
+use Rattle.core_lowering_rules.specs.Around.{Around, Result, Itself, Nothing, Value, is_analysed}
+use Rattle.core_lowering_rules.specs.Calls.{info_at}
+use Rattle.core_lowering_rules.specs.Programs.{field_core}
+use Rattle.core_lowering_rules.proofs.FoundElements.{Each}
+
+-- what a method takes
+abbrev pub taken_of : MethodInfo → List Kind
+taken_of info = cond info.is_static info.parameters (Declared info.class ∷ info.parameters)
+
+-- the program has this method, of which this is known
+pub record HasMethod (core : Core) (n : MethodId) (info : MethodInfo) : Type 0 where
+  pub method : Method
+  pub there : method_at core n ≡ Some method
+  pub takes : taken_by method ≡ taken_of info
+  pub gives : method.result ≡ info.result
+  pub analysed : is_none method.status ≡ true
+
+abbrev pub IsVariable : Method → ScopeVariable → Type 0
+IsVariable m v = variable_at m v.id ≡ Some v.kind
+
+-- what the method gives
+abbrev pub IsResult : Method → Result → Type 0
+IsResult m Itself =
+    (c : ClassId) × (variable_at m (record { 0 = 0 }) ≡ Some (Declared c)) × (m.result ≡ Declared c)
+IsResult m Nothing = m.result ≡ Plain
+IsResult m (Value k) = m.result ≡ k
+
+pub record Stands (core : Core) (m : Method) (around : Around) : Type 0 where
+  pub fields : core.fields ≡ map field_core around.folder.fields
+  pub methods : (n : MethodId) (info : MethodInfo) → info_at around n ≡ Some info → is_analysed around n ≡ true →
+      HasMethod core n info
+  pub unread : (n : MethodId) → is_analysed around n ≡ false → core_calls.is_analysed core n ≡ false
+  pub constructors : (n : MethodId) (info : MethodInfo) → info_at around n ≡ Some info → info.is_constructor ≡ true →
+      (info.result ≡ Declared info.class) × (info.is_static ≡ false)
+  pub variables : Each (IsVariable m) around.scope.variables
+  pub object : around.scope.is_static ≡ false →
+      variable_at m (record { 0 = 0 }) ≡ Some (Declared around.scope.class)
+  pub gives : IsResult m around.result
+
+-- the field of the program
+pub field-stands : {core : Core} {m : Method} {around : Around} → Stands core m around → (f : FieldId)
+    (info : FieldInfo) →
+    slice_get around.folder.fields f.0 ≡ Some info → field_at core f ≡ Some (field_core info)
+field-stands {around = around} s f info e =
+    ap (λ (fields : List FieldCore). slice_get fields f.0) s.fields
+    ∙ slice_get-map field_core around.folder.fields f.0 ∙ ap (option_map field_core) e

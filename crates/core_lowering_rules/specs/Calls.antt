@@ -1,0 +1,131 @@
+-- A contract of a public call rests on this: calls and object creations (JLS 15.9, 15.12), with the code of what stands
+-- before the name and of the arguments.
+use Rattle.std.specs.Prelude.{ℕ, suc, List, [], ◌++◌, Option, Some, None, if◌then◌else◌, slice_get}
+use Rattle.racer_base.specs.declared.ids.ClassId.{ClassId}
+use Rattle.racer_base.specs.declared.ids.MethodId.{MethodId}
+use Rattle.racer_base.specs.declared.ids.Kind.{Kind}
+use Rattle.racer_base.specs.declared.ids.Kind.TheVariants.{Declared, Other}
+use Rattle.racer_base.specs.declared.ids.Place.{Place}
+use Rattle.java_tree.specs.declared.words.Ident.{Ident}
+use Rattle.java_resolver.specs.declared.infos.MethodInfo.{MethodInfo}
+use Rattle.java_resolver.specs.Declarations.{constructor_name}
+use Rattle.java_resolver.specs.Meanings.{found}
+use Rattle.core_code.specs.declared.code.Op.TheVariants.{New, Drop, Outside, Call, Unread}
+use Rattle.core_lowering_rules.specs.ValueKinds.{ValueKind, Of}
+use Rattle.core_lowering_rules.specs.Around.{Around, Code, op_at, op, push_this, is_analysed}
+
+-- ---- what is called
+
+-- none of the folder's; a static method, or one of an object
+pub data Callee : Type 0 where
+  Missing : Callee
+  OfClass : MethodId → Callee
+  OfObject : MethodId → Callee
+
+abbrev pub info_at : Around → MethodId → Option MethodInfo
+info_at around m = slice_get around.folder.methods m.0
+
+abbrev pub callee_of : MethodId → Option MethodInfo → Callee
+callee_of m None = Missing
+callee_of m (Some info) = if info.is_static then OfClass m else OfObject m
+
+abbrev pub callee_found : Around → Option MethodId → Callee
+callee_found around None = Missing
+callee_found around (Some m) = callee_of m (info_at around m)
+
+-- the method of a class by its name and its number of arguments, of two the first
+abbrev pub callee_in : Around → ClassId → List ℕ → ℕ → Callee
+callee_in around c name count = callee_found around (found around.folder.methods c name count)
+
+-- where there is no object
+abbrev pub if_static : Callee → Callee
+if_static (OfClass m) = OfClass m
+if_static _ = Missing
+
+-- f(..)
+abbrev pub own_callee : Around → Ident → ℕ → Callee
+own_callee around x count =
+    if around.scope.is_static then if_static (callee_in around around.scope.class x.text count)
+    else callee_in around around.scope.class x.text count
+
+-- e.f(..), where e has this kind
+abbrev pub callee_of_value : Around → ValueKind → Ident → ℕ → Callee
+callee_of_value around (Of (Declared c)) x count = callee_in around c x.text count
+callee_of_value around _ x count = Missing
+
+-- the same, where the class that e names stands first
+abbrev pub callee_on : Around → Option ClassId → ValueKind → Ident → ℕ → Callee
+callee_on around (Some c) kind x count = if_static (callee_in around c x.text count)
+callee_on around None kind x count = callee_of_value around kind x count
+
+abbrev pub result_of : Option MethodInfo → ValueKind
+result_of None = Of Other
+result_of (Some info) = Of info.result
+
+abbrev pub result_kind : Around → Callee → ValueKind
+result_kind around Missing = Of Other
+result_kind around (OfClass m) = result_of (info_at around m)
+result_kind around (OfObject m) = result_of (info_at around m)
+
+-- ---- the call
+
+abbrev pub parameters_of : Option MethodInfo → List Kind
+parameters_of None = []
+parameters_of (Some info) = info.parameters
+
+-- what arguments are converted to: those of a method that is not analysed to nothing
+abbrev pub parameter_kinds : Around → MethodId → List Kind
+parameter_kinds around m = if is_analysed around m then parameters_of (info_at around m) else []
+
+-- the call with so many values, at the place of the name or of `new`
+abbrev pub call_at : Around → Place → MethodId → ℕ → Code
+call_at around place m n = op_at place (if is_analysed around m then Call m n else Unread m n)
+
+-- The arguments, converted to kinds.
+abbrev pub Passing : Type 0
+Passing = List Kind → Code
+
+-- f(..)
+abbrev pub called : Around → Place → ℕ → Passing → Callee → Code
+called around place n arguments Missing = arguments [] ++ op around (Outside n)
+called around place n arguments (OfClass m) = arguments (parameter_kinds around m) ++ call_at around place m n
+called around place n arguments (OfObject m) =
+    push_this around ++ arguments (parameter_kinds around m) ++ call_at around place m (suc n)
+
+-- e.f(..)
+abbrev pub called_on_value : Around → Place → Code → ℕ → Passing → Callee → Code
+called_on_value around place e n arguments Missing = e ++ arguments [] ++ op around (Outside (suc n))
+called_on_value around place e n arguments (OfClass m) =
+    e ++ op around Drop ++ arguments (parameter_kinds around m) ++ call_at around place m n
+called_on_value around place e n arguments (OfObject m) =
+    e ++ arguments (parameter_kinds around m) ++ call_at around place m (suc n)
+
+-- the same; behind the class that e names stands no object
+abbrev pub called_on : Around → Place → Option ClassId → Code → ℕ → Passing → Callee → Code
+called_on around place (Some c) e n arguments callee = called around place n arguments callee
+called_on around place None e n arguments callee = called_on_value around place e n arguments callee
+
+-- ---- object creations
+
+abbrev pub constructor_of : MethodId → Option MethodInfo → Option MethodId
+constructor_of m None = None
+constructor_of m (Some info) = if info.is_constructor then Some m else None
+
+abbrev pub constructor_among : Around → Option MethodId → Option MethodId
+constructor_among around None = None
+constructor_among around (Some m) = constructor_of m (info_at around m)
+
+-- the constructor of a class by its number of arguments, of two the first
+abbrev pub constructor_in : Around → ClassId → ℕ → Option MethodId
+constructor_in around c count = constructor_among around (found around.folder.methods c constructor_name count)
+
+-- new C(..), where this constructor is found
+abbrev pub made_by : Around → Place → ClassId → ℕ → Passing → Option MethodId → Code
+made_by around place c n arguments None = arguments [] ++ op_at place (Outside n)
+made_by around place c n arguments (Some m) =
+    op_at place (New c) ++ arguments (parameter_kinds around m) ++ call_at around place m (suc n)
+
+-- new T(..), where T has this kind
+abbrev pub made : Around → Place → Kind → ℕ → Passing → Code
+made around place (Declared c) n arguments = made_by around place c n arguments (constructor_in around c n)
+made around place _ n arguments = arguments [] ++ op_at place (Outside n)

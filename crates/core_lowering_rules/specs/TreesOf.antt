@@ -1,0 +1,126 @@
+-- A contract of a public call rests on this: the code's trees as trees that are lowered.
+use Rattle.std.specs.Prelude.{ℕ, Bool, ◌||◌, List, Option, Some, None, map, option_map, codes, bytes_eq}
+use Rattle.std.specs.Prelude.{if◌then◌else◌}
+use Rattle.java_lexer.specs.declared.token.TokenKind.{TokenKind}
+use Rattle.java_lexer.specs.declared.token.TokenKind.TheVariants as token
+use Rattle.java_tree.specs.declared.words.Ident.{Ident}
+use Rattle.java_tree.specs.declared.expressions.Expression.{Expression}
+use Rattle.java_tree.specs.declared.expressions.Initialiser.{Initialiser}
+use Rattle.java_tree.specs.declared.expressions.ArrayTree.{ArrayTree}
+use Rattle.java_tree.specs.declared.expressions.Expression.TheOpen.{Expression-F, Initialiser-F, ArrayTree-F}
+use Rattle.java_tree.specs.declared.expressions.Expression.TheOpen as expression
+use Rattle.java_tree.specs.declared.expressions.Expression.TheFolds.{fold-Expression, fold-Initialiser}
+use Rattle.java_tree.specs.declared.expressions.Expression.TheFolds.{fold-ArrayTree}
+use Rattle.java_tree.specs.declared.statements.VariableTree.{VariableTree}
+use Rattle.java_tree.specs.declared.statements.StartTree.{StartTree}
+use Rattle.java_tree.specs.declared.statements.StartTree.TheVariants as start
+use Rattle.java_tree.specs.declared.statements.Statement.{Statement}
+use Rattle.java_tree.specs.declared.statements.Statement.TheOpen.{Statement-F}
+use Rattle.java_tree.specs.declared.statements.Statement.TheOpen as statement
+use Rattle.java_tree.specs.declared.statements.Statement.TheFolds.{fold-Statement}
+use Rattle.java_tree.specs.View.{ty_of}
+use Rattle.core_lowering_rules.specs.Trees.{Expr, Prim, Text, Null, This, ClassOf, Read, Unary, Cast, Logical, Binary}
+use Rattle.core_lowering_rules.specs.Trees.{Conditional, Assign, Combine, Count, Paren, Call, CallOn, New, NewArray, NewItems}
+use Rattle.core_lowering_rules.specs.Trees.{Access, Named, Selected, Element, NoAccess, Init, Value, Items, Inits, Variable}
+use Rattle.core_lowering_rules.specs.Trees.{Start, Declares, Runs, Stmt, Run, Local, If, IfElse, While, For, ForEach, Sync}
+use Rattle.core_lowering_rules.specs.Trees.{Return, Block, Empty, pack_exprs, pack_inits, pack_stmts}
+
+-- ---- expressions
+
+-- the access that an expression is
+abbrev pub access_of : Expr → Access
+access_of (Read a) = a
+access_of _ = NoAccess
+
+-- a literal (JLS 15.8.1)
+abbrev pub literal : TokenKind → List ℕ → Expr
+literal token.Text text = Text
+literal token.Fixed text = if bytes_eq text (codes "null") then Null else Prim
+literal _ text = Prim
+
+abbrev pub is_assignment : List ℕ → Bool
+is_assignment op = bytes_eq op (codes "=")
+
+abbrev pub assignment : List ℕ → Access → Expr → Expr
+assignment op a b = if is_assignment op then Assign a b else Combine a b
+
+abbrev pub is_logical : List ℕ → Bool
+is_logical op = bytes_eq op (codes "&&") || bytes_eq op (codes "||")
+
+abbrev pub binary : List ℕ → Expr → Expr → Expr
+binary op a b = if is_logical op then Logical a b else Binary a b
+
+abbrev pub is_count : List ℕ → Bool
+is_count op = bytes_eq op (codes "++") || bytes_eq op (codes "--")
+
+abbrev pub prefix : List ℕ → Expr → Expr
+prefix op a = if is_count op then Count (access_of a) else Unary a
+
+abbrev pub call : Option Expr → Ident → List Expr → Expr
+call None x all = Call x (pack_exprs all)
+call (Some a) x all = CallOn a x (pack_exprs all)
+
+abbrev pub expr_step : Expression-F Expr Init Inits → Expr
+expr_step (expression.Assign a op b) = assignment op (access_of a.value) b.value
+expr_step (expression.Conditional a b c) = Conditional a.value b.value c.value
+expr_step (expression.Binary a op b) = binary op a.value b.value
+expr_step (expression.InstanceOf a t) = Unary a.value
+expr_step (expression.Prefix op a) = prefix op a.value
+expr_step (expression.Cast t a) = Cast (ty_of t) a.value
+expr_step (expression.Postfix a op) = Count (access_of a.value)
+expr_step (expression.Literal k text) = literal k text
+expr_step expression.This = This
+expr_step (expression.Name x) = Read (Named x)
+expr_step (expression.Paren a) = Paren a.value
+expr_step (expression.Field a x) = Read (Selected a.value x)
+expr_step (expression.Index a i) = Read (Element a.value i.value)
+expr_step (expression.Call a x all) = call (option_map (λ b. b.value) a) x all.items
+expr_step (expression.ClassOf xs) = ClassOf xs.items
+expr_step (expression.New place t all) = New place (ty_of t) (pack_exprs all.items)
+expr_step (expression.NewArray place t lengths n) = NewArray place (pack_exprs lengths.items)
+expr_step (expression.NewItems place t n items) = NewItems place items
+
+abbrev pub init_step : Initialiser-F Expr Init Inits → Init
+init_step (expression.Value e) = Value e
+init_step (expression.Items items) = Items items
+
+abbrev pub array_step : ArrayTree-F Expr Init Inits → Inits
+array_step a = pack_inits a.items.items
+
+abbrev pub expr_of : Expression → Expr
+expr_of = fold-Expression Expr Init Inits expr_step init_step array_step
+
+abbrev pub init_of : Initialiser → Init
+init_of = fold-Initialiser Expr Init Inits expr_step init_step array_step
+
+abbrev pub items_of : ArrayTree → Inits
+items_of = fold-ArrayTree Expr Init Inits expr_step init_step array_step
+
+-- ---- statements
+
+abbrev pub variable_of : VariableTree → Variable
+variable_of d = record { name = d.name; initialiser = option_map init_of d.initialiser }
+
+abbrev pub start_of : StartTree → Start
+start_of (start.Local l) = Declares (ty_of l.kind) (map variable_of l.variables)
+start_of (start.Expressions all) = Runs (pack_exprs (map expr_of all))
+
+abbrev pub if_of : Expr → Stmt → Option Stmt → Stmt
+if_of e s None = If e s
+if_of e s (Some t) = IfElse e s t
+
+abbrev pub stmt_step : Statement-F Stmt → Stmt
+stmt_step (statement.Block ss) = Block (pack_stmts ss.items)
+stmt_step (statement.Local l) = Local (ty_of l.kind) (map variable_of l.variables)
+stmt_step (statement.Expr e) = Run (expr_of e)
+stmt_step (statement.If e s t) = if_of (expr_of e) s.value (option_map (λ b. b.value) t)
+stmt_step (statement.While e s) = While (expr_of e) s.value
+stmt_step (statement.For i condition updates s) =
+    For (start_of i) (option_map expr_of condition) (pack_exprs (map expr_of updates.items)) s.value
+stmt_step (statement.ForEach is_final t x e s) = ForEach (ty_of t) x (expr_of e) s.value
+stmt_step (statement.Sync place e ss) = Sync place (expr_of e) (pack_stmts ss.items)
+stmt_step (statement.Return e) = Return (option_map expr_of e)
+stmt_step statement.Empty = Empty
+
+abbrev pub stmt_of : Statement → Stmt
+stmt_of = fold-Statement Stmt stmt_step

@@ -1,0 +1,163 @@
+-- Methods that are passed, by rank, run alone: they come back with what their calls give.
+use Rattle.std.proofs.Common.{◌≡◌, ℕ, zero, suc, ◌<◌, Bool, true, false, cond, List, [], ◌∷◌, ◌++◌}
+use Rattle.std.proofs.Common.{Option, None, Some, refl, sym, ap, ◌∙◌, subst, drop, arith, nat_lt, is_none, is_some}
+use Rattle.std.proofs.Common.{not, ◌||◌}
+use Rattle.std.proofs.Common.{slice_get}
+use Rattle.std.proofs.lemmas.Bool.{ltb-true}
+use Rattle.std.specs.List.{list_all}
+use Rattle.racer_base.specs.declared.ids.MethodId.{MethodId}
+use Rattle.core_code.specs.declared.code.Op.{Op as CoreOp}
+use Rattle.core_code.specs.declared.code.Reason.{Reason}
+use Rattle.core_code.specs.declared.code.Op.TheVariants.{Prim, Call}
+use Rattle.core_code.specs.Calls.{called_by, is_analysed, known_below, method_at, rank_of}
+use Rattle.core_code.specs.CallFacts.{ends_by_return, has_ranks}
+use Rattle.core_code.specs.Core.{Core, Method}
+use Rattle.core_code.specs.Tree.{Tree, Step as Operate, Nothing, Then, Either, Again, Held, can_end, steps_of}
+use Rattle.core_code.proofs.BoolParts.{first_part, last_part}
+use Rattle.core_code.proofs.ByRank.{known_below-lower}
+use Rattle.core_semantics.specs.declared.answer.Holder.{Holder}
+use Rattle.core_semantics.specs.declared.object.Value.{Value}
+use Rattle.core_semantics.specs.State.{Frame, Store, before}
+use Rattle.core_semantics.specs.Steps.{After, monitor_of}
+use Rattle.core_ways.specs.declared.part.WayPart.{WayPart}
+use Rattle.core_ways.specs.Ways.{Trip, code_at, passed, trip_along, trip_of}
+use Rattle.core_ways.specs.Alone.{alone}
+use Rattle.core_ways.proofs.Alone.{Leads, weaker}
+use Rattle.core_ways.proofs.AloneMethods.{AreRight, calls-pass, code-there, may_call}
+use Rattle.core_ways.proofs.Callees.{do_pass, lower-calls, lower-parts, pass-both}
+use Rattle.core_ways.proofs.Trips.{trip_of-parts}
+use Rattle.core_ways_laws.specs.Values.{Behind, Back, Calls, End, Point, call_given, call_of, entry_point, go, go_on}
+use Rattle.core_ways_laws.specs.Values.{go_op}
+use Rattle.core_ways_laws.specs.Values.{on_ok, point_popped, received, returned_to, top_value, value_back, values_passed}
+use Rattle.core_ways_laws.specs.Led.{GoesPast, IsBack, IsEnd, MethodGoes, at_point, back_at}
+use Rattle.core_ways_laws.proofs.PassedValues.{EndsAs, go-ends, goes-past}
+
+-- ---- what calls give, from what the methods of smaller ranks give
+
+module _ (core : Core) (f g : Calls) (test : MethodId → Bool) (same : (m : MethodId) → test m ≡ true → f m ≡ g m) where
+  op-same : (op : CoreOp) → list_all test (called_by op ++ []) ≡ true →
+      ◌≡◌ {A = Point → Option End} (λ at. go_op core f op at) (λ at. go_op core g op at)
+  op-same (Call m n) all = (λ i at. elim (method_at core m) as (λ _. Option End) [
+    | None ↦ None
+    | Some method ↦
+        received method (values_passed at n)
+        (returned_to at n (same m (first_part (test m) true all) i (values_passed at n) at.store))
+  ])
+  op-same op all = refl
+
+  pub go-same : (code : Tree) → do_pass test (steps_of code) ≡ true →
+      ◌≡◌ {A = Point → Option End} (λ at. go core f code at) (λ at. go core g code at)
+  go-same (Operate site place op) all = op-same op all
+  go-same Nothing all = refl
+  go-same (Then first rest) all =
+      let both = pass-both test (steps_of first) (steps_of rest) all in
+      let early = go-same first (first_part (do_pass test (steps_of first)) (do_pass test (steps_of rest)) both) in
+      let late = go-same rest (last_part (do_pass test (steps_of first)) (do_pass test (steps_of rest)) both) in
+      (λ i at. go_on (early i at) (late i))
+  go-same (Either left right) all =
+      let both = pass-both test (steps_of left) (steps_of right) all in
+      let l = go-same left (first_part (do_pass test (steps_of left)) (do_pass test (steps_of right)) both) in
+      let r = go-same right (last_part (do_pass test (steps_of left)) (do_pass test (steps_of right)) both) in
+      (λ i at. cond (can_end right) (r i at) (l i at))
+  go-same (Again body) all = refl
+  go-same (Held place body) all =
+      let inside = go-same body all in
+      (λ i at. on_ok (monitor_of (top_value at)) (inside i (point_popped at 1)))
+
+abbrev lower : Core → MethodId → MethodId → Bool
+lower core m n = nat_lt (rank_of core n) (rank_of core m)
+
+abbrev inner_calls : Core → MethodId → Calls
+inner_calls core m = known_below (λ values store. None) (call_given core) core (rank_of core m)
+
+-- passing code of an analysed method, with what the calls of all methods give
+pub go-closed : (core : Core) → has_ranks core ≡ true → (m : MethodId) (method : Method) →
+    method_at core m ≡ Some method → is_analysed core m ≡ true →
+    ◌≡◌ {A = Point → Option End} (λ at. go core (inner_calls core m) method.code at)
+    (λ at. go core (call_of core) method.code at)
+go-closed core ranks m method is analysed =
+    go-same core (inner_calls core m) (call_of core) (lower core m)
+    (λ n low. known_below-lower (λ values store. None) (call_given core) core (rank_of core m) n
+    (ltb-true (rank_of core n) (rank_of core m) low)) method.code
+    (lower-calls core m method.code ranks (code-there core m method is analysed))
+
+-- a call of an analysed method gives what its code gives
+pub call_of-code : (core : Core) → has_ranks core ≡ true → (m : MethodId) (method : Method) →
+    method_at core m ≡ Some method → is_analysed core m ≡ true →
+    ◌≡◌ {A = List Value → Store → Option (Store × Value)} (call_of core m)
+    (λ values store. value_back (go core (call_of core) method.code (entry_point method values store)))
+call_of-code core ranks m method is analysed =
+    (λ i values store. elim (is i) as (λ _. Option (Store × Value)) [
+      | None ↦ None
+      | Some x ↦ value_back (go core (inner_calls core m) x.code (entry_point x values store))
+    ])
+    ∙ (λ i values store.
+    value_back (go-closed core ranks m method is analysed i (entry_point method values store)))
+
+-- ---- runs
+
+none-locked : (xs : List Holder) → drop 0 xs ≡ xs
+none-locked [] = refl
+none-locked (x ∷ xs) = refl
+
+-- code that cannot end comes back
+comes-back : (o : Option End) (callers : List Frame) (locks : List Holder) (a : After) → EndsAs false o →
+    IsEnd o [] 0 callers locks a → IsBack (value_back o) callers locks a
+comes-back None callers locks a ends is = is
+comes-back (Some (Behind at)) callers locks a ends is = absurd cc
+comes-back (Some (Back store value)) callers locks a ends is =
+    is ∙ ap (λ (ls : List Holder). back_at callers ls store value) (none-locked locks)
+
+never-ends : (o : Option Reason) (b : Bool) → is_none o ≡ true → (is_some o || not b) ≡ true → b ≡ false
+never-ends None true none e = absurd cc
+never-ends None false none e = refl
+never-ends (Some r) b none e = absurd cc
+
+pub each-method : (p : Method → Bool) (ms : List Method) (i : ℕ) (method : Method) → list_all p ms ≡ true →
+    slice_get ms i ≡ Some method → p method ≡ true
+each-method p [] i method all is = absurd cc
+each-method p (m ∷ ms) zero method all is =
+    let same : m ≡ method = cc in ap p (sym same) ∙ first_part (p m) (list_all p ms) all
+each-method p (m ∷ ms) (suc i) method all is = each-method p ms i method (last_part (p m) (list_all p ms) all) is
+
+-- the code of an analysed method cannot end
+pub code-never-ends : (core : Core) (right : AreRight core) (m : MethodId) (method : Method) →
+    method_at core m ≡ Some method → is_analysed core m ≡ true → can_end method.code ≡ false
+code-never-ends core right m method is analysed =
+    never-ends method.status (can_end method.code)
+    (sym (ap (λ (o : Option Method). elim o as (λ _. Bool) [ None ↦ false | Some x ↦ is_none x.status ]) is) ∙ analysed)
+    (each-method ends_by_return core.methods m.0 method right.ends is)
+
+pub method-goes : (core : Core) (right : AreRight core) (k : ℕ) (m : MethodId) → rank_of core m < k →
+    is_analysed core m ≡ true → MethodGoes core (trip_of core) (call_of core) m
+method-goes core right zero m low analysed method is = absurd (omega arith)
+method-goes core right (suc k) m low analysed method is =
+    let code = method.code in
+    let at : code_at core m ≡ Some code = code-there core m method is analysed in
+    let calls : do_pass (may_call core m) (steps_of code) ≡ true = calls-pass core right m method is at in
+    let holds : (n : MethodId) → may_call core m n ≡ true → MethodGoes core (trip_of core) (call_of core) n = λ n may.
+    method-goes core right k n
+    (let below = ltb-true (rank_of core n) (rank_of core m)
+    (first_part (nat_lt (rank_of core n) (rank_of core m)) (is_analysed core n) may) in omega arith)
+    (last_part (nat_lt (rank_of core n) (rank_of core m)) (is_analysed core n) may) in
+    let past : GoesPast core (trip_of core) (call_of core) code =
+    goes-past core (trip_of core) (call_of core) (may_call core m) holds code calls in
+    let ends : can_end code ≡ false = code-never-ends core right m method is analysed in
+    let trip : trip_of core m ≡ trip_along (trip_of core) (passed 0 code) =
+    trip_of-parts core m (lower-parts core m right.ranks)
+    ∙ ap (λ (o : Option Tree).
+    trip_along (trip_of core) (elim o as (λ _. List WayPart) [ None ↦ [] | Some c ↦ passed 0 c ])) at in
+    λ values store callers locks.
+    let p : Point = entry_point method values store in
+    let o : Option End = go core (call_of core) code p in
+    let a : After = at_point p (before code []) 0 callers locks in
+    subst (λ (x : Option (Store × Value)). Leads core (trip_of core m) a (IsBack x callers locks))
+    (sym (ap (λ (c : List Value → Store → Option (Store × Value)). c values store)
+    (call_of-code core right.ranks m method is analysed)))
+    (subst (λ (t : Trip). Leads core t a (IsBack (value_back o) callers locks)) (sym trip)
+    (λ rest. weaker (IsEnd o [] 0 callers locks) (IsBack (value_back o) callers locks) rest
+    (alone core (trip_along (trip_of core) (passed 0 code)).steps
+    ((trip_along (trip_of core) (passed 0 code)).turns ++ rest) a)
+    (λ x. comes-back o callers locks x
+    (subst (λ (b : Bool). EndsAs b o) ends (go-ends core (call_of core) code p)))
+    (past 0 p [] callers locks rest)))

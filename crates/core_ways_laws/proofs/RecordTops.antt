@@ -1,0 +1,462 @@
+-- Going towards a record, by rank, run alone: the thread comes to where the record's way leads.
+use Rattle.std.proofs.Common.{◌≡◌, ℕ, zero, suc, ◌+◌, ◌<◌, Bool, true, false, cond, ◌||◌, List, [], ◌∷◌, ◌++◌}
+use Rattle.std.proofs.Common.{Option, None, Some, is_none, nat_lt, option_map, slice_get, slice_index_or, drop, inl}
+use Rattle.std.proofs.Common.{inr}
+use Rattle.std.proofs.Common.{⊎_elim, refl, sym, ap, subst, ◌∙◌, arith}
+use Rattle.std.proofs.lemmas.Bool.{lt-ltb, ltb-true}
+use Rattle.std.specs.List.{list_all}
+use Rattle.std.specs.Option.{option_and_then}
+use Rattle.std.specs.Prelude.{Result, Ok, Err}
+use Rattle.racer_base.specs.declared.ids.FieldId.{FieldId}
+use Rattle.racer_base.specs.declared.ids.MethodId.{MethodId}
+use Rattle.racer_base.specs.declared.ids.SiteId.{SiteId}
+use Rattle.racer_base.specs.declared.ids.Touch.{Touch}
+use Rattle.access_paths.specs.Paths.{last_of}
+use Rattle.core_code.specs.declared.code.Op.{Op as CoreOp}
+use Rattle.core_code.specs.declared.code.Op.TheVariants.{Prim, Call}
+use Rattle.core_code.specs.Calls.{called_by, is_analysed, known_below, method_at, rank_of}
+use Rattle.core_code.specs.CallFacts.{has_ranks}
+use Rattle.core_code.specs.Core.{Core, Method}
+use Rattle.core_code.specs.Facts.{are_sites_in_order, is_in_order}
+use Rattle.core_code.specs.Tree.{Tree, Step as Operate, Nothing, Then, Either, Again, Held, Operation, op_at}
+use Rattle.core_code.specs.Tree.{steps_of}
+use Rattle.core_code.proofs.BoolParts.{first_part, last_part}
+use Rattle.core_code.proofs.ByRank.{known_below-lower}
+use Rattle.core_code.proofs.Membership.{In}
+use Rattle.access_domain.specs.declared.access.Access.{Access}
+use Rattle.access_domain.specs.Findings.{Findings, Known, Large, Table, Whole, outcome_from}
+use Rattle.access_domain.specs.Given.{Given, given_of}
+use Rattle.access_domain.specs.Origins.{touch_of}
+use Rattle.access_domain.specs.Summaries.{known_given, known_of, known_of_callees}
+use Rattle.core_semantics.specs.declared.answer.Holder.{Holder}
+use Rattle.core_semantics.specs.declared.answer.Turn.{Turn}
+use Rattle.core_semantics.specs.declared.answer.Why.{Why}
+use Rattle.core_semantics.specs.declared.answer.Why.TheVariants.{UnreadCall as UnreadWhy}
+use Rattle.core_semantics.specs.declared.object.Object.{Object}
+use Rattle.core_semantics.specs.declared.object.Value.{Value}
+use Rattle.core_semantics.specs.declared.object.Value.TheVariants.{Null}
+use Rattle.core_semantics.specs.State.{Frame, Store, Todo, Operate as DoOp, before}
+use Rattle.core_semantics.specs.Steps.{After, Next, Spot, Sticks, base_of, called_method, entering, monitor_of}
+use Rattle.core_semantics.specs.Steps.{on_base}
+use Rattle.core_semantics.specs.Steps.{on_object, passed_from}
+use Rattle.core_ways.specs.declared.part.WayPart.{WayPart}
+use Rattle.core_ways.specs.declared.part.WayPart.TheVariants.{Step}
+use Rattle.core_ways.specs.Alone.{Alone, ComesTo, alone, do_end_before, locks_round, onward}
+use Rattle.core_ways.specs.Ways.{code_at, entered, has_site, reached, record_at, records_held}
+use Rattle.core_ways.specs.Ways.{towards_record, trip_along, trip_of, way_given, way_of, way_parts}
+use Rattle.core_ways.proofs.Alone.{Leads, one-more}
+use Rattle.core_ways.proofs.AloneMethods.{AreRight, calls-pass, code-there, may_call}
+use Rattle.core_ways.proofs.Callees.{do_pass, lower-calls, lower-site, pass-both}
+use Rattle.core_ways_laws.specs.Values.{Calls, Point, call_of, entry_point, go, on_ok, point_popped, received, top_value}
+use Rattle.core_ways_laws.specs.Values.{values_passed}
+use Rattle.core_ways_laws.specs.Tops.{Top, Tops, behind_first, one_lock_more, to, to_record, top_at, top_given, top_of}
+use Rattle.core_ways_laws.specs.Led.{Arrives, IsOfRecord, IsTop, RecordGoes, at_point}
+use Rattle.core_ways_laws.specs.Sites.{Comes, IsThrough, IsTouch, field_of}
+use Rattle.core_ways_laws.proofs.CalledValues.{each-method, method-goes}
+use Rattle.core_ways_laws.proofs.PassedValues.{spot_at}
+use Rattle.core_ways_laws.proofs.ReachedValues.{OnTop, goes-to, to-has}
+use Rattle.core_ways_laws.proofs.WaySites.{comes-from}
+
+-- ---- records
+
+in-slice : {X : Type 0} (xs : List X) (i : ℕ) (x : X) → slice_get xs i ≡ Some x → In xs x
+in-slice [] i x is = absurd cc
+in-slice (y ∷ xs) zero x is = inl cc
+in-slice (y ∷ xs) (suc i) x is = inr (in-slice xs i x is)
+
+-- a record of a method is one of its findings
+pub record FoundAt (core : Core) (m : MethodId) (i : ℕ) (r : Access) : Type 0 where
+  pub found : Findings
+  pub known : known_of core m ≡ Some (Whole found)
+  pub has : slice_get found.records i ≡ Some r
+
+among : (core : Core) (m : MethodId) (i : ℕ) (r : Access) (o : Option Known) → known_of core m ≡ o →
+    slice_get (records_held (option_map outcome_from o)) i ≡ Some r → FoundAt core m i r
+among core m i r None is at = absurd cc
+among core m i r (Some Large) is at = absurd cc
+among core m i r (Some (Whole found)) is at = record { found = found; known = is; has = at }
+
+pub found-at : (core : Core) (m : MethodId) (i : ℕ) (r : Access) → record_at core m i ≡ Some r → FoundAt core m i r
+found-at core m i r at = among core m i r (known_of core m) refl at
+
+pub record-there : (core : Core) (m : MethodId) (i : ℕ) (r : Access) (found : Findings) →
+    known_of core m ≡ Some (Whole found) → slice_get found.records i ≡ Some r → record_at core m i ≡ Some r
+record-there core m i r found known has =
+    ap (λ (o : Option Known). slice_get (records_held (option_map outcome_from o)) i) known ∙ has
+
+flag-of : (b : Bool) (k x : Known) → cond b (Some k) None ≡ Some x → b ≡ true
+flag-of true k x e = refl
+flag-of false k x e = absurd cc
+
+-- what is known is known of analysed methods alone
+pub known-analysed : (core : Core) (m : MethodId) (method : Method) (x : Known) → method_at core m ≡ Some method →
+    known_of core m ≡ Some x → is_analysed core m ≡ true
+known-analysed core m method x there known =
+    let table : Table = known_of_callees core m in
+    ap (λ (o : Option Method). elim o as (λ _. Bool) [ None ↦ false | Some y ↦ is_none y.status ]) there
+    ∙ flag-of (is_none method.status) (known_given core table method) x
+    (sym (ap (λ (o : Option Method). option_and_then (λ of.
+    cond (is_none of.status) (Some (known_given core table of)) None) o) there) ∙ known)
+
+-- no record is known of no method
+unknown : (core : Core) (m : MethodId) (i : ℕ) (r : Access) → method_at core m ≡ None → record_at core m i ≡ Some r →
+    ⊥
+unknown core m i r none at =
+    let f : FoundAt core m i r = found-at core m i r at in
+    let table : Table = known_of_callees core m in
+    let wrong : None ≡ Some (Whole f.found) =
+    sym (ap (λ (o : Option Method). option_and_then (λ of.
+    cond (is_none of.status) (Some (known_given core table of)) None) o) none) ∙ f.known in
+    absurd cc
+
+-- where a record of a method comes from
+pub record-comes : (core : Core) → are_sites_in_order core ≡ true → (m : MethodId) (method : Method) (i : ℕ)
+    (r : Access) → method_at core m ≡ Some method → record_at core m i ≡ Some r →
+    Comes (given_of core (known_of core) method.main) method.code false r
+record-comes core order m method i r there at =
+    let f : FoundAt core m i r = found-at core m i r at in
+    comes-from core m method f.found r there (each-method is_in_order core.methods m.0 method order there) f.known
+    (in-slice f.found.records i r f.has)
+
+-- ---- what comes next, from what comes next in methods of smaller ranks
+
+module _ (core : Core) (calls : Calls) (f g : Tops) (site : SiteId) (below : Option ℕ) (test : MethodId → Bool)
+    (same : (m : MethodId) → test m ≡ true → f m ≡ g m) where
+  op-same : (o : Option ℕ) (op : CoreOp) → list_all test (called_by op ++ []) ≡ true →
+      ◌≡◌ {A = Point → Option Top} (λ at. top_at core f o op at) (λ at. top_at core g o op at)
+  op-same None op all = refl
+  op-same (Some j) (Call m n) all = (λ i at. elim (method_at core m) as (λ _. Option Top) [
+    | None ↦ None
+    | Some method ↦
+        received method (values_passed at n)
+        (same m (first_part (test m) true all) i j (values_passed at n) at.store)
+  ])
+  op-same (Some j) op all = refl
+
+  to-same : (code : Tree) → do_pass test (steps_of code) ≡ true →
+      ◌≡◌ {A = Point → Option Top} (λ at. to core calls f site below code at)
+      (λ at. to core calls g site below code at)
+  to-same (Operate s place op) all = op-same below op all
+  to-same Nothing all = refl
+  to-same (Then first rest) all =
+      let both = pass-both test (steps_of first) (steps_of rest) all in
+      let early = to-same first (first_part (do_pass test (steps_of first)) (do_pass test (steps_of rest)) both) in
+      let late = to-same rest (last_part (do_pass test (steps_of first)) (do_pass test (steps_of rest)) both) in
+      (λ i at. cond (has_site first site) (early i at) (behind_first (go core calls first at) (late i)))
+  to-same (Either left right) all =
+      let both = pass-both test (steps_of left) (steps_of right) all in
+      let l = to-same left (first_part (do_pass test (steps_of left)) (do_pass test (steps_of right)) both) in
+      let r = to-same right (last_part (do_pass test (steps_of left)) (do_pass test (steps_of right)) both) in
+      (λ i at. cond (has_site left site) (l i at) (r i at))
+  to-same (Again body) all = to-same body all
+  to-same (Held place body) all =
+      let inside = to-same body all in
+      (λ i at. on_ok (monitor_of (top_value at)) (option_map one_lock_more (inside i (point_popped at 1))))
+
+abbrev inner_tops : Core → MethodId → Tops
+inner_tops core m = known_below (λ i values store. None) (top_given core) core (rank_of core m)
+
+-- what comes next on the way to a record is what comes next there on the way to the record's site
+pub top_of-code : (core : Core) → has_ranks core ≡ true → (m : MethodId) (method : Method) (i : ℕ) (r : Access) →
+    method_at core m ≡ Some method → is_analysed core m ≡ true → record_at core m i ≡ Some r →
+    ◌≡◌ {A = List Value → Store → Option Top} (top_of core m i)
+    (λ values store. to core (call_of core) (top_of core) r.site r.below method.code (entry_point method values store))
+top_of-code core ranks m method i r there analysed at =
+    (λ k values store. elim (there k) as (λ _. Option Top) [
+      | None ↦ None
+      | Some x ↦ to_record core (inner_tops core m) (at k) x values store
+    ])
+    ∙ (λ k values store.
+    to-same core (call_of core) (inner_tops core m) (top_of core) r.site r.below
+    (λ n. nat_lt (rank_of core n) (rank_of core m))
+    (λ n low. known_below-lower (λ i values store. None) (top_given core) core (rank_of core m) n
+    (ltb-true (rank_of core n) (rank_of core m) low)) method.code
+    (lower-calls core m method.code ranks (code-there core m method there analysed)) k
+    (entry_point method values store))
+
+-- ---- the parts of a way
+
+abbrev inner_ways : Core → MethodId → MethodId → ℕ → List WayPart
+inner_ways core m = known_below (λ i. []) (way_given core) core (rank_of core m)
+
+abbrev from_site : (MethodId → ℕ → List WayPart) → Access → Tree → Option Operation → List WayPart
+from_site ways r code o = elim o [ None ↦ [] | Some x ↦ reached 0 r.site code ++ entered ways r.below x.op ]
+
+parts-at : (core : Core) (m : MethodId) (i : ℕ) (code : Tree) (r : Access) (o : Operation) →
+    code_at core m ≡ Some code → record_at core m i ≡ Some r → op_at code r.site ≡ Some o →
+    way_parts core m i ≡ reached 0 r.site code ++ entered (inner_ways core m) r.below o.op
+parts-at core m i code r o is at there =
+    (λ k. elim (is k) as (λ _. List WayPart) [
+      | None ↦ []
+      | Some c ↦ towards_record (inner_ways core m) (at k) c
+    ])
+    ∙ ap (from_site (inner_ways core m) r code) there
+
+-- ---- entering a callee towards its record
+
+module _ (core : Core) (n : MethodId) (j : ℕ) (inner : Access) (has : record_at core n j ≡ Some inner)
+    (goes : RecordGoes core n j) where
+  on-receiver : (r : Result Object Why) (top : Option Top) (locks : List Holder) (rest : List Turn)
+      (f : After → Alone) (next : Next After) → ComesTo (IsTop top locks) rest (onward f next) →
+      ComesTo (IsTop (on_ok r top) locks) rest (onward f (on_base r (λ o. next)))
+  on-receiver (Ok o) top locks rest f next comes = comes
+  on-receiver (Err why) top locks rest f next comes = tt
+
+  enters : (count : ℕ) (at : Point) (todo : List Todo) (locked : ℕ) (callers : List Frame) (locks : List Holder)
+      (rest : List Turn) (o : Option Method) → method_at core n ≡ o →
+      let way = way_of core n j in
+      ComesTo (IsTop (elim o as (λ _. Option Top) [
+        | None ↦ None
+        | Some method ↦
+            received method (values_passed at count) (top_of core n j (values_passed at count) at.store)
+      ]) locks) rest
+      (onward (λ a. alone core way.steps (way.turns ++ rest) a)
+      (elim o as (λ _. Next After) [
+        | None ↦ Sticks UnreadWhy
+        | Some method ↦ called_method (spot_at at todo locked callers locks) method count
+      ]))
+  enters count at todo locked callers locks rest None is = tt
+  enters count at todo locked callers locks rest (Some method) is =
+      let way = way_of core n j in
+      let s : Spot = spot_at at todo locked callers locks in
+      let back : Frame = record { vars = at.vars; stack = drop count at.stack; todo = todo; locked = locked } in
+      let top : Option Top = top_of core n j (values_passed at count) at.store in
+      let f : After → Alone = λ a. alone core way.steps (way.turns ++ rest) a in
+      let comes = goes method inner is has (values_passed at count) at.store (back ∷ callers) locks rest in
+      elim method.is_static as (λ b. ComesTo (IsTop
+      (cond b top (on_ok (base_of (slice_index_or (values_passed at count) 0 Null)) top)) locks) rest
+      (onward f (cond b (entering s method count)
+      (on_object (slice_index_or (passed_from s.frame count) 0 Null) (λ o. entering s method count))))) [
+        | true ↦ comes
+        | false ↦
+            on-receiver (base_of (slice_index_or (values_passed at count) 0 Null)) top locks rest f
+            (entering s method count) comes
+      ]
+
+  arrives-through : (count : ℕ) →
+      Arrives core (trip_of core) (way_parts core) (Some j) (Call n count)
+      (top_at core (top_of core) (Some j) (Call n count))
+  arrives-through count place locked at todo callers locks =
+      let way = way_of core n j in
+      one-more core way.turns way.steps (1 + way.steps)
+      (at_point at (DoOp place (Call n count) ∷ todo) locked callers locks)
+      (IsTop (top_at core (top_of core) (Some j) (Call n count) at) locks) (omega arith)
+      (λ rest. enters count at todo locked callers locks rest (method_at core n) refl)
+
+arrives-here : (core : Core) (op : CoreOp) →
+    Arrives core (trip_of core) (way_parts core) None op (top_at core (top_of core) None op)
+arrives-here core op place locked at todo callers locks = λ rest. (
+  refl,
+  record { place = place; todo = todo; locked = locked; callers = callers; monitors = []; count = refl; is = refl },
+)
+
+-- ---- ways to records
+
+-- what the program keeps, with its sites in order
+pub record AreInOrder (core : Core) : Type 0 where
+  pub right : AreRight core
+  pub order : are_sites_in_order core ≡ true
+
+abbrev Reach : Core → Option ℕ → CoreOp → Type 0
+Reach core below op = Arrives core (trip_of core) (way_parts core) below op (top_at core (top_of core) below op)
+
+same-entered : (core : Core) (m n : MethodId) (j : ℕ) → rank_of core n < rank_of core m →
+    inner_ways core m n j ≡ way_parts core n j
+same-entered core m n j low =
+    ap (λ (ways : ℕ → List WayPart). ways j)
+    (known_below-lower (λ i. []) (way_given core) core (rank_of core m) n low)
+
+-- what a record needs of the record that it comes from
+pub record Reaches (core : Core) (m : MethodId) (below : Option ℕ) (op : CoreOp) : Type 0 where
+  pub arrives : Arrives core (trip_of core) (way_parts core) below op (top_at core (top_of core) below op)
+  pub same : entered (inner_ways core m) below op ≡ entered (way_parts core) below op
+
+reaches-here : (core : Core) (m : MethodId) (below : Option ℕ) (op : CoreOp) → below ≡ None → Reaches core m below op
+reaches-here core m below op none =
+    subst (λ (b : Option ℕ). Reaches core m b op) (sym none)
+    (record { arrives = arrives-here core op; same = refl })
+
+reaches-through : (core : Core) (m n : MethodId) (j count : ℕ) (inner : Access) (below : Option ℕ) (op : CoreOp) →
+    below ≡ Some j → op ≡ Call n count → record_at core n j ≡ Some inner → RecordGoes core n j →
+    rank_of core n < rank_of core m → Reaches core m below op
+reaches-through core m n j count inner below op some call has goes low =
+    subst (λ (b : Option ℕ). Reaches core m b op) (sym some)
+    (subst (λ (x : CoreOp). Reaches core m (Some j) x) (sym call)
+    (record {
+      arrives = arrives-through core n j inner has goes count;
+      same = ap (λ (ps : List WayPart). Step ∷ ps) (same-entered core m n j low);
+    }))
+
+module _ (core : Core) (facts : AreInOrder core) where
+  -- from the operation at the record's site on
+  by-site : (m : MethodId) (method : Method) (i : ℕ) (r : Access) (there : method_at core m ≡ Some method)
+      (at : record_at core m i ≡ Some r) (o : Operation) → op_at method.code r.site ≡ Some o →
+      do_end_before r.site method.code ≡ true → Reaches core m r.below o.op →
+      (values : List Value) (store : Store) (callers : List Frame) (locks : List Holder) →
+      Leads core (way_of core m i) (at_point (entry_point method values store) (before method.code []) 0 callers locks)
+      (IsTop (top_of core m i values store) locks)
+  by-site m method i r there at o is ends reaches values store callers locks =
+      let f : FoundAt core m i r = found-at core m i r at in
+      let analysed : is_analysed core m ≡ true = known-analysed core m method (Whole f.found) there f.known in
+      let code : code_at core m ≡ Some method.code = code-there core m method there analysed in
+      let parts : way_parts core m i ≡ reached 0 r.site method.code ++ entered (way_parts core) r.below o.op =
+      parts-at core m i method.code r o code at is
+      ∙ ap (λ (ps : List WayPart). reached 0 r.site method.code ++ ps) reaches.same in
+      let p : Point = entry_point method values store in
+      let a : After = at_point p (before method.code []) 0 callers locks in
+      subst (λ (top : Option Top). Leads core (way_of core m i) a (IsTop top locks))
+      (sym (ap (λ (t : List Value → Store → Option Top). t values store)
+      (top_of-code core facts.right.ranks m method i r there analysed at)))
+      (subst (λ (ps : List WayPart). Leads core (trip_along (trip_of core) ps) a
+      (IsTop (to core (call_of core) (top_of core) r.site r.below method.code p) locks)) (sym parts)
+      (goes-to core (trip_of core) (call_of core) (top_of core) (way_parts core) r.site r.below (may_call core m)
+      (λ n may. method-goes core facts.right (suc (rank_of core n)) n (omega arith)
+      (last_part (nat_lt (rank_of core n) (rank_of core m)) (is_analysed core n) may)) o reaches.arrives method.code
+      (calls-pass core facts.right m method there code) is ends 0 p [] callers locks))
+
+  pub record-goes : (k : ℕ) (m : MethodId) (i : ℕ) → rank_of core m < k → RecordGoes core m i
+  record-goes zero m i low method r there at = absurd (omega arith)
+  record-goes (suc k) m i low method r there at =
+      let f : FoundAt core m i r = found-at core m i r at in
+      let analysed : is_analysed core m ≡ true = known-analysed core m method (Whole f.found) there f.known in
+      let code : code_at core m ≡ Some method.code = code-there core m method there analysed in
+      let g : Given = given_of core (known_of core) method.main in
+      let c : Comes g method.code false r = record-comes core facts.order m method i r there at in
+      let flag : Bool = false || nat_lt 0 (locks_round r.site method.code) in
+      by-site m method i r there at c.operation c.at c.ends
+      (⊎_elim
+      (λ (own : IsTouch c.operation.op flag r). reaches-here core m r.below c.operation.op own.below)
+      (λ (of : IsThrough g c.operation.op flag r).
+      let lower : rank_of core of.callee < rank_of core m =
+      lower-site core m method.code r.site c.operation of.callee of.count facts.right.ranks code c.at of.calls in
+      reaches-through core m of.callee of.index of.count of.inner r.below c.operation.op of.below of.calls
+      (record-there core of.callee of.index of.inner of.found of.known of.has)
+      (record-goes k of.callee of.index (omega arith)) lower)
+      c.from)
+
+-- ---- what comes next is the record's access, within as many locks as its flag says
+
+-- a flag that counts these locks, and an operation that touches this
+abbrev IsSo : Bool → Touch → Option FieldId → ℕ → Top → Type 0
+IsSo flag kind field n top =
+    (nat_lt 0 top.locks ≡ (flag || nat_lt 0 n)) × (touch_of top.op ≡ Some kind) × (field_of top.op ≡ field)
+
+or-true : (b : Bool) → (b || true) ≡ true
+or-true true = refl
+or-true false = refl
+
+or-false : (b : Bool) → b ≡ (b || false)
+or-false true = refl
+or-false false = refl
+
+one-deeper : (flag : Bool) (kind : Touch) (field : Option FieldId) (n : ℕ) (top : Top) → IsSo flag kind field n top →
+    IsSo flag kind field (suc n) (one_lock_more top)
+one-deeper flag kind field n top so = (
+  lt-ltb 0 (suc top.locks) (omega arith)
+      ∙ sym (ap (λ (b : Bool). flag || b) (lt-ltb 0 (suc n) (omega arith)) ∙ or-true flag),
+  so.1,
+  so.2,
+)
+
+-- what is received has it
+received-so : (P : Top → Type 0) (method : Method) (values : List Value) (o : Option Top) → OnTop P o →
+    OnTop P (received method values o)
+received-so P method values o has =
+    elim method.is_static as (λ b. OnTop P (cond b o (on_ok (base_of (slice_index_or values 0 Null)) o))) [
+      | true ↦ has
+      | false ↦
+          elim (base_of (slice_index_or values 0 Null)) as (λ r. OnTop P (on_ok r o)) [ Ok x ↦ has | Err e ↦ tt ]
+    ]
+
+entered-so : (core : Core) (P : Top → Type 0) (n : MethodId) (j : ℕ) (values : List Value) (store : Store)
+    (o : Option Method) → OnTop P (top_of core n j values store) →
+    OnTop P (elim o as (λ _. Option Top) [
+      | None ↦ None
+      | Some method ↦ received method values (top_of core n j values store)
+    ])
+entered-so core P n j values store None has = tt
+entered-so core P n j values store (Some method) has =
+    received-so P method values (top_of core n j values store) has
+
+map-on : (P Q : Top → Type 0) (o : Option Top) → ((top : Top) → P top → Q top) → OnTop P o → OnTop Q o
+map-on P Q None f has = has
+map-on P Q (Some top) f has = f top has
+
+-- from what the operation at the site leads to
+abbrev Leading : Core → Bool → Touch → Option FieldId → Option ℕ → CoreOp → Type 0
+Leading core flag kind field below op =
+    (at : Point) → OnTop (IsSo flag kind field 0) (top_at core (top_of core) below op at)
+
+leads-here : (core : Core) (kind : Touch) (field : Option FieldId) (below : Option ℕ) (op : CoreOp) → below ≡ None →
+    touch_of op ≡ Some kind → field_of op ≡ field → Leading core false kind field below op
+leads-here core kind field below op none touches touched =
+    subst (λ (b : Option ℕ). Leading core false kind field b op) (sym none) (λ at. (refl, touches, touched))
+
+leads-through : (core : Core) (n : MethodId) (j count : ℕ) (inner : Access) (kind : Touch) (field : Option FieldId)
+    (below : Option ℕ) (op : CoreOp) → below ≡ Some j → op ≡ Call n count → kind ≡ inner.kind →
+    field ≡ last_of inner.path.fields →
+    ((values : List Value) (store : Store) → OnTop (IsOfRecord inner) (top_of core n j values store)) →
+    Leading core inner.locked kind field below op
+leads-through core n j count inner kind field below op some call same same_field has =
+    subst (λ (b : Option ℕ). Leading core inner.locked kind field b op) (sym some)
+    (subst (λ (x : CoreOp). Leading core inner.locked kind field (Some j) x) (sym call)
+    (λ at. entered-so core (IsSo inner.locked kind field 0) n j (values_passed at count) at.store (method_at core n)
+    (map-on (IsOfRecord inner) (IsSo inner.locked kind field 0) (top_of core n j (values_passed at count) at.store)
+    (λ top (of : IsOfRecord inner top).
+    (of.held ∙ or-false inner.locked, of.touches ∙ ap Some (sym same), of.field ∙ sym same_field))
+    (has (values_passed at count) at.store))))
+
+module _ (core : Core) (facts : AreInOrder core) where
+  so-at : (m : MethodId) (method : Method) (i : ℕ) (r : Access) (there : method_at core m ≡ Some method)
+      (at : record_at core m i ≡ Some r) (o : Operation) (flag : Bool) → op_at method.code r.site ≡ Some o →
+      Leading core flag r.kind (last_of r.path.fields) r.below o.op →
+      r.locked ≡ (flag || nat_lt 0 (locks_round r.site method.code)) →
+      (values : List Value) (store : Store) → OnTop (IsOfRecord r) (top_of core m i values store)
+  so-at m method i r there at o flag is leading held values store =
+      let f : FoundAt core m i r = found-at core m i r at in
+      let analysed : is_analysed core m ≡ true = known-analysed core m method (Whole f.found) there f.known in
+      let field : Option FieldId = last_of r.path.fields in
+      let n : ℕ = locks_round r.site method.code in
+      subst (λ (top : Option Top). OnTop (IsOfRecord r) top)
+      (sym (ap (λ (t : List Value → Store → Option Top). t values store)
+      (top_of-code core facts.right.ranks m method i r there analysed at)))
+      (map-on (IsSo flag r.kind field n) (IsOfRecord r)
+      (to core (call_of core) (top_of core) r.site r.below method.code (entry_point method values store))
+      (λ top so. record { held = so.0 ∙ sym held; touches = so.1; field = so.2 })
+      (to-has core (call_of core) (top_of core) r.site r.below o (IsSo flag r.kind field) (one-deeper flag r.kind field)
+      leading method.code is (entry_point method values store)))
+
+  of-callee : (m : MethodId) (i : ℕ) (r : Access) → record_at core m i ≡ Some r →
+      ((method : Method) → method_at core m ≡ Some method → (values : List Value) (store : Store) →
+      OnTop (IsOfRecord r) (top_of core m i values store)) →
+      (o : Option Method) → method_at core m ≡ o → (values : List Value) (store : Store) →
+      OnTop (IsOfRecord r) (top_of core m i values store)
+  of-callee m i r at so None there = absurd (unknown core m i r there at)
+  of-callee m i r at so (Some method) there = so method there
+
+  pub record-so : (k : ℕ) (m : MethodId) (method : Method) (i : ℕ) (r : Access) → rank_of core m < k →
+      method_at core m ≡ Some method → record_at core m i ≡ Some r → (values : List Value) (store : Store) →
+      OnTop (IsOfRecord r) (top_of core m i values store)
+  record-so zero m method i r low there at = absurd (omega arith)
+  record-so (suc k) m method i r low there at =
+      let f : FoundAt core m i r = found-at core m i r at in
+      let analysed : is_analysed core m ≡ true = known-analysed core m method (Whole f.found) there f.known in
+      let code : code_at core m ≡ Some method.code = code-there core m method there analysed in
+      let g : Given = given_of core (known_of core) method.main in
+      let c : Comes g method.code false r = record-comes core facts.order m method i r there at in
+      let n : ℕ = locks_round r.site method.code in
+      ⊎_elim
+      (λ (own : IsTouch c.operation.op (false || nat_lt 0 n) r).
+      so-at m method i r there at c.operation false c.at
+      (leads-here core r.kind (last_of r.path.fields) r.below c.operation.op own.below own.touches own.field) own.held)
+      (λ (of : IsThrough g c.operation.op (false || nat_lt 0 n) r).
+      let lower : rank_of core of.callee < rank_of core m =
+      lower-site core m method.code r.site c.operation of.callee of.count facts.right.ranks code c.at of.calls in
+      let has : record_at core of.callee of.index ≡ Some of.inner =
+      record-there core of.callee of.index of.inner of.found of.known of.has in
+      so-at m method i r there at c.operation of.inner.locked c.at
+      (leads-through core of.callee of.index of.count of.inner r.kind (last_of r.path.fields) r.below c.operation.op
+      of.below of.calls of.kind of.field
+      (of-callee of.callee of.index of.inner has (λ inside is. record-so k of.callee inside of.index of.inner
+      (omega arith) is has) (method_at core of.callee) refl)) of.held)
+      c.from

@@ -1,8 +1,0 @@
-use Rattle.std.proofs.Common.{sym, ◌∙◌}
-use Rattle.java_tree.specs.View.{init_of}
-use Rattle.java_units.proofs.FoundExpressions.{one_init}
-use Rattle.expression_reader.proofs.laws.one_placed_initialiser.Goals as goal
-
-pub returns : goal.returns
-returns c tokens a b x y =
-    (one_init (init_of a) (init_of b) x.formed y.formed (x.spells ∙ sym y.spells), x.stands ∙ sym y.stands)

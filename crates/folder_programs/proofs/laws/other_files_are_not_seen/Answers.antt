@@ -1,5 +1,0 @@
-use Rattle.folder_programs.proofs.OtherFiles.{one_program}
-use Rattle.folder_programs.proofs.laws.other_files_are_not_seen.Goals as goal
-
-pub returns : goal.returns
-returns c a b program names bytes is = one_program a b program names bytes is

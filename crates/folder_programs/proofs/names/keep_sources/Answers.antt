@@ -1,7 +1,0 @@
-use Rattle.std.proofs.Common.{string_bytes, rules}
-use Rattle.std.proofs.lemmas.List.Elements.{filter_from_retain}
-use Rattle.folder_programs.specs.Sources.{is_java}
-use Rattle.folder_programs.proofs.names.keep_sources.Goals as goal
-
-pub returns : goal.returns
-returns c = filter_from_retain _ (λ name. is_java (string_bytes name)) (λ p x b q h. search rules) _ _ _ c.retain.ensures.filtered

@@ -1,9 +1,0 @@
-use Rattle.std.proofs.Common.{◌≡◌, length, rules}
-use Rattle.folder_programs.proofs.Added.{added_behind}
-use Rattle.folder_programs.proofs.units.add_bytes.Goals as goal
-
-pub returns-clause-added : goal.returns-clause-added
-returns-clause-added c =
-    let number : c.in_ok-file.file.0 ≡ length c.args.read.now.units.items = search rules in
-    added_behind c.args.bytes.now c.args.read.now c.put_unit.new.units c.in_ok-file.file c.in-Ok.unit
-    number c.in_ok-put_unit.ensures.ok c.in-Ok.ensures.read

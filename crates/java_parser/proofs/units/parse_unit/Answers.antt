@@ -1,0 +1,15 @@
+use Rattle.std.proofs.Common.{List, map, subst}
+use Rattle.java_lexer.specs.declared.token.Token.{Token}
+use Rattle.java_parser_grammar.specs.Units.{IsUnit}
+use Rattle.java_parser.specs.ReadTypes.{AreRead}
+use Rattle.java_parser.proofs.UnitSteps.{is_unit}
+use Rattle.java_parser.proofs.units.parse_unit.Goals as goal
+
+pub returns-clause-unit : goal.returns-clause-unit
+returns-clause-unit c =
+    let tokens = c.as_slice-tokens.result.now in
+    let u = c.in_ok-unit.field-0 in
+    subst (λ (ts : List Token). IsUnit ts u) c.as_slice-tokens.ensures
+    (is_unit tokens (map (λ t. t.now) c.in_ok-types.types.items) u c.in_ok-check_brackets.ensures.fine
+    c.in_ok-types.ensures.ok
+    (subst (λ ts. AreRead (map (λ t. t.now) ts) u) c.as_slice.ensures.value c.in_ok-unit.ensures))

@@ -1,0 +1,48 @@
+-- No public contract rests on this: reading the modifiers of fields.
+use Rattle.std.specs.Prelude.{◌≡◌, ℕ, false, List, [], ◌∷◌, Option, Some, None, codes, not, ◌&&◌, if◌then◌else◌}
+use Rattle.java_tree.specs.declared.words.Spelled.{Spelled}
+use Rattle.java_tree.specs.Formed.{Each}
+use Rattle.java_tree.specs.Spelling.{modifiers_onto}
+use Rattle.java_tree.specs.Trees.{Modifier, Word, Annotated}
+use Rattle.java_parser_grammar.specs.Lookahead.{begins_with}
+use Rattle.java_parser_grammar.specs.MethodReading.{annotation_at}
+use Rattle.java_parser_grammar.specs.Taking.{◌>>=◌, match_option, after_sign, is_keyword_kind}
+use Rattle.java_parser_grammar.specs.FieldDivisions.{FormedFieldModifier, is_field_modifier}
+
+-- the word of a field in front, and the tokens behind it
+abbrev pub after_field_modifier : List Spelled → Option (List ℕ × List Spelled)
+after_field_modifier [] = None
+after_field_modifier (t ∷ ts) =
+    if is_keyword_kind t.kind && (not t.glued && is_field_modifier t.text) then Some (t.text, ts) else None
+
+-- a word or an annotation and the tokens behind it, where one stands
+abbrev pub field_modifier_at : List Spelled → Option (Option (Modifier × List Spelled))
+field_modifier_at ts = match_option (after_sign (codes "@") ts) (match_option (after_field_modifier ts) (Some None)
+    (λ w. Some (Some (Word w.0, w.1)))) (λ r. do
+      first ← annotation_at r
+      Some (Some (Annotated first.0, first.1)))
+
+-- tokens that do not go on with annotations and words of a field
+pub record EndsModifiers (rest : List Spelled) : Type 0 where
+  pub no_point : after_sign (codes ".") rest ≡ None
+  pub no_open : begins_with (codes "(") rest ≡ false
+  pub ended : field_modifier_at rest ≡ Some None
+
+-- the tokens are these modifiers, and then others
+pub record Spells (ts : List Spelled) (ms : List Modifier) (rest : List Spelled) : Type 0 where
+  pub formed : Each FormedFieldModifier ms
+  pub spelled : ts ≡ modifiers_onto ms rest
+
+-- whatever modifiers stand in front, with tokens behind them that do not go on, some of them end here
+abbrev pub SkipsModifiers : List Spelled → List Spelled → Type 0
+SkipsModifiers ts rest = (ms : List Modifier) (end : List Spelled) → Spells ts ms end → EndsModifiers end
+    → (others : List Modifier) × Spells rest others end
+
+-- no modifiers stand in front, not even none of them, with tokens behind them that do not go on
+abbrev pub NoModifiers : List Spelled → Type 0
+NoModifiers ts = (ms : List Modifier) (end : List Spelled) → Spells ts ms end → EndsModifiers end → ⊥
+
+-- these stand in front, and no others
+pub record AreModifiers (ms : List Modifier) (ts rest : List Spelled) : Type 0 where
+  pub spells : Spells ts ms rest
+  pub only : (others : List Modifier) (end : List Spelled) → Spells ts others end → EndsModifiers end → rest ≡ end

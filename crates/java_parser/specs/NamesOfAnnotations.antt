@@ -1,0 +1,31 @@
+-- No public contract rests on this: the names of an annotation, and what stands behind them.
+use Rattle.std.specs.Prelude.{◌≡◌, ℕ, Bool, true, ◌&&◌, List, [], ◌∷◌, Option, Some, None, IsTrue, codes}
+use Rattle.std.specs.Prelude.{if◌then◌else◌}
+use Rattle.std.specs.Prelude.{not, ◌||◌}
+use Rattle.java_lexer.specs.declared.token.Token.{Token}
+use Rattle.java_tree.specs.declared.methods.AnnotationTree.{AnnotationTree}
+use Rattle.java_tree.specs.Formed.{has_some}
+use Rattle.java_tree.specs.Spelling.{names_onto}
+use Rattle.java_tree.specs.View.{annotation_of}
+use Rattle.java_parser_grammar.specs.Lookahead.{begins_with}
+use Rattle.java_parser_grammar.specs.Tokens.{plain_all, is_sign_token, is_name, signed}
+
+abbrev pub after_point : List Token → Option (Token × List Token)
+after_point [] = None
+after_point (p ∷ []) = None
+after_point (p ∷ n ∷ ts) = if is_sign_token (codes ".") p && is_name n then Some (n, ts) else None
+
+-- the first name and the tokens spell these names with the rest behind them
+pub record AreNames (first : Token) (ts : List Token) (names : List (List ℕ)) (rest : List Token) : Type 0 where
+  pub some : IsTrue (has_some names)
+  pub spelled : names_onto names (plain_all rest) ≡ plain_all (first ∷ ts)
+
+abbrev pub fits_names : List Token → Bool
+fits_names [] = true
+fits_names (t ∷ ts) = signed (codes "(") (t ∷ ts)
+
+-- the tokens behind an `@` are this annotation
+pub record IsInner (ts : List Token) (n : AnnotationTree) : Type 0 where
+  pub named : IsTrue (has_some n.names)
+  pub spelled : names_onto (annotation_of n).names (annotation_of n).arguments ≡ plain_all ts
+  pub bracketed : IsTrue (not (has_some n.arguments) || begins_with (codes "(") n.arguments)

@@ -1,0 +1,30 @@
+-- No public contract rests on this: the types of a file, one after the other.
+use Rattle.std.specs.Prelude.{◌≡◌, ◌⊎◌, true, false, not, List, [], ◌∷◌, ◌++◌, filter}
+use Rattle.std.specs.List.{AllZip}
+use Rattle.racer_base.specs.declared.ids.Place.{Place}
+use Rattle.java_lexer.specs.declared.token.Token.{Token}
+use Rattle.java_parser_grammar.specs.declared.unit.ClassTree.{ClassTree}
+use Rattle.java_parser_grammar.specs.declared.unit.Unit as unit
+use Rattle.java_parser_grammar.specs.Units.{BeginsAt, is_read, IsClass}
+
+pub record AddsClass (type : List Token) (a b : unit.Unit) : Type 0 where
+  pub read : is_read type ≡ true
+  pub class : ClassTree
+  pub is : IsClass type class
+  pub classes : b.classes ≡ a.classes ++ class ∷ []
+  pub skipped : b.skipped ≡ a.skipped
+
+pub record SkipsType (type : List Token) (a b : unit.Unit) : Type 0 where
+  pub read : is_read type ≡ false
+  pub place : Place
+  pub begins : BeginsAt type place
+  pub classes : b.classes ≡ a.classes
+  pub skipped : b.skipped ≡ a.skipped ++ place ∷ []
+
+abbrev pub AddsType : List Token → unit.Unit → unit.Unit → Type 0
+AddsType type a b = AddsClass type a b ⊎ SkipsType type a b
+
+-- those that are read are the classes, and the others are skipped
+pub record AreRead (types : List (List Token)) (u : unit.Unit) : Type 0 where
+  pub classes : AllZip IsClass (filter is_read types) u.classes
+  pub skipped : AllZip BeginsAt (filter (λ type. not (is_read type)) types) u.skipped

@@ -1,0 +1,71 @@
+//! What is counted or looked for among the tokens of a method.
+ghost use Rattle.std.specs.Prelude.{◌≡◌, ◌<◌, ◌≤◌, ◌^◌, suc, length, codes};
+ghost use Rattle.std.specs.List.{list_any};
+ghost use Rattle.java_parser_grammar.specs.Pieces.{items_of};
+ghost use Rattle.java_parser_grammar.specs.Heads.{commas_among, parameters_among, has_static, has_synchronized};
+
+use super::items::next_item;
+use super::tests_of_tokens::{begins_angle, signed, worded};
+use java_lexer::Token;
+use java_parser_types::reading::look::is_keyword;
+
+/// How many commas stand outside brackets, `<` and `>` among these.
+fn commas(tokens: &[Token]) -> u32
+    requires { length tokens.now < 2 ^ 32 }
+    ensures count { result ≡ commas_among 0 (items_of tokens.now) }
+    ensures few { result ≤ length tokens.now }
+{
+    let mut angles: u32 = 0;
+    let mut count: u32 = 0;
+    let mut rest = tokens;
+    while let Some((item, after)) = next_item(rest) {
+        if signed(item, "<") {
+            angles += 1;
+        } else if begins_angle(item) {
+            angles = angles.saturating_sub(1);
+        } else if signed(item, ",") && angles == 0 {
+            count += 1;
+        }
+        rest = after;
+    }
+    count
+}
+
+/// The number of parameters between these parentheses: none, or one more than the commas.
+pub fn parameters(inner: &[Token]) -> u32
+    requires { suc (length inner.now) < 2 ^ 32 }
+    ensures { result ≡ parameters_among (items_of inner.now) }
+{
+    match next_item(inner) {
+        None => 0,
+        Some(_) => commas(inner) + 1,
+    }
+}
+
+/// Whether `static` stands outside brackets.
+pub fn has_static(front: &[Token]) -> bool
+    ensures { result ≡ has_static front.now }
+{
+    let mut rest = front;
+    while let Some((item, after)) = next_item(rest) {
+        if worded(item, "static") {
+            return true;
+        }
+        rest = after;
+    }
+    false
+}
+
+/// Whether `synchronized` stands among the tokens.
+pub fn has_synchronized(tokens: &[Token]) -> bool
+    ensures { result ≡ has_synchronized tokens.now }
+{
+    let mut rest = tokens;
+    while let Some((token, after)) = rest.split_first() {
+        if is_keyword(token, "synchronized") {
+            return true;
+        }
+        rest = after;
+    }
+    false
+}

@@ -1,0 +1,72 @@
+//! Tests of tokens by the first of them.
+ghost use Rattle.std.specs.Prelude.{◌≡◌, map};
+ghost use Rattle.java_parser_grammar.specs.Tokens.{is_name, is_angle, is_keyword_of, begins, signed, worded};
+
+use java_lexer::{Token, TokenKind};
+use java_parser_types::reading::look::{is_keyword, is_listed, is_name, is_sign};
+
+/// Whether the first token is this sign.
+pub fn signed(tokens: &[Token], text: &str) -> bool
+    ensures { result ≡ signed text.now tokens.now }
+{
+    match tokens {
+        [token, ..] => is_sign(token, text),
+        [] => false,
+    }
+}
+
+/// Whether the first token is this keyword.
+pub fn worded(tokens: &[Token], text: &str) -> bool
+    ensures { result ≡ worded text.now tokens.now }
+{
+    match tokens {
+        [token, ..] => is_keyword(token, text),
+        [] => false,
+    }
+}
+
+/// Whether the first token is a name.
+pub fn named(tokens: &[Token]) -> bool
+    ensures { result ≡ begins is_name tokens.now }
+{
+    match tokens {
+        [token, ..] => is_name(token),
+        [] => false,
+    }
+}
+
+/// Whether the token is one of these keywords.
+pub fn is_keyword_of(token: &Token, words: &[&[u8]]) -> bool
+    ensures { result ≡ is_keyword_of (map (λ word. word.now) words.now) token.now }
+{
+    matches!(token.kind, TokenKind::Keyword)
+        && !token.glued
+        && is_listed(words, token.text.as_str().as_bytes())
+}
+
+/// Whether the first token is one of these keywords.
+pub fn worded_among(tokens: &[Token], words: &[&[u8]]) -> bool
+    ensures { result ≡ begins (is_keyword_of (map (λ word. word.now) words.now)) tokens.now }
+{
+    match tokens {
+        [token, ..] => is_keyword_of(token, words),
+        [] => false,
+    }
+}
+
+/// Whether the token is a `>`, glued or not.
+pub fn is_angle(token: &Token) -> bool
+    ensures { result ≡ is_angle token.now }
+{
+    matches!(token.kind, TokenKind::Sign) && token.text.as_str() == ">"
+}
+
+/// Whether the first token is a `>`, glued or not.
+pub fn begins_angle(tokens: &[Token]) -> bool
+    ensures { result ≡ begins is_angle tokens.now }
+{
+    match tokens {
+        [token, ..] => is_angle(token),
+        [] => false,
+    }
+}

@@ -1,0 +1,82 @@
+//! Files (JLS 7.3).
+ghost use Rattle.std.specs.Prelude.{◌≡◌, ◌∷◌, ◌++◌, [], not, map, filter, IfOk, IfErr, OnOk, OnErr};
+ghost use Rattle.std.specs.List.{AllZip};
+ghost use Rattle.java_parser_grammar.specs.Units.{is_read, IsClass, BeginsAt, IsUnit, IsFault};
+ghost use Rattle.java_parser.specs.ReadTypes.{AddsType, AreRead};
+
+use super::classes::{class, read_name};
+use crate::balance::check_brackets;
+use crate::types::types;
+use java_lexer::{Lexed, Token};
+use java_parser_grammar::{ClassTree, ParseFault, Unit};
+use racer_base::{Items, Memory};
+use std::alloc::Global;
+
+/// Puts a class behind others. It is let go where memory is refused.
+fn put_class(classes: &mut Items<ClassTree>, class: ClassTree) -> Result<(), Memory>
+    ensures { OnOk result (classes.new ≡ classes.old ++ class ∷ []) }
+{
+    classes.push(class)
+}
+
+/// One more type.
+fn add_type(alloc: Global, unit: &mut Unit, tokens: &[Token]) -> Result<(), Memory>
+    ensures { IfOk result (λ _. AddsType tokens.now unit.old unit.new) }
+{
+    match read_name(tokens) {
+        Some(name) => {
+            let next = class(alloc, name, tokens)?;
+            put_class(&mut unit.classes, next)?;
+        }
+        None => {
+            let [first, ..] = tokens else {
+                return Err(Memory);
+            };
+            unit.skipped.push(first.place)?;
+        }
+    }
+    Ok(())
+}
+
+/// The unit that these types are.
+fn unit(alloc: Global, types: &[&[Token]]) -> Result<Unit, Memory>
+    ensures { IfOk result (λ unit. AreRead (map (λ t. t.now) types.now) unit) }
+{
+    let mut unit = Unit {
+        classes: Items::new(alloc),
+        skipped: Items::new(alloc),
+    };
+    for tokens in types {
+        if let Err(memory) = add_type(alloc, &mut unit, tokens) {
+            let_go(unit);
+            return Err(memory);
+        }
+    }
+    Ok(unit)
+}
+
+/// The unit that a file is, or its first fault: a bracket that does not match, or else one that stands too deep, or
+/// else what does not fit.
+pub fn parse_unit(alloc: Global, lexed: &Lexed) -> Result<Unit, ParseFault>
+    ensures unit { IfOk result (λ unit. IsUnit lexed.now.tokens unit) }
+    ensures fault { IfErr result (λ fault. IsFault lexed.now.tokens lexed.now.end fault) }
+{
+    let tokens = lexed.tokens.as_slice();
+    check_brackets(alloc, tokens)?;
+    let types = types(alloc, tokens, lexed.end)?;
+    Ok(unit(alloc, types.as_slice())?)
+}
+
+/// Lets a unit go. Each type of tree is taken apart here, so a crate that looks at units need not show how.
+pub fn let_go(_unit: Unit) {}
+
+/// Lets units go.
+pub fn let_all_go(_units: Vec<Unit>) {}
+
+/// Puts a unit behind others. It is let go where memory is refused.
+pub fn put_unit(units: &mut Vec<Unit>, unit: Unit) -> Result<(), Memory>
+    ensures ok { OnOk result (units.new.items ≡ units.old.items ++ unit ∷ []) }
+    ensures err { OnErr result (units.new.items ≡ units.old.items) }
+{
+    Ok(units.push(unit)?)
+}

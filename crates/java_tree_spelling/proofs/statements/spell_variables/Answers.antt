@@ -1,0 +1,25 @@
+use Rattle.std.proofs.Common.{◌∷◌, codes, map, refl}
+use Rattle.java_tree.specs.Words.{sign}
+use Rattle.java_tree.specs.Spelling.{behind_commas, variable_onto}
+use Rattle.java_tree.specs.View.{variable_of}
+use Rattle.java_tree_spelling.proofs.Chains.{behind, turn}
+use Rattle.java_tree_spelling.proofs.statements.spell_variables.Goals as goal
+
+pub loop-other-preserved : goal.loop-other-preserved
+loop-other-preserved c =
+    let x = c.other-item.result in
+    record {
+      lasts = λ h.
+          c.loop-other.invariant.lasts (c.put_comma.ensures.lasts (c.spell_variable-in-loop-other.ensures.lasts h));
+      leaves = turn (λ vs. behind_commas variable_onto (map variable_of vs))
+          (λ rest. sign (codes ",") ∷ (variable_onto (variable_of x) rest))
+          _ _ c.loop-other.other-index x c.spell_variable.new.out
+          c.loop-other.out c.spell_variable-in-loop-other.new.out
+          (λ ys rest. refl)
+          c.loop-other-test.true c.other-item.is c.loop-other.invariant.leaves
+          (λ h. c.put_comma.ensures.lasts (c.spell_variable-in-loop-other.ensures.lasts h))
+          (behind c.loop-other.out c.put_comma.new.out c.spell_variable-in-loop-other.new.out
+          (λ rest. sign (codes ",") ∷ rest) (λ rest. variable_onto (variable_of x) rest)
+          c.put_comma.ensures.puts c.spell_variable-in-loop-other.ensures.lasts
+          c.spell_variable-in-loop-other.ensures.puts);
+    }

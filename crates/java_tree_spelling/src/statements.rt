@@ -1,0 +1,214 @@
+//! The tokens of statements (JLS 14).
+ghost use Rattle.std.specs.Prelude.{◌∷◌, ◌++◌, map, codes, option_map};
+ghost use Rattle.java_tree.specs.Words.{keyword, identifier, sign};
+ghost use Rattle.java_tree.specs.Trees.{Local, Sync, Return, pack_exprs, pack_stmts};
+ghost use Rattle.java_tree.specs.Spelling.{final_onto, ty_onto, expr_onto, exprs_onto, maybe_expr_onto};
+ghost use Rattle.java_tree.specs.Spelling.{commas_onto, variable_onto, locals_onto, start_onto, stmt_onto};
+ghost use Rattle.java_tree.specs.Spelling.{block_onto, stmts_onto};
+ghost use Rattle.java_tree.specs.View.{name_of, ty_of, expr_of, variable_of, locals_of, start_of, stmt_of};
+ghost use Rattle.java_tree_spelling.specs.Puts.{Lasts, Puts};
+
+use super::expressions::{spell_before, spell_expression, spell_initialiser, spell_list};
+use super::put::{
+    put_close, put_comma, put_end, put_final, put_keyword, put_name, put_open, put_sign,
+};
+use super::tokens::Tokens;
+use super::types::spell_type;
+use java_tree::{Expression, Ident, LocalsTree, StartTree, Statement, TypeTree, VariableTree};
+
+/// A variable, and what it begins with.
+fn spell_variable(out: &mut Tokens, variable: &VariableTree)
+    ensures lasts { Lasts out.old out.new }
+    ensures puts { Puts (variable_onto (variable_of variable.now)) out.old out.new }
+{
+    put_name(out, variable.name.text.as_str());
+    if let Some(initialiser) = &variable.initialiser {
+        put_sign(out, "=");
+        spell_initialiser(out, initialiser);
+    }
+}
+
+/// Variables with commas between them.
+fn spell_variables(out: &mut Tokens, variables: &[VariableTree])
+    ensures lasts { Lasts out.old out.new }
+    ensures puts { Puts (commas_onto variable_onto (map variable_of variables.now)) out.old out.new }
+{
+    let [first, others @ ..] = variables else {
+        return;
+    };
+    spell_variable(out, first);
+    for other in others {
+        put_comma(out);
+        spell_variable(out, other);
+    }
+}
+
+/// A declaration of variables, without its `;`.
+fn spell_locals(out: &mut Tokens, locals: &LocalsTree)
+    ensures lasts { Lasts out.old out.new }
+    ensures puts { Puts (locals_onto (locals_of locals.now)) out.old out.new }
+{
+    put_final(out, locals.is_final);
+    spell_type(out, &locals.kind);
+    spell_variables(out, locals.variables.as_slice())
+}
+
+/// What stands before the first `;` of a `for`.
+fn spell_start(out: &mut Tokens, start: &StartTree)
+    ensures lasts { Lasts out.old out.new }
+    ensures puts { Puts (start_onto (start_of start.now)) out.old out.new }
+{
+    match start {
+        StartTree::Local(locals) => spell_locals(out, locals),
+        StartTree::Expressions(all) => spell_list(out, all.as_slice()),
+    }
+}
+
+/// An expression, where there is one.
+fn spell_maybe(out: &mut Tokens, value: &Option<Expression>)
+    ensures lasts { Lasts out.old out.new }
+    ensures puts { Puts (maybe_expr_onto (option_map expr_of value.now)) out.old out.new }
+{
+    match value {
+        Some(value) => spell_expression(out, value),
+        None => {}
+    }
+}
+
+/// A keyword, and an expression in parentheses.
+fn spell_head(out: &mut Tokens, word: &str, value: &Expression)
+    ensures lasts { Lasts out.old out.new }
+    ensures puts { Puts (λ rest. keyword word.now ∷ sign (codes "(") ∷ expr_onto (expr_of value.now)
+        (sign (codes ")") ∷ rest)) out.old out.new }
+{
+    put_keyword(out, word);
+    put_open(out);
+    spell_before(out, value, ")")
+}
+
+/// A `for` up to its body.
+fn spell_for_head(
+    out: &mut Tokens,
+    start: &StartTree,
+    condition: &Option<Expression>,
+    updates: &[Expression],
+)
+    ensures lasts { Lasts out.old out.new }
+    ensures puts { Puts (λ rest. keyword (codes "for") ∷ sign (codes "(") ∷ start_onto (start_of start.now)
+        (sign (codes ";") ∷ maybe_expr_onto (option_map expr_of condition.now) (sign (codes ";")
+        ∷ exprs_onto (pack_exprs (map expr_of updates.now)) (sign (codes ")") ∷ rest)))) out.old out.new }
+{
+    put_keyword(out, "for");
+    put_open(out);
+    spell_start(out, start);
+    put_end(out);
+    spell_maybe(out, condition);
+    put_end(out);
+    spell_list(out, updates);
+    put_close(out)
+}
+
+/// A `for` over all elements, up to its body.
+fn spell_for_each_head(
+    out: &mut Tokens,
+    is_final: bool,
+    kind: &TypeTree,
+    name: &Ident,
+    value: &Expression,
+)
+    ensures lasts { Lasts out.old out.new }
+    ensures puts { Puts (λ rest. keyword (codes "for") ∷ sign (codes "(") ∷ final_onto is_final
+        (ty_onto (ty_of kind.now) (identifier (name_of name.now) ∷ sign (codes ":")
+        ∷ expr_onto (expr_of value.now) (sign (codes ")") ∷ rest)))) out.old out.new }
+{
+    put_keyword(out, "for");
+    put_open(out);
+    put_final(out, is_final);
+    spell_type(out, kind);
+    put_name(out, name.text.as_str());
+    put_sign(out, ":");
+    spell_before(out, value, ")")
+}
+
+fn spell_local(out: &mut Tokens, locals: &LocalsTree)
+    ensures lasts { Lasts out.old out.new }
+    ensures puts { Puts (stmt_onto (Local (locals_of locals.now))) out.old out.new }
+{
+    spell_locals(out, locals);
+    put_end(out)
+}
+
+fn spell_return(out: &mut Tokens, value: &Option<Expression>)
+    ensures lasts { Lasts out.old out.new }
+    ensures puts { Puts (stmt_onto (Return (option_map expr_of value.now))) out.old out.new }
+{
+    put_keyword(out, "return");
+    spell_maybe(out, value);
+    put_end(out)
+}
+
+#[cycle(spell_statements)]
+fn spell_statement(out: &mut Tokens, tree: &Statement)
+    ensures lasts { Lasts out.old out.new }
+    ensures puts { Puts (stmt_onto (stmt_of tree.now)) out.old out.new }
+{
+    match tree {
+        Statement::Block(block) => spell_block(out, block),
+        Statement::Local(locals) => spell_local(out, locals),
+        Statement::Expr(value) => spell_before(out, value, ";"),
+        Statement::If(condition, then, otherwise) => {
+            spell_head(out, "if", condition);
+            spell_statement(out, then);
+            if let Some(other) = otherwise {
+                put_keyword(out, "else");
+                spell_statement(out, other);
+            }
+        }
+        Statement::While(condition, body) => {
+            spell_head(out, "while", condition);
+            spell_statement(out, body)
+        }
+        Statement::For(start, condition, updates, body) => {
+            spell_for_head(out, start, condition, updates);
+            spell_statement(out, body)
+        }
+        Statement::ForEach(is_final, kind, name, value, body) => {
+            spell_for_each_head(out, *is_final, kind, name, value);
+            spell_statement(out, body)
+        }
+        Statement::Sync(_, value, block) => spell_sync(out, block, value),
+        Statement::Return(value) => spell_return(out, value),
+        Statement::Empty => put_end(out),
+    }
+}
+
+#[cycle(spell_statements)]
+fn spell_sync(out: &mut Tokens, block: &[Statement], value: &Expression)
+    ensures lasts { Lasts out.old out.new }
+    ensures puts { Puts (stmt_onto (Sync (expr_of value.now) (pack_stmts (map stmt_of block.now)))) out.old out.new }
+{
+    spell_head(out, "synchronized", value);
+    spell_block(out, block)
+}
+
+/// Statements in braces.
+#[cycle(spell_statements)]
+pub fn spell_block(out: &mut Tokens, block: &[Statement])
+    ensures lasts { Lasts out.old out.new }
+    ensures puts { Puts (block_onto (pack_stmts (map stmt_of block.now))) out.old out.new }
+{
+    put_sign(out, "{");
+    spell_all(out, block);
+    put_sign(out, "}")
+}
+
+/// Statements one after another.
+#[cycle(spell_statements)]
+fn spell_all(out: &mut Tokens, statements: &[Statement])
+    ensures lasts { Lasts out.old out.new }
+    ensures puts { Puts (stmts_onto (pack_stmts (map stmt_of statements.now))) out.old out.new }
+{
+    for statement in statements {
+        spell_statement(out, statement);
+    }
+}

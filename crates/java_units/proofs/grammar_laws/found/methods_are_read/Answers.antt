@@ -1,5 +1,0 @@
-use Rattle.java_units.proofs.FoundJava.{method_is_read}
-use Rattle.java_units.proofs.grammar_laws.found.methods_are_read.Goals as goal
-
-pub returns : goal.returns
-returns c = method_is_read

@@ -1,5 +1,0 @@
-use Rattle.java_units.proofs.FoundJava.{statement_is_read}
-use Rattle.java_units.proofs.grammar_laws.found.statements_are_read.Goals as goal
-
-pub returns : goal.returns
-returns c = statement_is_read

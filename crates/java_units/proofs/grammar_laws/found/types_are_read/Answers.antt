@@ -1,9 +1,0 @@
-use Rattle.java_units.proofs.FoundTypes.{ty_found}
-use Rattle.java_units.proofs.grammar_laws.found.types_are_read.Goals as goal
-
-pub returns : goal.returns
-returns c = λ t f n rest fits less point brackets. ty_found t f n rest fits (record {
-  less = less;
-  point = point;
-  brackets = brackets;
-})

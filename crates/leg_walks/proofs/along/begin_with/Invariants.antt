@@ -1,6 +1,0 @@
-use Rattle.leg_walks.proofs.Fronts.{AreSame}
-use Rattle.leg_walks.proofs.along.begin_with.Given as goal
-
--- the elements so far are the same
-abbrev pub invariant-loop-number : goal.invariant-loop-number
-invariant-loop-number l = AreSame l.number l.front l.turns

@@ -1,9 +1,0 @@
-use Rattle.std.proofs.Common.{◌≡◌, drop}
-use Rattle.java_lowering.specs.Methods.{parameters_declared}
-use Rattle.method_lowering.proofs.bodies.declare_parameters.Given as goal
-
--- the parameters that are left lead to where all of them lead
-abbrev pub invariant-loop-parameter : goal.invariant-loop-parameter
-invariant-loop-parameter l =
-    parameters_declared l.around (drop l.parameter-index l.parameters)
-    ≡ parameters_declared l.initial.around l.parameters

@@ -1,9 +1,0 @@
--- A contract of a public call rests on this: what is seen of a `Draft`.
-use Rattle.std.specs.Prelude.{map}
-use Rattle.java_lowering.specs.Around.{Code}
-use Rattle.method_lowering.specs.declared.draft.Draft.{Draft}
-use Rattle.method_lowering.specs.Erased.{part_of}
-
--- the parts so far, in which no operation has its site yet
-unfoldable pub code_of : Draft → Code
-code_of draft = map part_of draft.parts.items

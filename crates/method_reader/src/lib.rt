@@ -1,8 +1,0 @@
-//! Methods of Java, read from their tokens.
-#![tactic(auto)]
-
-pub mod laws;
-pub mod reading;
-
-pub use reading::read_method;
-pub use type_reader::ReadError;

@@ -1,7 +1,0 @@
-use Rattle.std.proofs.Common.{◌≡◌, ◌++◌, map, drop}
-use Rattle.java_lowering.specs.Programs.{field_core}
-use Rattle.program_lowering.proofs.classes.fields.Given as goal
-
-abbrev pub invariant-loop-info : goal.invariant-loop-info
-invariant-loop-info l =
-    l.fields ++ map field_core (drop l.info-index l.infos) ≡ map field_core l.infos

@@ -1,9 +1,0 @@
-use Rattle.std.proofs.Common.{◌≡◌, ◌++◌, drop}
-use Rattle.std.specs.List.{flat_map}
-use Rattle.program_lowering.specs.Skipped.{skipped_class}
-use Rattle.program_lowering.proofs.skipped.push_classes.Given as goal
-
-abbrev pub invariant-loop-class : goal.invariant-loop-class
-invariant-loop-class l =
-    l.places.items ++ flat_map skipped_class (drop l.class-index l.classes) ≡
-    l.fn.places.items ++ flat_map skipped_class l.classes

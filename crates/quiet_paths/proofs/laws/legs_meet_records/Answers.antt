@@ -1,8 +1,0 @@
-use Rattle.quiet_paths.proofs.Legs.{leg-leads, leg-meets}
-use Rattle.quiet_paths.proofs.laws.legs_meet_records.Goals as goal
-
-pub returns-clause-meets : goal.returns-clause-meets
-returns-clause-meets c = leg-meets
-
-pub returns-clause-stable : goal.returns-clause-stable
-returns-clause-stable c = leg-leads

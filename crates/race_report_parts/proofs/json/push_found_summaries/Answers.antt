@@ -1,0 +1,29 @@
+use Rattle.std.proofs.Common.{List, [], ap, map}
+use Rattle.std.proofs.lemmas.List.{at_drop_all}
+use Rattle.std.specs.List.{flat_map, enumerate_from}
+use Rattle.core_code.specs.Core.{method_of}
+use Rattle.core_code.specs.Program.{core}
+use Rattle.core_code.specs.declared.parts.MethodCore.{MethodCore}
+use Rattle.race_report_parts.specs.Json.{summary_values}
+use Rattle.race_report_parts.proofs.JsonTurns.{read_next, more_items, ends}
+use Rattle.race_report_parts.proofs.json.push_found_summaries.Goals as goal
+
+pub loop-number-preserved : goal.loop-number-preserved
+loop-number-preserved c =
+    record {
+      lasts = λ h. c.loop-number.invariant.lasts (c.push_summary-later.ensures.lasts h);
+      leaves = more_items (summary_values (core c.args.program.now)) _ _ _
+          (c.loop-number.number, method_of c.index-methods-number.result) c.loop-number.later
+          c.push_summary-later.result c.args.text.now c.loop-number.text c.push_summary-later.new.text
+          (ap (λ (left : List MethodCore). enumerate_from c.loop-number.number (map method_of left))
+          (read_next _ c.loop-number.number c.index-methods-number.result c.loop-number-test.true
+          c.index-methods-number.is))
+          c.loop-number.invariant.leaves c.push_summary-later.ensures.lasts c.push_summary-later.ensures.puts;
+    }
+
+pub returns-clause-puts : goal.returns-clause-puts
+returns-clause-puts c =
+    ends [] _ _ c.loop-number.later c.args.text.now c.loop-number.text c.push_text-2.new.text
+    (at_drop_all (λ (left : List MethodCore). flat_map (summary_values (core c.args.program.now))
+    (enumerate_from c.loop-number.number (map method_of left))) _ c.loop-number.number c.loop-number-test.false)
+    c.loop-number.invariant.leaves c.push_text-2.ensures.lasts c.push_text-2.ensures.puts

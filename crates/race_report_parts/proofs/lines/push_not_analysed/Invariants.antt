@@ -1,0 +1,17 @@
+use Rattle.std.proofs.Common.{drop, map}
+use Rattle.std.specs.List.{flat_map, enumerate_from}
+use Rattle.core_code.specs.Core.{method_of}
+use Rattle.core_code.specs.Program.{core}
+use Rattle.race_report_parts.specs.Written.{Lasts, Leaves}
+use Rattle.race_report_parts.specs.Report as said
+use Rattle.race_report_parts.proofs.lines.push_not_analysed.Given as goal
+
+-- the methods that are left
+abbrev pub invariant-loop-number : goal.invariant-loop-number
+invariant-loop-number l =
+    record {
+      lasts : Lasts l.fn.text l.text;
+      leaves : Leaves (flat_map (said.not_analysed_line (core l.program)) (enumerate_from 0 (core l.program).methods))
+          (flat_map (said.not_analysed_line (core l.program))
+          (enumerate_from l.number (map method_of (drop l.number l.methods)))) l.fn.text l.text;
+    }

@@ -1,0 +1,82 @@
+-- A witness that is cut out of a report replays over the same sources.
+use Rattle.std.proofs.Common.{◌≡◌, ℕ, ◌≤◌, Bool, false, cond, List, Some, codes, length}
+use Rattle.std.proofs.Common.{sym, ap, subst, ◌∙◌, nat_lt}
+use Rattle.serde_json.specs.Data.{Data}
+use Rattle.racer_base.specs.Outside.{Told, Files}
+use Rattle.racer_base.specs.declared.limits.TheConstants.{MAX_FILE_BYTES}
+use Rattle.core_code.specs.Core.{Core}
+use Rattle.witness_text_files.specs.Answers.{IsJson}
+use Rattle.witness_text.specs.Replaying.{DoWitnessesReplay, IsRacing}
+use Rattle.racer_sources.specs.OneReading.{OneSource}
+use Rattle.racer_sources.specs.Sources.{contents, source_names}
+use Rattle.racer_sources.specs.Programs.{Source, Accepted, IsProgram}
+use Rattle.racer_run.specs.declared.said.Said.{Said}
+use Rattle.racer_run.specs.declared.status.Status.{Status}
+use Rattle.racer_run.specs.declared.status.Status.TheVariants.{Clean}
+use Rattle.racer_run.specs.Words.{WantedReport, WantedReplay, Request, ReportOn, ReplayOf}
+use Rattle.racer_run.specs.Said.{HasReplays, SaysReport}
+use Rattle.racer_run.specs.Replays.{IsReplaySaid, SaysReplay, file_said, json_of, json_said, not_a_witness, replay_said}
+use Rattle.racer_run.specs.Replays.{verdict_said}
+use Rattle.racer_run.specs.Causes.{Asked, Wrote, IsWhole, IsWholeAnswer}
+use Rattle.racer_run.specs.Witnesses.{IsCall, IsCutOut}
+use Rattle.racer_run.proofs.OneStatus.{ending_of, whole_answer}
+use Rattle.racer_run.proofs.OneReport.{at_folder, whole_of}
+use Rattle.racer_run.proofs.JsonBytes.{json-of, not-long}
+
+-- what a call says, whole
+answer : (request : Request) (told : Told) (s : Status) (a : Asked) (v : Wrote) → IsCall request told s a v
+    → IsWholeAnswer request (Some told) s v
+answer request told s a v call =
+    let x = whole_of s a v call.sink_holds (ending_of s a v call.has_memory call.cause) in
+    at_folder request a.told told s v call.tells
+    (whole_answer s a v x.text x.due x.whole request call.asks call.folder_holds)
+
+-- a program of sources, in whichever folder they are
+abbrev pub OneProgram : Type 0
+OneProgram =
+    (a b : Files) (program : Core) → source_names a ≡ source_names b → contents a ≡ contents b → IsProgram a program
+    → IsProgram b program
+
+abbrev races : Said
+races = record { status = Clean; text = codes "races\n" }
+
+-- bytes that are not too many, and in JSON a witness file that races
+racing-said : (program : Core) (bytes : List ℕ) (d : Data) → length bytes ≤ MAX_FILE_BYTES → IsJson bytes d
+    → IsRacing program d → replay_said program bytes ≡ races
+racing-said program bytes d short json racing =
+    let few : nat_lt MAX_FILE_BYTES (length bytes) ≡ false = not-long MAX_FILE_BYTES bytes short in
+    ap (λ (b : Bool). cond b (not_a_witness (codes "length")) (json_said program (json_of bytes))) few
+    ∙ ap (json_said program) (json-of bytes d json)
+    ∙ ap (file_said program) racing.1
+    ∙ ap verdict_said racing.2
+
+replay-races : (wanted : WantedReplay) (from to : Files) (source : Source) (said : Said)
+    (cut : IsCutOut from to wanted.witness) → source ≡ Accepted cut.program → DoWitnessesReplay cut.program
+    → IsReplaySaid wanted to source said → said ≡ races
+replay-races wanted from to source said cut same replays says =
+    let at : IsReplaySaid wanted to (Accepted cut.program) said =
+    subst (λ (s : Source). IsReplaySaid wanted to s said) same says in
+    let bytes : at.0 ≡ cut.bytes = let e : Some at.0 ≡ Some cut.bytes = sym at.1 ∙ cut.stands in cc in
+    let w = cut.reported in
+    at.2 ∙ ap (replay_said cut.program) bytes
+    ∙ racing-said cut.program cut.bytes w.value cut.short w.is_json
+    (replays w.warning w.sides w.value w.listed w.has_sides w.is_member)
+
+pub cut-replays : OneSource → OneProgram → (s t : Status) (a b : Asked) (v w : Wrote) (from to : Told) (report : WantedReport)
+    (replay : WantedReplay) → IsCall (ReportOn report) from s a v → IsCall (ReplayOf replay) to t b w
+    → IsCutOut from.files to.files replay.witness → (t ≡ Clean) × IsWhole w (codes "races\n")
+cut-replays one other s t a b v w from to report replay first second cut =
+    let x = answer (ReportOn report) from s a v first in
+    let y = answer (ReplayOf replay) to t b w second in
+    let said_x : SaysReport report from.files x.said = x.says in
+    let said_y : SaysReplay replay to.files y.said = y.says in
+    let replays : HasReplays (Accepted cut.program) =
+    subst HasReplays (one from.files said_x.source (Accepted cut.program) said_x.is cut.accepted) said_x.replays in
+    let same : said_y.source ≡ Accepted cut.program =
+    one to.files said_y.source (Accepted cut.program) said_y.is
+    (other from.files to.files cut.program (sym cut.same_names) (sym cut.same_contents) cut.accepted) in
+    let is : y.said ≡ races =
+    replay-races replay from.files to.files said_y.source y.said cut same replays said_y.said_so in (
+      y.gives ∙ ap (λ (said : Said). said.status) is,
+      subst (IsWhole w) (ap (λ (said : Said). said.text) is) y.whole,
+    )

@@ -1,0 +1,72 @@
+-- Units of accepted sources meet the conditions of their lowering.
+use Rattle.std.proofs.Common.{◌≡◌, ℕ, suc, ◌≤◌, Bool, ◌&&◌, List, [], ◌∷◌, length, map, sym, ap, subst, arith, ◌∙◌}
+use Rattle.std.proofs.Common.{Option, None, Some, string_bytes}
+use Rattle.std.specs.Option.{IfSome}
+use Rattle.racer_base.specs.Outside.{Told, Files}
+use Rattle.std.specs.Prelude.{IsTrue}
+use Rattle.java_parser_grammar.specs.declared.unit.Unit as unit
+use Rattle.java_resolver.specs.declared.table.Table.{Table}
+use Rattle.java_resolver.specs.declared.infos.ClassInfo.{ClassInfo}
+use Rattle.java_resolver.specs.declared.infos.FieldInfo.{FieldInfo}
+use Rattle.java_resolver.specs.Declarations.{classes_of, fields_of}
+use Rattle.java_resolver.specs.Table.{classes, fields}
+use Rattle.core_lowering_rules.specs.Conditions.{are_in_files, are_named}
+use Rattle.core_lowering_conditions.specs.FromTokens.{AreFromTokens}
+use Rattle.core_lowering_conditions.specs.Named.{are_classes_named, are_fields_named}
+use Rattle.core_lowering_rules.specs.Programs.{IsLowered}
+use Rattle.core_code.specs.Program.{core}
+use Rattle.racer_sources.specs.declared.refusal.Refusal.TheVariants.{TooManyCalls}
+use Rattle.racer_sources.specs.declared.found.AcceptedSources.{AcceptedSources}
+use Rattle.racer_sources.specs.Sources.{contents, source_names, AreAccepted}
+use Rattle.racer_sources.specs.Lines.{refusal_line}
+use Rattle.racer_sources.specs.Finding.{AreReadSomehow, AreKnown, IsTableOf}
+use Rattle.racer_sources.specs.declared.programs.FoundProgram.{FoundProgram}
+use Rattle.racer_sources.specs.declared.programs.FoundProgram.TheVariants as found
+use Rattle.racer_sources.specs.Programs.{IsSource, source_of}
+use Rattle.racer_sources.specs.Lowering.{IsLoweredFrom}
+
+from_tokens : (n : ℕ) (us : List unit.Unit) → AreReadSomehow n us → AreFromTokens n us
+from_tokens n [] h = tt
+from_tokens n (u ∷ us) h =
+    let is = h.0.2 in
+    (record { bytes = h.0.1; lexed = is.lexed; tokens = is.tokens; unit = is.unit }, from_tokens (suc n) us h.1)
+
+abbrev pub ArePlaced : Type 0
+ArePlaced = (files : List (List ℕ)) (units : List unit.Unit) → AreFromTokens 0 units → length units ≤ length files
+    → IsTrue (are_in_files files units)
+
+pub placed : ArePlaced → (names : List (List ℕ)) (us : List unit.Unit) (t : Table) → AreKnown names us t
+    → IsTrue (are_in_files names us)
+placed law names us t known =
+    law names us (from_tokens 0 us known.read)
+    (let e : length us ≡ length names = known.counted in omega (arith, e))
+
+pub named : (us : List unit.Unit) (t : Table) → IsTableOf us t
+    → IsTrue (are_classes_named (classes t) && are_fields_named (fields t)) → IsTrue (are_named us)
+named us t is h =
+    subst (λ (cs : List ClassInfo). IsTrue (are_classes_named cs && are_fields_named (fields_of us))) is.classes
+    (subst (λ (fs : List FieldInfo). IsTrue (are_classes_named (classes t) && are_fields_named fs)) is.fields h)
+
+-- what accepted sources are lowered to is what the sources are
+lowered_source : (files : Files) (s : AcceptedSources) (f : FoundProgram) → AreAccepted (contents files) s.units.items
+    → map string_bytes s.names.items ≡ source_names files → IsLoweredFrom (map string_bytes s.names.items) s.units.items f
+    → IsSource files (source_of f)
+lowered_source files s (found.Accepted program) accepted names low =
+    record {
+      units = s.units.items;
+      accepted = accepted;
+      few = low.0;
+      lowered = subst (λ (ns : List (List ℕ)). IsLowered ns s.units.items (core program)) names low.1;
+    }
+lowered_source files s (found.Refused line) accepted names low = (
+  TooManyCalls low.0,
+  record { units = s.units.items; accepted = accepted; counted = low.1; many = low.2 },
+  low.3 ∙ ap (λ (ns : List (List ℕ)). refusal_line ns (TooManyCalls low.0)) names,
+)
+
+pub lowered_there : (o : Option Told) (s : AcceptedSources) (f : FoundProgram)
+    → IfSome o (λ (t : Told). AreAccepted (contents t.files) s.units.items × (map string_bytes s.names.items ≡ source_names t.files))
+    → IsLoweredFrom (map string_bytes s.names.items) s.units.items f
+    → IfSome o (λ (t : Told). IsSource t.files (source_of f))
+lowered_there None s f accepted low = tt
+lowered_there (Some t) s f accepted low = lowered_source t.files s f accepted.0 accepted.1 low

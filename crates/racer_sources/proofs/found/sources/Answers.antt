@@ -1,0 +1,43 @@
+use Rattle.std.proofs.Common.{◌≡◌, ◌∙◌, List, map, string_bytes, sym, subst, Option, String, Global}
+use Rattle.std.specs.Option.{IfSome}
+use Rattle.racer_base.specs.Outside.{Told}
+use Rattle.racer_sources.specs.declared.fault.SourceFault.TheVariants.{Failed}
+use Rattle.racer_sources.specs.Sources.{source_names}
+use Rattle.racer_sources.specs.Finding.{AreKnown}
+use Rattle.racer_sources.specs.Reading.{AreThere}
+use Rattle.racer_sources.proofs.There.{steady_sources}
+use Rattle.racer_sources.proofs.Faults.{steady_answer, refused_known, on_ok_anyhow}
+use Rattle.racer_sources.proofs.found.sources.Goals as goal
+
+pub returns-in-Err-clause-steady : goal.returns-in-Err-clause-steady
+returns-in-Err-clause-steady g c = λ steady.
+    let told = g.F.Folder.told c.args.folder.now in
+    let names = c.as_slice.result.now in
+    let Never : Type 0 = c.in-Err.fault ≡ Failed → ⊥ in
+    let there = subst (λ (o : Option Told). IfSome o (λ (t : Told). AreThere t.files (map string_bytes names) → Never)) c.in_ok-names.ensures.told (c.in-Err.ensures.steady (c.in_ok-names.ensures.stays steady)) in
+    let named = subst (λ (ns : List (String Global)). IfSome told (λ (t : Told). map string_bytes ns ≡ source_names t.files)) (sym c.as_slice.ensures.value) c.in_ok-names.ensures.names in
+    steady_answer _ _ c.refused.result (λ t. c.args.name.now ≡ t.name) told c.refused.ensures
+    (steady_sources Never told names there named)
+
+pub returns-in-Ok-clause-told : goal.returns-in-Ok-clause-told
+returns-in-Ok-clause-told g c = c.in-Ok.ensures.told ∙ c.in_ok-names.ensures.told
+
+pub returns-in-Err-clause-told : goal.returns-in-Err-clause-told
+returns-in-Err-clause-told g c = c.in-Err.ensures.told ∙ c.in_ok-names.ensures.told
+
+pub returns-in-Ok-clause-stays : goal.returns-in-Ok-clause-stays
+returns-in-Ok-clause-stays g c = λ steady. c.in-Ok.ensures.stays (c.in_ok-names.ensures.stays steady)
+
+pub returns-in-Err-clause-stays : goal.returns-in-Err-clause-stays
+returns-in-Err-clause-stays g c = λ steady. c.in-Err.ensures.stays (c.in_ok-names.ensures.stays steady)
+
+pub returns-in-Err-clause-entered : goal.returns-in-Err-clause-entered
+returns-in-Err-clause-entered g c = on_ok_anyhow _ c.refused.result c.in_ok-names.ensures.entered
+
+pub returns-in-Ok-clause-known : goal.returns-in-Ok-clause-known
+returns-in-Ok-clause-known g c =
+    subst (λ (ns : List (String Global)). AreKnown (map string_bytes ns) c.in-Ok.declared.units.items c.in-Ok.declared.table)
+    c.as_slice.ensures.value c.in-Ok.ensures.known
+
+pub returns-in-Err-clause-known : goal.returns-in-Err-clause-known
+returns-in-Err-clause-known g c = refused_known _ c.in-Err.fault c.refused.result c.refused.ensures

@@ -1,0 +1,63 @@
+//! Laws of the definitions, as functions with nothing to do: units that are the same, equal but for the form of their
+//! trees in memory, have one program, and so have files and folders.
+ghost use Rattle.std.specs.Prelude.{◌≡◌, ℕ, Bool, List};
+ghost use Rattle.std.specs.List.{AllZip};
+ghost use Rattle.racer_base.specs.declared.ids.MethodId.{MethodId};
+ghost use Rattle.java_lexer.specs.declared.token.Token.{Token};
+ghost use Rattle.java_parser_grammar.specs.declared.unit.Unit as unit;
+ghost use Rattle.java_parser_grammar.specs.Units.{IsUnit};
+ghost use Rattle.java_resolver.specs.Refusals.{refusal};
+ghost use Rattle.core_code.specs.Core.{Core};
+ghost use Rattle.core_lowering_rules.specs.Programs.{program_of, draft_of, call_edges, IsLowered};
+ghost use Rattle.java_parser.specs.SameUnits.{SameUnit};
+ghost use Rattle.racer_base.specs.Outside.{Files};
+ghost use Rattle.racer_sources.specs.OneReading.{OneReading, OneSource};
+ghost use Rattle.racer_sources.specs.Programs.{IsProgram};
+ghost use Rattle.racer_sources.specs.Sources.{source_names, contents};
+
+use java_parser::laws::one_unit;
+
+/// Units that are the same are refused alike, and have one program: one whichever methods are taken for recursive, and
+/// one whose recursive methods are told.
+pub fn one_program()
+    ensures refused { (us vs : List unit.Unit) → AllZip SameUnit us vs → refusal us ≡ refusal vs }
+    ensures program { (us vs : List unit.Unit) → AllZip SameUnit us vs → (files : List (List ℕ))
+        → (is_recursive : MethodId → Bool) → program_of files us is_recursive ≡ program_of files vs is_recursive }
+    ensures edges { (us vs : List unit.Unit) → AllZip SameUnit us vs → (files : List (List ℕ))
+        → call_edges (draft_of files us) ≡ call_edges (draft_of files vs) }
+    ensures lowered { (us vs : List unit.Unit) → AllZip SameUnit us vs → (files : List (List ℕ)) (p q : Core)
+        → IsLowered files us p → IsLowered files vs q → p ≡ q }
+{}
+
+/// Files with these tokens are read as units that are the same, so they have one program.
+pub fn one_program_of_tokens()
+    ensures same { (tokens : List (List Token)) (us vs : List unit.Unit) → AllZip IsUnit tokens us
+        → AllZip IsUnit tokens vs → AllZip SameUnit us vs }
+    ensures lowered { (tokens : List (List Token)) (us vs : List unit.Unit) → AllZip IsUnit tokens us
+        → AllZip IsUnit tokens vs → (files : List (List ℕ)) (p q : Core) → IsLowered files us p
+        → IsLowered files vs q → p ≡ q }
+{
+    one_unit();
+}
+
+/// Files are read in one way, as far as a program sees it.
+pub fn one_reading()
+    ensures { OneReading }
+{
+    one_program();
+    one_program_of_tokens();
+}
+
+/// The sources of a folder are one thing: one refusal, or one program.
+pub fn one_source()
+    ensures { OneSource }
+{
+    one_reading();
+}
+
+/// Whether the sources of a folder are this program depends on their names and their bytes alone, whatever other files
+/// the folder has.
+pub fn other_files_are_not_seen()
+    ensures { (a b : Files) (program : Core) → source_names a ≡ source_names b → contents a ≡ contents b
+        → IsProgram a program → IsProgram b program }
+{}

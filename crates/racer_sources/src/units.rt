@@ -1,0 +1,107 @@
+//! The sources of a folder, read one after the other.
+ghost use Rattle.std.specs.Prelude.{◌≡◌, ◌+◌, ◌≤◌, length, map, string_bytes, IfOk, IfErr, IfSome, OnOk};
+ghost use Rattle.racer_base.specs.declared.limits.TheConstants.{MAX_FILE_BYTES, MAX_FOLDER_BYTES};
+ghost use Rattle.racer_sources.specs.Sources as sources;
+ghost use Rattle.racer_sources.specs.Reading as reading;
+ghost use Rattle.racer_sources.specs.Finding as finding;
+
+use crate::fault::SourceFault;
+use crate::file::file_unit;
+use java_parser_grammar::Unit;
+use racer_base::{FileId, Folder, MAX_FILE_BYTES, Memory};
+use std::alloc::Global;
+use java_parser::{let_all_go, put_unit};
+
+/// The units of the sources that were read, and how many bytes these have together.
+#[derive(Drop)]
+struct ReadSources {
+    units: Vec<Unit>,
+    sum: usize,
+}
+
+/// The file of this index.
+fn file_at(index: usize) -> Result<FileId, Memory>
+    ensures { IfOk result (λ file. file.0 ≡ index) }
+{
+    match u32::try_from(index) {
+        Ok(number) => Ok(FileId(number)),
+        Err(_) => Err(Memory),
+    }
+}
+
+/// Reads one more source, of these bytes.
+fn add_bytes(alloc: Global, bytes: &[u8], read: &mut ReadSources) -> Result<(), SourceFault>
+    requires few { read.old.sum ≤ MAX_FOLDER_BYTES }
+    requires most { length bytes.now ≤ MAX_FILE_BYTES + 1 }
+    ensures few { OnOk result (read.new.sum ≤ MAX_FOLDER_BYTES) }
+    ensures added { OnOk result (reading.IsAdded bytes.now read.old read.new) }
+    ensures fault { IfErr result
+        (reading.IsFileFault (reading.next_file read.old) (read.old.sum + length bytes.now) bytes.now) }
+{
+    let file = file_at(read.units.len())?;
+    let sum = read.sum + bytes.len();
+    let unit = match file_unit(alloc, file, sum, bytes) {
+        Ok(unit) => unit,
+        Err(fault) => return Err(fault),
+    };
+    read.sum = sum;
+    Ok(put_unit(&mut read.units, unit)?)
+}
+
+/// Reads one more source, of this name.
+fn add_source<F: Folder>(
+    alloc: Global,
+    folder: &mut F,
+    name: &str,
+    read: &mut ReadSources,
+) -> Result<(), SourceFault>
+    requires { read.old.sum ≤ MAX_FOLDER_BYTES }
+    ensures count { reading.Counts result (F.faults folder.old) (F.faults folder.new) }
+    ensures told { F.told folder.new ≡ F.told folder.old }
+    ensures stays { F.steady folder.old → F.steady folder.new }
+    ensures steady { F.steady folder.old → IfSome (F.told folder.old) (λ t.
+        reading.IsThere t.files name.now → reading.NeverFails result) }
+    ensures few { OnOk result (read.new.sum ≤ MAX_FOLDER_BYTES) }
+    ensures any { OnOk result (reading.IsAddedSomehow read.old read.new) }
+    ensures read { OnOk result (IfSome (F.told folder.old) (λ t.
+        reading.IsAdded (sources.bytes_of t.files name.now) read.old read.new)) }
+    ensures refused { IfErr result (λ fault. IfSome (F.told folder.old) (λ t. reading.IfRefused fault
+        (reading.IsNextRefused (sources.bytes_of t.files name.now) read.old))) }
+{
+    let bytes = match folder.read(alloc, name, MAX_FILE_BYTES + 1) {
+        Ok(bytes) => bytes,
+        Err(fault) => return Err(SourceFault::from(fault)),
+    };
+    add_bytes(alloc, bytes.as_slice(), read)
+}
+
+/// Reads the sources of these names, one after the other.
+pub fn read_all<F: Folder>(
+    alloc: Global,
+    folder: &mut F,
+    names: &[String],
+) -> Result<Vec<Unit>, SourceFault>
+    ensures count { reading.Counts result (F.faults folder.old) (F.faults folder.new) }
+    ensures told { F.told folder.new ≡ F.told folder.old }
+    ensures stays { F.steady folder.old → F.steady folder.new }
+    ensures steady { F.steady folder.old → IfSome (F.told folder.old) (λ t.
+        reading.AreThere t.files (map string_bytes names.now) → reading.NeverFails result) }
+    ensures counted { IfOk result (λ units. length units.items ≡ length names.now) }
+    ensures any { IfOk result (λ units. finding.AreReadSomehow 0 units.items) }
+    ensures read { IfOk result (λ units. IfSome (F.told folder.old) (λ t.
+        sources.AreReadFrom 0 0 (reading.bytes_of_all t.files (map string_bytes names.now)) units.items)) }
+    ensures refused { IfErr result (λ fault. IfSome (F.told folder.old) (λ t. reading.IfRefused fault
+        (sources.IsOneRefused 0 0 (reading.bytes_of_all t.files (map string_bytes names.now))))) }
+{
+    let mut read = ReadSources {
+        units: Vec::new(alloc),
+        sum: 0,
+    };
+    for name in names {
+        if let Err(fault) = add_source(alloc, folder, name.as_str(), &mut read) {
+            let_all_go(read.units);
+            return Err(fault);
+        }
+    }
+    Ok(read.units)
+}

@@ -1,0 +1,103 @@
+-- A contract of a public call rests on this: what the words of a command line ask for.
+use Rattle.std.specs.Prelude.{ℕ, Bool, false, not, ◌&&◌, ◌||◌, ◌==◌, ◌+◌, ◌*◌, ◌-◌, List, [], ◌∷◌, Option}
+use Rattle.std.specs.Prelude.{None, Some, length, fold, codes, bytes_eq, nat_le, is_some, option_map, if◌then◌else◌}
+use Rattle.std.specs.Prelude.{option_and_then}
+use Rattle.std.specs.List.{list_all, list_any}
+use Rattle.racer_base.specs.declared.limits.TheConstants.{MAX_WORKERS}
+use Rattle.racer_words.specs.Uses.{Word, Line, Label, Folder, Workers, Json, Summaries, History, labels, name_of, line}
+use Rattle.racer_words.specs.Uses.{Replay as LabelReplay, Made as LabelMade}
+
+pub data Asked : Type 0 where
+  Report : (folder : Word) → (workers : ℕ) → (json summaries history : Bool) → Asked
+  Replay : (folder witness : Word) → Asked
+  Made : (count workers : ℕ) → Asked
+
+-- a name of a folder or a file
+abbrev pub is_name : Word → Bool
+is_name word = not (bytes_eq word []) && not (bytes_eq word (codes "-"))
+
+abbrev pub is_digit : ℕ → Bool
+is_digit b = nat_le 48 b && nat_le b 57
+
+-- one to three digits, of which the first is no `0` (48)
+abbrev pub is_number : Word → Bool
+is_number [] = false
+is_number (b ∷ bs) = not (b == 48) && (list_all is_digit (b ∷ bs) && nat_le (length (b ∷ bs)) 3)
+
+abbrev pub number : Word → ℕ
+number word = fold (λ n b. n * 10 + (b - 48)) 0 word
+
+-- a number up to this one
+abbrev pub up_to : ℕ → Word → Option ℕ
+up_to most word = if is_number word && nat_le (number word) most then Some (number word) else None
+
+-- 4 workers where the words name no number
+abbrev pub workers_of : Option Word → Option ℕ
+workers_of None = Some 4
+workers_of (Some word) = up_to MAX_WORKERS word
+
+-- ---- what may stand beside what
+
+-- a command line asks for a report, for the replay of a witness, or for a made folder
+pub data Form : Type 0 where
+  ForReport : Form
+  ForReplay : Form
+  ForMade : Form
+
+-- the table: what may stand on a command line of each form
+abbrev pub stands_on : Form → List Label
+stands_on ForReport = Folder ∷ Workers ∷ Json ∷ Summaries ∷ History ∷ []
+stands_on ForReplay = Folder ∷ LabelReplay ∷ []
+stands_on ForMade = LabelMade ∷ Workers ∷ []
+
+-- the form of a line, by the option that stands there for it
+abbrev pub form_of : Line → Form
+form_of line = if is_some line.made then ForMade else if is_some line.replay then ForReplay else ForReport
+
+abbrev pub is_given : Line → Label → Bool
+is_given line Folder = is_some line.folder
+is_given line Workers = is_some line.workers
+is_given line LabelReplay = is_some line.replay
+is_given line LabelMade = is_some line.made
+is_given line Json = line.json
+is_given line Summaries = line.summaries
+is_given line History = line.history
+
+abbrev pub may_stand : Form → Label → Bool
+may_stand form label = list_any (λ l. bytes_eq (name_of l) (name_of label)) (stands_on form)
+
+-- all that stands on the line may stand there
+abbrev pub is_right : Line → Label → Bool
+is_right line label = not (is_given line label) || may_stand (form_of line) label
+
+abbrev pub stands_right : Line → Bool
+stands_right line = list_all (is_right line) (Folder ∷ labels)
+
+-- ---- what is asked for
+
+-- a report on the folder
+abbrev pub report : Line → Word → Option Asked
+report line folder = if is_name folder
+    then option_map (λ n. Report folder n line.json line.summaries line.history) (workers_of line.workers) else None
+
+-- the replay of a witness of the folder
+abbrev pub replay : Word → Word → Option Asked
+replay folder witness = if is_name folder && is_name witness then Some (Replay folder witness) else None
+
+-- a folder made of so many classes
+abbrev pub made : Line → Word → Option Asked
+made line count = option_and_then (λ n. option_map (Made n) (workers_of line.workers)) (up_to 800 count)
+
+-- what a line of this form asks for
+abbrev pub asked_as : Form → Line → Option Asked
+asked_as ForReport line = option_and_then (report line) line.folder
+asked_as ForReplay line =
+    option_and_then (λ folder. option_and_then (replay folder) line.replay) line.folder
+asked_as ForMade line = option_and_then (made line) line.made
+
+abbrev pub asked_by : Line → Option Asked
+asked_by line = if stands_right line then asked_as (form_of line) line else None
+
+-- what the words ask for, if they are those of a command line
+abbrev pub asked : List Word → Option Asked
+asked words = option_and_then asked_by (line words)

@@ -1,5 +1,0 @@
-use Rattle.report_parts.proofs.WarningSides.{sides_there}
-use Rattle.report_parts.proofs.laws.each_warning_has_two_records.Goals as goal
-
-pub returns : goal.returns
-returns c = sides_there

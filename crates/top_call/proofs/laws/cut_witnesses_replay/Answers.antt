@@ -1,5 +1,0 @@
-use Rattle.top_call.proofs.CutWitnesses.{cut-replays}
-use Rattle.top_call.proofs.laws.cut_witnesses_replay.Goals as goal
-
-pub returns : goal.returns
-returns c = cut-replays c.one_source.ensures c.other_files_are_not_seen.ensures

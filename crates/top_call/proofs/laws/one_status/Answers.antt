@@ -1,5 +1,0 @@
-use Rattle.top_call.proofs.OneStatus.{one_status}
-use Rattle.top_call.proofs.laws.one_status.Goals as goal
-
-pub returns : goal.returns
-returns c = one_status c.one_source.ensures

@@ -1,5 +1,0 @@
-use Rattle.unit_conditions.proofs.UnitPlaces.{read_units_are_placed}
-use Rattle.unit_conditions.proofs.laws.read_units_are_placed.Goals as goal
-
-pub returns : goal.returns
-returns c = read_units_are_placed

@@ -1,9 +1,0 @@
-use Rattle.std.proofs.Common.{◌≡◌, ◌+◌, ◌≤◌, drop}
-use Rattle.unit_reader.specs.Sizes.{item_size}
-use Rattle.unit_reader.proofs.items.item_size.Given as goal
-
-abbrev pub invariant-loop-index : goal.invariant-loop-index
-invariant-loop-index l = record {
-  size : item_size 0 l.tokens ≡ l.index + item_size l.depth (drop l.index l.tokens);
-  small : l.depth ≤ l.index;
-}

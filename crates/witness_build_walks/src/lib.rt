@@ -1,0 +1,13 @@
+//! Walks: a thread that goes along the way to one record of a method after another, so that each step is made about
+//! once and not once for each warning.
+//!
+//! What two legs do one after the other is told of their walks where the second is apart from the first: it reads
+//! nothing that the first stored, and waits for no monitor (`witness_build_apart`).
+#![tactic(auto)]
+
+mod along;
+mod apart;
+mod walk;
+mod walks;
+
+pub use walks::{Walked, Walks, let_go};

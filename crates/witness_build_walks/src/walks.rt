@@ -1,0 +1,173 @@
+//! The last walks of both threads.
+ghost use Rattle.std.specs.Prelude.{◌≡◌, ◌+◌, List, [], false, true, IfOk, OnOk};
+ghost use Rattle.racer_base.specs.declared.ids.MethodId.{MethodId};
+ghost use Rattle.core_code.specs.Program.{core};
+ghost use Rattle.core_code.specs.Core.{Core};
+ghost use Rattle.core_semantics.specs.declared.object.Start.TheVariants.{All};
+ghost use Rattle.core_semantics.specs.declared.object.StartPath.{StartPath};
+ghost use Rattle.core_semantics.specs.Runs.{begun};
+ghost use Rattle.core_ways.specs.declared.mark.Leg.{Leg};
+ghost use Rattle.core_ways.specs.Marks.{leg_of};
+ghost use Rattle.witness_build_apart.specs.Starts.{entry_of};
+ghost use Rattle.witness_build_walks.specs.Told.{AreWalks, IsGoneIn, IsLast, IsTold};
+
+use crate::along::{Course, walk_along};
+use crate::apart::{place_of, told};
+use crate::walk::Walk;
+use core_code::Program;
+use core_ways::{Leg, Objects};
+use racer_base::{Memory, MethodId, Place};
+use std::alloc::Global;
+
+/// What walks tell of two legs, one after the other.
+#[derive(Clone, Copy)]
+pub enum Walked {
+    /// The thread of this number cannot make its leg: it stops at this place.
+    Stopped(u32, Place),
+    /// Both legs can be made.
+    Past,
+    /// The second leg may see what the first left.
+    Unknown,
+}
+
+/// The last walk of each thread.
+#[derive(Drop)]
+pub struct Walks<'a> {
+    alloc: Global,
+    first: Option<Walk<'a>>,
+    second: Option<Walk<'a>>,
+}
+
+/// Lets walks go. Each type of their parts is taken apart here, so a crate that owns walks need not show how.
+pub fn let_go(_walks: Walks) {}
+
+/// What is told where there are two walks.
+fn told_of(
+    first: &Option<Walk>,
+    second: &Option<Walk>,
+    all: bool,
+    objects: &mut Objects,
+) -> Result<Walked, Memory>
+    requires { objects.old ≡ [] }
+    ensures { (c : Core) (m n m1 m2 : MethodId) (f g : Leg) → f.thread + g.thread ≡ 1 →
+        m ≡ entry_of f.thread m1 m2 → n ≡ entry_of g.thread m1 m2 →
+        IsGoneIn c m f true first.now → IsGoneIn c n g all second.now →
+        IfOk result (λ walked. IsTold c (leg_of f) (leg_of g) (begun c m1 m2 All) objects.new walked) }
+{
+    let Some(first) = first else {
+        return Ok(Walked::Unknown);
+    };
+    let Some(second) = second else {
+        return Ok(Walked::Unknown);
+    };
+    told(first, second, all, objects)
+}
+
+/// What is told where the first leg cannot be made.
+fn told_of_stopped(walk: &Option<Walk>) -> Walked
+    ensures { (c : Core) (m m1 m2 : MethodId) (f g : Leg) (objects : List StartPath) →
+        m ≡ entry_of f.thread m1 m2 → IsGoneIn c m f false walk.now →
+        IsTold c (leg_of f) (leg_of g) (begun c m1 m2 All) objects result }
+{
+    match walk {
+        Some(walk) => Walked::Stopped(walk.thread, place_of(walk)),
+        None => Walked::Unknown,
+    }
+}
+
+/// Walks along two courses, one after the other.
+fn walk_both<'a>(
+    alloc: Global,
+    program: &'a Program,
+    one: &mut Option<Walk<'a>>,
+    other: &mut Option<Walk<'a>>,
+    first: Course,
+    second: Course,
+    objects: &mut Objects,
+) -> Result<Walked, Memory>
+    requires one { IsLast (core program.now) first.leg.now.thread one.old }
+    requires other { IsLast (core program.now) second.leg.now.thread other.old }
+    requires threads { first.leg.now.thread + second.leg.now.thread ≡ 1 }
+    requires none { objects.old ≡ [] }
+    ensures one { OnOk result (IsLast (core program.now) first.entry.leg.now.thread one.new) }
+    ensures other { OnOk result (IsLast (core program.now) second.entry.leg.now.thread other.new) }
+    ensures told { (m1 m2 : MethodId) → first.entry.method ≡ entry_of first.entry.leg.now.thread m1 m2 →
+        second.entry.method ≡ entry_of second.entry.leg.now.thread m1 m2 →
+        IfOk result (λ walked. IsTold (core program.now) (leg_of first.entry.leg.now) (leg_of second.entry.leg.now)
+        (begun (core program.now) m1 m2 All) objects.new walked) }
+{
+    if !walk_along(alloc, program, one, first)? {
+        return Ok(told_of_stopped(one));
+    }
+    let all = walk_along(alloc, program, other, second)?;
+    told_of(one, other, all, objects)
+}
+
+impl<'a> Walks<'a> {
+    /// No walks.
+    pub fn new(alloc: Global) -> Walks<'a>
+        ensures { (c : Core) → AreWalks c result }
+    {
+        Walks {
+            alloc,
+            first: None,
+            second: None,
+        }
+    }
+
+    /// What walks tell of two legs, with the objects that both read where both can be made.
+    pub fn walk(
+        &mut self,
+        program: &'a Program,
+        entry: MethodId,
+        partner: MethodId,
+        objects: &mut Objects,
+        first: &Leg,
+        second: &Leg,
+    ) -> Result<Walked, Memory>
+        requires walks { AreWalks (core program.now) self.old }
+        requires threads { first.now.thread + second.now.thread ≡ 1 }
+        requires none { objects.old ≡ [] }
+        ensures walks { OnOk result (AreWalks (core program.now) self.new) }
+        ensures told { IfOk result (λ walked. IsTold (core program.now) (leg_of first.now) (leg_of second.now)
+            (begun (core program.now) entry partner All) objects.new walked) }
+    {
+        if first.thread == 0 {
+            let first = Course {
+                method: entry,
+                leg: first,
+            };
+            let second = Course {
+                method: partner,
+                leg: second,
+            };
+            walk_both(
+                self.alloc,
+                program,
+                &mut self.first,
+                &mut self.second,
+                first,
+                second,
+                objects,
+            )
+        } else {
+            let first = Course {
+                method: partner,
+                leg: first,
+            };
+            let second = Course {
+                method: entry,
+                leg: second,
+            };
+            walk_both(
+                self.alloc,
+                program,
+                &mut self.second,
+                &mut self.first,
+                first,
+                second,
+                objects,
+            )
+        }
+    }
+}

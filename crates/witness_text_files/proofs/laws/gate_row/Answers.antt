@@ -1,0 +1,12 @@
+use Rattle.std.proofs.Common.{refl}
+use Rattle.serde_json.proofs.OnLiterals.{serde_json_on_literals}
+use Rattle.witness_text_files.proofs.Digits.{zero, one, three, nine}
+use Rattle.witness_text_files.proofs.laws.gate_row.Goals as goal
+
+pub returns-clause-read : goal.returns-clause-read
+unfolding serde_json_on_literals
+returns-clause-read c = refl
+
+pub returns-clause-written : goal.returns-clause-written
+unfolding serde_json_on_literals
+returns-clause-written c = simp (zero, one, three, nine)
