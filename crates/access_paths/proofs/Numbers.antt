@@ -13,8 +13,10 @@ use Rattle.std.proofs.lemmas.Bool.{eqb-true, eq-eqb}
 use Rattle.access_paths.specs.Table.{IsTable, interned, GoesOn, path_at}
 
 -- the path that is found at a number is that path
-pub found_at : (paths : List Path) (p : Path) (i : ℕ) → position (same_path p) paths ≡ Some i → slice_get paths i ≡ Some p
-found_at paths p i e = let at = position-Some (same_path p) paths i p e in slice_get-get_or paths i p at.0 ∙ ap Some (sym (equal_of_same p (get_or paths i p) at.1))
+pub found_at : (paths : List Path) (p : Path) (i : ℕ) → position (same_path p) paths ≡ Some i →
+    slice_get paths i ≡ Some p
+found_at paths p i e = let at = position-Some (same_path p) paths i p e in
+    slice_get-get_or paths i p at.0 ∙ ap Some (sym (equal_of_same p (get_or paths i p) at.1))
 
 -- what stands in the list is found there
 pub there : (paths : List Path) (p : Path) (i : ℕ) → slice_get paths i ≡ Some p → list_any (same_path p) paths ≡ true
@@ -34,32 +36,42 @@ last_of [] p = refl
 last_of (q ∷ paths) p = last_of paths p
 
 -- a path that is new stands at the end
-pub new_at_end : (paths : List Path) (p : Path) → list_any (same_path p) paths ≡ false → slice_get (interned paths p) (length paths) ≡ Some p
+pub new_at_end : (paths : List Path) (p : Path) → list_any (same_path p) paths ≡ false →
+    slice_get (interned paths p) (length paths) ≡ Some p
 new_at_end paths p e = ap (λ b. slice_get (cond b paths (paths ++ p ∷ [])) (length paths)) e ∙ last_of paths p
 
-either_end : (paths : List Path) (p q : Path) (i : ℕ) → slice_get (paths ++ p ∷ []) i ≡ Some q → (slice_get paths i ≡ Some q) ⊎ ((i ≡ length paths) × (q ≡ p))
+either_end : (paths : List Path) (p q : Path) (i : ℕ) → slice_get (paths ++ p ∷ []) i ≡ Some q →
+    (slice_get paths i ≡ Some q) ⊎ ((i ≡ length paths) × (q ≡ p))
 either_end [] p q zero e = inr (refl, cc)
 either_end [] p q (suc i) e = cc
 either_end (r ∷ paths) p q zero e = inl e
-either_end (r ∷ paths) p q (suc i) e = elim (either_end paths p q i e) [ inl at ↦ inl at | inr at ↦ inr (one_more i paths r at.0, at.1) ]
+either_end (r ∷ paths) p q (suc i) e = elim (either_end paths p q i e)
+    [ inl at ↦ inl at | inr at ↦ inr (one_more i paths r at.0, at.1) ]
   where
     one_more : (i : ℕ) (paths : List Path) (r : Path) → i ≡ length paths → suc i ≡ length (r ∷ paths)
     one_more i paths r e = ap (λ n. suc n) e
 
-not_there : (paths : List Path) (p : Path) (i : ℕ) → list_any (same_path p) paths ≡ false → slice_get paths i ≡ Some p → ⊥
+not_there : (paths : List Path) (p : Path) (i : ℕ) → list_any (same_path p) paths ≡ false → slice_get paths i ≡ Some p →
+    ⊥
 not_there paths p i new at = absurd (let yes : list_any (same_path p) paths ≡ true = there paths p i at in cc)
 
-pub table-longer : (paths : List Path) (p : Path) → IsTable paths → list_any (same_path p) paths ≡ false → length paths < 4294967295 → IsTable (paths ++ p ∷ [])
-table-longer paths p table new room = let long : length (paths ++ p ∷ []) ≡ length paths + 1 = length-append paths (p ∷ []) in record {
-  once = λ i j q at_i at_j. elim (either_end paths p q i at_i) [
-    | inl i_in ↦ elim (either_end paths p q j at_j) [ inl j_in ↦ table.once i j q i_in j_in | inr j_end ↦ absurd (not_there paths p i new (i_in ∙ ap Some j_end.1)) ]
-    | inr i_end ↦ elim (either_end paths p q j at_j) [
-      | inl j_in ↦ absurd (not_there paths p j new (j_in ∙ ap Some i_end.1))
-      | inr j_end ↦ i_end.0 ∙ sym j_end.0
-    ]
-  ];
-  limit = omega arith;
-}
+pub table-longer : (paths : List Path) (p : Path) → IsTable paths → list_any (same_path p) paths ≡ false →
+    length paths < 4294967295 → IsTable (paths ++ p ∷ [])
+table-longer paths p table new room = let long : length (paths ++ p ∷ []) ≡ length paths + 1 =
+    length-append paths (p ∷ []) in record {
+      once = λ i j q at_i at_j. elim (either_end paths p q i at_i) [
+        | inl i_in ↦ elim (either_end paths p q j at_j) [
+          | inl j_in ↦ table.once i j q i_in j_in
+          | inr j_end ↦
+              absurd (not_there paths p i new (i_in ∙ ap Some j_end.1))
+        ]
+        | inr i_end ↦ elim (either_end paths p q j at_j) [
+          | inl j_in ↦ absurd (not_there paths p j new (j_in ∙ ap Some i_end.1))
+          | inr j_end ↦ i_end.0 ∙ sym j_end.0
+        ]
+      ];
+      limit = omega arith;
+    }
 
 append-nil : (xs : List Path) → xs ≡ (xs ++ [])
 append-nil [] = refl
@@ -70,7 +82,8 @@ append-assoc [] ys zs = refl
 append-assoc (x ∷ xs) ys zs = ap (λ us. x ∷ us) (append-assoc xs ys zs)
 
 pub interned-goes_on : (paths : List Path) (p : Path) → GoesOn paths (interned paths p)
-interned-goes_on paths p = elim (list_any (same_path p) paths) as (λ b. GoesOn paths (cond b paths (paths ++ p ∷ []))) [ true ↦ ([], append-nil paths) | false ↦ (p ∷ [], refl) ]
+interned-goes_on paths p = elim (list_any (same_path p) paths) as (λ b. GoesOn paths (cond b paths (paths ++ p ∷ [])))
+    [ true ↦ ([], append-nil paths) | false ↦ (p ∷ [], refl) ]
 
 pub goes_on-trans : (a b c : List Path) → GoesOn a b → GoesOn b c → GoesOn a c
 goes_on-trans a b c h k = (h.0 ++ k.0, k.1 ∙ ap (λ xs. xs ++ k.0) h.1 ∙ append-assoc a h.0 k.0)
@@ -83,8 +96,14 @@ at_front (x ∷ a) rest (suc n) h = let long : length (x ∷ a) ≡ suc (length 
 pub goes_on-at : (a b : List Path) (n : ℕ) → GoesOn a b → n < length a → path_at b n ≡ path_at a n
 goes_on-at a b n h low = ap (λ xs. path_at xs n) h.1 ∙ at_front a h.0 n low
 
-pub equal_numbers : (a : List Path) (i j : ℕ) → IsTable a → i < length a → j < length a → same_path (path_at a i) (path_at a j) ≡ nat_eq i j
-equal_numbers a i j table low high = elim (nat_eq i j) as (λ b. nat_eq i j ≡ b → same_path (path_at a i) (path_at a j) ≡ b) [ true ↦ λ e. ap (λ n. same_path (path_at a i) (path_at a n)) (sym (eqb-true i j e)) ∙ same_path-itself (path_at a i) | false ↦ λ e. differ e (same_path (path_at a i) (path_at a j)) refl ] refl
+pub equal_numbers : (a : List Path) (i j : ℕ) → IsTable a → i < length a → j < length a →
+    same_path (path_at a i) (path_at a j) ≡ nat_eq i j
+equal_numbers a i j table low high = elim (nat_eq i j)
+    as (λ b. nat_eq i j ≡ b → same_path (path_at a i) (path_at a j) ≡ b) [
+      | true ↦ λ e. ap (λ n. same_path (path_at a i) (path_at a n)) (sym (eqb-true i j e))
+          ∙ same_path-itself (path_at a i)
+      | false ↦ λ e. differ e (same_path (path_at a i) (path_at a j)) refl
+    ] refl
   where
     at_i : slice_get a i ≡ Some (path_at a i)
     at_i = slice_get-get_or a i (alone This) low

@@ -33,7 +33,8 @@ IsLengthened old n f answer new = (p : Path) × (slice_get old n ≡ Some p) × 
 
 -- what a path feeds a hasher
 abbrev pub path_input : Path → fed.HashWrites
-path_input p = fed.u32 (root_form p.root) ++ fed.u32 (root_number p.root) ++ fed.slice (λ (f : FieldId). fed.u32 f.0) p.fields
+path_input p = fed.u32 (root_form p.root) ++ fed.u32 (root_number p.root) ++ fed.slice
+    (λ (f : FieldId). fed.u32 f.0) p.fields
 
 pub path_input-respects : (p q : Path) → IsTrue (same_path p q) → path_input p ≡ path_input q
 path_input-respects p q same = ap path_input (equal_of_same p q same)

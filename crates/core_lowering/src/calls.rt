@@ -7,8 +7,8 @@ ghost use Rattle.core_lowering_methods.specs.Sources.{source_of};
 ghost use Rattle.core_lowering.specs.Calls as wanted;
 
 use core_code::{Code, MethodCore, Op, Reason};
-use java_resolver::Table;
 use core_lowering_methods::{Source, lower_method};
+use java_resolver::Table;
 use racer_base::{Items, Memory, MethodId};
 use std::alloc::Global;
 

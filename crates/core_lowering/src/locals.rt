@@ -5,8 +5,8 @@ ghost use Rattle.core_lowering_rules.specs.TreesOf.{start_of, stmt_of};
 ghost use Rattle.core_lowering_methods.specs.Sources.{source_of};
 ghost use Rattle.core_lowering.specs.Locals.{starts, declares, all_declare, locals_of};
 
-use java_tree::{StartTree, Statement};
 use core_lowering_methods::{Body, Source};
+use java_tree::{StartTree, Statement};
 use racer_base::Memory;
 
 /// The sum of two counts.

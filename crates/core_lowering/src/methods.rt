@@ -7,8 +7,8 @@ ghost use Rattle.core_lowering_methods.specs.Sources.{source_of};
 ghost use Rattle.core_lowering.specs.Entries.{is_checked_in, is_entry_in};
 
 use core_code::{MethodCore, Reason};
-use java_resolver::{ClassInfo, MethodInfo, Table};
 use core_lowering_methods::{Source, lower_method};
+use java_resolver::{ClassInfo, MethodInfo, Table};
 use racer_base::{ClassId, Items, Kind, Memory, Text};
 use std::alloc::Global;
 

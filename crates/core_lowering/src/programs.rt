@@ -28,9 +28,9 @@ use crate::skipped::skipped_of;
 use crate::sources::sources_of;
 use crate::statuses::{all_recursive, own_reasons, statuses};
 use core_code::{Parts, Program, Reason, on_cycles};
-use java_resolver::Table;
-use java_parser_grammar::Unit;
 use core_lowering_methods::Source;
+use java_parser_grammar::Unit;
+use java_resolver::Table;
 use racer_base::{Items, MAX_CALL_EDGES, Memory, MethodId};
 use std::alloc::Global;
 

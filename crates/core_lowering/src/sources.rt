@@ -5,9 +5,9 @@ ghost use Rattle.core_lowering_methods.specs.Sources.{source_of};
 ghost use Rattle.core_lowering.specs.Parts as wanted;
 ghost use Rattle.core_lowering.specs.Parts.{part_of};
 
-use java_resolver::{MethodInfo, any_is_constructor};
-use java_parser_grammar::{ClassTree, Member, Unit};
 use core_lowering_methods::{Body, Source};
+use java_parser_grammar::{ClassTree, Member, Unit};
+use java_resolver::{MethodInfo, any_is_constructor};
 use racer_base::Memory;
 use std::alloc::Global;
 

@@ -10,8 +10,8 @@ ghost use Rattle.core_lowering.specs.Reasons as wanted;
 use crate::counts::{count_methods, is_overloaded};
 use crate::locals::count_locals;
 use core_code::Reason;
-use java_resolver::Table;
 use core_lowering_methods::{Body, Source};
+use java_resolver::Table;
 use racer_base::{MAX_LOCALS, MAX_PARAMETERS, Memory};
 use std::alloc::Global;
 

@@ -19,9 +19,9 @@ use crate::sources::{Body, Source};
 use crate::statements::lower_block;
 use crate::{Around, Draft, Given};
 use core_code::{Code, Reason};
+use java_parser_grammar::Member;
 use java_resolver::{MethodInfo, Table, has_word};
 use java_tree::{MethodTree, ParameterTree, ResultTree};
-use java_parser_grammar::Member;
 use racer_base::{Items, Kind, Memory};
 use std::alloc::Global;
 

@@ -1,7 +1,7 @@
 //! What a method is made of.
+use java_parser_grammar::Member;
 use java_resolver::MethodInfo;
 use java_tree::MethodTree;
-use java_parser_grammar::Member;
 
 /// The constructor that a class has without declaring it; a tree; what no tree spells.
 #[derive(Clone, Copy)]

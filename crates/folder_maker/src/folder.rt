@@ -5,8 +5,8 @@ ghost use Rattle.racer_memory.specs.MemoryFolder.{IsSteady, told_of};
 ghost use Rattle.folder_maker.specs.Folders as made;
 
 use crate::classes::{class_text, file_name};
-use racer_memory::MemoryFolder;
 use racer_base::Memory;
+use racer_memory::MemoryFolder;
 use std::alloc::Global;
 
 /// The names and the bytes of the files.

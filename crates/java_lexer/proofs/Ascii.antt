@@ -14,7 +14,8 @@ use Rattle.java_lexer.proofs.Bytes.{and_left, and_right}
 abbrev pub is_ascii : ℕ → Bool
 is_ascii b = nat_lt b 128
 
-pub ascii_all : (test : ℕ → Bool) → ((b : ℕ) → test b ≡ true → b < 128) → (bs : List ℕ) → list_all test bs ≡ true → IsAscii bs
+pub ascii_all : (test : ℕ → Bool) → ((b : ℕ) → test b ≡ true → b < 128) → (bs : List ℕ) → list_all test bs ≡ true →
+    IsAscii bs
 ascii_all test below [] h i = omega arith
 ascii_all test below (b ∷ bs) h zero = below b (and_left _ _ h)
 ascii_all test below (b ∷ bs) h (suc i) = ascii_all test below bs (and_right _ _ h) i
@@ -40,17 +41,20 @@ ascii_more b bs h all (suc i) = all i
 
 pub word_ascii : (bytes : List ℕ) → is_word bytes ≡ true → IsAscii bytes
 word_ascii [] h = absurd (false≢true h)
-word_ascii (b ∷ bs) h = ascii_more b bs (letter_below b (and_left _ _ h)) (ascii_all is_word_byte word_byte_below bs (and_right _ _ h))
+word_ascii (b ∷ bs) h = ascii_more b bs (letter_below b (and_left _ _ h))
+    (ascii_all is_word_byte word_byte_below bs (and_right _ _ h))
 
 or_cases : (a b : Bool) → (a || b) ≡ true → (a ≡ true) ⊎ (b ≡ true)
 or_cases true b h = inl refl
 or_cases false b h = inr h
 
 -- what is listed is as ASCII as the list
-pub listed_ascii : (table : List (List ℕ)) (bytes : List ℕ) → list_all (list_all is_ascii) table ≡ true → is_listed table bytes ≡ true → IsAscii bytes
+pub listed_ascii : (table : List (List ℕ)) (bytes : List ℕ) → list_all (list_all is_ascii) table ≡ true →
+    is_listed table bytes ≡ true → IsAscii bytes
 listed_ascii [] bytes all h = absurd (false≢true h)
 listed_ascii (t ∷ ts) bytes all h =
     elim (or_cases (pointwise nat_eq bytes t) (is_listed ts bytes) h) [
-      | inl e ↦ let same : bytes ≡ t = (bytes_decides bytes t).0 e in rw same (ascii_all is_ascii is_ascii_below t (and_left _ _ all))
+      | inl e ↦ let same : bytes ≡ t = (bytes_decides bytes t).0 e in
+          rw same (ascii_all is_ascii is_ascii_below t (and_left _ _ all))
       | inr e ↦ listed_ascii ts bytes (and_right _ _ all) e
     ]

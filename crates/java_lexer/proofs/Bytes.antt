@@ -31,5 +31,6 @@ not_both x true h e = absurd (false≢true (rw e at h))
 not_both x false h e = refl
 
 -- no ASCII byte passes both tests
-pub never_both : (p q : ℕ → Bool) → all_below 128 (λ b. not (p b && q b)) ≡ true → (b : ℕ) → b < 128 → p b ≡ true → q b ≡ false
+pub never_both : (p q : ℕ → Bool) → all_below 128 (λ b. not (p b && q b)) ≡ true → (b : ℕ) → b < 128 → p b ≡ true →
+    q b ≡ false
 never_both p q all b small h = not_both (p b) (q b) (each_below 128 (λ b. not (p b && q b)) all b small) h

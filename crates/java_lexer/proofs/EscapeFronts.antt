@@ -11,17 +11,24 @@ use Rattle.java_lexer.proofs.SomeFronts.{or_cases, or_left, or_right, front_is, 
 
 -- ---- a run of u
 
-u_run_case : (b : ℕ) (bs : List ℕ) (m : ℕ) (v : Bool) → (b == 117) ≡ v → m ≤ length (cond v (behind_u_run bs) (b ∷ bs)) → ((m : ℕ) → m ≤ length (behind_u_run bs) → (k : ℕ) × (k ≤ length bs) × (behind_u_run (take k bs) ≡ take m (behind_u_run bs))) → (k : ℕ) × (k ≤ suc (length bs)) × (behind_u_run (take k (b ∷ bs)) ≡ take m (cond v (behind_u_run bs) (b ∷ bs)))
+u_run_case : (b : ℕ) (bs : List ℕ) (m : ℕ) (v : Bool) → (b == 117) ≡ v →
+    m ≤ length (cond v (behind_u_run bs) (b ∷ bs)) →
+    ((m : ℕ) → m ≤ length (behind_u_run bs) → (k : ℕ) × (k ≤ length bs)
+    × (behind_u_run (take k bs) ≡ take m (behind_u_run bs))) → (k : ℕ) × (k ≤ suc (length bs))
+    × (behind_u_run (take k (b ∷ bs)) ≡ take m (cond v (behind_u_run bs) (b ∷ bs)))
 u_run_case b bs m true e le ih = let f = ih m le in (suc f.0, omega (arith, f.1), rw e f.2)
 u_run_case b bs zero false e le ih = (0, omega arith, refl)
 u_run_case b bs (suc j) false e le ih = (suc j, omega arith, rw e refl)
 
-u_run_found : (bs : List ℕ) (m : ℕ) → m ≤ length (behind_u_run bs) → (k : ℕ) × (k ≤ length bs) × (behind_u_run (take k bs) ≡ take m (behind_u_run bs))
+u_run_found : (bs : List ℕ) (m : ℕ) → m ≤ length (behind_u_run bs) → (k : ℕ) × (k ≤ length bs)
+    × (behind_u_run (take k bs) ≡ take m (behind_u_run bs))
 u_run_found [] zero le = (0, omega arith, refl)
 u_run_found [] (suc m) le = (0, omega arith, refl)
 u_run_found (b ∷ bs) m le = u_run_case b bs m (b == 117) refl le (u_run_found bs)
 
-u_run_take_case : (b : ℕ) (bs : List ℕ) (k : ℕ) (v : Bool) → (j : ℕ) × (behind_u_run (take k bs) ≡ take j (behind_u_run bs)) → (j : ℕ) × (cond v (behind_u_run (take k bs)) (b ∷ take k bs) ≡ take j (cond v (behind_u_run bs) (b ∷ bs)))
+u_run_take_case : (b : ℕ) (bs : List ℕ) (k : ℕ) (v : Bool) → (j : ℕ)
+    × (behind_u_run (take k bs) ≡ take j (behind_u_run bs)) → (j : ℕ)
+    × (cond v (behind_u_run (take k bs)) (b ∷ take k bs) ≡ take j (cond v (behind_u_run bs) (b ∷ bs)))
 u_run_take_case b bs k true ih = ih
 u_run_take_case b bs k false ih = (suc k, refl)
 
@@ -54,39 +61,47 @@ simple_is quote b h = rw h refl
 octal_is : (quote b : ℕ) → is_octal b ≡ true → is_escape quote (b ∷ []) ≡ true
 octal_is quote b h = or_left _ _ (or_right (is_simple b && true) _ (rw (h, one_or_two (nat_le b 51)) refl))
 
-unicode_is : (quote b : ℕ) (bs : List ℕ) → (b == 117) ≡ true → is_allowed_unit quote (take 4 (behind_u_run bs)) ≡ true → some_front (is_escape quote) (b ∷ bs) ≡ true
+unicode_is : (quote b : ℕ) (bs : List ℕ) → (b == 117) ≡ true → is_allowed_unit quote (take 4 (behind_u_run bs)) ≡ true →
+    some_front (is_escape quote) (b ∷ bs) ≡ true
 unicode_is quote b bs u h =
     let four = length_four quote (take 4 (behind_u_run bs)) h in
     let enough : 4 ≤ length (behind_u_run bs) = omega (arith, length-take 4 (behind_u_run bs)) in
     let f = u_run_found bs 4 enough in
-    front_is (is_escape quote) (b ∷ bs) (suc f.0) (omega arith) (omega (arith, f.1)) (or_right (is_simple_escape (b ∷ take f.0 bs) || is_octal_escape (b ∷ take f.0 bs)) _ (rw (u, f.2) h))
+    front_is (is_escape quote) (b ∷ bs) (suc f.0) (omega arith) (omega (arith, f.1))
+    (or_right (is_simple_escape (b ∷ take f.0 bs) || is_octal_escape (b ∷ take f.0 bs)) _ (rw (u, f.2) h))
 
 module _ (quote b : ℕ) (bs : List ℕ) where
   escape_there : begins_escape quote (b ∷ bs) ≡ true → some_front (is_escape quote) (b ∷ bs) ≡ true
   escape_there h =
       elim (or_cases (is_simple b || is_octal b) ((b == 117) && is_allowed_unit quote (take 4 (behind_u_run bs))) h) [
-        | inl e ↦ front_is (is_escape quote) (b ∷ bs) 1 (omega arith) (omega arith) (elim (or_cases (is_simple b) (is_octal b) e) [
-          | inl simple ↦ simple_is quote b simple
-          | inr octal ↦ octal_is quote b octal
-        ])
+        | inl e ↦ front_is (is_escape quote) (b ∷ bs) 1 (omega arith) (omega arith)
+            (elim (or_cases (is_simple b) (is_octal b) e) [
+              | inl simple ↦ simple_is quote b simple
+              | inr octal ↦ octal_is quote b octal
+            ])
         | inr e ↦ unicode_is quote b bs (and_left _ _ e) (and_right _ _ e)
       ]
 
-  unit_there : (k : ℕ) → is_allowed_unit quote (behind_u_run (take k bs)) ≡ true → is_allowed_unit quote (take 4 (behind_u_run bs)) ≡ true
+  unit_there : (k : ℕ) → is_allowed_unit quote (behind_u_run (take k bs)) ≡ true →
+      is_allowed_unit quote (take 4 (behind_u_run bs)) ≡ true
   unit_there k h =
       let j = u_run_take bs k in
       let four = length_four quote (behind_u_run (take k bs)) h in
-      let same : behind_u_run (take k bs) ≡ take 4 (behind_u_run bs) = j.1 ∙ same_take (behind_u_run bs) j.0 4 (sym (ap (length {A = ℕ}) j.1) ∙ four) in
+      let same : behind_u_run (take k bs) ≡ take 4 (behind_u_run bs) =
+      j.1 ∙ same_take (behind_u_run bs) j.0 4 (sym (ap (length {A = ℕ}) j.1) ∙ four) in
       rw same at h
 
   escape_front : (k : ℕ) → is_escape quote (b ∷ take k bs) ≡ true → begins_escape quote (b ∷ bs) ≡ true
   escape_front k h =
-      elim (or_cases (is_simple_escape (b ∷ take k bs) || is_octal_escape (b ∷ take k bs)) (is_unicode_escape quote (b ∷ take k bs)) h) [
+      elim (or_cases (is_simple_escape (b ∷ take k bs) || is_octal_escape (b ∷ take k bs))
+      (is_unicode_escape quote (b ∷ take k bs)) h) [
         | inl e ↦ or_left _ _ (elim (or_cases (is_simple_escape (b ∷ take k bs)) (is_octal_escape (b ∷ take k bs)) e) [
           | inl simple ↦ or_left (is_simple b) (is_octal b) (and_left _ _ simple)
           | inr octal ↦ or_right (is_simple b) (is_octal b) (and_left _ _ (and_left _ _ octal))
         ])
-        | inr e ↦ or_right (is_simple b || is_octal b) _ (let u : (b == 117) ≡ true = and_left _ _ e in rw (u, unit_there k (and_right (b == 117) (is_allowed_unit quote (behind_u_run (take k bs))) e)) refl)
+        | inr e ↦ or_right (is_simple b || is_octal b) _
+            (let u : (b == 117) ≡ true = and_left _ _ e in
+            rw (u, unit_there k (and_right (b == 117) (is_allowed_unit quote (behind_u_run (take k bs))) e)) refl)
       ]
 
   escape_from : some_front (is_escape quote) (b ∷ bs) ≡ true → begins_escape quote (b ∷ bs) ≡ true
@@ -107,4 +122,5 @@ nil_front quote = refl
 
 pub begins_is : (quote : ℕ) (bytes : List ℕ) → begins_escape quote bytes ≡ some_front (is_escape quote) bytes
 begins_is quote [] = nil_front quote
-begins_is quote (b ∷ bs) = same_truth (begins_escape quote (b ∷ bs)) (some_front (is_escape quote) (b ∷ bs)) (escape_there quote b bs) (escape_from quote b bs)
+begins_is quote (b ∷ bs) = same_truth (begins_escape quote (b ∷ bs)) (some_front (is_escape quote) (b ∷ bs))
+    (escape_there quote b bs) (escape_from quote b bs)

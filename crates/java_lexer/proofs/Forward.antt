@@ -34,18 +34,33 @@ stays s = (omega arith, λ e. omega arith)
 
 goes_on : (s t u : Spot) → GoesTo s t → GoesTo t u → GoesTo s u
 unfolding GoesTo
-goes_on s t u a b = (omega (arith, a.0, b.0), λ e. let f : s.line ≡ t.line = omega (arith, a.0, b.0) in let g : t.line ≡ u.line = omega (arith, a.0, b.0) in omega (arith, a.1 f, b.1 g))
+goes_on s t u a b = (
+  omega (arith, a.0, b.0),
+  λ e. let f : s.line ≡ t.line = omega (arith, a.0, b.0) in
+      let g : t.line ≡ u.line = omega (arith, a.0, b.0) in omega (arith, a.1 f, b.1 g),
+)
 
-feed_case : (s : Spot) (x : Bool) → s.after_return ≡ x → IsReached s → GoesTo s (cond x (record { line = s.line; column = 1; after_return = false }) (next_line s false)) × IsReached (cond x (record { line = s.line; column = 1; after_return = false }) (next_line s false))
+feed_case : (s : Spot) (x : Bool) → s.after_return ≡ x → IsReached s →
+    GoesTo s (cond x (record { line = s.line; column = 1; after_return = false }) (next_line s false))
+    × IsReached (cond x (record { line = s.line; column = 1; after_return = false }) (next_line s false))
 unfolding GoesTo
-feed_case s true e r = let first : s.column ≡ 1 = r.back e in ((omega arith, λ _. omega arith), record { one = omega arith; back = λ h. refl })
+feed_case s true e r = let first : s.column ≡ 1 = r.back e in
+    ((omega arith, λ _. omega arith), record { one = omega arith; back = λ h. refl })
 feed_case s false e r = ((omega arith, λ same. absurd (omega arith)), record { one = omega arith; back = λ h. refl })
 
-advance_case : (s : Spot) (v w : Bool) → IsReached s → GoesTo s (cond v (next_line s true) (cond w (line_feed s) (record { line = s.line; column = s.column + 1; after_return = false }))) × IsReached (cond v (next_line s true) (cond w (line_feed s) (record { line = s.line; column = s.column + 1; after_return = false })))
+advance_case : (s : Spot) (v w : Bool) → IsReached s →
+    GoesTo s (cond v (next_line s true) (cond w (line_feed s)
+    (record { line = s.line; column = s.column + 1; after_return = false })))
+    × IsReached (cond v (next_line s true) (cond w (line_feed s)
+    (record { line = s.line; column = s.column + 1; after_return = false })))
 unfolding GoesTo
 advance_case s true w r = ((omega arith, λ same. absurd (omega arith)), record { one = omega arith; back = λ h. refl })
 advance_case s false true r = unfold GoesTo in feed_case s s.after_return refl r
-advance_case s false false r = ((omega arith, λ same. omega arith), record { one = omega arith; back = λ h. absurd (false≢true h) })
+advance_case s false false r = (
+  (omega arith, λ same. omega arith),
+  record
+      { one = omega arith; back = λ h. absurd (false≢true h) },
+)
 
 advanced : (s : Spot) (b : ℕ) → IsReached s → GoesTo s (advance s b) × IsReached (advance s b)
 advanced s b r = advance_case s (b == 13) (b == 10) r
@@ -62,24 +77,33 @@ Between : FileId → Spot → Spot → List tokens.Token → Type 0
 Between file low high [] = GoesTo low high
 Between file low high (t ∷ ts) = (at : Spot) × (t.place ≡ place_at file at) × GoesTo low at × Between file at high ts
 
-from_before : (file : FileId) (a b c : Spot) (ts : List tokens.Token) → GoesTo a b → Between file b c ts → Between file a c ts
+from_before : (file : FileId) (a b c : Spot) (ts : List tokens.Token) → GoesTo a b → Between file b c ts →
+    Between file a c ts
 unfolding Between
 from_before file a b c [] l h = goes_on a b c l h
 from_before file a b c (t ∷ ts) l h = (h.0, h.1, goes_on a b h.0 l h.2, h.3)
 
-between_append : (file : FileId) (a b c : Spot) (xs ys : List tokens.Token) → Between file a b xs → Between file b c ys → Between file a c (xs ++ ys)
+between_append : (file : FileId) (a b c : Spot) (xs ys : List tokens.Token) → Between file a b xs →
+    Between file b c ys → Between file a c (xs ++ ys)
 unfolding Between
 between_append file a b c [] ys l h = from_before file a b c ys l h
 between_append file a b c (x ∷ xs) ys l h = (l.0, l.1, l.2, between_append file l.0 b c xs ys l.3 h)
 
-angles_between : (file : FileId) (s : Spot) (glued : Bool) (bs : List ℕ) → IsReached s → Between file s (fold advance s bs) (angle_tokens file s glued bs)
+angles_between : (file : FileId) (s : Spot) (glued : Bool) (bs : List ℕ) → IsReached s →
+    Between file s (fold advance s bs) (angle_tokens file s glued bs)
 unfolding Between
 angles_between file s glued [] r = stays s
 angles_between file s glued (b ∷ bs) r =
-    let one = advanced s b r in
-    (s, refl, stays s, from_before file s (advance s b) (fold advance s (b ∷ bs)) (angle_tokens file (advance s b) true bs) one.0 (angles_between file (advance s b) true bs one.1))
+    let one = advanced s b r in (
+      s,
+      refl,
+      stays s,
+      from_before file s (advance s b) (fold advance s (b ∷ bs))
+          (angle_tokens file (advance s b) true bs) one.0 (angles_between file (advance s b) true bs one.1),
+    )
 
-one_between : (file : FileId) (s : Spot) (kind : TokenKind) (bs : List ℕ) → IsReached s → Between file s (fold advance s bs) (one_token file s kind bs false ∷ [])
+one_between : (file : FileId) (s : Spot) (kind : TokenKind) (bs : List ℕ) → IsReached s →
+    Between file s (fold advance s bs) (one_token file s kind bs false ∷ [])
 unfolding Between
 one_between file s kind bs r = (s, refl, stays s, (folded s bs r).0)
 
@@ -87,26 +111,35 @@ none_between : (file : FileId) (s : Spot) (bs : List ℕ) → IsReached s → Be
 unfolding Between
 none_between file s bs r = (folded s bs r).0
 
-sign_case : (file : FileId) (s : Spot) (bs : List ℕ) (v : Bool) → IsReached s → Between file s (fold advance s bs) (cond v (angle_tokens file s false bs) (one_token file s Sign bs false ∷ []))
+sign_case : (file : FileId) (s : Spot) (bs : List ℕ) (v : Bool) → IsReached s →
+    Between file s (fold advance s bs) (cond v (angle_tokens file s false bs) (one_token file s Sign bs false ∷ []))
 sign_case file s bs true r = angles_between file s false bs r
 sign_case file s bs false r = one_between file s Sign bs r
 
-token_between : (file : FileId) (s : Spot) (kind : TokenKind) (bs : List ℕ) → IsReached s → Between file s (fold advance s bs) (token_of file s kind bs)
+token_between : (file : FileId) (s : Spot) (kind : TokenKind) (bs : List ℕ) → IsReached s →
+    Between file s (fold advance s bs) (token_of file s kind bs)
 token_between file s Sign bs r = sign_case file s bs (is_listed shifts bs) r
 token_between file s kind bs r = one_between file s kind bs r
 
-piece_between : (file : FileId) (s : Spot) (kind : PieceKind) (bs : List ℕ) → IsReached s → Between file s (fold advance s bs) (java_tokens_of file s kind bs)
+piece_between : (file : FileId) (s : Spot) (kind : PieceKind) (bs : List ℕ) → IsReached s →
+    Between file s (fold advance s bs) (java_tokens_of file s kind bs)
 piece_between file s White bs r = none_between file s bs r
 piece_between file s Comment bs r = none_between file s bs r
 piece_between file s (Token kind) bs r = token_between file s kind bs r
 
-all_between : (file : FileId) (s : Spot) (ps : List Piece) → IsReached s → (high : Spot) × Between file s high (tokens_from (java_tokens_of file) s ps)
+all_between : (file : FileId) (s : Spot) (ps : List Piece) → IsReached s → (high : Spot)
+    × Between file s high (tokens_from (java_tokens_of file) s ps)
 all_between file s [] r = (s, none_between file s [] r)
 all_between file s (p ∷ ps) r =
-    let more = all_between file (fold advance s p.bytes) ps (folded s p.bytes r).1 in
-    (more.0, between_append file s (fold advance s p.bytes) more.0 (java_tokens_of file s p.kind p.bytes) (tokens_from (java_tokens_of file) (fold advance s p.bytes) ps) (piece_between file s p.kind p.bytes r) more.1)
+    let more = all_between file (fold advance s p.bytes) ps (folded s p.bytes r).1 in (
+      more.0,
+      between_append file s (fold advance s p.bytes) more.0 (java_tokens_of file s p.kind p.bytes)
+          (tokens_from (java_tokens_of file) (fold advance s p.bytes) ps)
+          (piece_between file s p.kind p.bytes r) more.1,
+    )
 
-all_later : (file : FileId) (low high : Spot) (ts : List tokens.Token) → Between file low high ts → All (λ (u : tokens.Token). IsNotBehind (place_at file low) u.place) ts
+all_later : (file : FileId) (low high : Spot) (ts : List tokens.Token) → Between file low high ts →
+    All (λ (u : tokens.Token). IsNotBehind (place_at file low) u.place) ts
 unfolding Between GoesTo
 all_later file low high [] h k d less = absurd (omega arith)
 all_later file low high (t ∷ ts) h zero d less = rw h.1 h.2
@@ -118,7 +151,8 @@ in_order : (file : FileId) (low high : Spot) (ts : List tokens.Token) → Betwee
 unfolding Between
 in_order file low high [] h = λ i j d less within. absurd (omega arith)
 in_order file low high (t ∷ ts) h =
-    AllPairs-cons (λ (a b : tokens.Token). IsNotBehind a.place b.place) t ts (rw h.1 (all_later file h.0 high ts h.3)) (in_order file h.0 high ts h.3)
+    AllPairs-cons (λ (a b : tokens.Token). IsNotBehind a.place b.place) t ts (rw h.1 (all_later file h.0 high ts h.3))
+    (in_order file h.0 high ts h.3)
 
 begins : IsReached begin
 begins = record { one = omega arith; back = λ h. refl }

@@ -33,7 +33,8 @@ module _ (q : ℕ) where
   pub plain_goes : (b : ℕ) (bs : List ℕ) → is_plain q b ≡ true → ends_quoted q (b ∷ bs) ≡ ends_quoted q bs
   plain_goes b bs p = let n = none_of (b == q) (b == 92) (is_line_end b) p in rw (n.0, n.1, n.2) refl
 
-  pub escaped_goes : (b : ℕ) (bs : List ℕ) → q ≢ 92 → is_inline b ≡ true → ends_quoted q (92 ∷ b ∷ bs) ≡ ends_quoted q bs
+  pub escaped_goes : (b : ℕ) (bs : List ℕ) → q ≢ 92 → is_inline b ≡ true →
+      ends_quoted q (92 ∷ b ∷ bs) ≡ ends_quoted q bs
   escaped_goes b bs other p =
       let no : (92 == q) ≡ false = is_false (92 == q) (λ e. other (sym (eqb-true 92 q e))) in
       rw (no, p) refl
@@ -43,7 +44,8 @@ module _ (q : ℕ) where
 
   -- ---- items end at the quote
 
-  items_end : (items : List (List ℕ)) → q ≢ 92 → All (IsQuotedItem q) items → ends_quoted q (concat items ++ (q ∷ [])) ≡ true
+  items_end : (items : List (List ℕ)) → q ≢ 92 → All (IsQuotedItem q) items →
+      ends_quoted q (concat items ++ (q ∷ [])) ≡ true
   items_end [] other all = quote_ends
   items_end (item ∷ items) other all =
       let ih = items_end items other (All-tail (IsQuotedItem q) item items all) in
@@ -59,27 +61,38 @@ module _ (q : ℕ) where
 
   one_item : (item bs : List ℕ) → IsQuotedItem q item → HasItems bs → HasItems (item ++ bs)
   unfolding HasItems
-  one_item item bs is h = (item ∷ h.0, All-cons (IsQuotedItem q) item h.0 is h.1, ap (λ (t : List ℕ). item ++ t) h.2 ∙ sym (append_assoc item (concat h.0) (q ∷ [])))
+  one_item item bs is h = (
+    item ∷ h.0,
+    All-cons (IsQuotedItem q) item h.0 is h.1,
+    ap (λ (t : List ℕ). item ++ t) h.2
+        ∙ sym (append_assoc item (concat h.0) (q ∷ [])),
+  )
 
   last_one : (b : ℕ) (bs : List ℕ) → b ≡ q → bs ≡ [] → HasItems (b ∷ bs)
   unfolding HasItems
   last_one b bs is none = ([], no_items (IsQuotedItem q), rw (is, none) refl)
 
-  ends_case : (b : ℕ) (bs : List ℕ) (v w : Bool) → (b == q) ≡ v → (b == 92) ≡ w → cond v (is_nothing bs) (cond w (ends_behind_one q bs) (not (is_line_end b) && ends_quoted q bs)) ≡ true → (ends_quoted q bs ≡ true → HasItems bs) → (ends_behind_one q bs ≡ true → HasItems (92 ∷ bs)) → HasItems (b ∷ bs)
+  ends_case : (b : ℕ) (bs : List ℕ) (v w : Bool) → (b == q) ≡ v → (b == 92) ≡ w →
+      cond v (is_nothing bs) (cond w (ends_behind_one q bs) (not (is_line_end b) && ends_quoted q bs)) ≡ true →
+      (ends_quoted q bs ≡ true → HasItems bs) → (ends_behind_one q bs ≡ true → HasItems (92 ∷ bs)) → HasItems (b ∷ bs)
   ends_case b bs true w e f h ends behind = last_one b bs (eqb-true b q e) (nothing_is bs h)
   ends_case b bs false true e f h ends behind = let is : b ≡ 92 = eqb-true b 92 f in rw is (behind h)
   ends_case b bs false false e f h ends behind =
-      one_item (b ∷ []) bs (inl (b, refl, all_fail (b == q) (b == 92) (is_line_end b) e f (and_left _ _ h))) (ends (and_right (not (is_line_end b)) (ends_quoted q bs) h))
+      one_item (b ∷ []) bs (inl (b, refl, all_fail (b == q) (b == 92) (is_line_end b) e f (and_left _ _ h)))
+      (ends (and_right (not (is_line_end b)) (ends_quoted q bs) h))
 
-  both_items : (bs : List ℕ) → (ends_quoted q bs ≡ true → HasItems bs) × (ends_behind_one q bs ≡ true → HasItems (92 ∷ bs))
+  both_items : (bs : List ℕ) → (ends_quoted q bs ≡ true → HasItems bs)
+      × (ends_behind_one q bs ≡ true → HasItems (92 ∷ bs))
   both_items [] = (λ h. absurd (false≢true h), λ h. absurd (false≢true h))
   both_items (b ∷ bs) =
       let ih = both_items bs in (
         λ h. ends_case b bs (b == q) (b == 92) refl refl h ih.0 ih.1,
-        λ h. one_item (92 ∷ b ∷ []) bs (inr (b, refl, and_left _ _ h)) (ih.0 (and_right (not (is_line_end b)) (ends_quoted q bs) h)),
+        λ h. one_item (92 ∷ b ∷ []) bs (inr (b, refl, and_left _ _ h))
+            (ih.0 (and_right (not (is_line_end b)) (ends_quoted q bs) h)),
       )
 
-  pub ends_items : (bs : List ℕ) → ends_quoted q bs ≡ true → (items : List (List ℕ)) × All (IsQuotedItem q) items × (bs ≡ concat items ++ (q ∷ []))
+  pub ends_items : (bs : List ℕ) → ends_quoted q bs ≡ true → (items : List (List ℕ)) × All (IsQuotedItem q) items
+      × (bs ≡ concat items ++ (q ∷ []))
   unfolding HasItems
   ends_items bs = (both_items bs).0
 
@@ -98,5 +111,6 @@ module _ (q : ℕ) where
   to_quoted : (bytes : List ℕ) → q ≢ 92 → QuotedOfItems q bytes → is_quoted q bytes ≡ true
   to_quoted bytes other h = rw h.2 (quoted_is (concat h.0 ++ (q ∷ [])) (items_end h.0 other h.1))
 
-pub quoted_items : (quote : ℕ) (bytes : List ℕ) → quote ≢ 92 → (IsTrue (is_quoted quote bytes) ↔ QuotedOfItems quote bytes)
+pub quoted_items : (quote : ℕ) (bytes : List ℕ) → quote ≢ 92 →
+    (IsTrue (is_quoted quote bytes) ↔ QuotedOfItems quote bytes)
 quoted_items quote bytes other = (of_quoted quote bytes, to_quoted quote bytes other)

@@ -66,7 +66,8 @@ pub group_33 : (33 ∷ 61 ∷ []) ∷ (33 ∷ []) ∷ [] ≡ signs_with 33
 unfolding signs signs_with
 group_33 = refl
 
-pub group_62 : (62 ∷ 62 ∷ 62 ∷ 61 ∷ []) ∷ (62 ∷ 62 ∷ 62 ∷ []) ∷ (62 ∷ 62 ∷ 61 ∷ []) ∷ (62 ∷ 62 ∷ []) ∷ (62 ∷ 61 ∷ []) ∷ (62 ∷ []) ∷ [] ≡ signs_with 62
+pub group_62 : (62 ∷ 62 ∷ 62 ∷ 61 ∷ []) ∷ (62 ∷ 62 ∷ 62 ∷ []) ∷ (62 ∷ 62 ∷ 61 ∷ []) ∷ (62 ∷ 62 ∷ []) ∷ (62 ∷ 61 ∷ [])
+    ∷ (62 ∷ []) ∷ [] ≡ signs_with 62
 unfolding signs signs_with
 group_62 = refl
 
@@ -107,9 +108,12 @@ unfolding signs signs_with
 group_94 = refl
 
 abbrev pub is_start : ℕ → Bool
-is_start b = b == 40 || b == 41 || b == 123 || b == 125 || b == 91 || b == 93 || b == 59 || b == 44 || b == 46 || b == 64 || b == 58 || b == 126 || b == 63 || b == 61 || b == 33 || b == 62 || b == 60 || b == 45 || b == 43 || b == 42 || b == 47 || b == 37 || b == 38 || b == 124 || b == 94
+is_start b = b == 40 || b == 41 || b == 123 || b == 125 || b == 91 || b == 93 || b == 59 || b == 44 || b == 46 || b ==
+    64 || b == 58 || b == 126 || b == 63 || b == 61 || b == 33 || b == 62 || b == 60 || b == 45 || b == 43 || b == 42 ||
+    b == 47 || b == 37 || b == 38 || b == 124 || b == 94
 
 -- none has another first byte
 pub is_start_only : (b : ℕ) → b < 256 → is_start b ≡ false → [] ≡ signs_with b
 unfolding signs signs_with
-is_start_only b small none = or_none (is_start b) (signs_with b) (each_below 256 (λ b. is_start b || is_empty (signs_with b)) refl b small) none
+is_start_only b small none = or_none (is_start b) (signs_with b)
+    (each_below 256 (λ b. is_start b || is_empty (signs_with b)) refl b small) none

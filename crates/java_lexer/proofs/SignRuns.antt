@@ -31,18 +31,21 @@ signs_fall = each_below 256 (λ b. falls (signs_with b)) refl
 le_true : (m n : ℕ) → nat_le m n ≡ true → m ≤ n
 le_true m n h = grind (arith, nat_tests)
 
-listed_short : (n : ℕ) (ts : List (List ℕ)) (bytes : List ℕ) → list_all (λ (u : List ℕ). nat_le (length u) n) ts ≡ true → is_listed ts bytes ≡ true → length bytes ≤ n
+listed_short : (n : ℕ) (ts : List (List ℕ)) (bytes : List ℕ) →
+    list_all (λ (u : List ℕ). nat_le (length u) n) ts ≡ true → is_listed ts bytes ≡ true → length bytes ≤ n
 listed_short n [] bytes short h = absurd (false≢true h)
 listed_short n (t ∷ ts) bytes short h =
     elim (or_cases (pointwise nat_eq bytes t) (is_listed ts bytes) h) [
-      | inl e ↦ let same : bytes ≡ t = (bytes_decides bytes t).0 e in omega (arith, ap length same, le_true (length t) n (and_left _ _ short))
+      | inl e ↦ let same : bytes ≡ t = (bytes_decides bytes t).0 e in
+          omega (arith, ap length same, le_true (length t) n (and_left _ _ short))
       | inr e ↦ listed_short n ts bytes (and_right _ _ short) e
     ]
 
 -- ---- the first in the table that begins the text is the longest
 
 -- an entry that is a front of the text begins it
-entry_begins : (t text : List ℕ) (m : ℕ) → m ≤ length text → pointwise nat_eq (take m text) t ≡ true → (length t ≡ m) × (starts_with nat_eq text t ≡ true)
+entry_begins : (t text : List ℕ) (m : ℕ) → m ≤ length text → pointwise nat_eq (take m text) t ≡ true → (length t ≡ m)
+    × (starts_with nat_eq text t ≡ true)
 entry_begins t text m le h =
     let same : take m text ≡ t = (bytes_decides (take m text) t).0 h in
     let len : length t ≡ m = ap length (sym same) ∙ length-take-le m text le in
@@ -56,18 +59,26 @@ pub record IsLongestIn (table : List (List ℕ)) (text : List ℕ) (n : ℕ) : T
 some_nat : (x y : ℕ) → Some x ≡ Some y → x ≡ y
 some_nat x y e = cc
 
-found_case : (t : List ℕ) (ts : List (List ℕ)) (text : List ℕ) (n : ℕ) (v : Bool) → starts_with nat_eq text t ≡ v → falls (t ∷ ts) ≡ true → cond v (Some (length t)) (first_len ts text) ≡ Some n → (first_len ts text ≡ Some n → IsLongestIn ts text n) → IsLongestIn (t ∷ ts) text n
+found_case : (t : List ℕ) (ts : List (List ℕ)) (text : List ℕ) (n : ℕ) (v : Bool) → starts_with nat_eq text t ≡ v →
+    falls (t ∷ ts) ≡ true → cond v (Some (length t)) (first_len ts text) ≡ Some n →
+    (first_len ts text ≡ Some n → IsLongestIn ts text n) → IsLongestIn (t ∷ ts) text n
 found_case t ts text n true f fall e ih =
     let len = some_nat (length t) n e in
     let same : t ≡ take (length t) text = (bytes_decides t (take (length t) text)).0 f in
     let fits : length t ≤ length text = omega (arith, ap length same, length-take (length t) text) in
-    let back : pointwise nat_eq (take (length t) text) t ≡ true = (bytes_decides (take (length t) text) t).1 (sym same) in
+    let back : pointwise nat_eq (take (length t) text) t ≡ true =
+    (bytes_decides (take (length t) text) t).1 (sym same) in
     rw (← len) (record {
       fits = fits;
       is = rw back refl;
       longest = λ m le h. elim (or_cases (pointwise nat_eq (take m text) t) (is_listed ts (take m text)) h) [
         | inl e ↦ omega (arith, (entry_begins t text m le e).0)
-        | inr e ↦ omega (arith, listed_short (length t) ts (take m text) (and_left _ _ fall) e, length-take-le m text le)
+        | inr e ↦ omega (
+          arith,
+          listed_short (length t) ts (take m text)
+              (and_left _ _ fall) e,
+          length-take-le m text le,
+        )
       ];
     })
 found_case t ts text n false f fall e ih =
@@ -81,11 +92,15 @@ found_case t ts text n false f fall e ih =
       ];
     }
 
-pub sign_found : (table : List (List ℕ)) (text : List ℕ) (n : ℕ) → falls table ≡ true → first_len table text ≡ Some n → IsLongestIn table text n
+pub sign_found : (table : List (List ℕ)) (text : List ℕ) (n : ℕ) → falls table ≡ true → first_len table text ≡ Some n →
+    IsLongestIn table text n
 sign_found [] text n fall e = absurd cc
-sign_found (t ∷ ts) text n fall e = found_case t ts text n (starts_with nat_eq text t) refl fall e (sign_found ts text n (and_right _ _ fall))
+sign_found (t ∷ ts) text n fall e = found_case t ts text n (starts_with nat_eq text t) refl fall e
+    (sign_found ts text n (and_right _ _ fall))
 
-missing_case : (t : List ℕ) (ts : List (List ℕ)) (text : List ℕ) (v : Bool) → starts_with nat_eq text t ≡ v → cond v (Some (length t)) (first_len ts text) ≡ None → (m : ℕ) → m ≤ length text → is_listed (t ∷ ts) (take m text) ≡ true → (first_len ts text ≡ None → is_listed ts (take m text) ≡ true → ⊥) → ⊥
+missing_case : (t : List ℕ) (ts : List (List ℕ)) (text : List ℕ) (v : Bool) → starts_with nat_eq text t ≡ v →
+    cond v (Some (length t)) (first_len ts text) ≡ None → (m : ℕ) → m ≤ length text →
+    is_listed (t ∷ ts) (take m text) ≡ true → (first_len ts text ≡ None → is_listed ts (take m text) ≡ true → ⊥) → ⊥
 missing_case t ts text true f e m le h ih = cc
 missing_case t ts text false f e m le h ih =
     elim (or_cases (pointwise nat_eq (take m text) t) (is_listed ts (take m text)) h) [
@@ -93,6 +108,8 @@ missing_case t ts text false f e m le h ih =
       | inr p ↦ ih e p
     ]
 
-pub sign_missing : (table : List (List ℕ)) (text : List ℕ) → first_len table text ≡ None → (m : ℕ) → m ≤ length text → is_listed table (take m text) ≡ true → ⊥
+pub sign_missing : (table : List (List ℕ)) (text : List ℕ) → first_len table text ≡ None → (m : ℕ) → m ≤ length text →
+    is_listed table (take m text) ≡ true → ⊥
 sign_missing [] text e m le h = false≢true h
-sign_missing (t ∷ ts) text e m le h = missing_case t ts text (starts_with nat_eq text t) refl e m le h (λ q. sign_missing ts text q m le)
+sign_missing (t ∷ ts) text e m le h = missing_case t ts text (starts_with nat_eq text t) refl e m le h
+    (λ q. sign_missing ts text q m le)

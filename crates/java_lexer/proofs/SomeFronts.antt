@@ -21,7 +21,8 @@ pub is_false : (a : Bool) → (a ≡ true → ⊥) → a ≡ false
 is_false true h = absurd (h refl)
 is_false false h = refl
 
-upto_is : (is : List ℕ → Bool) (text : List ℕ) (m n : ℕ) → 0 < n → n ≤ m → is (take n text) ≡ true → some_upto is text m ≡ true
+upto_is : (is : List ℕ → Bool) (text : List ℕ) (m n : ℕ) → 0 < n → n ≤ m → is (take n text) ≡ true →
+    some_upto is text m ≡ true
 upto_is is text zero n some le h = absurd (omega arith)
 upto_is is text (suc m) n some le h =
     elim (or_less n (suc m) (omega arith)) [
@@ -29,7 +30,8 @@ upto_is is text (suc m) n some le h =
       | inr less ↦ or_right (is (take (suc m) text)) (some_upto is text m) (upto_is is text m n some (omega arith) h)
     ]
 
-upto_found : (is : List ℕ → Bool) (text : List ℕ) (m : ℕ) → some_upto is text m ≡ true → (n : ℕ) × (0 < n) × (n ≤ m) × (is (take n text) ≡ true)
+upto_found : (is : List ℕ → Bool) (text : List ℕ) (m : ℕ) → some_upto is text m ≡ true → (n : ℕ) × (0 < n) × (n ≤ m)
+    × (is (take n text) ≡ true)
 upto_found is text zero h = absurd (false≢true h)
 upto_found is text (suc m) h =
     elim (or_cases (is (take (suc m) text)) (some_upto is text m) h) [
@@ -37,13 +39,16 @@ upto_found is text (suc m) h =
       | inr e ↦ let f = upto_found is text m e in (f.0, f.1, omega (arith, f.2), f.3)
     ]
 
-pub front_is : (is : List ℕ → Bool) (text : List ℕ) (n : ℕ) → 0 < n → n ≤ length text → is (take n text) ≡ true → some_front is text ≡ true
+pub front_is : (is : List ℕ → Bool) (text : List ℕ) (n : ℕ) → 0 < n → n ≤ length text → is (take n text) ≡ true →
+    some_front is text ≡ true
 unfolding some_front
 front_is is text n some le h = upto_is is text (length text) n some le h
 
-pub front_found : (is : List ℕ → Bool) (text : List ℕ) → some_front is text ≡ true → (n : ℕ) × (0 < n) × (n ≤ length text) × (is (take n text) ≡ true)
+pub front_found : (is : List ℕ → Bool) (text : List ℕ) → some_front is text ≡ true → (n : ℕ) × (0 < n)
+    × (n ≤ length text) × (is (take n text) ≡ true)
 unfolding some_front
 front_found is text h = upto_found is text (length text) h
 
-pub no_front : (is : List ℕ → Bool) (text : List ℕ) → ((n : ℕ) → 0 < n → n ≤ length text → is (take n text) ≡ true → ⊥) → some_front is text ≡ false
+pub no_front : (is : List ℕ → Bool) (text : List ℕ) →
+    ((n : ℕ) → 0 < n → n ≤ length text → is (take n text) ≡ true → ⊥) → some_front is text ≡ false
 no_front is text h = is_false (some_front is text) (λ e. let f = front_found is text e in h f.0 f.1 f.2 f.3)

@@ -29,11 +29,15 @@ other_first (c ∷ cs) b bs h = is_false (nat_eq b c && pointwise nat_eq bs cs) 
     let same : b ≡ c = eqb-true b c (and_left (nat_eq b c) (pointwise nat_eq bs cs) e) in
     false≢true (sym h ∙ grind (arith, nat_tests)))
 
-cut_case : (t : List ℕ) (ts : List (List ℕ)) (b : ℕ) (bs : List ℕ) (v : Bool) → begins_with b t ≡ v → is_listed (filter (begins_with b) ts) (b ∷ bs) ≡ is_listed ts (b ∷ bs) → is_listed (cond v (t ∷ filter (begins_with b) ts) (filter (begins_with b) ts)) (b ∷ bs) ≡ is_listed (t ∷ ts) (b ∷ bs)
+cut_case : (t : List ℕ) (ts : List (List ℕ)) (b : ℕ) (bs : List ℕ) (v : Bool) → begins_with b t ≡ v →
+    is_listed (filter (begins_with b) ts) (b ∷ bs) ≡ is_listed ts (b ∷ bs) →
+    is_listed (cond v (t ∷ filter (begins_with b) ts) (filter (begins_with b) ts)) (b ∷ bs) ≡ is_listed (t ∷ ts)
+    (b ∷ bs)
 cut_case t ts b bs true e ih = ap (λ (v : Bool). pointwise nat_eq (b ∷ bs) t || v) ih
 cut_case t ts b bs false e ih = rw (other_first t b bs e) ih
 
-pub cut_listed : (table : List (List ℕ)) (b : ℕ) (bs : List ℕ) → is_listed (filter (begins_with b) table) (b ∷ bs) ≡ is_listed table (b ∷ bs)
+pub cut_listed : (table : List (List ℕ)) (b : ℕ) (bs : List ℕ) →
+    is_listed (filter (begins_with b) table) (b ∷ bs) ≡ is_listed table (b ∷ bs)
 cut_listed [] b bs = refl
 cut_listed (t ∷ ts) b bs = cut_case t ts b bs (begins_with b t) refl (cut_listed ts b bs)
 

@@ -50,11 +50,13 @@ hex_plain b h = not_false (is_special b) (never_both is_hex is_special refl b (h
 abbrev ArePlain : List ℕ → Type 0
 ArePlain bs = list_all (is_plain 34) bs ≡ true
 
-all_plain : (test : ℕ → Bool) → ((b : ℕ) → test b ≡ true → is_plain 34 b ≡ true) → (bs : List ℕ) → list_all test bs ≡ true → ArePlain bs
+all_plain : (test : ℕ → Bool) → ((b : ℕ) → test b ≡ true → is_plain 34 b ≡ true) → (bs : List ℕ) →
+    list_all test bs ≡ true → ArePlain bs
 all_plain test plain [] h = refl
 all_plain test plain (b ∷ bs) h = rw (plain b (and_left _ _ h)) (all_plain test plain bs (and_right _ _ h))
 
-u_run_case : (b : ℕ) (bs : List ℕ) (v : Bool) → (b == 117) ≡ v → ArePlain (cond v (behind_u_run bs) (b ∷ bs)) → (ArePlain (behind_u_run bs) → ArePlain bs) → ArePlain (b ∷ bs)
+u_run_case : (b : ℕ) (bs : List ℕ) (v : Bool) → (b == 117) ≡ v → ArePlain (cond v (behind_u_run bs) (b ∷ bs)) →
+    (ArePlain (behind_u_run bs) → ArePlain bs) → ArePlain (b ∷ bs)
 u_run_case b bs true e h ih = let is : b ≡ 117 = eqb-true b 117 e in rw is (ih h)
 u_run_case b bs false e h ih = h
 
@@ -71,12 +73,19 @@ escape_plain b bs h =
     elim (or_cases (is_simple_escape (b ∷ bs) || is_octal_escape (b ∷ bs)) (is_unicode_escape 34 (b ∷ bs)) h) [
       | inl e ↦ elim (or_cases (is_simple_escape (b ∷ bs)) (is_octal_escape (b ∷ bs)) e) [
         | inl simple ↦ (simple_inline b (and_left _ _ simple), nothing_plain bs (and_right (is_simple b) _ simple))
-        | inr octal ↦ (octal_inline b (and_left _ _ (and_left _ _ octal)), all_plain is_octal octal_plain bs (and_right (is_octal b) _ (and_left _ _ octal)))
+        | inr octal ↦ (
+          octal_inline b (and_left _ _ (and_left _ _ octal)),
+          all_plain is_octal octal_plain bs
+              (and_right (is_octal b) _ (and_left _ _ octal)),
+        )
       ]
       | inr e ↦
           let is : b ≡ 117 = eqb-true b 117 (and_left _ _ e) in
-          let unit : is_allowed_unit 34 (behind_u_run bs) ≡ true = and_right (b == 117) _ e in
-          (rw is refl, u_run_plain bs (all_plain is_hex hex_plain (behind_u_run bs) (and_right _ _ (and_left _ _ unit))))
+          let unit : is_allowed_unit 34 (behind_u_run bs) ≡ true = and_right (b == 117) _ e in (
+            rw is refl,
+            u_run_plain bs (all_plain is_hex hex_plain (behind_u_run bs)
+                (and_right _ _ (and_left _ _ unit))),
+          )
     ]
 
 -- ---- plain bytes are passed
@@ -86,11 +95,13 @@ plain_holds b bs p = let n = none_of (b == 34) (b == 92) (is_line_end b) p in rw
 
 plains_end : (ps bs : List ℕ) → ArePlain ps → ends_quoted 34 (ps ++ bs) ≡ ends_quoted 34 bs
 plains_end [] bs h = refl
-plains_end (p ∷ ps) bs h = plain_goes 34 p (ps ++ bs) (and_left _ _ h) ∙ plains_end ps bs (and_right (is_plain 34 p) _ h)
+plains_end (p ∷ ps) bs h = plain_goes 34 p (ps ++ bs) (and_left _ _ h)
+    ∙ plains_end ps bs (and_right (is_plain 34 p) _ h)
 
 plains_hold : (ps bs : List ℕ) → ArePlain ps → escapes_hold (ps ++ bs) ≡ escapes_hold bs
 plains_hold [] bs h = refl
-plains_hold (p ∷ ps) bs h = plain_holds p (ps ++ bs) (and_left _ _ h) ∙ plains_hold ps bs (and_right (is_plain 34 p) _ h)
+plains_hold (p ∷ ps) bs h = plain_holds p (ps ++ bs) (and_left _ _ h)
+    ∙ plains_hold ps bs (and_right (is_plain 34 p) _ h)
 
 -- ---- items are a text literal
 
@@ -115,8 +126,10 @@ escape_item (c ∷ ps) bs is h =
     let plain = escape_plain c ps is in
     let front : take (suc (length ps)) (c ∷ (ps ++ bs)) ≡ c ∷ ps = take_at (c ∷ ps) bs (suc (length ps)) refl in
     let fits : suc (length ps) ≤ length (c ∷ (ps ++ bs)) = omega (arith, length-append ps bs) in
-    let some : some_front (is_escape 34) (c ∷ (ps ++ bs)) ≡ true = front_is (is_escape 34) (c ∷ (ps ++ bs)) (suc (length ps)) (omega arith) fits (ap (is_escape 34) front ∙ is) in (
-      escaped_goes 34 c ((ps ++ bs) ++ (34 ∷ [])) other_quote plain.0 ∙ ap (ends_quoted 34) (append_assoc ps bs (34 ∷ [])) ∙ plains_end ps (bs ++ (34 ∷ [])) plain.1 ∙ h.0,
+    let some : some_front (is_escape 34) (c ∷ (ps ++ bs)) ≡ true =
+    front_is (is_escape 34) (c ∷ (ps ++ bs)) (suc (length ps)) (omega arith) fits (ap (is_escape 34) front ∙ is) in (
+      escaped_goes 34 c ((ps ++ bs) ++ (34 ∷ [])) other_quote plain.0
+          ∙ ap (ends_quoted 34) (append_assoc ps bs (34 ∷ [])) ∙ plains_end ps (bs ++ (34 ∷ [])) plain.1 ∙ h.0,
       rw some (plains_hold ps bs plain.1 ∙ h.1),
     )
 
@@ -130,7 +143,8 @@ items_hold (item ∷ items) all =
     ]
 
 between : (content : List ℕ) → between_quotes (34 ∷ (content ++ (34 ∷ []))) ≡ content
-between content = take_at content (34 ∷ []) (length (34 ∷ (content ++ (34 ∷ []))) - 2) (omega (arith, length-append content (34 ∷ [])))
+between content = take_at content (34 ∷ []) (length (34 ∷ (content ++ (34 ∷ []))) - 2)
+    (omega (arith, length-append content (34 ∷ [])))
 
 to_text : (bytes : List ℕ) → TextOfItems bytes → is_text bytes ≡ true
 unfolding Holds
@@ -152,8 +166,11 @@ no_more [] h = false≢true h
 no_more (b ∷ bs) h = false≢true h
 
 -- a backslash, and what an escape behind it takes along
-behind_backslash : (n : ℕ) (bs : List ℕ) → length bs ≤ n → some_front (is_escape 34) bs ≡ true → ends_behind_one 34 (bs ++ (34 ∷ [])) ≡ true → hold_behind_one bs ≡ true → ((rest : List ℕ) → length rest ≤ n → Holds rest → HasText rest) → HasText (92 ∷ bs)
-behind_backslash n [] le some ends hold more = absurd (let f = front_found (is_escape 34) [] some in omega (arith, f.1, f.2))
+behind_backslash : (n : ℕ) (bs : List ℕ) → length bs ≤ n → some_front (is_escape 34) bs ≡ true →
+    ends_behind_one 34 (bs ++ (34 ∷ [])) ≡ true → hold_behind_one bs ≡ true →
+    ((rest : List ℕ) → length rest ≤ n → Holds rest → HasText rest) → HasText (92 ∷ bs)
+behind_backslash n [] le some ends hold more =
+    absurd (let f = front_found (is_escape 34) [] some in omega (arith, f.1, f.2))
 behind_backslash n (c ∷ cs) le some ends hold more = let f = front_found (is_escape 34) (c ∷ cs) some in at f.0 f.1 f.3
   where
     at : (k : ℕ) → 0 < k → is_escape 34 (take k (c ∷ cs)) ≡ true → HasText (92 ∷ c ∷ cs)
@@ -161,19 +178,30 @@ behind_backslash n (c ∷ cs) le some ends hold more = let f = front_found (is_e
     at (suc j) pos is =
         let plain = escape_plain c (take j cs) is in
         let whole : take j cs ++ drop j cs ≡ cs = take-append-drop j cs in
-        let split : cs ++ (34 ∷ []) ≡ take j cs ++ (drop j cs ++ (34 ∷ [])) = ap (λ (t : List ℕ). t ++ (34 ∷ [])) (sym whole) ∙ append_assoc (take j cs) (drop j cs) (34 ∷ []) in
-        let ends_rest : ends_quoted 34 (drop j cs ++ (34 ∷ [])) ≡ true = sym (plains_end (take j cs) (drop j cs ++ (34 ∷ [])) plain.1) ∙ sym (ap (ends_quoted 34) split) ∙ and_right (not (is_line_end c)) (ends_quoted 34 (cs ++ (34 ∷ []))) ends in
-        let hold_rest : escapes_hold (drop j cs) ≡ true = sym (plains_hold (take j cs) (drop j cs) plain.1) ∙ ap escapes_hold whole ∙ hold in
-        let rest : HasText (drop j cs) = more (drop j cs) (omega (arith, length-drop j cs)) (both_hold (drop j cs) ends_rest hold_rest) in
-        subst (λ (t : List ℕ). HasText (92 ∷ c ∷ t)) whole (one_item (92 ∷ c ∷ take j cs) (drop j cs) (inr (c ∷ take j cs, refl, is)) rest)
+        let split : cs ++ (34 ∷ []) ≡ take j cs ++ (drop j cs ++ (34 ∷ [])) =
+        ap (λ (t : List ℕ). t ++ (34 ∷ [])) (sym whole) ∙ append_assoc (take j cs) (drop j cs) (34 ∷ []) in
+        let ends_rest : ends_quoted 34 (drop j cs ++ (34 ∷ [])) ≡ true =
+        sym (plains_end (take j cs) (drop j cs ++ (34 ∷ [])) plain.1) ∙ sym (ap (ends_quoted 34) split)
+        ∙ and_right (not (is_line_end c)) (ends_quoted 34 (cs ++ (34 ∷ []))) ends in
+        let hold_rest : escapes_hold (drop j cs) ≡ true =
+        sym (plains_hold (take j cs) (drop j cs) plain.1) ∙ ap escapes_hold whole ∙ hold in
+        let rest : HasText (drop j cs) = more (drop j cs) (omega (arith, length-drop j cs))
+        (both_hold (drop j cs) ends_rest hold_rest) in
+        subst (λ (t : List ℕ). HasText (92 ∷ c ∷ t)) whole
+        (one_item (92 ∷ c ∷ take j cs) (drop j cs) (inr (c ∷ take j cs, refl, is)) rest)
 
-text_case : (n b : ℕ) (bs : List ℕ) (v w : Bool) → length bs ≤ n → (b == 34) ≡ v → (b == 92) ≡ w → cond v (is_nothing (bs ++ (34 ∷ []))) (cond w (ends_behind_one 34 (bs ++ (34 ∷ []))) (not (is_line_end b) && ends_quoted 34 (bs ++ (34 ∷ [])))) ≡ true → cond w (some_front (is_escape 34) bs && hold_behind_one bs) (escapes_hold bs) ≡ true → ((rest : List ℕ) → length rest ≤ n → Holds rest → HasText rest) → HasText (b ∷ bs)
+text_case : (n b : ℕ) (bs : List ℕ) (v w : Bool) → length bs ≤ n → (b == 34) ≡ v → (b == 92) ≡ w →
+    cond v (is_nothing (bs ++ (34 ∷ []))) (cond w (ends_behind_one 34 (bs ++ (34 ∷ [])))
+    (not (is_line_end b) && ends_quoted 34 (bs ++ (34 ∷ [])))) ≡ true →
+    cond w (some_front (is_escape 34) bs && hold_behind_one bs) (escapes_hold bs) ≡ true →
+    ((rest : List ℕ) → length rest ≤ n → Holds rest → HasText rest) → HasText (b ∷ bs)
 text_case n b bs true w le e f ends hold more = absurd (no_more bs ends)
 text_case n b bs false true le e f ends hold more =
     let is : b ≡ 92 = eqb-true b 92 f in
     rw is (behind_backslash n bs le (and_left _ _ hold) ends (and_right (some_front (is_escape 34) bs) _ hold) more)
 text_case n b bs false false le e f ends hold more =
-    one_item (b ∷ []) bs (inl (b, refl, all_fail (b == 34) (b == 92) (is_line_end b) e f (and_left _ _ ends))) (more bs le (both_hold bs (and_right (not (is_line_end b)) (ends_quoted 34 (bs ++ (34 ∷ []))) ends) hold))
+    one_item (b ∷ []) bs (inl (b, refl, all_fail (b == 34) (b == 92) (is_line_end b) e f (and_left _ _ ends)))
+    (more bs le (both_hold bs (and_right (not (is_line_end b)) (ends_quoted 34 (bs ++ (34 ∷ []))) ends) hold))
 
 text_upto : (n : ℕ) (bs : List ℕ) → length bs ≤ n → Holds bs → HasText bs
 unfolding Holds HasText
@@ -181,11 +209,13 @@ text_upto n [] le h = ([], no_items IsTextItem, refl)
 text_upto zero (b ∷ bs) le h = absurd (omega arith)
 text_upto (suc n) (b ∷ bs) le h = text_case n b bs (b == 34) (b == 92) (omega arith) refl refl h.0 h.1 (text_upto n)
 
-of_content : (b : ℕ) (bs content : List ℕ) → b ≡ 34 → bs ≡ content ++ (34 ∷ []) → ends_quoted 34 bs ≡ true → escapes_hold (between_quotes (b ∷ bs)) ≡ true → TextOfItems (b ∷ bs)
+of_content : (b : ℕ) (bs content : List ℕ) → b ≡ 34 → bs ≡ content ++ (34 ∷ []) → ends_quoted 34 bs ≡ true →
+    escapes_hold (between_quotes (b ∷ bs)) ≡ true → TextOfItems (b ∷ bs)
 unfolding Holds HasText
 of_content b bs content is e ends hold =
     let same : between_quotes (b ∷ bs) ≡ content = ap (λ (t : List ℕ). between_quotes (b ∷ t)) e ∙ between content in
-    let t = text_upto (length content) content (omega arith) (sym (ap (ends_quoted 34) e) ∙ ends, sym (ap escapes_hold same) ∙ hold) in
+    let t = text_upto (length content) content (omega arith)
+    (sym (ap (ends_quoted 34) e) ∙ ends, sym (ap escapes_hold same) ∙ hold) in
     (t.0, t.1, ap (λ c. c ∷ bs) is ∙ ap (λ (t : List ℕ). 34 ∷ t) (e ∙ ap (λ (t : List ℕ). t ++ (34 ∷ [])) t.2))
 
 of_text : (bytes : List ℕ) → is_text bytes ≡ true → TextOfItems bytes

@@ -42,7 +42,8 @@ none_ascii i = omega arith
 
 go_on_ascii : (hex : Bool) (b : ℕ) (bs : List ℕ) → go_on hex b bs ≡ true → IsAscii bs
 go_on_ascii hex b [] h = none_ascii
-go_on_ascii hex b (c ∷ cs) h = ascii_more c cs (next_below hex b c (and_left _ _ h)) (go_on_ascii hex c cs (and_right _ _ h))
+go_on_ascii hex b (c ∷ cs) h = ascii_more c cs (next_below hex b c (and_left _ _ h))
+    (go_on_ascii hex c cs (and_right _ _ h))
 
 number_ascii : (bytes : List ℕ) → is_number bytes ≡ true → IsAscii bytes
 number_ascii [] h = absurd (false≢true h)
@@ -71,38 +72,68 @@ unfolding LastIs
 last_one q b [] e h = (0, refl, e)
 last_one q b (c ∷ cs) e h = absurd (false≢true h)
 
-last_case : (q b : ℕ) (bs : List ℕ) (v w : Bool) → (b == q) ≡ v → cond v (is_nothing bs) (cond w (ends_behind_one q bs) (not (is_line_end b) && ends_quoted q bs)) ≡ true → (ends_quoted q bs ≡ true → LastIs q bs) → (ends_behind_one q bs ≡ true → LastIs q bs) → LastIs q (b ∷ bs)
+last_case : (q b : ℕ) (bs : List ℕ) (v w : Bool) → (b == q) ≡ v →
+    cond v (is_nothing bs) (cond w (ends_behind_one q bs) (not (is_line_end b) && ends_quoted q bs)) ≡ true →
+    (ends_quoted q bs ≡ true → LastIs q bs) → (ends_behind_one q bs ≡ true → LastIs q bs) → LastIs q (b ∷ bs)
 last_case q b bs true w e h ends behind = last_one q b bs (eqb-true b q e) h
 last_case q b bs false true e h ends behind = last_more q b bs (behind h)
 last_case q b bs false false e h ends behind = last_more q b bs (ends (and_right _ _ h))
 
-last_both : (q : ℕ) (bs : List ℕ) → (ends_quoted q bs ≡ true → LastIs q bs) × (ends_behind_one q bs ≡ true → LastIs q bs)
+last_both : (q : ℕ) (bs : List ℕ) → (ends_quoted q bs ≡ true → LastIs q bs)
+    × (ends_behind_one q bs ≡ true → LastIs q bs)
 last_both q [] = (λ h. absurd (false≢true h), λ h. absurd (false≢true h))
 last_both q (b ∷ bs) =
-    let ih = last_both q bs in
-    (λ h. last_case q b bs (b == q) (b == 92) refl h ih.0 ih.1, λ h. last_more q b bs (ih.0 (and_right (not (is_line_end b)) (ends_quoted q bs) h)))
+    let ih = last_both q bs in (
+      λ h. last_case q b bs (b == q) (b == 92) refl h ih.0 ih.1,
+      λ h. last_more q b bs
+          (ih.0 (and_right (not (is_line_end b)) (ends_quoted q bs) h)),
+    )
 
 -- the first byte is the quote, and so is the last
-quoted_edges : (q : ℕ) (bytes : List ℕ) → is_quoted q bytes ≡ true → (get_or bytes 0 0 ≡ q) × ((k : ℕ) × (length bytes ≡ suc k) × (get_or bytes k 0 ≡ q))
+quoted_edges : (q : ℕ) (bytes : List ℕ) → is_quoted q bytes ≡ true → (get_or bytes 0 0 ≡ q)
+    × ((k : ℕ) × (length bytes ≡ suc k) × (get_or bytes k 0 ≡ q))
 unfolding LastIs
 quoted_edges q [] h = absurd (false≢true h)
-quoted_edges q (b ∷ bs) h = (eqb-true b q (and_left _ _ h), last_more q b bs ((last_both q bs).0 (and_right (b == q) (ends_quoted q bs) h)))
+quoted_edges q (b ∷ bs) h = (
+  eqb-true b q (and_left _ _ h),
+  last_more q b bs
+      ((last_both q bs).0 (and_right (b == q) (ends_quoted q bs) h)),
+)
 
-quoted_utf8 : (q : ℕ) (bytes : List ℕ) (i n : ℕ) → q < 128 → IsUtf8 bytes → i + n ≤ length bytes → is_quoted q (take n (drop i bytes)) ≡ true → IsUtf8 (take n (drop i bytes))
+quoted_utf8 : (q : ℕ) (bytes : List ℕ) (i n : ℕ) → q < 128 → IsUtf8 bytes → i + n ≤ length bytes →
+    is_quoted q (take n (drop i bytes)) ≡ true → IsUtf8 (take n (drop i bytes))
 quoted_utf8 q bytes i n small utf8 fits h =
     let edges = quoted_edges q (take n (drop i bytes)) h in
     let last = edges.1 in
-    let len : n ≡ suc last.0 = omega (arith, last.1, length-take-le n (drop i bytes) (omega (arith, length-drop i bytes))) in
-    let front : get_or bytes i 0 < 128 = omega (arith, edges.0, get_or-take n (drop i bytes) 0 0 (omega arith), get_or-drop i bytes 0 0, ap (λ k. get_or bytes k 0) (add-zero i)) in
-    let back : get_or bytes (i + last.0) 0 < 128 = omega (arith, last.2, get_or-take n (drop i bytes) last.0 0 (omega arith), get_or-drop i bytes last.0 0) in
+    let len : n ≡ suc last.0 = omega (
+      arith,
+      last.1,
+      length-take-le n (drop i bytes)
+          (omega (arith, length-drop i bytes)),
+    ) in
+    let front : get_or bytes i 0 < 128 = omega (
+      arith,
+      edges.0,
+      get_or-take n (drop i bytes) 0 0 (omega arith),
+      get_or-drop i bytes 0 0,
+      ap
+          (λ k. get_or bytes k 0) (add-zero i),
+    ) in
+    let back : get_or bytes (i + last.0) 0 < 128 =
+    omega (arith, last.2, get_or-take n (drop i bytes) last.0 0 (omega arith), get_or-drop i bytes last.0 0) in
     let begins : IsCharBoundary bytes i = IsCharBoundary-before_ascii bytes i (omega arith) front in
-    let ends : IsCharBoundary bytes (i + last.0 + 1) = IsCharBoundary-after_ascii bytes (i + last.0) utf8 (omega arith) back in
+    let ends : IsCharBoundary bytes (i + last.0 + 1) =
+    IsCharBoundary-after_ascii bytes (i + last.0) utf8 (omega arith) back in
     let span : (i + last.0 + 1) - i ≡ n = omega arith in
     rw span at (IsUtf8-between bytes i (i + last.0 + 1) utf8 (omega arith) begins ends)
 
 -- ---- all
 
-token_case : (w c l n x t s : Bool) (word kind : TokenKind) → cond w (Some White) (cond c (Some Comment) (cond l (Some (Token word)) (cond n (Some (Token Number)) (cond x (Some (Token Character)) (cond t (Some (Token Text)) (cond s (Some (Token Sign)) None)))))) ≡ Some (Token kind) → (l ≡ true) ⊎ ((n ≡ true) ⊎ ((x ≡ true) ⊎ ((t ≡ true) ⊎ (s ≡ true))))
+token_case : (w c l n x t s : Bool) (word kind : TokenKind) →
+    cond w (Some White) (cond c (Some Comment)
+    (cond l (Some (Token word)) (cond n (Some (Token Number))
+    (cond x (Some (Token Character)) (cond t (Some (Token Text)) (cond s (Some (Token Sign)) None)))))) ≡ Some
+    (Token kind) → (l ≡ true) ⊎ ((n ≡ true) ⊎ ((x ≡ true) ⊎ ((t ≡ true) ⊎ (s ≡ true))))
 token_case true c l n x t s word kind e = absurd cc
 token_case false true l n x t s word kind e = absurd cc
 token_case false false true n x t s word kind e = inl refl
@@ -113,13 +144,16 @@ token_case false false false false false false true word kind e = inr (inr (inr 
 token_case false false false false false false false word kind e = absurd cc
 
 -- a token of a text in UTF-8 is in UTF-8
-pub token_utf8 : (bytes : List ℕ) (i n : ℕ) (kind : TokenKind) → IsUtf8 bytes → i + n ≤ length bytes → java_kind (take n (drop i bytes)) ≡ Some (Token kind) → IsUtf8 (take n (drop i bytes))
+pub token_utf8 : (bytes : List ℕ) (i n : ℕ) (kind : TokenKind) → IsUtf8 bytes → i + n ≤ length bytes →
+    java_kind (take n (drop i bytes)) ≡ Some (Token kind) → IsUtf8 (take n (drop i bytes))
 token_utf8 bytes i n kind utf8 fits h =
     let p = take n (drop i bytes) in
-    elim (token_case (is_white_space p) (is_comment p) (is_word p) (is_number p) (is_character p) (is_text p) (is_sign p) (word_kind p) kind h) [
+    elim (token_case (is_white_space p) (is_comment p) (is_word p) (is_number p) (is_character p) (is_text p)
+    (is_sign p) (word_kind p) kind h) [
       | inl word ↦ IsUtf8-from_ascii p (word_ascii p word)
       | inr (inl number) ↦ IsUtf8-from_ascii p (number_ascii p number)
-      | inr (inr (inl character)) ↦ quoted_utf8 39 bytes i n (omega arith) utf8 fits (and_left (is_quoted 39 p) _ character)
+      | inr (inr (inl character)) ↦ quoted_utf8 39 bytes i n (omega arith) utf8 fits
+          (and_left (is_quoted 39 p) _ character)
       | inr (inr (inr (inl text))) ↦ quoted_utf8 34 bytes i n (omega arith) utf8 fits (and_left (is_quoted 34 p) _ text)
       | inr (inr (inr (inr sign))) ↦ IsUtf8-from_ascii p (sign_ascii p sign)
     ]

@@ -1,8 +1,8 @@
 -- What an error says that is passed on.
 use Rattle.std.proofs.Common.{◌≡◌, Option, None, Result, Err, ap}
 use Rattle.std.specs.Prelude.{IsErrOf}
-use Rattle.java_parser_types.specs.declared.reading.error.ReadError.{ReadError}
-use Rattle.java_parser_types.specs.declared.reading.error.ReadError.TheVariants.{Memory, Unformed}
+use Rattle.java_parser_types.specs.declared.error.ReadError.{ReadError}
+use Rattle.java_parser_types.specs.declared.error.ReadError.TheVariants.{Memory, Unformed}
 use Rattle.java_parser_types.specs.ReadAnswer.{Fails}
 
 pub fails_so : {Y : Type 0} (e : ReadError) (read : Option Y) → e ≡ Unformed → Fails e read → read ≡ None

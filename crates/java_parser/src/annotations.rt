@@ -10,10 +10,10 @@ use crate::declarations::TYPE_MODIFIERS;
 use crate::pieces::{is_annotation, next_piece};
 use crate::tests_of_tokens::{signed, worded_among};
 use java_lexer::Token;
+use java_parser_types::look::{is_name, is_sign};
 use java_tree::{AnnotationTree, Spelled};
 use racer_base::{Items, Memory, Text};
 use std::alloc::Global;
-use java_parser_types::reading::look::{is_name, is_sign};
 
 fn copied(alloc: Global, token: &Token) -> Result<Spelled, Memory>
     ensures { IfOk result (λ copy. copy ≡ plain token.now) }

@@ -6,9 +6,9 @@ ghost use Rattle.java_parser.specs.OpenBrackets.{open_onto, IsOpened, IsBalanced
 
 use java_lexer::Token;
 use java_parser_grammar::ParseFault;
+use java_parser_types::look::is_sign;
 use racer_base::{MAX_BRACKET_NESTING, Memory, Place};
 use std::alloc::Global;
-use java_parser_types::reading::look::is_sign;
 
 pub fn is_opening(token: &Token) -> bool
     ensures { result ≡ is_opening token.now }

@@ -8,7 +8,7 @@ ghost use Rattle.java_parser.specs.Members.{behind_member, cut_of};
 use super::items::{inside, next_item};
 use super::tests_of_tokens::signed;
 use java_lexer::Token;
-use java_parser_types::reading::look::is_sign;
+use java_parser_types::look::is_sign;
 
 /// Whether a member ends with the item, where an `=` stood before it or none.
 fn ends_member(equals: bool, item: &[Token]) -> bool

@@ -7,7 +7,7 @@ ghost use Rattle.java_parser_grammar.specs.Heads.{commas_among, parameters_among
 use super::items::next_item;
 use super::tests_of_tokens::{begins_angle, signed, worded};
 use java_lexer::Token;
-use java_parser_types::reading::look::is_keyword;
+use java_parser_types::look::is_keyword;
 
 /// How many commas stand outside brackets, `<` and `>` among these.
 fn commas(tokens: &[Token]) -> u32

@@ -6,19 +6,19 @@ ghost use Rattle.java_parser_grammar.specs.ExpressionReading.{init_at};
 ghost use Rattle.java_parser_grammar.specs.FieldDivisions.{IsDivided, between_commas};
 ghost use Rattle.java_parser_grammar.specs.Pieces.{items_of};
 ghost use Rattle.java_parser_types.specs.Tokens.{spelled};
-ghost use Rattle.java_parser_types.specs.declared.reading.error.ReadError.TheVariants.{Unformed};
+ghost use Rattle.java_parser_types.specs.declared.error.ReadError.TheVariants.{Unformed};
 ghost use Rattle.java_parser.specs.Divisions.{HasValue, HasTree, NoDivision, NoVariable, EndsVariable};
 ghost use Rattle.java_parser.specs.Divisions.{IsSized, IsFirst};
 ghost use Rattle.java_parser.specs.Divisions.{IsCut, left_size, left_pieces, ArePieces};
 
 use crate::items::next_item;
 use crate::tests_of_tokens::signed;
-use java_parser_expressions::reading::initialisers::read_initialiser;
 use java_lexer::Token;
+use java_parser_expressions::initialisers::read_initialiser;
+use java_parser_types::ReadError;
+use java_parser_types::look::{is_name, is_sign};
 use racer_base::{MAX_NESTING, Memory};
 use std::alloc::Global;
-use java_parser_types::ReadError;
-use java_parser_types::reading::look::{is_name, is_sign};
 
 /// The tokens left behind what a variable begins with, which is in front.
 fn behind_value(alloc: Global, tokens: &[Token]) -> Result<&[Token], ReadError>

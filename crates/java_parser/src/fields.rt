@@ -4,7 +4,7 @@ ghost use Rattle.std.specs.Prelude.{IfOk, IfSome, IsErrOf, IfNone};
 ghost use Rattle.java_tree.specs.declared.methods.FieldTree.{FieldTree};
 ghost use Rattle.java_tree.specs.View.{modifier_of};
 ghost use Rattle.java_parser_grammar.specs.FieldDivisions.{AreDeclared, AreFields};
-ghost use Rattle.java_parser_types.specs.declared.reading.error.ReadError.TheVariants.{Unformed};
+ghost use Rattle.java_parser_types.specs.declared.error.ReadError.TheVariants.{Unformed};
 ghost use Rattle.java_parser_types.specs.ReadAnswer.{Gives};
 ghost use Rattle.java_parser_types.specs.Tokens.{spelled};
 ghost use Rattle.java_parser.specs.FieldModifiers.{after_field_modifier, field_modifier_at};
@@ -14,12 +14,12 @@ ghost use Rattle.java_parser.specs.Fronts.{EndsWith};
 use super::fronts::{cut, front_type};
 use super::variables::variables;
 use java_lexer::{Token, TokenKind};
+use java_parser_methods::annotations::annotation;
+use java_parser_types::ReadError;
+use java_parser_types::look::{after_sign, is_listed, is_sign};
 use java_tree::{FieldTree, ModifierTree};
-use java_parser_methods::reading::annotations::annotation;
 use racer_base::{Items, Memory, Text};
 use std::alloc::Global;
-use java_parser_types::ReadError;
-use java_parser_types::reading::look::{after_sign, is_listed, is_sign};
 
 /// The words of a field (JLS 8.3.1).
 const FIELD_MODIFIERS: [&[u8]; 7] = [

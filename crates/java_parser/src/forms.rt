@@ -14,7 +14,7 @@ use super::items::next_item;
 use super::pieces::{is_annotation, next_piece};
 use super::tests_of_tokens::{signed, worded, worded_among};
 use java_lexer::Token;
-use java_parser_types::reading::look::{is_name, is_sign};
+use java_parser_types::look::{is_name, is_sign};
 
 /// All words that stand before a declaration (JLS 8.1.1, 8.3.1, 8.4.3, 9.4).
 const MODIFIERS: [&[u8]; 12] = [

@@ -4,17 +4,17 @@ ghost use Rattle.racer_base.specs.declared.limits.TheConstants.{MAX_NESTING};
 ghost use Rattle.java_tree.specs.KeptPlaces.{ty_places};
 ghost use Rattle.java_tree.specs.View.{ty_of, modifier_of};
 ghost use Rattle.java_parser_grammar.specs.TypeReading.{ty_at};
-ghost use Rattle.java_parser_types.specs.declared.reading.error.ReadError.TheVariants.{Unformed};
+ghost use Rattle.java_parser_types.specs.declared.error.ReadError.TheVariants.{Unformed};
 ghost use Rattle.java_parser_types.specs.ReadAnswer.{Gives};
 ghost use Rattle.java_parser_types.specs.Tokens.{spelled};
 ghost use Rattle.java_parser.specs.Fronts.{IsFront, EndsWith};
 
 use java_lexer::Token;
+use java_parser_types::ReadError;
+use java_parser_types::types::read_type;
 use java_tree::TypeTree;
 use racer_base::MAX_NESTING;
 use std::alloc::Global;
-use java_parser_types::ReadError;
-use java_parser_types::reading::types::read_type;
 
 /// The tokens before as many at the end as were left.
 pub fn cut<'a>(tokens: &'a [Token], left: &[Token]) -> (&'a [Token], &'a [Token])

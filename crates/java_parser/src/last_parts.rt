@@ -7,7 +7,7 @@ ghost use Rattle.java_parser.specs.LastParts.{open_of, found_with, scanned, Ende
 
 use crate::tests_of_tokens::is_angle;
 use java_lexer::Token;
-use java_parser_types::reading::look::is_sign;
+use java_parser_types::look::is_sign;
 
 /// What stands behind the tokens that were not looked at yet.
 #[derive(Clone, Copy)]

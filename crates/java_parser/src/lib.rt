@@ -3,24 +3,24 @@
 #![tactic(auto)]
 
 mod annotations;
-pub mod balance;
-pub mod bodies;
+mod balance;
+mod bodies;
 mod classes;
-pub mod counts;
-pub mod declarations;
+mod counts;
+mod declarations;
 mod divisions;
 mod fields;
-pub mod forms;
+mod forms;
 mod fronts;
 mod heads;
-pub mod items;
+mod items;
 mod last_parts;
 pub mod laws;
-pub mod members;
-pub mod pieces;
+mod members;
+mod pieces;
 mod results;
-pub mod tests_of_tokens;
-pub mod types;
+mod tests_of_tokens;
+mod types;
 mod units;
 mod variables;
 

@@ -8,7 +8,7 @@ ghost use Rattle.java_tree.specs.View.{method_of};
 ghost use Rattle.java_parser_grammar.specs.Heads.{IsMethod};
 ghost use Rattle.java_parser_grammar.specs.Members.{members_of, MethodForm, FieldForm};
 ghost use Rattle.java_parser_grammar.specs.Units.{BeginsAt, HasForm, IsMember};
-ghost use Rattle.java_parser_types.specs.declared.reading.error.ReadError.TheVariants.{Unformed};
+ghost use Rattle.java_parser_types.specs.declared.error.ReadError.TheVariants.{Unformed};
 ghost use Rattle.java_parser.specs.ResultParts.{IsOfClass};
 
 use super::fields::fields;
@@ -16,12 +16,12 @@ use super::heads::outside;
 use crate::forms::{Form, form_of};
 use crate::types::members as parts;
 use java_lexer::Token;
-use java_tree::{MethodTree, ResultTree};
 use java_parser_grammar::Member;
 use java_parser_methods::read_method;
+use java_parser_types::ReadError;
+use java_tree::{MethodTree, ResultTree};
 use racer_base::{Items, MAX_NESTING, Memory, Place};
 use std::alloc::Global;
-use java_parser_types::ReadError;
 
 /// Whether a method without a result has the name of its class.
 fn is_of(class: &str, tree: &MethodTree) -> bool

@@ -6,7 +6,7 @@ ghost use Rattle.java_parser.specs.PieceSizes.{parentheses_size, annotation_size
 use super::items::item_size;
 use super::tests_of_tokens::signed;
 use java_lexer::Token;
-use java_parser_types::reading::look::{is_name, is_sign};
+use java_parser_types::look::{is_name, is_sign};
 
 /// How many tokens the parentheses in front have.
 fn parentheses_size(tokens: &[Token]) -> usize

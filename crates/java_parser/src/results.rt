@@ -2,7 +2,7 @@
 ghost use Rattle.std.specs.Prelude.{◌≡◌, ◌≤◌, ◌↔◌, ◌++◌, length, IsTrue, IfOk, IsErrOf};
 ghost use Rattle.java_parser_grammar.specs.Heads.{EndsInResult, without_annotations, IsConstructor, HeadSays, IsResult};
 ghost use Rattle.java_parser.specs.ResultParts.{SaysType, SaysResult, IsAnyResult, HasModifiers, HasNoModifiers};
-ghost use Rattle.java_parser_types.specs.declared.reading.error.ReadError.TheVariants.{Unformed};
+ghost use Rattle.java_parser_types.specs.declared.error.ReadError.TheVariants.{Unformed};
 ghost use Rattle.java_parser.specs.Fronts.{EndsWith};
 
 use super::fronts::cut;
@@ -10,11 +10,11 @@ use super::last_parts::last_part;
 use crate::pieces::{is_annotation, next_piece};
 use java_lexer::Token;
 use java_parser_grammar::HeadResult;
-use java_parser_methods::reading::annotations::modifiers;
+use java_parser_methods::annotations::modifiers;
+use java_parser_types::look::is_keyword;
+use java_parser_types::{ReadError, read_type};
 use racer_base::{MAX_NESTING, Memory, Text};
 use std::alloc::Global;
-use java_parser_types::reading::look::is_keyword;
-use java_parser_types::{ReadError, read_type};
 
 /// The type that all of the tokens are, or that they are none.
 fn type_of(alloc: Global, tokens: &[Token]) -> Result<HeadResult, Memory>

@@ -3,7 +3,7 @@ ghost use Rattle.std.specs.Prelude.{◌≡◌, map};
 ghost use Rattle.java_parser_grammar.specs.Tokens.{is_name, is_angle, is_keyword_of, begins, signed, worded};
 
 use java_lexer::{Token, TokenKind};
-use java_parser_types::reading::look::{is_keyword, is_listed, is_name, is_sign};
+use java_parser_types::look::{is_keyword, is_listed, is_name, is_sign};
 
 /// Whether the first token is this sign.
 pub fn signed(tokens: &[Token], text: &str) -> bool

@@ -3,17 +3,17 @@ ghost use Rattle.std.specs.Prelude.{◌≡◌, ◌<◌, ◌^◌, true, map, leng
 ghost use Rattle.std.specs.List.{AllZip};
 ghost use Rattle.java_tree.specs.declared.methods.FieldVariable.{FieldVariable};
 ghost use Rattle.java_parser_grammar.specs.FieldDivisions.{BeginsWith, IsVariable, AreVariables};
-ghost use Rattle.java_parser_types.specs.declared.reading.error.ReadError.TheVariants.{Unformed};
+ghost use Rattle.java_parser_types.specs.declared.error.ReadError.TheVariants.{Unformed};
 ghost use Rattle.java_parser.specs.Divisions.{is_beginning, is_declarator, are_declarators};
 
 use super::divisions::pieces;
-use java_parser_expressions::read_initialiser;
 use java_lexer::Token;
+use java_parser_expressions::read_initialiser;
+use java_parser_types::ReadError;
+use java_parser_types::look::{is_name, is_sign};
 use java_tree::{FieldInitialiser, FieldVariable, Ident};
 use racer_base::{MAX_NESTING, Memory, Text};
 use std::alloc::Global;
-use java_parser_types::ReadError;
-use java_parser_types::reading::look::{is_name, is_sign};
 
 /// Whether nothing stands there, or an `=` and one or more tokens.
 fn is_beginning(tokens: &[Token]) -> bool

@@ -5,8 +5,8 @@ use Rattle.java_lexer.specs.declared.token.Token.{Token}
 use Rattle.java_tree.specs.declared.words.Spelled.{Spelled}
 use Rattle.java_tree.specs.Brackets.{is_sign}
 use Rattle.java_tree.specs.Trees.{Expr, ClassOf}
-use Rattle.java_parser_types.specs.declared.reading.error.ReadError.{ReadError}
-use Rattle.java_parser_types.specs.declared.reading.error.ReadError.TheVariants.{Memory, Unformed}
+use Rattle.java_parser_types.specs.declared.error.ReadError.{ReadError}
+use Rattle.java_parser_types.specs.declared.error.ReadError.TheVariants.{Memory, Unformed}
 use Rattle.java_parser_grammar.specs.Taking.{◌>>=◌, match_option, is_keyword, is_name_kind, after_sign, after_keyword}
 use Rattle.java_parser_grammar.specs.Taking.{after_name}
 use Rattle.java_parser_grammar.specs.ExpressionReading.{Reading, class_at, name_with}

@@ -8,10 +8,10 @@ use Rattle.java_tree.specs.declared.words.Spelled.{Spelled}
 use Rattle.java_tree.specs.KeptPlaces.{Places}
 use Rattle.java_tree.specs.Trees.{Expr}
 use Rattle.java_parser_grammar.specs.ExpressionReading.{Stop, Next, grown}
-use Rattle.java_parser_types.specs.declared.reading.error.ReadError.{ReadError}
+use Rattle.java_parser_types.specs.declared.error.ReadError.{ReadError}
 use Rattle.java_parser_types.specs.ReadAnswer.{Gives}
-use Rattle.java_parser_expressions.specs.declared.reading.turned.Turned.{Turned}
-use Rattle.java_parser_expressions.specs.declared.reading.turned.Turned.TheVariants as turned
+use Rattle.java_parser_expressions.specs.declared.turned.Turned.{Turned}
+use Rattle.java_parser_expressions.specs.declared.turned.Turned.TheVariants as turned
 use Rattle.java_parser_expressions.specs.TurnView.{turn_of, places_put, IsWithin}
 
 -- what is at most m is at most n

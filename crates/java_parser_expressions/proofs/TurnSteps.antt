@@ -5,10 +5,10 @@ use Rattle.java_parser_grammar.specs.Leads.{Lead, Assigns, Asks, Joins, Tests, S
 use Rattle.java_parser_grammar.specs.ExpressionReading.{Reading, Turn, Stop, turn_with, grown, assign_with, conditional_with}
 use Rattle.java_parser_grammar.specs.ExpressionReading.{binary_with, instance_with, select_with, index_with}
 use Rattle.java_parser_grammar.specs.ExpressionReading.{read_at}
-use Rattle.java_parser_types.specs.declared.reading.error.ReadError.{ReadError}
+use Rattle.java_parser_types.specs.declared.error.ReadError.{ReadError}
 use Rattle.java_parser_types.specs.ReadAnswer.{Gives}
 use Rattle.java_parser_types.proofs.ReadLoops.{ends_give}
-use Rattle.java_parser_expressions.specs.declared.reading.turned.Turned.{Turned}
+use Rattle.java_parser_expressions.specs.declared.turned.Turned.{Turned}
 use Rattle.java_parser_expressions.specs.GoingOn.{goes_on}
 use Rattle.java_parser_expressions.specs.TurnView.{turn_of}
 

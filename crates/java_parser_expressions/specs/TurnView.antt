@@ -2,8 +2,8 @@
 use Rattle.std.specs.Prelude.{ℕ, ◌≤◌, length, map}
 use Rattle.java_tree.specs.KeptPlaces.{Places, kept, expr_places}
 use Rattle.java_tree.specs.View.{expr_of}
-use Rattle.java_parser_expressions.specs.declared.reading.turned.Turned.{Turned}
-use Rattle.java_parser_expressions.specs.declared.reading.turned.Turned.TheVariants as turned
+use Rattle.java_parser_expressions.specs.declared.turned.Turned.{Turned}
+use Rattle.java_parser_expressions.specs.declared.turned.Turned.TheVariants as turned
 use Rattle.java_parser_grammar.specs.ExpressionReading.{Turn, Stop, Next}
 use Rattle.java_parser_types.specs.Tokens.{spelled}
 

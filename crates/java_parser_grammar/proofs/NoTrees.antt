@@ -53,8 +53,10 @@ no_native [] (TypeResult (Typed (Plain text) n)) rest g f some e =
     let no : is_plain_word (codes "native") ≡ true = subst (λ x. is_plain_word x ≡ true) same f in
     true≢false (sym no)
 no_native [] (TypeResult (Typed (Named no_part) n)) rest g f some e = let none = f.1 in cc
-no_native [] (TypeResult (Typed (Named (part_then (Bare x) ps)) n)) rest g f some e = true≢false (sym (ap is_word_first e))
-no_native [] (TypeResult (Typed (Named (part_then (Generic x a) ps)) n)) rest g f some e = true≢false (sym (ap is_word_first e))
+no_native [] (TypeResult (Typed (Named (part_then (Bare x) ps)) n)) rest g f some e =
+    true≢false (sym (ap is_word_first e))
+no_native [] (TypeResult (Typed (Named (part_then (Generic x a) ps)) n)) rest g f some e =
+    true≢false (sym (ap is_word_first e))
 no_native (Word text ∷ ms) r rest g f some e =
     let same : text ≡ codes "native" = ap first_text e in
     let no : is_method_modifier (codes "native") ≡ true = subst (λ x. is_method_modifier x ≡ true) same g.0 in

@@ -114,7 +114,8 @@ longer equals i (p ∷ q ∷ ps) e h = (longer_ended equals i p e h.0, h.1)
 by_end : (equals : Bool) (i : Item) (is : List Item) (b : Bool) → ends_member equals i ≡ b
     → ((q : Bool) → IsCutFrom q (cut_members q is))
     → IsCutFrom equals (with_cut b i (cut_members (not b && (equals || signed (codes "=") i)) is))
-by_end equals i is true e all = and_ended equals i (cut_members false is) e (from_nothing (cut_members false is) (all false))
+by_end equals i is true e all = and_ended equals i (cut_members false is) e
+    (from_nothing (cut_members false is) (all false))
 by_end equals i is false e all =
     longer equals i (cut_members (equals || signed (codes "=") i) is) e (all (equals || signed (codes "=") i))
 

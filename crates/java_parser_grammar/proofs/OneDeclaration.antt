@@ -113,7 +113,8 @@ inner_parts Braces h = absurd cc
 inner_parts l h = (refl, refl)
 
 plain_front : (early : Bool) (i : Item) (is : List Item) (l : Letter) → Reads i l
-    → (signed (codes "@") i && leads (begins is_name) is) ≡ false → at_modifier l ≡ false → tested_modifiers early (i ∷ is)
+    → (signed (codes "@") i && leads (begins is_name) is) ≡ false → at_modifier l ≡ false →
+    tested_modifiers early (i ∷ is)
     ≡ of_fronts early (i ∷ is) (i ∷ is) (i ∷ is)
 plain_front early i is l k a m =
     ap (λ f. of_fronts early f (front is_type_modifier (i ∷ is)) (i ∷ is))

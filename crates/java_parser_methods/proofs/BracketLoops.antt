@@ -2,9 +2,9 @@
 use Rattle.std.proofs.Common.{◌≡◌, ℕ, List, [], ◌∷◌, ◌++◌, Option, Some, None, refl, sym, ap, ◌∙◌, append-nil}
 use Rattle.java_tree.specs.declared.words.Spelled.{Spelled}
 use Rattle.java_tree.specs.Brackets.{awaited_behind}
-use Rattle.java_parser_types.specs.declared.reading.error.ReadError.{ReadError}
-use Rattle.java_parser_types.specs.declared.reading.error.ReadError.TheVariants.{Memory, Unformed}
-use Rattle.java_parser_methods.specs.declared.reading.brackets.Bracket.{Bracket}
+use Rattle.java_parser_types.specs.declared.error.ReadError.{ReadError}
+use Rattle.java_parser_types.specs.declared.error.ReadError.TheVariants.{Memory, Unformed}
+use Rattle.java_parser_methods.specs.declared.brackets.Bracket.{Bracket}
 use Rattle.java_parser_grammar.specs.MethodReading.{closed_at}
 use Rattle.java_parser_methods.specs.AwaitedBrackets.{closing, awaited_onto, first_at}
 use Rattle.java_parser_types.specs.Finishing.{finished}

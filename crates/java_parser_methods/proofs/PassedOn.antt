@@ -4,7 +4,7 @@ use Rattle.std.proofs.Common.{Bool, true, false, None, if◌then◌else◌, refl
 use Rattle.java_tree.specs.KeptPlaces.{Places, start_places}
 use Rattle.java_tree.specs.declared.statements.StartTree.{StartTree}
 use Rattle.java_parser_grammar.specs.Taking.{◌>>=◌}
-use Rattle.java_parser_types.specs.declared.reading.error.ReadError.{ReadError}
+use Rattle.java_parser_types.specs.declared.error.ReadError.{ReadError}
 
 -- what puts these places puts the same places
 pub puts_back : {X : Type 0} (r : Result X ReadError) (puts : X → Places) (at here : Places) → at ≡ here

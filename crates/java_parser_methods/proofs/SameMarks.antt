@@ -106,7 +106,8 @@ results (result.Of s) (result.Of t) e = types s t (cc e)
 
 parameter : (p q : ParameterTree) → parameter_of p ≡ parameter_of q
     → Together (parameter_marks p) (parameter_marks q)
-parameter p q e = both (each annotation_of annotation_marks annotation p.annotations q.annotations (ap (λ v. v.annotations) e))
+parameter p q e = both (each annotation_of annotation_marks annotation p.annotations q.annotations
+    (ap (λ v. v.annotations) e))
     (both (places (ty_places p.kind) (ty_places q.kind) (types p.kind q.kind (ap (λ v. v.kind) e)))
     (places (p.name.place ∷ []) (q.name.place ∷ []) refl))
 

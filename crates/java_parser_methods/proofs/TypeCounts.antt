@@ -96,13 +96,16 @@ Parted = (x : TypePart) × PartHas x
 abbrev Tys : Type 0
 Tys = (x : TypeTree) × TyHas x
 
-base_has : (x : type.BaseType-F BaseType TypeArgument TypeArguments TypePart TypeTree) (y : type.BaseType-F Bases Argued Angleds Parted Tys)
+base_has : (x : type.BaseType-F BaseType TypeArgument TypeArguments TypePart TypeTree)
+    (y : type.BaseType-F Bases Argued Angleds Parted Tys)
     → map-BaseType Bases Argued Angleds Parted Tys BaseType TypeArgument TypeArguments TypePart TypeTree (λ e. e.0)
     (λ e. e.0) (λ e. e.0) (λ e. e.0) (λ e. e.0) y ≡ x → BaseHas (roll-BaseType x)
 base_has x (type.Plain text) is = subst (λ z. BaseHas (roll-BaseType z)) is (search (rules, the_lemmas))
-base_has x (type.Named ps) is = subst (λ z. BaseHas (roll-BaseType z)) is (search (rules, the_lemmas, parts_have ps.items))
+base_has x (type.Named ps) is = subst (λ z. BaseHas (roll-BaseType z)) is
+    (search (rules, the_lemmas, parts_have ps.items))
 
-argument_has : (x : type.TypeArgument-F BaseType TypeArgument TypeArguments TypePart TypeTree) (y : type.TypeArgument-F Bases Argued Angleds Parted Tys)
+argument_has : (x : type.TypeArgument-F BaseType TypeArgument TypeArguments TypePart TypeTree)
+    (y : type.TypeArgument-F Bases Argued Angleds Parted Tys)
     → map-TypeArgument Bases Argued Angleds Parted Tys BaseType TypeArgument TypeArguments TypePart TypeTree (λ e. e.0)
     (λ e. e.0) (λ e. e.0) (λ e. e.0) (λ e. e.0) y ≡ x → ArgumentHas (roll-TypeArgument x)
 argument_has x (type.Exact t) is = subst (λ z. ArgumentHas (roll-TypeArgument z)) is (search (rules, the_lemmas, t.1))
@@ -110,10 +113,12 @@ argument_has x type.Any is = subst (λ z. ArgumentHas (roll-TypeArgument z)) is 
 argument_has x (type.Extends t) is = subst (λ z. ArgumentHas (roll-TypeArgument z)) is (search (rules, the_lemmas, t.1))
 argument_has x (type.Super t) is = subst (λ z. ArgumentHas (roll-TypeArgument z)) is (search (rules, the_lemmas, t.1))
 
-angled_has : (x : type.TypeArguments-F BaseType TypeArgument TypeArguments TypePart TypeTree) (y : type.TypeArguments-F Bases Argued Angleds Parted Tys)
+angled_has : (x : type.TypeArguments-F BaseType TypeArgument TypeArguments TypePart TypeTree)
+    (y : type.TypeArguments-F Bases Argued Angleds Parted Tys)
     → map-TypeArguments Bases Argued Angleds Parted Tys BaseType TypeArgument TypeArguments TypePart TypeTree (λ e. e.0)
     (λ e. e.0) (λ e. e.0) (λ e. e.0) (λ e. e.0) y ≡ x → AngledHas (roll-TypeArguments x)
-angled_has x y is = subst (λ z. AngledHas (roll-TypeArguments z)) is (search (rules, the_lemmas, arguments_have y.items.items))
+angled_has x y is = subst (λ z. AngledHas (roll-TypeArguments z)) is
+    (search (rules, the_lemmas, arguments_have y.items.items))
 
 part_case : (n : Ident) (o : Option Angleds) → PartHas (roll-TypePart (map-TypePart Bases Argued Angleds Parted Tys
     BaseType TypeArgument TypeArguments TypePart TypeTree (λ e. e.0) (λ e. e.0) (λ e. e.0) (λ e. e.0) (λ e. e.0)
@@ -121,12 +126,14 @@ part_case : (n : Ident) (o : Option Angleds) → PartHas (roll-TypePart (map-Typ
 part_case n None = search (rules, the_lemmas)
 part_case n (Some a) = search (rules, the_lemmas, a.1)
 
-part_has : (x : type.TypePart-F BaseType TypeArgument TypeArguments TypePart TypeTree) (y : type.TypePart-F Bases Argued Angleds Parted Tys)
+part_has : (x : type.TypePart-F BaseType TypeArgument TypeArguments TypePart TypeTree)
+    (y : type.TypePart-F Bases Argued Angleds Parted Tys)
     → map-TypePart Bases Argued Angleds Parted Tys BaseType TypeArgument TypeArguments TypePart TypeTree (λ e. e.0)
     (λ e. e.0) (λ e. e.0) (λ e. e.0) (λ e. e.0) y ≡ x → PartHas (roll-TypePart x)
 part_has x y is = subst (λ z. PartHas (roll-TypePart z)) is (part_case y.name y.arguments)
 
-ty_has : (x : type.TypeTree-F BaseType TypeArgument TypeArguments TypePart TypeTree) (y : type.TypeTree-F Bases Argued Angleds Parted Tys)
+ty_has : (x : type.TypeTree-F BaseType TypeArgument TypeArguments TypePart TypeTree)
+    (y : type.TypeTree-F Bases Argued Angleds Parted Tys)
     → map-TypeTree Bases Argued Angleds Parted Tys BaseType TypeArgument TypeArguments TypePart TypeTree (λ e. e.0)
     (λ e. e.0) (λ e. e.0) (λ e. e.0) (λ e. e.0) y ≡ x → TyHas (roll-TypeTree x)
 ty_has x y is = subst (λ z. TyHas (roll-TypeTree z)) is (search (rules, the_lemmas, y.base.1))

@@ -8,8 +8,8 @@ use Rattle.java_tree.specs.Spelling.{spelling}
 use Rattle.java_tree.specs.Formed.{FormedMethod}
 use Rattle.java_tree.specs.Nesting.{method_nesting}
 use Rattle.java_tree.specs.View.{method_of}
-use Rattle.java_parser_types.specs.declared.reading.error.ReadError.{ReadError}
-use Rattle.java_parser_types.specs.declared.reading.error.ReadError.TheVariants.{Memory, Unformed}
+use Rattle.java_parser_types.specs.declared.error.ReadError.{ReadError}
+use Rattle.java_parser_types.specs.declared.error.ReadError.TheVariants.{Memory, Unformed}
 use Rattle.java_parser_grammar.specs.JavaReaders.{method_readers}
 use Rattle.java_parser_grammar.specs.MethodReading.{method_at}
 use Rattle.java_parser_types.specs.ReadAnswer.{Gives}

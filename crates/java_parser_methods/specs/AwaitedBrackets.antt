@@ -1,10 +1,10 @@
 -- No public contract rests on this: the brackets of the code that are still to be closed.
 use Rattle.std.specs.Prelude.{ℕ, List, [], ◌∷◌, Option, Some, None, codes}
 use Rattle.java_tree.specs.declared.words.Spelled.{Spelled}
-use Rattle.java_parser_methods.specs.declared.reading.brackets.Bracket.{Bracket}
-use Rattle.java_parser_methods.specs.declared.reading.brackets.Bracket.TheVariants as bracket
-use Rattle.java_parser_methods.specs.declared.reading.brackets.BracketStep.{BracketStep}
-use Rattle.java_parser_methods.specs.declared.reading.brackets.BracketStep.TheVariants as step
+use Rattle.java_parser_methods.specs.declared.brackets.Bracket.{Bracket}
+use Rattle.java_parser_methods.specs.declared.brackets.Bracket.TheVariants as bracket
+use Rattle.java_parser_methods.specs.declared.brackets.BracketStep.{BracketStep}
+use Rattle.java_parser_methods.specs.declared.brackets.BracketStep.TheVariants as step
 
 -- the sign that closes it
 abbrev pub closing : Bracket → List ℕ

@@ -3,8 +3,8 @@ use Rattle.std.specs.Prelude.{◌∷◌, ◌++◌, map, option_map}
 use Rattle.java_tree.specs.KeptPlaces.{Puts, maybe_puts, each_puts, ty_places, expr_places, start_places}
 use Rattle.java_tree.specs.Trees.{pack_exprs}
 use Rattle.java_tree.specs.View.{name_of, ty_of, expr_of, start_of}
-use Rattle.java_parser_methods.specs.declared.reading.heads.ForHead as heads
-use Rattle.java_parser_methods.specs.declared.reading.heads.ForHead.TheVariants as head
+use Rattle.java_parser_methods.specs.declared.heads.ForHead as heads
+use Rattle.java_parser_methods.specs.declared.heads.ForHead.TheVariants as head
 use Rattle.java_parser_methods.specs.HeadReading.{Head, Counted, Each}
 
 abbrev pub head_of : heads.ForHead → Head

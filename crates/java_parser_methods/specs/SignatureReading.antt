@@ -10,7 +10,7 @@ use Rattle.java_parser_grammar.specs.Taking.{◌>>=◌, after_sign, after_name}
 use Rattle.java_parser_grammar.specs.Readers.{Readers}
 use Rattle.java_parser_grammar.specs.StatementReading.{block_at}
 use Rattle.java_parser_grammar.specs.MethodReading.{parameters_at, throws_at, modifiers_at, result_at, if_ended}
-use Rattle.java_parser_methods.specs.declared.reading.signatures.Signature as signatures
+use Rattle.java_parser_methods.specs.declared.signatures.Signature as signatures
 
 -- what stands from a method's name up to its body
 pub record Signature : Type 0 where

@@ -1,8 +1,8 @@
 -- No public contract rests on this: what the code says of how a statement begins, without places.
 use Rattle.std.specs.Prelude.{ℕ, ◌<◌, ◌∷◌, length, map}
 use Rattle.java_tree.specs.KeptPlaces.{Places, kept}
-use Rattle.java_parser_methods.specs.declared.reading.lookahead.StatementLead as leads
-use Rattle.java_parser_methods.specs.declared.reading.lookahead.StatementLead.TheVariants as lead
+use Rattle.java_parser_methods.specs.declared.lookahead.StatementLead as leads
+use Rattle.java_parser_methods.specs.declared.lookahead.StatementLead.TheVariants as lead
 use Rattle.java_parser_grammar.specs.Lookahead.{StatementLead, Semicolon, Brace, IfWord, WhileWord, ForWord}
 use Rattle.java_parser_grammar.specs.Lookahead.{SynchronizedWord, ReturnWord, Other}
 use Rattle.java_parser_types.specs.Tokens.{spelled}

@@ -1,6 +1,6 @@
 -- What a function gives, by what the call at its end gave.
 use Rattle.std.proofs.Common.{◌≡◌, ℕ, ◌≤◌, ◌<◌, Result, Ok, Err, IfOk, arith}
-use Rattle.java_parser_types.specs.declared.reading.error.ReadError.{ReadError}
+use Rattle.java_parser_types.specs.declared.error.ReadError.{ReadError}
 
 -- what is at most m is at most n
 pub fewer : {A : Type 0} (count : A → ℕ) (r : Result A ReadError) (m n : ℕ) → IfOk r (λ x. count x ≤ m) → m ≤ n

@@ -4,8 +4,8 @@ use Rattle.std.proofs.Common.{map, codes, Option, Some, None, if◌then◌else�
 use Rattle.java_lexer.specs.declared.token.Token.{Token}
 use Rattle.java_tree.specs.declared.words.Spelled.{Spelled}
 use Rattle.java_tree.specs.Trees.{Ty, Part}
-use Rattle.java_parser_types.specs.declared.reading.error.ReadError.{ReadError}
-use Rattle.java_parser_types.specs.declared.reading.error.ReadError.TheVariants.{Memory, Unformed}
+use Rattle.java_parser_types.specs.declared.error.ReadError.{ReadError}
+use Rattle.java_parser_types.specs.declared.error.ReadError.TheVariants.{Memory, Unformed}
 use Rattle.java_parser_grammar.specs.Taking.{◌>>=◌, match_option, after_sign}
 use Rattle.java_parser_grammar.specs.TypeReading.{is_diamond, made_part_with, made_parts_with}
 use Rattle.java_parser_types.specs.PointBehind.{point_behind}

@@ -2,8 +2,8 @@
 use Rattle.std.proofs.Common.{◌≡◌, ℕ, ◌≤◌, List, [], ◌∷◌, Option, Some, None, Result, Ok, Err, IfOk, ap, ◌∙◌, sym}
 use Rattle.std.specs.Prelude.{IsErrOf}
 use Rattle.java_tree.specs.declared.words.Spelled.{Spelled}
-use Rattle.java_parser_types.specs.declared.reading.error.ReadError.{ReadError}
-use Rattle.java_parser_types.specs.declared.reading.error.ReadError.TheVariants.{Memory, Unformed}
+use Rattle.java_parser_types.specs.declared.error.ReadError.{ReadError}
+use Rattle.java_parser_types.specs.declared.error.ReadError.TheVariants.{Memory, Unformed}
 use Rattle.java_parser_grammar.specs.MethodReading.{if_ended}
 use Rattle.java_parser_types.specs.ReadAnswer.{Gives}
 use Rattle.java_parser_types.specs.Whole.{all_of}

@@ -1,7 +1,7 @@
 -- No public contract rests on this: what a function of the code answers, beside the reading function.
 use Rattle.std.specs.Prelude.{◌≡◌, Option, Some, None, Result, Ok, Err}
-use Rattle.java_parser_types.specs.declared.reading.error.ReadError.{ReadError}
-use Rattle.java_parser_types.specs.declared.reading.error.ReadError.TheVariants.{Memory, Unformed}
+use Rattle.java_parser_types.specs.declared.error.ReadError.{ReadError}
+use Rattle.java_parser_types.specs.declared.error.ReadError.TheVariants.{Memory, Unformed}
 
 -- nothing is known where memory was refused
 abbrev pub Fails : {Y : Type 0} → ReadError → Option Y → Type 0

@@ -13,8 +13,8 @@ use crate::infos::{ClassInfo, FieldInfo, MethodInfo};
 use crate::kinds::kind_of;
 use crate::methods::{Methods, methods_of};
 use crate::scope::{Meaning, Scope, ScopeVariable};
-use java_tree::TypeTree;
 use java_parser_grammar::Unit;
+use java_tree::TypeTree;
 use racer_base::{ClassId, FieldId, Kind, MethodId};
 use std::alloc::Global;
 

@@ -8,11 +8,11 @@ ghost use Rattle.java_resolver.specs.Words.{is_annotated, is_synchronized};
 ghost use Rattle.java_resolver.specs.Declarations.{has_synchronized, is_checked};
 
 use java_lexer::TokenKind;
-use java_tree::{AnnotationTree, MethodTree, ModifierTree, Spelled};
 use java_parser_grammar::{ClassTree, Member};
+use java_tree::{AnnotationTree, MethodTree, ModifierTree, Spelled};
+use java_tree_spelling::spell;
 use racer_base::{Memory, Text};
 use std::alloc::Global;
-use java_tree_spelling::spell;
 
 /// Whether the last of the names is this one.
 #[tactic(auto, using(crate::proofs::LastNames::ends_with_last))]

@@ -27,7 +27,8 @@ module _ (table : List Path) (is_table : IsTable table) where
   names-read (Named n) = refl
   names-read Unnamed = refl
 
-  pub all-map-append : (xs ys : List ℕ) → map (path_at table) (xs ++ ys) ≡ map (path_at table) xs ++ map (path_at table) ys
+  pub all-map-append : (xs ys : List ℕ) → map (path_at table) (xs ++ ys) ≡ map (path_at table) xs ++ map
+      (path_at table) ys
   all-map-append [] ys = refl
   all-map-append (x ∷ xs) ys = ap (λ zs. path_at table x ∷ zs) (all-map-append xs ys)
 
@@ -49,7 +50,8 @@ module _ (table : List Path) (is_table : IsTable table) where
       ] ∙ ap (λ t. cond t [] (names_of (read_value table a) ++ names_of (read_value table b))) (sym (same-read a b p q))
 
   pub all-joined-read : (xs ys : List NumberedValue) → AllInRange table xs → AllInRange table ys →
-      map (read_value table) (joined_numbers xs ys) ≡ joined_values (map (read_value table) xs) (map (read_value table) ys)
+      map (read_value table) (joined_numbers xs ys) ≡ joined_values (map (read_value table) xs)
+      (map (read_value table) ys)
   all-joined-read [] ys p q = refl
   all-joined-read (x ∷ xs) [] p q = refl
   all-joined-read (x ∷ xs) (y ∷ ys) p q =

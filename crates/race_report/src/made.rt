@@ -11,8 +11,8 @@ use crate::marks::push_last;
 use core_code::Program;
 use core_ways::Mark;
 use race_pairs::Warning;
-use racer_base::Memory;
 use race_report_parts::{Written, push_counts, push_end, push_number, push_text};
+use racer_base::Memory;
 use std::alloc::Global;
 
 /// Puts the lines of a folder made of so many classes behind a text.

@@ -18,10 +18,10 @@ use access_domain::Outcome;
 use core_code::Program;
 use core_ways::Mark;
 use race_pairs::Warning;
-use racer_base::Memory;
 use race_report_parts::{
     Written, push_counts, push_end, push_not_analysed, push_skipped, push_summaries, push_text,
 };
+use racer_base::Memory;
 use std::alloc::Global;
 use std::sync::Arc;
 

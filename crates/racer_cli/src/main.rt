@@ -16,13 +16,13 @@ mod tests;
 #[cfg(test)]
 mod workers;
 
-use racer_disk::DirFolder;
 use racer_base::{OpenGate, StdSink};
+use racer_disk::DirFolder;
+use racer_run::{Status, run};
 use std::io::ErrorKind;
 use std::process::ExitCode;
 use std::rt::Env;
 use std::{env, io};
-use racer_run::{Status, run};
 
 /// The words after the program's name.
 fn words<R: Env + AllocGlobal>(rt: &R) -> io::Result<Vec<String>> {

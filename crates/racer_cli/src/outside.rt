@@ -1,6 +1,6 @@
 //! Tests of a folder of the file system and of standard output, whose contracts tell nothing of content.
-use racer_disk::DirFolder;
 use racer_base::{Failed, Folder, FolderFault, Sink, StdSink};
+use racer_disk::DirFolder;
 use std::alloc::{AllocError, Global};
 use std::fmt::Display;
 use std::os::unix::fs::symlink;

@@ -4,8 +4,8 @@ ghost use Rattle.racer_memory.specs.MemoryFolder.{faults_of};
 ghost use Rattle.racer_memory.specs.MemorySink as sinks;
 
 use super::*;
-use racer_memory::{MemoryFolder, MemorySink};
 use racer_base::Gate;
+use racer_memory::{MemoryFolder, MemorySink};
 use std::alloc::Global;
 use std::sync::Wait;
 use std::test::Fail;

@@ -2,8 +2,8 @@
 use crate::page::Page;
 use core_code::Program;
 use racer_base::{Folder, FolderFault, MAX_FILE_BYTES, Memory};
-use std::alloc::Global;
 use racer_run::replayed;
+use std::alloc::Global;
 
 /// The name of a file, the status of its replay, and its line.
 fn put_replay(

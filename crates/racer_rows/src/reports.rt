@@ -7,9 +7,9 @@ use access_domain::Outcomes;
 use core_code::Program;
 use race_report::Mode;
 use racer_base::{FolderFault, Memory};
+use racer_run::said_of;
 use std::alloc::Global;
 use std::sync::Arc;
-use racer_run::said_of;
 use transfer::outcomes;
 
 /// Puts the report in this mode.

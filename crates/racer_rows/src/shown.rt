@@ -6,10 +6,10 @@ use crate::reports::put_reports;
 use crate::tokens::{put_fault, put_tokens};
 use crate::units::put_unit;
 use core_code::Program;
-use racer_disk::DirFolder;
-use racer_sources::{FoundProgram, folder_program};
 use java_lexer::lex;
 use racer_base::{FileId, Folder, FolderFault};
+use racer_disk::DirFolder;
+use racer_sources::{FoundProgram, folder_program};
 use std::alloc::Global;
 use std::io;
 

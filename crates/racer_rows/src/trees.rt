@@ -1,10 +1,10 @@
 //! The parts of members, as one line says them.
 use crate::page::Page;
+use java_parser_grammar::HeadResult;
 use java_tree::{
     AnnotationTree, BaseType, FieldInitialiser, FieldVariable, ModifierTree, ParameterTree,
     ResultTree, TypeTree,
 };
-use java_parser_grammar::HeadResult;
 
 /// An annotation: its names, and what stands in its brackets.
 pub fn put_annotation(page: &mut Page, annotation: &AnnotationTree) {

@@ -5,10 +5,10 @@ use crate::trees::{
     put_variables,
 };
 use java_lexer::Lexed;
-use java_tree::{FieldTree, MethodTree};
-use java_parser_grammar::{ClassTree, Member, OutsideHead, ParseFault, Unit};
-use std::alloc::Global;
 use java_parser::{let_go, parse_unit};
+use java_parser_grammar::{ClassTree, Member, OutsideHead, ParseFault, Unit};
+use java_tree::{FieldTree, MethodTree};
+use std::alloc::Global;
 
 fn put_field(page: &mut Page, field: &FieldTree) {
     page.put("  field");

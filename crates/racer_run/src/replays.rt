@@ -16,11 +16,11 @@ use crate::said::{Said, line};
 use crate::status::Status;
 use crate::wanted::WantedReplay;
 use core_code::Program;
-use racer_sources::{FoundProgram, folder_program};
 use racer_base::{Folder, FolderFault, MAX_FILE_BYTES, Memory, Text};
+use racer_sources::{FoundProgram, folder_program};
 use std::alloc::Global;
-use witness_text_files::{WitnessFault, WitnessFile, read};
 use witness_text::{Verdict, field_name, replay, verdict_line};
+use witness_text_files::{WitnessFault, WitnessFile, read};
 
 /// The line that says why a file is no witness.
 fn not_a_witness(alloc: Global, why: &str) -> Result<Said, Memory>

@@ -16,20 +16,20 @@ use crate::said::Said;
 use crate::status::Status;
 use crate::wanted::WantedReport;
 use access_domain::Outcomes;
-use witness_build_laws::laws::whole_warnings_race;
 use core_code::{Program, call_rows};
 use demand_pool::{Pooled, run_pool};
-use racer_sources::{FoundProgram, folder_program};
 use race_pairs::{Warning, warnings};
 use race_report::{Mode, report_text};
-use racer_base::{Folder, FolderFault, Gate, Memory, Text};
 use race_report_parts::{Written, push_text};
+use racer_base::{Folder, FolderFault, Gate, Memory, Text};
+use racer_run_history::push_history;
+use racer_sources::{FoundProgram, folder_program};
 use std::alloc::Global;
 use std::sync::{Arc, Wait};
 use std::thread::Threads;
 use summary_store::Event;
-use racer_run_history::push_history;
 use witness_build::marks_of;
+use witness_build_laws::laws::whole_warnings_race;
 use witness_text::laws::witnesses_in_reports_replay;
 
 /// The status of a report with these warnings.

@@ -5,9 +5,9 @@ ghost use Rattle.racer_run.specs.Words.{request_for, request_of};
 ghost use Rattle.racer_run.specs.Requests.{seen, IsInRange};
 
 use crate::wanted::{WantedMade, WantedReplay, WantedReport};
-use racer_words::read_words;
 use race_report::Mode;
 use racer_base::Memory;
+use racer_words::read_words;
 use std::alloc::Global;
 
 /// What is asked for.

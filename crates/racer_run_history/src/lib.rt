@@ -9,8 +9,8 @@ ghost use Rattle.race_report_parts.specs.Written.{Lasts, Puts};
 ghost use Rattle.racer_run_history.specs.History as wanted;
 
 use core_code::Program;
-use racer_base::MethodId;
 use race_report_parts::{Written, push_end, push_method, push_number, push_space, push_text};
+use racer_base::MethodId;
 use summary_store::Event;
 
 /// Puts a space and `CLASS.NAME/PARAMETERS` of the method of a number behind a text.

@@ -10,10 +10,10 @@ ghost use Rattle.racer_sources.specs.Reading.{IsFileFault};
 use crate::fault::SourceFault;
 use crate::refusal::Refusal;
 use java_lexer::{LexFault, Lexed, lex};
+use java_parser::parse_unit;
 use java_parser_grammar::{ParseFault, Unit};
 use racer_base::{FileId, MAX_FILE_BYTES, MAX_FOLDER_BYTES};
 use std::alloc::Global;
-use java_parser::parse_unit;
 
 /// Whether a file is not too long, and neither are the files up to and with it.
 fn check_size(file: FileId, bytes: &[u8], sum: usize) -> Result<(), SourceFault>

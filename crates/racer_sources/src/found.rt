@@ -11,11 +11,11 @@ use crate::line::refusal_line;
 use crate::names::source_names;
 use crate::refusal::Refusal;
 use crate::units::read_all;
-use java_resolver::{ResolveFault, Table, resolve};
+use java_parser::let_all_go;
 use java_parser_grammar::Unit;
+use java_resolver::{ResolveFault, Table, resolve};
 use racer_base::{Folder, FolderFault, MAX_FILES, Text};
 use std::alloc::Global;
-use java_parser::let_all_go;
 
 /// The sources of a folder, in byte order of their names: the names, what they are read as, and what that declares.
 #[derive(Drop)]

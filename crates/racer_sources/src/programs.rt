@@ -7,10 +7,10 @@ ghost use Rattle.racer_sources.specs.Lowering as lowering;
 use crate::{AcceptedSources, Found, Refusal, let_go, refusal_line, sources};
 use core_code::Program;
 use core_lowering::{LowerFault, lower};
-use racer_base::{Folder, FolderFault, Memory, Text};
-use std::alloc::Global;
 use core_lowering_conditions::are_named;
 use core_lowering_conditions::laws::read_units_are_placed;
+use racer_base::{Folder, FolderFault, Memory, Text};
+use std::alloc::Global;
 
 /// The program of a folder, or the line of its refusal.
 #[derive(Drop)]

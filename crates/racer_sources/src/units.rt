@@ -7,10 +7,10 @@ ghost use Rattle.racer_sources.specs.Finding as finding;
 
 use crate::fault::SourceFault;
 use crate::file::file_unit;
+use java_parser::{let_all_go, put_unit};
 use java_parser_grammar::Unit;
 use racer_base::{FileId, Folder, MAX_FILE_BYTES, Memory};
 use std::alloc::Global;
-use java_parser::{let_all_go, put_unit};
 
 /// The units of the sources that were read, and how many bytes these have together.
 #[derive(Drop)]

@@ -32,7 +32,8 @@ same_parts l m a b c d e f g =
 
 same_line : (rows : List Row) (us : List Use) (l : Line) → Gives rows us → IsOf rows l → l ≡ line_of us
 same_line rows us l g is = same_parts l (line_of us) (is.folder ∙ g.words Folder refl)
-    (is.workers ∙ g.words Workers refl) (is.replay ∙ g.words Replay refl) (is.made ∙ g.words Made refl) (is.json (has Json us) (g.flags Json refl))
+    (is.workers ∙ g.words Workers refl) (is.replay ∙ g.words Replay refl) (is.made ∙ g.words Made refl)
+    (is.json (has Json us) (g.flags Json refl))
     (is.summaries (has Summaries us) (g.flags Summaries refl)) (is.history (has History us) (g.flags History refl))
 
 some_by : (words : List Word) (l : Line) (o : Option (List Use)) → MatchOption o (fails (fault_of command words) ≡ true)

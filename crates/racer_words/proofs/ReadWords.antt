@@ -57,7 +57,8 @@ unfolding differ
 repeats l word done us e = rw e refl
 
 pub put_answer : (l : Label) (word : Word) (done : List Use) (o : Option (List Use)) (w after : Walk)
-    (words rest : List Word) → Same w after words rest → has l done ≡ false → Answer (done ++ one l word ∷ []) o after rest
+    (words rest : List Word) → Same w after words rest → has l done ≡ false →
+    Answer (done ++ one l word ∷ []) o after rest
     → Answer done (put l word o) w words
 put_answer l word done None w after words rest s e a = ap fails s.totals ∙ a
 put_answer l word done (Some us) w after words rest s e a = (

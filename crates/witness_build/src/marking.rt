@@ -23,10 +23,10 @@ use core_semantics::{Machine, Start, begin};
 use core_ways::{
     Both, Leg, Mark, Objects, Target, WayTaken, Witness, let_go, record_of, run_leg, ways,
 };
-use witness_build_walks::{Walked, Walks, let_go as let_walks_go};
 use race_pairs::Warning;
 use racer_base::{FileId, Items, Memory, Place};
 use std::alloc::Global;
+use witness_build_walks::{Walked, Walks, let_go as let_walks_go};
 
 /// A thread that cannot make its leg, and where it is then.
 fn blocked(machine: &Machine, thread: u32) -> Mark

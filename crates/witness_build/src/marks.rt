@@ -10,10 +10,10 @@ use crate::marking::mark_from;
 use access_domain::Outcomes;
 use core_code::Program;
 use core_ways::Mark;
-use witness_build_walks::{Walks, let_go};
 use race_pairs::Warning;
 use racer_base::Memory;
 use std::alloc::Global;
+use witness_build_walks::{Walks, let_go};
 
 /// The marks of these warnings, in order, with walks that go on from one to the next.
 fn marks_from<'a>(

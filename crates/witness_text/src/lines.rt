@@ -4,8 +4,8 @@ ghost use Rattle.race_report_parts.specs.Written.{Lasts, Puts};
 ghost use Rattle.witness_text.specs.Lines as said;
 
 use crate::Verdict;
-use racer_base::Memory;
 use race_report_parts::{Written, push_end, push_number, push_text};
+use racer_base::Memory;
 use std::alloc::Global;
 use witness_text_files::Field;
 

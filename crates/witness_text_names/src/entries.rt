@@ -9,8 +9,8 @@ ghost use Rattle.witness_text_names.specs.Names as named;
 ghost use Rattle.race_report_parts.specs.WitnessFiles as texts;
 
 use core_code::{MethodCore, Program};
-use racer_base::{ClassId, Memory, MethodId};
 use race_report_parts::{Written, push_count, push_text};
+use racer_base::{ClassId, Memory, MethodId};
 use std::alloc::Global;
 
 /// A method with its number.

@@ -9,8 +9,8 @@ ghost use Rattle.witness_text_names.specs.Names.{all_roots, class_roots, paramet
 use crate::entries::number_of;
 use core_code::{MethodCore, Program};
 use core_semantics::{StartPath, StartRoot};
-use racer_base::{ClassId, Memory};
 use race_report_parts::{Written, push_start};
+use racer_base::{ClassId, Memory};
 use std::alloc::Global;
 use std::collections::BTreeMap;
 

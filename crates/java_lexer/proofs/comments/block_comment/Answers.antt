@@ -6,7 +6,8 @@ use Rattle.java_lexer.proofs.comments.block_comment.Goals as goal
 pub returns-in-Some-closed_len : goal.returns-in-Some-closed_len
 returns-in-Some-closed_len c =
     let cases = c.in-Some.ensures.cases in
-    block_scanned c.args.bytes.now c.in-Some-closed_len.len c.requires (ap closed_len (sym cases.2) ∙ sym c.in-Some-closed_len.ensures.gives)
+    block_scanned c.args.bytes.now c.in-Some-closed_len.len c.requires
+    (ap closed_len (sym cases.2) ∙ sym c.in-Some-closed_len.ensures.gives)
 
 pub returns-in-None : goal.returns-in-None
 returns-in-None c =

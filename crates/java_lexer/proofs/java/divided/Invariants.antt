@@ -9,7 +9,8 @@ use Rattle.java_lexer.proofs.java.divided.Given as goal
 
 abbrev pub invariant-loop-rest : goal.invariant-loop-rest
 invariant-loop-rest l = record {
-  tokens : l.tokens ++ tokens_from (java_tokens_of l.file) l.spot (pieces java_lexis l.rest) ≡ java_tokens l.file l.bytes;
+  tokens : l.tokens ++ tokens_from (java_tokens_of l.file) l.spot
+      (pieces java_lexis l.rest) ≡ java_tokens l.file l.bytes;
   place : fold advance l.spot l.rest ≡ spot_behind l.bytes;
   passed : fold advance l.spot (joined (pieces java_lexis l.rest)) ≡ spot_behind (joined (pieces java_lexis l.bytes));
   undivided : undivided java_lexis l.rest ≡ undivided java_lexis l.bytes;

@@ -6,7 +6,8 @@ use Rattle.java_lexer.proofs.java.lex.Goals as goal
 
 pub returns-in-Err-clause-err : goal.returns-in-Err-clause-err
 returns-in-Err-clause-err c =
-    let no : is_utf8 c.args.bytes.now ≡ false = is_false (is_utf8 c.args.bytes.now) (λ h. c.in-Err.ensures.cases.0 (IsUtf8-from_is_utf8 c.args.bytes.now h)) in
+    let no : is_utf8 c.args.bytes.now ≡ false =
+    is_false (is_utf8 c.args.bytes.now) (λ h. c.in-Err.ensures.cases.0 (IsUtf8-from_is_utf8 c.args.bytes.now h)) in
     rw (no, c.valid_up_to.ensures, c.in-Err.ensures.valid_len) refl
 
 pub returns-clause-ok : goal.returns-clause-ok

@@ -1,5 +1,5 @@
 use Rattle.std.specs.Prelude.{option_map}
-use Rattle.java_parser_types.specs.declared.reading.error.ReadError.TheVariants.{Unformed}
+use Rattle.java_parser_types.specs.declared.error.ReadError.TheVariants.{Unformed}
 use Rattle.java_parser.proofs.Refusals.{same_error}
 use Rattle.java_parser.proofs.DivisionSteps.{no_division, no_comma_behind, is_first}
 use Rattle.java_parser.proofs.divisions.first_variable.Goals as goal

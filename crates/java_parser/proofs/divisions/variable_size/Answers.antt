@@ -1,5 +1,5 @@
 use Rattle.std.proofs.Common.{sym, ◌∙◌}
-use Rattle.java_parser_types.specs.declared.reading.error.ReadError.TheVariants.{Unformed}
+use Rattle.java_parser_types.specs.declared.error.ReadError.TheVariants.{Unformed}
 use Rattle.java_parser.proofs.Refusals.{same_error}
 use Rattle.java_parser.proofs.VariableSteps.{no_value, sized_value}
 use Rattle.java_parser.proofs.divisions.variable_size.Goals as goal

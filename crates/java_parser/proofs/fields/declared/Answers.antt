@@ -7,7 +7,7 @@ use Rattle.java_tree.specs.View.{ty_of, modifier_of}
 use Rattle.racer_base.specs.declared.limits.TheConstants.{MAX_NESTING}
 use Rattle.java_parser_grammar.specs.TypeReading.{ty_at}
 use Rattle.java_parser_grammar.specs.FieldDivisions.{AreVariables}
-use Rattle.java_parser_types.specs.declared.reading.error.ReadError.TheVariants.{Unformed}
+use Rattle.java_parser_types.specs.declared.error.ReadError.TheVariants.{Unformed}
 use Rattle.java_parser_types.specs.Tokens.{spelled}
 use Rattle.java_parser.specs.FieldModifiers.{AreModifiers}
 use Rattle.java_parser.proofs.DeclaredFields.{declared, some_modifiers, no_type, no_variables}

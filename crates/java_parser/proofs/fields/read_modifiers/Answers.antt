@@ -3,7 +3,7 @@ use Rattle.std.proofs.lemmas.List.{map_push}
 use Rattle.std.proofs.lemmas.Result.{err_from_is_err_and}
 use Rattle.java_tree.specs.View.{modifier_of}
 use Rattle.java_parser_types.specs.Tokens.{spelled}
-use Rattle.java_parser_types.specs.declared.reading.error.ReadError.TheVariants.{Unformed}
+use Rattle.java_parser_types.specs.declared.error.ReadError.TheVariants.{Unformed}
 use Rattle.java_parser.specs.FieldModifiers.{field_modifier_at}
 use Rattle.java_parser.proofs.ModifierSteps.{skips_one, skips_end, skips_fail, spells_more}
 use Rattle.java_parser.proofs.Refusals.{error_is, fails_so}

@@ -4,7 +4,8 @@ use Rattle.racer_words.proofs.command.matched.Goals as goal
 
 pub returns-in-Ok-try_get_matches_from-clause-rows : goal.returns-in-Ok-try_get_matches_from-clause-rows
 returns-in-Ok-try_get_matches_from-clause-rows c =
-    rows_by _ (map string_bytes c.args.words.now) c.in-Ok-try_get_matches_from.matches c.in-Ok.ensures c.in-Ok-try_get_matches_from.ensures.matches
+    rows_by _ (map string_bytes c.args.words.now) c.in-Ok-try_get_matches_from.matches c.in-Ok.ensures
+    c.in-Ok-try_get_matches_from.ensures.matches
 
 pub returns-in-Ok-try_get_matches_from-clause-taken : goal.returns-in-Ok-try_get_matches_from-clause-taken
 returns-in-Ok-try_get_matches_from-clause-taken c =

@@ -15,7 +15,8 @@ one_same_trees x y = same_expr (expr_of x) (expr_of y)
 
 pub same_trees-returns-then-a-b : goal.same_trees-returns-then-a-b
 same_trees-returns-then-a-b t c =
-    unlike test_same_trees one_same_trees refl (λ x xs y ys. refl) (λ x xs. refl) (λ y ys. refl) c.args.a.now c.args.b.now c.if-a-b.true
+    unlike test_same_trees one_same_trees refl (λ x xs y ys. refl) (λ x xs. refl)
+    (λ y ys. refl) c.args.a.now c.args.b.now c.if-a-b.true
 
 pub same_trees-returns-then-not-same_tree : goal.same_trees-returns-then-not-same_tree
 same_trees-returns-then-not-same_tree t c =
@@ -44,7 +45,8 @@ one_same_items x y = same_init (init_of x) (init_of y)
 
 pub same_items-returns-then-a-b : goal.same_items-returns-then-a-b
 same_items-returns-then-a-b t c =
-    unlike test_same_items one_same_items refl (λ x xs y ys. refl) (λ x xs. refl) (λ y ys. refl) c.args.a.now c.args.b.now c.if-a-b.true
+    unlike test_same_items one_same_items refl (λ x xs y ys. refl) (λ x xs. refl)
+    (λ y ys. refl) c.args.a.now c.args.b.now c.if-a-b.true
 
 pub same_items-returns-then-not-same_initialiser : goal.same_items-returns-then-not-same_initialiser
 same_items-returns-then-not-same_initialiser t c =

@@ -8,12 +8,14 @@ use Rattle.java_tree.proofs.equality.expressions.+compare_expressions.Given as g
 
 abbrev pub invariant-same_trees-loop-number : goal.invariant-same_trees-loop-number
 invariant-same_trees-loop-number l =
-    same_exprs (pack_exprs (map expr_of (drop l.number l.a))) (pack_exprs (map expr_of (drop l.number l.b))) ≡ same_exprs
+    same_exprs (pack_exprs (map expr_of (drop l.number l.a)))
+    (pack_exprs (map expr_of (drop l.number l.b))) ≡ same_exprs
     (pack_exprs (map expr_of l.a)) (pack_exprs (map expr_of l.b))
 
 abbrev pub invariant-same_items-loop-number : goal.invariant-same_items-loop-number
 invariant-same_items-loop-number l =
-    same_inits (pack_inits (map init_of (drop l.number l.a))) (pack_inits (map init_of (drop l.number l.b))) ≡ same_inits
+    same_inits (pack_inits (map init_of (drop l.number l.a)))
+    (pack_inits (map init_of (drop l.number l.b))) ≡ same_inits
     (pack_inits (map init_of l.a)) (pack_inits (map init_of l.b))
 
 -- the deepest part comes first, and of functions on one part the outer one

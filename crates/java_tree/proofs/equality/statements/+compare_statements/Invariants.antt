@@ -7,7 +7,8 @@ use Rattle.java_tree.proofs.equality.statements.+compare_statements.Given as goa
 
 abbrev pub invariant-same_statements-loop-number : goal.invariant-same_statements-loop-number
 invariant-same_statements-loop-number l =
-    same_stmts (pack_stmts (map stmt_of (drop l.number l.a))) (pack_stmts (map stmt_of (drop l.number l.b))) ≡ same_stmts
+    same_stmts (pack_stmts (map stmt_of (drop l.number l.a)))
+    (pack_stmts (map stmt_of (drop l.number l.b))) ≡ same_stmts
     (pack_stmts (map stmt_of l.a)) (pack_stmts (map stmt_of l.b))
 
 -- the deepest part comes first, and of functions on one part the outer one

@@ -15,7 +15,8 @@ one_same_parts x y = same_part (part_of x) (part_of y)
 
 pub same_parts-returns-then-a-b : goal.same_parts-returns-then-a-b
 same_parts-returns-then-a-b t c =
-    unlike test_same_parts one_same_parts refl (λ x xs y ys. refl) (λ x xs. refl) (λ y ys. refl) c.args.a.now c.args.b.now c.if-a-b.true
+    unlike test_same_parts one_same_parts refl (λ x xs y ys. refl) (λ x xs. refl)
+    (λ y ys. refl) c.args.a.now c.args.b.now c.if-a-b.true
 
 pub same_parts-returns-then-not-same_part : goal.same_parts-returns-then-not-same_part
 same_parts-returns-then-not-same_part t c =
@@ -44,18 +45,21 @@ one_same_arguments x y = same_argument (argument_of x) (argument_of y)
 
 pub same_arguments-returns-then-a-b : goal.same_arguments-returns-then-a-b
 same_arguments-returns-then-a-b t c =
-    unlike test_same_arguments one_same_arguments refl (λ x xs y ys. refl) (λ x xs. refl) (λ y ys. refl) c.args.a.now c.args.b.now c.if-a-b.true
+    unlike test_same_arguments one_same_arguments refl (λ x xs y ys. refl) (λ x xs. refl)
+    (λ y ys. refl) c.args.a.now c.args.b.now c.if-a-b.true
 
 pub same_arguments-returns-then-not-same_argument : goal.same_arguments-returns-then-not-same_argument
 same_arguments-returns-then-not-same_argument t c =
-    failed test_same_arguments one_same_arguments refl (λ x xs y ys. refl) c.args.a.now c.args.b.now c.loop-number.number
+    failed test_same_arguments one_same_arguments refl
+    (λ x xs y ys. refl) c.args.a.now c.args.b.now c.loop-number.number
     (test_same_arguments c.args.a.now c.args.b.now) c.if-a-b.false c.loop-number.invariant c.index-a-number.result
     c.index-b-number.result c.same_argument.result c.loop-number-test.true c.index-a-number.is c.index-b-number.is
     c.same_argument.ensures c.if-not-same_argument.true
 
 pub same_arguments-loop-number-preserved : goal.same_arguments-loop-number-preserved
 same_arguments-loop-number-preserved t c =
-    passed test_same_arguments one_same_arguments refl (λ x xs y ys. refl) c.args.a.now c.args.b.now c.loop-number.number
+    passed test_same_arguments one_same_arguments refl
+    (λ x xs y ys. refl) c.args.a.now c.args.b.now c.loop-number.number
     (test_same_arguments c.args.a.now c.args.b.now) c.if-a-b.false c.loop-number.invariant c.index-a-number.result
     c.index-b-number.result c.same_argument.result c.loop-number-test.true c.index-a-number.is c.index-b-number.is
     c.same_argument.ensures c.if-not-same_argument.false

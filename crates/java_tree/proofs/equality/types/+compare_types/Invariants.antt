@@ -6,7 +6,8 @@ use Rattle.java_tree.proofs.equality.types.+compare_types.Given as goal
 
 abbrev pub invariant-same_parts-loop-number : goal.invariant-same_parts-loop-number
 invariant-same_parts-loop-number l =
-    same_parts (pack_parts (map part_of (drop l.number l.a))) (pack_parts (map part_of (drop l.number l.b))) ≡ same_parts
+    same_parts (pack_parts (map part_of (drop l.number l.a)))
+    (pack_parts (map part_of (drop l.number l.b))) ≡ same_parts
     (pack_parts (map part_of l.a)) (pack_parts (map part_of l.b))
 
 abbrev pub invariant-same_arguments-loop-number : goal.invariant-same_arguments-loop-number

@@ -5,4 +5,5 @@ use Rattle.racer_memory.proofs.memory_folder.MemoryFolder.has_name.Goals as goal
 
 pub returns-clause-same : goal.returns-clause-same
 returns-clause-same c =
-    c.eq.ensures ∙ ap (pointwise eqb c.args.name.now) c.as_str.ensures.value ∙ texts_ties c.args.name.now (string_bytes c.args.self.now.name)
+    c.eq.ensures ∙ ap (pointwise eqb c.args.name.now) c.as_str.ensures.value
+    ∙ texts_ties c.args.name.now (string_bytes c.args.self.now.name)

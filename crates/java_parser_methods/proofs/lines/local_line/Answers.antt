@@ -1,0 +1,21 @@
+use Rattle.std.proofs.Common.{◌∙◌, ap, arith, length}
+use Rattle.java_parser_grammar.specs.StatementReading.{local_at}
+use Rattle.java_parser_methods.proofs.PassedOn.{puts_back, within_back}
+use Rattle.java_tree.specs.KeptPlaces.{kept, stmt_places, locals_places}
+use Rattle.java_parser_methods.proofs.lines.local_line.Goals as goal
+
+pub returns-clause-gives : goal.returns-clause-gives
+unfolding local_at
+returns-clause-gives c =
+    rw (c.in_ok-locals.ensures.gives, c.in_ok-rest.ensures.gives) c.local.ensures.gives
+
+pub returns-clause-places : goal.returns-clause-places
+returns-clause-places c =
+    puts_back c.local.result (λ x. stmt_places x.0.value (kept x.1.now)) _ _ (ap (λ ps. locals_places
+    c.in_ok-locals.locals.value ps) c.in_ok-rest.ensures.places ∙ c.in_ok-locals.ensures.places)
+    c.local.ensures.places
+
+pub returns-clause-shorter : goal.returns-clause-shorter
+returns-clause-shorter c =
+    within_back c.local.result (λ x. length x.1.now) _ _
+    (omega (arith, c.in_ok-locals.ensures.shorter, c.in_ok-rest.ensures.shorter)) c.local.ensures.shorter

@@ -1,0 +1,368 @@
+use Rattle.std.proofs.Common.{◌≡◌, ℕ, length, suc, ◌-◌, ◌++◌, ◌∷◌, [], map, refl, sym, ap, ◌∙◌, arith}
+use Rattle.std.proofs.lemmas.Result.{err_from_is_err_and}
+use Rattle.std.proofs.lemmas.List.{map_push}
+use Rattle.java_tree.specs.KeptPlaces.{kept, expr_places, stmt_places}
+use Rattle.java_parser_types.proofs.PutPlaces.{one_put}
+use Rattle.java_tree.specs.View.{stmt_of}
+use Rattle.java_parser_grammar.specs.StatementReading.{braces_at, by_lead, stmt_at, block_at, body_at, condition_at}
+use Rattle.java_parser_grammar.specs.StatementReading.{if_at, while_at, sync_at}
+use Rattle.java_parser_grammar.specs.Lookahead.{StatementLead, statement_lead}
+use Rattle.java_parser_grammar.specs.JavaReaders.{method_readers}
+use Rattle.java_parser_types.specs.Tokens.{spelled}
+use Rattle.java_parser_types.specs.Endings.{block_end}
+use Rattle.java_parser_methods.specs.HeadReading.{head_at}
+use Rattle.java_parser_types.proofs.ReadParts.{part_fails}
+use Rattle.java_parser_methods.proofs.ForHeads.{for_is_headed}
+use Rattle.java_parser_types.proofs.ReadLoops.{ends_give}
+use Rattle.java_parser_methods.proofs.StatementLoops.{statement_goes_on, statement_fails, statements_end}
+use Rattle.java_parser_methods.proofs.StatementLoops.{statements_run_out, stmt_within, block_within}
+use Rattle.java_tree.specs.Formed.{is_body}
+use Rattle.java_parser_methods.specs.HeadView.{head_places}
+use Rattle.java_parser_methods.proofs.PassedOn.{puts_back, within_back, tested_no, tested_yes}
+use Rattle.java_parser_methods.proofs.statements.+statements.Goals as goal
+
+pub braces-returns-in-Some-clause-gives : goal.braces-returns-in-Some-clause-gives
+braces-returns-in-Some-clause-gives t c =
+    let read = stmt_at method_readers c.args.limit in
+    statements_end method_readers read block_end (braces_at method_readers read (map spelled c.args.tokens.now))
+    c.args.tokens.now c.loop.counter (map stmt_of c.loop.items.items) (map spelled c.loop.rest.now)
+    (map spelled c.in-Some.after.now) c.loop-test.true c.in-Some.ensures.gives c.loop.invariant.gives
+
+pub braces-returns-in_err-next-clause-gives : goal.braces-returns-in_err-next-clause-gives
+braces-returns-in_err-next-clause-gives t c =
+    let read = stmt_at method_readers c.args.limit in
+    let p = err_from_is_err_and c.from_residual.result c.from_residual.ensures.1 in
+    rw (p.1, p.2) (statement_fails method_readers read block_end (braces_at method_readers read
+    (map spelled c.args.tokens.now)) c.args.tokens.now c.loop.counter (map stmt_of c.loop.items.items)
+    c.in_err-next.field-0.0 (map spelled c.loop.rest.now) c.loop-test.true c.in_default.ensures.gives
+    c.in_err-next.ensures.gives c.loop.invariant.gives)
+
+pub braces-loop-preserved : goal.braces-loop-preserved
+braces-loop-preserved t c =
+    let n = c.in_ok-next.next.value in
+    let e : map stmt_of c.push_tree.new.trees.items ≡ map stmt_of c.loop.items.items ++ stmt_of n ∷ [] =
+    rw c.in_ok-push_tree.ensures.items (map_push _ c.loop.items.items n) in
+    let read = stmt_at method_readers c.args.limit in
+    record {
+      gives = rw e (statement_goes_on method_readers read block_end (braces_at method_readers read
+          (map spelled c.args.tokens.now)) c.args.tokens.now c.loop.counter (map stmt_of c.loop.items.items)
+          (stmt_of n) (map spelled c.loop.rest.now) (map spelled c.in_ok-next.after.now) c.loop-test.true
+          c.in_default.ensures.gives c.in_ok-next.ensures.gives c.loop.invariant.gives);
+      places = rw c.in_ok-push_tree.ensures.items (one_put stmt_places c.loop.items.items n (kept c.loop.rest.now)
+          (kept c.in_ok-next.after.now) _ c.in_ok-next.ensures.places c.loop.invariant.places);
+      shorter = omega (arith, c.in_ok-next.ensures.shorter);
+    }
+
+pub braces-returns-clause-gives : goal.braces-returns-clause-gives
+braces-returns-clause-gives t c =
+    let read = stmt_at method_readers c.args.limit in
+    statements_run_out method_readers read block_end (braces_at method_readers read (map spelled c.args.tokens.now))
+    c.args.tokens.now c.loop.counter (map stmt_of c.loop.items.items) (map spelled c.loop.rest.now)
+    c.loop-test.false c.loop.invariant.gives
+
+pub by_lead-returns-in-ForWord-clause-gives : goal.by_lead-returns-in-ForWord-clause-gives
+by_lead-returns-in-ForWord-clause-gives t c =
+    let ts = map spelled c.args.tokens.now in
+    let read = stmt_at method_readers c.args.limit in
+    let block = block_at method_readers c.args.limit in
+    let total = by_lead method_readers read block c.args.limit (statement_lead ts) ts in
+    ends_give _ c.for_statement.result total _ (ap (λ (l : StatementLead). by_lead method_readers read block
+    c.args.limit l ts) (sym c.in-ForWord.ensures.gives) ∙ for_is_headed method_readers read c.args.limit
+    (map spelled c.in-ForWord.rest.now)) c.for_statement.ensures.gives
+
+pub read_statement-returns-clause-gives : goal.read_statement-returns-clause-gives
+read_statement-returns-clause-gives t c =
+    let ts = map spelled c.args.tokens.now in
+    let m : ℕ = c.args.limit - 1 in
+    let less : c.args.limit ≡ suc m = omega arith in
+    ends_give _ c.by_lead.result (stmt_at method_readers c.args.limit ts) _ (stmt_within method_readers c.args.limit m
+    ts less) c.by_lead.ensures.gives
+
+pub read_block-returns-clause-gives : goal.read_block-returns-clause-gives
+read_block-returns-clause-gives t c =
+    let ts = map spelled c.args.tokens.now in
+    let m : ℕ = c.args.limit - 1 in
+    let less : c.args.limit ≡ suc m = omega arith in
+    ends_give _ c.braces.result (block_at method_readers c.args.limit ts) _ (block_within method_readers c.args.limit
+    m ts less (map spelled c.in_ok-rest.rest.now) c.in_ok-rest.ensures.gives) c.braces.ensures.gives
+
+-- ---- what is read of parts
+
+pub by_lead-returns-in-Semicolon-clause-gives : goal.by_lead-returns-in-Semicolon-clause-gives
+by_lead-returns-in-Semicolon-clause-gives t c = ends_give _ c.empty.result (by_lead method_readers (stmt_at
+    method_readers c.args.limit) (block_at method_readers c.args.limit) c.args.limit (statement_lead (map spelled
+    c.args.tokens.now)) (map spelled c.args.tokens.now)) _ (ap (λ (l : StatementLead). by_lead method_readers
+    (stmt_at method_readers c.args.limit) (block_at method_readers c.args.limit) c.args.limit l (map spelled
+    c.args.tokens.now)) (sym c.in-Semicolon.ensures.gives)) c.empty.ensures.gives
+
+pub by_lead-returns-in-IfWord-clause-gives : goal.by_lead-returns-in-IfWord-clause-gives
+by_lead-returns-in-IfWord-clause-gives t c = ends_give _ c.if_statement.result (by_lead method_readers (stmt_at
+    method_readers c.args.limit) (block_at method_readers c.args.limit) c.args.limit (statement_lead (map spelled
+    c.args.tokens.now)) (map spelled c.args.tokens.now)) _ (ap (λ (l : StatementLead). by_lead method_readers
+    (stmt_at method_readers c.args.limit) (block_at method_readers c.args.limit) c.args.limit l (map spelled
+    c.args.tokens.now)) (sym c.in-IfWord.ensures.gives)) c.if_statement.ensures.gives
+
+pub by_lead-returns-in-WhileWord-clause-gives : goal.by_lead-returns-in-WhileWord-clause-gives
+by_lead-returns-in-WhileWord-clause-gives t c = ends_give _ c.while_statement.result (by_lead method_readers
+    (stmt_at method_readers c.args.limit) (block_at method_readers c.args.limit) c.args.limit (statement_lead (map
+    spelled c.args.tokens.now)) (map spelled c.args.tokens.now)) _ (ap (λ (l : StatementLead). by_lead
+    method_readers (stmt_at method_readers c.args.limit) (block_at method_readers c.args.limit) c.args.limit l (map
+    spelled c.args.tokens.now)) (sym c.in-WhileWord.ensures.gives)) c.while_statement.ensures.gives
+
+pub by_lead-returns-in-SynchronizedWord-clause-gives : goal.by_lead-returns-in-SynchronizedWord-clause-gives
+by_lead-returns-in-SynchronizedWord-clause-gives t c = ends_give _ c.synchronized.result (by_lead method_readers
+    (stmt_at method_readers c.args.limit) (block_at method_readers c.args.limit) c.args.limit (statement_lead (map
+    spelled c.args.tokens.now)) (map spelled c.args.tokens.now)) _ (ap (λ (l : StatementLead). by_lead
+    method_readers (stmt_at method_readers c.args.limit) (block_at method_readers c.args.limit) c.args.limit l (map
+    spelled c.args.tokens.now)) (sym c.in-SynchronizedWord.ensures.gives)) c.synchronized.ensures.gives
+
+pub by_lead-returns-in-ReturnWord-clause-gives : goal.by_lead-returns-in-ReturnWord-clause-gives
+by_lead-returns-in-ReturnWord-clause-gives t c = ends_give _ c.returned.result (by_lead method_readers (stmt_at
+    method_readers c.args.limit) (block_at method_readers c.args.limit) c.args.limit (statement_lead (map spelled
+    c.args.tokens.now)) (map spelled c.args.tokens.now)) _ (ap (λ (l : StatementLead). by_lead method_readers
+    (stmt_at method_readers c.args.limit) (block_at method_readers c.args.limit) c.args.limit l (map spelled
+    c.args.tokens.now)) (sym c.in-ReturnWord.ensures.gives)) c.returned.ensures.gives
+
+pub by_lead-returns-in-Other-clause-gives : goal.by_lead-returns-in-Other-clause-gives
+by_lead-returns-in-Other-clause-gives t c = ends_give _ c.simple.result (by_lead method_readers (stmt_at
+    method_readers c.args.limit) (block_at method_readers c.args.limit) c.args.limit (statement_lead (map spelled
+    c.args.tokens.now)) (map spelled c.args.tokens.now)) _ (ap (λ (l : StatementLead). by_lead method_readers
+    (stmt_at method_readers c.args.limit) (block_at method_readers c.args.limit) c.args.limit l (map spelled
+    c.args.tokens.now)) (sym c.in-Other.ensures.gives)) c.simple.ensures.gives
+
+pub body-returns-in_err-body-clause-gives : goal.body-returns-in_err-body-clause-gives
+body-returns-in_err-body-clause-gives t c =
+    let p = err_from_is_err_and c.from_residual.result c.from_residual.ensures.1 in
+    rw (p.1, p.2) (part_fails c.in_err-body.field-0.0 (stmt_at method_readers c.args.limit (map spelled
+    c.args.tokens.now)) _ (λ n. rw n refl) c.in_err-body.ensures.gives)
+
+pub if_statement-returns-in_err-condition-clause-gives : goal.if_statement-returns-in_err-condition-clause-gives
+unfolding if_at
+if_statement-returns-in_err-condition-clause-gives t c =
+    let p = err_from_is_err_and c.from_residual.result c.from_residual.ensures.1 in
+    rw (p.1, p.2) (part_fails c.in_err-condition.field-0.0 (condition_at method_readers c.args.limit (map spelled
+    c.args.tokens.now)) _ (λ n. rw n refl) c.in_err-condition.ensures.gives)
+
+pub if_statement-returns-in_err-then-clause-gives : goal.if_statement-returns-in_err-then-clause-gives
+unfolding if_at
+if_statement-returns-in_err-then-clause-gives t c =
+    let p = err_from_is_err_and c.from_residual-in_err-then.result c.from_residual-in_err-then.ensures.1 in
+    rw (p.1, p.2) (part_fails c.in_err-then.field-0.0 (body_at method_readers (stmt_at method_readers c.args.limit)
+    (map spelled c.in_ok-condition.rest.now)) _ (λ n. rw (c.in_ok-condition.ensures.gives, n) refl)
+    c.in_err-then.ensures.gives)
+
+pub if_statement-returns-clause-gives : goal.if_statement-returns-clause-gives
+unfolding if_at
+if_statement-returns-clause-gives t c = rw (c.in_ok-condition.ensures.gives, c.in_ok-then.ensures.gives)
+    c.otherwise.ensures.gives
+
+pub otherwise-returns-in_default-clause-gives : goal.otherwise-returns-in_default-clause-gives
+otherwise-returns-in_default-clause-gives t c = rw c.in_default.ensures.gives c.without_else.ensures.gives
+
+pub otherwise-returns-in_err-other-clause-gives : goal.otherwise-returns-in_err-other-clause-gives
+otherwise-returns-in_err-other-clause-gives t c =
+    let p = err_from_is_err_and c.from_residual.result c.from_residual.ensures.1 in
+    rw (p.1, p.2) (part_fails c.in_err-other.field-0.0 (body_at method_readers (stmt_at method_readers c.args.limit)
+    (map spelled c.in-Some.after.now)) _ (λ n. rw (c.in-Some.ensures.gives, n) refl) c.in_err-other.ensures.gives)
+
+pub otherwise-returns-clause-gives : goal.otherwise-returns-clause-gives
+otherwise-returns-clause-gives t c = rw (c.in-Some.ensures.gives, c.in_ok-other.ensures.gives)
+    c.with_else.ensures.gives
+
+pub while_statement-returns-in_err-condition-clause-gives : goal.while_statement-returns-in_err-condition-clause-gives
+unfolding while_at
+while_statement-returns-in_err-condition-clause-gives t c =
+    let p = err_from_is_err_and c.from_residual.result c.from_residual.ensures.1 in
+    rw (p.1, p.2) (part_fails c.in_err-condition.field-0.0 (condition_at method_readers c.args.limit (map spelled
+    c.args.tokens.now)) _ (λ n. rw n refl) c.in_err-condition.ensures.gives)
+
+pub while_statement-returns-in_err-body-clause-gives : goal.while_statement-returns-in_err-body-clause-gives
+unfolding while_at
+while_statement-returns-in_err-body-clause-gives t c =
+    let p = err_from_is_err_and c.from_residual-in_err-body.result c.from_residual-in_err-body.ensures.1 in
+    rw (p.1, p.2) (part_fails c.in_err-body.field-0.0 (body_at method_readers (stmt_at method_readers c.args.limit)
+    (map spelled c.in_ok-condition.rest.now)) _ (λ n. rw (c.in_ok-condition.ensures.gives, n) refl)
+    c.in_err-body.ensures.gives)
+
+pub while_statement-returns-clause-gives : goal.while_statement-returns-clause-gives
+unfolding while_at
+while_statement-returns-clause-gives t c = rw (c.in_ok-condition.ensures.gives, c.in_ok-body.ensures.gives)
+    c.repeated.ensures.gives
+
+pub for_statement-returns-in_err-head-clause-gives : goal.for_statement-returns-in_err-head-clause-gives
+for_statement-returns-in_err-head-clause-gives t c =
+    let p = err_from_is_err_and c.from_residual.result c.from_residual.ensures.1 in
+    rw (p.1, p.2) (part_fails c.in_err-head.field-0.0 (head_at method_readers c.args.limit (map spelled
+    c.args.tokens.now)) _ (λ n. rw n refl) c.in_err-head.ensures.gives)
+
+pub for_statement-returns-in_err-body-clause-gives : goal.for_statement-returns-in_err-body-clause-gives
+for_statement-returns-in_err-body-clause-gives t c =
+    let p = err_from_is_err_and c.from_residual-in_err-body.result c.from_residual-in_err-body.ensures.1 in
+    rw (p.1, p.2) (part_fails c.in_err-body.field-0.0 (body_at method_readers (stmt_at method_readers c.args.limit)
+    (map spelled c.in_ok-head.rest.now)) _ (λ n. rw (c.in_ok-head.ensures.gives, n) refl)
+    c.in_err-body.ensures.gives)
+
+pub for_statement-returns-clause-gives : goal.for_statement-returns-clause-gives
+for_statement-returns-clause-gives t c = rw (c.in_ok-head.ensures.gives, c.in_ok-body.ensures.gives)
+    c.headed.ensures.gives
+
+pub synchronized-returns-in_err-lock-clause-gives : goal.synchronized-returns-in_err-lock-clause-gives
+unfolding sync_at
+synchronized-returns-in_err-lock-clause-gives t c =
+    let p = err_from_is_err_and c.from_residual.result c.from_residual.ensures.1 in
+    rw (p.1, p.2) (part_fails c.in_err-lock.field-0.0 (condition_at method_readers c.args.limit (map spelled
+    c.args.tokens.now)) _ (λ n. rw n refl) c.in_err-lock.ensures.gives)
+
+pub synchronized-returns-in_err-statements-clause-gives : goal.synchronized-returns-in_err-statements-clause-gives
+unfolding sync_at
+synchronized-returns-in_err-statements-clause-gives t c =
+    let p = err_from_is_err_and c.from_residual-in_err-statements.result c.from_residual-in_err-statements.ensures.1
+    in
+    rw (p.1, p.2) (part_fails c.in_err-statements.field-0.0 (block_at method_readers c.args.limit (map spelled
+    c.in_ok-lock.rest.now)) _ (λ n. rw (c.in_ok-lock.ensures.gives, n) refl) c.in_err-statements.ensures.gives)
+
+pub synchronized-returns-clause-gives : goal.synchronized-returns-clause-gives
+unfolding sync_at
+synchronized-returns-clause-gives t c = rw (c.in_ok-lock.ensures.gives, c.in_ok-statements.ensures.gives)
+    c.locked.ensures.gives
+
+-- ---- places, and how many tokens are left
+
+pub synchronized-returns-clause-places : goal.synchronized-returns-clause-places
+synchronized-returns-clause-places t c = puts_back c.locked.result (λ x. stmt_places x.0.value (kept x.1.now)) _ _
+    (ap (λ ps. c.args.place ∷ expr_places c.in_ok-lock.lock.value ps) c.in_ok-statements.ensures.places
+    ∙ ap (λ ps. c.args.place ∷ ps) c.in_ok-lock.ensures.places) c.locked.ensures.places
+
+pub synchronized-returns-clause-shorter : goal.synchronized-returns-clause-shorter
+synchronized-returns-clause-shorter t c = within_back c.locked.result (λ x. length x.1.now) _ _ (omega (
+  arith,
+  c.in_ok-lock.ensures.shorter,
+  c.in_ok-statements.ensures.shorter,
+))
+    c.locked.ensures.shorter
+
+pub for_statement-returns-clause-places : goal.for_statement-returns-clause-places
+for_statement-returns-clause-places t c = puts_back c.headed.result (λ x. stmt_places x.0.value (kept x.1.now)) _ _
+    (ap (λ ps. head_places c.in_ok-head.head ps) c.in_ok-body.ensures.places ∙ c.in_ok-head.ensures.places)
+    c.headed.ensures.places
+
+pub for_statement-returns-clause-shorter : goal.for_statement-returns-clause-shorter
+for_statement-returns-clause-shorter t c = within_back c.headed.result (λ x. length x.1.now) _ _ (omega (
+  arith,
+  c.in_ok-head.ensures.shorter,
+  c.in_ok-body.ensures.shorter,
+))
+    c.headed.ensures.shorter
+
+pub while_statement-returns-clause-places : goal.while_statement-returns-clause-places
+while_statement-returns-clause-places t c = puts_back c.repeated.result (λ x. stmt_places x.0.value (kept x.1.now))
+    _ _
+    (ap (λ ps. expr_places c.in_ok-condition.condition.value ps) c.in_ok-body.ensures.places
+    ∙ c.in_ok-condition.ensures.places) c.repeated.ensures.places
+
+pub while_statement-returns-clause-shorter : goal.while_statement-returns-clause-shorter
+while_statement-returns-clause-shorter t c = within_back c.repeated.result (λ x. length x.1.now) _ _ (omega (
+  arith,
+  c.in_ok-condition.ensures.shorter,
+  c.in_ok-body.ensures.shorter,
+))
+    c.repeated.ensures.shorter
+
+pub if_statement-returns-clause-places : goal.if_statement-returns-clause-places
+if_statement-returns-clause-places t c = puts_back c.otherwise.result (λ x. stmt_places x.0.value (kept x.1.now)) _ _
+    (ap (λ ps. expr_places c.in_ok-condition.condition.value ps) c.in_ok-then.ensures.places
+    ∙ c.in_ok-condition.ensures.places) c.otherwise.ensures.places
+
+pub if_statement-returns-clause-shorter : goal.if_statement-returns-clause-shorter
+if_statement-returns-clause-shorter t c = within_back c.otherwise.result (λ x. length x.1.now) _ _ (omega (
+  arith,
+  c.in_ok-condition.ensures.shorter,
+  c.in_ok-then.ensures.shorter,
+))
+    c.otherwise.ensures.shorter
+
+pub otherwise-returns-clause-places : goal.otherwise-returns-clause-places
+otherwise-returns-clause-places t c = puts_back c.with_else.result (λ x. stmt_places x.0.value (kept x.1.now)) _ _
+    (ap (λ ps. expr_places c.args.condition.value (stmt_places c.args.then.value ps))
+    (c.in_ok-other.ensures.places ∙ c.in-Some.ensures.places)) c.with_else.ensures.places
+
+pub otherwise-returns-clause-shorter : goal.otherwise-returns-clause-shorter
+otherwise-returns-clause-shorter t c = within_back c.with_else.result (λ x. length x.1.now) _ _ (omega (
+  arith,
+  c.in_ok-other.ensures.shorter,
+  c.in-Some.ensures.shorter,
+))
+    c.with_else.ensures.shorter
+
+pub body-returns-then-not-is_body-clause-gives : goal.body-returns-then-not-is_body-clause-gives
+body-returns-then-not-is_body-clause-gives t c = tested_no (stmt_at method_readers c.args.limit (map spelled
+    c.args.tokens.now))
+    (stmt_of c.in_ok-body.body.value, map spelled c.in_ok-body.rest.now) (λ x. is_body x.0) c.in_ok-body.ensures.gives
+    (ap (λ s. is_body (stmt_of s)) (sym c.deref.ensures) ∙ sym c.is_body.ensures ∙ c.if-not-is_body.true)
+
+pub body-returns-clause-gives : goal.body-returns-clause-gives
+body-returns-clause-gives t c = tested_yes (stmt_at method_readers c.args.limit (map spelled c.args.tokens.now))
+    (stmt_of c.in_ok-body.body.value, map spelled c.in_ok-body.rest.now) (λ x. is_body x.0) c.in_ok-body.ensures.gives
+    (ap (λ s. is_body (stmt_of s)) (sym c.deref.ensures) ∙ sym c.is_body.ensures ∙ c.if-not-is_body.false)
+
+-- ---- what a call at the end of an arm says
+
+pub by_lead-returns-in-Semicolon-clause-places : goal.by_lead-returns-in-Semicolon-clause-places
+by_lead-returns-in-Semicolon-clause-places t c =
+    puts_back c.empty.result (λ x. stmt_places x.0.value (kept x.1.now)) _ _ c.in-Semicolon.ensures.places
+    c.empty.ensures.places
+
+pub by_lead-returns-in-Semicolon-clause-shorter : goal.by_lead-returns-in-Semicolon-clause-shorter
+by_lead-returns-in-Semicolon-clause-shorter t c =
+    within_back c.empty.result (λ x. length x.1.now) _ _ (omega (arith, c.in-Semicolon.ensures.shorter))
+    c.empty.ensures.shorter
+
+pub by_lead-returns-in-IfWord-clause-places : goal.by_lead-returns-in-IfWord-clause-places
+by_lead-returns-in-IfWord-clause-places t c =
+    puts_back c.if_statement.result (λ x. stmt_places x.0.value (kept x.1.now)) _ _ c.in-IfWord.ensures.places
+    c.if_statement.ensures.places
+
+pub by_lead-returns-in-IfWord-clause-shorter : goal.by_lead-returns-in-IfWord-clause-shorter
+by_lead-returns-in-IfWord-clause-shorter t c =
+    within_back c.if_statement.result (λ x. length x.1.now) _ _ (omega (arith, c.in-IfWord.ensures.shorter))
+    c.if_statement.ensures.shorter
+
+pub by_lead-returns-in-WhileWord-clause-places : goal.by_lead-returns-in-WhileWord-clause-places
+by_lead-returns-in-WhileWord-clause-places t c =
+    puts_back c.while_statement.result (λ x. stmt_places x.0.value (kept x.1.now)) _ _ c.in-WhileWord.ensures.places
+    c.while_statement.ensures.places
+
+pub by_lead-returns-in-WhileWord-clause-shorter : goal.by_lead-returns-in-WhileWord-clause-shorter
+by_lead-returns-in-WhileWord-clause-shorter t c =
+    within_back c.while_statement.result (λ x. length x.1.now) _ _ (omega (arith, c.in-WhileWord.ensures.shorter))
+    c.while_statement.ensures.shorter
+
+pub by_lead-returns-in-ForWord-clause-places : goal.by_lead-returns-in-ForWord-clause-places
+by_lead-returns-in-ForWord-clause-places t c =
+    puts_back c.for_statement.result (λ x. stmt_places x.0.value (kept x.1.now)) _ _ c.in-ForWord.ensures.places
+    c.for_statement.ensures.places
+
+pub by_lead-returns-in-ForWord-clause-shorter : goal.by_lead-returns-in-ForWord-clause-shorter
+by_lead-returns-in-ForWord-clause-shorter t c =
+    within_back c.for_statement.result (λ x. length x.1.now) _ _ (omega (arith, c.in-ForWord.ensures.shorter))
+    c.for_statement.ensures.shorter
+
+pub by_lead-returns-in-SynchronizedWord-clause-places : goal.by_lead-returns-in-SynchronizedWord-clause-places
+by_lead-returns-in-SynchronizedWord-clause-places t c =
+    puts_back c.synchronized.result (λ x. stmt_places x.0.value (kept x.1.now)) _ _
+    c.in-SynchronizedWord.ensures.places c.synchronized.ensures.places
+
+pub by_lead-returns-in-SynchronizedWord-clause-shorter : goal.by_lead-returns-in-SynchronizedWord-clause-shorter
+by_lead-returns-in-SynchronizedWord-clause-shorter t c =
+    within_back c.synchronized.result (λ x. length x.1.now) _ _ (omega (arith, c.in-SynchronizedWord.ensures.shorter))
+    c.synchronized.ensures.shorter
+
+pub by_lead-returns-in-ReturnWord-clause-places : goal.by_lead-returns-in-ReturnWord-clause-places
+by_lead-returns-in-ReturnWord-clause-places t c =
+    puts_back c.returned.result (λ x. stmt_places x.0.value (kept x.1.now)) _ _ c.in-ReturnWord.ensures.places
+    c.returned.ensures.places
+
+pub by_lead-returns-in-ReturnWord-clause-shorter : goal.by_lead-returns-in-ReturnWord-clause-shorter
+by_lead-returns-in-ReturnWord-clause-shorter t c =
+    within_back c.returned.result (λ x. length x.1.now) _ _ (omega (arith, c.in-ReturnWord.ensures.shorter))
+    c.returned.ensures.shorter

@@ -1,0 +1,130 @@
+//! Reading annotations and modifiers (JLS 8.4.3, 9.7).
+ghost use Rattle.std.specs.Prelude.{◌<◌, ◌≤◌, [], ◌∷◌, length, map, option_map, IfOk, IfSome};
+ghost use Rattle.java_tree.specs.KeptPlaces.{Places, kept};
+ghost use Rattle.java_tree.specs.MethodPlaces.{no_name, annotation_marks, modifier_marks, each_marks};
+ghost use Rattle.java_parser_methods.specs.LedPlaces.{Leads};
+ghost use Rattle.java_tree.specs.View.{annotation_of, modifier_of};
+ghost use Rattle.java_parser_grammar.specs.Taking.{after_name};
+ghost use Rattle.java_parser_grammar.specs.TypeReading.{points};
+ghost use Rattle.java_parser_grammar.specs.MethodReading.{names_at, annotation_at, annotations_at, modifiers_at};
+ghost use Rattle.java_parser_methods.specs.ModifierReading.{modifier_at};
+ghost use Rattle.java_parser_types.specs.Tokens.{spelled};
+ghost use Rattle.java_parser_types.specs.Finishing.{finished};
+ghost use Rattle.java_parser_types.specs.Endings.{as_they_are};
+ghost use Rattle.java_parser_types.specs.ReadAnswer.{Gives};
+
+use super::brackets::arguments;
+use super::lookahead::after_modifier;
+use java_lexer::Token;
+use java_parser_types::error::ReadError;
+use java_parser_types::look::{after_sign, name};
+use java_tree::{AnnotationTree, ModifierTree};
+use racer_base::{Items, Text};
+use std::alloc::Global;
+
+/// This name and others, each behind a point.
+fn more_names(
+    alloc: Global,
+    first: Text,
+    tokens: &[Token],
+) -> Result<(Vec<Text>, &[Token]), ReadError>
+    ensures gives { Gives (λ x. (x.0.items, map spelled x.1.now)) result (finished as_they_are (first ∷ [])
+        (points after_name (length (map spelled tokens.now)) (map spelled tokens.now))) }
+    ensures places { IfOk result (λ x. (start : Places) → Leads (no_name first) start (kept tokens.now)
+        → Leads (each_marks no_name x.0.items) start (kept x.1.now)) }
+    ensures shorter { IfOk result (λ x. length x.1.now ≤ length tokens.now) }
+{
+    let mut items = Vec::new(alloc);
+    items.push(first)?;
+    let mut rest = tokens;
+    for _ in 0..tokens.len() {
+        let Some(after) = after_sign(rest, ".") else {
+            return Ok((items, rest));
+        };
+        let (next, after) = name(alloc, after)?;
+        items.push(next.text)?;
+        rest = after;
+    }
+    Ok((items, rest))
+}
+
+/// An annotation behind its `@`.
+#[tactic(auto, unfolding(java_parser_grammar::specs::MethodReading::annotation_at, java_parser_grammar::specs::MethodReading::names_at))]
+pub fn annotation(alloc: Global, tokens: &[Token]) -> Result<(AnnotationTree, &[Token]), ReadError>
+    ensures gives { Gives (λ x. (annotation_of x.0, map spelled x.1.now)) result
+        (annotation_at (map spelled tokens.now)) }
+    ensures places { IfOk result (λ x. Leads (annotation_marks x.0) (kept tokens.now) (kept x.1.now)) }
+    ensures shorter { IfOk result (λ x. length x.1.now < length tokens.now) }
+{
+    let (first, rest) = name(alloc, tokens)?;
+    let (names, rest) = more_names(alloc, first.text, rest)?;
+    let (arguments, rest) = arguments(alloc, rest)?;
+    let names = Items::from(names);
+    let arguments = Items::from(arguments);
+    Ok((AnnotationTree { names, arguments }, rest))
+}
+
+/// Annotations, as long as they come, and fewer than `limit`.
+pub fn annotations(
+    alloc: Global,
+    limit: usize,
+    tokens: &[Token],
+) -> Result<(Vec<AnnotationTree>, &[Token]), ReadError>
+    ensures gives { Gives (λ x. (map annotation_of x.0.items, map spelled x.1.now)) result (annotations_at limit
+        (map spelled tokens.now)) }
+    ensures places { IfOk result (λ x. Leads (each_marks annotation_marks x.0.items) (kept tokens.now) (kept x.1.now)) }
+    ensures shorter { IfOk result (λ x. length x.1.now ≤ length tokens.now) }
+{
+    let mut items = Vec::new(alloc);
+    let mut rest = tokens;
+    for _ in 0..limit {
+        let Some(after) = after_sign(rest, "@") else {
+            return Ok((items, rest));
+        };
+        let (next, after) = annotation(alloc, after)?;
+        items.push(next)?;
+        rest = after;
+    }
+    Err(ReadError::Unformed)
+}
+
+/// A word or an annotation among the modifiers, where one stands.
+fn modifier(alloc: Global, tokens: &[Token]) -> Result<Option<(ModifierTree, &[Token])>, ReadError>
+    ensures gives { Gives (option_map (λ x. (modifier_of x.0, map spelled x.1.now))) result
+        (modifier_at (map spelled tokens.now)) }
+    ensures places { IfOk result (λ o. IfSome o (λ x. Leads (modifier_marks x.0) (kept tokens.now)
+        (kept x.1.now))) }
+    ensures shorter { IfOk result (λ o. IfSome o (λ x. length x.1.now < length tokens.now)) }
+{
+    if let Some(after) = after_sign(tokens, "@") {
+        let (annotation, rest) = annotation(alloc, after)?;
+        return Ok(Some((ModifierTree::Annotated(annotation), rest)));
+    }
+    let Some((word, rest)) = after_modifier(tokens) else {
+        return Ok(None);
+    };
+    let text = Text::from_str(alloc, word.text.as_str())?;
+    Ok(Some((ModifierTree::Word(text), rest)))
+}
+
+/// Words and annotations, as long as they come.
+pub fn modifiers(
+    alloc: Global,
+    tokens: &[Token],
+) -> Result<(Vec<ModifierTree>, &[Token]), ReadError>
+    ensures gives { Gives (λ x. (map modifier_of x.0.items, map spelled x.1.now)) result
+        (modifiers_at (length (map spelled tokens.now)) (map spelled tokens.now)) }
+    ensures places { IfOk result (λ x. Leads (each_marks modifier_marks x.0.items) (kept tokens.now) (kept x.1.now)) }
+    ensures shorter { IfOk result (λ x. length x.1.now ≤ length tokens.now) }
+{
+    let mut items = Vec::new(alloc);
+    let mut rest = tokens;
+    for _ in 0..tokens.len() {
+        let Some((next, after)) = modifier(alloc, rest)? else {
+            return Ok((items, rest));
+        };
+        items.push(next)?;
+        rest = after;
+    }
+    Err(ReadError::Unformed)
+}

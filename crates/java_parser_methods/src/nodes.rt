@@ -1,0 +1,230 @@
+//! Statements with statements or expressions in them, made of what was read (JLS 14).
+ghost use Rattle.std.specs.Prelude.{◌≡◌, ◌≤◌, ◌∷◌, length, map, option_map, IfOk};
+ghost use Rattle.java_tree.specs.Trees.{If, IfElse, While, Sync, Block, Local, Run, Return, Empty, pack_stmts};
+ghost use Rattle.java_tree.specs.KeptPlaces.{Places, kept, maybe_puts, each_puts, expr_places, stmt_places};
+ghost use Rattle.java_tree.specs.KeptPlaces.{locals_places};
+ghost use Rattle.java_tree.specs.View.{expr_of, locals_of, stmt_of};
+ghost use Rattle.java_parser_expressions.specs.Closings.{as_read};
+ghost use Rattle.java_parser_methods.specs.HeadReading.{for_of};
+ghost use Rattle.java_parser_methods.specs.HeadView.{head_of, head_places};
+ghost use Rattle.java_parser_types.specs.Tokens.{spelled};
+ghost use Rattle.java_parser_types.specs.ReadAnswer.{Gives};
+
+use super::heads::ForHead;
+use java_lexer::Token;
+use java_parser_types::error::ReadError;
+use java_tree::{Expression, LocalsTree, Statement};
+use racer_base::Place;
+use std::alloc::Global;
+
+/// This statement in memory of its own, and the tokens behind it.
+fn boxed(
+    alloc: Global,
+    statement: Statement,
+    tokens: &[Token],
+) -> Result<(Box<Statement>, &[Token]), ReadError>
+    ensures gives { Gives (λ x. (stmt_of x.0.value, map spelled x.1.now)) result (as_read (stmt_of statement)
+        (map spelled tokens.now)) }
+    ensures places { IfOk result (λ x. stmt_places x.0.value (kept x.1.now) ≡ stmt_places statement
+        (kept tokens.now)) }
+    ensures shorter { IfOk result (λ x. length x.1.now ≤ length tokens.now) }
+{
+    Ok((Box::new(alloc, statement)?, tokens))
+}
+
+/// JLS 14.6.
+pub fn empty(alloc: Global, tokens: &[Token]) -> Result<(Box<Statement>, &[Token]), ReadError>
+    ensures gives { Gives (λ x. (stmt_of x.0.value, map spelled x.1.now)) result (as_read
+        Empty (map spelled tokens.now)) }
+    ensures places { IfOk result (λ x. stmt_places x.0.value (kept x.1.now) ≡
+        kept tokens.now) }
+    ensures shorter { IfOk result (λ x. length x.1.now ≤ length tokens.now) }
+{
+    boxed(alloc, Statement::Empty, tokens)
+}
+
+/// JLS 14.2.
+pub fn block(
+    alloc: Global,
+    statements: Vec<Statement>,
+    tokens: &[Token],
+) -> Result<(Box<Statement>, &[Token]), ReadError>
+    ensures gives { Gives (λ x. (stmt_of x.0.value, map spelled x.1.now)) result (as_read
+        (Block (pack_stmts (map stmt_of statements.items))) (map spelled tokens.now)) }
+    ensures places { IfOk result (λ x. stmt_places x.0.value (kept x.1.now) ≡
+        each_puts (map stmt_places statements.items) (kept tokens.now)) }
+    ensures shorter { IfOk result (λ x. length x.1.now ≤ length tokens.now) }
+{
+    boxed(alloc, Statement::Block(statements), tokens)
+}
+
+/// JLS 14.4.
+pub fn local(
+    alloc: Global,
+    locals: Box<LocalsTree>,
+    tokens: &[Token],
+) -> Result<(Box<Statement>, &[Token]), ReadError>
+    ensures gives { Gives (λ x. (stmt_of x.0.value, map spelled x.1.now)) result (as_read
+        (Local (locals_of locals.value)) (map spelled tokens.now)) }
+    ensures places { IfOk result (λ x. stmt_places x.0.value (kept x.1.now) ≡
+        locals_places locals.value (kept tokens.now)) }
+    ensures shorter { IfOk result (λ x. length x.1.now ≤ length tokens.now) }
+{
+    boxed(alloc, Statement::Local(Box::into_inner(locals)), tokens)
+}
+
+/// JLS 14.8.
+pub fn ran(
+    alloc: Global,
+    tree: Box<Expression>,
+    tokens: &[Token],
+) -> Result<(Box<Statement>, &[Token]), ReadError>
+    ensures gives { Gives (λ x. (stmt_of x.0.value, map spelled x.1.now)) result (as_read
+        (Run (expr_of tree.value)) (map spelled tokens.now)) }
+    ensures places { IfOk result (λ x. stmt_places x.0.value (kept x.1.now) ≡
+        expr_places tree.value (kept tokens.now)) }
+    ensures shorter { IfOk result (λ x. length x.1.now ≤ length tokens.now) }
+{
+    boxed(alloc, Statement::Expr(Box::into_inner(tree)), tokens)
+}
+
+/// An expression that may be left out, as a part of its statement.
+fn maybe_tree(tree: Option<Box<Expression>>) -> Option<Expression>
+    ensures gives { option_map expr_of result ≡ option_map (λ e. expr_of e.value) tree }
+    ensures places { (rest : Places) → maybe_puts (option_map expr_places result) rest ≡ maybe_puts
+        (option_map (λ e. expr_places e.value) tree) rest }
+{
+    match tree {
+        Some(tree) => Some(Box::into_inner(tree)),
+        None => None,
+    }
+}
+
+/// With or without a value (JLS 14.17).
+pub fn returning(
+    alloc: Global,
+    value: Option<Box<Expression>>,
+    tokens: &[Token],
+) -> Result<(Box<Statement>, &[Token]), ReadError>
+    ensures gives { Gives (λ x. (stmt_of x.0.value, map spelled x.1.now)) result (as_read
+        (Return (option_map (λ e. expr_of e.value) value)) (map spelled tokens.now)) }
+    ensures places { IfOk result (λ x. stmt_places x.0.value (kept x.1.now) ≡
+        maybe_puts (option_map (λ e. expr_places e.value) value) (kept tokens.now)) }
+    ensures shorter { IfOk result (λ x. length x.1.now ≤ length tokens.now) }
+{
+    boxed(alloc, Statement::Return(maybe_tree(value)), tokens)
+}
+
+/// Without `else` (JLS 14.9.1).
+pub fn without_else(
+    alloc: Global,
+    condition: Box<Expression>,
+    then: Box<Statement>,
+    tokens: &[Token],
+) -> Result<(Box<Statement>, &[Token]), ReadError>
+    ensures gives { Gives (λ x. (stmt_of x.0.value, map spelled x.1.now)) result (as_read
+        (If (expr_of condition.value) (stmt_of then.value)) (map spelled tokens.now)) }
+    ensures places { IfOk result (λ x. stmt_places x.0.value (kept x.1.now) ≡
+        expr_places condition.value (stmt_places then.value (kept tokens.now))) }
+    ensures shorter { IfOk result (λ x. length x.1.now ≤ length tokens.now) }
+{
+    boxed(
+        alloc,
+        Statement::If(Box::into_inner(condition), then, None),
+        tokens,
+    )
+}
+
+/// JLS 14.9.2.
+pub fn with_else(
+    alloc: Global,
+    condition: Box<Expression>,
+    then: Box<Statement>,
+    other: Box<Statement>,
+    tokens: &[Token],
+) -> Result<(Box<Statement>, &[Token]), ReadError>
+    ensures gives { Gives (λ x. (stmt_of x.0.value, map spelled x.1.now)) result (as_read
+        (IfElse (expr_of condition.value) (stmt_of then.value) (stmt_of other.value)) (map spelled tokens.now)) }
+    ensures places { IfOk result (λ x. stmt_places x.0.value (kept x.1.now) ≡
+        expr_places condition.value (stmt_places then.value (stmt_places other.value (kept tokens.now)))) }
+    ensures shorter { IfOk result (λ x. length x.1.now ≤ length tokens.now) }
+{
+    boxed(
+        alloc,
+        Statement::If(Box::into_inner(condition), then, Some(other)),
+        tokens,
+    )
+}
+
+/// JLS 14.12.
+pub fn repeated(
+    alloc: Global,
+    condition: Box<Expression>,
+    body: Box<Statement>,
+    tokens: &[Token],
+) -> Result<(Box<Statement>, &[Token]), ReadError>
+    ensures gives { Gives (λ x. (stmt_of x.0.value, map spelled x.1.now)) result (as_read
+        (While (expr_of condition.value) (stmt_of body.value)) (map spelled tokens.now)) }
+    ensures places { IfOk result (λ x. stmt_places x.0.value (kept x.1.now) ≡
+        expr_places condition.value (stmt_places body.value (kept tokens.now))) }
+    ensures shorter { IfOk result (λ x. length x.1.now ≤ length tokens.now) }
+{
+    boxed(
+        alloc,
+        Statement::While(Box::into_inner(condition), body),
+        tokens,
+    )
+}
+
+/// At this place (JLS 14.19).
+pub fn locked(
+    alloc: Global,
+    place: Place,
+    lock: Box<Expression>,
+    statements: Vec<Statement>,
+    tokens: &[Token],
+) -> Result<(Box<Statement>, &[Token]), ReadError>
+    ensures gives { Gives (λ x. (stmt_of x.0.value, map spelled x.1.now)) result (as_read
+        (Sync (expr_of lock.value) (pack_stmts (map stmt_of statements.items))) (map spelled tokens.now)) }
+    ensures places { IfOk result (λ x. stmt_places x.0.value (kept x.1.now) ≡
+        place ∷ expr_places lock.value (each_puts (map stmt_places statements.items) (kept tokens.now))) }
+    ensures shorter { IfOk result (λ x. length x.1.now ≤ length tokens.now) }
+{
+    boxed(
+        alloc,
+        Statement::Sync(place, Box::into_inner(lock), statements),
+        tokens,
+    )
+}
+
+/// The `for` of this head and body.
+fn headed_statement(head: ForHead, body: Box<Statement>) -> Statement
+    ensures gives { stmt_of result ≡ for_of (head_of head) (stmt_of body.value) }
+    ensures places { (rest : Places) → stmt_places result rest ≡ head_places head (stmt_places body.value rest) }
+{
+    match head {
+        ForHead::Counted(start, condition, updates) => {
+            Statement::For(Box::into_inner(start), maybe_tree(condition), updates, body)
+        }
+        ForHead::Each(is_final, kind, name, all) => {
+            let (kind, all) = (Box::into_inner(kind), Box::into_inner(all));
+            Statement::ForEach(is_final, kind, name, all, body)
+        }
+    }
+}
+
+/// JLS 14.14.
+pub fn headed(
+    alloc: Global,
+    head: ForHead,
+    body: Box<Statement>,
+    tokens: &[Token],
+) -> Result<(Box<Statement>, &[Token]), ReadError>
+    ensures gives { Gives (λ x. (stmt_of x.0.value, map spelled x.1.now)) result (as_read
+        (for_of (head_of head) (stmt_of body.value)) (map spelled tokens.now)) }
+    ensures places { IfOk result (λ x. stmt_places x.0.value (kept x.1.now) ≡
+        head_places head (stmt_places body.value (kept tokens.now))) }
+    ensures shorter { IfOk result (λ x. length x.1.now ≤ length tokens.now) }
+{
+    boxed(alloc, headed_statement(head, body), tokens)
+}
