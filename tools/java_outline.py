@@ -61,6 +61,10 @@ class Outline:
         partners.update(dict.fromkeys(opened, len(self.tokens)))
         return partners
 
+    def forget(self):
+        """Forgets the tokens, once the types are known: lines and columns can still be told."""
+        self.tokens, self.places, self.partners = [], [], {}
+
     def line_and_column(self, place):
         """A place as a report tells it: from 1, columns in bytes."""
         return self.data.count(b"\n", 0, place) + 1, place - self.data.rfind(b"\n", 0, place)

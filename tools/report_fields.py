@@ -30,6 +30,7 @@ class Sources:
                 return None
             outline = Outline(data)
             self.known[path] = (outline, types_of(outline))
+            outline.forget()
         return self.known[path]
 
     def is_public(self, report, method, place):

@@ -46,7 +46,8 @@ keys_added-longer old (x ∷ xs) =
 abbrev is_new : List Access → Access → Bool
 is_new old access = not (list_any (λ earlier. same_key earlier access) old)
 
-pub any-push : (p : Access → Bool) (old : List Access) (x : Access) → list_any p (old ++ x ∷ []) ≡ (list_any p old || p x)
+pub any-push : (p : Access → Bool) (old : List Access) (x : Access) →
+    list_any p (old ++ x ∷ []) ≡ (list_any p old || p x)
 any-push p [] x = elim (p x) as (λ b. (b || false) ≡ b) [ true ↦ refl | false ↦ refl ]
 any-push p (y ∷ old) x = ap (λ b. p y || b) (any-push p old x)
     ∙ (elim (p y) as (λ b. (b || (list_any p old || p x)) ≡ ((b || list_any p old) || p x)) [

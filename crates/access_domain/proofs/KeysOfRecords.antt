@@ -39,7 +39,8 @@ pub among : (a : Access) (records : List Access) →
 among a [] = refl
 among a (r ∷ records) = (λ i. key_back a r i || among a records i)
 
-keys-append : (records : List Access) (x : Access) → (map key_of records ++ key_of x ∷ []) ≡ map key_of (records ++ x ∷ [])
+keys-append : (records : List Access) (x : Access) →
+    (map key_of records ++ key_of x ∷ []) ≡ map key_of (records ++ x ∷ [])
 keys-append [] x = refl
 keys-append (r ∷ records) x = ap (λ keys. key_of r ∷ keys) (keys-append records x)
 

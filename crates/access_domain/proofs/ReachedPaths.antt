@@ -27,7 +27,8 @@ touched-reached core table main Unnamed f = refl
 touched-reached core table main (Named p) f = touched_named core f (extended p f)
 
 -- a list of fields is its front and its last
-pub front_and_last : (fields : List FieldId) (f : FieldId) → last_of fields ≡ Some f → front_of fields ++ f ∷ [] ≡ fields
+pub front_and_last : (fields : List FieldId) (f : FieldId) → last_of fields ≡ Some f →
+    front_of fields ++ f ∷ [] ≡ fields
 front_and_last [] f e = cc
 front_and_last (g ∷ []) f e = let same : g ≡ f = cc in ap (λ (h : FieldId). h ∷ []) (sym same)
 front_and_last (g ∷ h ∷ fields) f e = ap (λ (rest : List FieldId). g ∷ rest) (front_and_last (h ∷ fields) f e)

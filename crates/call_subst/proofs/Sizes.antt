@@ -82,5 +82,6 @@ fewer_paths g actuals found locked site =
     let made : List Path = flat_map (λ (p : Path). names_of (value_named actuals p)) found.wobbly in
     let first : length (firsts same_path made) ≤ length made = firsts-shorter same_path made in
     let flat : length made ≤ length found.wobbly =
-    flat-shorter (λ (p : Path). names_of (value_named actuals p)) (λ p. one_name (value_named actuals p)) found.wobbly in
+    flat-shorter (λ (p : Path). names_of (value_named actuals p))
+    (λ p. one_name (value_named actuals p)) found.wobbly in
     omega arith

@@ -17,4 +17,5 @@ given_at core main = given_of core (λ m. None) main
 abbrev pub IsSubstituted : Core → MethodId → List Value → Bool → Bool → SiteId → Summary → Summary → Type 0
 IsSubstituted core callee values locked main site summary made = (found : Findings) → summary_from found ≡ summary →
     made ≡
-    summary_from (substituted (given_at core main) (actuals_from (is_static_method core callee) values) found locked site)
+    summary_from (substituted (given_at core main)
+    (actuals_from (is_static_method core callee) values) found locked site)

@@ -1,7 +1,6 @@
 pub mod Members
 pub mod ChainLemmas
 pub mod Components
-pub mod Fallen
 pub mod Passing
 pub mod BoolParts
 pub mod Sites
@@ -16,3 +15,10 @@ pub mod FirstStamps
 pub mod Ranks
 pub mod Analysed
 pub mod RowCallees
+pub mod Standing
+pub mod Walking
+pub mod Closing
+pub mod Entering
+pub mod WalkParts
+pub mod NoCycles
+pub mod LongestChains

@@ -86,12 +86,14 @@ find_has {X} test (x ∷ xs) y h passes =
     ] refl
 
 -- a numbered element is the one at its number
-pub in_enumerate_from : {X : Type 0} (n : ℕ) (xs : List X) (e : ℕ × X) → In (enumerate_from n xs) e → (k : ℕ) × (e.0 ≡ n + k) × (slice_get xs k ≡ Some e.1)
+pub in_enumerate_from : {X : Type 0} (n : ℕ) (xs : List X) (e : ℕ × X) → In (enumerate_from n xs) e → (k : ℕ)
+    × (e.0 ≡ n + k) × (slice_get xs k ≡ Some e.1)
 in_enumerate_from n [] e h = absurd h
 in_enumerate_from n (x ∷ xs) e h =
     ⊎_elim
     (λ is. let first : e.0 ≡ n = ap (λ p. p.0) (sym is) in (0, omega arith, ap (λ p. Some p.1) is))
-    (λ r. let s = in_enumerate_from (n + 1) xs e r in (suc s.0, let moved : e.0 ≡ n + 1 + s.0 = s.1 in omega arith, s.2))
+    (λ r. let s = in_enumerate_from (n + 1) xs e r in
+    (suc s.0, let moved : e.0 ≡ n + 1 + s.0 = s.1 in omega arith, s.2))
     h
 
 pub enumerate_from_has : {X : Type 0} (n : ℕ) (xs : List X) (k : ℕ) (x : X) → slice_get xs k ≡ Some x →

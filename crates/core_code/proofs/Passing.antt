@@ -1,8 +1,8 @@
 -- One more of a list that is looked through, and its end.
-use Rattle.std.proofs.Common.{◌≡◌, ℕ, ◌+◌, ◌<◌, ◌≤◌, Bool, true, false, ◌&&◌, ◌||◌, List, length, get_or, drop, sym, ap, ◌∙◌}
-use Rattle.std.proofs.Common.{nat_eq, nat_le, nat_lt, arith}
-use Rattle.std.proofs.lemmas.Bool.{eq-eqb, ne_eqb, lt-ltb, le-ltb, le-leb, lt-leb}
-use Rattle.std.specs.List.{list_all, list_any}
+use Rattle.std.proofs.Common.{◌≡◌, ℕ, ◌+◌, ◌<◌, ◌≤◌, Bool, true, false, ◌||◌, List, length, get_or, drop, sym, ap, ◌∙◌}
+use Rattle.std.proofs.Common.{nat_eq}
+use Rattle.std.proofs.lemmas.Bool.{eq-eqb, ne_eqb}
+use Rattle.std.specs.List.{list_any}
 use Rattle.std.proofs.lemmas.List.{at_drop_more, at_drop_all}
 
 module _ {X : Type 0} (test : X → Bool) (xs : List X) (i : ℕ) (whole : Bool) where
@@ -23,39 +23,9 @@ module _ {X : Type 0} (test : X → Bool) (xs : List X) (i : ℕ) (whole : Bool)
   pub none : length xs ≤ i → whole ≡ list_any test (drop i xs) → false ≡ whole
   none past e = sym (e ∙ at_drop_all (list_any test) xs i past)
 
-  pub all_yet : (d : X) → i < length xs → true ≡ test (get_or xs i d) →
-      whole ≡ list_all test (drop i xs) → whole ≡ list_all test (drop (i + 1) xs)
-  all_yet d within same e =
-      e
-      ∙ at_drop_more (list_all test) xs i d within
-      ∙ ap (λ (b : Bool). b && list_all test (drop (i + 1) xs)) (sym same)
-
-  pub refused : (d : X) → i < length xs → false ≡ test (get_or xs i d) → whole ≡ list_all test (drop i xs) →
-      false ≡ whole
-  refused d within other e =
-      sym (e
-      ∙ at_drop_more (list_all test) xs i d within
-      ∙ ap (λ (b : Bool). b && list_all test (drop (i + 1) xs)) (sym other))
-
-  pub all : length xs ≤ i → whole ≡ list_all test (drop i xs) → true ≡ whole
-  all past e = sym (e ∙ at_drop_all (list_all test) xs i past)
-
 module _ (a b x y : ℕ) (is_a : x ≡ a) (is_b : y ≡ b) where
   pub same_numbers : x ≡ y → true ≡ nat_eq a b
   same_numbers e = sym (eq-eqb a b (sym is_a ∙ e ∙ is_b))
 
   pub other_numbers : (x ≡ y → ⊥) → false ≡ nat_eq a b
   other_numbers other = sym (ne_eqb a b (λ e. other (is_a ∙ e ∙ sym is_b)))
-
-  pub no_greater : x ≤ y → true ≡ nat_le a b
-  no_greater h = sym (le-leb a b (omega arith))
-
-  pub greater : y < x → false ≡ nat_le a b
-  greater h = sym (lt-leb a b (omega arith))
-
-module _ (a own x : ℕ) (is_a : x ≡ a) where
-  pub smaller : x < own → true ≡ nat_lt a own
-  smaller h = sym (lt-ltb a own (omega arith))
-
-  pub no_smaller : own ≤ x → false ≡ nat_lt a own
-  no_smaller h = sym (le-ltb a own (omega arith))

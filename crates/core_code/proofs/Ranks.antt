@@ -11,10 +11,10 @@ use Rattle.core_code.specs.Calls.{calls_in, calls_of, greatest, chain_within, ra
 use Rattle.core_code.specs.CallFacts.{is_above, has_ranks}
 use Rattle.core_code.proofs.BoolParts.{both}
 
-in_tail : {X : Type 0} (x : X) (xs : List X) (y : X) → Contains xs y → Contains (x ∷ xs) y
+pub in_tail : {X : Type 0} (x : X) (xs : List X) (y : X) → Contains xs y → Contains (x ∷ xs) y
 in_tail x xs y there = (suc there.0, omega (arith, there.1), there.2)
 
-in_head : {X : Type 0} (x : X) (xs : List X) → Contains (x ∷ xs) x
+pub in_head : {X : Type 0} (x : X) (xs : List X) → Contains (x ∷ xs) x
 in_head x xs = (0, omega arith, refl)
 
 all_by : {X : Type 0} (test : X → Bool) (xs : List X) → ((y : X) → Contains xs y → test y ≡ true) →
@@ -29,7 +29,7 @@ same_map f g (x ∷ xs) each =
     ap (λ (n : ℕ). n ∷ map f xs) (each x (in_head x xs))
     ∙ ap (λ (ns : List ℕ). g x ∷ ns) (same_map f g xs (λ y there. each y (in_tail x xs y there)))
 
-greatest_most : {X : Type 0} (f : X → ℕ) (xs : List X) (y : X) → Contains xs y → f y ≤ greatest (map f xs)
+pub greatest_most : {X : Type 0} (f : X → ℕ) (xs : List X) (y : X) → Contains xs y → f y ≤ greatest (map f xs)
 greatest_most f [] y there = absurd (let within : there.0 < 0 = there.1 in omega arith)
 greatest_most f (x ∷ xs) y (zero, within, is) =
     let own : f x ≡ f y = ap f is in
@@ -37,6 +37,41 @@ greatest_most f (x ∷ xs) y (zero, within, is) =
 greatest_most f (x ∷ xs) y (suc k, within, is) =
     let rest : f y ≤ greatest (map f xs) = greatest_most f xs y (k, omega (arith, within), is) in
     omega arith
+
+module _ (core : Core)
+    (falls : (m n : MethodId) → m.0 < length core.methods → Contains (calls_of core m) n →
+    rank_of core n < rank_of core m) where
+  either_passes : (a b : Bool) → b ≡ true → (a || b) ≡ true
+  either_passes a b h = ap (λ (x : Bool). a || x) h ∙ or_true a
+    where
+      or_true : (a : Bool) → (a || true) ≡ true
+      or_true true = refl
+      or_true false = refl
+
+  above_from : (k : ℕ) (methods : List Method) →
+      ((j : ℕ) → slice_get core.methods (k + j) ≡ slice_get methods j) →
+      list_all (is_above (rank_of core)) (enumerate_from k methods) ≡ true
+  above_from k [] found = refl
+  above_from k (m ∷ ms) found =
+      let here : slice_get core.methods k ≡ Some m = ap (slice_get core.methods) (sym (add-zero k)) ∙ found 0 in
+      let own : calls_of core (record { 0 = k }) ≡ calls_in m.code =
+      ap (λ (o : Option Method). elim o as (λ (x : Option Method). List MethodId) [
+        | None ↦ []
+        | Some method ↦ calls_in method.code
+      ]) here in
+      let within : k < length core.methods = slice_get_within core.methods k m here in
+      let rest : list_all (is_above (rank_of core)) (enumerate_from (k + 1) ms) ≡ true =
+      above_from (k + 1) ms (λ j. ap (slice_get core.methods) (omega arith) ∙ found (suc j)) in
+      both (is_above (rank_of core) (k, m)) (list_all (is_above (rank_of core)) (enumerate_from (k + 1) ms))
+      (either_passes (is_some m.status) _
+      (all_by (λ (n : MethodId). nat_lt (rank_of core n) (rank_of core (record { 0 = k }))) (calls_in m.code)
+      (λ n there.
+      lt-ltb (rank_of core n) (rank_of core (record { 0 = k }))
+      (falls (record { 0 = k }) n within (subst (λ (calls : List MethodId). Contains calls n) (sym own) there)))))
+      rest
+
+  pub ranks_by_falling : has_ranks core ≡ true
+  ranks_by_falling = above_from 0 core.methods (λ j. ap (slice_get core.methods) (zero-add j))
 
 module _ (core : Core) (number : MethodId → ℕ)
     (fall : (m n : MethodId) → Contains (calls_of core m) n → number n < number m)
@@ -61,34 +96,5 @@ module _ (core : Core) (number : MethodId → ℕ)
       greatest_most (chain_within k core) (calls_of core m) n there in
       omega arith
 
-  either_passes : (a b : Bool) → b ≡ true → (a || b) ≡ true
-  either_passes a b h = ap (λ (x : Bool). a || x) h ∙ or_true a
-    where
-      or_true : (a : Bool) → (a || true) ≡ true
-      or_true true = refl
-      or_true false = refl
-
-  above_from : (k : ℕ) (methods : List Method) →
-      ((j : ℕ) → slice_get core.methods (k + j) ≡ slice_get methods j) →
-      list_all (is_above (rank_of core)) (enumerate_from k methods) ≡ true
-  above_from k [] found = refl
-  above_from k (m ∷ ms) found =
-      let here : slice_get core.methods k ≡ Some m = ap (slice_get core.methods) (sym (add-zero k)) ∙ found 0 in
-      let own : calls_of core (record { 0 = k }) ≡ calls_in m.code =
-      ap (λ (o : Option Method). elim o as (λ (x : Option Method). List MethodId) [
-        | None ↦ []
-        | Some method ↦ calls_in method.code
-      ]) here in
-      let within : k < length core.methods = slice_get_within core.methods k m here in
-      let rest : list_all (is_above (rank_of core)) (enumerate_from (k + 1) ms) ≡ true =
-      above_from (k + 1) ms (λ j. ap (slice_get core.methods) (omega arith) ∙ found (suc j)) in
-      both (is_above (rank_of core) (k, m)) (list_all (is_above (rank_of core)) (enumerate_from (k + 1) ms))
-      (either_passes (is_some m.status) _
-      (all_by (λ (n : MethodId). nat_lt (rank_of core n) (rank_of core (record { 0 = k }))) (calls_in m.code) (λ n there.
-      lt-ltb (rank_of core n) (rank_of core (record { 0 = k }))
-      (rank_above (length core.methods) refl (record { 0 = k }) n within
-      (subst (λ (calls : List MethodId). Contains calls n) (sym own) there)))))
-      rest
-
   pub ranks_by_numbers : has_ranks core ≡ true
-  ranks_by_numbers = above_from 0 core.methods (λ j. ap (slice_get core.methods) (zero-add j))
+  ranks_by_numbers = ranks_by_falling core (λ m n within there. rank_above (length core.methods) refl m n within there)

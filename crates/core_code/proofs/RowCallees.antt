@@ -52,7 +52,7 @@ others_stay m n apart (x ∷ xs) =
       | false ↦ λ e. ap (λ (b : Bool). nat_eq x.0 n.0 || b) (others_stay m n apart xs)
     ] refl
 
-in_row : (n : MethodId) (ms : List MethodId) → list_any (is_method n) (different ms) ≡ list_any (is_method n) ms
+pub in_row : (n : MethodId) (ms : List MethodId) → list_any (is_method n) (different ms) ≡ list_any (is_method n) ms
 in_row n [] = refl
 in_row n (m ∷ ms) =
     elim (nat_eq m.0 n.0) as (λ b. nat_eq m.0 n.0 ≡ b →
@@ -61,7 +61,7 @@ in_row n (m ∷ ms) =
       | false ↦ λ e. others_stay m n e (different ms) ∙ in_row n ms
     ] refl
 
-row_at : (ms : List Method) (i : ℕ) (method : Method) → slice_get ms i ≡ Some method →
+pub row_at : (ms : List Method) (i : ℕ) (method : Method) → slice_get ms i ≡ Some method →
     slice_index_or (map (λ (m : Method). different (calls_in m.code)) ms) i [] ≡ different (calls_in method.code)
 row_at [] i method is = absurd cc
 row_at (m ∷ ms) zero method is = let same : m ≡ method = cc in ap (λ (x : Method). different (calls_in x.code)) same
@@ -101,7 +101,7 @@ call_analysed program n (Outside k) right there = absurd cc
 call_analysed program n (Unread m k) right there = absurd cc
 call_analysed program n Ret right there = absurd cc
 
-analysed_among : (program : Core) (n : MethodId) (ops : List Operation) →
+pub analysed_among : (program : Core) (n : MethodId) (ops : List Operation) →
     list_all (λ (o : Operation). is_right_call program o.op) ops ≡ true →
     list_any (is_method n) (flat_map (λ (o : Operation). called_by o.op) ops) ≡ true → is_analysed program n ≡ true
 analysed_among program n [] right there = absurd cc
@@ -116,7 +116,7 @@ analysed_among program n (o ∷ ops) right there =
       | false ↦ λ _ k. analysed_among program n ops last k
     ] refl (sym (list_any-append (is_method n) (called_by o.op) rest) ∙ there)
 
-right_at : (program : Core) (ms : List Method) (i : ℕ) (method : Method) →
+pub right_at : (program : Core) (ms : List Method) (i : ℕ) (method : Method) →
     list_all (has_right_calls program) ms ≡ true → slice_get ms i ≡ Some method → has_right_calls program method ≡ true
 right_at program [] i method all is = absurd cc
 right_at program (m ∷ ms) zero method all is =
@@ -130,7 +130,7 @@ right_at program (m ∷ ms) (suc i) method all is =
 abbrev pub analysed_at : Option Method → Bool
 analysed_at o = elim o as (λ _. Bool) [ None ↦ false | Some method ↦ is_none method.status ]
 
-method_there : (o : Option Method) → analysed_at o ≡ true → (method : Method) × (o ≡ Some method)
+pub method_there : (o : Option Method) → analysed_at o ≡ true → (method : Method) × (o ≡ Some method)
 method_there None e = absurd cc
 method_there (Some method) e = (method, refl)
 

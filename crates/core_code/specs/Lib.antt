@@ -1,7 +1,6 @@
 -- A contract of a public call rests on this: the list of files.
 pub mod Chains
 pub mod Falling
-pub mod Shown
 pub mod Tree
 pub mod Core
 pub mod Facts
@@ -19,3 +18,4 @@ pub mod Gathered
 pub mod Stamps
 pub mod Counting
 pub mod NoProgram
+pub mod Walks

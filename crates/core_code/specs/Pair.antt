@@ -141,4 +141,5 @@ after_call call status =
 
 -- a method with so many parameters that has this status
 abbrev pub with_parameters : ℕ → Option Reason → Method
-with_parameters count status = record method_put { parameters = map (λ k. Plain) (range_with_len 0 count); status = status }
+with_parameters count status = record method_put
+    { parameters = map (λ k. Plain) (range_with_len 0 count); status = status }

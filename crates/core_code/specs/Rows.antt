@@ -1,4 +1,5 @@
--- A contract of a public call rests on this: `call_rows`. The rows of a program, and their ranks.
+-- A contract of a public call rests on this: `call_rows`, and law `no_cycles_show_ranks`. The rows of a program, and
+-- their ranks.
 use Rattle.std.specs.Prelude.{◌≡◌, ℕ, not, List, [], ◌∷◌, filter, length, map, nat_eq}
 use Rattle.racer_base.specs.declared.ids.MethodId.{MethodId}
 use Rattle.core_code.specs.Falling.{DoFall}
@@ -14,6 +15,10 @@ different (m ∷ ms) = m ∷ filter (λ (n : MethodId). not (nat_eq m.0 n.0)) (d
 -- for each method the different analysed methods that it calls, in order of first call
 abbrev pub rows_of : Core → List (List MethodId)
 rows_of core = map (λ (m : Method). different (calls_in m.code)) core.methods
+
+-- for each method the analysed methods that it calls, in reading order
+abbrev pub code_rows : Core → List (List MethodId)
+code_rows core = map (λ (m : Method). calls_in m.code) core.methods
 
 -- what is seen of rows
 abbrev pub rows_in : CallRows → List (List MethodId)

@@ -1,64 +1,56 @@
 //! Numbers that fall along calls.
-ghost use Rattle.std.specs.Prelude.{◌≡◌, IfOk, OnOk, length, nat_lt};
-ghost use Rattle.std.specs.List.{list_all};
-ghost use Rattle.core_code.specs.Falling.{number_of, AreAbove, DoFall};
+ghost use Rattle.std.specs.Prelude.{◌≡◌, ◌<◌, ℕ, false, IfOk, IfSome, IsTrue, is_none, length};
+ghost use Rattle.racer_base.specs.declared.ids.MethodId.{MethodId};
+ghost use Rattle.core_code.specs.Chains.{IsOnCycle};
+ghost use Rattle.core_code.specs.Falling.{DoFall};
+ghost use Rattle.core_code.specs.Walks.{stays_at};
 
-use crate::lookups::{method_at, number, number_from_one, row};
-use crate::order::leaving_order;
+use crate::cycles::has_number;
+use crate::walk::components;
 use racer_base::{Items, Memory, MethodId};
 use std::alloc::Global;
 
-/// Gives each of these methods its place, counted from 1.
-fn set_places(numbers: &mut [u32], order: &[MethodId]) -> Result<(), Memory> {
-    for (place, m) in order.iter().enumerate() {
-        if let Some(known) = numbers.get_mut(m.0 as usize) {
-            *known = number_from_one(place)?;
-        }
-    }
-    Ok(())
-}
-
-/// Whether a number is greater than those of these methods.
-fn is_above(numbers: &[u32], own: u32, callees: &[MethodId]) -> bool
-    ensures { result ≡ list_all (λ n. nat_lt (number_of numbers.now n) own) callees.now }
-{
-    for callee in callees {
-        if number(numbers, *callee) >= own {
-            return false;
-        }
-    }
-    true
-}
-
-/// Passes numbers that fall along calls.
-fn checked(rows: &[Items<MethodId>], numbers: &[u32]) -> Result<(), Memory>
-    ensures { OnOk result (AreAbove rows.now numbers.now (length rows.now)) }
+/// Whether a method calls one of its own number.
+fn has_cycle(rows: &[Items<MethodId>], numbers: &[usize]) -> bool
+    requires { length numbers.now ≡ length rows.now }
+    ensures yes { IsTrue result → (k : ℕ) × (k < length rows.now) × IsTrue (stays_at rows.now numbers.now k) }
+    ensures no { result ≡ false → (k : ℕ) → k < length rows.now → stays_at rows.now numbers.now k ≡ false }
 {
     for place in 0..rows.len() {
-        let m = method_at(place)?;
-        if !is_above(numbers, number(numbers, m), row(rows, m)) {
-            return Err(Memory);
+        if has_number(numbers, numbers[place], rows[place].as_slice()) {
+            return true;
         }
     }
-    Ok(())
+    false
 }
 
-/// Numbers that fall along calls: the number of each method is greater than those of the methods that it calls.
-///
-/// There are none where a method lies on a cycle of calls; that is answered with want of memory.
-pub fn falling_numbers(alloc: Global, rows: &[Items<MethodId>]) -> Result<Vec<u32>, Memory>
-    ensures length { IfOk result (λ numbers. length numbers.items ≡ length rows.now) }
-    ensures fall { IfOk result (λ numbers. DoFall rows.now numbers.items) }
+/// The same numbers, as ranks.
+fn ranks(alloc: Global, numbers: &[usize]) -> Result<Vec<u32>, Memory>
+    ensures { IfOk result (λ ranks. ranks.items ≡ numbers.now) }
 {
-    let order = leaving_order(alloc, rows)?;
-    let Ok(mut numbers) = vec![in alloc; 0; rows.len()] else {
-        return Err(Memory);
-    };
-    let Ok(()) = set_places(numbers.as_mut_slice(), order.as_slice()) else {
-        return Err(Memory);
-    };
-    let Ok(()) = checked(rows, numbers.as_slice()) else {
-        return Err(Memory);
-    };
-    Ok(numbers)
+    let mut ranks = Vec::new(alloc);
+    for number in numbers {
+        let Ok(rank) = u32::try_from(*number) else {
+            return Err(Memory);
+        };
+        ranks.push(rank)?;
+    }
+    Ok(ranks)
+}
+
+/// Numbers that fall along calls: the number of each method is greater than those of the methods that it calls. There
+/// are none exactly where a method lies on a cycle of calls.
+///
+/// A number is at most how many methods there are, so that want of memory is also the answer for 2^32 methods and more.
+pub fn falling_numbers(alloc: Global, rows: &[Items<MethodId>]) -> Result<Option<Vec<u32>>, Memory>
+    ensures length { IfOk result (λ found. IfSome found (λ numbers. length numbers.items ≡ length rows.now)) }
+    ensures fall { IfOk result (λ found. IfSome found (λ numbers. DoFall rows.now numbers.items)) }
+    ensures none { IfOk result (λ found. IsTrue (is_none found) → (m : MethodId) × IsOnCycle rows.now m) }
+{
+    let numbers = components(alloc, rows)?;
+    if has_cycle(rows, numbers.as_slice()) {
+        return Ok(None);
+    }
+    let ranks = ranks(alloc, numbers.as_slice())?;
+    Ok(Some(ranks))
 }

@@ -5,7 +5,9 @@ ghost use Rattle.racer_base.specs.declared.ids.Kind.TheVariants.{Plain};
 ghost use Rattle.core_code.specs.declared.code.Op.TheVariants.{Call};
 ghost use Rattle.core_code.specs.declared.code.Reason.TheVariants.{Overload};
 ghost use Rattle.racer_base.specs.declared.ids.MethodId.{MethodId};
+ghost use Rattle.core_code.specs.Chains.{IsOnCycle};
 ghost use Rattle.core_code.specs.Core.{Core};
+ghost use Rattle.core_code.specs.Rows.{code_rows};
 ghost use Rattle.core_code.specs.Calls.{rank_of, calls_of};
 ghost use Rattle.racer_base.specs.declared.ids.SiteId.{SiteId};
 ghost use Rattle.core_code.specs.Tree.{Tree, Operation, can_end, steps_of, op_at};
@@ -92,6 +94,12 @@ pub fn numbers_show_ranks()
     ensures { (core : Core) (number : MethodId → ℕ) →
         ((m n : MethodId) → Contains (calls_of core m) n → number n < number m) →
         ((m : MethodId) → m.0 < length core.methods → number m < length core.methods) → IsTrue (has_ranks core) }
+{}
+
+/// Where each method that is called is there, and none is on a cycle of calls, there are ranks.
+pub fn no_cycles_show_ranks()
+    ensures { (core : Core) → ((m n : MethodId) → Contains (calls_of core m) n → n.0 < length core.methods) →
+        ((m : MethodId) → IsOnCycle (code_rows core) m → ⊥) → IsTrue (has_ranks core) }
 {}
 
 /// Sites that go on where others end count from where those began.

@@ -22,15 +22,13 @@ mod falling;
 pub mod kind_laws;
 pub mod laws;
 mod lookups;
-mod order;
 mod parts;
 mod piece;
 mod program;
 mod recursion;
 mod row_making;
 mod rows;
-mod search;
-mod tables;
+mod walk;
 
 pub use code::{Code, Op, Reason};
 pub use cycles::on_cycles;

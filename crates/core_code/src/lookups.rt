@@ -15,22 +15,14 @@ pub(crate) fn row<'a>(rows: &'a [Items<MethodId>], m: MethodId) -> &'a [MethodId
     }
 }
 
-/// The number of a method, or 0 where it has none.
-pub(crate) fn number(numbers: &[u32], m: MethodId) -> u32
+/// The entry of a method, or 0 where it has none.
+pub(crate) fn entry(numbers: &[usize], m: MethodId) -> usize
     ensures { result ≡ number_of numbers.now m }
 {
     match numbers.get(m.0 as usize) {
         Some(number) => *number,
         None => 0,
     }
-}
-
-/// A place, counted from 1.
-pub(crate) fn number_from_one(place: usize) -> Result<u32, Memory> {
-    let Ok(place) = u32::try_from(place) else {
-        return Err(Memory);
-    };
-    place.checked_add(1).ok_or(Memory)
 }
 
 /// The method whose row stands at this place.

@@ -1,6 +1,7 @@
 //! The rows of a program.
 ghost use Rattle.std.specs.Prelude.{◌≡◌, ◌+◌, ◌++◌, ◌<◌, IfOk, OnOk, length, map, nat_eq, slice_set};
 ghost use Rattle.std.specs.Prelude.{false};
+ghost use Rattle.core_code.specs.Falling.{DoFall};
 ghost use Rattle.core_code.specs.Gathered.{callee_rows};
 ghost use Rattle.core_code.specs.Program.{core};
 ghost use Rattle.core_code.specs.Rows as wanted;
@@ -70,13 +71,25 @@ fn push_rows(
     Ok(())
 }
 
+/// Ranks of the methods of a program, which has these rows. The type of a program keeps that there are some.
+fn ranks_of(alloc: Global, program: &Program, rows: &[Items<MethodId>]) -> Result<Vec<u32>, Memory>
+    requires { rows.now ≡ wanted.rows_of (core program.now) }
+    ensures length { IfOk result (λ ranks. length ranks.items ≡ length rows.now) }
+    ensures fall { IfOk result (λ ranks. DoFall rows.now ranks.items) }
+{
+    let Some(ranks) = falling_numbers(alloc, rows)? else {
+        unreachable!();
+    };
+    Ok(ranks)
+}
+
 /// For each method the different analysed methods that it calls, and its rank.
 pub fn call_rows(alloc: Global, program: &Program) -> Result<CallRows, Memory>
     ensures { IfOk result (λ made. wanted.AreRowsOf (core program.now) made) }
 {
     let mut rows = Vec::new(alloc);
     push_rows(alloc, program.methods(), &mut rows)?;
-    let ranks = falling_numbers(alloc, rows.as_slice())?;
+    let ranks = ranks_of(alloc, program, rows.as_slice())?;
     Ok(CallRows {
         rows: Items::from(rows),
         ranks: Items::from(ranks),

@@ -4,7 +4,6 @@ pub mod SameReasons
 pub mod SameSources
 pub mod SameCounts
 pub mod SameCalls
-pub mod RanksThere
 pub mod Ordered
 pub mod SamePrograms
 pub mod Loops

@@ -6,23 +6,18 @@ use Rattle.std.specs.List.{flat_map}
 use Rattle.std.proofs.lemmas.List.Concat.{flat_map-append}
 use Rattle.std.proofs.lemmas.List.Sums.{sum_by-cons}
 use Rattle.racer_base.specs.declared.ids.MethodId.{MethodId}
-use Rattle.core_code.specs.declared.parts.MethodCore.{MethodCore}
-use Rattle.core_code.specs.Tree.{Tree, Step, Nothing, Then, Either, Again, Held, Operation, steps_of, tree_of}
-use Rattle.core_code.specs.Core.{Method, method_of}
-use Rattle.core_code.specs.Calls.{called_by, calls_in}
+use Rattle.core_code.specs.Tree.{Tree, Step, Nothing, Then, Either, Again, Held, Operation, steps_of}
+use Rattle.core_code.specs.Core.{Method}
 use Rattle.core_code.specs.Recursion.{named_by, all_calls_in}
 use Rattle.core_code.specs.Rows.{different}
 use Rattle.core_code.specs.Gathered.{callees_of}
 use Rattle.core_lowering_rules.specs.Around.{Folder}
 use Rattle.core_lowering_rules.specs.Methods.{Source}
 use Rattle.core_lowering_rules.specs.Programs.{method_cores, statuses_from}
-use Rattle.core_lowering.specs.Calls.{code_in, row_in, analysed_rows, edges}
+use Rattle.core_lowering.specs.Calls.{code_in, row_in, edges}
 
 abbrev named_at : Operation → List MethodId
 named_at o = named_by o.op
-
-abbrev called_at : Operation → List MethodId
-called_at o = called_by o.op
 
 together : (f : Operation → List MethodId) (a b : Tree) (x y : List MethodId) → x ≡ flat_map f (steps_of a) →
     y ≡ flat_map f (steps_of b) → x ++ y ≡ flat_map f (steps_of a ++ steps_of b)
@@ -38,14 +33,6 @@ all-gathered (Then a b) = together named_at a b _ _ (all-gathered a) (all-gather
 all-gathered (Either a b) = together named_at a b _ _ (all-gathered a) (all-gathered b)
 all-gathered (Again body) = all-gathered body
 all-gathered (Held place body) = all-gathered body
-
-pub analysed-gathered : (code : Tree) → callees_of false code ≡ calls_in code
-analysed-gathered (Step site place op) = sym (append-nil (called_by op))
-analysed-gathered Nothing = refl
-analysed-gathered (Then a b) = together called_at a b _ _ (analysed-gathered a) (analysed-gathered b)
-analysed-gathered (Either a b) = together called_at a b _ _ (analysed-gathered a) (analysed-gathered b)
-analysed-gathered (Again body) = analysed-gathered body
-analysed-gathered (Held place body) = analysed-gathered body
 
 abbrev all_calls : Method → List MethodId
 all_calls m = all_calls_in m.code
@@ -66,12 +53,3 @@ edges-same [] = refl
 edges-same (m ∷ ms) =
     let next = sum_by-cons (λ (k : Method). length (different (all_calls_in k.code))) m ms in
     let rest = edges-same ms in omega arith
-
-abbrev analysed_calls : Method → List MethodId
-analysed_calls m = calls_in m.code
-
-pub analysed-same : (methods : List MethodCore) → analysed_rows methods ≡ map analysed_calls (map method_of methods)
-analysed-same [] = refl
-analysed-same (m ∷ ms) =
-    ap (λ (row : List MethodId). row ∷ analysed_rows ms) (analysed-gathered (tree_of m.code))
-    ∙ ap (λ (rows : List (List MethodId)). calls_in (tree_of m.code) ∷ rows) (analysed-same ms)

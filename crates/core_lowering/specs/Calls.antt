@@ -1,8 +1,7 @@
 -- No public contract rests on this: the calls of code, as they are gathered, and those of methods.
-use Rattle.std.specs.Prelude.{ℕ, ◌+◌, Bool, true, false, List, [], ◌∷◌, length, map}
+use Rattle.std.specs.Prelude.{ℕ, ◌+◌, Bool, true, false, List, [], ◌∷◌, length}
 use Rattle.racer_base.specs.declared.ids.MethodId.{MethodId}
-use Rattle.core_code.specs.declared.parts.MethodCore.{MethodCore}
-use Rattle.core_code.specs.Tree.{Tree, tree_of, in_sequence}
+use Rattle.core_code.specs.Tree.{Tree, in_sequence}
 use Rattle.core_code.specs.Gathered.{callees_of}
 use Rattle.core_code.specs.Rows.{different}
 use Rattle.core_lowering_rules.specs.Around.{Folder}
@@ -16,10 +15,6 @@ code_in folder s = numbered 0 (in_sequence (method_code folder s))
 -- the methods that a method calls
 abbrev pub row_in : Folder → Source → List MethodId
 row_in folder s = callees_of true (code_in folder s)
-
--- the analysed methods that each method calls
-abbrev pub analysed_rows : List MethodCore → List (List MethodId)
-analysed_rows methods = map (λ (m : MethodCore). callees_of false (tree_of m.code)) methods
 
 -- how many different methods these rows have, row by row
 abbrev pub edges : List (List MethodId) → ℕ

@@ -5,6 +5,5 @@ pub mod Counts
 pub mod Reasons
 pub mod Calls
 pub mod Skipped
-pub mod Ranks
 pub mod Lowered
 pub mod Entries

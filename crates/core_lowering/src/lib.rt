@@ -11,7 +11,6 @@ mod fault;
 mod locals;
 mod methods;
 mod programs;
-mod ranks;
 mod skipped;
 mod sources;
 mod statuses;

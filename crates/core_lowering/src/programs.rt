@@ -6,7 +6,7 @@ ghost use Rattle.racer_base.specs.declared.limits.TheConstants.{MAX_CALL_EDGES};
 ghost use Rattle.core_code.specs.Chains.{flag_of};
 ghost use Rattle.core_code.specs.Core.{core_of};
 ghost use Rattle.core_code.specs.Program as program;
-ghost use Rattle.core_code.specs.Recursion.{all_rows};
+ghost use Rattle.core_code.specs.Recursion.{all_rows, TellRecursion};
 ghost use Rattle.java_resolver.specs.Declarations.{classes_of, fields_of, methods_of};
 ghost use Rattle.java_resolver.specs.Refusals.{refusal};
 ghost use Rattle.java_resolver.specs.Table as seen;
@@ -23,7 +23,6 @@ use crate::classes::{classes, fields, file_names};
 use crate::edges::count_edges;
 use crate::fault::LowerFault;
 use crate::methods::methods;
-use crate::ranks::check_ranks;
 use crate::skipped::skipped_of;
 use crate::sources::sources_of;
 use crate::statuses::{all_recursive, own_reasons, statuses};
@@ -132,7 +131,7 @@ fn program_parts(
     parts(alloc, table, units, files, statuses.as_slice(), sources)
 }
 
-/// The program where the methods of these flags are recursive.
+/// The program where the methods of these flags are recursive, which tell the recursion of the draft.
 fn program(
     alloc: Global,
     table: &Table,
@@ -150,11 +149,11 @@ fn program(
     requires placed { IsTrue (are_in_files (map (λ file. string_bytes file) files.now) units.now) }
     requires sources { map source_of sources.now ≡ wanted.sources_of units.now }
     requires reasons { reasons.now ≡ map (reason_of (seen.methods table.now)) sources.now }
+    requires recursive { TellRecursion (draft_of (map (λ file. string_bytes file) files.now) units.now) recursive.now }
     ensures { IfOk result (λ made. program.core made ≡
         wanted.program_of (map (λ file. string_bytes file) files.now) units.now (flag_of recursive.now)) }
 {
     let parts = program_parts(alloc, table, units, files, reasons, recursive, sources)?;
-    check_ranks(alloc, parts.methods.as_slice())?;
     Ok(Program::of(parts))
 }
 

@@ -1,6 +1,10 @@
 mod Parts
+mod EachToken
 mod TokenPlaces
 mod MemberPlaces
 mod UnitPlaces
 mod NamedTokens
-mod InfoNames
+mod ItemsAgain
+mod WholePieces
+mod ClassNames
+mod UnitNames

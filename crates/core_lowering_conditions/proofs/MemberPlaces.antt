@@ -15,16 +15,16 @@ use Rattle.java_tree.specs.MethodPlaces.{Marks, AreAt, method_marks}
 use Rattle.java_parser_grammar.specs.declared.unit.Member.{Member}
 use Rattle.java_parser_grammar.specs.declared.unit.Member.TheVariants as member
 use Rattle.java_parser_grammar.specs.Tokens.{is_sign_token, is_name, signed}
-use Rattle.java_parser_grammar.specs.Pieces.{Item, items_of, Piece, pieces_of}
+use Rattle.java_parser_grammar.specs.Pieces.{items_of, Piece, pieces_of}
 use Rattle.java_parser_grammar.specs.Members.{Form, SkippedForm, MethodForm, FieldForm, form_by, form_of, before_parentheses}
 use Rattle.java_parser_grammar.specs.Members.{name_at_end, is_endless, is_block, begins_type, behind_words, is_modifier}
 use Rattle.java_parser_grammar.specs.Cuts.{ends}
-use Rattle.java_parser_grammar.specs.FieldDivisions.{BeginsWith, IsVariable, IsDivided, AreVariables, AreFields, between_commas}
-use Rattle.java_parser_grammar.specs.FieldDivisions.{before_first}
+use Rattle.java_parser_grammar.specs.FieldDivisions.{BeginsWith, IsVariable, AreVariables, AreFields, between_commas}
 use Rattle.java_parser_grammar.specs.Units.{BeginsAt, HasForm, IsMember}
-use Rattle.java_parser_grammar.proofs.Joined.{joined_items, joined_pieces}
+use Rattle.java_parser_grammar.proofs.Joined.{joined_pieces}
 use Rattle.core_lowering_rules.specs.Conditions.{kept_of, member_places, variable_places, initialiser_places}
 use Rattle.core_lowering_conditions.proofs.Parts.{each_front, each_behind, each_append, each_cut}
+use Rattle.core_lowering_conditions.proofs.EachToken.{items_each, divided_each, commas_each}
 use Rattle.core_lowering_conditions.proofs.TokenPlaces.{IsIn, StandsIn}
 
 module _ (n : ℕ) where
@@ -102,34 +102,14 @@ module _ (n : ℕ) where
   pub form_in : (m : List Token) → Each (StandsIn n) m → NameIn (form_of m)
   form_in m h =
       let form = form_by (ends (is_sign_token (codes "}")) m) (before_parentheses (pieces_of m)) in
-      elim (is_endless false (items_of m) || (is_block (items_of m) || begins_type (behind_words is_modifier (pieces_of m)))) as (λ b. NameIn (cond b SkippedForm form)) [
+      elim (is_endless false (items_of m) || (is_block (items_of m) || begins_type
+      (behind_words is_modifier (pieces_of m)))) as (λ b. NameIn (cond b SkippedForm form)) [
         | true ↦ tt
-        | false ↦ by_head (ends (is_sign_token (codes "}")) m) (before_parentheses (pieces_of m)) (before_in (pieces_of m) (each_cut (StandsIn n) (pieces_of m) m (joined_pieces m) h))
+        | false ↦ by_head (ends (is_sign_token (codes "}")) m) (before_parentheses (pieces_of m))
+            (before_in (pieces_of m) (each_cut (StandsIn n) (pieces_of m) m (joined_pieces m) h))
       ]
 
   -- ---- fields
-
-  divided_in : (pieces : List (List Token)) (ts : List Token) → IsDivided pieces ts → Each (StandsIn n) ts
-      → Each (Each (StandsIn n)) pieces
-  divided_in [] ts d h = tt
-  divided_in (p ∷ []) ts d h = (subst (Each (StandsIn n)) d h, tt)
-  divided_in (p ∷ q ∷ ps) ts d h =
-      let all = subst (Each (StandsIn n)) d.2 h in
-      let behind = each_behind (StandsIn n) p (d.0 ∷ d.1) all in
-      (each_front (StandsIn n) p (d.0 ∷ d.1) all, divided_in (q ∷ ps) d.1 d.4 behind.1)
-
-  first_in : (i : Item) (ps : List (List Token)) → Each (StandsIn n) i → Each (Each (StandsIn n)) ps
-      → Each (Each (StandsIn n)) (before_first i ps)
-  first_in i [] h all = (h, tt)
-  first_in i (p ∷ ps) h all = (each_append (StandsIn n) i p h all.0, all.1)
-
-  commas_in : (is : List Item) → Each (Each (StandsIn n)) is → Each (Each (StandsIn n)) (between_commas is)
-  commas_in [] h = (tt, tt)
-  commas_in (i ∷ is) h =
-      elim (signed (codes ",") i) as (λ b. Each (Each (StandsIn n)) (cond b ([] ∷ between_commas is) (before_first i (between_commas is)))) [
-        | true ↦ (tt, commas_in is h.1)
-        | false ↦ first_in i (between_commas is) h.0 (commas_in is h.1)
-      ]
 
   initialiser_in : (ts : List Token) (f : FieldInitialiser) → Each (StandsIn n) ts → BeginsWith ts f
       → Each (IsIn n) (initialiser_places f)
@@ -146,7 +126,8 @@ module _ (n : ℕ) where
   variable_in (t ∷ ts) v h is =
       (subst (IsIn n) (sym is.2) h.0, initialiser_in ts v.initialiser h.1 is.3)
 
-  variables_in : (ps : List (List Token)) (vs : List FieldVariable) → Each (Each (StandsIn n)) ps → AllZip IsVariable ps vs
+  variables_in : (ps : List (List Token)) (vs : List FieldVariable) → Each (Each (StandsIn n)) ps →
+      AllZip IsVariable ps vs
       → Each (IsIn n) (flat_map variable_places vs)
   variables_in [] [] h all = tt
   variables_in [] (v ∷ vs) h all = absurd all
@@ -157,15 +138,16 @@ module _ (n : ℕ) where
 
   divisions_in : (ts : List Token) (vs : List FieldVariable) → Each (StandsIn n) ts → AreVariables ts vs
       → Each (IsIn n) (flat_map variable_places vs)
-  divisions_in ts vs h (inl x) = variables_in x.0 vs (divided_in x.0 ts x.1.divided h) x.1.variables
+  divisions_in ts vs h (inl x) = variables_in x.0 vs (divided_each (StandsIn n) x.0 ts x.1.divided h) x.1.variables
   divisions_in ts vs h (inr x) =
       variables_in (between_commas (items_of ts)) vs
-      (commas_in (items_of ts) (each_cut (StandsIn n) (items_of ts) ts (joined_items 0 ts) h)) x.variables
+      (commas_each (StandsIn n) (items_of ts) (items_each (StandsIn n) ts h)) x.variables
 
   fields_in : (m : List Token) (f : FieldTree) → Each (StandsIn n) m → AreFields m f
       → Each (IsIn n) (flat_map variable_places f.variables)
   fields_in m f h are =
-      let declaration = each_front (StandsIn n) are.declaration (are.last ∷ []) (subst (Each (StandsIn n)) are.parts h) in
+      let declaration = each_front (StandsIn n) are.declaration (are.last ∷ [])
+      (subst (Each (StandsIn n)) are.parts h) in
       divisions_in are.declared.variables f.variables
       (each_behind (StandsIn n) are.declared.front are.declared.variables
       (subst (Each (StandsIn n)) are.declared.parts declaration))

@@ -1,6 +1,6 @@
 -- The names among the tokens of a file are identifiers.
 use Rattle.std.proofs.Common.{◌≡◌, ℕ, Bool, true, false, cond, ◌&&◌, not, List, [], ◌∷◌, Option, None, Some, Result, Ok, Err, refl}
-use Rattle.std.proofs.Common.{subst, sym, ◌∙◌}
+use Rattle.std.proofs.Common.{subst}
 use Rattle.std.specs.List.{fold}
 use Rattle.std.specs.Str.{is_utf8}
 use Rattle.std.specs.Str.Lossy.{utf8_valid_len}
@@ -31,15 +31,16 @@ use Rattle.java_lexer.proofs.Calm.{nil_kind}
 use Rattle.java_lexer.proofs.OneDivision.{pieces_divide}
 use Rattle.java_tree.specs.Formed.{Each}
 use Rattle.core_code.specs.Names.{is_identifier}
-use Rattle.core_lowering_conditions.specs.Named.{OneName}
 use Rattle.core_lowering_conditions.proofs.Parts.{each_append}
 
 abbrev pub IsNamed : tokens.Token → Type 0
 IsNamed t = t.kind ≡ Name → is_identifier t.text ≡ true
 
 word_case : (white comment word number character text sign : Bool) (kind : TokenKind) →
-    cond white (Some White) (cond comment (Some Comment) (cond word (Some (TokenPiece kind)) (cond number (Some (TokenPiece Number))
-    (cond character (Some (TokenPiece Character)) (cond text (Some (TokenPiece Text)) (cond sign (Some (TokenPiece Sign)) None)))))) ≡ Some (TokenPiece Name)
+    cond white (Some White) (cond comment (Some Comment)
+    (cond word (Some (TokenPiece kind)) (cond number (Some (TokenPiece Number))
+    (cond character (Some (TokenPiece Character))
+    (cond text (Some (TokenPiece Text)) (cond sign (Some (TokenPiece Sign)) None)))))) ≡ Some (TokenPiece Name)
     → (word ≡ true) × (kind ≡ Name)
 word_case true comment word number character text sign kind e = absurd cc
 word_case false true word number character text sign kind e = absurd cc
@@ -62,7 +63,8 @@ three_parts false b c p q = absurd cc
 
 name_is_identifier : (bytes : List ℕ) → java_kind bytes ≡ Some (TokenPiece Name) → is_identifier bytes ≡ true
 name_is_identifier bytes h =
-    let word = word_case (is_white_space bytes) (is_comment bytes) (is_word bytes) (is_number bytes) (is_character bytes)
+    let word = word_case (is_white_space bytes) (is_comment bytes) (is_word bytes) (is_number bytes)
+    (is_character bytes)
     (is_text bytes) (is_sign bytes) (word_kind bytes) h in
     three_parts (is_word bytes) (not (is_listed keywords bytes)) (not (is_listed fixed_words bytes)) word.0
     (name_case (is_listed keywords bytes) (is_listed fixed_words bytes) word.1)
@@ -119,23 +121,9 @@ module _ (file : FileId) where
 
   pub tokens_named : (bytes : List ℕ) (lexed : Lexed) → lexed_answer file bytes ≡ Ok lexed → Each IsNamed lexed.tokens
   tokens_named bytes lexed e =
-      elim (is_utf8 bytes) as (λ b. cond b (divided_answer file bytes (java_lexis.fault_at (undivided java_lexis bytes)))
+      elim (is_utf8 bytes) as (λ b. cond b (divided_answer file bytes
+      (java_lexis.fault_at (undivided java_lexis bytes)))
       (Err (answers.NotUtf8 (utf8_valid_len bytes))) ≡ Ok lexed → Each IsNamed lexed.tokens) [
         | true ↦ λ f. divided_named bytes (java_lexis.fault_at (undivided java_lexis bytes)) lexed f
         | false ↦ λ f. absurd (not_ok (answers.NotUtf8 (utf8_valid_len bytes)) lexed f)
       ] e
-
-one_named : (ts : List tokens.Token) (text : List ℕ) → Each IsNamed ts → OneName ts text → is_identifier text ≡ true
-one_named [] text all one = absurd one
-one_named (t ∷ []) text all one = subst (λ (name : List ℕ). is_identifier name ≡ true) one.1 (all.0 one.0)
-one_named (t ∷ u ∷ ts) text all one = absurd one
-
--- a text whose only token is a name is an identifier
-pub name_alone : (file : FileId) (text : List ℕ) (lexed : Lexed) → lexed_answer file text ≡ Ok lexed → OneName lexed.tokens text
-    → is_identifier text ≡ true
-name_alone file text lexed e one = one_named lexed.tokens text (tokens_named file text lexed e) one
-
--- one more name, and those that are left
-pub rest_named : (one rest left whole : Bool) → left ≡ whole → left ≡ (one && rest) → one ≡ true → rest ≡ whole
-rest_named true rest left whole e f g = sym f ∙ e
-rest_named false rest left whole e f g = absurd cc

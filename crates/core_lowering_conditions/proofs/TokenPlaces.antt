@@ -33,13 +33,16 @@ abbrev pub StandsIn : ℕ → tokens.Token → Type 0
 StandsIn n t = IsIn n t.place
 
 module _ (n : ℕ) where
-  angles_in : (spot : Spot) (glued : Bool) (bytes : List ℕ) → Each (StandsIn n) (angle_tokens (record { 0 = n }) spot glued bytes)
+  angles_in : (spot : Spot) (glued : Bool) (bytes : List ℕ) →
+      Each (StandsIn n) (angle_tokens (record { 0 = n }) spot glued bytes)
   angles_in spot glued [] = tt
   angles_in spot glued (b ∷ bs) = (refl, angles_in (advance spot b) true bs)
 
-  token_in : (spot : Spot) (kind : TokenKind) (bytes : List ℕ) → Each (StandsIn n) (token_of (record { 0 = n }) spot kind bytes)
+  token_in : (spot : Spot) (kind : TokenKind) (bytes : List ℕ) →
+      Each (StandsIn n) (token_of (record { 0 = n }) spot kind bytes)
   token_in spot Sign bytes =
-      elim (is_listed shifts bytes) as (λ b. Each (StandsIn n) (cond b (angle_tokens (record { 0 = n }) spot false bytes)
+      elim (is_listed shifts bytes) as (λ b. Each (StandsIn n)
+      (cond b (angle_tokens (record { 0 = n }) spot false bytes)
       (one_token (record { 0 = n }) spot Sign bytes false ∷ []))) [
         | true ↦ angles_in spot false bytes
         | false ↦ (refl, tt)
@@ -51,12 +54,14 @@ module _ (n : ℕ) where
   token_in spot Character bytes = (refl, tt)
   token_in spot Text bytes = (refl, tt)
 
-  piece_in : (spot : Spot) (kind : PieceKind) (bytes : List ℕ) → Each (StandsIn n) (java_tokens_of (record { 0 = n }) spot kind bytes)
+  piece_in : (spot : Spot) (kind : PieceKind) (bytes : List ℕ) →
+      Each (StandsIn n) (java_tokens_of (record { 0 = n }) spot kind bytes)
   piece_in spot White bytes = tt
   piece_in spot Comment bytes = tt
   piece_in spot (TokenPiece kind) bytes = token_in spot kind bytes
 
-  pieces_in : (spot : Spot) (ps : List Piece) → Each (StandsIn n) (tokens_from (java_tokens_of (record { 0 = n })) spot ps)
+  pieces_in : (spot : Spot) (ps : List Piece) →
+      Each (StandsIn n) (tokens_from (java_tokens_of (record { 0 = n })) spot ps)
   pieces_in spot [] = tt
   pieces_in spot (p ∷ ps) =
       each_append (StandsIn n) (java_tokens_of (record { 0 = n }) spot p.kind p.bytes) _ (piece_in spot p.kind p.bytes)
@@ -78,7 +83,8 @@ module _ (n : ℕ) where
   pub tokens_in : (bytes : List ℕ) (lexed : Lexed) → lexed_answer (record { 0 = n }) bytes ≡ Ok lexed
       → Each (StandsIn n) lexed.tokens
   tokens_in bytes lexed e =
-      elim (is_utf8 bytes) as (λ b. cond b (divided_answer (record { 0 = n }) bytes (java_lexis.fault_at (undivided java_lexis bytes)))
+      elim (is_utf8 bytes) as (λ b. cond b (divided_answer (record { 0 = n }) bytes
+      (java_lexis.fault_at (undivided java_lexis bytes)))
       (Err (answers.NotUtf8 (utf8_valid_len bytes))) ≡ Ok lexed → Each (StandsIn n) lexed.tokens) [
         | true ↦ λ f. divided_in bytes (java_lexis.fault_at (undivided java_lexis bytes)) lexed f
         | false ↦ λ f. absurd (not_ok (answers.NotUtf8 (utf8_valid_len bytes)) lexed f)

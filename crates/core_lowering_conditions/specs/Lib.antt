@@ -1,3 +1,2 @@
 -- A contract of a public call rests on this: the list of files.
 pub mod FromTokens
-pub mod Named

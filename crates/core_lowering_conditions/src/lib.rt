@@ -3,6 +3,3 @@
 #![tactic(auto)]
 
 pub mod laws;
-mod names;
-
-pub use names::are_named;

@@ -46,7 +46,8 @@ pub for-around : {T E : Type 0} (r : Result T E) (a c d : Around) (n : ℕ) (i :
     OnOk r (d ≡ after a (For i e updates s))
 for-around r a c d n i e updates s k p = left-then r a (after (started a i) s) c d n k p (inside-for a i s)
 
-pub for-code : {T E : Type 0} (r : Result T E) (a b c : Around) (code_a code_b code_c code_d code_e : Code) (n m : ℕ) (i : Start)
+pub for-code : {T E : Type 0} (r : Result T E) (a b c : Around) (code_a code_b code_c code_d code_e : Code)
+    (n m : ℕ) (i : Start)
     (e : Option Expr) (updates : Exprs) (s : Stmt) →
     n ≡ length a.scope.variables → b ≡ started a i → code_b ≡ code_a ++ entered_for a i e → m ≡ length code_b →
     c ≡ after b s → code_c ≡ code_b ++ stmt b s → code_d ≡ repeated_from m (code_c ++ turned c e updates) →
@@ -62,7 +63,8 @@ for-code r a b c code_a code_b code_c code_d code_e n m i e updates s k p q l u 
     ∙ ap (λ x. repeated_from (length code_b) (code_c ++ turned x e updates)) last
     ∙ gathered repeated code_a code_b (code_c ++ rest) (entered_for a i e) (body ++ rest) q
     (two_pieces code_b code_c (code_c ++ rest) body rest (v ∙ ap (λ x. code_b ++ stmt x s) p) refl) in
-    let grouped : code_d ≡ code_a ++ (entered_for a i e ++ repeated (body ++ run_all behind updates ++ run_some behind e)) =
+    let grouped : code_d ≡ code_a ++ (entered_for a i e ++ repeated
+    (body ++ run_all behind updates ++ run_some behind e)) =
     parts
     ∙ ap (λ x. code_a ++ (entered_for a i e ++ repeated x))
     (sym (append_assoc body (run_all behind updates) (run_some behind e))) in
@@ -85,10 +87,12 @@ pub each-around : {T E : Type 0} (r : Result T E) (a c d : Around) (n : ℕ) (t 
 each-around r a c d n t x e s k p =
     left-then r a (after (declared a (type_kind a t) x) s) c d n k p (inside-each a t x s)
 
-pub each-code : {T E : Type 0} (r : Result T E) (a b c : Around) (code_a code_b code_c code_d code_e code_f : Code) (n m : ℕ) (v : VarId)
+pub each-code : {T E : Type 0} (r : Result T E) (a b c : Around) (code_a code_b code_c code_d code_e code_f : Code)
+    (n m : ℕ) (v : VarId)
     (t : Ty) (x : Ident) (e : Expr) (s : Stmt) →
     n ≡ length a.scope.variables → code_b ≡ code_a ++ run a e → m ≡ length code_b → v ≡ next_variable a →
-    b ≡ declared a (type_kind a t) x → code_c ≡ code_b ++ next_element b v → c ≡ after b s → code_d ≡ code_c ++ stmt b s →
+    b ≡ declared a (type_kind a t) x → code_c ≡ code_b ++ next_element b v → c ≡ after b s →
+    code_d ≡ code_c ++ stmt b s →
     code_e ≡ take m code_d ++ repeated (drop m code_d) → OnOk r (code_f ≡ code_e ++ closed_from n c) →
     OnOk r (code_f ≡ code_a ++ stmt a (ForEach t x e s))
 each-code r a b c code_a code_b code_c code_d code_e code_f n m v t x e s k q l h p u w z y =
@@ -102,5 +106,7 @@ each-code r a b c code_a code_b code_c code_d code_e code_f n m v t x e s k q l 
     let third : code_d ≡ code_c ++ body = z ∙ ap (λ i. code_c ++ stmt i s) p in
     let parts : code_e ≡ code_a ++ (run a e ++ repeated (next ++ body)) =
     y ∙ ap (λ i. take i code_d ++ repeated (drop i code_d)) l
-    ∙ gathered repeated code_a code_b code_d (run a e) (next ++ body) q (two_pieces code_b code_c code_d next body second third) in
-    closed-then r a behind c code_a code_e code_f (run a e ++ repeated (next ++ body)) n k last (inside-each a t x s) parts
+    ∙ gathered repeated code_a code_b code_d (run a e) (next ++ body) q
+    (two_pieces code_b code_c code_d next body second third) in
+    closed-then r a behind c code_a code_e code_f (run a e ++ repeated (next ++ body)) n k last
+    (inside-each a t x s) parts

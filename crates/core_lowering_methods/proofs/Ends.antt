@@ -37,7 +37,8 @@ inside-block : (a : Around) (m : MethodTree) → Inside a (block_end a (body_of 
 inside-block a m = inside-back a (after_all a (body_of m)) (inside-after_all a (body_of m))
 
 -- a tree, its fields lowered where no variable is in scope
-pub tree-code : {T E : Type 0} (r : Result T E) (a b bare : Around) (code_a code_b code_c : Code) (members : List Member)
+pub tree-code : {T E : Type 0} (r : Result T E) (a b bare : Around) (code_a code_b code_c : Code)
+    (members : List Member)
     (m : MethodTree) →
     bare ≡ left_at 0 a → code_a ≡ [] → b ≡ block_end a (body_of m) →
     code_b ≡ code_a ++ (fields_first bare members m ++ body_code a m) → OnOk r (code_c ≡ ended b code_b) →

@@ -98,7 +98,8 @@ pub prefix-code : (around : Around) (op : List ℕ) (a : Expr) (b : Bool) → is
     code around (cond b (Count (access_of a)) (Unary a)) ≡ code around (prefix op a)
 prefix-code around op a b is = ap (λ t. code around (cond t (Count (access_of a)) (Unary a))) (sym is)
 
-pub prefix-kind : (around : Around) (c : Bool) (a : Expr) → Of Plain ≡ kind around (cond c (Count (access_of a)) (Unary a))
+pub prefix-kind : (around : Around) (c : Bool) (a : Expr) →
+    Of Plain ≡ kind around (cond c (Count (access_of a)) (Unary a))
 prefix-kind around true a = refl
 prefix-kind around false a = refl
 

@@ -20,3 +20,8 @@ pub mod KeptTrees
 pub mod KeptPlaces
 pub mod MethodsInRange
 pub mod NumbersInRange
+pub mod NamedCalls
+pub mod NamedExpressions
+pub mod NamedStatements
+pub mod NamedMethods
+pub mod ProgramRanks

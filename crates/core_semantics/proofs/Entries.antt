@@ -89,7 +89,8 @@ module _ (core : Core) (ms : List MethodCore) (s : Spot) (m : MethodId) (n : ℕ
   pub call_sticks : (why : Why) → x.is_static ≡ false → reason base ≡ Some why → called core s m n ≡ Sticks why
   call_sticks why static fault =
       ap (call_of s n) (there_at core ms m x all within at)
-      ∙ ap (λ (b : Bool). cond b (entering s (method_of x) n) (on_base base_now (λ o. entering s (method_of x) n))) static
+      ∙ ap (λ (b : Bool). cond b (entering s (method_of x) n) (on_base base_now (λ o. entering s (method_of x) n)))
+      static
       ∙ ap (λ (vs : List Value). on_base (base_of (slice_index_or vs 0 Null)) (λ o. entering s (method_of x) n))
       (sym is_passed)
       ∙ sticks base (λ o. entering s (method_of x) n) why fault

@@ -31,7 +31,8 @@ pub got_answer : (core : Core) (s : CodeStore) (f g : CodeFrame) (x : FieldId) (
     IsAnswer (got core (behind_inner s f) x) (inner_of s f) (inner_of s g) r
 got_answer core s f g x o r base h =
     let frame : Frame = replaced (behind f) 1 (read core (store_of s) o x) in
-    let next : Object → Next Inner = λ p. Goes (with_frame (store_of s) (replaced (behind f) 1 (read core (store_of s) p x)))
+    let next : Object → Next Inner = λ p. Goes
+    (with_frame (store_of s) (replaced (behind f) 1 (read core (store_of s) p x)))
     in
     along (Goes (with_frame (store_of s) frame)) (got core (behind_inner s f) x) (inner_of s f) (inner_of s g) r
     (ap (λ b. on_base b next) base) (framed s f g frame r h)

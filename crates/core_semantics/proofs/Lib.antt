@@ -2,6 +2,7 @@ pub mod Piles
 pub mod Unfolding
 pub mod EnteredFrames
 pub mod StoredCells
+pub mod CopiedCells
 pub mod HeapLemmas
 pub mod Frames
 pub mod Gathered
@@ -11,3 +12,4 @@ pub mod ThreadSteps
 pub mod Entries
 pub mod FieldKinds
 pub mod Held
+pub mod MonitorLemmas

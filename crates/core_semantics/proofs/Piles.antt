@@ -97,4 +97,5 @@ rest_past (x ∷ xs) (suc n) none = rest_past xs n none
 pub rest_past_one : {A : Type 0} (xs : List A) (n : ℕ) → slice_get xs n ≡ None → drop (n + 1) xs ≡ []
 rest_past_one [] n none = drop_of_length-le [] (omega arith)
 rest_past_one (x ∷ xs) zero none = cc
-rest_past_one (x ∷ xs) (suc n) none = ap (λ m. drop m (x ∷ xs)) (add-one (suc n)) ∙ ap (λ m. drop m xs) (sym (add-one n)) ∙ rest_past_one xs n none
+rest_past_one (x ∷ xs) (suc n) none = ap (λ m. drop m (x ∷ xs)) (add-one (suc n))
+    ∙ ap (λ m. drop m xs) (sym (add-one n)) ∙ rest_past_one xs n none

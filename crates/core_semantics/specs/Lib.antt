@@ -3,6 +3,7 @@ pub mod Objects
 pub mod Order
 pub mod Same
 pub mod SameMonitor
+pub mod Monitors
 pub mod State
 pub mod Steps
 pub mod Runs
@@ -14,3 +15,4 @@ pub mod View
 pub mod Weights
 pub mod Legs
 pub mod Rows
+pub mod Behind

@@ -1,9 +1,11 @@
--- A contract of a public call rests on this: an order of objects, in which cells and heaps are kept.
-use Rattle.std.specs.Prelude.{ℕ, List, [], ◌∷◌, map}
+-- A contract of a public call rests on this: an order of objects, in which cells and heaps are kept, and of monitors.
+use Rattle.std.specs.Prelude.{ℕ, List, [], ◌∷◌, length, map}
 use Rattle.std.specs.Ordering.{nat_cmp}
 use Rattle.std.specs.declared.cmp.Ordering.{Ordering}
 use Rattle.std.specs.Cmp.Lexicographic.{slice_cmp}
 use Rattle.racer_base.specs.declared.ids.FieldId.{FieldId}
+use Rattle.core_semantics.specs.declared.answer.Holder.{Holder}
+use Rattle.core_semantics.specs.declared.answer.Holder.TheVariants.{Object as Of, Outside}
 use Rattle.core_semantics.specs.declared.object.StartRoot.{StartRoot}
 use Rattle.core_semantics.specs.declared.object.StartRoot.TheVariants.{This, Class, Param}
 use Rattle.core_semantics.specs.declared.object.Object.{Object}
@@ -42,10 +44,20 @@ abbrev pub object_fields : Object → List FieldId
 object_fields (Start p) = p.fields
 object_fields (Fresh n) = []
 
--- the numbers of an object, and then of its fields
+-- the numbers of an object, how many fields it has, and then the fields' numbers: so two objects on one way by fields,
+-- of which one is further, differ before their fields are looked at
 abbrev pub object_key : Object → List ℕ
 object_key o =
-    object_form o ∷ first_number o ∷ second_number o ∷ map (λ (f : FieldId). f.0) (object_fields o)
+    object_form o ∷ first_number o ∷ second_number o ∷ length (object_fields o)
+    ∷ map (λ (f : FieldId). f.0) (object_fields o)
 
 abbrev pub object_cmp : Object → Object → Ordering
 object_cmp a b = slice_cmp nat_cmp (object_key a) (object_key b)
+
+-- objects, and then the monitor of all opaque values
+abbrev pub holder_key : Holder → List ℕ
+holder_key (Of o) = object_key o
+holder_key Outside = 4 ∷ []
+
+abbrev pub holder_cmp : Holder → Holder → Ordering
+holder_cmp a b = slice_cmp nat_cmp (holder_key a) (holder_key b)

@@ -1,6 +1,8 @@
 -- A contract of a public call rests on this: the laws of `==` at objects, which are the same exactly where they are
 -- equal, and exactly where the order ties them.
-use Rattle.std.proofs.Common.{◌≡◌, ℕ, Bool, true, false, ◌&&◌, List, [], ◌∷◌, map, nat_eq, refl, sym, ap, ◌∙◌}
+use Rattle.std.proofs.Common.{◌≡◌, ℕ, Bool, true, false, ◌&&◌, List, [], ◌∷◌, length, map, nat_eq, refl, sym, ap, ◌∙◌}
+use Rattle.std.proofs.lemmas.Bool.{eq-eqb}
+use Rattle.std.proofs.lemmas.List.{length-map}
 use Rattle.std.specs.Ordering.{eq_by_cmp}
 use Rattle.std.specs.Cmp.{IsTotalOrder, IsPartialEquivalence, IsEquivalence, IsPartialOrder}
 use Rattle.std.specs.Cmp.{equiv, partial_order_from_agreeing_total}
@@ -34,7 +36,7 @@ abbrev made : StartRoot → List FieldId → Object
 made root fields = Start (record { root = root; fields = fields })
 
 abbrev key_of : StartRoot → List FieldId → List ℕ
-key_of r fs = root_form r ∷ root_first r ∷ root_second r ∷ map number fs
+key_of r fs = root_form r ∷ root_first r ∷ root_second r ∷ length fs ∷ map number fs
 
 paths_of_keys : (r s : StartRoot) (fs gs : List FieldId) → key_of r fs ≡ key_of s gs → made r fs ≡ made s gs
 paths_of_keys This This fs gs e = ap (made This) (fields_of_numbers fs gs cc)
@@ -50,7 +52,7 @@ paths_of_keys (Param t m) (Param u n) fs gs e =
 paths_of_keys _ _ fs gs e = cc
 
 start_is_not_fresh : {A : Type 0} (r : StartRoot) (fs : List FieldId) (n : ℕ) (gs : List FieldId) →
-    key_of r fs ≡ 3 ∷ n ∷ 0 ∷ map number gs → A
+    key_of r fs ≡ 3 ∷ n ∷ 0 ∷ length gs ∷ map number gs → A
 start_is_not_fresh This fs n gs e = cc
 start_is_not_fresh (Class c) fs n gs e = cc
 start_is_not_fresh (Param t i) fs n gs e = cc
@@ -69,22 +71,46 @@ and_true : (b : Bool) → b ≡ (b && true)
 and_true true = refl
 and_true false = refl
 
+and_false : (b : Bool) → false ≡ (b && false)
+and_false true = refl
+and_false false = refl
+
+-- numbers that are the same in turn are as many
+with_lengths : (ms ns : List ℕ) → pointwise nat_eq ms ns ≡ (nat_eq (length ms) (length ns) && pointwise nat_eq ms ns)
+with_lengths ms ns =
+    elim (pointwise nat_eq ms ns) as (λ b. pointwise nat_eq ms ns ≡ b → b ≡ (nat_eq (length ms) (length ns) && b)) [
+      | true ↦ λ e.
+          sym (ap (λ b. b && true) (eq-eqb (length ms) (length ns)
+          (ap (λ (xs : List ℕ). length xs) (same_text ms ns (sym e)))))
+      | false ↦ λ e. and_false (nat_eq (length ms) (length ns))
+    ] refl
+
+-- so are fields
+same_with_lengths : (fs gs : List FieldId) →
+    same_fields fs gs ≡ (nat_eq (length fs) (length gs) && pointwise nat_eq (map number fs) (map number gs))
+same_with_lengths fs gs =
+    sym (pointwise-map number nat_eq fs gs)
+    ∙ with_lengths (map number fs) (map number gs)
+    ∙ (λ i. nat_eq (length-map fs number i) (length-map gs number i) && pointwise nat_eq (map number fs)
+    (map number gs))
+
 same_by_parts : (r s : StartRoot) (fs gs : List FieldId) →
     (same_start_root r s && same_fields fs gs) ≡ pointwise nat_eq (key_of r fs) (key_of s gs)
-same_by_parts This This fs gs = sym (pointwise-map number nat_eq fs gs)
-same_by_parts (Class c) (Class d) fs gs = ap (λ b. nat_eq c.0 d.0 && b) (sym (pointwise-map number nat_eq fs gs))
+same_by_parts This This fs gs = same_with_lengths fs gs
+same_by_parts (Class c) (Class d) fs gs = ap (λ b. nat_eq c.0 d.0 && b) (same_with_lengths fs gs)
 same_by_parts (Param t m) (Param u n) fs gs =
     and_groups (nat_eq t u) (nat_eq m n) (same_fields fs gs)
-    ∙ ap (λ b. nat_eq t u && (nat_eq m n && b)) (sym (pointwise-map number nat_eq fs gs))
+    ∙ ap (λ b. nat_eq t u && (nat_eq m n && b)) (same_with_lengths fs gs)
 same_by_parts _ _ fs gs = refl
 
-fresh_differs : (r : StartRoot) (fs : List FieldId) (n : ℕ) → false ≡ pointwise nat_eq (key_of r fs) (3 ∷ n ∷ 0 ∷ [])
+fresh_differs : (r : StartRoot) (fs : List FieldId) (n : ℕ) →
+    false ≡ pointwise nat_eq (key_of r fs) (3 ∷ n ∷ 0 ∷ 0 ∷ [])
 fresh_differs This fs n = refl
 fresh_differs (Class c) fs n = refl
 fresh_differs (Param t i) fs n = refl
 
 differs_from_fresh : (r : StartRoot) (fs : List FieldId) (n : ℕ) →
-    false ≡ pointwise nat_eq (3 ∷ n ∷ 0 ∷ []) (key_of r fs)
+    false ≡ pointwise nat_eq (3 ∷ n ∷ 0 ∷ 0 ∷ []) (key_of r fs)
 differs_from_fresh This fs n = refl
 differs_from_fresh (Class c) fs n = refl
 differs_from_fresh (Param t i) fs n = refl
@@ -121,7 +147,8 @@ same_of_equal a b e = ap (λ c. same_object a c) (sym e) ∙ same_object-itself 
 pub same_object-laws : IsPartialEquivalence same_object
 same_object-laws =
     record {
-      symm = λ a b. same_object-key a b ∙ nat_list_eq_equiv.symm (object_key a) (object_key b) ∙ sym (same_object-key b a);
+      symm = λ a b. same_object-key a b ∙ nat_list_eq_equiv.symm (object_key a) (object_key b)
+          ∙ sym (same_object-key b a);
       trans = λ a b c ab bc. same_of_equal a c (equal_of_same a b ab ∙ equal_of_same b c bc);
     }
 

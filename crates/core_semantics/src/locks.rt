@@ -1,43 +1,17 @@
 //! Locks.
 ghost use Rattle.std.specs.Prelude.{◌≡◌, ◌<◌, List, length};
-ghost use Rattle.std.specs.List.{list_any};
 ghost use Rattle.core_code.specs.Tree.{tree_of};
 ghost use Rattle.core_semantics.specs.Answers.{IsAnswer};
-ghost use Rattle.core_semantics.specs.Objects.{same_monitor};
 ghost use Rattle.core_semantics.specs.State.{Frame as FrameSeen, Store};
 ghost use Rattle.core_semantics.specs.Steps.{after, lock_step, locking, monitor_of, top, unlocked};
 ghost use Rattle.core_semantics.specs.View.{behind, behind_at, frame_of, spot_at};
 
 use crate::frame::Frame;
 use crate::later::Later;
-use crate::pile::Pile;
+use crate::monitors::Monitors;
 use crate::{Holder, StepAnswer, Value, Why};
 use core_code::Code;
 use std::alloc::Global;
-
-impl PartialEq for Holder {
-    ghost use Rattle.core_semantics.specs.Objects.{same_monitor};
-    ghost use Rattle.core_semantics.specs.SameMonitor.{same_monitor-laws};
-
-    ghost eq = { same_monitor };
-
-    ghost laws = { same_monitor-laws };
-
-    fn eq(&self, other: &Holder) -> bool {
-        match (self, other) {
-            (Holder::Object(a), Holder::Object(b)) => a == b,
-            (Holder::Outside, Holder::Outside) => true,
-            _ => false,
-        }
-    }
-}
-
-/// Whether a monitor is among these.
-fn holds(locks: &Pile<Holder>, monitor: &Holder) -> bool
-    ensures { result ≡ list_any (λ held. same_monitor held monitor.now) locks.now }
-{
-    locks.as_slice().contains(monitor)
-}
 
 /// The monitor of a value, or why it has none.
 fn monitor_of(value: Value) -> Result<Holder, Why>
@@ -53,9 +27,9 @@ fn monitor_of(value: Value) -> Result<Holder, Why>
 
 /// Locks a monitor round a body, unless it is among those of the other thread.
 fn take<'a>(
-    others: &Pile<Holder>,
+    others: &Monitors,
     frame: &mut Frame<'a>,
-    locks: &mut Pile<Holder>,
+    locks: &mut Monitors,
     monitor: Holder,
     body: &'a Code,
 ) -> StepAnswer
@@ -64,17 +38,17 @@ fn take<'a>(
         IsAnswer (locking others.now (behind_at store frame.old callers locks.old) (tree_of body.now) monitor)
         (after (spot_at store frame.old callers locks.old)) (after (spot_at store frame.new callers locks.new)) result }
 {
-    if holds(others, &monitor) {
+    if others.has(&monitor) {
         return StepAnswer::Held(monitor);
     }
     let Some(locked) = frame.locked.checked_add(1) else {
         return StepAnswer::Memory;
     };
-    let Ok(()) = locks.replace(0, monitor) else {
+    let Ok(()) = locks.push(monitor) else {
         return StepAnswer::Memory;
     };
     let Ok(()) = frame.laters.replace_by_two(Later::One(body), Later::Unlock) else {
-        locks.cut(1);
+        locks.pop();
         return StepAnswer::Memory;
     };
     frame.stack.cut(1);
@@ -85,9 +59,9 @@ fn take<'a>(
 /// Locks the monitor of the value on the stack's top round a body.
 pub(crate) fn lock<'a>(
     alloc: Global,
-    others: &Pile<Holder>,
+    others: &Monitors,
     frame: &mut Frame<'a>,
-    locks: &mut Pile<Holder>,
+    locks: &mut Monitors,
     body: &'a Code,
 ) -> StepAnswer
     requires { 0 < length frame.old.laters }
@@ -106,20 +80,20 @@ pub(crate) fn lock<'a>(
 }
 
 /// Unlocks the innermost monitor, and leaves the next step behind.
-pub(crate) fn end_lock(frame: &mut Frame, locks: &mut Pile<Holder>)
+pub(crate) fn end_lock(frame: &mut Frame, locks: &mut Monitors)
     ensures { (store : Store) (callers : List FrameSeen) → spot_at store frame.new callers locks.new
         ≡ unlocked (behind_at store frame.old callers locks.old) }
 {
     frame.locked = frame.locked.saturating_sub(1);
     frame.laters.cut(1);
-    locks.cut(1);
+    locks.pop();
 }
 
 /// Unlocks the innermost monitor.
-pub(crate) fn unlock(frame: &mut Frame, locks: &mut Pile<Holder>)
+pub(crate) fn unlock(frame: &mut Frame, locks: &mut Monitors)
     ensures { (store : Store) (callers : List FrameSeen) → spot_at store frame.new callers locks.new
         ≡ unlocked (spot_at store frame.old callers locks.old) }
 {
     frame.locked = frame.locked.saturating_sub(1);
-    locks.cut(1);
+    locks.pop();
 }

@@ -1,10 +1,12 @@
 //! The machine.
 ghost use Rattle.std.specs.Prelude.{◌≡◌, ◌++◌, ◌∷◌, [], None as NoneOf, IfOk, OnOk};
+ghost use Rattle.std.specs.Option.{IfSome};
 ghost use Rattle.core_code.specs.Core.{method_of};
 ghost use Rattle.core_code.specs.Program.{core};
 ghost use Rattle.core_semantics.specs.declared.object.Object.TheVariants.{Start as StartOf};
 ghost use Rattle.core_semantics.specs.declared.object.Value.TheVariants.{Object as Ref};
 ghost use Rattle.core_semantics.specs.Answers.{IsAnswer};
+ghost use Rattle.core_semantics.specs.Behind.{begun_behind};
 ghost use Rattle.core_semantics.specs.Objects.{root_path};
 ghost use Rattle.core_semantics.specs.Runs.{begun, given_to, parameter, parameters_from, thread_at};
 ghost use Rattle.core_semantics.specs.Steps.{entered, step};
@@ -12,7 +14,7 @@ ghost use Rattle.core_semantics.specs.CellOrder.{heap_of};
 ghost use Rattle.core_semantics.specs.View.{frames_of, seen_of, state_of};
 
 use crate::frame::Frame;
-use crate::pile::Pile;
+use crate::monitors::Monitors;
 use crate::step::{Given, step_thread};
 use crate::store::{Cells, Heap, Store};
 use crate::thread::{Running, Thread};
@@ -113,7 +115,7 @@ fn thread_at<'a>(
     let Some(method) = program.methods().get(method.0 as usize) else {
         return Ok(Thread {
             running: None,
-            locks: Pile::new(alloc),
+            locks: Monitors::new(alloc),
         });
     };
     let Ok(running) = running_at(alloc, thread, method) else {
@@ -121,7 +123,7 @@ fn thread_at<'a>(
     };
     Ok(Thread {
         running: Some(running),
-        locks: Pile::new(alloc),
+        locks: Monitors::new(alloc),
     })
 }
 
@@ -169,6 +171,34 @@ pub fn begin<'a>(
 }
 
 impl<'a> Machine<'a> {
+    /// Two threads at the entries of two methods of a program, behind all that this machine stored; none where not all
+    /// start paths are objects.
+    pub fn begin_behind<'b>(
+        &self,
+        program: &'b Program,
+        m1: MethodId,
+        m2: MethodId,
+    ) -> Result<Option<Machine<'b>>, Memory>
+        ensures { IfOk result (λ begun. IfSome begun (λ machine. state_of machine
+            ≡ begun_behind (core program.now) m1 m2 (state_of self.now).store)) }
+    {
+        let Some(store) = self.store.copied(self.alloc)? else {
+            return Ok(None);
+        };
+        let Ok(first) = thread_at(self.alloc, program, 0, m1) else {
+            return Err(Memory);
+        };
+        let Ok(second) = thread_at(self.alloc, program, 1, m2) else {
+            return Err(Memory);
+        };
+        Ok(Some(Machine {
+            alloc: self.alloc,
+            store,
+            first,
+            second,
+        }))
+    }
+
     /// One step of thread 0, or of thread 1 at any other number. The turn counts only at a choice or a loop, and the
     /// program is the one that the machine began with.
     pub fn step(&mut self, program: &'a Program, thread: u32, turn: Turn) -> StepAnswer

@@ -1,5 +1,5 @@
 //! Equality and an order of objects.
-ghost use Rattle.std.specs.Prelude.{◌≡◌};
+ghost use Rattle.std.specs.Prelude.{◌≡◌, length};
 ghost use Rattle.core_semantics.specs.Order.{object_form, first_number, second_number, object_fields, object_cmp};
 
 use crate::{Object, StartRoot};
@@ -7,16 +7,21 @@ use racer_base::FieldId;
 use std::cmp::Ordering;
 
 impl Object {
-    /// The number of the form of an object, and its two numbers, 0 where it has none.
-    fn numbers(&self) -> (u32, u32, u32)
-        ensures { result ≡ (object_form self.now, first_number self.now, second_number self.now) }
+    /// The number of the form of an object, its two numbers, 0 where it has none, and how many fields it has.
+    fn numbers(&self) -> (u32, u32, u32, usize)
+        ensures { result ≡ (
+          object_form self.now,
+          first_number self.now,
+          second_number self.now,
+          length (object_fields self.now),
+        ) }
     {
         match self {
-            Object::Fresh(number) => (3, *number, 0),
+            Object::Fresh(number) => (3, *number, 0, 0),
             Object::Start(path) => match path.root {
-                StartRoot::This => (0, 0, 0),
-                StartRoot::Class(class) => (1, class.0, 0),
-                StartRoot::Param(thread, number) => (2, thread, number),
+                StartRoot::This => (0, 0, 0, path.fields.len()),
+                StartRoot::Class(class) => (1, class.0, 0, path.fields.len()),
+                StartRoot::Param(thread, number) => (2, thread, number, path.fields.len()),
             },
         }
     }
@@ -83,7 +88,7 @@ impl Ord for Object {
     }
 }
 
-/// The order of two objects: of their forms, of their numbers, and of their fields in turn.
+/// The order of two objects: of their forms, of their numbers, of how many fields they have, and of these in turn.
 fn compare(a: &Object, b: &Object) -> Ordering
     ensures { result ≡ object_cmp a.now b.now }
 {

@@ -13,10 +13,10 @@ use crate::frame::Frame;
 use crate::inner::operate;
 use crate::later::{Later, NextStep, settle};
 use crate::locks::{end_lock, lock, unlock};
-use crate::pile::Pile;
+use crate::monitors::Monitors;
 use crate::store::Store;
 use crate::thread::{Running, Thread};
-use crate::{Holder, StepAnswer, Turn};
+use crate::{StepAnswer, Turn};
 use core_code::{Code, Op, Program};
 use racer_base::Memory;
 use std::alloc::Global;
@@ -28,7 +28,7 @@ pub(crate) struct Given<'a, 'b> {
     pub program: &'a Program,
     pub turn: Turn,
     /// The monitors that the other thread holds.
-    pub others: &'b Pile<Holder>,
+    pub others: &'b Monitors,
 }
 
 /// Does one side of a choice.
@@ -71,7 +71,7 @@ fn operated<'a>(
     given: &Given<'a, '_>,
     store: &mut Store,
     running: &mut Running<'a>,
-    locks: &mut Pile<Holder>,
+    locks: &mut Monitors,
     op: Op,
 ) -> StepAnswer
     requires { ends_with op running.old ≡ false }
@@ -96,7 +96,7 @@ fn step_next<'a>(
     given: &Given<'a, '_>,
     store: &mut Store,
     running: &mut Running<'a>,
-    locks: &mut Pile<Holder>,
+    locks: &mut Monitors,
     next: NextStep<'a>,
 ) -> StepAnswer
     requires ready { IsNext (SomeOf next) running.old.frame.laters }
@@ -138,7 +138,7 @@ fn step_running<'a>(
     given: &Given<'a, '_>,
     store: &mut Store,
     running: &mut Running<'a>,
-    locks: &mut Pile<Holder>,
+    locks: &mut Monitors,
 ) -> Option<StepAnswer>
     ensures { IsAnswerOrEnd (frame_step (core given.now.program.now) given.now.turn given.now.others.now
         (spot_of (store_of store.old) running.old locks.old))
@@ -168,12 +168,12 @@ pub(crate) fn step_thread<'a>(
         (store_of store.old) (seen_of thread.old))
         (seen_after store.old thread.old) (seen_after store.new thread.new) result }
 {
-    let Some(mut running) = thread.running.take() else {
+    let Some(running) = &mut thread.running else {
         return StepAnswer::Done;
     };
-    let Some(answer) = step_running(given, store, &mut running, &mut thread.locks) else {
+    let Some(answer) = step_running(given, store, running, &mut thread.locks) else {
+        thread.running = None;
         return StepAnswer::Stepped;
     };
-    thread.running = Some(running);
     answer
 }

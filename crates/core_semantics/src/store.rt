@@ -1,10 +1,12 @@
 //! What both threads share.
-ghost use Rattle.std.specs.Prelude.{◌≡◌, IfOk, OnOk, OnErr};
-ghost use Rattle.std.specs.Option.{option_copied};
+ghost use Rattle.std.specs.Prelude.{◌≡◌, Some as SomeOf, IfOk, OnOk, OnErr};
+ghost use Rattle.std.specs.BTreeMap.{Updates};
+ghost use Rattle.std.specs.Option.{IfSome, option_copied};
 ghost use Rattle.core_semantics.specs.declared.object.Start.TheVariants.{Only};
 ghost use Rattle.core_semantics.specs.Cells.{none_stored, put_in, admitted};
-ghost use Rattle.core_semantics.specs.CellOrder.{cells_of, heap_of};
+ghost use Rattle.core_semantics.specs.CellOrder.{cell_cmp, cells_of, heap_of};
 ghost use Rattle.core_semantics.specs.Runs.{is_in};
+ghost use Rattle.core_semantics.specs.View.{store_of};
 
 use crate::{Object, Start, StartPath, Value};
 use racer_base::{FieldId, Items, Memory};
@@ -29,6 +31,23 @@ pub(crate) struct Cells {
 pub(crate) struct Heap {
     /// The objects of these paths; none where all are.
     only: Option<BTreeSet<Object>>,
+}
+
+/// Puts a copy of a value in a copy of a cell.
+fn put_copy(
+    alloc: Global,
+    stored: &mut BTreeMap<Cell, Value>,
+    cell: &Cell,
+    value: &Value,
+) -> Result<(), Memory>
+    ensures { OnOk result (Updates cell_cmp stored.old stored.new cell.now (SomeOf value.now)) }
+{
+    let copy = Cell {
+        field: cell.field,
+        object: cell.object.copied(alloc)?,
+    };
+    stored.insert(copy, value.copied(alloc)?)?;
+    Ok(())
 }
 
 impl Cells {
@@ -76,6 +95,19 @@ impl Cells {
     }
 }
 
+impl Cells {
+    /// Cells in which the same is stored.
+    pub(crate) fn copied(&self, alloc: Global) -> Result<Cells, Memory>
+        ensures { IfOk result (λ copy. cells_of copy ≡ cells_of self.now) }
+    {
+        let mut stored = BTreeMap::new(alloc);
+        for (cell, value) in self.stored.iter() {
+            put_copy(alloc, &mut stored, cell, value)?;
+        }
+        Ok(Cells { stored })
+    }
+}
+
 impl Heap {
     /// The heap of these start paths.
     pub(crate) fn of(alloc: Global, start: Start) -> Result<Heap, Memory>
@@ -113,6 +145,18 @@ impl Heap {
     }
 }
 
+impl Heap {
+    /// The heap in which all start paths are objects, where this is it.
+    pub(crate) fn copied(&self) -> Option<Heap>
+        ensures { IfSome result (λ heap. heap_of heap ≡ heap_of self.now) }
+    {
+        match &self.only {
+            None => Some(Heap { only: None }),
+            Some(_) => None,
+        }
+    }
+}
+
 /// What both threads share.
 #[derive(Drop)]
 pub(crate) struct Store {
@@ -120,4 +164,21 @@ pub(crate) struct Store {
     pub cells: Cells,
     /// The number of the next object that is made.
     pub fresh: u32,
+}
+
+impl Store {
+    /// A store that holds the same, where all start paths are objects.
+    pub(crate) fn copied(&self, alloc: Global) -> Result<Option<Store>, Memory>
+        ensures { IfOk result (λ copied. IfSome copied (λ copy. store_of copy ≡ store_of self.now)) }
+    {
+        let Some(heap) = self.heap.copied() else {
+            return Ok(None);
+        };
+        let cells = self.cells.copied(alloc)?;
+        Ok(Some(Store {
+            heap,
+            cells,
+            fresh: self.fresh,
+        }))
+    }
 }

@@ -1,7 +1,6 @@
 //! Threads.
-use crate::Holder;
 use crate::frame::Frame;
-use crate::pile::Pile;
+use crate::monitors::Monitors;
 
 /// A thread that has not ended.
 #[derive(Drop)]
@@ -18,5 +17,5 @@ pub(crate) struct Thread<'a> {
     /// None where it has ended.
     pub running: Option<Running<'a>>,
     /// The monitors that it holds, one for each time.
-    pub locks: Pile<Holder>,
+    pub locks: Monitors,
 }

@@ -25,7 +25,8 @@ firsts_of = firsts same_start_path
 
 among-firsts : (seen : List StartPath) (p : StartPath) → is_among (firsts_of seen) p ≡ is_among seen p
 among-firsts seen p =
-    list_any-firsts (λ q. same_start_path q p) same_start_path (λ x y h. ap (λ z. same_start_path z p) (sym (exact x y h)))
+    list_any-firsts (λ q. same_start_path q p) same_start_path
+    (λ x y h. ap (λ z. same_start_path z p) (sym (exact x y h)))
     seen
 
 added-firsts : (seen : List StartPath) (p : StartPath) → path_added (firsts_of seen) p ≡ firsts_of (seen ++ p ∷ [])

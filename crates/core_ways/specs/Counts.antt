@@ -1,4 +1,4 @@
--- No public contract rests on this: what is counted of parts of a way, and how far calls lead from them.
+-- A contract of a public call rests on this: what is counted of parts of a way, and how far calls lead from them.
 use Rattle.std.specs.Prelude.{ℕ, suc, ◌+◌, max, List, [], ◌∷◌, slice_get}
 use Rattle.std.specs.Option.{option_or}
 use Rattle.core_code.specs.Calls.{rank_of}

@@ -2,7 +2,6 @@
 use Rattle.std.specs.Prelude.{◌≡◌, ℕ, zero, suc, Bool, true, false, List, [], ◌∷◌, ◌++◌, Option, None, Some}
 use Rattle.std.specs.Prelude.{if◌then◌else◌}
 use Rattle.std.specs.Borrow.{Bor}
-use Rattle.racer_base.specs.declared.ids.Place.{Place}
 use Rattle.core_code.specs.Core.{Core}
 use Rattle.core_semantics.specs.declared.answer.Turn.{Turn}
 use Rattle.core_semantics.specs.declared.answer.Turn.TheVariants.{Right}
@@ -81,7 +80,3 @@ leg_reads core t (suc n) turns s =
 abbrev pub EndsIn : Bool → Ended → State → Type 0
 EndsIn true end s = end ≡ Past s
 EndsIn false end s = end ≡ Stopped s
-
--- stands where there is no place
-abbrev pub nowhere : Place
-nowhere = record { file = record { 0 = 0 }; line = 0; column = 0 }

@@ -1,7 +1,7 @@
 -- A contract of a public call rests on this: when two ways are whole, and the mark of a warning. A warning is named by
 -- its two entries and the numbers of their records.
 use Rattle.std.specs.Prelude.{◌≡◌, ℕ, zero, suc, ◌≤◌, Bool, false, List, [], ◌∷◌, ◌++◌, Option, None, Some}
-use Rattle.std.specs.Prelude.{IsSome, nat_lt, unwrap_or, if◌then◌else◌}
+use Rattle.std.specs.Prelude.{IsSome, nat_lt, if◌then◌else◌}
 use Rattle.racer_base.specs.declared.ids.MethodId.{MethodId}
 use Rattle.racer_base.specs.declared.ids.Place.{Place}
 use Rattle.racer_base.specs.declared.ids.Touch.TheVariants.{Read, Write}
@@ -132,15 +132,17 @@ first_halt core (leg ∷ legs) s =
       | Broke halt at steps ↦ Some (leg.thread, place at leg.thread)
     ]
 
--- stands where there is no place, which is nowhere that a leg stops
-abbrev no_place : Place
-no_place = record { file = record { 0 = 0 }; line = 0; column = 0 }
+-- A thread cannot make its next step at this place. At no place nothing is known; no way comes to that, as the law
+-- `blocked_warnings_are_stuck` of `witness_build_laws` says.
+abbrev pub blocked_at : ℕ → Option Place → Said
+blocked_at thread None = Unnamed
+blocked_at thread (Some at) = Blocked thread at
 
 abbrev pub mark_by_run : Core → List Leg → State → Said
 mark_by_run core legs s =
     elim (first_halt core legs s) [
       | None ↦ Confirmed (objects_of core legs s) legs
-      | Some halted ↦ Blocked halted.0 (unwrap_or halted.1 no_place)
+      | Some halted ↦ blocked_at halted.0 halted.1
     ]
 
 abbrev pub mark_by_length : Core → Pair → Said

@@ -1,4 +1,4 @@
--- No public contract rests on this: what is kept of the methods that are passed.
+-- A contract of a public call rests on this: what is kept of the methods that are passed.
 use Rattle.std.specs.Prelude.{◌≡◌, ℕ}
 use Rattle.std.specs.Option.{IfSome}
 use Rattle.std.specs.BTreeMap.{BTreeMap, get}

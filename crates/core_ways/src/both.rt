@@ -30,7 +30,7 @@ pub struct Target {
 }
 
 /// What is known where the first way is taken.
-fn behind_taken(first: WayTaken, second: Result<WayTaken, WayFault>) -> Result<Both, Memory>
+pub fn behind_taken(first: WayTaken, second: Result<WayTaken, WayFault>) -> Result<Both, Memory>
     ensures { (a b : Trip) → IsTaken a first → IsWay b second → IfOk result (λ both. AreBoth a b both) }
 {
     match second {
@@ -42,7 +42,7 @@ fn behind_taken(first: WayTaken, second: Result<WayTaken, WayFault>) -> Result<B
 }
 
 /// What is known where the first way has so many steps.
-fn behind_long(steps: u32, second: Result<WayTaken, WayFault>) -> Result<Both, Memory>
+pub fn behind_long(steps: u32, second: Result<WayTaken, WayFault>) -> Result<Both, Memory>
     ensures { (a b : Trip) → IsLong a steps → IsWay b second → IfOk result (λ both. AreBoth a b both) }
 {
     match second {

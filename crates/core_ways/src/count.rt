@@ -6,14 +6,14 @@ use racer_base::Place;
 
 /// A number of steps, which stops at the last value of its type, and the place of the first call that is not read.
 #[derive(Clone, Copy)]
-pub(crate) struct Count {
+pub struct Count {
     pub steps: u32,
     pub unread: Option<Place>,
 }
 
 impl Count {
     /// The count of these parts and then others.
-    pub(crate) fn and(self, then: Count) -> Count
+    pub fn and(self, then: Count) -> Count
         ensures { result ≡ added self then }
     {
         Count {

@@ -16,13 +16,13 @@ use std::collections::BTreeMap;
 
 /// What is passed of a method, with its count.
 #[derive(Drop)]
-pub(crate) struct Passing {
+pub struct Passing {
     pub parts: Vec<WayPart>,
     pub count: Count,
 }
 
 /// By the numbers of methods, what is passed of them, as far as it is found.
-pub(crate) type Passings = BTreeMap<u32, Passing>;
+pub type Passings = BTreeMap<u32, Passing>;
 
 /// What is passed of a method: nothing where it is not analysed.
 pub(crate) fn parts_of(
@@ -96,7 +96,7 @@ fn count_part(
 
 /// Counts the steps of parts.
 #[cycle(counting)]
-pub(crate) fn count_along(
+pub fn count_along(
     alloc: Global,
     program: &Program,
     table: &mut Passings,

@@ -21,10 +21,15 @@ mod reaching;
 mod taken;
 mod turns;
 
-pub use both::{Both, Target, ways};
+pub use both::{Both, Target, behind_long, behind_taken, ways};
+pub use count::Count;
+pub use counting::{Passing, Passings, count_along};
 pub use driving::{let_go, run_leg};
 pub use found::{record_of, wobbly_of};
 pub use mark::{Leg, Mark, Witness};
 pub use objects::Objects;
 pub use part::WayPart;
+pub use passing::pass;
+pub use reaching::{code_of, parts_to};
 pub use taken::{WayFault, WayTaken, way};
+pub use turns::push_turns;

@@ -78,7 +78,7 @@ fn pass_op(parts: &mut Vec<WayPart>, locks: u32, place: Place, op: Op) -> Result
 
 /// Passes a piece of code within so many locks; whether what stands behind it is done.
 #[cycle(passing)]
-pub(crate) fn pass(parts: &mut Vec<WayPart>, locks: u32, code: &Code) -> Result<bool, Memory>
+pub fn pass(parts: &mut Vec<WayPart>, locks: u32, code: &Code) -> Result<bool, Memory>
     ensures ends { IfOk result (λ ends. ends ≡ can_end (tree_of code.now)) }
     ensures parts { OnOk result (parts.new.items ≡ parts.old.items ++ passed locks (tree_of code.now)) }
 {

@@ -18,7 +18,7 @@ use racer_base::{Memory, MethodId, SiteId};
 use std::alloc::Global;
 
 /// The code of a method, where it is analysed.
-pub(crate) fn code_of(program: &Program, method: MethodId) -> Option<&Code>
+pub fn code_of(program: &Program, method: MethodId) -> Option<&Code>
     ensures { option_map tree_of (option_copied result) ≡ code_at (core program.now) method }
 {
     let method = program.methods().get(method.0 as usize)?;
@@ -91,7 +91,7 @@ fn reach(
 }
 
 /// The parts of the way to a record of a method.
-pub(crate) fn parts_to(
+pub fn parts_to(
     alloc: Global,
     program: &Program,
     outcomes: &Outcomes,

@@ -64,7 +64,7 @@ fn push_part(
 
 /// Puts the turns of parts at the end.
 #[cycle(turning)]
-pub(crate) fn push_turns(
+pub fn push_turns(
     alloc: Global,
     program: &Program,
     table: &Passings,

@@ -42,7 +42,8 @@ module _ (core : Core) (quiet : Quietness core) where
       }
 
   -- the places that values of these kinds take on a stack, and those below them
-  record AreSplit (n : Naming) (wanted : List Kind) (rest : List StackKind) (vs : List Called) (xs : List Value) : Type 0
+  record AreSplit (n : Naming) (wanted : List Kind) (rest : List StackKind) (vs : List Called)
+      (xs : List Value) : Type 0
     where
       above : ArePlaces core quiet n (map kind_of wanted) (take (length wanted) vs) (take (length wanted) xs)
       below : ArePlaces core quiet n rest (drop (length wanted) vs) (drop (length wanted) xs)

@@ -118,7 +118,8 @@ module _ (core : Core) (quiet : Quietness core) where
   parameter-place t i types.Plain = nameless core quiet (kind_of types.Plain) Plain (λ q e in_it. cc)
   parameter-place t i (types.Declared c) =
       nameless core quiet (kind_of (types.Declared c)) (Ref (Start (root_path (Param t i))))
-      (λ q e in_it. not-param t i q (quiet.lasts q in_it) (let same : root_path (Param t i) ≡ start_path q = cc in same))
+      (λ q e in_it. not-param t i q (quiet.lasts q in_it)
+      (let same : root_path (Param t i) ≡ start_path q = cc in same))
   parameter-place t i types.Other = nameless core quiet (kind_of types.Other) Opaque (λ q e in_it. cc)
 
   parameter-places : (t i : ℕ) (kinds : List Kind) →

@@ -156,7 +156,8 @@ module _ (method : Method) where
       length-drop 1 s.stack ∙ ap (λ (i : ℕ). i - 1) p.stack in
       subst (λ (x : State). IsShaped method ends x) same (record { vars = p.vars; stack = made ∙ sym height })
 
-height_dup : (core : Core) (method : Method) (ks ends : List StackKind) → kinds_after_op core method Dup ks ≡ Some ends →
+height_dup : (core : Core) (method : Method) (ks ends : List StackKind) →
+    kinds_after_op core method Dup ks ≡ Some ends →
     length ends ≡ suc (length ks)
 height_dup core method [] ends h = cc
 height_dup core method (k ∷ ks) ends h = let is : k ∷ k ∷ ks ≡ ends = cc in ap length (sym is)

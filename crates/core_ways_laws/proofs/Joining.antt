@@ -74,7 +74,8 @@ module _ (core : Core) (quiet : Quietness core) (n : Naming) where
 
   pub joined-second : (a b : Value) → AreHushed core quiet n (lost a b) → IsWeaker core quiet n b (joined a b)
   joined-second a b hush =
-      elim (same_value a b) as (λ t. same_value a b ≡ t → AreHushed core quiet n (cond t [] (names_of a ++ names_of b)) →
+      elim (same_value a b) as (λ t. same_value a b ≡ t →
+      AreHushed core quiet n (cond t [] (names_of a ++ names_of b)) →
       IsWeaker core quiet n b (cond t a Unnamed)) [
         | true ↦ λ e h.
             subst (λ (v : Value). IsWeaker core quiet n b v) (sym (equal_of_same_value a b e)) (weaker-itself b)

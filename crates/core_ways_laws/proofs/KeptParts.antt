@@ -125,7 +125,8 @@ module _ (core : Core) (quiet : Quietness core) (n : Naming) (method : Method) w
       let s : State = kept.state in
       let same : in_turn first rest ≡ both first (rest s) = in-turn-both first rest s kept.next in
       let few : (both first (rest s)).large ≡ false = ap (λ (e : Effects). e.large) (sym same) ∙ small in
-      let hushed : AreHushed core quiet n (first.wobbly ++ (rest s).wobbly ++ lost_result first.result (rest s).result) =
+      let hushed : AreHushed core quiet n (first.wobbly ++ (rest s).wobbly ++ lost_result first.result
+      (rest s).result) =
       subst (λ (e : Effects). AreHushed core quiet n e.wobbly) same hush in
       let early : AreHushed core quiet n (first.wobbly ++ (rest s).wobbly) =
       hush-first core quiet n (first.wobbly ++ (rest s).wobbly) (lost_result first.result (rest s).result) hushed in

@@ -22,7 +22,7 @@ use Rattle.core_ways_laws.proofs.Entries.{entered-entry, hush-entry}
 use Rattle.core_ways_laws.proofs.ProgramFacts.{is_right, known_is_analysed}
 use Rattle.core_ways_laws.proofs.RankedTops.{IsOf, in_at, record-of, tops-met}
 use Rattle.core_ways_laws.proofs.ShortPaths.{short-record}
-use Rattle.core_ways_laws.proofs.StableMeets.{stable-known, stable-met}
+use Rattle.core_ways_laws.proofs.StableMeets.{stable-met}
 
 same-method : (core : Core) (m : MethodId) (x y : Method) → method_at core m ≡ Some x → method_at core m ≡ Some y →
     x ≡ y
@@ -62,6 +62,5 @@ leg-leads p m1 m2 m method i r t which there at stable store top stored leads =
     let of : IsOf (core p) m i r = record-of (core p) m i r at in (
       meets.0,
       stable-met (core p) m1 m2 r top meets.1 stable
-          (short-record (core p) m method of.found r there of.known (in_at of.found.records i r of.has)
-          (stable-known (core p) m1 m2 r.path stable)),
+          (short-record (core p) m of.found r of.known (in_at of.found.records i r of.has)),
     )

@@ -19,6 +19,7 @@ pub mod Hushing
 pub mod Joining
 pub mod KeptParts
 pub mod KindFacts
+pub mod KnownValues
 pub mod Legs
 pub mod Locals
 pub mod Members
@@ -30,6 +31,7 @@ pub mod ProgramFacts
 pub mod Ranked
 pub mod RankedTops
 pub mod Reading
+pub mod RecordShapes
 pub mod RecordSites
 pub mod Rounds
 pub mod ShortPaths

@@ -124,7 +124,8 @@ module _ (core : Core) (quiet : Quietness core) (n : Naming) (method : Method) (
       }
 
   pub popped-frame : (kind : StackKind) (kinds : List StackKind) (s : State) (at : Point) →
-      IsFrame core quiet n method (kind ∷ kinds) s at → IsFrame core quiet n method kinds (popped s 1) (point_popped at 1)
+      IsFrame core quiet n method (kind ∷ kinds) s at →
+      IsFrame core quiet n method kinds (popped s 1) (point_popped at 1)
   popped-frame kind kinds s at frame =
       record { vars = frame.vars; stack = places_drop core quiet n 1 (kind ∷ kinds) s.stack at.stack frame.stack }
 
@@ -161,11 +162,13 @@ module _ (core : Core) (quiet : Quietness core) (n : Naming) (method : Method) (
       in-turn-kept core quiet n method parts.between ends (effects first locked s) (effects rest locked)
       (go core calls first at) (go core calls rest) hush small
       (kept first (λ o there. right o (in_first (steps_of first) (steps_of rest) o there))
-      (λ o there. safe o (in_first (steps_of first) (steps_of rest) o there)) locked kinds parts.between s at parts.early
+      (λ o there. safe o (in_first (steps_of first) (steps_of rest) o there)) locked kinds parts.between s at
+      parts.early
       (first-hushed first rest locked s hush) (first-small first rest locked s small) frame stored)
       (λ t to few still there held.
       kept rest (λ o there. right o (in_last (steps_of first) (steps_of rest) o there))
-      (λ o in_rest. safe o (in_last (steps_of first) (steps_of rest) o in_rest)) locked parts.between ends t to parts.late
+      (λ o in_rest. safe o (in_last (steps_of first) (steps_of rest) o in_rest)) locked parts.between ends t to
+      parts.late
       still few there held)
   kept (Either left right) all safe locked kinds ends s at fits hush small frame stored =
       let parts : AreBeside core method left right kinds ends = either_kinds core method left right kinds ends fits in
@@ -178,18 +181,21 @@ module _ (core : Core) (quiet : Quietness core) (n : Naming) (method : Method) (
       let alike : (a b : State) → one.next ≡ Some a → two.next ≡ Some b →
       (length a.vars ≡ length b.vars) × (length a.stack ≡ length b.stack) = λ a b at_left at_right.
       let x = flow_shape core method g left locked kinds parts.after_left s a on_left parts.on_left shaped at_left in
-      let y = flow_shape core method g right locked kinds parts.after_right s b on_right parts.on_right shaped at_right in
+      let y = flow_shape core method g right locked kinds parts.after_right s b on_right parts.on_right shaped
+      at_right in
       let heights = same_heights parts.after_left parts.after_right ends parts.joins in
       (x.vars ∙ sym y.vars, x.stack ∙ heights.0 ∙ sym heights.1 ∙ sym y.stack) in
       elim (can_end right) as (λ b. IsKept core quiet n method ends (chosen one two)
       (cond b (go core calls right at) (go core calls left at))) [
         | true ↦
-            chosen-second core quiet n method parts.after_left parts.after_right ends one two (go core calls right at) parts.joins alike
+            chosen-second core quiet n method parts.after_left parts.after_right ends one two
+            (go core calls right at) parts.joins alike
             each.nexts each.results
             (kept right on_right (λ o there. safe o (in_last (steps_of left) (steps_of right) o there)) locked kinds
             parts.after_right s at parts.on_right each.right_hush each.right_small frame stored)
         | false ↦
-            chosen-first core quiet n method parts.after_left parts.after_right ends one two (go core calls left at) parts.joins alike
+            chosen-first core quiet n method parts.after_left parts.after_right ends one two
+            (go core calls left at) parts.joins alike
             each.nexts each.results
             (kept left on_left (λ o there. safe o (in_first (steps_of left) (steps_of right) o there)) locked kinds
             parts.after_left s at parts.on_left each.left_hush each.left_small frame stored)

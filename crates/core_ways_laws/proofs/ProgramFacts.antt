@@ -131,7 +131,8 @@ pub is_whole : (core : Core) (m : MethodId) (method : Method) (found : Findings)
     known_of core m ≡ Some (Whole found) → IsWhole core m method found
 is_whole core m method found there known =
     let e : Effects = effects_given core (known_of_callees core m) method in
-    let here = known_where (is_none method.status) (known_from e) found (sym (known_there core m method there) ∙ known) in
+    let here = known_where (is_none method.status) (known_from e) found
+    (sym (known_there core m method there) ∙ known) in
     let made = whole_where (is_large e) (findings_from e) found here.1 in
     record {
       small = first_false e.large _ _ made.0;

@@ -149,7 +149,8 @@ met-below p quiet (suc k) m low analysed =
       there = method.1;
       begins = (is_right p m method.0 method.1 analysed).begins;
       meets = method-met p quiet m method.0 method.1 analysed
-          (callees-met p quiet m method.0 method.1 analysed (λ callee less of. met-below p quiet k callee (omega arith) of));
+          (callees-met p quiet m method.0 method.1 analysed
+          (λ callee less of. met-below p quiet k callee (omega arith) of));
     }
 
 -- each way to a record of an analysed method leads to the record's access

@@ -6,6 +6,7 @@ pub mod Led
 pub mod Ends
 pub mod Names
 pub mod Longer
+pub mod Shapes
 pub mod Weaker
 pub mod Quiet
 pub mod Quiets

@@ -3,7 +3,7 @@ ghost use Rattle.std.specs.Prelude.{◌≡◌, ℕ, ◌⊎◌, Some};
 ghost use Rattle.racer_base.specs.declared.ids.MethodId.{MethodId};
 ghost use Rattle.core_code.specs.declared.program.Program.{Program};
 ghost use Rattle.core_code.specs.Calls.{method_at};
-ghost use Rattle.core_code.specs.Core.{Method};
+ghost use Rattle.core_code.specs.Core.{Core, Method};
 ghost use Rattle.core_code.specs.Program.{core};
 ghost use Rattle.access_domain.specs.declared.access.Access.{Access};
 ghost use Rattle.core_semantics.specs.Runs.{given_to};
@@ -15,6 +15,7 @@ ghost use Rattle.core_ways_laws.specs.Meets.{DoesMeet, base_path, base_value};
 ghost use Rattle.core_ways_laws.specs.Names.{entry_naming};
 ghost use Rattle.core_ways_laws.specs.Places.{IsStore, start_object};
 ghost use Rattle.core_ways_laws.specs.Quiets.{quietness_of};
+ghost use Rattle.core_ways_laws.specs.Shapes.{IsPath};
 
 /// A thread is run along the way to a record of one of two methods, from its entry on, where what is stored is as the
 /// quiet paths of the two methods need it. Where it is not stuck, what comes next is the access of the record, and what
@@ -34,4 +35,10 @@ pub fn legs_meet_records()
         top_of (core p) m i (given_to t method) store ≡ Some top →
         IsStore (core p) (quietness_of (core p) m1 m2) top.at.store
         × (base_value r.kind top.at ≡ start_object (base_path r.path)) }
+{}
+
+/// The path of each record is a path: it has at most as many fields as a path may have, and where it begins at some
+/// object of a class, one field alone, which that class declares.
+pub fn record_paths_are_paths()
+    ensures { (core : Core) (m : MethodId) (i : ℕ) (r : Access) → record_at core m i ≡ Some r → IsPath core r.path }
 {}

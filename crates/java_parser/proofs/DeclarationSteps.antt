@@ -11,7 +11,8 @@ abbrev pub first_from : Option Seen → Item → List Item → First
 first_from None i is = Misfit (i ∷ is)
 first_from (Some m) i is = first_by (is_whole m) m i is (first_declared m is)
 
-pub first_is : (seen : Seen) (i : Item) (is : List Item) → first_declared seen (i ∷ is) ≡ first_from (seen_with seen i) i is
+pub first_is : (seen : Seen) (i : Item) (is : List Item) →
+    first_declared seen (i ∷ is) ≡ first_from (seen_with seen i) i is
 first_is seen i is = by_next (seen_with seen i) where
   by_next : (o : Option Seen) → (elim o as (λ _. First) [
     | None ↦ Misfit (i ∷ is)

@@ -13,7 +13,8 @@ use Rattle.java_parser_grammar.proofs.Joined.{joined_append, joined_items}
 
 -- ---- on items
 
-by_end : (b equals : Bool) (i : Item) (is : List Item) → ((q : Bool) (j : Item) (js : List Item) → is ≡ j ∷ js → cut_members q is
+by_end : (b equals : Bool) (i : Item) (is : List Item) →
+    ((q : Bool) (j : Item) (js : List Item) → is ≡ j ∷ js → cut_members q is
     ≡ member_front q is ∷ cut_members false (behind_member q is))
     → with_cut b i (cut_members (not b && (equals || signed (codes "=") i)) is)
     ≡ (if b then i ∷ [] else i ∷ member_front (equals || signed (codes "=") i) is)

@@ -54,7 +54,7 @@ opens_one s = is_sign (codes "(") s || (is_sign (codes "[") s || is_sign (codes 
 abbrev closes_one : Spelled → Bool
 closes_one s = is_sign (codes ")") s || (is_sign (codes "]") s || is_sign (codes "}") s)
 
-flat : (n : ℕ) (t : Token) (s : Spelled) → plain t ≡ s → opens_one s ≡ false → closes_one s ≡ false
+pub flat : (n : ℕ) (t : Token) (s : Spelled) → plain t ≡ s → opens_one s ≡ false → closes_one s ≡ false
     → depth_behind n t ≡ n
 flat n t s e o c =
     let opens : is_opening t ≡ false = ap opens_one e ∙ o in

@@ -31,7 +31,8 @@ pub head_lacks : (front : List Token) (ps qs : List Piece) (p : Piece) → ps �
 head_lacks front ps qs p e h k = rw (e, h, k) refl
 
 pub head_more : (front : List Token) (ps qs : List Piece) (p : Piece) → ps ≡ p ∷ qs → signed (codes "(") p ≡ false
-    → signed (codes "=") p ≡ false → behind_front (front ++ p) (before_parentheses qs) ≡ behind_front front (before_parentheses ps)
+    → signed (codes "=") p ≡ false → behind_front (front ++ p) (before_parentheses qs) ≡ behind_front front
+    (before_parentheses ps)
 head_more front ps qs p e h k = front_step front p (before_parentheses qs) ∙ (rw (e, h, k) refl)
 
 pub take_step : {A : Type 0} (ts rest p after : List A) (size : ℕ) → drop size ts ≡ rest → rest ≡ p ++ after

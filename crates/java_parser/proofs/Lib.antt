@@ -23,3 +23,5 @@ pub mod UnitSteps
 pub mod SameFields
 pub mod SameHeads
 pub mod SameClasses
+mod WholeAnnotations
+mod SomeTokens

@@ -109,7 +109,8 @@ pub type_step : (seen more : Seen) (ts : List Token) (size : ℕ) (braces : Bool
     (drop size ts)))
 type_step seen more ts size braces e =
     let k = split_first seen (items_of ts) braces more (items_of (drop size ts)) e in
-    let whole : joined k.front ++ drop size ts ≡ ts = ap (λ l. joined k.front ++ l) (sym (joined_items 0 (drop size ts)))
+    let whole : joined k.front ++ drop size ts ≡ ts =
+    ap (λ l. joined k.front ++ l) (sym (joined_items 0 (drop size ts)))
     ∙ sym (joined_append k.front (items_of (drop size ts))) ∙ ap joined k.parts ∙ joined_items 0 ts in
     let front : joined k.front ≡ take size ts = drop_front (joined k.front) (take size ts) (drop size ts)
     (whole ∙ sym (take-append-drop size ts)) in

@@ -1,5 +1,5 @@
 -- No public contract rests on this: the names of an annotation, and what stands behind them.
-use Rattle.std.specs.Prelude.{◌≡◌, ℕ, Bool, true, ◌&&◌, List, [], ◌∷◌, Option, Some, None, IsTrue, codes}
+use Rattle.std.specs.Prelude.{◌≡◌, ℕ, Bool, true, false, ◌&&◌, List, [], ◌∷◌, Option, Some, None, IsTrue, codes}
 use Rattle.std.specs.Prelude.{if◌then◌else◌}
 use Rattle.std.specs.Prelude.{not, ◌||◌}
 use Rattle.java_lexer.specs.declared.token.Token.{Token}
@@ -23,6 +23,22 @@ pub record AreNames (first : Token) (ts : List Token) (names : List (List ℕ)) 
 abbrev pub fits_names : List Token → Bool
 fits_names [] = true
 fits_names (t ∷ ts) = signed (codes "(") (t ∷ ts)
+
+-- the tokens behind the points and names in front
+abbrev pub behind_names : List Token → List Token
+behind_names [] = []
+behind_names (p ∷ []) = p ∷ []
+behind_names (p ∷ n ∷ ts) = if is_sign_token (codes ".") p && is_name n then behind_names ts else p ∷ n ∷ ts
+
+-- names with points between them, and then parentheses or nothing
+abbrev pub is_named : List Token → Bool
+is_named [] = false
+is_named (t ∷ ts) = is_name t && fits_names (behind_names ts)
+
+-- `@` and such names
+abbrev pub is_whole : List Token → Bool
+is_whole [] = false
+is_whole (a ∷ ts) = is_sign_token (codes "@") a && is_named ts
 
 -- the tokens behind an `@` are this annotation
 pub record IsInner (ts : List Token) (n : AnnotationTree) : Type 0 where

@@ -1,11 +1,16 @@
 -- No public contract rests on this: the types of a file, one after the other.
-use Rattle.std.specs.Prelude.{◌≡◌, ◌⊎◌, true, false, not, List, [], ◌∷◌, ◌++◌, filter}
+use Rattle.std.specs.Prelude.{◌≡◌, ◌⊎◌, true, false, not, List, [], ◌∷◌, ◌++◌, filter, IsTrue}
 use Rattle.std.specs.List.{AllZip}
 use Rattle.racer_base.specs.declared.ids.Place.{Place}
 use Rattle.java_lexer.specs.declared.token.Token.{Token}
+use Rattle.java_tree.specs.Formed.{Each, has_some}
 use Rattle.java_parser_grammar.specs.declared.unit.ClassTree.{ClassTree}
 use Rattle.java_parser_grammar.specs.declared.unit.Unit as unit
 use Rattle.java_parser_grammar.specs.Units.{BeginsAt, is_read, IsClass}
+
+-- each has a token
+abbrev pub HaveTokens : List (List Token) → Type 0
+HaveTokens = Each (λ ts. IsTrue (has_some ts))
 
 pub record AddsClass (type : List Token) (a b : unit.Unit) : Type 0 where
   pub read : is_read type ≡ true

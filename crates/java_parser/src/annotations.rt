@@ -4,11 +4,12 @@ ghost use Rattle.std.specs.List.{AllZip};
 ghost use Rattle.java_parser_grammar.specs.Pieces.{pieces_of};
 ghost use Rattle.java_parser_grammar.specs.Tokens.{plain, plain_all, is_name};
 ghost use Rattle.java_parser_grammar.specs.Units.{annotations_before, IsAnnotation};
-ghost use Rattle.java_parser.specs.NamesOfAnnotations.{after_point, AreNames, fits_names, IsInner};
+ghost use Rattle.java_parser.specs.NamesOfAnnotations.{after_point, behind_names, AreNames};
+ghost use Rattle.java_parser.specs.NamesOfAnnotations.{is_named, is_whole, IsInner};
 
 use crate::declarations::TYPE_MODIFIERS;
 use crate::pieces::{is_annotation, next_piece};
-use crate::tests_of_tokens::{signed, worded_among};
+use crate::tests_of_tokens::worded_among;
 use java_lexer::Token;
 use java_parser_types::look::{is_name, is_sign};
 use java_tree::{AnnotationTree, Spelled};
@@ -56,7 +57,8 @@ fn names<'a>(
     tokens: &'a [Token],
 ) -> Result<(Items<Text>, &'a [Token]), Memory>
     requires { is_name first.now ≡ true }
-    ensures { IfOk result (λ x. AreNames first.now tokens.now x.0 x.1.now) }
+    ensures names { IfOk result (λ x. AreNames first.now tokens.now x.0 x.1.now) }
+    ensures rest { IfOk result (λ x. x.1.now ≡ behind_names tokens.now) }
 {
     let mut names = Items::new(alloc);
     let text = Text::from_str(alloc, first.text.as_str())?;
@@ -70,45 +72,27 @@ fn names<'a>(
     Ok((names, rest))
 }
 
-/// Whether behind the names of an annotation stand parentheses, or nothing.
-fn fits_names(tokens: &[Token]) -> bool
-    ensures { result ≡ fits_names tokens.now }
-{
-    match tokens {
-        [] => true,
-        [_, ..] => signed(tokens, "("),
-    }
-}
-
-/// The annotation that a piece is behind its `@`. A piece of another form, which no annotation has, is answered with
-/// want of memory.
+/// The annotation that a piece is behind its `@`.
 fn inner(alloc: Global, tokens: &[Token]) -> Result<AnnotationTree, Memory>
+    requires { is_named tokens.now ≡ true }
     ensures { IfOk result (λ tree. IsInner tokens.now tree) }
 {
-    let [first, behind @ ..] = tokens else {
-        return Err(Memory);
+    let Some((first, behind)) = tokens.split_first() else {
+        unreachable!()
     };
-    if !is_name(first) {
-        return Err(Memory);
-    }
     let (names, rest) = names(alloc, first, behind)?;
-    if !fits_names(rest) {
-        return Err(Memory);
-    }
     let arguments = copies(alloc, rest)?;
     Ok(AnnotationTree { names, arguments })
 }
 
 /// The annotation that a piece is.
 fn annotation(alloc: Global, piece: &[Token]) -> Result<AnnotationTree, Memory>
+    requires { is_whole piece.now ≡ true }
     ensures { IfOk result (λ tree. IsAnnotation piece.now tree) }
 {
-    let Some((at, tokens)) = piece.split_first() else {
-        return Err(Memory);
+    let Some((_, tokens)) = piece.split_first() else {
+        unreachable!()
     };
-    if !is_sign(at, "@") {
-        return Err(Memory);
-    }
     inner(alloc, tokens)
 }
 

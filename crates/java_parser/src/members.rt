@@ -14,6 +14,7 @@ ghost use Rattle.java_parser.specs.ResultParts.{IsOfClass};
 use super::fields::fields;
 use super::heads::outside;
 use crate::forms::{Form, form_of};
+use crate::tests_of_tokens::first_place;
 use crate::types::members as parts;
 use java_lexer::Token;
 use java_parser_grammar::Member;
@@ -116,10 +117,7 @@ pub fn members(alloc: Global, class: &str, body: &[Token]) -> Result<Items<Membe
     let mut members = Items::new(alloc);
     let parts = parts(alloc, body)?;
     for tokens in parts.as_slice() {
-        let [first, ..] = *tokens else {
-            return Err(Memory);
-        };
-        let next = member(alloc, class, first.place, tokens)?;
+        let next = member(alloc, class, first_place(tokens), tokens)?;
         members.push(next)?;
     }
     Ok(members)

@@ -1,9 +1,23 @@
-//! Tests of tokens by the first of them.
-ghost use Rattle.std.specs.Prelude.{◌≡◌, map};
+//! Tests of tokens by the first of them, and its place.
+ghost use Rattle.std.specs.Prelude.{◌≡◌, IsTrue, map};
+ghost use Rattle.java_tree.specs.Formed.{has_some};
 ghost use Rattle.java_parser_grammar.specs.Tokens.{is_name, is_angle, is_keyword_of, begins, signed, worded};
+ghost use Rattle.java_parser_grammar.specs.Units.{BeginsAt};
 
 use java_lexer::{Token, TokenKind};
 use java_parser_types::look::{is_keyword, is_listed, is_name, is_sign};
+use racer_base::Place;
+
+/// The place of the first token, where there is one.
+pub fn first_place(tokens: &[Token]) -> Place
+    requires { IsTrue (has_some tokens.now) }
+    ensures { BeginsAt tokens.now result }
+{
+    match tokens {
+        [token, ..] => token.place,
+        [] => unreachable!(),
+    }
+}
 
 /// Whether the first token is this sign.
 pub fn signed(tokens: &[Token], text: &str) -> bool

@@ -1,11 +1,13 @@
 //! Files (JLS 7.3).
-ghost use Rattle.std.specs.Prelude.{◌≡◌, ◌∷◌, ◌++◌, [], not, map, filter, IfOk, IfErr, OnOk, OnErr};
+ghost use Rattle.std.specs.Prelude.{◌≡◌, ◌∷◌, ◌++◌, [], not, map, filter, IsTrue, IfOk, IfErr, OnOk, OnErr};
 ghost use Rattle.std.specs.List.{AllZip};
+ghost use Rattle.java_tree.specs.Formed.{has_some};
 ghost use Rattle.java_parser_grammar.specs.Units.{is_read, IsClass, BeginsAt, IsUnit, IsFault};
-ghost use Rattle.java_parser.specs.ReadTypes.{AddsType, AreRead};
+ghost use Rattle.java_parser.specs.ReadTypes.{HaveTokens, AddsType, AreRead};
 
 use super::classes::{class, read_name};
 use crate::balance::check_brackets;
+use crate::tests_of_tokens::first_place;
 use crate::types::types;
 use java_lexer::{Lexed, Token};
 use java_parser_grammar::{ClassTree, ParseFault, Unit};
@@ -21,6 +23,7 @@ fn put_class(classes: &mut Items<ClassTree>, class: ClassTree) -> Result<(), Mem
 
 /// One more type.
 fn add_type(alloc: Global, unit: &mut Unit, tokens: &[Token]) -> Result<(), Memory>
+    requires { IsTrue (has_some tokens.now) }
     ensures { IfOk result (λ _. AddsType tokens.now unit.old unit.new) }
 {
     match read_name(tokens) {
@@ -28,18 +31,14 @@ fn add_type(alloc: Global, unit: &mut Unit, tokens: &[Token]) -> Result<(), Memo
             let next = class(alloc, name, tokens)?;
             put_class(&mut unit.classes, next)?;
         }
-        None => {
-            let [first, ..] = tokens else {
-                return Err(Memory);
-            };
-            unit.skipped.push(first.place)?;
-        }
+        None => unit.skipped.push(first_place(tokens))?,
     }
     Ok(())
 }
 
 /// The unit that these types are.
 fn unit(alloc: Global, types: &[&[Token]]) -> Result<Unit, Memory>
+    requires { HaveTokens (map (λ t. t.now) types.now) }
     ensures { IfOk result (λ unit. AreRead (map (λ t. t.now) types.now) unit) }
 {
     let mut unit = Unit {

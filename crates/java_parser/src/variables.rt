@@ -80,7 +80,7 @@ fn variable(alloc: Global, piece: &[Token]) -> Result<FieldVariable, Memory>
     ensures { IfOk result (λ v. IsVariable piece.now v) }
 {
     let [name, behind @ ..] = piece else {
-        return Err(Memory);
+        unreachable!()
     };
     let name = ident(alloc, name)?;
     let initialiser = initialiser(alloc, behind)?;

@@ -22,7 +22,8 @@ length-outcomes_from : (core : Core) (i n : ℕ) → length (outcomes_from core 
 length-outcomes_from core i zero = refl
 length-outcomes_from core i (suc n) = ap suc (length-outcomes_from core (suc i) n)
 
-get_or-outcomes_from : (core : Core) (i n k : ℕ) (d : Option Outcome) → k < n → get_or (outcomes_from core i n) k d ≡ outcome_of core (number (i + k))
+get_or-outcomes_from : (core : Core) (i n k : ℕ) (d : Option Outcome) → k < n →
+    get_or (outcomes_from core i n) k d ≡ outcome_of core (number (i + k))
 get_or-outcomes_from core i zero k d within = absurd (omega arith)
 get_or-outcomes_from core i (suc n) zero d within = ap (λ j. outcome_of core (number j)) (sym (add-zero i))
 get_or-outcomes_from core i (suc n) (suc k) d within =
@@ -30,12 +31,15 @@ get_or-outcomes_from core i (suc n) (suc k) d within =
     get_or-outcomes_from core (suc i) n k d (omega arith) ∙ ap (λ j. outcome_of core (number j)) moved
 
 -- there is an outcome for each method
-pub one_for_each : (core : Core) (outcomes : List (Option (Arc Outcome Global))) → AreOutcomes core outcomes → length outcomes ≡ length core.methods
+pub one_for_each : (core : Core) (outcomes : List (Option (Arc Outcome Global))) → AreOutcomes core outcomes →
+    length outcomes ≡ length core.methods
 one_for_each core outcomes are =
     sym (length-map outcomes (option_map arc_value)) ∙ ap length are ∙ length-outcomes_from core 0 (length core.methods)
 
 -- what is read there is the method's outcome
-pub outcome_at : (core : Core) (outcomes : List (Option (Arc Outcome Global))) (m : ℕ) (o : Option (Arc Outcome Global)) → AreOutcomes core outcomes → m < length core.methods → o ≡ get_or outcomes m o → option_map arc_value o ≡ outcome_of core (number m)
+pub outcome_at : (core : Core) (outcomes : List (Option (Arc Outcome Global))) (m : ℕ)
+    (o : Option (Arc Outcome Global)) → AreOutcomes core outcomes → m < length core.methods →
+    o ≡ get_or outcomes m o → option_map arc_value o ≡ outcome_of core (number m)
 outcome_at core outcomes m o are within is =
     ap (option_map arc_value) is
     ∙ sym (get_or-map (option_map arc_value) outcomes m o)
@@ -44,11 +48,17 @@ outcome_at core outcomes m o are within is =
     ∙ ap (λ j. outcome_of core (number j)) (zero-add m)
 
 -- the records of an entry, whose outcome is read at its number
-pub entry_adds : (core : Core) (c : ClassId) (m : ℕ) (method : Method) (id : MethodId) (o : Option (Arc Outcome Global)) → is_entry_of c method ≡ true → id.0 ≡ m → option_map arc_value o ≡ outcome_of core (number m) → numbered_records id (records_held (option_map arc_value o)) ≡ entry_records core c (m, method)
+pub entry_adds : (core : Core) (c : ClassId) (m : ℕ) (method : Method) (id : MethodId)
+    (o : Option (Arc Outcome Global)) → is_entry_of c method ≡ true → id.0 ≡ m →
+    option_map arc_value o ≡ outcome_of core (number m) →
+    numbered_records id (records_held (option_map arc_value o)) ≡ entry_records core c (m, method)
 entry_adds core c m method id o entry is known =
-    let test : entry_records core c (m, method) ≡ numbered_records (number m) (records_of core (number m)) = ap (λ b. cond b (numbered_records (number m) (records_of core (number m))) []) entry in
+    let test : entry_records core c (m, method) ≡ numbered_records (number m) (records_of core (number m)) =
+    ap (λ b. cond b (numbered_records (number m) (records_of core (number m))) []) entry in
     (λ i. numbered_records (number (is i)) (records_held (known i))) ∙ sym test
 
 -- another method has none
-pub other_adds : (core : Core) (c : ClassId) (m : ℕ) (method : Method) → is_entry_of c method ≡ false → [] ≡ entry_records core c (m, method)
-other_adds core c m method other = sym (ap (λ b. cond b (numbered_records (number m) (records_of core (number m))) []) other)
+pub other_adds : (core : Core) (c : ClassId) (m : ℕ) (method : Method) → is_entry_of c method ≡ false →
+    [] ≡ entry_records core c (m, method)
+other_adds core c m method other = sym (ap
+    (λ b. cond b (numbered_records (number m) (records_of core (number m))) []) other)

@@ -5,20 +5,25 @@ use Rattle.std.proofs.lemmas.List.{drop_more, at_drop_all}
 use Rattle.std.specs.List.{flat_map, filter_map, cons_option}
 
 -- what is left at an index begins with the element that is read there
-pub rest_of : {X : Type 0} (xs : List X) (i : ℕ) (x : X) → i < length xs → x ≡ get_or xs i x → drop i xs ≡ x ∷ drop (i + 1) xs
+pub rest_of : {X : Type 0} (xs : List X) (i : ℕ) (x : X) → i < length xs → x ≡ get_or xs i x →
+    drop i xs ≡ x ∷ drop (i + 1) xs
 rest_of xs i x within is = drop_more xs i x within ∙ ap (λ y. y ∷ drop (i + 1) xs) (sym is)
 
 -- a list of lists, whose next list was added
-pub flat_map_turn : {X Y : Type 0} (f : X → List Y) (made here : List Y) (x : X) (rest : List X) → here ≡ f x → (made ++ here) ++ flat_map f rest ≡ made ++ flat_map f (x ∷ rest)
-flat_map_turn f made here x rest is = append_assoc made here (flat_map f rest) ∙ ap (λ ys. made ++ (ys ++ flat_map f rest)) is
+pub flat_map_turn : {X Y : Type 0} (f : X → List Y) (made here : List Y) (x : X) (rest : List X) → here ≡ f x →
+    (made ++ here) ++ flat_map f rest ≡ made ++ flat_map f (x ∷ rest)
+flat_map_turn f made here x rest is = append_assoc made here (flat_map f rest)
+    ∙ ap (λ ys. made ++ (ys ++ flat_map f rest)) is
 
 -- a list of what is given, whose next element was added
-pub filter_map_adds : {X Y : Type 0} (f : X → Option Y) (made : List Y) (x : X) (y : Y) (rest : List X) → f x ≡ Some y → (made ++ y ∷ []) ++ filter_map f rest ≡ made ++ filter_map f (x ∷ rest)
+pub filter_map_adds : {X Y : Type 0} (f : X → Option Y) (made : List Y) (x : X) (y : Y) (rest : List X) →
+    f x ≡ Some y → (made ++ y ∷ []) ++ filter_map f rest ≡ made ++ filter_map f (x ∷ rest)
 filter_map_adds f made x y rest is =
     append_assoc made (y ∷ []) (filter_map f rest) ∙ ap (λ o. made ++ cons_option o (filter_map f rest)) (sym is)
 
 -- the same where nothing is given
-pub filter_map_leaves : {X Y : Type 0} (f : X → Option Y) (made : List Y) (x : X) (rest : List X) → f x ≡ None → made ++ filter_map f rest ≡ made ++ filter_map f (x ∷ rest)
+pub filter_map_leaves : {X Y : Type 0} (f : X → Option Y) (made : List Y) (x : X) (rest : List X) → f x ≡ None →
+    made ++ filter_map f rest ≡ made ++ filter_map f (x ∷ rest)
 filter_map_leaves f made x rest is = ap (λ o. made ++ cons_option o (filter_map f rest)) (sym is)
 
 -- a list of what is made of each element, whose next element was added

@@ -24,7 +24,8 @@ pub class_of_number : (c d : ClassId) → nat_eq c.0 d.0 ≡ true → c ≡ d
 class_of_number c d h = ap (λ (n : ℕ). let made : ClassId = record { 0 = n } in made) (eqb-true c.0 d.0 h)
 
 -- a record that is listed for a class is one of an entry of it
-pub listed_record : (core : Core) (c : ClassId) (p : MethodRecord) → In (records_in core c) p → IsRecord core c p.method p.index p.access
+pub listed_record : (core : Core) (c : ClassId) (p : MethodRecord) → In (records_in core c) p →
+    IsRecord core c p.method p.index p.access
 listed_record core c p h =
     let found = in_flat_map (entry_records core c) (enumerate_from 0 core.methods) p h in
     let e : ℕ × Method = found.0 in
@@ -32,7 +33,8 @@ listed_record core c p h =
     let same_index : at.0 ≡ e.0 = let is : e.0 ≡ 0 + at.0 = at.1 in omega arith in
     let number : MethodId = record { 0 = e.0 } in
     elim (is_entry_of c e.1)
-    as (λ b. is_entry_of c e.1 ≡ b → In (cond b (numbered_records number (records_of core number)) []) p → IsRecord core c p.method p.index p.access) [
+    as (λ b. is_entry_of c e.1 ≡ b → In (cond b (numbered_records number (records_of core number)) []) p →
+    IsRecord core c p.method p.index p.access) [
       | true ↦ λ test listed.
           let tests = both_pass e.1.entry (nat_eq e.1.class.0 c.0) test in
           let from = in_map (record_at number) (enumerate_from 0 (records_of core number)) p listed in
@@ -62,15 +64,22 @@ listed_warning core w h =
           let from = in_filter_map (warning_among c (records_in core c)) (records_in core c) w listed in
           let first : MethodRecord = from.0 in
           elim (find (λ partner. conflicts first.access partner.access) (records_in core c))
-          as (λ o. find (λ partner. conflicts first.access partner.access) (records_in core c) ≡ o → option_map (warning_of c first) o ≡ Some w → IsPair core w) [
+          as (λ o. find (λ partner. conflicts first.access partner.access) (records_in core c) ≡ o →
+          option_map (warning_of c first) o ≡ Some w → IsPair core w) [
             | None ↦ λ e none. cc
             | Some partner ↦ λ e some.
                 let is : warning_of c first partner ≡ w = cc in
-                let gives = find_gives (λ (q : MethodRecord). conflicts first.access q.access) (records_in core c) partner e in
+                let gives = find_gives (λ (q : MethodRecord). conflicts first.access q.access)
+                (records_in core c) partner e in
                 let made : IsPair core (warning_of c first partner) = record {
                   first = first.access;
                   partner = partner.access;
-                  checked = record { class = found.0.1; is = ap (slice_get core.classes) (sym same_index) ∙ at.2; checked = checked };
+                  checked = record {
+                    class = found.0.1;
+                    is =
+                        ap (slice_get core.classes) (sym same_index) ∙ at.2;
+                    checked = checked;
+                  };
                   of_entry = listed_record core c first from.1;
                   of_partner = listed_record core c partner gives.0;
                   conflict = gives.1;

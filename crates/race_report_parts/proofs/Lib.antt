@@ -8,6 +8,8 @@ pub mod SortedTexts
 pub mod WobblyTexts
 pub mod WarningSides
 pub mod PlaceSteps
+pub mod OnlyPlaces
+pub mod PlacesReach
 pub mod PutChains
 pub mod LookUps
 pub mod SideParts

@@ -33,7 +33,8 @@ six a b c d e f t u v w x y z put_a last_b put_b last_c put_c last_d put_d last_
 pub seven : (a b c d e f g : List ℕ) (s t u v w x y z : Written) → Puts a s t → Lasts t u → Puts b t u → Lasts u v →
     Puts c u v → Lasts v w → Puts d v w → Lasts w x → Puts e w x → Lasts x y → Puts f x y → Lasts y z → Puts g y z →
     Puts (a ++ b ++ c ++ d ++ e ++ f ++ g) s z
-seven a b c d e f g s t u v w x y z put_a last_b put_b last_c put_c last_d put_d last_e put_e last_f put_f last_g put_g =
+seven a b c d e f g s t u v w x y z put_a last_b put_b last_c put_c last_d put_d last_e put_e last_f put_f last_g
+    put_g =
     two (a ++ b ++ c ++ d ++ e ++ f) g s y z
     (six a b c d e f s t u v w x y put_a last_b put_b last_c put_c last_d put_d last_e put_e last_f put_f) last_g put_g
 

@@ -16,7 +16,8 @@ length-outcomes : (core : Core) (i n : ℕ) → length (outcomes_from core i n) 
 length-outcomes core i zero = refl
 length-outcomes core i (suc n) = ap suc (length-outcomes core (suc i) n)
 
-get-outcomes : (core : Core) (i n k : ℕ) → k < n → slice_get (outcomes_from core i n) k ≡ Some (outcome_of core (record { 0 = i + k }))
+get-outcomes : (core : Core) (i n k : ℕ) → k < n →
+    slice_get (outcomes_from core i n) k ≡ Some (outcome_of core (record { 0 = i + k }))
 get-outcomes core i zero k h = absurd (omega arith)
 get-outcomes core i (suc n) zero h =
     let same : i ≡ i + 0 = omega arith in
@@ -28,7 +29,8 @@ get-outcomes core i (suc n) (suc k) h =
 no_outcome : (core : Core) (k : ℕ) → length core.methods ≤ k → outcome_of core (record { 0 = k }) ≡ None
 no_outcome core k h = rw (slice_get_past core.methods k h) refl
 
-flat_outcome : (core : Core) (k : ℕ) → option_flatten (slice_get (outcomes_of core) k) ≡ outcome_of core (record { 0 = k })
+flat_outcome : (core : Core) (k : ℕ) → option_flatten (slice_get (outcomes_of core) k) ≡ outcome_of core
+    (record { 0 = k })
 flat_outcome core k =
     let n : ℕ = length core.methods in
     elim (cases_lt k n) [
@@ -40,12 +42,14 @@ flat_outcome core k =
           ap option_flatten (slice_get_past (outcomes_of core) k past) ∙ sym (no_outcome core k h)
     ]
 
-flatten-map : {A B : Type 0} (f : A → B) (o : Option (Option A)) → option_flatten (option_map (option_map f) o) ≡ option_and_then (option_map f) o
+flatten-map : {A B : Type 0} (f : A → B) (o : Option (Option A)) →
+    option_flatten (option_map (option_map f) o) ≡ option_and_then (option_map f) o
 flatten-map f None = refl
 flatten-map f (Some o) = refl
 
 -- what stands at a method's number is its outcome
-pub outcome_at : (core : Core) (outcomes : List (Option (Arc Outcome Global))) (k : ℕ) → AreOutcomes core outcomes → option_and_then (option_map arc_value) (slice_get outcomes k) ≡ outcome_of core (record { 0 = k })
+pub outcome_at : (core : Core) (outcomes : List (Option (Arc Outcome Global))) (k : ℕ) → AreOutcomes core outcomes →
+    option_and_then (option_map arc_value) (slice_get outcomes k) ≡ outcome_of core (record { 0 = k })
 outcome_at core outcomes k h =
     sym (flatten-map arc_value (slice_get outcomes k))
     ∙ ap option_flatten (sym (slice_get-map (option_map arc_value) outcomes k))
@@ -53,5 +57,8 @@ outcome_at core outcomes k h =
     ∙ flat_outcome core k
 
 -- the same where it is known what stands there
-pub is_outcome : (core : Core) (outcomes : List (Option (Arc Outcome Global))) (k : ℕ) (held : Option (Option (Arc Outcome Global))) → AreOutcomes core outcomes → slice_get outcomes k ≡ held → option_and_then (option_map arc_value) held ≡ outcome_of core (record { 0 = k })
-is_outcome core outcomes k held h is = ap (option_and_then (option_map arc_value)) (sym is) ∙ outcome_at core outcomes k h
+pub is_outcome : (core : Core) (outcomes : List (Option (Arc Outcome Global))) (k : ℕ)
+    (held : Option (Option (Arc Outcome Global))) → AreOutcomes core outcomes → slice_get outcomes k ≡ held →
+    option_and_then (option_map arc_value) held ≡ outcome_of core (record { 0 = k })
+is_outcome core outcomes k held h is = ap (option_and_then (option_map arc_value)) (sym is)
+    ∙ outcome_at core outcomes k h

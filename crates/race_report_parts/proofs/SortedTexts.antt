@@ -26,7 +26,8 @@ text_cmp = slice_cmp nat_cmp
 
 -- ---- the order of texts
 
-neither : (x y : Text) (r s : Ordering) → text_cmp x y ≡ r → text_cmp y x ≡ s → is_lt r ≡ false → is_lt s ≡ false → x ≡ y
+neither : (x y : Text) (r s : Ordering) → text_cmp x y ≡ r → text_cmp y x ≡ s → is_lt r ≡ false → is_lt s ≡ false →
+    x ≡ y
 neither x y Less s p q h k = absurd (true≢false h)
 neither x y Equal s p q h k = slice_cmp-IsAntisymmetric nat_cmp-IsAntisymmetric x y p
 neither x y Greater Less p q h k = absurd (true≢false k)
@@ -175,7 +176,8 @@ abbrev pub Apart : {X : Type 0} → (X → X → Bool) → List X → Type 0
 Apart same [] = Unit {0}
 Apart same (x ∷ xs) = (list_any (same x) xs ≡ false) × Apart same xs
 
-none_kept : {X : Type 0} (test p : X → Bool) (xs : List X) → list_any test xs ≡ false → list_any test (filter p xs) ≡ false
+none_kept : {X : Type 0} (test p : X → Bool) (xs : List X) → list_any test xs ≡ false →
+    list_any test (filter p xs) ≡ false
 none_kept test p [] none = refl
 none_kept test p (x ∷ xs) none =
     elim (p x) as (λ b. list_any test (cond b (x ∷ filter p xs) (filter p xs)) ≡ false) [
@@ -231,7 +233,8 @@ fewer_firsts same (x ∷ xs) =
     let more = fewer_firsts same xs in
     omega (arith, kept, more)
 
-pub whole_firsts : {X : Type 0} (same : X → X → Bool) (xs : List X) → length (firsts same xs) ≡ length xs → firsts same xs ≡ xs
+pub whole_firsts : {X : Type 0} (same : X → X → Bool) (xs : List X) → length (firsts same xs) ≡ length xs →
+    firsts same xs ≡ xs
 whole_firsts same [] long = refl
 whole_firsts same (x ∷ xs) long =
     let kept = fewer_kept (λ y. not (same x y)) (firsts same xs) in

@@ -31,7 +31,8 @@ use Rattle.race_report_parts.specs.Told.{found_in, found_of, wobbly_texts}
 
 -- ---- the paths of a summary
 
-apart_large : (large : Bool) (e : Effects) (found : Findings) → cond large Large (Whole (findings_from e)) ≡ Whole found →
+apart_large : (large : Bool) (e : Effects) (found : Findings) →
+    cond large Large (Whole (findings_from e)) ≡ Whole found →
     Apart same_path found.wobbly
 apart_large true e found is = cc
 apart_large false e found is =

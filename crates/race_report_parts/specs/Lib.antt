@@ -4,6 +4,7 @@ pub mod Pieces
 pub mod ByteOrder
 pub mod Texts
 pub mod Places
+pub mod Reaching
 pub mod Told
 pub mod Sites
 pub mod Sides

@@ -62,7 +62,8 @@ replay-races wanted from to source said cut same replays says =
     ∙ racing-said cut.program cut.bytes w.value cut.short w.is_json
     (replays w.warning w.sides w.value w.listed w.has_sides w.is_member)
 
-pub cut-replays : OneSource → OneProgram → (s t : Status) (a b : Asked) (v w : Wrote) (from to : Told) (report : WantedReport)
+pub cut-replays : OneSource → OneProgram →
+    (s t : Status) (a b : Asked) (v w : Wrote) (from to : Told) (report : WantedReport)
     (replay : WantedReplay) → IsCall (ReportOn report) from s a v → IsCall (ReplayOf replay) to t b w
     → IsCutOut from.files to.files replay.witness → (t ≡ Clean) × IsWhole w (codes "races\n")
 cut-replays one other s t a b v w from to report replay first second cut =

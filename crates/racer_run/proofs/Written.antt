@@ -11,6 +11,9 @@ take-plus n m xs =
     ∙ take-append-drop n (take (n + m) xs)
 
 -- a write of the text from `at` on, after what was written of it before
-pub taken_and-more : (taken : Option (List ℕ)) (text : List ℕ) (at n k : ℕ) → n ≤ k → taken_and (taken_and taken (take at text)) (take n (take k (drop at text))) ≡ taken_and taken (take (at + n) text)
+pub taken_and-more : (taken : Option (List ℕ)) (text : List ℕ) (at n k : ℕ) → n ≤ k →
+    taken_and (taken_and taken (take at text)) (take n (take k (drop at text))) ≡ taken_and taken (take (at + n) text)
 taken_and-more None text at n k h = refl
-taken_and-more (Some bytes) text at n k h = ap Some (append_assoc bytes _ _ ∙ ap (λ piece. bytes ++ piece) (ap (λ piece. take at text ++ piece) (take-take n k (drop at text) h) ∙ take-plus at n text))
+taken_and-more (Some bytes) text at n k h =
+    ap Some (append_assoc bytes _ _ ∙ ap (λ piece. bytes ++ piece)
+    (ap (λ piece. take at text ++ piece) (take-take n k (drop at text) h) ∙ take-plus at n text))

@@ -50,10 +50,12 @@ leads_one files left bytes old new leads added =
     number = ap length added.units ∙ length_more old.units.items added.unit
 
     first : IsRead (record { 0 = length old.units.items }) (old.sum + length bytes) bytes added.unit
-    first = subst (λ (s : ℕ). IsRead (record { 0 = length old.units.items }) s bytes added.unit) added.read.added added.read.read
+    first = subst (λ (s : ℕ). IsRead (record { 0 = length old.units.items }) s bytes added.unit) added.read.added
+        added.read.read
 
     together : (us : List unit.Unit) → old.units.items ++ added.unit ∷ us ≡ new.units.items ++ us
-    together us = sym (ap (λ (vs : List unit.Unit). vs ++ us) added.units ∙ append_assoc old.units.items (added.unit ∷ []) us)
+    together us = sym (ap (λ (vs : List unit.Unit). vs ++ us) added.units
+        ∙ append_assoc old.units.items (added.unit ∷ []) us)
 
 -- the files of the names from the i-th on
 abbrev pub files_from : Files → List (String Global) → ℕ → List (List ℕ)
@@ -61,7 +63,8 @@ files_from files names i = bytes_of_all files (map string_bytes (drop i names))
 
 -- of a folder that tells its files
 abbrev pub LeadsFrom : Option Told → List (String Global) → ℕ → ReadSources → Type 0
-LeadsFrom o names i read = IfSome o (λ (t : Told). LeadsOn (files_from t.files names 0) (files_from t.files names i) read)
+LeadsFrom o names i read = IfSome o (λ (t : Told). LeadsOn (files_from t.files names 0)
+    (files_from t.files names i) read)
 
 pub leads_more : (o : Option Told) (names : List (String Global)) (i : ℕ) (name : String Global) (old new : ReadSources)
     → i < length names → LeadsFrom o names i old
@@ -71,40 +74,50 @@ leads_more None names i name old new h leads added = tt
 leads_more (Some t) names i name old new h leads added =
     leads_one (files_from t.files names 0) (files_from t.files names (i + 1))
     (bytes_of t.files (string_bytes (get_or names i name))) old new
-    (subst (λ (left : List (String Global)). LeadsOn (files_from t.files names 0) (bytes_of_all t.files (map string_bytes left)) old)
+    (subst (λ (left : List (String Global)). LeadsOn (files_from t.files names 0)
+    (bytes_of_all t.files (map string_bytes left)) old)
     (drop_more names i name h) leads)
     added
 
 -- where the next is refused, they are
 pub refused_there : (o : Option Told) (names : List (String Global)) (i : ℕ) (name : String Global) (read : ReadSources)
     (fault : SourceFault) → i < length names → LeadsFrom o names i read
-    → IfSome o (λ (t : Told). IfRefused fault (IsNextRefused (bytes_of t.files (string_bytes (get_or names i name))) read))
+    → IfSome o (λ (t : Told). IfRefused fault
+    (IsNextRefused (bytes_of t.files (string_bytes (get_or names i name))) read))
     → IfSome o (λ (t : Told). IfRefused fault (IsOneRefused 0 0 (files_from t.files names 0)))
 refused_there None names i name read fault h leads refused = tt
 refused_there (Some t) names i name read Failed h leads refused = tt
 refused_there (Some t) names i name read Memory h leads refused = tt
 refused_there (Some t) names i name read (Refused r) h leads refused =
-    let here : LeadsOn (files_from t.files names 0) (bytes_of t.files (string_bytes (get_or names i name)) ∷ files_from t.files names (i + 1)) read =
-    subst (λ (left : List (String Global)). LeadsOn (files_from t.files names 0) (bytes_of_all t.files (map string_bytes left)) read)
+    let here : LeadsOn (files_from t.files names 0)
+    (bytes_of t.files (string_bytes (get_or names i name)) ∷ files_from t.files names (i + 1)) read =
+    subst (λ (left : List (String Global)). LeadsOn (files_from t.files names 0)
+    (bytes_of_all t.files (map string_bytes left)) read)
     (drop_more names i name h) leads in
     here.refuses r (inl refused)
 
 -- where none is left, all are read
-pub read_all_told : (o : Option Told) (names : List (String Global)) (i : ℕ) (read : ReadSources) → length names ≤ i → LeadsFrom o names i read
+pub read_all_told : (o : Option Told) (names : List (String Global)) (i : ℕ) (read : ReadSources) →
+    length names ≤ i → LeadsFrom o names i read
     → IfSome o (λ (t : Told). AreReadFrom 0 0 (files_from t.files names 0) read.units.items)
 read_all_told None names i read h leads = tt
 read_all_told (Some t) names i read h leads =
     let none : LeadsOn (files_from t.files names 0) [] read =
-    subst (λ (left : List (String Global)). LeadsOn (files_from t.files names 0) (bytes_of_all t.files (map string_bytes left)) read)
+    subst (λ (left : List (String Global)). LeadsOn (files_from t.files names 0)
+    (bytes_of_all t.files (map string_bytes left)) read)
     (drop_all i names h) leads in
-    subst (λ (us : List unit.Unit). AreReadFrom 0 0 (files_from t.files names 0) us) (append-nil read.units.items) (none.reads [] tt)
+    subst (λ (us : List unit.Unit). AreReadFrom 0 0 (files_from t.files names 0) us) (append-nil read.units.items)
+    (none.reads [] tt)
 
 -- ---- from some bytes
 
 somehow_then : (n : ℕ) (us : List unit.Unit) (u : unit.Unit) → AreReadSomehow n us
     → (sum : ℕ) × (bytes : List ℕ) × IsRead (record { 0 = n + length us }) sum bytes u → AreReadSomehow n (us ++ u ∷ [])
-somehow_then n [] u are is =
-    (subst (λ (m : ℕ). (sum : ℕ) × (bytes : List ℕ) × IsRead (record { 0 = m }) sum bytes u) (let e : n + 0 ≡ n = omega arith in e) is, tt)
+somehow_then n [] u are is = (
+  subst (λ (m : ℕ). (sum : ℕ) × (bytes : List ℕ) × IsRead (record { 0 = m }) sum bytes u)
+      (let e : n + 0 ≡ n = omega arith in e) is,
+  tt,
+)
 somehow_then n (v ∷ us) u are is = (
   are.0,
   somehow_then (suc n) us u are.1
@@ -124,7 +137,8 @@ somehow_more old new are added =
 pub counted_more : (old new : ReadSources) (i : ℕ) → length old.units.items ≡ i → IsAddedSomehow old new
     → length new.units.items ≡ i + 1
 counted_more old new i e added =
-    let more : length new.units.items ≡ suc (length old.units.items) = ap length added.units ∙ length_more old.units.items added.unit in
+    let more : length new.units.items ≡ suc (length old.units.items) =
+    ap length added.units ∙ length_more old.units.items added.unit in
     omega (arith, e, more)
 
 -- ---- names that are there
@@ -137,7 +151,8 @@ there_at files (x ∷ xs) h zero name lt = head (is_some (get files (string_byte
     head : (b : Bool) → (b && list_all (λ y. is_some (get files y)) (map string_bytes xs)) ≡ true → b ≡ true
     head true e = refl
     head false e = e
-there_at files (x ∷ xs) h (suc i) name lt = there_at files xs (tail (is_some (get files (string_bytes x))) h) i name (omega arith)
+there_at files (x ∷ xs) h (suc i) name lt =
+    there_at files xs (tail (is_some (get files (string_bytes x))) h) i name (omega arith)
   where
     tail : (b : Bool) → (b && list_all (λ y. is_some (get files y)) (map string_bytes xs)) ≡ true
         → list_all (λ y. is_some (get files y)) (map string_bytes xs) ≡ true

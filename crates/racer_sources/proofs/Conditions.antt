@@ -1,25 +1,20 @@
 -- Units of accepted sources meet the conditions of their lowering.
-use Rattle.std.proofs.Common.{◌≡◌, ℕ, suc, ◌≤◌, Bool, ◌&&◌, List, [], ◌∷◌, length, map, sym, ap, subst, arith, ◌∙◌}
+use Rattle.std.proofs.Common.{◌≡◌, ℕ, suc, ◌≤◌, List, [], ◌∷◌, length, map, sym, ap, subst, arith, ◌∙◌}
 use Rattle.std.proofs.Common.{Option, None, Some, string_bytes}
 use Rattle.std.specs.Option.{IfSome}
 use Rattle.racer_base.specs.Outside.{Told, Files}
 use Rattle.std.specs.Prelude.{IsTrue}
 use Rattle.java_parser_grammar.specs.declared.unit.Unit as unit
 use Rattle.java_resolver.specs.declared.table.Table.{Table}
-use Rattle.java_resolver.specs.declared.infos.ClassInfo.{ClassInfo}
-use Rattle.java_resolver.specs.declared.infos.FieldInfo.{FieldInfo}
-use Rattle.java_resolver.specs.Declarations.{classes_of, fields_of}
-use Rattle.java_resolver.specs.Table.{classes, fields}
 use Rattle.core_lowering_rules.specs.Conditions.{are_in_files, are_named}
 use Rattle.core_lowering_conditions.specs.FromTokens.{AreFromTokens}
-use Rattle.core_lowering_conditions.specs.Named.{are_classes_named, are_fields_named}
 use Rattle.core_lowering_rules.specs.Programs.{IsLowered}
 use Rattle.core_code.specs.Program.{core}
 use Rattle.racer_sources.specs.declared.refusal.Refusal.TheVariants.{TooManyCalls}
 use Rattle.racer_sources.specs.declared.found.AcceptedSources.{AcceptedSources}
 use Rattle.racer_sources.specs.Sources.{contents, source_names, AreAccepted}
 use Rattle.racer_sources.specs.Lines.{refusal_line}
-use Rattle.racer_sources.specs.Finding.{AreReadSomehow, AreKnown, IsTableOf}
+use Rattle.racer_sources.specs.Finding.{AreReadSomehow, AreKnown}
 use Rattle.racer_sources.specs.declared.programs.FoundProgram.{FoundProgram}
 use Rattle.racer_sources.specs.declared.programs.FoundProgram.TheVariants as found
 use Rattle.racer_sources.specs.Programs.{IsSource, source_of}
@@ -41,15 +36,17 @@ placed law names us t known =
     law names us (from_tokens 0 us known.read)
     (let e : length us ≡ length names = known.counted in omega (arith, e))
 
-pub named : (us : List unit.Unit) (t : Table) → IsTableOf us t
-    → IsTrue (are_classes_named (classes t) && are_fields_named (fields t)) → IsTrue (are_named us)
-named us t is h =
-    subst (λ (cs : List ClassInfo). IsTrue (are_classes_named cs && are_fields_named (fields_of us))) is.classes
-    (subst (λ (fs : List FieldInfo). IsTrue (are_classes_named (classes t) && are_fields_named fs)) is.fields h)
+abbrev pub HaveNames : Type 0
+HaveNames = (units : List unit.Unit) → AreFromTokens 0 units → IsTrue (are_named units)
+
+pub named : HaveNames → (names : List (List ℕ)) (us : List unit.Unit) (t : Table) → AreKnown names us t
+    → IsTrue (are_named us)
+named law names us t known = law us (from_tokens 0 us known.read)
 
 -- what accepted sources are lowered to is what the sources are
 lowered_source : (files : Files) (s : AcceptedSources) (f : FoundProgram) → AreAccepted (contents files) s.units.items
-    → map string_bytes s.names.items ≡ source_names files → IsLoweredFrom (map string_bytes s.names.items) s.units.items f
+    → map string_bytes s.names.items ≡ source_names files →
+    IsLoweredFrom (map string_bytes s.names.items) s.units.items f
     → IsSource files (source_of f)
 lowered_source files s (found.Accepted program) accepted names low =
     record {
@@ -65,7 +62,8 @@ lowered_source files s (found.Refused line) accepted names low = (
 )
 
 pub lowered_there : (o : Option Told) (s : AcceptedSources) (f : FoundProgram)
-    → IfSome o (λ (t : Told). AreAccepted (contents t.files) s.units.items × (map string_bytes s.names.items ≡ source_names t.files))
+    → IfSome o (λ (t : Told). AreAccepted (contents t.files) s.units.items
+    × (map string_bytes s.names.items ≡ source_names t.files))
     → IsLoweredFrom (map string_bytes s.names.items) s.units.items f
     → IfSome o (λ (t : Told). IsSource t.files (source_of f))
 lowered_there None s f accepted low = tt

@@ -81,7 +81,8 @@ answers_by_memory names Failed r is never = absurd (never refl)
 answers_by_memory names Memory r is never = subst (λ (x : Result Found FolderFault). FailsByMemory x) (sym is) refl
 
 pub steady_answer : (names : List (List ℕ)) (fault : SourceFault) (r : Result Found FolderFault) (Q : Told → Type 0)
-    (o : Option Told) → IsRefusedOr names fault r → IfSome o (λ t. fault ≡ Failed → ⊥) → IfSome o (λ t. Q t → FailsByMemory r)
+    (o : Option Told) → IsRefusedOr names fault r → IfSome o (λ t. fault ≡ Failed → ⊥) →
+    IfSome o (λ t. Q t → FailsByMemory r)
 steady_answer names fault r Q None is never = tt
 steady_answer names fault r Q (Some t) is never = λ _. answers_by_memory names fault r is never
 

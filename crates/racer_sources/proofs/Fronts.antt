@@ -111,7 +111,8 @@ module _ (o : Option Told) (name bytes : List ℕ)
 
   pub refused_told : {T : Type 0} (file : FileId) (before : ℕ) (r : Result T SourceFault)
       → IfErr r (IsFileFault file (before + length bytes) bytes)
-      → IfErr r (λ (f : SourceFault). IfSome o (λ (t : Told). IfRefused f (IsRefusedAfter file before (bytes_of t.files name))))
+      → IfErr r (λ (f : SourceFault). IfSome o
+      (λ (t : Told). IfRefused f (IsRefusedAfter file before (bytes_of t.files name))))
   refused_told file before (Ok x) is = tt
   refused_told file before (Err f) is =
       of_read (λ (whole : List ℕ). IfRefused f (IsRefusedAfter file before whole)) o name bytes

@@ -99,7 +99,8 @@ no_place : (o : Option Place) (p : Place) → o ≡ None → o ≡ Some p → �
 no_place o p d e = let bad : ◌≡◌ {A = Option Place} None (Some p) = sym d ∙ e in cc
 
 module _ (ts : List Token) (end : Place) where
-  one_fault : (f g : UnitFault) → IsFault ts end (fault_of f) → IsFault ts end (fault_of g) → unit_refusal f ≡ unit_refusal g
+  one_fault : (f g : UnitFault) → IsFault ts end (fault_of f) → IsFault ts end (fault_of g) →
+      unit_refusal f ≡ unit_refusal g
   one_fault (unbalanced_at p) (unbalanced_at q) h k = ap Unbalanced (same_place _ p q h k)
   one_fault (unbalanced_at p) (deep_at q) h k = absurd (no_place _ p k.0 h)
   one_fault (unbalanced_at p) (unfit_at q) h k = absurd (no_place _ p k.0 h)
@@ -109,7 +110,8 @@ module _ (ts : List Token) (end : Place) where
   one_fault (unfit_at p) (unbalanced_at q) h k = absurd (no_place _ q h.0 k)
   one_fault (unfit_at p) (deep_at q) h k = absurd (no_place _ q h.1 k.1)
   one_fault (unfit_at p) (unfit_at q) h k =
-      ap NotAUnit (sym h.4 ∙ ap (λ (r : List Item). first_place end (joined r)) (one_misfit (items_of ts) h.2 k.2 h.3 k.3) ∙ k.4)
+      ap NotAUnit (sym h.4 ∙ ap (λ (r : List Item). first_place end (joined r))
+      (one_misfit (items_of ts) h.2 k.2 h.3 k.3) ∙ k.4)
 
   not_unit : (f : UnitFault) (u : unit.Unit) → IsFault ts end (fault_of f) → IsUnit ts u → ⊥
   not_unit (unbalanced_at p) u h is = no_place _ p is.balanced h
@@ -135,7 +137,8 @@ module _ (file : FileId) (sum : ℕ) (bytes : List ℕ) where
   by_kinds r q (unread g e h) (many f k l) = absurd (too_many file sum bytes h.short l)
   by_kinds r q (unread g e h) (untokened i f k) = absurd (ok_not_err _ h.lexed i h.tokens k.tokens)
   by_kinds r q (unread g e h) (unread i f k) =
-      let there = subst (λ (l : Lexed). IsFault l.tokens l.end (fault_of i)) (same_lexed _ k.lexed h.lexed k.tokens h.tokens) k.unit in
+      let there = subst (λ (l : Lexed). IsFault l.tokens l.end (fault_of i))
+      (same_lexed _ k.lexed h.lexed k.tokens h.tokens) k.unit in
       e ∙ one_fault h.lexed.tokens h.lexed.end g i h.unit there ∙ sym f
 
   not_read : (r : Refusal) (u : unit.Unit) → Kind file sum bytes r → IsRead file sum bytes u → ⊥

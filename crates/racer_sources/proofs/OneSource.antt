@@ -88,9 +88,11 @@ module _ (reading : OneReading) (files : Files) where
   lowered_once : (us vs : List unit.Unit) (p q : Core) → AreAlike us vs → IsLowered (source_names files) us p
       → IsLowered (source_names files) vs q → p ≡ q
   lowered_once us vs p q same f g =
-      let told = subst (λ (core : Core). TellRecursion core f.flags) (same.programs (source_names files) (λ m. true)) f.recursive in
+      let told = subst (λ (core : Core). TellRecursion core f.flags)
+      (same.programs (source_names files) (λ m. true)) f.recursive in
       f.program ∙ same.programs (source_names files) (flag_of f.flags)
-      ∙ ap (program_of (source_names files) vs) (same_flags (draft_of (source_names files) vs) f.flags g.flags told g.recursive)
+      ∙ ap (program_of (source_names files) vs)
+      (same_flags (draft_of (source_names files) vs) f.flags g.flags told g.recursive)
       ∙ sym g.program
 
   by_kinds : (r q : refusals.Refusal) → Kind files r → Kind files q → r ≡ q
@@ -101,7 +103,8 @@ module _ (reading : OneReading) (files : Files) where
   by_kinds r q (one h) (many m f k l) = absurd (not_few files m k l h.few)
   by_kinds r q (one h) (one k) = one_refusal 0 0 (contents files) r q h.one k.one
   by_kinds r q (one h) (together g f k) = absurd (refused_or_read 0 0 (contents files) r k.units h.one k.read.read)
-  by_kinds r q (one h) (calls m f k) = absurd (refused_or_read 0 0 (contents files) r k.units h.one k.accepted.read.read)
+  by_kinds r q (one h) (calls m f k) = absurd
+      (refused_or_read 0 0 (contents files) r k.units h.one k.accepted.read.read)
   by_kinds r q (together g e h) (many m f k l) = absurd (not_few files m k l h.read.few)
   by_kinds r q (together g e h) (one k) = absurd (refused_or_read 0 0 (contents files) q h.units k.one h.read.read)
   by_kinds r q (together g e h) (together i f k) =
@@ -110,11 +113,13 @@ module _ (reading : OneReading) (files : Files) where
   by_kinds r q (together g e h) (calls m f k) =
       absurd (no_fault _ _ g (alike h.units k.units h.read k.accepted.read).refusals h.some k.accepted.none)
   by_kinds r q (calls n e h) (many m f k l) = absurd (not_few files m k l h.accepted.read.few)
-  by_kinds r q (calls n e h) (one k) = absurd (refused_or_read 0 0 (contents files) q h.units k.one h.accepted.read.read)
+  by_kinds r q (calls n e h) (one k) = absurd
+      (refused_or_read 0 0 (contents files) q h.units k.one h.accepted.read.read)
   by_kinds r q (calls n e h) (together i f k) =
       absurd (no_fault _ _ i (alike k.units h.units k.read h.accepted.read).refusals k.some h.accepted.none)
   by_kinds r q (calls n e h) (calls m f k) =
-      e ∙ ap TooManyCalls (sym h.counted ∙ same_calls h.units k.units (alike h.units k.units h.accepted.read k.accepted.read) ∙ k.counted)
+      e ∙ ap TooManyCalls (sym h.counted ∙ same_calls h.units k.units
+      (alike h.units k.units h.accepted.read k.accepted.read) ∙ k.counted)
       ∙ sym f
 
   not_program : (r : refusals.Refusal) (p : Core) → Kind files r → IsProgram files p → ⊥
@@ -128,11 +133,13 @@ module _ (reading : OneReading) (files : Files) where
 
   only : (a b : Source) → IsSource files a → IsSource files b → a ≡ b
   only (Refusal x) (Refusal y) f g =
-      ap Refusal (f.2 ∙ ap (refusal_line (source_names files)) (by_kinds f.0 g.0 (kind files f.0 f.1) (kind files g.0 g.1)) ∙ sym g.2)
+      ap Refusal (f.2 ∙ ap (refusal_line (source_names files))
+      (by_kinds f.0 g.0 (kind files f.0 f.1) (kind files g.0 g.1)) ∙ sym g.2)
   only (Refusal x) (Accepted q) f g = absurd (not_program f.0 q (kind files f.0 f.1) g)
   only (Accepted p) (Refusal y) f g = absurd (not_program g.0 p (kind files g.0 g.1) f)
   only (Accepted p) (Accepted q) f g =
-      ap Accepted (lowered_once f.units g.units p q (alike f.units g.units f.accepted.read g.accepted.read) f.lowered g.lowered)
+      ap Accepted (lowered_once f.units g.units p q
+      (alike f.units g.units f.accepted.read g.accepted.read) f.lowered g.lowered)
 
 pub one_source : OneReading → OneSource
 one_source reading files a b f g = only reading files a b f g

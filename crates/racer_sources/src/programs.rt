@@ -7,8 +7,7 @@ ghost use Rattle.racer_sources.specs.Lowering as lowering;
 use crate::{AcceptedSources, Found, Refusal, let_go, refusal_line, sources};
 use core_code::Program;
 use core_lowering::{LowerFault, lower};
-use core_lowering_conditions::are_named;
-use core_lowering_conditions::laws::read_units_are_placed;
+use core_lowering_conditions::laws::{read_units_are_named, read_units_are_placed};
 use racer_base::{Folder, FolderFault, Memory, Text};
 use std::alloc::Global;
 
@@ -25,10 +24,8 @@ fn lowered(alloc: Global, found: &AcceptedSources) -> Result<FoundProgram, Memor
     ensures { IfOk result
         (lowering.IsLoweredFrom (map string_bytes found.now.names.items) found.now.units.items) }
 {
-    if !are_named(alloc, &found.table)? {
-        return Err(Memory);
-    }
     read_units_are_placed();
+    read_units_are_named();
     let names = found.names.as_slice();
     match lower(alloc, &found.table, found.units.as_slice(), names) {
         Ok(program) => Ok(FoundProgram::Accepted(program)),

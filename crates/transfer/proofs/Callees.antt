@@ -63,7 +63,8 @@ flag-itself false = refl
 
 key-itself : (x : Access) → same_key x x ≡ true
 key-itself x =
-    (λ i. same_path-itself x.path i && flag-itself (is_write x.kind) i && flag-itself x.locked i && flag-itself x.main i)
+    (λ i. same_path-itself x.path i && flag-itself
+    (is_write x.kind) i && flag-itself x.locked i && flag-itself x.main i)
 
 -- what has one key has each that is the same
 alike : (x y e : Access) → same_key x y ≡ true → same_key e x ≡ same_key e y
@@ -100,7 +101,8 @@ any-kept test old [] h = h
 any-kept test old (x ∷ xs) h = any-kept test (key_added old x) xs (any-one test old x h)
 
 -- a key that was added is there
-any-put : (old : List Access) (x a : Access) → same_key x a ≡ true → list_any (λ e. same_key e a) (key_added old x) ≡ true
+any-put : (old : List Access) (x a : Access) → same_key x a ≡ true →
+    list_any (λ e. same_key e a) (key_added old x) ≡ true
 any-put old x a h =
     elim (list_any (λ e. same_key e x) old) as (λ b. list_any (λ e. same_key e x) old ≡ b →
     list_any (λ e. same_key e a) (cond b old (old ++ x ∷ [])) ≡ true) [
@@ -197,7 +199,8 @@ absorbed-by true p n h = refl
 absorbed-by false true n h = refl
 absorbed-by false false n h = h
 
-absorbed : (w : PathSet) (ps ns : List Path) → paths_added w ns ≡ w → paths_added (paths_added w ps) ns ≡ paths_added w ps
+absorbed : (w : PathSet) (ps ns : List Path) → paths_added w ns ≡ w →
+    paths_added (paths_added w ps) ns ≡ paths_added w ps
 absorbed w ps ns same =
     set.same_set path_cmp-total path_cmp-IsAntisymmetric _ _
     (λ q.
@@ -228,7 +231,8 @@ pub noted-found : (g : Given) (calls : List NotedCall) (old new : Found) (e : Ef
     AreFound g calls old → AreFound g calls new
 noted-found g calls old new e m h = subst (AreFound g calls) (sym m.0) (all-kept g calls old e h)
 
-pub marked-found : {X : Type 0} (g : Given) (calls : List NotedCall) (old new : Found) (e : Effects) (r : Result X Stop) →
+pub marked-found : {X : Type 0} (g : Given) (calls : List NotedCall) (old new : Found) (e : Effects)
+    (r : Result X Stop) →
     IsMarked old e new r → AreFound g calls old → OnOk r (AreFound g calls new)
 marked-found g calls old new e (Ok x) m h = noted-found g calls old new e m h
 marked-found g calls old new e (Err stop) m h = tt
@@ -271,13 +275,15 @@ abbrev found_of : List Access → PathSet → Found → Found
 found_of records wobbly found =
     record { records = records; wobbly = wobbly; result = joined_result found.result None }
 
-added-firsts : (found : Found) (raw : List Access) (ws vs : List Path) → set.from_list {R = path_cmp} ws ≡ set.from_list vs →
+added-firsts : (found : Found) (raw : List Access) (ws vs : List Path) →
+    set.from_list {R = path_cmp} ws ≡ set.from_list vs →
     added found (marks raw ws) ≡ added found (marks (first_of_keys raw) vs)
 added-firsts found raw ws vs same = (λ i.
     found_of (sym (firsts-added found.records raw) i)
     (paths_added (paths-same found.wobbly ws vs same i) (lost_result found.result None)) found)
 
-many-firsts : (found : Found) (raw : List Access) (ws vs : List Path) → set.from_list {R = path_cmp} ws ≡ set.from_list vs →
+many-firsts : (found : Found) (raw : List Access) (ws vs : List Path) →
+    set.from_list {R = path_cmp} ws ≡ set.from_list vs →
     is_many found (marks raw ws) ≡ is_many found (marks (first_of_keys raw) vs)
 many-firsts found raw ws vs same = (λ i.
     nat_lt MAX_SUMMARY_KEYS (length (sym (firsts-added found.records raw) i))
@@ -304,7 +310,8 @@ module _ (g : Given) (c : NotedCall) (f : Findings) (site : SiteId) (names : Lis
       subst (λ (rs : List Access). IsMarked old
       (marks (first_of_keys rs) (different_paths (call_names g c f.wobbly))) new r) is
       (marked-firsts old new raw names (different_paths (call_names g c f.wobbly)) r to_different
-      (marked-alike old (both (marks raw []) (marks [] names)) (marks raw names) new r (parts-alike raw names names refl)
+      (marked-alike old (both (marks raw []) (marks [] names)) (marks raw names) new r
+      (parts-alike raw names names refl)
       (marked-then old (marks raw []) mid (marks [] names) new r m k)))
 
   pub call-stopped : (old new : Found) (raw : List Access) (stop : Stop) → raw ≡ call_records g c f site →
@@ -313,7 +320,8 @@ module _ (g : Given) (c : NotedCall) (f : Findings) (site : SiteId) (names : Lis
       subst (λ (rs : List Access). IsStopped old
       (marks (first_of_keys rs) (different_paths (call_names g c f.wobbly))) stop) is
       (marked-firsts {X = Bool} old new raw names (different_paths (call_names g c f.wobbly)) (Err stop) to_different
-      (stopped-alike old (both (marks raw []) (marks [] names)) (marks raw names) stop (parts-alike raw names names refl)
+      (stopped-alike old (both (marks raw []) (marks [] names)) (marks raw names) stop
+      (parts-alike raw names names refl)
       (stopped-first old (marks raw []) (marks [] names) stop m)))
 
 -- what stops the marks stops the call

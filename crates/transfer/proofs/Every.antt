@@ -67,7 +67,8 @@ empty-table program n m =
 
 at_place : (table : List (Option Held)) (i : ℕ) (place : Option Held) → true ≡ ltb i (length table) →
     place ≡ get_or table i place → slice_get table i ≡ Some place
-at_place table i place within at = slice_get_read table (length table) i place refl (ltb-true i (length table) (sym within)) at
+at_place table i place within at = slice_get_read table (length table) i place refl
+    (ltb-true i (length table) (sym within)) at
 
 pub held-none : (table : List (Option Held)) (m : MethodId) (place : Option Held) → true ≡ ltb m.0 (length table) →
     place ≡ get_or table m.0 place → place ≡ None → None ≡ finished_at table m

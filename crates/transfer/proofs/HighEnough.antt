@@ -32,26 +32,43 @@ sized : (s : State) → IsSized (length s.vars) (length s.stack) s
 sized s = record { vars = refl; stack = refl }
 
 pub high_first : (first rest : Tree) (s : State) → IsHighEnough (Then first rest) s → IsHighEnough first s
-high_first first rest s e = let m = some_of (height_after (Then first rest) (length s.stack)) e in let at = then_heights first rest (length s.stack) m.0 m.1 in is_high first s at.0 at.1
+high_first first rest s e = let m = some_of (height_after (Then first rest) (length s.stack)) e in
+    let at = then_heights first rest (length s.stack) m.0 m.1 in is_high first s at.0 at.1
 
-pub high_rest : (g : Given) (first rest : Tree) (locked : Bool) (s t : State) → IsHighEnough (Then first rest) s → (flow g first locked s).next ≡ Some t → IsHighEnough rest t
-high_rest g first rest locked s t e is = let m = some_of (height_after (Then first rest) (length s.stack)) e in let at = then_heights first rest (length s.stack) m.0 m.1 in let size = flow-sized g first locked (length s.vars) (length s.stack) at.0 s t at.1 (sized s) is in is_high rest t m.0 (ap (height_after rest) size.stack ∙ at.2)
+pub high_rest : (g : Given) (first rest : Tree) (locked : Bool) (s t : State) → IsHighEnough (Then first rest) s →
+    (flow g first locked s).next ≡ Some t → IsHighEnough rest t
+high_rest g first rest locked s t e is = let m = some_of (height_after (Then first rest) (length s.stack)) e in
+    let at = then_heights first rest (length s.stack) m.0 m.1 in
+    let size = flow-sized g first locked (length s.vars) (length s.stack) at.0 s t at.1 (sized s) is in
+    is_high rest t m.0 (ap (height_after rest) size.stack ∙ at.2)
 
 pub high_left : (left right : Tree) (s : State) → IsHighEnough (Either left right) s → IsHighEnough left s
-high_left left right s e = let m = some_of (height_after (Either left right) (length s.stack)) e in is_high left s m.0 (either_heights left right (length s.stack) m.0 m.1).0
+high_left left right s e = let m = some_of (height_after (Either left right) (length s.stack)) e in
+    is_high left s m.0 (either_heights left right (length s.stack) m.0 m.1).0
 
 pub high_right : (left right : Tree) (s : State) → IsHighEnough (Either left right) s → IsHighEnough right s
-high_right left right s e = let m = some_of (height_after (Either left right) (length s.stack)) e in is_high right s m.0 (either_heights left right (length s.stack) m.0 m.1).1
+high_right left right s e = let m = some_of (height_after (Either left right) (length s.stack)) e in
+    is_high right s m.0 (either_heights left right (length s.stack) m.0 m.1).1
 
-pub high_held : (place : Place) (body : Tree) (s : State) → IsHighEnough (Held place body) s → IsHighEnough body (popped s 1)
-high_held place body s e = let m = some_of (height_after (Held place body) (length s.stack)) e in let less = sized_pop (length s.vars) (length s.stack) (length s.stack - 1) 1 s (popped s 1) (sized s) refl refl in is_high body (popped s 1) m.0 (ap (height_after body) less.stack ∙ held_heights place body (length s.stack) m.0 m.1)
+pub high_held : (place : Place) (body : Tree) (s : State) → IsHighEnough (Held place body) s →
+    IsHighEnough body (popped s 1)
+high_held place body s e = let m = some_of (height_after (Held place body) (length s.stack)) e in
+    let less = sized_pop (length s.vars) (length s.stack) (length s.stack - 1) 1 s (popped s 1) (sized s) refl refl in
+    is_high body (popped s 1) m.0 (ap (height_after body) less.stack
+    ∙ held_heights place body (length s.stack) m.0 m.1)
 
 pub high_body : (body : Tree) (s : State) → IsHighEnough (Again body) s → IsHighEnough body s
-high_body body s e = let m = some_of (height_after (Again body) (length s.stack)) e in is_high body s (length s.stack) (loop_heights body (length s.stack) m.0 m.1).1
+high_body body s e = let m = some_of (height_after (Again body) (length s.stack)) e in
+    is_high body s (length s.stack) (loop_heights body (length s.stack) m.0 m.1).1
 
 -- a state behind a round is as high as before
-pub high_round : (g : Given) (body : Tree) (locked : Bool) (s : State) → IsHighEnough (Again body) s → IsHighEnough (Again body) (round_next s (flow g body locked s).next)
-high_round g body locked s e = let n = length s.stack in let m = some_of (height_after (Again body) n) e in let at = loop_heights body n m.0 m.1 in let o = (flow g body locked s).next in let size : IsSized (length s.vars) n (round_next s o) = sized_round (length s.vars) n s o (sized s) (λ t is. flow-sized g body locked (length s.vars) n n s t at.1 (sized s) is) in
+pub high_round : (g : Given) (body : Tree) (locked : Bool) (s : State) → IsHighEnough (Again body) s →
+    IsHighEnough (Again body) (round_next s (flow g body locked s).next)
+high_round g body locked s e = let n = length s.stack in let m = some_of (height_after (Again body) n) e in
+    let at = loop_heights body n m.0 m.1 in let o = (flow g body locked s).next in
+    let size : IsSized (length s.vars) n (round_next s o) =
+    sized_round (length s.vars) n s o (sized s)
+    (λ t is. flow-sized g body locked (length s.vars) n n s t at.1 (sized s) is) in
     is_high (Again body) (round_next s o) m.0 (ap (height_after (Again body)) size.stack ∙ m.1)
 
 -- a state behind all rounds is as high as before
@@ -70,9 +87,21 @@ high_rounds g body locked s t e is =
     (ap (height_after (Again body)) (ap (λ (x : State). length x.stack) same ∙ size.stack) ∙ m.1)
 
 -- what is resumed ends as the flow does, and the heads are sound for the state behind the round
-pub resumed_flow : (g : Given) (body : Tree) (locked : Bool) (old new : List (Option State)) (s : State) → IsHighEnough (Again body) s → AreSound g body locked old s → AreLeft old new (resumed g body locked 0 (heads_in old) s).1 → ((resumed g body locked 0 (heads_in old) s).0 ≡ (flow g body locked s).next) × AreSound g body locked new (round_next s (flow g body locked s).next)
-resumed_flow g body locked old new s e sound left = let n = length s.stack in let m = some_of (height_after (Again body) n) e in let at = loop_heights body n m.0 m.1 in let o = (flow g body locked s).next in let exact = resumed-exact g body locked 0 n (heads_in old) s at.1 sound.0 in let here : IsSound g body locked 0 (heads_in new) s = subst (λ (h : Heads). IsSound g body locked 0 h s) (sym left.0) exact.1 in
-    let above = round-above (length s.vars) n s o (sized s) (λ t is. flow-sized g body locked (length s.vars) n n s t at.1 (sized s) is) in let long : length new ≡ length old = left.1 in let room : loops body ≤ length old = sound.1 in (exact.0, (sound-above g body locked 0 (heads_in new) s (round_next s o) above here, omega arith))
+pub resumed_flow : (g : Given) (body : Tree) (locked : Bool) (old new : List (Option State)) (s : State) →
+    IsHighEnough (Again body) s → AreSound g body locked old s →
+    AreLeft old new (resumed g body locked 0 (heads_in old) s).1 →
+    ((resumed g body locked 0 (heads_in old) s).0 ≡ (flow g body locked s).next)
+    × AreSound g body locked new (round_next s (flow g body locked s).next)
+resumed_flow g body locked old new s e sound left = let n = length s.stack in
+    let m = some_of (height_after (Again body) n) e in let at = loop_heights body n m.0 m.1 in
+    let o = (flow g body locked s).next in let exact =
+    resumed-exact g body locked 0 n (heads_in old) s at.1 sound.0 in
+    let here : IsSound g body locked 0 (heads_in new) s =
+    subst (λ (h : Heads). IsSound g body locked 0 h s) (sym left.0) exact.1 in
+    let above = round-above (length s.vars) n s o (sized s)
+    (λ t is. flow-sized g body locked (length s.vars) n n s t at.1 (sized s) is) in
+    let long : length new ≡ length old = left.1 in let room : loops body ≤ length old = sound.1 in
+    (exact.0, (sound-above g body locked 0 (heads_in new) s (round_next s o) above here, omega arith))
 
 all_none : (n i : ℕ) → heads_in (replicate n None) i ≡ None
 all_none zero i = refl
@@ -83,9 +112,11 @@ none_long : (n : ℕ) → length (replicate n (let o : Option State = None in o)
 none_long zero = refl
 none_long (suc n) = ap (λ k. suc k) (none_long n)
 
-pub first_heads : (g : Given) (body : Tree) (locked : Bool) (heads : List (Option State)) (s : State) → heads ≡ replicate (loops body) None → AreSound g body locked heads s
+pub first_heads : (g : Given) (body : Tree) (locked : Bool) (heads : List (Option State)) (s : State) →
+    heads ≡ replicate (loops body) None → AreSound g body locked heads s
 first_heads g body locked heads s e = (
-  subst (λ (h : Heads). IsSound g body locked 0 h s) (sym (ap heads_in e ∙ (λ j i. all_none (loops body) i j))) (sound-first g body locked 0 s),
+  subst (λ (h : Heads). IsSound g body locked 0 h s) (sym (ap heads_in e ∙ (λ j i. all_none (loops body) i j)))
+      (sound-first g body locked 0 s),
   (let long : length heads ≡ loops body = ap length e ∙ none_long (loops body) in omega arith),
 )
 
@@ -112,11 +143,14 @@ pub on_ok_then : {X E : Type 0} (r : Result X E) (P Q : Type 0) → OnOk r P →
 on_ok_then (Ok x) P Q p f = f p
 on_ok_then (Err e) P Q p f = tt
 
-pub one_more_none : (n : ℕ) → (replicate n (let o : Option State = None in o) ++ None ∷ []) ≡ replicate (n + 1) (let o : Option State = None in o)
-one_more_none n = more n ∙ ap (λ k. replicate k (let o : Option State = None in o)) (let e : suc n ≡ n + 1 = omega arith in e)
+pub one_more_none : (n : ℕ) → (replicate n (let o : Option State = None in o) ++ None ∷ []) ≡ replicate (n + 1)
+    (let o : Option State = None in o)
+one_more_none n = more n ∙ ap (λ k. replicate k (let o : Option State = None in o))
+    (let e : suc n ≡ n + 1 = omega arith in e)
   where
     more : (n : ℕ) →
-        (replicate n (let o : Option State = None in o) ++ None ∷ []) ≡ replicate (suc n) (let o : Option State = None in o)
+        (replicate n (let o : Option State = None in o) ++ None ∷ []) ≡ replicate (suc n)
+        (let o : Option State = None in o)
     more zero = refl
     more (suc n) = ap (λ xs. None ∷ xs) (more n)
 
@@ -130,7 +164,10 @@ both_true true false e = cc
 both_true false b e = cc
 
 -- of methods whose stacks are all enough, one that stands among them
-pub enough_at : (methods : List Method) (i : ℕ) (m : Method) → list_all is_stack_enough methods ≡ true → slice_get methods i ≡ Some m → is_stack_enough m ≡ true
+pub enough_at : (methods : List Method) (i : ℕ) (m : Method) → list_all is_stack_enough methods ≡ true →
+    slice_get methods i ≡ Some m → is_stack_enough m ≡ true
 enough_at [] i m all at = cc
-enough_at (x ∷ methods) zero m all at = let same : x ≡ m = cc in ap is_stack_enough (sym same) ∙ (both_true (is_stack_enough x) (list_all is_stack_enough methods) all).0
-enough_at (x ∷ methods) (suc i) m all at = enough_at methods i m (both_true (is_stack_enough x) (list_all is_stack_enough methods) all).1 at
+enough_at (x ∷ methods) zero m all at = let same : x ≡ m = cc in
+    ap is_stack_enough (sym same) ∙ (both_true (is_stack_enough x) (list_all is_stack_enough methods) all).0
+enough_at (x ∷ methods) (suc i) m all at =
+    enough_at methods i m (both_true (is_stack_enough x) (list_all is_stack_enough methods) all).1 at

@@ -104,7 +104,8 @@ module _ (xs ys : List Value) (i : ℕ) (x y : Value) (in_x : i < length xs) (in
       (before || changed_slots (drop i xs) (drop i ys))
   slot-changed before one is =
       ap (λ b. (before || b) || changed_slots (drop (i + 1) xs) (drop (i + 1) ys)) is
-      ∙ grouped before (changed_value (get_or xs i x) (get_or ys i y)) (changed_slots (drop (i + 1) xs) (drop (i + 1) ys))
+      ∙ grouped before (changed_value (get_or xs i x) (get_or ys i y))
+      (changed_slots (drop (i + 1) xs) (drop (i + 1) ys))
       ∙ sym (ap (λ b. before || b) slots-turn)
 
   -- the paths that are lost in a slot

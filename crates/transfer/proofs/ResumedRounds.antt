@@ -29,7 +29,8 @@ ended_round g body locked k s x end old new passed ends same m =
     (sym (ap (round_next s) none), sym (ap not (same-itself s)), at.1, at.2)
 
 -- one that goes on is joined with it
-pub joined_round : (g : Given) (body : Tree) (locked : Bool) (k : ℕ) (s x end here : State) (old new : List (Option State))
+pub joined_round : (g : Given) (body : Tree) (locked : Bool) (k : ℕ) (s x end here : State)
+    (old new : List (Option State))
     (passed : Passed) (changed : Bool) → passed.goes_on ≡ true → x ≡ s →
     IsResumed g body locked k x end old new (Ok passed) → here ≡ joined_state s end →
     changed ≡ not (same_state here s) → IsRound g body locked k s here old new (Ok (passed.next, changed))
@@ -44,7 +45,8 @@ flipped : (b c : Bool) → c ≡ not b → b ≡ not c
 flipped true c e = sym (ap not e)
 flipped false c e = sym (ap not e)
 
-one_more : (go : Go) (n : ℕ) (h : Heads) (x : State) (b : Bool) → same_state (round_next x (go h x).0) x ≡ b → iterated go (suc n) h x ≡ cond b (x, (go h x).1) (iterated go n (go h x).1 (round_next x (go h x).0))
+one_more : (go : Go) (n : ℕ) (h : Heads) (x : State) (b : Bool) → same_state (round_next x (go h x).0) x ≡ b →
+    iterated go (suc n) h x ≡ cond b (x, (go h x).1) (iterated go n (go h x).1 (round_next x (go h x).0))
 one_more go n h x b e = ap (λ c. cond c (x, (go h x).1) (iterated go n (go h x).1 (round_next x (go h x).0))) e
 
 settled_by : (go : Go) (h : Heads) (x here : State) (changed : Bool) → here ≡ round_next x (go h x).0 →
@@ -58,24 +60,44 @@ moved_by go h x here changed next test moved =
     ap (λ (y : State). same_state y x) (sym next) ∙ flipped (same_state here x) changed test ∙ ap not moved
 
 -- a round that changed something goes on
-pub round_goes_on : (go : Go) (n left : ℕ) (h later : Heads) (x here : State) (changed : Bool) → left ≡ suc n → here ≡ round_next x (go h x).0 → changed ≡ not (same_state here x) → later ≡ (go h x).1 → changed ≡ true → iterated go n later here ≡ iterated go left h x
-round_goes_on go n left h later x here changed e next test heads moved = let differs : same_state (round_next x (go h x).0) x ≡ false = ap (λ (y : State). same_state y x) (sym next) ∙ flipped (same_state here x) changed test ∙ ap not moved in (λ i. iterated go n (heads i) (next i)) ∙ sym (one_more go n h x false differs) ∙ ap (λ k. iterated go k h x) (sym e)
+pub round_goes_on : (go : Go) (n left : ℕ) (h later : Heads) (x here : State) (changed : Bool) → left ≡ suc n →
+    here ≡ round_next x (go h x).0 → changed ≡ not (same_state here x) → later ≡ (go h x).1 → changed ≡ true →
+    iterated go n later here ≡ iterated go left h x
+round_goes_on go n left h later x here changed e next test heads moved =
+    let differs : same_state (round_next x (go h x).0) x ≡ false =
+    ap (λ (y : State). same_state y x) (sym next) ∙ flipped (same_state here x) changed test ∙ ap not moved in
+    (λ i. iterated go n (heads i) (next i)) ∙ sym (one_more go n h x false differs)
+    ∙ ap (λ k. iterated go k h x) (sym e)
 
 -- one that changed nothing is the last
-pub round_ends : (go : Go) (n left : ℕ) (h later : Heads) (x here : State) (changed : Bool) → left ≡ suc n → here ≡ round_next x (go h x).0 → changed ≡ not (same_state here x) → later ≡ (go h x).1 → changed ≡ false → (here ≡ (iterated go left h x).0) × (later ≡ (iterated go left h x).1)
-round_ends go n left h later x here changed e next test heads unchanged = let alike : same_state here x ≡ true = flipped (same_state here x) changed test ∙ ap not unchanged in let alike_next : same_state (round_next x (go h x).0) x ≡ true = ap (λ (y : State). same_state y x) (sym next) ∙ alike in let all : iterated go left h x ≡ (x, (go h x).1) =
-    ap (λ k. iterated go k h x) e ∙ one_more go n h x true alike_next in (same_state-equal here x alike ∙ sym (ap (λ (p : State × Heads). p.0) all), heads ∙ sym (ap (λ (p : State × Heads). p.1) all))
+pub round_ends : (go : Go) (n left : ℕ) (h later : Heads) (x here : State) (changed : Bool) → left ≡ suc n →
+    here ≡ round_next x (go h x).0 → changed ≡ not (same_state here x) → later ≡ (go h x).1 → changed ≡ false →
+    (here ≡ (iterated go left h x).0) × (later ≡ (iterated go left h x).1)
+round_ends go n left h later x here changed e next test heads unchanged = let alike : same_state here x ≡ true =
+    flipped (same_state here x) changed test ∙ ap not unchanged in
+    let alike_next : same_state (round_next x (go h x).0) x ≡ true =
+    ap (λ (y : State). same_state y x) (sym next) ∙ alike in let all : iterated go left h x ≡ (x, (go h x).1) =
+    ap (λ k. iterated go k h x) e ∙ one_more go n h x true alike_next in (
+      same_state-equal here x alike ∙ sym (ap (λ (p : State × Heads). p.0) all),
+      heads
+          ∙ sym (ap (λ (p : State × Heads). p.1) all),
+    )
 
 -- ---- heads in a list
 apart : (i k : ℕ) → (i ≡ k → ⊥) → nat_eq i k ≡ false
-apart i k other = elim (nat_eq i k) as (λ b. nat_eq i k ≡ b → b ≡ false) [ true ↦ λ e. absurd (other (eqb-true i k e)) | false ↦ λ e. refl ] refl
+apart i k other = elim (nat_eq i k) as (λ b. nat_eq i k ≡ b → b ≡ false)
+    [ true ↦ λ e. absurd (other (eqb-true i k e)) | false ↦ λ e. refl ] refl
 
-set-head : (list : List (Option State)) (k i : ℕ) (x : State) → k < length list → heads_in (slice_set list k (Some x)) i ≡ put_head (heads_in list) k x i
+set-head : (list : List (Option State)) (k i : ℕ) (x : State) → k < length list →
+    heads_in (slice_set list k (Some x)) i ≡ put_head (heads_in list) k x i
 set-head [] k i x low = absurd (omega arith)
 set-head (h ∷ list) zero zero x low = refl
-set-head (h ∷ list) zero (suc i) x low = ap (λ b. cond b (Some x) (heads_in list i)) (sym (apart (suc i) 0 (λ e. absurd (let z : suc i ≡ 0 = e in omega arith))))
-set-head (h ∷ list) (suc k) zero x low = ap (λ b. cond b (Some x) h) (sym (apart 0 (suc k) (λ e. absurd (let z : 0 ≡ suc k = e in omega arith))))
-set-head (h ∷ list) (suc k) (suc i) x low = let l : suc k < suc (length list) = low in set-head list k i x (omega arith) ∙ ap (λ b. cond b (Some x) (heads_in list i)) (same_suc i k)
+set-head (h ∷ list) zero (suc i) x low = ap (λ b. cond b (Some x) (heads_in list i))
+    (sym (apart (suc i) 0 (λ e. absurd (let z : suc i ≡ 0 = e in omega arith))))
+set-head (h ∷ list) (suc k) zero x low = ap (λ b. cond b (Some x) h)
+    (sym (apart 0 (suc k) (λ e. absurd (let z : 0 ≡ suc k = e in omega arith))))
+set-head (h ∷ list) (suc k) (suc i) x low = let l : suc k < suc (length list) = low in
+    set-head list k i x (omega arith) ∙ ap (λ b. cond b (Some x) (heads_in list i)) (same_suc i k)
   where
     same_suc : (i k : ℕ) → nat_eq i k ≡ nat_eq (suc i) (suc k)
     same_suc i k = elim (nat_eq i k) as (λ b. nat_eq i k ≡ b → b ≡ nat_eq (suc i) (suc k)) [
@@ -90,7 +112,8 @@ set-head (h ∷ list) (suc k) (suc i) x low = let l : suc k < suc (length list) 
             let less : i ≡ k = omega arith in
             let yes : nat_eq i k ≡ true = eq-eqb i k less in cc)
 
-pub heads-set : (list : List (Option State)) (k : ℕ) (x : State) → k < length list → heads_in (slice_set list k (Some x)) ≡ put_head (heads_in list) k x
+pub heads-set : (list : List (Option State)) (k : ℕ) (x : State) → k < length list →
+    heads_in (slice_set list k (Some x)) ≡ put_head (heads_in list) k x
 heads-set list k x low = λ j i. set-head list k i x low j
 
 -- a loop whose first round changed nothing keeps the head that there is
@@ -114,7 +137,8 @@ loop_kept g body locked k next rounds s start here old now changed all begun m s
       ap Some (sym ends.0),
       (let count : loops (Again body) ≡ suc (loops body) = refl in omega arith),
       (
-        ends.1 ∙ sym (ap (λ (b : Bool). kept_head b (iterated go (left + 1) h x).1 k (iterated go (left + 1) h x).0) settled),
+        ends.1 ∙ sym (ap (λ (b : Bool). kept_head b (iterated go (left + 1) h x).1 k (iterated go (left + 1) h x).0)
+            settled),
         at.3.1,
       ),
     )
@@ -153,13 +177,15 @@ loop_left g body locked k next rounds s start first here old mid now new changed
       (let count : loops (Again body) ≡ suc (loops body) = refl in omega arith),
       (
         ap heads_in put ∙ heads-set now k here inside ∙ (λ i. put_head (heads i) k (end i))
-            ∙ sym (ap (λ (b : Bool). kept_head b (iterated go (left + 1) h x).1 k (iterated go (left + 1) h x).0) moves),
+            ∙ sym (ap (λ (b : Bool). kept_head b (iterated go (left + 1) h x).1 k (iterated go (left + 1) h x).0)
+            moves),
         ap length put ∙ length-set now k (Some here) ∙ long,
       ),
     )
 
 -- the element of an index that is in range does not depend on what stands for none
-pub any_default : (list : List (Option State)) (i : ℕ) (d e : Option State) → i < length list → slice_index_or list i d ≡ slice_index_or list i e
+pub any_default : (list : List (Option State)) (i : ℕ) (d e : Option State) → i < length list →
+    slice_index_or list i d ≡ slice_index_or list i e
 any_default [] i d e low = absurd (omega arith)
 any_default (h ∷ list) zero d e low = refl
 any_default (h ∷ list) (suc i) d e low = let l : suc i < suc (length list) = low in any_default list i d e (omega arith)

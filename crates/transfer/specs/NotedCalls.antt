@@ -52,7 +52,8 @@ values-themselves (x ∷ xs) = (λ i. same_value-itself x i && values-themselves
 
 pub equal_of_same_call : (a b : NotedCall) → same_call a b ≡ true → a ≡ b
 equal_of_same_call a b e =
-    let all = both (nat_eq a.callee.0 b.callee.0 && same_flag a.locked b.locked) (pointwise same_value a.actuals b.actuals)
+    let all = both (nat_eq a.callee.0 b.callee.0 && same_flag a.locked b.locked)
+    (pointwise same_value a.actuals b.actuals)
     e in
     let first = both (nat_eq a.callee.0 b.callee.0) (same_flag a.locked b.locked) all.0 in
     (λ i. record {

@@ -10,7 +10,9 @@ same_values-equal : (xs ys : List Value) → same_values xs ys ≡ true → xs �
 same_values-equal [] [] e = refl
 same_values-equal [] (y ∷ ys) e = cc
 same_values-equal (x ∷ xs) [] e = cc
-same_values-equal (x ∷ xs) (y ∷ ys) e = (λ i. equal_of_same_value x y (and_left (same_value x y) (same_values xs ys) e) i ∷ same_values-equal xs ys (and_right (same_value x y) (same_values xs ys) e) i)
+same_values-equal (x ∷ xs) (y ∷ ys) e = (λ i. equal_of_same_value x y
+    (and_left (same_value x y) (same_values xs ys) e) i ∷ same_values-equal xs ys
+    (and_right (same_value x y) (same_values xs ys) e) i)
   where
     and_left : (a b : Bool) → (a && b) ≡ true → a ≡ true
     and_left true b e = refl

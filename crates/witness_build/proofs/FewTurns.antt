@@ -51,13 +51,15 @@ pub few-way : (core : Core) (m : MethodId) (i : ℕ) → Few (way_of core m i)
 few-way core m i = few-along (trip_of core) (way_parts core m i) (few-method core)
 
 -- a way that is taken is short enough for a leg
-pub taken-short : (core : Core) (m : MethodId) (i : ℕ) (taken : WayTaken) → IsTaken (way_of core m i) taken → IsShort taken
+pub taken-short : (core : Core) (m : MethodId) (i : ℕ) (taken : WayTaken) → IsTaken (way_of core m i) taken →
+    IsShort taken
 taken-short core m i taken is =
     let few = few-way core m i in
     let turns = ap length is.turns in
     record { turns = omega (arith, few, turns, is.short); steps = omega (arith, is.steps, is.short) }
 
-pub both-short : (core : Core) (m n : MethodId) (i j : ℕ) (both : Both) → AreBoth (way_of core m i) (way_of core n j) both →
+pub both-short : (core : Core) (m n : MethodId) (i j : ℕ) (both : Both) →
+    AreBoth (way_of core m i) (way_of core n j) both →
     AreShort both
 both-short core m n i j (Taken x y) are = (taken-short core m i x are.0, taken-short core n j y are.1)
 both-short core m n i j (BothUnread place) are = tt

@@ -34,7 +34,8 @@ pub wobbly-found : (core : Core) (outcomes : List (Option Outcome)) (m : MethodI
 wobbly-found core outcomes m are =
     ap (λ (os : List (Option Outcome)). wobbly_held (outcome_among os m)) are ∙ ap wobbly_held (same-outcome core m)
 
-pub record-found : (core : Core) (outcomes : List (Option Outcome)) (m : MethodId) (i : ℕ) → outcomes ≡ outcomes_of core →
+pub record-found : (core : Core) (outcomes : List (Option Outcome)) (m : MethodId) (i : ℕ) →
+    outcomes ≡ outcomes_of core →
     record_among outcomes m i ≡ record_at core m i
 record-found core outcomes m i are =
     ap (λ (os : List (Option Outcome)). record_among os m i) are ∙ same-record core m i

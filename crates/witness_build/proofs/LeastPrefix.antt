@@ -77,7 +77,8 @@ none-found : (test : Path → Bool) (f : ℕ → Path) (from n : ℕ) →
     ((k : ℕ) → from ≤ k → k < from + n → test (f k) ≡ false) → find test (map f (counting from n)) ≡ None
 none-found test f from zero fails = refl
 none-found test f from (suc n) fails =
-    ap (λ b. cond b (Some (f from)) (find test (map f (counting (suc from) n)))) (fails from (omega arith) (omega arith))
+    ap (λ b. cond b (Some (f from)) (find test (map f (counting (suc from) n))))
+    (fails from (omega arith) (omega arith))
     ∙ none-found test f (suc from) n (λ k low high. fails k (omega arith) (omega arith))
 
 one-found : (test : Path → Bool) (f : ℕ → Path) (from n at : ℕ) → from ≤ at → at < from + n → test (f at) ≡ true →

@@ -39,7 +39,8 @@ entry-analysed p m method there entry =
     ap (λ o. elim o as (λ _. Bool) [ None ↦ false | Some x ↦ is_none x.status ]) there ∙ none
 
 are-right : (p : Program) (w : Warning) (objects : List StartPath) (legs : List Leg) →
-    Contains (warnings (core_of p)) w → warning_mark (core_of p) w ≡ Confirmed objects legs → AreRight (core_of p) w objects
+    Contains (warnings (core_of p)) w → warning_mark (core_of p) w ≡ Confirmed objects legs →
+    AreRight (core_of p) w objects
 are-right p w objects legs listed is =
     let core : Core = core_of p in
     let pair : IsPair core w = warning_is_pair core w listed in

@@ -48,13 +48,15 @@ none-unread a b x y =
 long-first : (a b : Trip) (steps : ℕ) → MAX_WAY_STEPS < a.steps → steps ≡ counted a.steps →
     first_long (a ∷ b ∷ []) ≡ Some steps
 long-first a b steps long count =
-    ap (λ l. long_or l a.steps (long_or (nat_lt MAX_WAY_STEPS b.steps) b.steps None)) (lt-ltb MAX_WAY_STEPS a.steps long)
+    ap (λ l. long_or l a.steps (long_or (nat_lt MAX_WAY_STEPS b.steps) b.steps None))
+    (lt-ltb MAX_WAY_STEPS a.steps long)
     ∙ ap (λ (n : ℕ). Some n) (sym count)
 
 long-second : (a b : Trip) (steps : ℕ) → a.steps ≤ MAX_WAY_STEPS → MAX_WAY_STEPS < b.steps →
     steps ≡ counted b.steps → first_long (a ∷ b ∷ []) ≡ Some steps
 long-second a b steps short long count =
-    ap (λ l. long_or l a.steps (long_or (nat_lt MAX_WAY_STEPS b.steps) b.steps None)) (le-ltb MAX_WAY_STEPS a.steps short)
+    ap (λ l. long_or l a.steps (long_or (nat_lt MAX_WAY_STEPS b.steps) b.steps None))
+    (le-ltb MAX_WAY_STEPS a.steps short)
     ∙ ap (λ l. long_or l b.steps None) (lt-ltb MAX_WAY_STEPS b.steps long)
     ∙ ap (λ (n : ℕ). Some n) (sym count)
 

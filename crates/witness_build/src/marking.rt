@@ -1,17 +1,17 @@
 //! The mark of a warning.
-ghost use Rattle.std.specs.Prelude.{◌≡◌, ◌+◌, ◌<◌, ◌∷◌, [], IfOk, OnOk, option_map, unwrap_or};
+ghost use Rattle.std.specs.Prelude.{◌≡◌, ◌+◌, ◌<◌, ◌∷◌, [], IfOk, OnOk, option_map};
 ghost use Rattle.std.specs.List.{Contains};
 ghost use Rattle.core_code.specs.Program.{core};
 ghost use Rattle.access_domain.specs.Outcomes.{AreOutcomes};
 ghost use Rattle.core_semantics.specs.declared.object.Start.TheVariants.{All};
-ghost use Rattle.core_semantics.specs.Runs.{begun, place};
+ghost use Rattle.core_semantics.specs.Runs.{begun};
 ghost use Rattle.core_semantics.specs.View.{state_of};
-ghost use Rattle.core_ways.specs.Marks.{Blocked, is_locked, leg_of, mark_by_calls, mark_by_run, said_by};
+ghost use Rattle.core_ways.specs.Marks.{blocked_at, is_locked, leg_of, mark_by_calls, mark_by_run, said_by};
 ghost use Rattle.core_ways.specs.Ways.{Trip, way_of};
 ghost use Rattle.core_ways.specs.Both.{AreBoth, AreShort, IsShort, said_of};
-ghost use Rattle.core_ways.specs.Ends.{nowhere};
 ghost use Rattle.witness_build_apart.specs.RunLegs.{IsSaid};
 ghost use Rattle.witness_build_walks.specs.Told.{AreWalks};
+ghost use Rattle.core_ways_sites.specs.Known.{IsKnown};
 ghost use Rattle.race_pairs.specs.Warnings.{warnings};
 ghost use Rattle.witness_build_laws.specs.Warned.{pair_of, warning_mark};
 ghost use Rattle.witness_build.specs.Replayed.{AreRight, DoRace, IfConfirmed};
@@ -20,24 +20,21 @@ use crate::prefixes::unstable_prefix;
 use access_domain::Outcomes;
 use core_code::Program;
 use core_semantics::{Machine, Start, begin};
-use core_ways::{
-    Both, Leg, Mark, Objects, Target, WayTaken, Witness, let_go, record_of, run_leg, ways,
-};
+use core_ways::{Both, Leg, Mark, Objects, Target, WayTaken, Witness, let_go, record_of, run_leg};
+use core_ways_sites::{SiteWays, let_go as let_ways_go};
 use race_pairs::Warning;
-use racer_base::{FileId, Items, Memory, Place};
+use racer_base::{Items, Memory, Place};
 use std::alloc::Global;
 use witness_build_walks::{Walked, Walks, let_go as let_walks_go};
 
-/// A thread that cannot make its leg, and where it is then.
-fn blocked(machine: &Machine, thread: u32) -> Mark
-    ensures { said_by result ≡ Blocked thread (unwrap_or (place (state_of machine.now) thread) nowhere) }
+/// A thread that cannot make its leg, and where it is then. A leg along a way stops at a place.
+fn blocked(thread: u32, place: Option<Place>) -> Mark
+    ensures { said_by result ≡ blocked_at thread place }
 {
-    let nowhere = Place {
-        file: FileId(0),
-        line: 0,
-        column: 0,
-    };
-    Mark::Blocked(thread, machine.place(thread).unwrap_or(nowhere))
+    match place {
+        Some(at) => Mark::Blocked(thread, at),
+        None => Mark::Unnamed,
+    }
 }
 
 /// A way as the leg of a thread.
@@ -68,10 +65,10 @@ fn mark_of_stopped<'a>(
         (state_of machine.old) objects.new (option_map said_by stopped)) }
 {
     if !run_leg(program, machine, objects, first)? {
-        return Ok(Some(blocked(machine, first.thread)));
+        return Ok(Some(blocked(first.thread, machine.place(first.thread))));
     }
     if !run_leg(program, machine, objects, second)? {
-        return Ok(Some(blocked(machine, second.thread)));
+        return Ok(Some(blocked(second.thread, machine.place(second.thread))));
     }
     Ok(None)
 }
@@ -122,7 +119,7 @@ fn mark_of_stopped_walk<'a>(
         first,
         second,
     )? {
-        Walked::Stopped(thread, place) => Ok(Some(Mark::Blocked(thread, place))),
+        Walked::Stopped(thread, place) => Ok(Some(blocked(thread, place))),
         Walked::Past => Ok(None),
         Walked::Unknown => mark_of_stopped_run(alloc, program, warning, objects, first, second),
     }
@@ -204,13 +201,16 @@ fn mark_by_ways<'a>(
     alloc: Global,
     program: &'a Program,
     outcomes: &Outcomes,
+    known: &mut SiteWays,
     walks: &mut Walks<'a>,
     warning: &Warning,
     locked: bool,
 ) -> Result<Mark, Memory>
     requires outcomes { AreOutcomes (core program.now) outcomes.now.items }
+    requires known { IsKnown (core program.now) known.old }
     requires walks { AreWalks (core program.now) walks.old }
     requires locked { is_locked (core program.now) warning.now.entry warning.now.access ≡ locked }
+    ensures known { OnOk result (IsKnown (core program.now) known.new) }
     ensures walks { OnOk result (AreWalks (core program.now) walks.new) }
     ensures mark { IfOk result (λ mark. said_by mark ≡ mark_by_calls (core program.now) (pair_of warning.now)) }
 {
@@ -223,10 +223,10 @@ fn mark_by_ways<'a>(
         access: warning.partner_access,
     };
     if locked {
-        let both = ways(alloc, program, outcomes, partner, entry)?;
+        let both = known.ways(program, outcomes, partner, entry)?;
         mark_along(alloc, program, walks, warning, 1, 0, both)
     } else {
-        let both = ways(alloc, program, outcomes, entry, partner)?;
+        let both = known.ways(program, outcomes, entry, partner)?;
         mark_along(alloc, program, walks, warning, 0, 1, both)
     }
 }
@@ -247,22 +247,27 @@ pub fn mark(
     ensures race { Contains (warnings (core program.now)) warning.now → IfOk result (λ mark.
         IfConfirmed (DoRace (core program.now) warning.now) (said_by mark)) }
 {
+    let mut known = SiteWays::new(alloc);
     let mut walks = Walks::new(alloc);
-    let mark = mark_from(alloc, program, outcomes, &mut walks, warning);
+    let mark = mark_from(alloc, program, outcomes, &mut known, &mut walks, warning);
     let_walks_go(walks);
+    let_ways_go(known);
     mark
 }
 
-/// The same, with walks that go on from one warning to the next.
+/// The same, with what is known of ways and walks that go on from one warning to the next.
 pub(crate) fn mark_from<'a>(
     alloc: Global,
     program: &'a Program,
     outcomes: &Outcomes,
+    known: &mut SiteWays,
     walks: &mut Walks<'a>,
     warning: &Warning,
 ) -> Result<Mark, Memory>
     requires outcomes { AreOutcomes (core program.now) outcomes.now.items }
+    requires known { IsKnown (core program.now) known.old }
     requires walks { AreWalks (core program.now) walks.old }
+    ensures known { OnOk result (IsKnown (core program.now) known.new) }
     ensures walks { OnOk result (AreWalks (core program.now) walks.new) }
     ensures mark { IfOk result (λ mark. said_by mark ≡ warning_mark (core program.now) warning.now) }
 {
@@ -284,5 +289,13 @@ pub(crate) fn mark_from<'a>(
     if let Some(prefix) = prefix {
         return Ok(Mark::Unstable(prefix));
     }
-    mark_by_ways(alloc, program, outcomes, walks, warning, record.locked)
+    mark_by_ways(
+        alloc,
+        program,
+        outcomes,
+        known,
+        walks,
+        warning,
+        record.locked,
+    )
 }

@@ -1,9 +1,8 @@
 //! The shortest prefix of a path that may name another object later.
-ghost use Rattle.std.specs.Prelude.{◌≡◌, ◌≤◌, Some as SomeOf, IfOk, length};
+ghost use Rattle.std.specs.Prelude.{◌≡◌, Some as SomeOf, IfOk, length};
 ghost use Rattle.std.specs.Option.{option_copied};
 ghost use Rattle.core_code.specs.Program.{core};
 ghost use Rattle.access_domain.specs.Outcomes.{AreOutcomes};
-ghost use Rattle.racer_base.specs.declared.limits.TheConstants.{MAX_PATH_FIELDS};
 ghost use Rattle.access_paths.specs.Paths.{front};
 ghost use Rattle.core_ways.specs.Stable.{unstable_prefix};
 ghost use Rattle.witness_build.specs.Found.{IsLeast, holds_front, least};
@@ -12,12 +11,12 @@ use access_domain::Outcomes;
 use access_paths::Path;
 use core_code::Program;
 use core_ways::wobbly_of;
-use racer_base::{Items, MAX_PATH_FIELDS, Memory, MethodId};
+use racer_base::{Items, Memory, MethodId};
 use std::alloc::Global;
 use wobbly_paths::Wobbly;
 
 /// The smaller of two numbers, of those that there are.
-fn least(a: Option<u32>, b: Option<u32>) -> Option<u32>
+fn least(a: Option<usize>, b: Option<usize>) -> Option<usize>
     ensures { result ≡ least a b }
 {
     match a {
@@ -30,11 +29,11 @@ fn least(a: Option<u32>, b: Option<u32>) -> Option<u32>
 }
 
 /// The path of the first so many fields.
-fn front(alloc: Global, path: &Path, fields: u32) -> Result<Path, Memory>
+fn front(alloc: Global, path: &Path, fields: usize) -> Result<Path, Memory>
     ensures { IfOk result (λ made. made ≡ front fields path.now) }
 {
     let all = path.fields.as_slice();
-    let count = (fields as usize).min(all.len());
+    let count = fields.min(all.len());
     Ok(Path {
         root: path.root,
         fields: Items::from(Vec::from_slice(alloc, &all[..count])?),
@@ -42,22 +41,20 @@ fn front(alloc: Global, path: &Path, fields: u32) -> Result<Path, Memory>
 }
 
 /// How many fields the shortest proper prefix of a path has that is in a set.
-fn prefix_among(alloc: Global, wobbly: &Wobbly, path: &Path) -> Result<Option<u32>, Memory>
-    requires { length path.now.fields ≤ MAX_PATH_FIELDS }
+fn prefix_among(alloc: Global, wobbly: &Wobbly, path: &Path) -> Result<Option<usize>, Memory>
     ensures { IfOk result (λ least. IsLeast (holds_front (SomeOf wobbly.now) path.now) (length path.now.fields) least) }
 {
     for fields in 0..path.fields.len() {
-        let prefix = front(alloc, path, fields as u32)?;
+        let prefix = front(alloc, path, fields)?;
         if wobbly.has(&prefix) {
-            return Ok(Some(fields as u32));
+            return Ok(Some(fields));
         }
     }
     Ok(None)
 }
 
 /// The same, where there is a set.
-fn prefix_in(alloc: Global, wobbly: Option<&Wobbly>, path: &Path) -> Result<Option<u32>, Memory>
-    requires { length path.now.fields ≤ MAX_PATH_FIELDS }
+fn prefix_in(alloc: Global, wobbly: Option<&Wobbly>, path: &Path) -> Result<Option<usize>, Memory>
     ensures { IfOk result (λ least. IsLeast (holds_front (option_copied wobbly.entry) path.now)
         (length path.now.fields) least) }
 {
@@ -67,8 +64,7 @@ fn prefix_in(alloc: Global, wobbly: Option<&Wobbly>, path: &Path) -> Result<Opti
     prefix_among(alloc, wobbly, path)
 }
 
-/// The shortest proper prefix of a path that is wobbly in one of two methods. No path of a record has more fields than
-/// a path may have.
+/// The shortest proper prefix of a path that is wobbly in one of two methods.
 pub(crate) fn unstable_prefix(
     alloc: Global,
     program: &Program,
@@ -80,9 +76,6 @@ pub(crate) fn unstable_prefix(
     requires { AreOutcomes (core program.now) outcomes.now.items }
     ensures { IfOk result (λ prefix. prefix ≡ unstable_prefix (core program.now) m1 m2 path.now) }
 {
-    if path.fields.len() > MAX_PATH_FIELDS {
-        return Err(Memory);
-    }
     let first = prefix_in(alloc, wobbly_of(outcomes, m1), path)?;
     let second = prefix_in(alloc, wobbly_of(outcomes, m2), path)?;
     match least(first, second) {

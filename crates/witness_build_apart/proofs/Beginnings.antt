@@ -34,7 +34,8 @@ same-touch t a b e = ap (λ (x : Thread). option_and_then frame_touch (slice_get
 
 module _ (core : Core) (t : ℕ) where
   goes-behind : (rest : List Turn → State → Option Going) (m n : Option Going) →
-      ((ts : List Turn) (x y : State) → AreAlike core nothing t x y → GoingAlike core nothing t (rest ts x) (rest ts y)) →
+      ((ts : List Turn) (x y : State) → AreAlike core nothing t x y →
+      GoingAlike core nothing t (rest ts x) (rest ts y)) →
       GoingAlike core nothing t m n → GoingAlike core nothing t (goes_behind rest m) (goes_behind rest n)
   goes-behind rest None None then_on going = tt
   goes-behind rest (Some (x, ts)) (Some (y, us)) then_on going =

@@ -40,7 +40,8 @@ store-now s t a =
       | false ↦ refl
     ]
 
-pub other-now : (s : State) (t : ℕ) (a : After) → (other_of (with_thread s t a.store a.thread) t).locks ≡ (other_of s t).locks
+pub other-now : (s : State) (t : ℕ) (a : After) →
+    (other_of (with_thread s t a.store a.thread) t).locks ≡ (other_of s t).locks
 other-now s t a =
     elim (nat_eq t 0) as (λ b.
     (let x : State = cond b
@@ -200,7 +201,8 @@ legs-end-alike core but t (suc n) turns a b alike avoided =
     (one_step core t turns b) alike (legs-end-alike core but t n)
     (one-alike core but t turns a b alike avoided.0) avoided.1
 
-pub legs-read-alike : (core : Core) (but : Spots) (t n : ℕ) (turns : List Turn) (a b : State) → AreAlike core but t a b →
+pub legs-read-alike : (core : Core) (but : Spots) (t n : ℕ) (turns : List Turn) (a b : State) →
+    AreAlike core but t a b →
     DoesAvoid core but t n turns a → leg_reads core t n turns a ≡ leg_reads core t n turns b
 legs-read-alike core but t zero turns a b alike avoided = refl
 legs-read-alike core but t (suc n) turns a b alike avoided =

@@ -10,3 +10,4 @@ pub mod SaidByRun
 pub mod Marks
 pub mod Starts
 pub mod Walked
+pub mod Behind

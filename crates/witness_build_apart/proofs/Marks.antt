@@ -1,5 +1,5 @@
 -- What is said of two legs of which the second does not see the first.
-use Rattle.std.proofs.Common.{◌≡◌, ℕ, zero, suc, ◌+◌, Bool, List, [], ◌∷◌, Option, Some, unwrap_or}
+use Rattle.std.proofs.Common.{◌≡◌, ℕ, zero, suc, ◌+◌, Bool, List, [], ◌∷◌, Option, Some}
 use Rattle.std.proofs.Common.{refl, sym, ap, ◌∙◌, arith, slice_get}
 use Rattle.std.specs.List.{list_any}
 use Rattle.std.specs.Option.{option_and_then}
@@ -12,9 +12,9 @@ use Rattle.core_semantics.specs.declared.object.StartPath.{StartPath}
 use Rattle.core_semantics.specs.Legs.{Leg}
 use Rattle.core_semantics.specs.Runs.{next_of, place, place_of}
 use Rattle.core_semantics.specs.State.{State, Thread, other_of, thread_of}
-use Rattle.core_ways.specs.Ends.{Ended, Past, Stopped, end_behind, leg_end, leg_reads, nowhere, one_step}
+use Rattle.core_ways.specs.Ends.{Ended, Past, Stopped, end_behind, leg_end, leg_reads, one_step}
 use Rattle.core_ways.specs.Gathered.{gathered}
-use Rattle.core_ways.specs.Marks.{Blocked, Confirmed, mark_by_run}
+use Rattle.core_ways.specs.Marks.{Confirmed, blocked_at, mark_by_run}
 use Rattle.witness_build_apart.proofs.SaidByRun.{said-both, said-second}
 use Rattle.witness_build_apart.specs.Apart.{AreAlike, AreEndsAlike, DoesAvoid}
 use Rattle.witness_build_apart.specs.Goes.{leg_goes}
@@ -31,15 +31,15 @@ goes-past core t (suc n) turns s to left e =
     let f = first-of core t n turns s to left (one_step core t turns s) refl e in
     ap (end_behind s (leg_end core t n)) f.made ∙ goes-past core t n f.rest f.next to left f.goes
 
-other-is : (t u : ℕ) (s : State) → t + u ≡ 1 → other_of s t ≡ thread_of s u
+pub other-is : (t u : ℕ) (s : State) → t + u ≡ 1 → other_of s t ≡ thread_of s u
 other-is zero u s e = let one : u ≡ 1 = omega (arith, e) in ap (thread_of s) (sym one)
 other-is (suc t) u s e =
     let one : suc t ≡ 1 = omega (arith, e) in
     let none : u ≡ 0 = omega (arith, e) in
     ap (other_of s) one ∙ ap (thread_of s) (sym none)
 
-turned : (t u : ℕ) → t + u ≡ 1 → u + t ≡ 1
-turned t u e = omega arith
+pub turned-round : (t u : ℕ) → t + u ≡ 1 → u + t ≡ 1
+turned-round t u e = omega arith
 
 abbrev among : List Spot → Object → FieldId → Bool
 among spots o f = list_any (is_spot o f) spots
@@ -50,7 +50,7 @@ seen-alike : (core : Core) (f g : Leg) (s to : State) (left : List Turn) (spots 
     leg_stores core f.thread f.steps f.turns s ≡ Some spots → AreAlike core (among spots) g.thread s to
 seen-alike core f g s to left spots threads free still plain goes stores =
     let stored = legs-store core f.thread f.steps f.turns s to left spots plain goes stores in
-    let back = turned f.thread g.thread threads in
+    let back = turned-round f.thread g.thread threads in
     record {
       thread =
           sym (other-is f.thread g.thread s threads)
@@ -88,7 +88,8 @@ alone_end core g s = leg_end core g.thread g.steps g.turns s
 abbrev alone_reads : Core → Leg → State → List StartPath
 alone_reads core g s = leg_reads core g.thread g.steps g.turns s
 
-pub apart-confirmed : (core : Core) (f g : Leg) (s to end : State) (left : List Turn) (spots : List Spot) → f.thread + g.thread ≡ 1 →
+pub apart-confirmed : (core : Core) (f g : Leg) (s to end : State) (left : List Turn) (spots : List Spot) →
+    f.thread + g.thread ≡ 1 →
     (thread_of s f.thread).locks ≡ [] → (thread_of to f.thread).locks ≡ [] → ArePlain core s.store →
     leg_goes core f.thread f.steps f.turns s ≡ Some (to, left) →
     leg_stores core f.thread f.steps f.turns s ≡ Some spots →
@@ -103,15 +104,16 @@ apart-confirmed core f g s to end left spots threads free still plain goes store
     (legs-read-alike core (among spots) g.thread g.steps g.turns s to alike avoids)
     ∙ said-both core f g s to last.0 (goes-past core f.thread f.steps f.turns s to left goes) last.1
 
-pub apart-blocked : (core : Core) (f g : Leg) (s to at : State) (left : List Turn) (spots : List Spot) → f.thread + g.thread ≡ 1 →
+pub apart-blocked : (core : Core) (f g : Leg) (s to at : State) (left : List Turn) (spots : List Spot) →
+    f.thread + g.thread ≡ 1 →
     (thread_of s f.thread).locks ≡ [] → (thread_of to f.thread).locks ≡ [] → ArePlain core s.store →
     leg_goes core f.thread f.steps f.turns s ≡ Some (to, left) →
     leg_stores core f.thread f.steps f.turns s ≡ Some spots →
     DoesAvoid core (λ o x. list_any (is_spot o x) spots) g.thread g.steps g.turns s → alone_end core g s ≡ Stopped at →
-    Blocked g.thread (unwrap_or (place at g.thread) nowhere) ≡ mark_by_run core (f ∷ g ∷ []) s
+    blocked_at g.thread (place at g.thread) ≡ mark_by_run core (f ∷ g ∷ []) s
 apart-blocked core f g s to at left spots threads free still plain goes stores avoids ends =
     let alike = seen-alike core f g s to left spots threads free still plain goes stores in
     let last = stops-alike core (among spots) g.thread at (alone_end core g s) (alone_end core g to)
     (legs-end-alike core (among spots) g.thread g.steps g.turns s to alike avoids) ends in
-    ap (λ (p : Option Place). Blocked g.thread (unwrap_or p nowhere)) last.2
+    ap (λ (p : Option Place). blocked_at g.thread p) last.2
     ∙ said-second core f g s to last.0 (goes-past core f.thread f.steps f.turns s to left goes) last.1

@@ -21,7 +21,8 @@ longer more None = None
 longer more (Some (s, turns)) = Some (s, turns ++ more)
 
 -- equal places have equal parts
-pub both : (s to : State) (ts us : List Turn) → ◌≡◌ {A = Option Going} (Some (s, ts)) (Some (to, us)) → (s ≡ to) × (ts ≡ us)
+pub both : (s to : State) (ts us : List Turn) → ◌≡◌ {A = Option Going} (Some (s, ts)) (Some (to, us)) → (s ≡ to)
+    × (ts ≡ us)
 both s to ts us e =
     let pair : ◌≡◌ {A = Going} (s, ts) (to, us) = cc in
     (ap (λ (g : Going). g.0) pair, ap (λ (g : Going). g.1) pair)

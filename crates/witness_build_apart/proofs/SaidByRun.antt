@@ -1,6 +1,6 @@
 -- What is said where both legs are run.
 use Rattle.std.proofs.Common.{◌≡◌, ℕ, ◌*◌, ◌≤◌, Bool, true, false, List, [], ◌∷◌, ◌++◌, sym, ap, subst, ◌∙◌}
-use Rattle.std.proofs.Common.{Option, None, Some, unwrap_or, length, arith}
+use Rattle.std.proofs.Common.{Option, None, Some, length, arith}
 use Rattle.racer_base.specs.declared.limits.TheConstants.{MAX_WAY_STEPS}
 use Rattle.std.proofs.lemmas.List.{append-nil}
 use Rattle.racer_base.specs.declared.ids.Place.{Place}
@@ -12,8 +12,8 @@ use Rattle.core_semantics.specs.Legs.{Leg, Ran, Came, Broke, runs}
 use Rattle.core_semantics.specs.Objects.{same_start_path}
 use Rattle.core_semantics.specs.Runs.{place}
 use Rattle.core_semantics.specs.State.{State}
-use Rattle.core_ways.specs.Marks.{Said, Blocked, Confirmed, first_halt, mark_by_run, objects_of, reads_of_legs}
-use Rattle.core_ways.specs.Ends.{EndsIn, Ended, Past, Stopped, ended, leg_end, leg_reads, nowhere}
+use Rattle.core_ways.specs.Marks.{Said, Confirmed, blocked_at, first_halt, mark_by_run, objects_of, reads_of_legs}
+use Rattle.core_ways.specs.Ends.{EndsIn, Ended, Past, Stopped, ended, leg_end, leg_reads}
 use Rattle.core_ways.specs.Gathered.{gathered}
 use Rattle.core_ways.proofs.Gathering.{gathered-append, gathered-count, gathered-firsts}
 use Rattle.witness_build_apart.proofs.LegEnds.{leg-count, run-ends, run-reads}
@@ -71,19 +71,19 @@ abbrev said_where : Core → List Leg → State → Option (ℕ × Option Place)
 said_where core legs s o =
     elim o [
       | None ↦ Confirmed (objects_of core legs s) legs
-      | Some halted ↦ Blocked halted.0 (unwrap_or halted.1 nowhere)
+      | Some halted ↦ blocked_at halted.0 halted.1
     ]
 
 -- the first leg cannot be made
 pub said-first : (core : Core) (f g : Leg) (s at : State) → end_of core f s ≡ Stopped at →
-    Blocked f.thread (unwrap_or (place at f.thread) nowhere) ≡ mark_by_run core (f ∷ g ∷ []) s
+    blocked_at f.thread (place at f.thread) ≡ mark_by_run core (f ∷ g ∷ []) s
 said-first core f g s at e =
     sym (ap (said_where core (f ∷ g ∷ []) s) (first-stopped core f (g ∷ []) s at e))
 
 -- the second leg cannot be made
 pub said-second : (core : Core) (f g : Leg) (s to at : State) → end_of core f s ≡ Past to →
     end_of core g to ≡ Stopped at →
-    Blocked g.thread (unwrap_or (place at g.thread) nowhere) ≡ mark_by_run core (f ∷ g ∷ []) s
+    blocked_at g.thread (place at g.thread) ≡ mark_by_run core (f ∷ g ∷ []) s
 said-second core f g s to at p e =
     sym (ap (said_where core (f ∷ g ∷ []) s)
     (first-past core f (g ∷ []) s to p ∙ first-stopped core g [] to at e))

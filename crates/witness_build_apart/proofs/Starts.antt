@@ -44,14 +44,14 @@ begun-free core m1 m2 t =
       | false ↦ no-locks core 1 m2
     ]
 
-other-free : (core : Core) (m1 m2 : MethodId) (t : ℕ) → (other_of (begun core m1 m2 All) t).locks ≡ []
+pub other-free : (core : Core) (m1 m2 : MethodId) (t : ℕ) → (other_of (begun core m1 m2 All) t).locks ≡ []
 other-free core m1 m2 t =
     elim (nat_eq t 0) as (λ b. (cond b (thread_at core 1 m2) (thread_at core 0 m1)).locks ≡ []) [
       | true ↦ no-locks core 1 m2
       | false ↦ no-locks core 0 m1
     ]
 
-same-thread : (core : Core) (t : ℕ) (m m1 m2 : MethodId) → m ≡ entry_of t m1 m2 →
+pub same-thread : (core : Core) (t : ℕ) (m m1 m2 : MethodId) → m ≡ entry_of t m1 m2 →
     thread_of (begun core m m All) t ≡ thread_of (begun core m1 m2 All) t
 same-thread core t m m1 m2 =
     elim (nat_eq t 0) as (λ b. m ≡ cond b m1 m2 →

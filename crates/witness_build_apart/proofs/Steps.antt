@@ -48,8 +48,10 @@ written-alike core but a b o f v alike =
       heap = alike.heap;
       reads = λ p g outside.
           elim (same_object o p && same_field f g) as (λ c.
-          (elim (cond c (Some v) (a.cells p g)) as (λ _. Value) [ None ↦ unstored a.heap (kind_of core g) p g | Some w ↦ w ])
-          ≡ (elim (cond c (Some v) (b.cells p g)) as (λ _. Value) [ None ↦ unstored b.heap (kind_of core g) p g | Some w ↦ w ])) [
+          (elim (cond c (Some v) (a.cells p g)) as (λ _. Value)
+          [ None ↦ unstored a.heap (kind_of core g) p g | Some w ↦ w ])
+          ≡ (elim (cond c (Some v) (b.cells p g)) as (λ _. Value)
+          [ None ↦ unstored b.heap (kind_of core g) p g | Some w ↦ w ])) [
             | true ↦ refl
             | false ↦ alike.reads p g outside
           ];
@@ -161,7 +163,8 @@ base-entered core but a b f callers locks method n (Err why) alike = refl
 
 method-called : (core : Core) (but : Spots) (a b : Store) (f : Frame) (callers : List Frame) (locks : List Holder)
     (method : Method) (n : ℕ) → ReadAlike core but a b →
-    AfterAlike core but (called_method (spot a f callers locks) method n) (called_method (spot b f callers locks) method n)
+    AfterAlike core but (called_method (spot a f callers locks) method n)
+    (called_method (spot b f callers locks) method n)
 method-called core but a b f callers locks method n alike =
     elim method.is_static as (λ c. AfterAlike core but
     (cond c (entering (spot a f callers locks) method n)
@@ -178,8 +181,16 @@ called-alike : (core : Core) (but : Spots) (a b : Store) (f : Frame) (callers : 
     AfterAlike core but (called core (spot a f callers locks) m n) (called core (spot b f callers locks) m n)
 called-alike core but a b f callers locks m n alike =
     elim (method_at core m) as (λ found. AfterAlike core but
-    (elim found as (λ _. Next After) [ None ↦ Sticks UnreadWhy | Some method ↦ called_method (spot a f callers locks) method n ])
-    (elim found as (λ _. Next After) [ None ↦ Sticks UnreadWhy | Some method ↦ called_method (spot b f callers locks) method n ])) [
+    (elim found as (λ _. Next After) [
+      | None ↦ Sticks UnreadWhy
+      | Some method ↦
+          called_method (spot a f callers locks) method n
+    ])
+    (elim found as (λ _. Next After) [
+      | None ↦ Sticks UnreadWhy
+      | Some method ↦
+          called_method (spot b f callers locks) method n
+    ])) [
       | None ↦ refl
       | Some method ↦ method-called core but a b f callers locks method n alike
     ]
@@ -204,11 +215,14 @@ with_steps f todo = record f { todo = todo }
 
 operated-alike : (core : Core) (but : Spots) (a b : Store) (f : Frame) (callers : List Frame) (locks : List Holder)
     (rest : List Todo) (op : CoreOp) → ReadAlike core but a b → is_avoided but (op_touch f op) ≡ true →
-    AfterAlike core but (operated core (spot a f callers locks) rest op) (operated core (spot b f callers locks) rest op)
+    AfterAlike core but (operated core (spot a f callers locks) rest op)
+    (operated core (spot b f callers locks) rest op)
 operated-alike core but a b f callers locks rest op alike avoided =
     elim (is_return op && nat_lt 0 f.locked) as (λ c. AfterAlike core but
-    (cond c (Goes (after (unlocked (spot a f callers locks)))) (op_step core (spot a (with_steps f rest) callers locks) op))
-    (cond c (Goes (after (unlocked (spot b f callers locks)))) (op_step core (spot b (with_steps f rest) callers locks) op))) [
+    (cond c (Goes (after (unlocked (spot a f callers locks))))
+    (op_step core (spot a (with_steps f rest) callers locks) op))
+    (cond c (Goes (after (unlocked (spot b f callers locks))))
+    (op_step core (spot b (with_steps f rest) callers locks) op))) [
       | true ↦ (refl, alike)
       | false ↦ op-alike core but a b (with_steps f rest) callers locks op alike (moved op avoided)
     ]
@@ -221,7 +235,8 @@ operated-alike core but a b f callers locks rest op alike avoided =
 
 lock-alike : (core : Core) (but : Spots) (a b : Store) (f : Frame) (callers : List Frame) (locks others : List Holder)
     (body : Tree) (r : Result Holder Why) → ReadAlike core but a b →
-    AfterAlike core but (lock_with others (spot a f callers locks) body r) (lock_with others (spot b f callers locks) body r)
+    AfterAlike core but (lock_with others (spot a f callers locks) body r)
+    (lock_with others (spot b f callers locks) body r)
 lock-alike core but a b f callers locks others body (Err why) alike = refl
 lock-alike core but a b f callers locks others body (Ok monitor) alike =
     elim (list_any (λ held. same_monitor held monitor) others) as (λ c. AfterAlike core but

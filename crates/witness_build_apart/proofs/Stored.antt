@@ -77,7 +77,8 @@ plain-value Opaque e = absurd cc
 plain-value Null e = absurd cc
 plain-value (Ref o) e = absurd cc
 
-pub kind-same : (core : Core) (f g : FieldId) (b : Bool) → (b && same_field f g) ≡ true → kind_of core f ≡ kind_of core g
+pub kind-same : (core : Core) (f g : FieldId) (b : Bool) → (b && same_field f g) ≡ true →
+    kind_of core f ≡ kind_of core g
 kind-same core f g b e =
     let numbers : f.0 ≡ g.0 = eqb-true f.0 g.0 (last_part b (same_field f g) e) in
     ap (λ (n : ℕ). let h : FieldId = record { 0 = n } in kind_of core h) numbers
@@ -205,7 +206,11 @@ called-changed : (core : Core) (a : Store) (f : Frame) (callers : List Frame) (l
     (n : ℕ) → ArePlain core a → AfterChanged core a Quiet (called core (spot a f callers locks) m n)
 called-changed core a f callers locks m n plain =
     elim (method_at core m) as (λ found. AfterChanged core a Quiet
-    (elim found as (λ _. Next After) [ None ↦ Sticks UnreadWhy | Some method ↦ called_method (spot a f callers locks) method n ])) [
+    (elim found as (λ _. Next After) [
+      | None ↦ Sticks UnreadWhy
+      | Some method ↦
+          called_method (spot a f callers locks) method n
+    ])) [
       | None ↦ tt
       | Some method ↦ method-changed core a f callers locks method n plain
     ]
@@ -231,7 +236,8 @@ operated-changed : (core : Core) (a : Store) (f : Frame) (callers : List Frame) 
     AfterChanged core a (op_change core f op) (operated core (spot a f callers locks) rest op)
 operated-changed core a f callers locks rest op plain =
     elim (is_return op && nat_lt 0 f.locked) as (λ c. AfterChanged core a (op_change core f op)
-    (cond c (Goes (after (unlocked (spot a f callers locks)))) (op_step core (spot a (with_steps f rest) callers locks) op))) [
+    (cond c (Goes (after (unlocked (spot a f callers locks))))
+    (op_step core (spot a (with_steps f rest) callers locks) op))) [
       | true ↦ unchanged core a (op_change core f op) plain
       | false ↦ moved op
     ]

@@ -22,7 +22,7 @@ use Rattle.witness_build_apart.proofs.Stored.{AfterChanged, IsChanged, thread-ch
 
 -- ---- one step
 
-other-stays : (s : State) (t : ℕ) (a : After) → other_of (with_thread s t a.store a.thread) t ≡ other_of s t
+pub other-stays : (s : State) (t : ℕ) (a : After) → other_of (with_thread s t a.store a.thread) t ≡ other_of s t
 other-stays s t a =
     elim (nat_eq t 0) as (λ b.
     (let x : State = cond b
@@ -57,10 +57,11 @@ step-changed core t turn s next plain e =
     made-changed core t s next (thread_step core turn (other_of s t).locks s.store (thread_of s t))
     (thread-changed core turn (other_of s t).locks s.store (thread_of s t).frames (thread_of s t).locks plain) e
 
-turns-made : (turns : List Turn) (o : Option State) (next : State) (left : List Turn) →
+pub turns-made : (turns : List Turn) (o : Option State) (next : State) (left : List Turn) →
     with_turns turns o ≡ Some (next, left) → o ≡ Some next
 turns-made turns None next left e = absurd cc
-turns-made turns (Some x) next left e = ap (λ (s : State). let o : Option State = Some s in o) (both x next turns left e).0
+turns-made turns (Some x) next left e = ap (λ (s : State). let o : Option State = Some s in o)
+    (both x next turns left e).0
 
 one-changed : (core : Core) (t : ℕ) (turns : List Turn) (s next : State) (left : List Turn) → ArePlain core s.store →
     one_step core t turns s ≡ Some (next, left) → Steps core t s next
@@ -72,7 +73,8 @@ one-changed core t turns s next left plain =
         | ◌∷◌ turn rest ↦ λ e.
             step-changed core t turn s next plain (turns-made rest (made_of (step core s t turn)) next left e)
       ]
-      | false ↦ λ e. step-changed core t Right s next plain (turns-made turns (made_of (step core s t Right)) next left e)
+      | false ↦ λ e. step-changed core t Right s next plain
+          (turns-made turns (made_of (step core s t Right)) next left e)
     ]
 
 -- ---- one change behind another

@@ -1,5 +1,5 @@
 -- What two threads that go alone from the entries of their methods tell of the mark of a warning.
-use Rattle.std.proofs.Common.{◌≡◌, ℕ, zero, suc, Bool, List, [], ◌∷◌, Option, None, Some, unwrap_or}
+use Rattle.std.proofs.Common.{◌≡◌, ℕ, zero, suc, Bool, List, [], ◌∷◌, Option, None, Some}
 use Rattle.std.proofs.Common.{refl, sym, ap, subst, ◌∙◌}
 use Rattle.std.specs.List.{list_any}
 use Rattle.racer_base.specs.declared.ids.FieldId.{FieldId}
@@ -14,9 +14,9 @@ use Rattle.core_semantics.specs.Changes.{Spot}
 use Rattle.core_semantics.specs.Legs.{Leg}
 use Rattle.core_semantics.specs.Runs.{begun, next_touch, place}
 use Rattle.core_semantics.specs.State.{State, Thread, thread_of}
-use Rattle.core_ways.specs.Ends.{Ended, Past, Stopped, Going, leg_end, leg_reads, nowhere, one_step}
+use Rattle.core_ways.specs.Ends.{Ended, Past, Stopped, Going, leg_end, leg_reads, one_step}
 use Rattle.core_ways.specs.Gathered.{gathered}
-use Rattle.core_ways.specs.Marks.{Blocked, Confirmed, mark_by_run}
+use Rattle.core_ways.specs.Marks.{Confirmed, blocked_at, mark_by_run}
 use Rattle.witness_build_apart.specs.Apart.{AreAlike, DoesAvoid, avoids_behind}
 use Rattle.witness_build_apart.specs.Goes.{GoingAlike, leg_goes, nothing}
 use Rattle.witness_build_apart.specs.Starts.{entry_of}
@@ -35,20 +35,21 @@ avoided-behind rest None all = tt
 avoided-behind rest (Some (x, ts)) all = all ts x
 
 -- each leg reads none of no fields
-avoids-none : (core : Core) (t n : ℕ) (turns : List Turn) (s : State) → DoesAvoid core nothing t n turns s
+pub avoids-none : (core : Core) (t n : ℕ) (turns : List Turn) (s : State) → DoesAvoid core nothing t n turns s
 avoids-none core t zero turns s = tt
 avoids-none core t (suc n) turns s = (
   avoids-nothing (next_touch s t),
   avoided-behind (DoesAvoid core nothing t n) (one_step core t turns s) (avoids-none core t n),
 )
 
-record Came (core : Core) (t : ℕ) (y : Option Going) (to : State) : Type 0 where
-  state : State
-  left : List Turn
-  comes : y ≡ Some (state, left)
-  alike : AreAlike core nothing t to state
+pub record Came (core : Core) (t : ℕ) (y : Option Going) (to : State) : Type 0 where
+  pub state : State
+  pub left : List Turn
+  pub comes : y ≡ Some (state, left)
+  pub alike : AreAlike core nothing t to state
 
-comes-to : (core : Core) (t : ℕ) (x y : Option Going) (to : State) (left : List Turn) → GoingAlike core nothing t x y →
+pub comes-to : (core : Core) (t : ℕ) (x y : Option Going) (to : State) (left : List Turn) →
+    GoingAlike core nothing t x y →
     x ≡ Some (to, left) → Came core t y to
 comes-to core t None y to left alike e = absurd cc
 comes-to core t (Some (a, ts)) None to left alike e = absurd alike
@@ -73,13 +74,13 @@ among spots o x = list_any (is_spot o x) spots
 -- the first thread stops, alone as in the run
 pub walked-first : (core : Core) (f g : Leg) (m m1 m2 : MethodId) (at : State) → m ≡ entry_of f.thread m1 m2 →
     ends_alone core f m ≡ Stopped at →
-    Blocked f.thread (unwrap_or (place at f.thread) nowhere) ≡ mark_by_run core (f ∷ g ∷ []) (begun core m1 m2 All)
+    blocked_at f.thread (place at f.thread) ≡ mark_by_run core (f ∷ g ∷ []) (begun core m1 m2 All)
 walked-first core f g m m1 m2 at entry ends =
     let s = begun core m1 m2 All in
     let last = stops-alike core nothing f.thread at (ends_alone core f m) (leg_end core f.thread f.steps f.turns s)
     (legs-end-alike core nothing f.thread f.steps f.turns (begun core m m All) s
     (begun-alike core f.thread m m1 m2 entry) (avoids-none core f.thread f.steps f.turns (begun core m m All))) ends in
-    ap (λ (p : Option Place). Blocked f.thread (unwrap_or p nowhere)) last.2 ∙ said-first core f g s last.0 last.1
+    ap (λ (p : Option Place). blocked_at f.thread p) last.2 ∙ said-first core f g s last.0 last.1
 
 module _ (core : Core) (f g : Leg) (m n m1 m2 : MethodId) (w : AreWalked core f g m n)
     (of_first : m ≡ entry_of f.thread m1 m2) (of_second : n ≡ entry_of g.thread m1 m2) where
@@ -108,14 +109,14 @@ module _ (core : Core) (f g : Leg) (m n m1 m2 : MethodId) (w : AreWalked core f 
       w.apart)
 
   pub walked-second : (at : State) → ends_alone core g n ≡ Stopped at →
-      Blocked g.thread (unwrap_or (place at g.thread) nowhere) ≡ mark_by_run core (f ∷ g ∷ []) (begun core m1 m2 All)
+      blocked_at g.thread (place at g.thread) ≡ mark_by_run core (f ∷ g ∷ []) (begun core m1 m2 All)
   walked-second at ends =
       let s = begun core m1 m2 All in
       let last = stops-alike core nothing g.thread at (ends_alone core g n) (leg_end core g.thread g.steps g.turns s)
       (legs-end-alike core nothing g.thread g.steps g.turns (begun core n n All) s
       (begun-alike core g.thread n m1 m2 of_second) (avoids-none core g.thread g.steps g.turns (begun core n n All)))
       ends in
-      ap (λ (p : Option Place). Blocked g.thread (unwrap_or p nowhere)) last.2
+      ap (λ (p : Option Place). blocked_at g.thread p) last.2
       ∙ apart-blocked core f g s came.state last.0 came.left w.spots w.threads (begun-free core m1 m2 f.thread)
       still-free (begun-plain core m1 m2) came.comes stores-there avoids-there last.1
 

@@ -1,5 +1,5 @@
 //! Laws: a leg goes alike over two states that read alike wherever it reads.
-ghost use Rattle.std.specs.Prelude.{◌≡◌, ℕ, ◌+◌, List, [], ◌∷◌, ◌++◌, Bool, false, true, Some, unwrap_or};
+ghost use Rattle.std.specs.Prelude.{◌≡◌, ℕ, ◌+◌, List, [], ◌∷◌, ◌++◌, Bool, false, true, Some};
 ghost use Rattle.std.specs.List.{list_any};
 ghost use Rattle.racer_base.specs.declared.ids.FieldId.{FieldId};
 ghost use Rattle.racer_base.specs.declared.ids.MethodId.{MethodId};
@@ -7,14 +7,15 @@ ghost use Rattle.core_code.specs.Core.{Core};
 ghost use Rattle.core_semantics.specs.declared.answer.Turn.{Turn};
 ghost use Rattle.core_semantics.specs.declared.object.Object.{Object};
 ghost use Rattle.core_semantics.specs.declared.object.Start.TheVariants.{All};
+ghost use Rattle.core_semantics.specs.Behind.{begun_behind};
 ghost use Rattle.core_semantics.specs.Changes.{Spot, is_plain_kind};
 ghost use Rattle.core_semantics.specs.Legs.{Leg};
 ghost use Rattle.core_semantics.specs.Runs.{begun, place};
 ghost use Rattle.core_semantics.specs.State.{State, other_of, thread_of};
 ghost use Rattle.core_semantics.specs.Steps.{kind_of};
-ghost use Rattle.core_ways.specs.Ends.{Past, Stopped, leg_end, leg_reads, nowhere};
+ghost use Rattle.core_ways.specs.Ends.{Past, Stopped, leg_end, leg_reads};
 ghost use Rattle.core_ways.specs.Gathered.{gathered};
-ghost use Rattle.core_ways.specs.Marks.{Blocked, Confirmed, mark_by_run};
+ghost use Rattle.core_ways.specs.Marks.{Confirmed, blocked_at, mark_by_run};
 ghost use Rattle.witness_build_apart.specs.Apart.{AreAlike, AreEndsAlike, DoesAvoid};
 ghost use Rattle.witness_build_apart.specs.Goes.{GoingAlike, leg_goes, nothing};
 ghost use Rattle.witness_build_apart.specs.Looks.{leg_looks};
@@ -75,7 +76,7 @@ pub fn marks_of_legs_apart()
         leg_stores core f.thread f.steps f.turns s ≡ Some spots →
         DoesAvoid core (λ o x. list_any (is_spot o x) spots) g.thread g.steps g.turns s →
         leg_end core g.thread g.steps g.turns s ≡ Stopped at →
-        Blocked g.thread (unwrap_or (place at g.thread) nowhere) ≡ mark_by_run core (f ∷ g ∷ []) s }
+        blocked_at g.thread (place at g.thread) ≡ mark_by_run core (f ∷ g ∷ []) s }
 {}
 
 /// A leg from two states in which its thread, and what is stored, are the same.
@@ -107,17 +108,37 @@ pub fn no_plain_field_is_noted()
 pub fn legs_gone_alone_tell_marks()
     ensures first { (core : Core) (f g : Leg) (m m1 m2 : MethodId) (at : State) → m ≡ entry_of f.thread m1 m2 →
         leg_end core f.thread f.steps f.turns (begun core m m All) ≡ Stopped at →
-        Blocked f.thread (unwrap_or (place at f.thread) nowhere)
+        blocked_at f.thread (place at f.thread)
         ≡ mark_by_run core (f ∷ g ∷ []) (begun core m1 m2 All) }
     ensures second { (core : Core) (f g : Leg) (m n m1 m2 : MethodId) → AreWalked core f g m n →
         m ≡ entry_of f.thread m1 m2 → n ≡ entry_of g.thread m1 m2 → (at : State) →
         leg_end core g.thread g.steps g.turns (begun core n n All) ≡ Stopped at →
-        Blocked g.thread (unwrap_or (place at g.thread) nowhere)
+        blocked_at g.thread (place at g.thread)
         ≡ mark_by_run core (f ∷ g ∷ []) (begun core m1 m2 All) }
     ensures both { (core : Core) (f g : Leg) (m n m1 m2 : MethodId) → AreWalked core f g m n →
         m ≡ entry_of f.thread m1 m2 → n ≡ entry_of g.thread m1 m2 → (end : State) →
         leg_end core g.thread g.steps g.turns (begun core n n All) ≡ Past end →
         Confirmed (gathered (gathered [] (leg_reads core f.thread f.steps f.turns (begun core m m All)))
         (leg_reads core g.thread g.steps g.turns (begun core n n All))) (f ∷ g ∷ [])
+        ≡ mark_by_run core (f ∷ g ∷ []) (begun core m1 m2 All) }
+{}
+
+/// What a second leg says of the mark by a run, behind what a first one stored that is gone alone from the entry of its
+/// method, to where it holds no monitor.
+pub fn legs_behind_others_tell_marks()
+    ensures blocked { (core : Core) (f g : Leg) (m n m1 m2 : MethodId) (to : State) (left : List Turn) →
+        f.thread + g.thread ≡ 1 → m ≡ entry_of f.thread m1 m2 → n ≡ entry_of g.thread m1 m2 →
+        leg_goes core f.thread f.steps f.turns (begun core m m All) ≡ Some (to, left) →
+        (thread_of to f.thread).locks ≡ [] → (at : State) →
+        leg_end core g.thread g.steps g.turns (begun_behind core n n to.store) ≡ Stopped at →
+        blocked_at g.thread (place at g.thread)
+        ≡ mark_by_run core (f ∷ g ∷ []) (begun core m1 m2 All) }
+    ensures confirmed { (core : Core) (f g : Leg) (m n m1 m2 : MethodId) (to : State) (left : List Turn) →
+        f.thread + g.thread ≡ 1 → m ≡ entry_of f.thread m1 m2 → n ≡ entry_of g.thread m1 m2 →
+        leg_goes core f.thread f.steps f.turns (begun core m m All) ≡ Some (to, left) →
+        (thread_of to f.thread).locks ≡ [] → (end : State) →
+        leg_end core g.thread g.steps g.turns (begun_behind core n n to.store) ≡ Past end →
+        Confirmed (gathered (gathered [] (leg_reads core f.thread f.steps f.turns (begun core m m All)))
+        (leg_reads core g.thread g.steps g.turns (begun_behind core n n to.store))) (f ∷ g ∷ [])
         ≡ mark_by_run core (f ∷ g ∷ []) (begun core m1 m2 All) }
 {}

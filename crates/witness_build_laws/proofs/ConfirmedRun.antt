@@ -67,7 +67,7 @@ same-held : (o : Option Outcome) → pairs_held o ≡ records_held o
 same-held None = refl
 same-held (Some outcome) = refl
 
-record-of : (core : Core) (m : MethodId) (i : ℕ) (r : Access) → slice_get (records_of core m) i ≡ Some r →
+pub record-of : (core : Core) (m : MethodId) (i : ℕ) (r : Access) → slice_get (records_of core m) i ≡ Some r →
     record_at core m i ≡ Some r
 record-of core m i r is = ap (λ (rs : List Access). slice_get rs i) (sym (same-held (outcome_of core m))) ∙ is
 
@@ -86,7 +86,7 @@ same-write : (k : Touch) → writes k ≡ is_write k
 same-write Read = refl
 same-write Write = refl
 
-conflict-parts : (a b : Access) → conflicts a b ≡ true → Conflict a b
+pub conflict-parts : (a b : Access) → conflicts a b ≡ true → Conflict a b
 conflict-parts a b is =
     let same : Bool = same_path a.path b.path in
     let formal : Bool = not (is_formal a.path.root) in
@@ -104,7 +104,7 @@ conflict-parts a b is =
       locks = not-true (a.locked && b.locked) three.1;
     }
 
-lasting : (root : Root) → is_some_root root ≡ false → is_formal root ≡ false → is_lasting_root root ≡ true
+pub lasting : (root : Root) → is_some_root root ≡ false → is_formal root ≡ false → is_lasting_root root ≡ true
 lasting This x y = refl
 lasting (Class c) x y = refl
 lasting (Formal i) x y = absurd cc
@@ -116,7 +116,7 @@ swapped true false = refl
 swapped false true = refl
 swapped false false = refl
 
-unlocked-second : (a b : Bool) → a ≡ true → (a && b) ≡ false → b ≡ false
+pub unlocked-second : (a b : Bool) → a ≡ true → (a && b) ≡ false → b ≡ false
 unlocked-second true b e f = f
 unlocked-second false b e f = absurd cc
 
@@ -138,14 +138,14 @@ pub record IsReady (core : Core) (w : Warning) (a b : Access) (f g : Method) : T
   pub leads_entry : LegLeads core Good w.entry w.access a f 0
   pub leads_partner : LegLeads core Good w.partner w.partner_access b g 1
 
-abbrev full : Core → Warning → State
+abbrev pub full : Core → Warning → State
 full core w = begun core w.entry w.partner All
 
-first-entered : (core : Core) (w : Warning) (f : Method) → method_at core w.entry ≡ Some f →
+pub first-entered : (core : Core) (w : Warning) (f : Method) → method_at core w.entry ≡ Some f →
     thread_of (full core w) 0 ≡ at_entry 0 f
 first-entered core w f is = enters core 0 w.entry f is
 
-second-entered : (core : Core) (w : Warning) (g : Method) → method_at core w.partner ≡ Some g →
+pub second-entered : (core : Core) (w : Warning) (g : Method) → method_at core w.partner ≡ Some g →
     thread_of (full core w) 1 ≡ at_entry 1 g
 second-entered core w g is = enters core 1 w.partner g is
 
@@ -234,12 +234,12 @@ partner-first core w a b f g objects legs ready unlocked are made is =
 
 -- ---- in running order
 
-abbrev legs_by : Core → Warning → Bool → List Leg
+abbrev pub legs_by : Core → Warning → Bool → List Leg
 legs_by core w b =
     cond b (two_legs core 1 0 w.partner w.entry w.partner_access w.access)
     (two_legs core 0 1 w.entry w.partner w.access w.partner_access)
 
-locked-is : (core : Core) (w : Warning) (a : Access) → record_at core w.entry w.access ≡ Some a →
+pub locked-is : (core : Core) (w : Warning) (a : Access) → record_at core w.entry w.access ≡ Some a →
     is_locked core w.entry w.access ≡ a.locked
 locked-is core w a is = ap (λ (o : Option Access). elim o as (λ _. Bool) [ None ↦ false | Some r ↦ r.locked ]) is
 
@@ -263,7 +263,7 @@ confirmed-race core w a b f g objects legs ready by =
 
 -- ---- a confirmed warning
 
-abbrev mark_by : Core → Warning → Option Access → Said
+abbrev pub mark_by : Core → Warning → Option Access → Said
 mark_by core w o = elim o [ None ↦ Unnamed | Some r ↦ mark_of core (pair_of w) r.path ]
 
 -- a warning of the list with its records, on whose path it is confirmed

@@ -28,7 +28,8 @@ exact p q e = let same : StartOf p ≡ StartOf q = equal_of_same (StartOf p) (St
 among-firsts : (xs : List StartPath) (p : StartPath) →
     list_any (λ q. same_start_path q p) (firsts same_start_path xs) ≡ list_any (λ q. same_start_path q p) xs
 among-firsts xs p =
-    list_any-firsts (λ q. same_start_path q p) same_start_path (λ x y h. ap (λ z. same_start_path z p) (sym (exact x y h)))
+    list_any-firsts (λ q. same_start_path q p) same_start_path
+    (λ x y h. ap (λ z. same_start_path z p) (sym (exact x y h)))
     xs
 
 first-of : (a b : Bool) → a ≡ true → (a || b) ≡ true

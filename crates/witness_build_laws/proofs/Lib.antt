@@ -7,3 +7,6 @@ pub mod MarkParts
 pub mod WitnessRuns
 pub mod ConfirmedRun
 pub mod ConfirmedWarnings
+pub mod StuckPlaces
+pub mod TableRows
+pub mod RowsOfMarks

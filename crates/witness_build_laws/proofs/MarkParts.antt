@@ -1,6 +1,5 @@
 -- What a confirmed mark says of the parts that it was made of.
 use Rattle.std.proofs.Common.{◌≡◌, ℕ, true, false, cond, List, ◌∷◌, Option, None, Some, refl}
-use Rattle.std.proofs.Common.{unwrap_or}
 use Rattle.racer_base.specs.declared.ids.Place.{Place}
 use Rattle.access_paths.specs.declared.path.Path.{Path}
 use Rattle.access_paths.specs.Paths.{is_some_root}
@@ -11,14 +10,13 @@ use Rattle.core_semantics.specs.declared.object.StartPath.{StartPath}
 use Rattle.core_semantics.specs.Legs.{Leg, Ran, Came, Broke, runs}
 use Rattle.core_semantics.specs.Runs.{begun, place}
 use Rattle.core_semantics.specs.State.{State}
-use Rattle.core_ways.specs.Marks.{Pair, Said, Unnamed, Unstable, Unread, Long, Blocked, Confirmed, first_halt}
+use Rattle.core_ways.specs.Marks.{Pair, Said, Unnamed, Unstable, Unread, Long, Confirmed, blocked_at, first_halt}
 use Rattle.core_ways.specs.Marks.{first_long}
 use Rattle.core_ways.specs.Marks.{first_unread, legs_of, mark_by_calls, mark_by_length, mark_by_run, mark_of}
 use Rattle.core_ways.specs.Marks.{objects_of, ways_in_order}
 use Rattle.core_ways.specs.Stable.{unstable_prefix}
-use Rattle.core_ways.specs.Ends.{nowhere}
 
-abbrev start : Core → Pair → State
+abbrev pub start : Core → Pair → State
 start core w = begun core w.m1 w.m2 All
 
 -- no prefix is unstable, both legs are made, and these are the legs and what they read
@@ -29,12 +27,18 @@ pub record IsConfirmedBy (core : Core) (w : Pair) (p : Path) (read : List StartP
   pub legs : given ≡ legs_of core w
   pub objects : read ≡ objects_of core (legs_of core w) (start core w)
 
-abbrev by_halt : Core → List Leg → State → Option (ℕ × Option Place) → Said
+abbrev pub by_halt : Core → List Leg → State → Option (ℕ × Option Place) → Said
 by_halt core legs s o =
     elim o [
       | None ↦ Confirmed (objects_of core legs s) legs
-      | Some halted ↦ Blocked halted.0 (unwrap_or halted.1 nowhere)
+      | Some halted ↦ blocked_at halted.0 halted.1
     ]
+
+-- a thread that is stopped is no run that is confirmed
+never-confirmed : (t : ℕ) (o : Option Place) (objects : List StartPath) (legs : List Leg) →
+    blocked_at t o ≡ Confirmed objects legs → ⊥
+never-confirmed t None objects legs e = absurd cc
+never-confirmed t (Some at) objects legs e = absurd cc
 
 abbrev RunParts : Core → List Leg → State → List StartPath → List Leg → Type 0
 RunParts core legs s objects given =
@@ -47,7 +51,7 @@ run-parts core legs given s objects is =
     given →
     RunParts core legs s objects given) [
       | None ↦ λ e c. (e, cc, cc)
-      | Some halted ↦ λ e c. absurd cc
+      | Some halted ↦ λ e c. absurd (never-confirmed halted.0 halted.1 objects given c)
     ] refl is
 
 length-parts : (core : Core) (w : Pair) (given : List Leg) (objects : List StartPath) →
@@ -93,7 +97,7 @@ mark-parts core w p given objects is =
 
 -- ---- legs that are made
 
-abbrev halt_in : Core → ℕ → List Leg → Ran → Option (ℕ × Option Place)
+abbrev pub halt_in : Core → ℕ → List Leg → Ran → Option (ℕ × Option Place)
 halt_in core t legs r = elim r [ Came to left ↦ first_halt core legs to | Broke halt at steps ↦ Some (t, place at t) ]
 
 -- where no leg is stopped, the first comes to a state, and no later one is stopped from there

@@ -94,12 +94,15 @@ touched (Ref p) o f e =
     let same : p ≡ o = cc in
     ap (λ (x : Object). let a : Option Touching = Some (x, f, Read) in a) same
 
-get-same : (core : Core) (heap : Heap) (s : State) (frame : Frame) (op : CoreOp) → ((p : StartPath) → s.store.heap p ≡ true) →
-    ((f : FieldId) (o : Object) → op ≡ Get f → base_of (top frame) ≡ Ok o → HasAll heap (given core s (Some (o, f, Read)))) →
+get-same : (core : Core) (heap : Heap) (s : State) (frame : Frame) (op : CoreOp) →
+    ((p : StartPath) → s.store.heap p ≡ true) →
+    ((f : FieldId) (o : Object) → op ≡ Get f → base_of (top frame) ≡ Ok o →
+    HasAll heap (given core s (Some (o, f, Read)))) →
     ReadsSame core heap s.store frame op
 get-same core heap s frame op there all f o is base = read-same core heap s.store o f there (all f o is base)
 
-next-same : (core : Core) (heap : Heap) (s : State) (frame : Frame) (todo : List Todo) → ((p : StartPath) → s.store.heap p ≡ true) →
+next-same : (core : Core) (heap : Heap) (s : State) (frame : Frame) (todo : List Todo) →
+    ((p : StartPath) → s.store.heap p ≡ true) →
     frame.todo ≡ todo → HasAll heap (given core s (frame_touch frame)) →
     NextReadsSame core heap s.store frame todo
 next-same core heap s frame [] there is all = tt
@@ -113,14 +116,16 @@ next-same core heap s frame (Operate place op ∷ rest) there is all =
     (ap (λ (ts : List Todo). option_and_then (todo_touch frame) (slice_get ts 0)) is
     ∙ ap (op_touch frame) get ∙ touched (top frame) o f base) all)
 
-frames-read : (core : Core) (heap : Heap) (s : State) (frames : List Frame) → ((p : StartPath) → s.store.heap p ≡ true) →
+frames-read : (core : Core) (heap : Heap) (s : State) (frames : List Frame) →
+    ((p : StartPath) → s.store.heap p ≡ true) →
     HasAll heap (given core s (option_and_then frame_touch (slice_get frames 0))) →
     ThreadReadsSame core heap s.store frames
 frames-read core heap s [] there all = tt
 frames-read core heap s (frame ∷ callers) there all = next-same core heap s frame frame.todo there refl all
 
 -- a step in a heap that has what it reads
-pub step-in : (core : Core) (heap : Heap) (s : State) (t : ℕ) (turn : Turn) → ((p : StartPath) → s.store.heap p ≡ true) →
+pub step-in : (core : Core) (heap : Heap) (s : State) (t : ℕ) (turn : Turn) →
+    ((p : StartPath) → s.store.heap p ≡ true) →
     HasAll heap (next_read core s t) → step core (state_in heap s) t turn ≡ within (state_in heap) (step core s t turn)
 step-in core heap s t turn there all =
     step-same core heap s t turn (frames-read core heap s (thread_of s t).frames there all)

@@ -22,7 +22,7 @@ use Rattle.core_ways.specs.Marks.{Pair, IsWhole, Confirmed, is_locked, legs_of, 
 use Rattle.core_ways.specs.Marks.{mark_by_calls, mark_by_length, mark_by_run, first_unread, first_long, first_halt}
 use Rattle.witness_build_laws.specs.Warned.{pair_of, warning_mark}
 
-not_some : (r : Root) → is_lasting_root r ≡ true → is_some_root r ≡ false
+pub not_some : (r : Root) → is_lasting_root r ≡ true → is_some_root r ≡ false
 not_some This e = refl
 not_some (Class c) e = refl
 not_some (Formal i) e = refl
@@ -75,7 +75,7 @@ by_calls core w none = rw (mark_by_calls, none) refl
 by_path : (core : Core) (w : Pair) (p : Path) → IsStable core w.m1 w.m2 p → mark_of core w p ≡ mark_by_calls core w
 by_path core w p stable = rw (not_some p.root stable.root, stable.prefixes) refl
 
-confirmed : (core : Core) (w : Pair) (p : Path) → IsStable core w.m1 w.m2 p → IsWhole core w →
+pub confirmed : (core : Core) (w : Pair) (p : Path) → IsStable core w.m1 w.m2 p → IsWhole core w →
     mark_of core w p ≡ Confirmed (objects_of core (legs_of core w) (begun core w.m1 w.m2 All)) (legs_of core w)
 confirmed core w p stable ways =
     let a : Trip = way_of core w.m1 w.i in

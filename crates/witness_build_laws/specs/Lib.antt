@@ -3,3 +3,4 @@ pub mod Warned
 pub mod Heaps
 pub mod Races
 pub mod Headline
+pub mod Table

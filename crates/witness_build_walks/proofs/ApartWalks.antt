@@ -1,9 +1,11 @@
 -- What two walks tell of two legs.
 use Rattle.std.proofs.Common.{◌≡◌, ℕ, ◌+◌, Bool, true, false, List, [], ◌∷◌, sym, ap, ◌∙◌}
-use Rattle.std.proofs.Common.{unwrap_or}
+use Rattle.std.proofs.Common.{length, nat_eq, refl, arith}
+use Rattle.std.proofs.lemmas.Bool.{eqb-true}
 use Rattle.std.specs.List.{list_any}
 use Rattle.racer_base.specs.declared.ids.MethodId.{MethodId}
 use Rattle.core_code.specs.Core.{Core}
+use Rattle.core_semantics.specs.declared.answer.Holder.{Holder}
 use Rattle.core_semantics.specs.declared.answer.Turn.{Turn}
 use Rattle.core_semantics.specs.declared.object.Start.TheVariants.{All}
 use Rattle.core_semantics.specs.declared.object.StartPath.{StartPath}
@@ -12,9 +14,9 @@ use Rattle.core_semantics.specs.Runs.{begun, place}
 use Rattle.core_semantics.specs.State.{State, thread_of}
 use Rattle.core_semantics.specs.View.{state_of}
 use Rattle.core_ways.specs.declared.mark.Leg.{Leg as LegTaken}
-use Rattle.core_ways.specs.Ends.{Stopped, leg_end, leg_reads, nowhere}
+use Rattle.core_ways.specs.Ends.{Stopped, leg_end, leg_reads}
 use Rattle.core_ways.specs.Gathered.{gathered}
-use Rattle.core_ways.specs.Marks.{Blocked, Confirmed, leg_of, mark_by_run}
+use Rattle.core_ways.specs.Marks.{Confirmed, blocked_at, leg_of, mark_by_run}
 use Rattle.core_ways.proofs.Gathering.{gathered-again}
 use Rattle.witness_build_apart.specs.Goes.{leg_goes}
 use Rattle.witness_build_apart.specs.Looks.{leg_looks}
@@ -30,13 +32,18 @@ use Rattle.witness_build_walks.specs.Told.{AreApart, IsGone, place_at}
 use Rattle.witness_build_walks.specs.Walks.{AreKept, HasGone, IsAlong, entry_state, fields_of}
 use Rattle.witness_build_walks.proofs.KeptFields.{looks-apart, spots-of}
 
+-- a thread of which it is said that it holds no monitor
+pub none-held : (locks : List Holder) → nat_eq (length locks) 0 ≡ true → locks ≡ []
+none-held [] e = refl
+none-held (x ∷ xs) e = absurd (let none : length (x ∷ xs) ≡ 0 = eqb-true (length (x ∷ xs)) 0 e in omega (arith, none))
+
 looked-in : (core : Core) (g : LegTaken) (all : Bool) (w : Walk) → HasGone core g w all →
     AreKept w.reads (fields_of (leg_looks core w.thread g.steps g.turns (entry_state core w)))
 looked-in core g true w gone = gone.1.reads
 looked-in core g false w gone = gone.reads
 
 -- what is so of a walk's thread and method is so of the leg's
-of-leg : {X : Type 0} (core : Core) (m : MethodId) (g : LegTaken) (all : Bool) (w : Walk) (what : ℕ → State → X) →
+pub of-leg : {X : Type 0} (core : Core) (m : MethodId) (g : LegTaken) (all : Bool) (w : Walk) (what : ℕ → State → X) →
     IsGone core m g all w → what g.thread (begun core m m All) ≡ what w.thread (entry_state core w)
 of-leg core m g all w what is = (λ i. what (sym is.thread i) (begun core (sym is.method i) (sym is.method i) All))
 
@@ -76,18 +83,18 @@ whole-in core g false w gone e = absurd cc
 
 pub told-first : (core : Core) (f g : LegTaken) (m m1 m2 : MethodId) (w : Walk) → m ≡ entry_of f.thread m1 m2 →
     IsGone core m f false w →
-    Blocked w.thread (place_at w) ≡ mark_by_run core (leg_of f ∷ leg_of g ∷ []) (begun core m1 m2 All)
+    blocked_at w.thread (place_at w) ≡ mark_by_run core (leg_of f ∷ leg_of g ∷ []) (begun core m1 m2 All)
 told-first core f g m m1 m2 w entry is =
-    ap (λ (t : ℕ). Blocked t (unwrap_or (place (state_of w.machine) t) nowhere)) is.thread
+    ap (λ (t : ℕ). blocked_at t (place (state_of w.machine) t)) is.thread
     ∙ walked-first core (leg_of f) (leg_of g) m m1 m2 (state_of w.machine) entry
     (of-leg core m f false w (λ t s. leg_end core t f.steps f.turns s) is ∙ is.gone.ends)
 
 pub told-second : (core : Core) (f g : LegTaken) (m n m1 m2 : MethodId) (first second : Walk) (all : Bool) →
     f.thread + g.thread ≡ 1 → m ≡ entry_of f.thread m1 m2 → n ≡ entry_of g.thread m1 m2 → IsGone core m f true first →
     IsGone core n g all second → AreApart first second → all ≡ false →
-    Blocked second.thread (place_at second) ≡ mark_by_run core (leg_of f ∷ leg_of g ∷ []) (begun core m1 m2 All)
+    blocked_at second.thread (place_at second) ≡ mark_by_run core (leg_of f ∷ leg_of g ∷ []) (begun core m1 m2 All)
 told-second core f g m n m1 m2 first second all threads of_first of_second one other apart none =
-    ap (λ (t : ℕ). Blocked t (unwrap_or (place (state_of second.machine) t) nowhere)) other.thread
+    ap (λ (t : ℕ). blocked_at t (place (state_of second.machine) t)) other.thread
     ∙ walked-second core (leg_of f) (leg_of g) m n m1 m2
     (are-walked core f g m n first second all threads one other apart) of_first of_second (state_of second.machine)
     (of-leg core n g all second (λ t s. leg_end core t g.steps g.turns s) other

@@ -4,3 +4,4 @@ pub mod Sights
 pub mod WalkSteps
 pub mod WalkTurns
 pub mod ApartWalks
+pub mod BehindWalks

@@ -1,5 +1,5 @@
 -- A contract of a public call rests on this: what walks tell of two legs.
-use Rattle.std.specs.Prelude.{◌≡◌, ℕ, Bool, false, List, [], ◌∷◌, Option, None, Some, unwrap_or}
+use Rattle.std.specs.Prelude.{◌≡◌, ℕ, Bool, false, List, [], ◌∷◌, Option, None, Some}
 use Rattle.std.specs.BTreeSet.{IsDisjoint}
 use Rattle.racer_base.specs.declared.ids.MethodId.{MethodId}
 use Rattle.racer_base.specs.declared.ids.Place.{Place}
@@ -10,8 +10,9 @@ use Rattle.core_semantics.specs.Runs.{place}
 use Rattle.core_semantics.specs.State.{State, thread_of}
 use Rattle.core_semantics.specs.View.{state_of}
 use Rattle.core_ways.specs.declared.mark.Leg.{Leg as LegTaken}
-use Rattle.core_ways.specs.Ends.{nowhere}
-use Rattle.core_ways.specs.Marks.{Blocked, mark_by_run}
+use Rattle.core_ways.specs.Ends.{Past, Stopped, leg_end, leg_reads}
+use Rattle.core_ways.specs.Gathered.{gathered}
+use Rattle.core_ways.specs.Marks.{blocked_at, mark_by_run}
 use Rattle.witness_build_apart.specs.RunLegs.{AreRead}
 use Rattle.witness_build_walks.specs.declared.walk.Walk.{Walk}
 use Rattle.witness_build_walks.specs.declared.walks.Walked.{Walked}
@@ -21,9 +22,19 @@ use Rattle.witness_build_walks.specs.Walks.{HasGone, IsWalk, field_cmp}
 
 -- what walks tell of two legs, with the objects that both read
 abbrev pub IsTold : Core → (first second : Leg) → State → List StartPath → Walked → Type 0
-IsTold core f g s objects (code.Stopped thread at) = Blocked thread at ≡ mark_by_run core (f ∷ g ∷ []) s
+IsTold core f g s objects (code.Stopped thread at) = blocked_at thread at ≡ mark_by_run core (f ∷ g ∷ []) s
 IsTold core f g s objects code.Past = AreRead core f g s objects
 IsTold core f g s objects code.Unknown = objects ≡ []
+
+-- what a second leg tells that is run from here, where a first one was given these objects
+abbrev pub IsRunOn : Core → Leg → State → (given before objects : List StartPath) → Walked → Type 0
+IsRunOn core g s given before objects (code.Stopped thread at) =
+    (stop : State) × (leg_end core g.thread g.steps g.turns s ≡ Stopped stop)
+    × (thread ≡ g.thread) × (at ≡ place stop g.thread)
+IsRunOn core g s given before objects code.Past =
+    (end : State) × (leg_end core g.thread g.steps g.turns s ≡ Past end)
+    × (objects ≡ gathered (gathered before given) (leg_reads core g.thread g.steps g.turns s))
+IsRunOn core g s given before objects code.Unknown = ⊥
 
 -- the last walk of a thread, where there is one
 abbrev pub IsLast : Core → ℕ → Option Walk → Type 0
@@ -35,9 +46,9 @@ pub record AreWalks (core : Core) (walks : Walks) : Type 0 where
   pub first : IsLast core 0 walks.first
   pub second : IsLast core 1 walks.second
 
--- where a walk is, or nowhere
-abbrev pub place_at : Walk → Place
-place_at w = unwrap_or (place (state_of w.machine) w.thread) nowhere
+-- the place that a walk is at
+abbrev pub place_at : Walk → Option Place
+place_at w = place (state_of w.machine) w.thread
 
 -- a walk of a method along a leg
 pub record IsGone (core : Core) (m : MethodId) (leg : LegTaken) (all : Bool) (w : Walk) : Type 0 where

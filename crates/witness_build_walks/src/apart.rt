@@ -12,18 +12,13 @@ ghost use Rattle.witness_build_walks.specs.Told.{AreApart, IsGone, IsTold, place
 use crate::walk::Walk;
 use crate::walks::Walked;
 use core_ways::Objects;
-use racer_base::{FileId, Memory, Place};
+use racer_base::{Memory, Place};
 
 /// The place that a walk is at.
-pub(crate) fn place_of(walk: &Walk) -> Place
+pub(crate) fn place_of(walk: &Walk) -> Option<Place>
     ensures { result ≡ place_at walk.now }
 {
-    let nowhere = Place {
-        file: FileId(0),
-        line: 0,
-        column: 0,
-    };
-    walk.machine.place(walk.thread).unwrap_or(nowhere)
+    walk.machine.place(walk.thread)
 }
 
 /// Whether the second of two walks reads nothing that the first stored, and finds each monitor free.

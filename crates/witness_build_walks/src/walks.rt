@@ -9,10 +9,11 @@ ghost use Rattle.core_semantics.specs.Runs.{begun};
 ghost use Rattle.core_ways.specs.declared.mark.Leg.{Leg};
 ghost use Rattle.core_ways.specs.Marks.{leg_of};
 ghost use Rattle.witness_build_apart.specs.Starts.{entry_of};
-ghost use Rattle.witness_build_walks.specs.Told.{AreWalks, IsGoneIn, IsLast, IsTold};
+ghost use Rattle.witness_build_walks.specs.Told.{AreWalks, IsGone, IsGoneIn, IsLast, IsTold};
 
 use crate::along::{Course, walk_along};
 use crate::apart::{place_of, told};
+use crate::behind::told_behind;
 use crate::walk::Walk;
 use core_code::Program;
 use core_ways::{Leg, Objects};
@@ -23,7 +24,7 @@ use std::alloc::Global;
 #[derive(Clone, Copy)]
 pub enum Walked {
     /// The thread of this number cannot make its leg: it stops at this place.
-    Stopped(u32, Place),
+    Stopped(u32, Option<Place>),
     /// Both legs can be made.
     Past,
     /// The second leg may see what the first left.
@@ -41,18 +42,49 @@ pub struct Walks<'a> {
 /// Lets walks go. Each type of their parts is taken apart here, so a crate that owns walks need not show how.
 pub fn let_go(_walks: Walks) {}
 
-/// What is told where there are two walks.
-fn told_of(
-    first: &Option<Walk>,
-    second: &Option<Walk>,
+/// What two walks tell, and else a run of the second leg behind the first walk.
+fn told_by<'a>(
+    program: &'a Program,
+    first: &Walk,
+    second: &Walk,
     all: bool,
+    course: Course,
     objects: &mut Objects,
 ) -> Result<Walked, Memory>
     requires { objects.old ≡ [] }
-    ensures { (c : Core) (m n m1 m2 : MethodId) (f g : Leg) → f.thread + g.thread ≡ 1 →
-        m ≡ entry_of f.thread m1 m2 → n ≡ entry_of g.thread m1 m2 →
-        IsGoneIn c m f true first.now → IsGoneIn c n g all second.now →
-        IfOk result (λ walked. IsTold c (leg_of f) (leg_of g) (begun c m1 m2 All) objects.new walked) }
+    ensures { (m m1 m2 : MethodId) (f : Leg) → f.thread + course.entry.leg.now.thread ≡ 1 →
+        m ≡ entry_of f.thread m1 m2 → course.entry.method ≡ entry_of course.entry.leg.now.thread m1 m2 →
+        IsGone (core program.now) m f true first.now →
+        IsGone (core program.now) course.entry.method course.entry.leg.now all second.now →
+        IfOk result (λ walked. IsTold (core program.now) (leg_of f) (leg_of course.entry.leg.now)
+        (begun (core program.now) m1 m2 All) objects.new walked) }
+{
+    let Ok(walked) = told(first, second, all, objects) else {
+        return Err(Memory);
+    };
+    match walked {
+        Walked::Stopped(thread, place) => Ok(Walked::Stopped(thread, place)),
+        Walked::Past => Ok(Walked::Past),
+        Walked::Unknown => told_behind(program, first, course, objects),
+    }
+}
+
+/// What is told where there are two walks.
+fn told_of<'a>(
+    program: &'a Program,
+    first: &Option<Walk>,
+    second: &Option<Walk>,
+    all: bool,
+    course: Course,
+    objects: &mut Objects,
+) -> Result<Walked, Memory>
+    requires { objects.old ≡ [] }
+    ensures { (m m1 m2 : MethodId) (f : Leg) → f.thread + course.entry.leg.now.thread ≡ 1 →
+        m ≡ entry_of f.thread m1 m2 → course.entry.method ≡ entry_of course.entry.leg.now.thread m1 m2 →
+        IsGoneIn (core program.now) m f true first.now →
+        IsGoneIn (core program.now) course.entry.method course.entry.leg.now all second.now →
+        IfOk result (λ walked. IsTold (core program.now) (leg_of f) (leg_of course.entry.leg.now)
+        (begun (core program.now) m1 m2 All) objects.new walked) }
 {
     let Some(first) = first else {
         return Ok(Walked::Unknown);
@@ -60,7 +92,7 @@ fn told_of(
     let Some(second) = second else {
         return Ok(Walked::Unknown);
     };
-    told(first, second, all, objects)
+    told_by(program, first, second, all, course, objects)
 }
 
 /// What is told where the first leg cannot be made.
@@ -100,7 +132,7 @@ fn walk_both<'a>(
         return Ok(told_of_stopped(one));
     }
     let all = walk_along(alloc, program, other, second)?;
-    told_of(one, other, all, objects)
+    told_of(program, one, other, all, second, objects)
 }
 
 impl<'a> Walks<'a> {

@@ -11,7 +11,6 @@ ghost use Rattle.witness_text.specs.Verdicts.{legs_verdict, race_verdict};
 
 use crate::Verdict;
 use core_code::Program;
-use core_races::races;
 use core_semantics::{Machine, StepAnswer, Turn};
 use core_ways::Leg;
 use racer_base::Memory;
@@ -98,7 +97,7 @@ fn leg_stop<'a>(
 fn race_verdict(machine: &Machine) -> Verdict
     ensures { result ≡ race_verdict (state_of machine.now) }
 {
-    if races(machine) {
+    if machine.races() {
         Verdict::Races
     } else {
         Verdict::NoConflict

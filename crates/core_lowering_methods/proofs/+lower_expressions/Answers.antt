@@ -127,14 +127,16 @@ expressions::lower_lengths-returns-clause-code t c =
     c.in_ok-lower_arguments.ensures)
     c.new_array.ensures.code
 
-pub expressions::lower_selected-returns-in-Some-clause-code : goal.expressions::lower_selected-returns-in-Some-clause-code
+pub expressions::lower_selected-returns-in-Some-clause-code :
+    goal.expressions::lower_selected-returns-in-Some-clause-code
 expressions::lower_selected-returns-in-Some-clause-code t c =
     on_ok_weaker c.of_class.result
     (λ made. made ∙ ap (λ s. code_of c.args.draft.now ++ base_of s)
     (class-selected c.args.around.now (expr_of c.args.a.now) c.args.x.now c.in-Some.c c.in-Some.ensures))
     c.of_class.ensures.code
 
-pub expressions::lower_selected-returns-in-Some-clause-storage : goal.expressions::lower_selected-returns-in-Some-clause-storage
+pub expressions::lower_selected-returns-in-Some-clause-storage :
+    goal.expressions::lower_selected-returns-in-Some-clause-storage
 expressions::lower_selected-returns-in-Some-clause-storage t c =
     let around = c.args.around.now in
     let a = expr_of c.args.a.now in
@@ -165,14 +167,16 @@ expressions::lower_selected-returns-clause-storage t c =
     (λ s. selected-same around a x k s c.in_default.ensures c.in_ok-kind.ensures.kind)
     c.of_value.ensures.storage
 
-pub expressions::lower_storage-returns-in_default-clause-code : goal.expressions::lower_storage-returns-in_default-clause-code
+pub expressions::lower_storage-returns-in_default-clause-code :
+    goal.expressions::lower_storage-returns-in_default-clause-code
 expressions::lower_storage-returns-in_default-clause-code t c =
     let other : is_access (view.expr_of c.args.e.now) ≡ false = search (rules, the_lemmas) in
     let old = code_of c.args.draft.now in
     sym (append-nil old)
     ∙ ap (λ a. old ++ base_of (storage c.args.around.now a)) (no-access c.args.e.now other)
 
-pub expressions::lower_storage-returns-in_default-clause-storage : goal.expressions::lower_storage-returns-in_default-clause-storage
+pub expressions::lower_storage-returns-in_default-clause-storage :
+    goal.expressions::lower_storage-returns-in_default-clause-storage
 expressions::lower_storage-returns-in_default-clause-storage t c =
     let other : is_access (view.expr_of c.args.e.now) ≡ false = search (rules, the_lemmas) in
     ap (λ a. without_base (storage c.args.around.now a)) (no-access c.args.e.now other)
@@ -218,7 +222,8 @@ expressions::lower_operator-returns-clause-kind t c =
     (λ k is. is ∙ operator-kind around (is_logical c.args.op.now) a b)
     c.end_operator.ensures.kind
 
-pub expressions::lower_prefix-returns-then-is_count-clause-code : goal.expressions::lower_prefix-returns-then-is_count-clause-code
+pub expressions::lower_prefix-returns-then-is_count-clause-code :
+    goal.expressions::lower_prefix-returns-then-is_count-clause-code
 expressions::lower_prefix-returns-then-is_count-clause-code t c =
     let around = c.args.around.now in
     let a = expr_of c.args.a.now in
@@ -230,7 +235,8 @@ expressions::lower_prefix-returns-then-is_count-clause-code t c =
     (prefix-code around c.args.op.now a true (sym c.is_count.ensures ∙ c.if-is_count.true)))
     c.count_value.ensures.code
 
-pub expressions::lower_prefix-returns-then-is_count-clause-kind : goal.expressions::lower_prefix-returns-then-is_count-clause-kind
+pub expressions::lower_prefix-returns-then-is_count-clause-kind :
+    goal.expressions::lower_prefix-returns-then-is_count-clause-kind
 expressions::lower_prefix-returns-then-is_count-clause-kind t c =
     let around = c.args.around.now in
     let a = expr_of c.args.a.now in
@@ -332,7 +338,8 @@ invocations::lower_call_on-returns-clause-kind t c =
     c.in_ok-kind.ensures.kind)
     c.lower_call-2.ensures.kind
 
-pub expressions::lower_storage-returns-in-Index-clause-code : goal.expressions::lower_storage-returns-in-Index-clause-code
+pub expressions::lower_storage-returns-in-Index-clause-code :
+    goal.expressions::lower_storage-returns-in-Index-clause-code
 expressions::lower_storage-returns-in-Index-clause-code t c =
     let is = is_index c.args.e.now c.in-Index.a c.in-Index.i c.deref-in-Index.result.now c.deref-in-Index-2.result.now
     c.in-Index.is c.deref-in-Index.ensures c.deref-in-Index-2.ensures in
@@ -341,7 +348,8 @@ expressions::lower_storage-returns-in-Index-clause-code t c =
     ++ base_of (storage c.args.around.now (access_of x)))) (sym is)
     c.lower_element.ensures.code
 
-pub expressions::lower_storage-returns-in-Index-clause-storage : goal.expressions::lower_storage-returns-in-Index-clause-storage
+pub expressions::lower_storage-returns-in-Index-clause-storage :
+    goal.expressions::lower_storage-returns-in-Index-clause-storage
 expressions::lower_storage-returns-in-Index-clause-storage t c =
     let is = is_index c.args.e.now c.in-Index.a c.in-Index.i c.deref-in-Index.result.now c.deref-in-Index-2.result.now
     c.in-Index.is c.deref-in-Index.ensures c.deref-in-Index-2.ensures in
@@ -349,7 +357,8 @@ expressions::lower_storage-returns-in-Index-clause-storage t c =
     IfOk c.lower_element.result (λ s. s ≡ without_base (storage c.args.around.now (access_of x)))) (sym is)
     c.lower_element.ensures.storage
 
-pub expressions::lower_storage-returns-in-Field-clause-code : goal.expressions::lower_storage-returns-in-Field-clause-code
+pub expressions::lower_storage-returns-in-Field-clause-code :
+    goal.expressions::lower_storage-returns-in-Field-clause-code
 expressions::lower_storage-returns-in-Field-clause-code t c =
     let is = is_field c.args.e.now c.in-Field.a c.in-Field.x c.deref.result.now c.in-Field.is c.deref.ensures in
     subst (λ (x : Expr).
@@ -357,7 +366,8 @@ expressions::lower_storage-returns-in-Field-clause-code t c =
     ++ base_of (storage c.args.around.now (access_of x)))) (sym is)
     c.lower_selected.ensures.code
 
-pub expressions::lower_storage-returns-in-Field-clause-storage : goal.expressions::lower_storage-returns-in-Field-clause-storage
+pub expressions::lower_storage-returns-in-Field-clause-storage :
+    goal.expressions::lower_storage-returns-in-Field-clause-storage
 expressions::lower_storage-returns-in-Field-clause-storage t c =
     let is = is_field c.args.e.now c.in-Field.a c.in-Field.x c.deref.result.now c.in-Field.is c.deref.ensures in
     subst (λ (x : Expr).
@@ -372,21 +382,24 @@ expressions::lower_storage-returns-in-Name-clause-code t c =
     ++ base_of (storage c.args.around.now (access_of x)))) (sym is)
     c.named.ensures.code
 
-pub expressions::lower_storage-returns-in-Name-clause-storage : goal.expressions::lower_storage-returns-in-Name-clause-storage
+pub expressions::lower_storage-returns-in-Name-clause-storage :
+    goal.expressions::lower_storage-returns-in-Name-clause-storage
 expressions::lower_storage-returns-in-Name-clause-storage t c =
     let is = is_name_of c.args.e.now c.in-Name.x c.in-Name.is in
     subst (λ (x : Expr).
     IfOk c.named.result (λ s. s ≡ without_base (storage c.args.around.now (access_of x)))) (sym is)
     c.named.ensures.storage
 
-pub expressions::lower_initialiser-returns-in-Value-clause-code : goal.expressions::lower_initialiser-returns-in-Value-clause-code
+pub expressions::lower_initialiser-returns-in-Value-clause-code :
+    goal.expressions::lower_initialiser-returns-in-Value-clause-code
 expressions::lower_initialiser-returns-in-Value-clause-code t c =
     subst (λ (v : Init).
     OnOk c.lower_expression.result (code_of c.lower_expression.new.draft ≡ code_of c.args.draft.now
     ++ init_code c.args.around.now v)) (sym (is_value c.args.initialiser.now c.in-Value.e c.in-Value.is))
     c.lower_expression.ensures.code
 
-pub expressions::lower_initialiser-returns-in-Value-clause-kind : goal.expressions::lower_initialiser-returns-in-Value-clause-kind
+pub expressions::lower_initialiser-returns-in-Value-clause-kind :
+    goal.expressions::lower_initialiser-returns-in-Value-clause-kind
 expressions::lower_initialiser-returns-in-Value-clause-kind t c =
     subst (λ (v : Init). IfOk c.lower_expression.result (λ k. value_kind k ≡ init_kind c.args.around.now v))
     (sym (is_value c.args.initialiser.now c.in-Value.e c.in-Value.is))

@@ -14,13 +14,14 @@ ghost use Rattle.core_code.specs.declared.code.Reason.TheVariants.{Overload, Out
 ghost use Rattle.core_code.specs.Core.{Method};
 ghost use Rattle.core_code.specs.Facts.{are_numbers_in_range, are_sites_in_order, are_entries_analysed};
 ghost use Rattle.core_code.specs.Facts.{are_stacks_enough, are_parameters_few};
-ghost use Rattle.core_code.specs.CallFacts.{do_end_by_return, are_calls_right};
+ghost use Rattle.core_code.specs.CallFacts.{do_end_by_return, are_calls_right, has_ranks};
+ghost use Rattle.core_code.specs.Recursion.{all_rows, TellRecursion};
 ghost use Rattle.core_code.specs.KindCheck.{are_kinded};
 ghost use Rattle.core_code.specs.Names.{are_identifiers, do_classes_differ, do_fields_differ, do_methods_differ};
 ghost use Rattle.core_code.specs.Tree.{Nothing, Then, Either, Again, Held, in_sequence};
 ghost use Rattle.core_code.specs.Pair.{at, step, pair, method_put, method_both};
 ghost use Rattle.core_lowering_rules.specs.Sites.{numbered};
-ghost use Rattle.core_lowering_rules.specs.Programs.{program_of, in_order, call_edges};
+ghost use Rattle.core_lowering_rules.specs.Programs.{program_of, draft_of, in_order, call_edges};
 ghost use Rattle.core_lowering_rules.specs.Conditions.{class_places, are_in_files, are_named};
 ghost use Rattle.core_lowering_rules.specs.ProgramExamples.{placed_class, placed_unit};
 ghost use Rattle.core_lowering_rules.specs.ProgramExamples.{checked_class, empty_method, void_method, methods_of};
@@ -129,4 +130,13 @@ pub fn facts_of_programs()
         refusal units ≡ None → IsTrue (do_classes_differ (program_of files units is_recursive)) }
     ensures fields { (files : List (List ℕ)) (units : List Unit) (is_recursive : MethodId → Bool) →
         refusal units ≡ None → IsTrue (do_fields_differ (program_of files units is_recursive)) }
+{}
+
+/// Methods call the same methods, whichever are taken for recursive. So there are ranks where those are that are
+/// recursive in the draft, and no others.
+pub fn ranks_of_programs()
+    ensures same_calls { (files : List (List ℕ)) (units : List Unit) (is_recursive : MethodId → Bool) →
+        all_rows (program_of files units is_recursive) ≡ all_rows (draft_of files units) }
+    ensures ranks { (files : List (List ℕ)) (units : List Unit) (flags : List Bool) →
+        TellRecursion (draft_of files units) flags → IsTrue (has_ranks (program_of files units (flag_of flags))) }
 {}

@@ -1,19 +1,18 @@
-use Rattle.std.proofs.Common.{◌≡◌, length, IfOk}
+use Rattle.std.proofs.Common.{◌≡◌, List, ℕ, length, sym, subst, IfOk}
 use Rattle.std.specs.Prelude.{Ok, Err}
 use Rattle.core_code.specs.Chains.{TellCycles}
-use Rattle.core_code.specs.Shown.{AreShown, AreStays}
+use Rattle.core_code.specs.Walks.{AreComponents, AreStays}
 use Rattle.core_code.proofs.Components.{tell_cycles}
 use Rattle.core_code.proofs.cycles.on_cycles.Goals as goal
 
 pub returns-clause-exact : goal.returns-clause-exact
 returns-clause-exact c =
-    let t = c.in_ok-tables.tables in
-    let e = c.judged.ensures in
-    elim c.judged.result as (λ r. IfOk r (λ _. length t.components.items ≡ length c.args.rows.now) →
-    IfOk r (λ _. AreShown c.args.rows.now t (length c.args.rows.now)) →
-    IfOk r (λ flags. AreStays c.args.rows.now t (length c.args.rows.now) flags.items) →
-    IfOk r (λ flags. length flags.items ≡ length c.args.rows.now) →
-    IfOk r (λ flags. TellCycles c.args.rows.now flags.items)) [
-      | Ok flags ↦ λ as_many shown stays count. tell_cycles c.args.rows.now t as_many shown flags.items count stays
-      | Err e ↦ λ _ _ _ _. tt
-    ] e.as_many e.shown e.flags e.length
+    let rows = c.args.rows.now in
+    let numbers = c.as_slice.result.now in
+    let are : AreComponents rows numbers =
+    subst (λ (ns : List ℕ). AreComponents rows ns) (sym c.as_slice.ensures.value) c.in_ok-numbers.ensures in
+    elim c.stays.result as (λ r. IfOk r (λ flags. AreStays rows numbers (length rows) flags.items) →
+    IfOk r (λ flags. length flags.items ≡ length rows) → IfOk r (λ flags. TellCycles rows flags.items)) [
+      | Ok flags ↦ λ stays count. tell_cycles rows numbers are flags.items count stays
+      | Err e ↦ λ _ _. tt
+    ] c.stays.ensures.flags c.stays.ensures.length

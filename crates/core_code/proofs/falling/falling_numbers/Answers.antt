@@ -1,15 +1,13 @@
-use Rattle.std.proofs.Common.{ℕ, List, length, sym, ap, ◌∙◌, subst}
-use Rattle.core_code.specs.Falling.{DoFall}
-use Rattle.core_code.proofs.Fallen.{do_fall}
+use Rattle.std.proofs.Common.{List, ℕ, sym, subst}
+use Rattle.core_code.specs.Walks.{AreComponents}
+use Rattle.core_code.proofs.Components.{stays_cycle}
 use Rattle.core_code.proofs.falling.falling_numbers.Goals as goal
 
-pub returns-clause-length : goal.returns-clause-length
-returns-clause-length c =
-    ap (λ (numbers : List ℕ). length numbers) (sym c.as_slice-2.ensures.value)
-    ∙ c.as_slice-2.ensures.len
-    ∙ c.in-Ok.ensures.len
-
-pub returns-clause-fall : goal.returns-clause-fall
-returns-clause-fall c =
-    subst (λ (numbers : List ℕ). DoFall c.args.rows.now numbers) c.as_slice-2.ensures.value
-    (do_fall c.args.rows.now c.as_slice-2.result.now c.in-Ok-checked.ensures)
+pub returns-then-has_cycle-clause-none : goal.returns-then-has_cycle-clause-none
+returns-then-has_cycle-clause-none c none =
+    let rows = c.args.rows.now in
+    let numbers = c.as_slice.result.now in
+    let are : AreComponents rows numbers =
+    subst (λ (ns : List ℕ). AreComponents rows ns) (sym c.as_slice.ensures.value) c.in_ok-numbers.ensures in
+    let on = c.has_cycle.ensures.yes c.if-has_cycle.true in
+    (record { 0 = on.0 }, stays_cycle rows numbers are (record { 0 = on.0 }) on.2)

@@ -10,11 +10,21 @@ use Rattle.core_code.specs.Gathered.{callee_rows}
 use Rattle.core_code.proofs.Gathering.{rows_are}
 use Rattle.core_code.proofs.row_making.call_rows.Goals as goal
 
+pub ranks_of-requires : goal.ranks_of-requires
+ranks_of-requires c =
+    c.as_slice.ensures.value
+    ∙ c.in_ok-push_rows.ensures
+    ∙ ap (λ (rows : List (List MethodId)). rows ++ map different (callee_rows false c.methods.result.now))
+    c.new-rows.ensures.items
+    ∙ rows_are c.methods.result.now
+    ∙ ap (λ (ms : List Method). map (λ (m : Method). different (calls_in m.code)) ms) c.methods.ensures
+
 pub returns : goal.returns
 returns c =
     let made : c.push_rows.new.rows.items ≡ rows_of (core c.args.program.now) =
     c.in_ok-push_rows.ensures
-    ∙ ap (λ (rows : List (List MethodId)). rows ++ map different (callee_rows false c.methods.result.now)) c.new-rows.ensures.items
+    ∙ ap (λ (rows : List (List MethodId)). rows ++ map different (callee_rows false c.methods.result.now))
+    c.new-rows.ensures.items
     ∙ rows_are c.methods.result.now
     ∙ ap (λ (ms : List Method). map (λ (m : Method). different (calls_in m.code)) ms) c.methods.ensures in
     record {

@@ -34,7 +34,8 @@ loop-number-preserved c =
           ∙ ap row (sym c.index-methods-number.is)))
           ∙ c.loop-number.invariant.rows;
       stamps =
-          written c.loop-number.stamps.items c.different.new.stamps c.loop-number.stamps.len (c.loop-number.number + 1 + 1)
+          written c.loop-number.stamps.items c.different.new.stamps c.loop-number.stamps.len
+          (c.loop-number.number + 1 + 1)
           (c.different.auto.stamps ∙ c.as_mut_slice.ensures.len) c.in_ok-row.ensures.stamps;
     }
 

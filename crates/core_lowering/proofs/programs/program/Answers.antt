@@ -1,15 +1,16 @@
-use Rattle.std.proofs.Common.{◌≡◌, ℕ, true, List, String, Global, map, ap, subst, sym, string_bytes, ◌∙◌}
+use Rattle.std.proofs.Common.{◌≡◌, ℕ, true, List, String, Global, map, subst, sym, string_bytes, ◌∙◌}
 use Rattle.core_code.specs.Chains.{flag_of}
-use Rattle.core_code.specs.Core.{Core, core_of, method_of}
+use Rattle.core_code.specs.Core.{Core, core_of}
 use Rattle.core_code.specs.Facts.{are_numbers_in_range, are_entries_analysed, are_sites_in_order, are_stacks_enough}
 use Rattle.core_code.specs.Facts.{are_parameters_few}
-use Rattle.core_code.specs.CallFacts.{do_end_by_return, are_calls_right}
+use Rattle.core_code.specs.CallFacts.{do_end_by_return, are_calls_right, has_ranks}
 use Rattle.core_code.specs.KindCheck.{are_kinded}
 use Rattle.core_code.specs.Names.{are_identifiers, do_classes_differ, do_fields_differ, do_methods_differ}
 use Rattle.core_lowering_rules.proofs.KindedPrograms.{program-kinded}
 use Rattle.core_lowering_rules.proofs.NumbersInRange.{numbers-in_range}
 use Rattle.core_lowering_rules.proofs.ProgramFacts.{stacks-enough, calls-right, sites-in_order, entries-analysed}
 use Rattle.core_lowering_rules.proofs.ProgramFacts.{ends-by_return, parameters-few}
+use Rattle.core_lowering_rules.proofs.ProgramRanks.{ranks-there}
 use Rattle.core_lowering_rules.proofs.ProgramNames.{identifiers-there, classes-differ, fields-differ, methods-differ}
 use Rattle.core_lowering.proofs.programs.program.Goals as goal
 
@@ -90,7 +91,9 @@ of-requires-clause-parameters_few c =
 
 pub of-requires-clause-ranks_there : goal.of-requires-clause-ranks_there
 of-requires-clause-ranks_there c =
-    c.in_ok-check_ranks.ensures (core_of c.in_ok-parts.parts) (ap (map method_of) (sym c.as_slice.ensures))
+    let P : Core → Type 0 = λ core. has_ranks core ≡ true in
+    subst P (sym c.in_ok-parts.ensures)
+    (ranks-there (names_of c.args.files.now) c.args.units.now c.args.recursive.now c.requires.recursive)
 
 pub returns : goal.returns
 returns c = c.of.ensures ∙ c.in_ok-parts.ensures

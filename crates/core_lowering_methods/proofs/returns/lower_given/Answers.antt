@@ -20,7 +20,8 @@ returns-in_ok-value-in-Value c =
     let is : given_of c.args.given ≡ Value k = search rules in
     on_ok_weaker c.convert.result
     (λ made. two_pieces old one (code_of c.convert.new.draft) (code around e) (converted around k (kind around e))
-    c.in_ok-value-in-Value.ensures.code (made ∙ ap (λ g. one ++ converted around k g) c.in_ok-value-in-Value.ensures.kind)
+    c.in_ok-value-in-Value.ensures.code (made
+    ∙ ap (λ g. one ++ converted around k g) c.in_ok-value-in-Value.ensures.kind)
     ∙ ap (λ g. old ++ returned_value around g e) (sym is))
     c.convert.ensures
 

@@ -85,14 +85,16 @@ lower_statement-returns-in-While-clause-code t c =
 
 pub lower_statement-returns-in-For-clause-around : goal.lower_statement-returns-in-For-clause-around
 lower_statement-returns-in-For-clause-around t c =
-    let is = is_for c.args.statement.now c.in-For.start c.in-For.e c.in-For.updates c.in-For.s c.deref-in-For-2.result.now
+    let is = is_for c.args.statement.now c.in-For.start c.in-For.e c.in-For.updates c.in-For.s
+    c.deref-in-For-2.result.now
     c.deref-in-For.result.now c.in-For.is c.deref-in-For-2.ensures.value c.deref-in-For.ensures in
     subst (λ (s : Stmt). OnOk c.lower_for.result (c.lower_for.new.around ≡ after c.args.around.now s)) (sym is)
     c.lower_for.ensures.around
 
 pub lower_statement-returns-in-For-clause-code : goal.lower_statement-returns-in-For-clause-code
 lower_statement-returns-in-For-clause-code t c =
-    let is = is_for c.args.statement.now c.in-For.start c.in-For.e c.in-For.updates c.in-For.s c.deref-in-For-2.result.now
+    let is = is_for c.args.statement.now c.in-For.start c.in-For.e c.in-For.updates c.in-For.s
+    c.deref-in-For-2.result.now
     c.deref-in-For.result.now c.in-For.is c.deref-in-For-2.ensures.value c.deref-in-For.ensures in
     subst (λ (s : Stmt).
     OnOk c.lower_for.result (code_of c.lower_for.new.draft ≡ code_of c.args.draft.now
@@ -118,14 +120,16 @@ lower_statement-returns-in-ForEach-clause-code t c =
 
 pub lower_statement-returns-in-Sync-clause-around : goal.lower_statement-returns-in-Sync-clause-around
 lower_statement-returns-in-Sync-clause-around t c =
-    let is = is_sync c.args.statement.now c.in-Sync.place c.in-Sync.e c.in-Sync.all c.deref-in-Sync.result.now c.in-Sync.is
+    let is = is_sync c.args.statement.now c.in-Sync.place c.in-Sync.e c.in-Sync.all c.deref-in-Sync.result.now
+    c.in-Sync.is
     c.deref-in-Sync.ensures.value in
     subst (λ (s : Stmt). OnOk c.lower_sync.result (c.lower_sync.new.around ≡ after c.args.around.now s)) (sym is)
     c.lower_sync.ensures.around
 
 pub lower_statement-returns-in-Sync-clause-code : goal.lower_statement-returns-in-Sync-clause-code
 lower_statement-returns-in-Sync-clause-code t c =
-    let is = is_sync c.args.statement.now c.in-Sync.place c.in-Sync.e c.in-Sync.all c.deref-in-Sync.result.now c.in-Sync.is
+    let is = is_sync c.args.statement.now c.in-Sync.place c.in-Sync.e c.in-Sync.all c.deref-in-Sync.result.now
+    c.in-Sync.is
     c.deref-in-Sync.ensures.value in
     subst (λ (s : Stmt).
     OnOk c.lower_sync.result (code_of c.lower_sync.new.draft ≡ code_of c.args.draft.now
@@ -146,14 +150,16 @@ lower_statement-returns-in-Return-clause-code t c =
     ++ stmt c.args.around.now s)) (sym is)
     c.lower_return.ensures
 
-pub lower_statement-returns-in-If-default-default-None-clause-around : goal.lower_statement-returns-in-If-default-default-None-clause-around
+pub lower_statement-returns-in-If-default-default-None-clause-around :
+    goal.lower_statement-returns-in-If-default-default-None-clause-around
 lower_statement-returns-in-If-default-default-None-clause-around t c =
     let is : stmt_of c.args.statement.now ≡ tree.If (expr_of c.in-If-default-default-None.e)
     (stmt_of c.deref-in-If-default-default-None.result.now) = search (rules, the_lemmas) in
     subst (λ (s : Stmt). OnOk c.lower_if.result (c.lower_if.new.around ≡ after c.args.around.now s)) (sym is)
     c.lower_if.ensures.around
 
-pub lower_statement-returns-in-If-default-default-None-clause-code : goal.lower_statement-returns-in-If-default-default-None-clause-code
+pub lower_statement-returns-in-If-default-default-None-clause-code :
+    goal.lower_statement-returns-in-If-default-default-None-clause-code
 lower_statement-returns-in-If-default-default-None-clause-code t c =
     let is : stmt_of c.args.statement.now ≡ tree.If (expr_of c.in-If-default-default-None.e)
     (stmt_of c.deref-in-If-default-default-None.result.now) = search (rules, the_lemmas) in
@@ -162,7 +168,8 @@ lower_statement-returns-in-If-default-default-None-clause-code t c =
     ++ stmt c.args.around.now s)) (sym is)
     c.lower_if.ensures.code
 
-pub lower_statement-returns-in-If-default-default-Some-clause-around : goal.lower_statement-returns-in-If-default-default-Some-clause-around
+pub lower_statement-returns-in-If-default-default-Some-clause-around :
+    goal.lower_statement-returns-in-If-default-default-Some-clause-around
 lower_statement-returns-in-If-default-default-Some-clause-around t c =
     let is : stmt_of c.args.statement.now ≡ tree.IfElse (expr_of c.in-If-default-default-Some.e)
     (stmt_of c.deref-in-If-default-default-Some.result.now)
@@ -170,7 +177,8 @@ lower_statement-returns-in-If-default-default-Some-clause-around t c =
     subst (λ (s : Stmt). OnOk c.lower_if_else.result (c.lower_if_else.new.around ≡ after c.args.around.now s)) (sym is)
     c.lower_if_else.ensures.around
 
-pub lower_statement-returns-in-If-default-default-Some-clause-code : goal.lower_statement-returns-in-If-default-default-Some-clause-code
+pub lower_statement-returns-in-If-default-default-Some-clause-code :
+    goal.lower_statement-returns-in-If-default-default-Some-clause-code
 lower_statement-returns-in-If-default-default-Some-clause-code t c =
     let is : stmt_of c.args.statement.now ≡ tree.IfElse (expr_of c.in-If-default-default-Some.e)
     (stmt_of c.deref-in-If-default-default-Some.result.now)

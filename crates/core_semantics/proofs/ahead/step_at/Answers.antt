@@ -15,4 +15,5 @@ pub returns-in-None : goal.returns-in-None
 returns-in-None c =
     let laters = c.args.laters.now in
     let none = sym c.get.ensures ∙ ap option_copied c.in-None.is in
-    ap (λ ls. slice_get (todo_of ls) 0) (rest_past laters c.args.number none ∙ sym (rest_past_one laters c.args.number none))
+    ap (λ ls. slice_get (todo_of ls) 0) (rest_past laters c.args.number none
+    ∙ sym (rest_past_one laters c.args.number none))

@@ -22,7 +22,8 @@ returns c =
     λ store locks. (
       call_sticks (core c.args.program.now) c.methods.result.now (behind_spot store c.args.running.now locks)
           c.args.method c.args.count c.in-Some.method.now c.in-Ok.passed.items c.methods.ensures
-          c.in-Some.ensures.lookup.0 c.in-Some.ensures.lookup.1 c.in-Ok.ensures c.in-Some-receiver_fault.why c.if-not-method.true
+          c.in-Some.ensures.lookup.0 c.in-Some.ensures.lookup.1 c.in-Ok.ensures c.in-Some-receiver_fault.why
+          c.if-not-method.true
           (ap (λ (vs : List Value). reason (base_of (slice_index_or vs 0 Null))) (sym c.as_slice.ensures.value)
           ∙ sym c.receiver_fault.ensures
           ∙ c.in-Some-receiver_fault.is),

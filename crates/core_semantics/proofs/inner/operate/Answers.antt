@@ -29,35 +29,41 @@ pub returns-in-PushClass : goal.returns-in-PushClass
 returns-in-PushClass c =
     let frame = c.args.frame.now in
     rw c.in-PushClass.is
-    (framed c.args.store.now frame c.replace_by-in-PushClass.new.self (replaced (behind frame) 0 (Ref (Start (root_path (Class c.in-PushClass.class))))) c.replace_by-in-PushClass.result
+    (framed c.args.store.now frame c.replace_by-in-PushClass.new.self
+    (replaced (behind frame) 0 (Ref (Start (root_path (Class c.in-PushClass.class)))))
+    c.replace_by-in-PushClass.result
     (c.replace_by-in-PushClass.ensures (Ref (Start (root_path (Class c.in-PushClass.class)))) c.class_object.ensures))
 
 pub returns-in-PushPrim : goal.returns-in-PushPrim
 returns-in-PushPrim c =
     let frame = c.args.frame.now in
     rw c.in-PushPrim.is
-    (framed c.args.store.now frame c.replace_by-in-PushPrim.new.self (replaced (behind frame) 0 Plain) c.replace_by-in-PushPrim.result
+    (framed c.args.store.now frame c.replace_by-in-PushPrim.new.self
+    (replaced (behind frame) 0 Plain) c.replace_by-in-PushPrim.result
     (c.replace_by-in-PushPrim.ensures Plain refl))
 
 pub returns-in-PushNull : goal.returns-in-PushNull
 returns-in-PushNull c =
     let frame = c.args.frame.now in
     rw c.in-PushNull.is
-    (framed c.args.store.now frame c.replace_by-in-PushNull.new.self (replaced (behind frame) 0 Null) c.replace_by-in-PushNull.result
+    (framed c.args.store.now frame c.replace_by-in-PushNull.new.self
+    (replaced (behind frame) 0 Null) c.replace_by-in-PushNull.result
     (c.replace_by-in-PushNull.ensures Null refl))
 
 pub returns-in-Prim : goal.returns-in-Prim
 returns-in-Prim c =
     let frame = c.args.frame.now in
     rw c.in-Prim.is
-    (framed c.args.store.now frame c.replace_by-in-Prim.new.self (replaced (behind frame) c.in-Prim.count Plain) c.replace_by-in-Prim.result
+    (framed c.args.store.now frame c.replace_by-in-Prim.new.self
+    (replaced (behind frame) c.in-Prim.count Plain) c.replace_by-in-Prim.result
     (c.replace_by-in-Prim.ensures Plain refl))
 
 pub returns-in-Outside : goal.returns-in-Outside
 returns-in-Outside c =
     let frame = c.args.frame.now in
     rw c.in-Outside.is
-    (framed c.args.store.now frame c.replace_by-in-Outside.new.self (replaced (behind frame) c.in-Outside.count Opaque) c.replace_by-in-Outside.result
+    (framed c.args.store.now frame c.replace_by-in-Outside.new.self
+    (replaced (behind frame) c.in-Outside.count Opaque) c.replace_by-in-Outside.result
     (c.replace_by-in-Outside.ensures Opaque refl))
 
 pub returns-in-Set : goal.returns-in-Set

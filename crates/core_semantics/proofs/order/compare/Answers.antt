@@ -1,4 +1,4 @@
-use Rattle.std.proofs.Common.{◌≡◌, ℕ, true, false, nat_cmp, List, map, refl, sym, ap, ◌∙◌}
+use Rattle.std.proofs.Common.{◌≡◌, ℕ, true, false, nat_cmp, List, length, map, refl, sym, ap, ◌∙◌}
 use Rattle.std.specs.Cmp.Lexicographic.{slice_cmp}
 use Rattle.std.specs.Cmp.Derive.Mapped.{lex_map}
 use Rattle.std.specs.Ordering.{is_eq, ordering_then}
@@ -9,13 +9,16 @@ use Rattle.core_semantics.specs.declared.object.Object.{Object}
 use Rattle.core_semantics.specs.Order.{object_cmp, object_fields, first_number, object_form, second_number}
 use Rattle.core_semantics.proofs.order.compare.Goals as goal
 
-three_then : (a b c d : Ordering) →
-    ordering_then (ordering_then (ordering_then a b) c) d ≡ ordering_then a (ordering_then b (ordering_then c d))
-three_then Less b c d = refl
-three_then Greater b c d = refl
-three_then Equal Less c d = refl
-three_then Equal Greater c d = refl
-three_then Equal Equal c d = refl
+four_then : (a b c d e : Ordering) →
+    ordering_then (ordering_then (ordering_then (ordering_then a b) c) d) e
+    ≡ ordering_then a (ordering_then b (ordering_then c (ordering_then d e)))
+four_then Less b c d e = refl
+four_then Greater b c d e = refl
+four_then Equal Less c d e = refl
+four_then Equal Greater c d e = refl
+four_then Equal Equal Less d e = refl
+four_then Equal Equal Greater d e = refl
+four_then Equal Equal Equal d e = refl
 
 -- what ties leaves it to what comes then, and what does not decides
 tied_first : (a b : Ordering) → is_eq a ≡ true → b ≡ ordering_then a b
@@ -31,8 +34,10 @@ decided_first Greater b e = refl
 abbrev numbers_cmp : Object → Object → Ordering
 numbers_cmp a b =
     ordering_then
+    (ordering_then
     (ordering_then (nat_cmp (object_form a) (object_form b)) (nat_cmp (first_number a) (first_number b)))
-    (nat_cmp (second_number a) (second_number b))
+    (nat_cmp (second_number a) (second_number b)))
+    (nat_cmp (length (object_fields a)) (length (object_fields b)))
 
 abbrev fields_cmp : Object → Object → Ordering
 fields_cmp a b =
@@ -40,16 +45,20 @@ fields_cmp a b =
 
 both_then : (a b : Object) → ordering_then (numbers_cmp a b) (fields_cmp a b) ≡ object_cmp a b
 both_then a b =
-    three_then (nat_cmp (object_form a) (object_form b)) (nat_cmp (first_number a) (first_number b))
-    (nat_cmp (second_number a) (second_number b)) (fields_cmp a b)
+    four_then (nat_cmp (object_form a) (object_form b)) (nat_cmp (first_number a) (first_number b))
+    (nat_cmp (second_number a) (second_number b)) (nat_cmp (length (object_fields a)) (length (object_fields b)))
+    (fields_cmp a b)
 
-numbers-given : (n : Ordering) (a b : Object) (x y : ℕ × ℕ × ℕ) →
-    n ≡ ordering_then (ordering_then (nat_cmp x.0 y.0) (nat_cmp x.1 y.1)) (nat_cmp x.2 y.2) →
-    x ≡ (object_form a, first_number a, second_number a) → y ≡ (object_form b, first_number b, second_number b) →
-    n ≡ numbers_cmp a b
+numbers-given : (n : Ordering) (a b : Object) (x y : ℕ × ℕ × ℕ × ℕ) →
+    n ≡ ordering_then (ordering_then (ordering_then (nat_cmp x.0 y.0) (nat_cmp x.1 y.1)) (nat_cmp x.2 y.2))
+    (nat_cmp x.3 y.3) →
+    x ≡ (object_form a, first_number a, second_number a, length (object_fields a)) →
+    y ≡ (object_form b, first_number b, second_number b, length (object_fields b)) → n ≡ numbers_cmp a b
 numbers-given n a b x y is p q =
     is
-    ∙ (λ i. ordering_then (ordering_then (nat_cmp (p i).0 (q i).0) (nat_cmp (p i).1 (q i).1)) (nat_cmp (p i).2 (q i).2))
+    ∙ (λ i. ordering_then
+    (ordering_then (ordering_then (nat_cmp (p i).0 (q i).0) (nat_cmp (p i).1 (q i).1)) (nat_cmp (p i).2 (q i).2))
+    (nat_cmp (p i).3 (q i).3))
 
 pub returns-then-is_eq : goal.returns-then-is_eq
 returns-then-is_eq c =

@@ -1,4 +1,4 @@
-use Rattle.std.proofs.Common.{Option, Some, subst, sym, ◌∙◌}
+use Rattle.std.proofs.Common.{Option, Some, subst, sym}
 use Rattle.core_code.specs.Program.{core}
 use Rattle.core_semantics.specs.declared.thread.Running.{Running}
 use Rattle.core_semantics.specs.declared.thread.Thread.{Thread}
@@ -21,4 +21,4 @@ returns c =
     subst (λ (r : Option Running). IsAnswer (thread_step (core given.program.now) given.turn given.others.now
     (store_of c.args.store.now) (seen_of (thread_with r thread))) (seen_after c.args.store.now (thread_with r thread))
     (seen_after c.step_running.new.store new) c.in-Some-step_running.answer)
-    (sym (sym c.take.ensures.value ∙ c.in-Some.is)) c.in-Some-step_running.ensures
+    (sym c.in-Some.is) c.in-Some-step_running.ensures

@@ -186,40 +186,48 @@ find_among-loop-code-preserved t c =
 pub find-returns-in-Seq-clause-there : goal.find-returns-in-Seq-clause-there
 find-returns-in-Seq-clause-there t c =
     let is : tree_of c.args.code.now ≡ in_sequence (map tree_of c.as_slice.result.now) = search (rules, the_lemmas) in
-    subst (λ (code : Tree). IfOk c.find_among.result (λ (there : Option CoreOp). there ≡ op_there code c.args.site)) (sym is)
+    subst (λ (code : Tree). IfOk c.find_among.result (λ (there : Option CoreOp). there ≡ op_there code c.args.site))
+    (sym is)
     c.find_among.ensures.there
 
 pub find-returns-in-Seq-clause-path : goal.find-returns-in-Seq-clause-path
 find-returns-in-Seq-clause-path t c =
     let is : tree_of c.args.code.now ≡ in_sequence (map tree_of c.as_slice.result.now) = search (rules, the_lemmas) in
     subst (λ (code : Tree).
-    OnOk c.find_among.result (c.find_among.new.path.items ≡ c.args.path.now.items ++ path_where c.args.site code)) (sym is)
+    OnOk c.find_among.result (c.find_among.new.path.items ≡ c.args.path.now.items ++ path_where c.args.site code))
+    (sym is)
     c.find_among.ensures.path
 
 pub find-returns-in-Loop-clause-there : goal.find-returns-in-Loop-clause-there
 find-returns-in-Loop-clause-there t c =
     let is : tree_of c.args.code.now ≡ Again (tree_of c.deref-in-Loop.result.now) = search (rules, the_lemmas) in
-    subst (λ (code : Tree). IfOk c.find-in-Loop.result (λ (there : Option CoreOp). there ≡ op_there code c.args.site)) (sym is)
+    subst (λ (code : Tree). IfOk c.find-in-Loop.result
+    (λ (there : Option CoreOp). there ≡ op_there code c.args.site)) (sym is)
     c.find-in-Loop.ensures.there
 
 pub find-returns-in-Loop-clause-path : goal.find-returns-in-Loop-clause-path
 find-returns-in-Loop-clause-path t c =
     let is : tree_of c.args.code.now ≡ Again (tree_of c.deref-in-Loop.result.now) = search (rules, the_lemmas) in
     subst (λ (code : Tree).
-    OnOk c.find-in-Loop.result (c.find-in-Loop.new.path.items ≡ c.args.path.now.items ++ path_where c.args.site code)) (sym is)
+    OnOk c.find-in-Loop.result (c.find-in-Loop.new.path.items ≡ c.args.path.now.items ++ path_where c.args.site
+    code)) (sym is)
     c.find-in-Loop.ensures.path
 
 pub find-returns-in-Sync-clause-there : goal.find-returns-in-Sync-clause-there
 find-returns-in-Sync-clause-there t c =
-    let is : tree_of c.args.code.now ≡ Held c.in-Sync.field-0 (tree_of c.deref-in-Sync.result.now) = search (rules, the_lemmas) in
-    subst (λ (code : Tree). IfOk c.find-in-Sync.result (λ (there : Option CoreOp). there ≡ op_there code c.args.site)) (sym is)
+    let is : tree_of c.args.code.now ≡ Held c.in-Sync.field-0 (tree_of c.deref-in-Sync.result.now) =
+    search (rules, the_lemmas) in
+    subst (λ (code : Tree). IfOk c.find-in-Sync.result
+    (λ (there : Option CoreOp). there ≡ op_there code c.args.site)) (sym is)
     c.find-in-Sync.ensures.there
 
 pub find-returns-in-Sync-clause-path : goal.find-returns-in-Sync-clause-path
 find-returns-in-Sync-clause-path t c =
-    let is : tree_of c.args.code.now ≡ Held c.in-Sync.field-0 (tree_of c.deref-in-Sync.result.now) = search (rules, the_lemmas) in
+    let is : tree_of c.args.code.now ≡ Held c.in-Sync.field-0 (tree_of c.deref-in-Sync.result.now) =
+    search (rules, the_lemmas) in
     subst (λ (code : Tree).
-    OnOk c.find-in-Sync.result (c.find-in-Sync.new.path.items ≡ c.args.path.now.items ++ path_where c.args.site code)) (sym is)
+    OnOk c.find-in-Sync.result (c.find-in-Sync.new.path.items ≡ c.args.path.now.items ++ path_where c.args.site
+    code)) (sym is)
     c.find-in-Sync.ensures.path
 
 pub find-returns-then-eq-clause-there : goal.find-returns-then-eq-clause-there

@@ -96,7 +96,8 @@ follow_through-loop-code-preserved t c =
     let first = tree_of c.code-item.result in
     let others = in_sequence (map tree_of (drop (at.code-index + 1) codes)) in
     let left = in_sequence (map tree_of (drop at.code-index codes)) in
-    let is : left ≡ Then first others = turn codes at.code-index c.code-item.result c.loop-code-test.true c.code-item.is in
+    let is : left ≡ Then first others = turn codes at.code-index c.code-item.result c.loop-code-test.true
+    c.code-item.is in
     more c.pass.new.parts.items at.parts.items (passed locks first) (followed locks c.in-Some.rest.now others)
     (followed locks at.path.now left)
     (c.args.parts.now.items ++ followed locks c.args.path.now (in_sequence (map tree_of codes))) c.in-Ok.ensures.parts
@@ -113,9 +114,11 @@ follow_through-returns-in_default t c =
     let first = tree_of c.code-item.result in
     let others = in_sequence (map tree_of (drop (at.code-index + 1) codes)) in
     let left = in_sequence (map tree_of (drop at.code-index codes)) in
-    let is : left ≡ Then first others = turn codes at.code-index c.code-item.result c.loop-code-test.true c.code-item.is in
+    let is : left ≡ Then first others = turn codes at.code-index c.code-item.result c.loop-code-test.true
+    c.code-item.is in
     nothing-followed at.parts.items (followed locks at.path.now left)
-    (ap (followed locks at.path.now) is ∙ ap (λ (p : List Bool). followed locks p (Then first others)) c.in_default.ensures)
+    (ap (followed locks at.path.now) is ∙ ap
+    (λ (p : List Bool). followed locks p (Then first others)) c.in_default.ensures)
     ∙ at.invariant
 
 pub follow_through-returns-then-is_first : goal.follow_through-returns-then-is_first
@@ -126,7 +129,8 @@ follow_through-returns-then-is_first t c =
     let first = tree_of c.code-item.result in
     let others = in_sequence (map tree_of (drop (at.code-index + 1) codes)) in
     let left = in_sequence (map tree_of (drop at.code-index codes)) in
-    let is : left ≡ Then first others = turn codes at.code-index c.code-item.result c.loop-code-test.true c.code-item.is in
+    let is : left ≡ Then first others = turn codes at.code-index c.code-item.result c.loop-code-test.true
+    c.code-item.is in
     subst (λ (ps : List WayPart). OnOk c.follow.result (c.follow.new.parts.items ≡ ps))
     (ap (λ (ps : List WayPart). at.parts.items ++ ps)
     (first-followed locks first others at.path.now c.in-Some.rest.now c.in-Some.is_first c.in-Some.ensures

@@ -152,7 +152,8 @@ pass_through-loop-code-preserved t c =
     let rest = in_sequence (map tree_of (drop (at.code-index + 1) codes)) in
     let left = in_sequence (map tree_of (drop at.code-index codes)) in
     let whole = c.args.parts.now.items ++ passed locks (in_sequence (map tree_of codes)) in
-    let is : left ≡ Then first rest = turn codes at.code-index c.code-item.result c.loop-code-test.true c.code-item.is in
+    let is : left ≡ Then first rest = turn codes at.code-index c.code-item.result c.loop-code-test.true
+    c.code-item.is in
     let on : c.in-Ok.ends ≡ true = search rules in
     let ends = sym c.in-Ok.ensures.ends ∙ on in
     record {
@@ -169,7 +170,8 @@ pass_through-returns-then-not-ends t c =
     let first = tree_of c.code-item.result in
     let rest = in_sequence (map tree_of (drop (at.code-index + 1) codes)) in
     let left = in_sequence (map tree_of (drop at.code-index codes)) in
-    let is : left ≡ Then first rest = turn codes at.code-index c.code-item.result c.loop-code-test.true c.code-item.is in
+    let is : left ≡ Then first rest = turn codes at.code-index c.code-item.result c.loop-code-test.true
+    c.code-item.is in
     let off : c.in-Ok.ends ≡ false = search rules in
     let ends = sym c.in-Ok.ensures.ends ∙ off in
     record {

@@ -3,7 +3,13 @@ use Rattle.java_parser_grammar.specs.Pieces.{pieces_of}
 use Rattle.java_parser_grammar.specs.Units.{annotations_before, IsAnnotation}
 use Rattle.java_parser.proofs.Zips.{zips_done}
 use Rattle.java_parser.proofs.AnnotationSteps.{other_here}
+use Rattle.java_parser.proofs.WholeAnnotations.{first_is_whole}
 use Rattle.java_parser.proofs.annotations.annotations.Goals as goal
+
+pub annotation-requires : goal.annotation-requires
+annotation-requires c =
+    first_is_whole c.loop-piece.rest.now c.in-Some.piece.now (pieces_of c.in-Some.after.now) c.in-Some.ensures.first
+    (sym c.is_annotation.ensures ∙ c.if-is_annotation.true)
 
 pub returns-then-not-worded_among : goal.returns-then-not-worded_among
 returns-then-not-worded_among c =

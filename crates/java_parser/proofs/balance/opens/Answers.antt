@@ -7,7 +7,8 @@ pub returns-then-is_opening : goal.returns-then-is_opening
 returns-then-is_opening c =
     let old = c.args.stack.now.items in
     rw (c.in_ok-push.ensures.items, open_push (λ t. t.now) old c.args.token [])
-    (opens_more (open_onto (map (λ t. t.now) old) []) c.args.token.now (sym c.is_opening.ensures ∙ c.if-is_opening.true))
+    (opens_more (open_onto (map (λ t. t.now) old) []) c.args.token.now
+    (sym c.is_opening.ensures ∙ c.if-is_opening.true))
 
 pub returns-in-Some : goal.returns-in-Some
 returns-in-Some c =

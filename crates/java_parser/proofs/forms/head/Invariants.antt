@@ -6,7 +6,8 @@ use Rattle.java_parser.proofs.forms.head.Given as goal
 
 abbrev pub invariant-loop-piece : goal.invariant-loop-piece
 invariant-loop-piece l = record {
-  gives : behind_front (take l.size l.member) (before_parentheses (pieces_of l.rest)) ≡ before_parentheses (pieces_of l.member);
+  gives : behind_front (take l.size l.member) (before_parentheses (pieces_of l.rest)) ≡ before_parentheses
+      (pieces_of l.member);
   at : drop l.size l.member ≡ l.rest;
   within : l.size + length l.rest ≡ length l.member;
 }

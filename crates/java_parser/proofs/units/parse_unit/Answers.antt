@@ -1,9 +1,16 @@
-use Rattle.std.proofs.Common.{List, map, subst}
+use Rattle.std.proofs.Common.{List, Bor, map, sym, subst}
 use Rattle.java_lexer.specs.declared.token.Token.{Token}
 use Rattle.java_parser_grammar.specs.Units.{IsUnit}
-use Rattle.java_parser.specs.ReadTypes.{AreRead}
+use Rattle.java_parser.specs.ReadTypes.{HaveTokens, AreRead}
+use Rattle.java_parser.proofs.SomeTokens.{types_have_tokens}
 use Rattle.java_parser.proofs.UnitSteps.{is_unit}
 use Rattle.java_parser.proofs.units.parse_unit.Goals as goal
+
+pub unit-requires : goal.unit-requires
+unit-requires c =
+    subst (λ (ts : List (Bor (List Token))). HaveTokens (map (λ t. t.now) ts)) (sym c.as_slice.ensures.value)
+    (types_have_tokens c.as_slice-tokens.result.now (map (λ t. t.now) c.in_ok-types.types.items)
+    c.in_ok-types.ensures.ok)
 
 pub returns-clause-unit : goal.returns-clause-unit
 returns-clause-unit c =

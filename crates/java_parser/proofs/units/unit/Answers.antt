@@ -1,7 +1,14 @@
-use Rattle.std.proofs.Common.{map, drop, ap, arith}
+use Rattle.std.proofs.Common.{List, Bor, map, drop, ap, arith}
 use Rattle.std.proofs.lemmas.List.{drop_all}
+use Rattle.java_lexer.specs.declared.token.Token.{Token}
+use Rattle.java_parser.proofs.SomeTokens.{one_has_tokens}
 use Rattle.java_parser.proofs.UnitSteps.{read_done}
 use Rattle.java_parser.proofs.units.unit.Goals as goal
+
+pub add_type-requires : goal.add_type-requires
+add_type-requires c =
+    one_has_tokens {X = Bor (List Token)} (λ t. t.now) c.args.types.now c.loop-tokens.tokens-index _
+    c.tokens-item.result c.loop-tokens-test.true c.tokens-item.is c.requires
 
 pub returns : goal.returns
 returns c =

@@ -32,8 +32,10 @@ loop-number-preserved c =
     let had : List MethodRecord = all_records c.loop-number.records.items in
     let rest : List (ℕ × Method) = enumerate_from (number + 1) (map method_of (drop (number + 1) methods)) in
     let made = entry_records program c.args.class in
-    let left : drop number methods ≡ method ∷ drop (number + 1) methods = rest_of methods number method (omega arith) c.method-item.is in
-    let before = ap (λ ys. had ++ flat_map made (enumerate_from number (map method_of ys))) (sym left) ∙ c.loop-number.invariant in
+    let left : drop number methods ≡ method ∷ drop (number + 1) methods =
+    rest_of methods number method (omega arith) c.method-item.is in
+    let before = ap (λ ys. had ++ flat_map made (enumerate_from number (map method_of ys))) (sym left)
+    ∙ c.loop-number.invariant in
     elim c.if-is_entry_of.branch [
       | then-is_entry_of+in_ok-number+in_ok-push_records w ↦
           let id : MethodId = record { 0 = w.in_ok-number.number } in
@@ -42,19 +44,23 @@ loop-number-preserved c =
           let lengths = ap length c.methods-method-items.ensures in
           let seen = length-map methods method_of in
           let within : number < length program.methods = omega arith in
-          let known = outcome_at program c.args.outcomes.now.items number w.index.result.now c.requires within w.index.ensures in
+          let known = outcome_at program c.args.outcomes.now.items number w.index.result.now c.requires within
+          w.index.ensures in
           let adds = entry_adds program c.args.class number (method_of method) id w.index.result.now entry is known in
           let accesses = ap (numbered_records id) w.records_held-accesses.ensures in
           let here : List MethodRecord = numbered_records id w.records_held-accesses.result.now in
-          let records : all_records c.if-is_entry_of.records.items ≡ had ++ here = ap (λ (v : Vec MethodAccess Global). all_records v.items) w.records-is ∙ w.in_ok-push_records.ensures in
+          let records : all_records c.if-is_entry_of.records.items ≡ had ++ here =
+          ap (λ (v : Vec MethodAccess Global). all_records v.items) w.records-is ∙ w.in_ok-push_records.ensures in
           ap (λ records. records ++ flat_map made rest) records
           ∙ flat_map_turn made had here (number, method_of method) rest (accesses ∙ adds)
           ∙ before
       | else-is_entry_of w ↦
           let other = sym c.is_entry_of.ensures ∙ w.if-is_entry_of.false in
-          let records : all_records c.if-is_entry_of.records.items ≡ had = ap (λ (v : Vec MethodAccess Global). all_records v.items) w.records-is in
+          let records : all_records c.if-is_entry_of.records.items ≡ had =
+          ap (λ (v : Vec MethodAccess Global). all_records v.items) w.records-is in
           ap (λ records. records ++ flat_map made rest) (records ∙ sym (append-nil had))
-          ∙ flat_map_turn made had [] (number, method_of method) rest (other_adds program c.args.class number (method_of method) other)
+          ∙ flat_map_turn made had [] (number, method_of method) rest
+          (other_adds program c.args.class number (method_of method) other)
           ∙ before
     ]
 

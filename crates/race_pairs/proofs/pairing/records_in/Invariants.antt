@@ -9,4 +9,5 @@ use Rattle.race_pairs.proofs.pairing.records_in.Given as goal
 abbrev pub invariant-loop-number : goal.invariant-loop-number
 invariant-loop-number l =
     let rest = enumerate_from l.number (map method_of (drop l.number l.method-items)) in
-    all_records l.records.items ++ flat_map (entry_records (core l.program) l.class) rest ≡ records_in (core l.program) l.class
+    all_records l.records.items ++ flat_map (entry_records (core l.program) l.class) rest ≡ records_in
+    (core l.program) l.class

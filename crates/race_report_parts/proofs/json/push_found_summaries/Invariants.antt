@@ -12,7 +12,8 @@ abbrev pub invariant-loop-number : goal.invariant-loop-number
 invariant-loop-number l =
     record {
       lasts : Lasts l.fn.text l.text;
-      leaves : LeavesItems [] (flat_map (said.summary_values (core l.program)) (enumerate_from 0 (core l.program).methods))
+      leaves : LeavesItems [] (flat_map (said.summary_values (core l.program))
+          (enumerate_from 0 (core l.program).methods))
           l.later (flat_map (said.summary_values (core l.program))
           (enumerate_from l.number (map method_of (drop l.number l.methods)))) l.fn.text l.text;
     }

@@ -21,4 +21,5 @@ returns-clause-puts c =
     witness.objects) c.args.text.now c.push_objects.new.text c.push_objects.ensures.puts (ap objects
     c.as_slice.ensures)) c.push_leg_line.ensures.lasts c.push_leg_line.ensures.puts c.push_leg_line-2.ensures.lasts
     c.push_leg_line-2.ensures.puts) h
-    ∙ ap (λ t. string_bytes c.args.text.now.so_far ++ t) (behind_nothing (objects witness.objects) (line first) (line second))
+    ∙ ap (λ t. string_bytes c.args.text.now.so_far ++ t)
+    (behind_nothing (objects witness.objects) (line first) (line second))

@@ -11,7 +11,8 @@ abbrev pub invariant-loop-access : goal.invariant-loop-access
 invariant-loop-access l =
     record {
       lasts : Lasts l.fn.text l.text;
-      leaves : LeavesItems l.before (map string (map (told.access_text (core l.program) (record { 0 = l.number })) l.accesses))
+      leaves : LeavesItems l.before (map string
+          (map (told.access_text (core l.program) (record { 0 = l.number })) l.accesses))
           l.later (map string (map (told.access_text (core l.program) (record { 0 = l.number }))
           (drop l.access-index l.accesses))) l.fn.text l.text;
     }

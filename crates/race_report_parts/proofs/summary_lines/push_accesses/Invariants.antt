@@ -11,5 +11,6 @@ invariant-loop-access l =
     record {
       lasts : Lasts l.fn.text l.text;
       leaves : Leaves (flat_map (said.access_line (core l.program) (record { 0 = l.number })) l.accesses)
-          (flat_map (said.access_line (core l.program) (record { 0 = l.number })) (drop l.access-index l.accesses)) l.fn.text l.text;
+          (flat_map (said.access_line (core l.program) (record { 0 = l.number })) (drop l.access-index l.accesses))
+          l.fn.text l.text;
     }

@@ -16,7 +16,8 @@ returns c =
     grind (arith, common_steps, gets, c.get-2.ensures.lookup, c.copied.ensures, c.deref.ensures.value)
     in
     found
-    ∙ site_held program c.args.sites.now (record { 0 = c.args.number }) c.args.site (Some table) c.requires c.args.program.now.sites_in_order held
+    ∙ site_held program c.args.sites.now (record { 0 = c.args.number }) c.args.site
+    (Some table) c.requires c.args.program.now.sites_in_order held
 
 pub returns-in_err-table : goal.returns-in_err-table
 returns-in_err-table c =
@@ -24,4 +25,5 @@ returns-in_err-table c =
     let none : slice_get c.args.sites.now c.args.number ≡ None =
     grind (arith, common_steps, gets, c.in_err-table.ensures.lookup) in
     c.from_residual.ensures
-    ∙ site_held program c.args.sites.now (record { 0 = c.args.number }) c.args.site None c.requires c.args.program.now.sites_in_order none
+    ∙ site_held program c.args.sites.now (record { 0 = c.args.number }) c.args.site None c.requires
+    c.args.program.now.sites_in_order none

@@ -13,7 +13,8 @@ pub returns-clause-puts : goal.returns-clause-puts
 returns-clause-puts c =
     let said = said_by c.args.mark.now in
     let name = codes "\"word\":" in
-    four (codes ",\"mark\":{") (detail_text (core c.args.program.now) (sides_told c.args.sides.now) said) (name ++ compact_text (string (mark_word
+    four (codes ",\"mark\":{") (detail_text (core c.args.program.now) (sides_told c.args.sides.now) said)
+    (name ++ compact_text (string (mark_word
     said))) (codes "}") c.args.text.now c.push_text.new.text c.push_detail.new.text c.push_string.new.text
     c.push_text-2.new.text c.push_text.ensures.puts c.push_detail.ensures.lasts c.push_detail.ensures.puts
     c.push_string.ensures.lasts (same_piece (name ++ compact_text (string c.mark_word.result.now)) (name ++

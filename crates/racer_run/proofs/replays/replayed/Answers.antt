@@ -12,4 +12,5 @@ returns-clause-status c =
     let program = core c.args.program.now in
     let bytes = c.args.bytes.now in
     if_ok c.read_and_judged.result (json_said program (json_of bytes))
-    (λ (said : Said). is_replay_status said.status ≡ true) (json-status program (json_of bytes)) c.read_and_judged.ensures
+    (λ (said : Said). is_replay_status said.status ≡ true)
+    (json-status program (json_of bytes)) c.read_and_judged.ensures

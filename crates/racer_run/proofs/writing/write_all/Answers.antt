@@ -13,7 +13,8 @@ loop-at-preserved g c =
     let fits : n ≤ left = omega (arith, c.in_ok-at.ensures.most, length-take left (drop c.loop-at.at text)) in
     record {
       within = omega arith;
-      taken = c.in_ok-at.ensures.taken ∙ ap (λ taken. taken_and taken (take n piece)) c.loop-at.invariant.taken ∙ taken_and-more _ _ _ _ _ fits;
+      taken = c.in_ok-at.ensures.taken ∙ ap (λ taken. taken_and taken (take n piece)) c.loop-at.invariant.taken
+          ∙ taken_and-more _ _ _ _ _ fits;
       no_fault = c.in_ok-at.ensures.count ∙ c.loop-at.invariant.no_fault;
       room = λ enough.
           let before = c.loop-at.invariant.room enough in

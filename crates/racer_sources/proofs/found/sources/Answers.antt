@@ -14,8 +14,12 @@ returns-in-Err-clause-steady g c = λ steady.
     let told = g.F.Folder.told c.args.folder.now in
     let names = c.as_slice.result.now in
     let Never : Type 0 = c.in-Err.fault ≡ Failed → ⊥ in
-    let there = subst (λ (o : Option Told). IfSome o (λ (t : Told). AreThere t.files (map string_bytes names) → Never)) c.in_ok-names.ensures.told (c.in-Err.ensures.steady (c.in_ok-names.ensures.stays steady)) in
-    let named = subst (λ (ns : List (String Global)). IfSome told (λ (t : Told). map string_bytes ns ≡ source_names t.files)) (sym c.as_slice.ensures.value) c.in_ok-names.ensures.names in
+    let there = subst (λ (o : Option Told). IfSome o
+    (λ (t : Told). AreThere t.files (map string_bytes names) → Never)) c.in_ok-names.ensures.told
+    (c.in-Err.ensures.steady (c.in_ok-names.ensures.stays steady)) in
+    let named = subst (λ (ns : List (String Global)). IfSome told
+    (λ (t : Told). map string_bytes ns ≡ source_names t.files))
+    (sym c.as_slice.ensures.value) c.in_ok-names.ensures.names in
     steady_answer _ _ c.refused.result (λ t. c.args.name.now ≡ t.name) told c.refused.ensures
     (steady_sources Never told names there named)
 
@@ -36,7 +40,8 @@ returns-in-Err-clause-entered g c = on_ok_anyhow _ c.refused.result c.in_ok-name
 
 pub returns-in-Ok-clause-known : goal.returns-in-Ok-clause-known
 returns-in-Ok-clause-known g c =
-    subst (λ (ns : List (String Global)). AreKnown (map string_bytes ns) c.in-Ok.declared.units.items c.in-Ok.declared.table)
+    subst (λ (ns : List (String Global)). AreKnown
+    (map string_bytes ns) c.in-Ok.declared.units.items c.in-Ok.declared.table)
     c.as_slice.ensures.value c.in-Ok.ensures.known
 
 pub returns-in-Err-clause-known : goal.returns-in-Err-clause-known

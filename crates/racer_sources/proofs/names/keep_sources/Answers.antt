@@ -4,4 +4,5 @@ use Rattle.racer_sources.specs.Sources.{is_java}
 use Rattle.racer_sources.proofs.names.keep_sources.Goals as goal
 
 pub returns : goal.returns
-returns c = filter_from_retain _ (λ name. is_java (string_bytes name)) (λ p x b q h. search rules) _ _ _ c.retain.ensures.filtered
+returns c = filter_from_retain _ (λ name. is_java (string_bytes name))
+    (λ p x b q h. search rules) _ _ _ c.retain.ensures.filtered

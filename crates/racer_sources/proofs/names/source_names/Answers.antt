@@ -4,7 +4,9 @@ use Rattle.racer_sources.proofs.names.source_names.Goals as goal
 
 pub returns-clause-names : goal.returns-clause-names
 returns-clause-names g c =
-    sorted_sources _ (g.F.Folder.told c.enter.new.self) c.in_ok-names.names.items c.sort.new.self.items _ c.enter.ensures.told c.in_ok-names.ensures.names c.sort.ensures.permutation c.in_ok-sort.ensures.sorted c.keep_sources.ensures
+    sorted_sources _ (g.F.Folder.told c.enter.new.self) c.in_ok-names.names.items c.sort.new.self.items _
+    c.enter.ensures.told c.in_ok-names.ensures.names c.sort.ensures.permutation c.in_ok-sort.ensures.sorted
+    c.keep_sources.ensures
 
 pub returns-clause-told : goal.returns-clause-told
 returns-clause-told g c = c.in_ok-names.ensures.told ∙ c.enter.ensures.told

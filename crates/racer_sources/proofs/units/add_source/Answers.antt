@@ -9,7 +9,8 @@ use Rattle.racer_sources.specs.Reading.{IsThere, NeverFails, next_file}
 use Rattle.racer_sources.proofs.units.add_source.Goals as goal
 
 pub returns-clause-count : goal.returns-clause-count
-returns-clause-count g c = file_counts (next_file c.args.read.now) _ _ c.add_bytes.result _ _ c.add_bytes.ensures.fault c.in-Ok.ensures.count
+returns-clause-count g c = file_counts (next_file c.args.read.now) _ _ c.add_bytes.result _ _
+    c.add_bytes.ensures.fault c.in-Ok.ensures.count
 
 pub returns-clause-steady : goal.returns-clause-steady
 returns-clause-steady g c = λ _.
@@ -18,18 +19,23 @@ returns-clause-steady g c = λ _.
 
 pub returns-clause-any : goal.returns-clause-any
 returns-clause-any g c =
-    added_somehow c.as_slice.result.now c.args.read.now c.add_bytes.new.read c.add_bytes.result c.add_bytes.ensures.added
+    added_somehow c.as_slice.result.now c.args.read.now c.add_bytes.new.read c.add_bytes.result
+    c.add_bytes.ensures.added
 
 pub returns-clause-read : goal.returns-clause-read
 returns-clause-read g c =
     let told = g.F.Folder.told c.args.folder.now in
-    let read = subst (λ (bytes : List ℕ). IfSome told (λ (t : Told). option_map (take (MAX_FILE_BYTES + 1)) (get t.files c.args.name.now) ≡ Some bytes)) (sym c.as_slice.ensures.value) c.in-Ok.ensures.bytes in
+    let read = subst (λ (bytes : List ℕ). IfSome told
+    (λ (t : Told). option_map (take (MAX_FILE_BYTES + 1)) (get t.files c.args.name.now) ≡ Some bytes))
+    (sym c.as_slice.ensures.value) c.in-Ok.ensures.bytes in
     added_told told c.args.name.now c.as_slice.result.now read c.args.read.now c.add_bytes.new.read c.add_bytes.result
     c.add_bytes.ensures.added
 
 pub returns-clause-refused : goal.returns-clause-refused
 returns-clause-refused g c =
     let told = g.F.Folder.told c.args.folder.now in
-    let read = subst (λ (bytes : List ℕ). IfSome told (λ (t : Told). option_map (take (MAX_FILE_BYTES + 1)) (get t.files c.args.name.now) ≡ Some bytes)) (sym c.as_slice.ensures.value) c.in-Ok.ensures.bytes in
+    let read = subst (λ (bytes : List ℕ). IfSome told
+    (λ (t : Told). option_map (take (MAX_FILE_BYTES + 1)) (get t.files c.args.name.now) ≡ Some bytes))
+    (sym c.as_slice.ensures.value) c.in-Ok.ensures.bytes in
     refused_told told c.args.name.now c.as_slice.result.now read (next_file c.args.read.now) c.args.read.now.sum
     c.add_bytes.result c.add_bytes.ensures.fault

@@ -33,8 +33,11 @@ loop-name-preserved g c =
       any = somehow_more old new before.any after.any;
       leads = leads_more (g.F.Folder.told c.args.folder.now) c.args.names.now c.loop-name.name-index name old new
           c.loop-name-test.true before.leads
-          (subst (λ (o : Option Told). IfSome o (λ (t : Told). IsAdded (bytes_of t.files (string_bytes (get_or c.args.names.now c.loop-name.name-index name))) old new)) before.told
-          (subst (λ (bytes : List ℕ). IfSome (g.F.Folder.told c.loop-name.folder) (λ (t : Told). IsAdded (bytes_of t.files bytes) old new)) text after.read));
+          (subst (λ (o : Option Told). IfSome o
+          (λ (t : Told). IsAdded (bytes_of t.files
+          (string_bytes (get_or c.args.names.now c.loop-name.name-index name))) old new)) before.told
+          (subst (λ (bytes : List ℕ). IfSome (g.F.Folder.told c.loop-name.folder)
+          (λ (t : Told). IsAdded (bytes_of t.files bytes) old new)) text after.read));
     }
 
 pub returns-clause-read : goal.returns-clause-read
@@ -62,5 +65,7 @@ returns-in-Err-clause-refused g c =
     let text = c.as_str.ensures.value ∙ ap string_bytes c.name-item.is in
     refused_there (g.F.Folder.told c.args.folder.now) names i name read fault c.loop-name-test.true
     c.loop-name.invariant.leads
-    (subst (λ (o : Option Told). IfSome o (λ (t : Told). IfRefused fault (IsNextRefused (bytes_of t.files (string_bytes (get_or names i name))) read))) c.loop-name.invariant.told
-    (subst (λ (bytes : List ℕ). IfSome (g.F.Folder.told c.loop-name.folder) (λ (t : Told). IfRefused fault (IsNextRefused (bytes_of t.files bytes) read))) text c.in-Err.ensures.refused))
+    (subst (λ (o : Option Told). IfSome o (λ (t : Told). IfRefused fault
+    (IsNextRefused (bytes_of t.files (string_bytes (get_or names i name))) read))) c.loop-name.invariant.told
+    (subst (λ (bytes : List ℕ). IfSome (g.F.Folder.told c.loop-name.folder)
+    (λ (t : Told). IfRefused fault (IsNextRefused (bytes_of t.files bytes) read))) text c.in-Err.ensures.refused))

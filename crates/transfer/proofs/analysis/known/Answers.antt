@@ -29,7 +29,8 @@ loop-one-preserved c = λ m.
 
 pub loop-one-init : goal.loop-one-init
 loop-one-init c = λ m.
-    ap (λ (cs : List Callee). option_or (outcome_among cs m) (outcome_in c.args.finished.now m)) c.new-callees.ensures.items
+    ap (λ (cs : List Callee). option_or (outcome_among cs m) (outcome_in c.args.finished.now m))
+    c.new-callees.ensures.items
 
 pub returns : goal.returns
 returns c = λ m.

@@ -11,7 +11,8 @@ use Rattle.transfer.proofs.resuming.+resumes.Goals as goal
 
 pub resume_round-returns-then-not-passed : goal.resume_round-returns-then-not-passed
 resume_round-returns-then-not-passed t c =
-    ended_round (given c.args.frame.now) (tree_of c.args.body.now) c.args.locked c.args.first c.args.here.now c.in-Ok.end
+    ended_round (given c.args.frame.now) (tree_of c.args.body.now) c.args.locked c.args.first c.args.here.now
+    c.in-Ok.end
     c.resume.new.here c.args.heads.now.items c.resume.new.heads.items c.in-Ok-resume.passed
     (is_no c.in-Ok-resume.passed.goes_on c.if-not-passed.true) c.in-Ok.ensures c.in-Ok-resume.ensures
 
@@ -19,7 +20,8 @@ pub resume_rounds-returns-then-not-changed : goal.resume_rounds-returns-then-not
 resume_rounds-returns-then-not-changed t c =
     let go = resumed (given c.args.frame.now) (tree_of c.args.body.now) c.args.locked c.args.first in
     let at = c.loop-round in
-    let left : c.args.rounds - at.round ≡ suc (c.args.rounds - (at.round + 1)) = omega (arith, c.loop-round-test.true) in
+    let left : c.args.rounds - at.round ≡ suc (c.args.rounds - (at.round + 1)) =
+    omega (arith, c.loop-round-test.true) in
     let m = c.in-Ok.ensures in
     let ends =
     round_ends go (c.args.rounds - (at.round + 1)) (c.args.rounds - at.round) (heads_in at.heads.items)
@@ -33,7 +35,8 @@ pub resume_rounds-loop-round-preserved : goal.resume_rounds-loop-round-preserved
 resume_rounds-loop-round-preserved t c =
     let go = resumed (given c.args.frame.now) (tree_of c.args.body.now) c.args.locked c.args.first in
     let at = c.loop-round in
-    let left : c.args.rounds - at.round ≡ suc (c.args.rounds - (at.round + 1)) = omega (arith, c.loop-round-test.true) in
+    let left : c.args.rounds - at.round ≡ suc (c.args.rounds - (at.round + 1)) =
+    omega (arith, c.loop-round-test.true) in
     let m = c.in-Ok.ensures in
     record {
       same =

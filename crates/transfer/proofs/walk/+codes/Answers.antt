@@ -30,7 +30,8 @@ go-returns-in-Err t c =
     record {
       flow =
           subst (λ (code : Tree). IsStopped c.args.found.now (flow g code c.args.locked here) c.in-Err.stop) (sym sides)
-          (stopped-left (flow g left c.args.locked here) (flow g right c.args.locked here) c.args.found.now c.in-Err.stop
+          (stopped-left (flow g left c.args.locked here)
+          (flow g right c.args.locked here) c.args.found.now c.in-Err.stop
           c.in-Err.ensures.flow);
       calls = tt;
     }

@@ -13,4 +13,8 @@ use Rattle.transfer.proofs.walk.+codes.Given as goal
 
 -- what is done of the parts that are left, from here on, makes up the whole from the beginning on
 abbrev pub invariant-go_through-loop-part : goal.invariant-go_through-loop-part
-invariant-go_through-loop-part l = IsHighEnough (in_sequence (map tree_of (drop l.part-index l.parts))) l.here × ((here : State) (new : Found) (r : Result Bool Stop) → IsFlow (flow (given l.frame) (in_sequence (map tree_of (drop l.part-index l.parts))) l.locked l.here) here l.found new r → IsFlow (flow (given l.frame) (in_sequence (map tree_of l.parts)) l.locked l.fn.here) here l.fn.found new r) × AreFound (given l.frame) l.calls.keys l.found
+invariant-go_through-loop-part l = IsHighEnough (in_sequence (map tree_of (drop l.part-index l.parts))) l.here
+    × ((here : State) (new : Found) (r : Result Bool Stop) →
+    IsFlow (flow (given l.frame) (in_sequence (map tree_of (drop l.part-index l.parts))) l.locked l.here) here l.found
+    new r → IsFlow (flow (given l.frame) (in_sequence (map tree_of l.parts)) l.locked l.fn.here) here l.fn.found new
+    r) × AreFound (given l.frame) l.calls.keys l.found

@@ -68,7 +68,8 @@ returns-clause-state c =
     let next : (flow g body c.args.locked here).next ≡ Some c.resume.new.here =
     k.0 ∙ ap (λ (b : Bool). next_of b c.resume.new.here)
     (is_yes c.in-Ok-resume.passed.goes_on c.if-not-passed.false) in
-    subst (λ (o : Option State). OnOk c.meet.result (c.meet.new.here ≡ round_next here o)) (sym next) c.meet.ensures.state
+    subst (λ (o : Option State). OnOk c.meet.result (c.meet.new.here ≡ round_next here o))
+    (sym next) c.meet.ensures.state
 
 pub returns-clause-found : goal.returns-clause-found
 returns-clause-found c =
@@ -82,7 +83,8 @@ returns-clause-found c =
     let next : (flow g body c.args.locked here).next ≡ Some c.resume.new.here =
     k.0 ∙ ap (λ (b : Bool). next_of b c.resume.new.here)
     (is_yes c.in-Ok-resume.passed.goes_on c.if-not-passed.false) in
-    subst (λ (o : Option State). IsMarked c.args.found.now (marks [] (round_lost here o)) c.meet.new.found c.meet.result)
+    subst (λ (o : Option State). IsMarked c.args.found.now
+    (marks [] (round_lost here o)) c.meet.new.found c.meet.result)
     (sym next) c.meet.ensures.found
 
 pub returns-clause-sound : goal.returns-clause-sound

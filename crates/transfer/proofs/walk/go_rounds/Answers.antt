@@ -5,7 +5,8 @@ use Rattle.transfer.proofs.walk.go_rounds.Goals as goal
 
 pub returns-clause-rounds : goal.returns-clause-rounds
 returns-clause-rounds c =
-    rounds_whole (given c.args.frame.now) c.args.locked c.height.result (tree_of c.in-Ok.short) (tree_of c.args.body.now)
+    rounds_whole (given c.args.frame.now) c.args.locked c.height.result (tree_of c.in-Ok.short)
+    (tree_of c.args.body.now)
     c.args.here.now c.go_through_rounds-done.new.here c.args.found.now c.go_through_rounds-done.new.found
     c.go_through_rounds-done.result c.height.ensures
     (record { next = c.in-Ok.ensures.next; height = c.in-Ok.ensures.height }) c.requires.high

@@ -7,4 +7,11 @@ use Rattle.transfer.proofs.Flows.{AreRounds}
 use Rattle.transfer.proofs.walk.go_through_rounds.Given as goal
 
 abbrev pub invariant-loop-round : goal.invariant-loop-round
-invariant-loop-round l = let total = length l.fn.here.vars + length l.fn.here.stack + 1 in record { rounds : AreRounds (flow (given l.frame) (tree_of l.body) l.locked) total (total - l.round) l.fn.here l.here l.fn.found l.found; high : IsHighEnough (Again (tree_of l.body)) l.here; sound : AreSound (given l.frame) (tree_of l.body) l.locked l.heads.items l.here }
+invariant-loop-round l = let total = length l.fn.here.vars + length l.fn.here.stack + 1 in
+    record {
+      rounds : AreRounds (flow (given l.frame) (tree_of l.body) l.locked) total
+          (total - l.round) l.fn.here l.here l.fn.found l.found;
+      high : IsHighEnough
+          (Again (tree_of l.body)) l.here;
+      sound : AreSound (given l.frame) (tree_of l.body) l.locked l.heads.items l.here;
+    }

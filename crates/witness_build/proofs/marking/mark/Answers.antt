@@ -2,6 +2,9 @@ use Rattle.core_code.specs.Program.{core}
 use Rattle.witness_build.proofs.ReplayedRuns.{marked-race, marked-right}
 use Rattle.witness_build.proofs.marking.mark.Goals as goal
 
+pub mark_from-mark-requires-clause-known : goal.mark_from-mark-requires-clause-known
+mark_from-mark-requires-clause-known c = c.new-known.ensures (core c.args.program.now)
+
 pub mark_from-mark-requires-clause-walks : goal.mark_from-mark-requires-clause-walks
 mark_from-mark-requires-clause-walks c = c.new-walks.ensures (core c.args.program.now)
 

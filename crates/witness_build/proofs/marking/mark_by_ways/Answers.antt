@@ -13,13 +13,13 @@ pub mark_along-requires-clause-short : goal.mark_along-requires-clause-short
 mark_along-requires-clause-short c =
     let w = c.args.warning.now in
     both-short (core c.args.program.now) w.partner w.entry w.partner_access w.access c.in_ok-both.both
-    c.in_ok-both.ensures
+    c.in_ok-both.ensures.both
 
 pub mark_along-requires-else-locked-clause-short : goal.mark_along-requires-else-locked-clause-short
 mark_along-requires-else-locked-clause-short c =
     let w = c.args.warning.now in
     both-short (core c.args.program.now) w.entry w.partner w.access w.partner_access c.in_ok-both-2.both
-    c.in_ok-both-2.ensures
+    c.in_ok-both-2.ensures.both
 
 pub returns-in_ok-both-clause-mark : goal.returns-in_ok-both-clause-mark
 returns-in_ok-both-clause-mark c =
@@ -29,7 +29,7 @@ returns-in_ok-both-clause-mark c =
     let second = way_of program w.entry w.access in
     said-then c.mark_along.result (said_of program (pair_of w) 1 0 first second) (mark_by_calls program (pair_of w))
     (said-locked program (pair_of w) (c.requires.locked ∙ c.if-locked.true))
-    (c.mark_along.ensures.mark first second c.in_ok-both.ensures)
+    (c.mark_along.ensures.mark first second c.in_ok-both.ensures.both)
 
 pub returns-in_ok-both-2-clause-mark : goal.returns-in_ok-both-2-clause-mark
 returns-in_ok-both-2-clause-mark c =
@@ -40,4 +40,4 @@ returns-in_ok-both-2-clause-mark c =
     said-then c.mark_along-else-locked.result (said_of program (pair_of w) 0 1 first second)
     (mark_by_calls program (pair_of w))
     (said-unlocked program (pair_of w) (c.requires.locked ∙ c.if-locked.false))
-    (c.mark_along-else-locked.ensures.mark first second c.in_ok-both-2.ensures)
+    (c.mark_along-else-locked.ensures.mark first second c.in_ok-both-2.ensures.both)

@@ -2,7 +2,7 @@ use Rattle.std.proofs.Common.{List, [], ◌∷◌, ap, ◌∙◌}
 use Rattle.core_code.specs.Program.{core}
 use Rattle.core_semantics.specs.declared.object.StartPath.{StartPath}
 use Rattle.core_semantics.specs.View.{state_of}
-use Rattle.core_ways.specs.Marks.{Confirmed, leg_of}
+use Rattle.core_ways.specs.Marks.{Confirmed, blocked_at, leg_of}
 use Rattle.witness_build_apart.proofs.SaidByRun.{both-gathered, few-gathered, leg-past, leg-stopped, said-both, said-first}
 use Rattle.witness_build_apart.proofs.SaidByRun.{said-second}
 use Rattle.witness_build.proofs.marking.mark_of_stopped.Goals as goal
@@ -14,6 +14,7 @@ returns-then-not-branch c =
     let start = state_of c.args.machine.now in
     let to = state_of c.run_leg.new.machine in
     c.blocked.ensures
+    ∙ ap (blocked_at first.thread) c.place.ensures
     ∙ said-first program (leg_of first) (leg_of c.args.second.now) start to
     (leg-stopped program first.thread first.steps first.turns start to c.in_ok-run_leg.field-0
     c.in_ok-run_leg.ensures.end c.if-not-branch.true)
@@ -27,6 +28,7 @@ returns-then-not-branch-2 c =
     let to = state_of c.run_leg.new.machine in
     let end = state_of c.run_leg-2.new.machine in
     c.blocked-then-not-branch-2.ensures
+    ∙ ap (blocked_at second.thread) c.place-then-not-branch-2.ensures
     ∙ said-second program (leg_of first) (leg_of second) start to end
     (leg-past program first.thread first.steps first.turns start to c.in_ok-run_leg.field-0
     c.in_ok-run_leg.ensures.end c.if-not-branch.false)

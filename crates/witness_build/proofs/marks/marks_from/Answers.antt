@@ -13,6 +13,7 @@ loop-warning-preserved c =
           c.in_ok-mark_from.field-0 c.loop-warning.marks.items c.push.new.self.items c.loop-warning-test.true
           c.in_ok-push.ensures.items c.in_ok-mark_from.ensures.mark
           ∙ c.loop-warning.invariant.marks;
+      known = c.in_ok-mark_from.ensures.known;
       walks = c.in_ok-mark_from.ensures.walks;
     }
 

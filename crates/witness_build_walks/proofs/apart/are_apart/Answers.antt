@@ -1,13 +1,8 @@
-use Rattle.std.proofs.Common.{◌≡◌, true, List, [], ◌∷◌, length, nat_eq, refl, sym, ◌∙◌, arith}
-use Rattle.std.proofs.lemmas.Bool.{eqb-true}
-use Rattle.core_semantics.specs.declared.answer.Holder.{Holder}
+use Rattle.std.proofs.Common.{sym, ◌∙◌}
 use Rattle.core_semantics.specs.State.{thread_of}
 use Rattle.core_semantics.specs.View.{state_of}
+use Rattle.witness_build_walks.proofs.ApartWalks.{none-held}
 use Rattle.witness_build_walks.proofs.apart.are_apart.Goals as goal
-
-none-held : (locks : List Holder) → nat_eq (length locks) 0 ≡ true → locks ≡ []
-none-held [] e = refl
-none-held (x ∷ xs) e = absurd (let none : length (x ∷ xs) ≡ 0 = eqb-true (length (x ∷ xs)) 0 e in omega (arith, none))
 
 pub returns : goal.returns
 returns c = λ e.

@@ -1,12 +1,12 @@
-use Rattle.std.proofs.Common.{ap, ◌∙◌}
+use Rattle.std.proofs.Common.{Option, ap, ◌∙◌}
 use Rattle.racer_base.specs.declared.ids.Place.{Place}
-use Rattle.core_ways.specs.Marks.{Blocked}
+use Rattle.core_ways.specs.Marks.{blocked_at}
 use Rattle.witness_build_walks.proofs.ApartWalks.{told-past, told-second}
 use Rattle.witness_build_walks.proofs.apart.told.Goals as goal
 
 pub returns-then-not-all : goal.returns-then-not-all
 returns-then-not-all c = λ core m n m1 m2 f g threads of_first of_second one other.
-    ap (λ (at : Place). Blocked c.args.second.now.thread at) c.place_of.ensures
+    ap (λ (at : Option Place). blocked_at c.args.second.now.thread at) c.place_of.ensures
     ∙ told-second core f g m n m1 m2 c.args.first.now c.args.second.now c.args.all threads of_first of_second one other
     (c.are_apart.ensures c.if-not-are_apart.false) c.if-not-all.true
 

@@ -16,7 +16,6 @@ returns-clause-told c = λ m1 m2 of_first of_second.
     let program = core c.args.program.now in
     let first = c.args.first in
     let second = c.args.second in
-    c.told_of.ensures program first.method second.method m1 m2 first.leg.now second.leg.now c.requires.threads of_first
-    of_second
+    c.told_of.ensures first.method m1 m2 first.leg.now c.requires.threads of_first of_second
     (subst (λ (all : Bool). IsGoneIn program first.method first.leg.now all c.walk_along.new.slot)
     c.if-not-branch.false c.in_ok-walk_along.ensures.gone) c.in_ok-all.ensures.gone

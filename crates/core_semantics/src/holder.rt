@@ -1,0 +1,83 @@
+//! Equality and an order of monitors.
+ghost use Rattle.std.specs.Prelude.{◌≡◌, IfOk};
+ghost use Rattle.core_semantics.specs.Order.{holder_cmp};
+
+use crate::Holder;
+use racer_base::Memory;
+use std::alloc::Global;
+use std::cmp::Ordering;
+
+impl PartialEq for Holder {
+    ghost use Rattle.core_semantics.specs.Objects.{same_monitor};
+    ghost use Rattle.core_semantics.specs.SameMonitor.{same_monitor-laws};
+
+    ghost eq = { same_monitor };
+
+    ghost laws = { same_monitor-laws };
+
+    fn eq(&self, other: &Holder) -> bool {
+        compare(self, other).is_eq()
+    }
+}
+
+impl Eq for Holder {
+    ghost use Rattle.core_semantics.specs.SameMonitor.{same_monitor-equivalence};
+
+    ghost laws = { same_monitor-equivalence };
+}
+
+impl PartialOrd for Holder {
+    ghost use Rattle.std.specs.Ordering.{as_partial_cmp};
+    ghost use Rattle.core_semantics.specs.Order.{holder_cmp};
+    ghost use Rattle.core_semantics.specs.SameMonitor.{holder_cmp-partial};
+
+    ghost partial_cmp = { as_partial_cmp holder_cmp };
+
+    ghost laws = { holder_cmp-partial };
+
+    fn partial_cmp(&self, other: &Holder) -> Option<Ordering> {
+        Some(compare(self, other))
+    }
+}
+
+impl Ord for Holder {
+    ghost use Rattle.std.proofs.Common.{refl, sym};
+    ghost use Rattle.core_semantics.specs.Order.{holder_cmp};
+    ghost use Rattle.core_semantics.specs.SameMonitor.{holder_cmp-total, monitors_tied};
+
+    ghost cmp = { holder_cmp };
+
+    ghost total = { holder_cmp-total };
+
+    ghost matches_partial_cmp = { λ a b. refl };
+
+    ghost matches_eq = { λ a b. sym (monitors_tied a b) };
+
+    fn cmp(&self, other: &Holder) -> Ordering {
+        compare(self, other)
+    }
+}
+
+/// The order of two monitors: that of their objects, and then the one of all values from outside the folder.
+fn compare(a: &Holder, b: &Holder) -> Ordering
+    ensures { result ≡ holder_cmp a.now b.now }
+{
+    match (a, b) {
+        (Holder::Object(a), Holder::Object(b)) => a.cmp(b),
+        (Holder::Object(_), Holder::Outside) => Ordering::Less,
+        (Holder::Outside, Holder::Object(_)) => Ordering::Greater,
+        (Holder::Outside, Holder::Outside) => Ordering::Equal,
+    }
+}
+
+impl Holder {
+    /// A monitor that is equal to this one.
+    pub(crate) fn copied(&self, alloc: Global) -> Result<Holder, Memory>
+        ensures { IfOk result (λ copy. copy ≡ self.now) }
+    {
+        match self {
+            Holder::Object(object) => Ok(Holder::Object(object.copied(alloc)?)),
+            Holder::Outside => Ok(Holder::Outside),
+        }
+    }
+}

@@ -1,0 +1,4 @@
+pub mod LeadsOn
+pub mod SiteLeads
+pub mod Noted
+pub mod KnownWays

@@ -1,0 +1,4 @@
+-- A contract of a public call rests on this: the list of files.
+pub mod Gone
+pub mod Sites
+pub mod Known

@@ -1,0 +1,4 @@
+pub mod ToldCycles
+pub mod FallingNumbers
+pub mod TotalLowering
+pub mod TotalSources
