@@ -21,13 +21,13 @@ use Rattle.core_code.specs.declared.code.Op.TheVariants.{Push, PushClass, PushPr
 use Rattle.core_code.specs.declared.code.Op.TheVariants.{Set, Prim, Outside, Call, Unread, Ret}
 use Rattle.core_code.specs.Core.{Core, Method}
 use Rattle.core_code.specs.Calls.{method_at, rank_of}
-use Rattle.core_code.specs.Tree.{Tree, Step, Nothing, Then, Either, Again, Held, Operation, steps_of}
+use Rattle.core_code.specs.Tree.{Tree, Op, Skip, Seq, Choice, Loop, Sync, Operation, steps_of}
 use Rattle.core_code.proofs.ByRank.{known_below-some}
 use Rattle.core_code.proofs.Membership.{In, in_from_Contains, in_append, in_flat_map, in_enumerate_from}
 use Rattle.access_domain.specs.declared.access.Access.{Access}
 use Rattle.access_domain.specs.Records.{firsts, first_of_keys, same_key}
 use Rattle.access_domain.specs.Findings.{Findings, Known, Large, Whole, Table}
-use Rattle.access_domain.specs.Given.{Given, given_of}
+use Rattle.access_domain.specs.Given.{FlowContext, given_of}
 use Rattle.access_domain.specs.Substitution.{Actuals, touched, actuals_from, substituted_path, substituted_record}
 use Rattle.access_domain.specs.Substitution.{substituted}
 use Rattle.access_domain.specs.Operations.{Effects, record_of, passed_from, slot_of, top, popped, call_effects}
@@ -60,7 +60,7 @@ record MadeAt (touch : Touch) (there : SiteId) (a : Access) : Type 0 where
   kind : Some touch ≡ Some a.kind
   below : a.below ≡ None
 
-made : (g : Given) (kind : Touch) (locked : Bool) (site : SiteId) (o : Option Path) (a : Access) →
+made : (g : FlowContext) (kind : Touch) (locked : Bool) (site : SiteId) (o : Option Path) (a : Access) →
     In (elim o as (λ _. List Access) [
       | None ↦ []
       | Some p ↦ record { path = p; kind = kind; locked = locked; main = g.main; site = site; below = None } ∷ []
@@ -75,7 +75,8 @@ made g kind locked site (Some p) a h =
     })
     (λ r. absurd r) h
 
-made_record : (g : Given) (kind : Touch) (locked : Bool) (site : SiteId) (base : Value) (f : FieldId) (a : Access) →
+made_record : (g : FlowContext) (kind : Touch) (locked : Bool) (site : SiteId) (base : Value) (f : FieldId)
+    (a : Access) →
     In (record_of g kind locked site base f) a → MadeAt kind site a
 made_record g kind locked site base f a h =
     elim (g.is_recorded f) as (λ b. In (cond b (elim (touched g base f) as (λ _. List Access) [
@@ -88,13 +89,13 @@ made_record g kind locked site base f a h =
 
 -- ---- the record of a callee
 
-record Brought (g : Given) (actuals : Actuals) (there : SiteId) (e : ℕ × Access) (a : Access) : Type 0 where
+record Brought (g : FlowContext) (actuals : Actuals) (there : SiteId) (e : ℕ × Access) (a : Access) : Type 0 where
   site : there ≡ a.site
   kind : a.kind ≡ e.1.kind
   below : a.below ≡ Some e.0
   path : substituted_path g actuals e.1.path ≡ Some a.path
 
-brought : (g : Given) (actuals : Actuals) (locked : Bool) (site : SiteId) (e : ℕ × Access) (a : Access) →
+brought : (g : FlowContext) (actuals : Actuals) (locked : Bool) (site : SiteId) (e : ℕ × Access) (a : Access) →
     In (substituted_record g actuals locked site e) a → Brought g actuals site e a
 brought g actuals locked site e a h =
     elim (substituted_path g actuals e.1.path) as (λ o. substituted_path g actuals e.1.path ≡ o →
@@ -128,8 +129,9 @@ brought g actuals locked site e a h =
 at_once : (o : Operation) → Contains (o ∷ []) o
 at_once o = (0, omega arith, refl)
 
-own : (g : Given) (site : SiteId) (place : Place) (op : CoreOp) (kind : Touch) (a : Access) → touch_of op ≡ Some kind →
-    MadeAt kind site a → HasOrigin g (Step site place op) a
+own : (g : FlowContext) (site : SiteId) (place : Place) (op : CoreOp) (kind : Touch) (a : Access) →
+    touch_of op ≡ Some kind →
+    MadeAt kind site a → HasOrigin g (Op site place op) a
 own g site place op kind a touches m =
     inl (record {
       operation = record { site = site; place = place; op = op };
@@ -139,10 +141,11 @@ own g site place op kind a touches m =
       below = m.below;
     })
 
-of_callee : (g : Given) (site : SiteId) (place : Place) (m : MethodId) (n : ℕ) (found : Findings) (actuals : Actuals)
+of_callee : (g : FlowContext) (site : SiteId) (place : Place) (m : MethodId) (n : ℕ) (found : Findings)
+    (actuals : Actuals)
     (locked : Bool) (a : Access) →
     g.known_of m ≡ Some (Whole found) → In (substituted g actuals found locked site).records a →
-    HasOrigin g (Step site place (Call m n)) a
+    HasOrigin g (Op site place (Call m n)) a
 of_callee g site place m n found actuals locked a known h =
     let all : List Access = flat_map (substituted_record g actuals locked site) (enumerate_from 0 found.records) in
     let one = in_flat_map (substituted_record g actuals locked site) (enumerate_from 0 found.records) a
@@ -168,16 +171,17 @@ of_callee g site place m n found actuals locked a known h =
       path = b.path;
     })
 
-called : (g : Given) (locked : Bool) (site : SiteId) (place : Place) (m : MethodId) (n : ℕ) (s : State) (a : Access)
+called : (g : FlowContext) (locked : Bool) (site : SiteId) (place : Place) (m : MethodId) (n : ℕ) (s : State)
+    (a : Access)
     (o : Option Known) →
-    g.known_of m ≡ o → In (call_effects g locked site m n s o).records a → HasOrigin g (Step site place (Call m n)) a
+    g.known_of m ≡ o → In (call_effects g locked site m n s o).records a → HasOrigin g (Op site place (Call m n)) a
 called g locked site place m n s a None known h = absurd h
 called g locked site place m n s a (Some Large) known h = absurd h
 called g locked site place m n s a (Some (Whole found)) known h =
     of_callee g site place m n found (actuals_from (g.is_static m) (passed_from s n)) locked a known h
 
-op_origin : (g : Given) (locked : Bool) (site : SiteId) (place : Place) (op : CoreOp) (s : State) (a : Access) →
-    In (op_effects g locked site op s).records a → HasOrigin g (Step site place op) a
+op_origin : (g : FlowContext) (locked : Bool) (site : SiteId) (place : Place) (op : CoreOp) (s : State) (a : Access) →
+    In (op_effects g locked site op s).records a → HasOrigin g (Op site place op) a
 op_origin g locked site place (Get f) s a h =
     own g site place (Get f) Read a refl (made_record g Read locked site (top s) f a h)
 op_origin g locked site place (Put f) s a h =
@@ -199,7 +203,7 @@ op_origin g locked site place Ret s a h = absurd h
 -- ---- code
 
 -- what a part has the whole has
-lifted : (g : Given) (part whole : Tree) (a : Access) →
+lifted : (g : FlowContext) (part whole : Tree) (a : Access) →
     ((o : Operation) → Contains (steps_of part) o → Contains (steps_of whole) o) →
     HasOrigin g part a → HasOrigin g whole a
 lifted g part whole a has h =
@@ -241,32 +245,33 @@ either_part first rest a h =
       | Some s ↦ λ there. ⊎_elim (λ l. inl l) (λ r. inr (s, r)) (in_append first.records (rest s).records a there)
     ] h
 
-origin_in : (g : Given) (code : Tree) (locked : Bool) (s : State) (a : Access) → In (flow g code locked s).records a →
+origin_in : (g : FlowContext) (code : Tree) (locked : Bool) (s : State) (a : Access) →
+    In (flow g code locked s).records a →
     HasOrigin g code a
-origin_in g (Step site place op) locked s a h = op_origin g locked site place op s a h
-origin_in g Nothing locked s a h = absurd h
-origin_in g (Then first rest) locked s a h =
+origin_in g (Op site place op) locked s a h = op_origin g locked site place op s a h
+origin_in g Skip locked s a h = absurd h
+origin_in g (Seq first rest) locked s a h =
     ⊎_elim
-    (λ l. lifted g first (Then first rest) a (λ o.
+    (λ l. lifted g first (Seq first rest) a (λ o.
     Contains-append_left (steps_of first) (steps_of rest) o) (origin_in g first locked s a l))
-    (λ r. lifted g rest (Then first rest) a (λ o.
+    (λ r. lifted g rest (Seq first rest) a (λ o.
     Contains-append_right (steps_of first) (steps_of rest) o) (origin_in g rest locked r.0 a r.1))
     (either_part (flow g first locked s) (flow g rest locked) a h)
-origin_in g (Either left right) locked s a h =
+origin_in g (Choice left right) locked s a h =
     ⊎_elim
-    (λ l. lifted g left (Either left right) a (λ o.
+    (λ l. lifted g left (Choice left right) a (λ o.
     Contains-append_left (steps_of left) (steps_of right) o) (origin_in g left locked s a l))
-    (λ r. lifted g right (Either left right) a (λ o.
+    (λ r. lifted g right (Choice left right) a (λ o.
     Contains-append_right (steps_of left) (steps_of right) o) (origin_in g right locked s a r))
     (in_append (flow g left locked s).records (flow g right locked s).records a h)
-origin_in g (Again body) locked s a h =
-    lifted g body (Again body) a (λ o there. there)
+origin_in g (Loop body) locked s a h =
+    lifted g body (Loop body) a (λ o there. there)
     (origin_in g body locked (rounds (flow g body locked) (length s.vars + length s.stack + 1) s).0 a h)
-origin_in g (Held place body) locked s a h =
-    lifted g body (Held place body) a (λ o there. there) (origin_in g body true (popped s 1) a h)
+origin_in g (Sync place body) locked s a h =
+    lifted g body (Sync place body) a (λ o there. there) (origin_in g body true (popped s 1) a h)
 
 -- each record of a flow is an operation's own, or one of a callee
-pub origin : (g : Given) (code : Tree) (locked : Bool) (s : State) (a : Access) →
+pub origin : (g : FlowContext) (code : Tree) (locked : Bool) (s : State) (a : Access) →
     Contains (flow g code locked s).records a → HasOrigin g code a
 origin g code locked s a h = origin_in g code locked s a
     (in_from_Contains (flow g code locked s).records a h.0 h.1 h.2)

@@ -4,8 +4,8 @@ use Rattle.access_paths.specs.declared.path.Path.{Path}
 use Rattle.owner_domain.specs.declared.value.Value.{Value}
 use Rattle.owner_domain.specs.declared.value.State.{State}
 use Rattle.owner_domain.specs.Values.{joined, lost, joined_state, lost_state}
-use Rattle.core_code.specs.Tree.{Tree, Step, Nothing, Then, Either, Again, Held}
-use Rattle.access_domain.specs.Given.{Given}
+use Rattle.core_code.specs.Tree.{Tree, Op, Skip, Seq, Choice, Loop, Sync}
+use Rattle.access_domain.specs.Given.{FlowContext}
 use Rattle.access_domain.specs.Operations.{Effects, goes_on, popped, op_effects}
 
 -- the returned values of two parts join, and names may be lost
@@ -82,10 +82,10 @@ repeated last body =
 abbrev pub looped : (State → Effects) → State → Effects
 looped body s = repeated (rounds body (length s.vars + length s.stack + 1) s) body
 
-abbrev pub flow : Given → Tree → Bool → State → Effects
-flow g (Step site place op) locked s = op_effects g locked site op s
-flow g Nothing locked s = goes_on s
-flow g (Then first rest) locked s = after (flow g first locked s) (flow g rest locked)
-flow g (Either left right) locked s = chosen (flow g left locked s) (flow g right locked s)
-flow g (Again body) locked s = looped (flow g body locked) s
-flow g (Held place body) locked s = flow g body true (popped s 1)
+abbrev pub flow : FlowContext → Tree → Bool → State → Effects
+flow g (Op site place op) locked s = op_effects g locked site op s
+flow g Skip locked s = goes_on s
+flow g (Seq first rest) locked s = after (flow g first locked s) (flow g rest locked)
+flow g (Choice left right) locked s = chosen (flow g left locked s) (flow g right locked s)
+flow g (Loop body) locked s = looped (flow g body locked) s
+flow g (Sync place body) locked s = flow g body true (popped s 1)

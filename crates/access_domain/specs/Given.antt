@@ -17,7 +17,7 @@ is_plain Other = false
 
 -- the fields and the methods of the program, what is known of the methods, and whether the code runs on the main
 -- thread
-pub record Given : Type 0 where
+pub record FlowContext : Type 0 where
   pub class_of : FieldId → ClassId
   pub is_recorded : FieldId → Bool
   pub is_plain_field : FieldId → Bool
@@ -36,7 +36,7 @@ abbrev pub is_static_method : Core → MethodId → Bool
 is_static_method core m = elim (method_at core m) [ None ↦ true | Some method ↦ method.is_static ]
 
 -- what the flow of a method on the main thread, or not, is given of a program and of the methods that it calls
-abbrev pub given_of : Core → Table → Bool → Given
+abbrev pub given_of : Core → Table → Bool → FlowContext
 given_of core table main =
     record {
       class_of = λ f. (field_at core f).class;

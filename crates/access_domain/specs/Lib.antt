@@ -9,6 +9,6 @@ pub mod Substitution
 pub mod Operations
 pub mod Flow
 pub mod Summaries
-pub mod Rows
+pub mod Examples
 pub mod Outcomes
 pub mod Origins

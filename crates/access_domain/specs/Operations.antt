@@ -19,7 +19,7 @@ use Rattle.owner_domain.specs.declared.value.State.{State}
 use Rattle.owner_domain.specs.Values.{names_of, field_value}
 use Rattle.access_domain.specs.declared.access.Access.{Access}
 use Rattle.access_domain.specs.Findings.{Findings, Known, Large, Whole}
-use Rattle.access_domain.specs.Given.{Given}
+use Rattle.access_domain.specs.Given.{FlowContext}
 use Rattle.access_domain.specs.Substitution.{touched, actuals_from, substituted}
 
 -- what a flow gives: the state at its end or none, its records in order, its wobbly paths, the join of the returned
@@ -53,7 +53,7 @@ abbrev pub goes_on : State → Effects
 goes_on s = record { next = Some s; records = []; wobbly = []; result = None; large = false }
 
 -- the record of a read or write of field f of a value; volatile and final fields give none
-abbrev pub record_of : Given → Touch → Bool → SiteId → Value → FieldId → List Access
+abbrev pub record_of : FlowContext → Touch → Bool → SiteId → Value → FieldId → List Access
 record_of g kind locked site base f =
     if g.is_recorded f
     then (elim (touched g base f) [
@@ -63,7 +63,7 @@ record_of g kind locked site base f =
     else []
 
 -- what a read of field f of a value gives: nothing is known of a plain value
-abbrev pub read_value : Given → Value → FieldId → Value
+abbrev pub read_value : FlowContext → Value → FieldId → Value
 read_value g base f = if g.is_plain_field f then Unnamed else field_value base f
 
 -- a store to field f of this base makes the field's path wobbly, and that of the value which it stores
@@ -89,13 +89,13 @@ found_effects found s n =
       large = false;
     }
 
-abbrev pub call_effects : Given → Bool → SiteId → MethodId → ℕ → State → Option Known → Effects
+abbrev pub call_effects : FlowContext → Bool → SiteId → MethodId → ℕ → State → Option Known → Effects
 call_effects g locked site m n s None = unread s n
 call_effects g locked site m n s (Some Large) = record (unread s n) { large = true }
 call_effects g locked site m n s (Some (Whole found)) =
     found_effects (substituted g (actuals_from (g.is_static m) (passed_from s n)) found locked site) s n
 
-abbrev pub op_effects : Given → Bool → SiteId → CoreOp → State → Effects
+abbrev pub op_effects : FlowContext → Bool → SiteId → CoreOp → State → Effects
 op_effects g locked site (Push v) s = goes_on (pushed s (slice_index_or s.vars v.0 Unnamed))
 op_effects g locked site (PushClass c) s = goes_on (pushed s (Named (alone (Class c))))
 op_effects g locked site PushPrim s = goes_on (pushed s Unnamed)

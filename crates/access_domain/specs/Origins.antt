@@ -8,7 +8,7 @@ use Rattle.core_code.specs.declared.code.Op.TheVariants.{Get, Put, Call}
 use Rattle.core_code.specs.Tree.{Tree, Operation, steps_of}
 use Rattle.access_domain.specs.declared.access.Access.{Access}
 use Rattle.access_domain.specs.Findings.{Findings, Whole}
-use Rattle.access_domain.specs.Given.{Given}
+use Rattle.access_domain.specs.Given.{FlowContext}
 use Rattle.access_domain.specs.Substitution.{Actuals, substituted_path}
 
 -- how an operation touches a field itself
@@ -27,7 +27,7 @@ pub record IsOwn (code : Tree) (access : Access) : Type 0 where
 
 -- the record is one of a callee, by its index there, with its path put into the caller's values; a call of the code
 -- stands at the record's site
-pub record IsOfCallee (g : Given) (code : Tree) (access : Access) : Type 0 where
+pub record IsOfCallee (g : FlowContext) (code : Tree) (access : Access) : Type 0 where
   pub operation : Operation
   pub stands : Contains (steps_of code) operation
   pub site : operation.site ≡ access.site
@@ -45,5 +45,5 @@ pub record IsOfCallee (g : Given) (code : Tree) (access : Access) : Type 0 where
   pub path : substituted_path g actuals inner.path ≡ Some access.path
 
 -- a record of code is its own, or one of a callee
-abbrev pub HasOrigin : Given → Tree → Access → Type 0
+abbrev pub HasOrigin : FlowContext → Tree → Access → Type 0
 HasOrigin g code access = IsOwn code access ⊎ IsOfCallee g code access

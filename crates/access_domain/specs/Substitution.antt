@@ -13,11 +13,11 @@ use Rattle.owner_domain.specs.Values.{names_of, along}
 use Rattle.access_domain.specs.declared.access.Access.{Access}
 use Rattle.access_domain.specs.Records.{first_of_keys, different_paths}
 use Rattle.access_domain.specs.Findings.{Findings}
-use Rattle.access_domain.specs.Given.{Given}
+use Rattle.access_domain.specs.Given.{FlowContext}
 
 -- the path of field f of a value, `some c . f` where it has no name or its path would be too long, and none of an
 -- owned value
-abbrev pub touched : Given → Value → FieldId → Option Path
+abbrev pub touched : FlowContext → Value → FieldId → Option Path
 touched g Owned f = None
 touched g Unnamed f = Some (some_path (g.class_of f) f)
 touched g (Named p) f = elim (extended p f) [ None ↦ Some (some_path (g.class_of f) f) | Some q ↦ Some q ]
@@ -53,7 +53,7 @@ substituted_value actuals Unnamed = Unnamed
 substituted_value actuals (Named p) = value_named actuals p
 
 -- the path of a record of the callee, none where its base is owned; `some c . f` stays
-abbrev pub substituted_path : Given → Actuals → Path → Option Path
+abbrev pub substituted_path : FlowContext → Actuals → Path → Option Path
 substituted_path g actuals p =
     if is_some_root p.root then Some p
     else (elim (last_of p.fields) [
@@ -62,7 +62,7 @@ substituted_path g actuals p =
     ])
 
 -- a record of the callee with its index, at a call at this site
-abbrev pub substituted_record : Given → Actuals → Bool → SiteId → ℕ × Access → List Access
+abbrev pub substituted_record : FlowContext → Actuals → Bool → SiteId → ℕ × Access → List Access
 substituted_record g actuals locked site e =
     elim (substituted_path g actuals e.1.path) [
       | None ↦ []
@@ -78,7 +78,7 @@ substituted_record g actuals locked site e =
     ]
 
 -- what is found of a callee, for these actuals, at a call that is locked or not and stands at this site
-abbrev pub substituted : Given → Actuals → Findings → Bool → SiteId → Findings
+abbrev pub substituted : FlowContext → Actuals → Findings → Bool → SiteId → Findings
 substituted g actuals found locked site =
     record {
       records = first_of_keys (flat_map (substituted_record g actuals locked site) (enumerate_from 0 found.records));

@@ -19,13 +19,13 @@ ghost use Rattle.access_domain.specs.declared.access.Access.{Access};
 ghost use Rattle.access_domain.specs.declared.summary.Outcome.TheVariants.{Summary as Held};
 ghost use Rattle.access_domain.specs.Findings.{Findings, Whole};
 ghost use Rattle.access_domain.specs.Flow.{flow};
-ghost use Rattle.access_domain.specs.Given.{Given, given_of};
+ghost use Rattle.access_domain.specs.Given.{FlowContext, given_of};
 ghost use Rattle.access_domain.specs.Operations.{Effects};
 ghost use Rattle.access_domain.specs.Origins.{HasOrigin};
 ghost use Rattle.access_domain.specs.Records.{different_paths, first_of_keys, same_key};
 ghost use Rattle.access_domain.specs.Summaries.{outcome_of, known_of, known_of_callees, effects_of};
-ghost use Rattle.access_domain.specs.Rows.{mix, join, statics, field, method, class, this_path, formal_path};
-ghost use Rattle.access_domain.specs.Rows.{access, access_below};
+ghost use Rattle.access_domain.specs.Examples.{mix, join, statics, field, method, class, this_path, formal_path};
+ghost use Rattle.access_domain.specs.Examples.{access, access_below};
 
 /// A write, and two writes under a lock.
 pub fn pair_row()
@@ -136,7 +136,7 @@ pub fn later_records_of_a_key_fall_away()
 /// Each record is that of a Get or a Put at its site, or of a call at its site: then it is one of the callee's, by its
 /// index there, with its path put into the caller's values.
 pub fn records_have_origins()
-    ensures code { (g : Given) (code : Tree) (locked : Bool) (s : State) (a : Access) →
+    ensures code { (g : FlowContext) (code : Tree) (locked : Bool) (s : State) (a : Access) →
         Contains (flow g code locked s).records a → HasOrigin g code a }
     ensures method { (core : Core) (m : MethodId) (method : Method) (found : Findings) (a : Access) →
         method_at core m ≡ Some method → known_of core m ≡ Some (Whole found) → Contains found.records a →

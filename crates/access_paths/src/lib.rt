@@ -4,11 +4,13 @@
 //! `specs/Paths.antt`.
 #![tactic(auto)]
 
+mod fields;
 pub mod laws;
 mod path;
 mod table;
 mod text;
 
+pub use fields::PathFields;
 pub use path::{Path, Root};
 pub use table::PathTable;
 pub use text::path_text;

@@ -3,7 +3,8 @@ ghost use Rattle.std.specs.Prelude.{◌≡◌, false, IfOk};
 ghost use Rattle.access_paths.specs.Order.{path_cmp, root_form, root_number};
 ghost use Rattle.access_paths.specs.Paths.{alone, some_path, extended, is_prefix, is_some_root};
 
-use racer_base::{ClassId, FieldId, Items, MAX_PATH_FIELDS, Memory};
+use crate::PathFields;
+use racer_base::{ClassId, FieldId, MAX_PATH_FIELDS, Memory};
 use std::alloc::Global;
 use std::cmp::Ordering;
 use std::hash::{Hash, Hasher};
@@ -57,7 +58,7 @@ impl Root {
 #[derive(Drop)]
 pub struct Path {
     pub root: Root,
-    pub fields: Items<FieldId>,
+    pub fields: PathFields,
 }
 
 impl Path {
@@ -67,7 +68,7 @@ impl Path {
     {
         Path {
             root,
-            fields: Items::new(alloc),
+            fields: PathFields::new(alloc),
         }
     }
 
@@ -75,11 +76,11 @@ impl Path {
     pub fn of_some(alloc: Global, class: ClassId, f: FieldId) -> Result<Path, Memory>
         ensures { IfOk result (λ path. path ≡ some_path class f) }
     {
-        let mut fields = Items::new(alloc);
+        let mut fields = Vec::new(alloc);
         fields.push(f)?;
         Ok(Path {
             root: Root::Some(class),
-            fields,
+            fields: PathFields::from_vec(fields),
         })
     }
 
@@ -95,7 +96,7 @@ impl Path {
         fields.push(f)?;
         Ok(Some(Path {
             root: self.root,
-            fields: Items::from(fields),
+            fields: PathFields::from_vec(fields),
         }))
     }
 
@@ -110,10 +111,9 @@ impl Path {
     pub fn copied(&self, alloc: Global) -> Result<Path, Memory>
         ensures { IfOk result (λ copy. copy ≡ self.now) }
     {
-        let fields = Vec::from_slice(alloc, self.fields.as_slice())?;
         Ok(Path {
             root: self.root,
-            fields: Items::from(fields),
+            fields: self.fields.copied(alloc)?,
         })
     }
 }

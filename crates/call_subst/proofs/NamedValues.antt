@@ -6,7 +6,7 @@ use Rattle.access_paths.specs.declared.path.Path.{Path}
 use Rattle.access_paths.specs.Paths.{is_some_root, front_of, last_of}
 use Rattle.core_code.specs.Core.{Core}
 use Rattle.owner_domain.specs.Values.{along}
-use Rattle.access_domain.specs.Given.{Given}
+use Rattle.access_domain.specs.Given.{FlowContext}
 use Rattle.access_domain.specs.Reached.{reached_path}
 use Rattle.access_domain.specs.Substitution.{Actuals, touched, root_value, value_named, substituted_path}
 use Rattle.access_domain.proofs.ReachedPaths.{touched-along}
@@ -41,7 +41,7 @@ last_none (g ∷ h ∷ fields) e =
     last_none (h ∷ fields) (e ∙ ap (slice_get (g ∷ h ∷ fields)) index)
 
 -- a path without fields has no path in the caller
-pub none_substituted : (given : Given) (actuals : Actuals) (p : Path) → is_some_root p.root ≡ false →
+pub none_substituted : (given : FlowContext) (actuals : Actuals) (p : Path) → is_some_root p.root ≡ false →
     None ≡ slice_get p.fields (length p.fields - 1) → None ≡ substituted_path given actuals p
 none_substituted given actuals p known none =
     let by_last : Option FieldId → Option Path = λ o. elim o [

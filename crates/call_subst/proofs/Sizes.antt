@@ -11,7 +11,7 @@ use Rattle.access_domain.specs.declared.access.Access.{Access}
 use Rattle.access_domain.specs.Records.{firsts, same_key}
 use Rattle.access_paths.specs.Paths.{same_path}
 use Rattle.access_domain.specs.Findings.{Findings}
-use Rattle.access_domain.specs.Given.{Given}
+use Rattle.access_domain.specs.Given.{FlowContext}
 use Rattle.access_domain.specs.Substitution.{Actuals, substituted_path, substituted_record, value_named, substituted}
 
 filter-shorter : {X : Type 0} (test : X → Bool) (xs : List X) → length (filter test xs) ≤ length xs
@@ -45,7 +45,7 @@ length-enumerate : {X : Type 0} (n : ℕ) (xs : List X) → length (enumerate_fr
 length-enumerate n [] = refl
 length-enumerate n (x ∷ xs) = ap suc (length-enumerate (n + 1) xs)
 
-pub one_record : (g : Given) (actuals : Actuals) (locked : Bool) (site : SiteId) (e : ℕ × Access) →
+pub one_record : (g : FlowContext) (actuals : Actuals) (locked : Bool) (site : SiteId) (e : ℕ × Access) →
     length (substituted_record g actuals locked site e) ≤ 1
 one_record g actuals locked site e =
     elim (substituted_path g actuals e.1.path) as (λ o. length (elim o as (λ _. List Access) [
@@ -65,7 +65,7 @@ one_name Owned = omega arith
 one_name Unnamed = omega arith
 one_name (Named p) = omega arith
 
-pub fewer_records : (g : Given) (actuals : Actuals) (found : Findings) (locked : Bool) (site : SiteId) →
+pub fewer_records : (g : FlowContext) (actuals : Actuals) (found : Findings) (locked : Bool) (site : SiteId) →
     length (substituted g actuals found locked site).records ≤ length found.records
 fewer_records g actuals found locked site =
     let made : List Access = flat_map (substituted_record g actuals locked site) (enumerate_from 0 found.records) in
@@ -76,7 +76,7 @@ fewer_records g actuals found locked site =
     let all : length (enumerate_from 0 found.records) ≡ length found.records = length-enumerate 0 found.records in
     omega arith
 
-pub fewer_paths : (g : Given) (actuals : Actuals) (found : Findings) (locked : Bool) (site : SiteId) →
+pub fewer_paths : (g : FlowContext) (actuals : Actuals) (found : Findings) (locked : Bool) (site : SiteId) →
     length (substituted g actuals found locked site).wobbly ≤ length found.wobbly
 fewer_paths g actuals found locked site =
     let made : List Path = flat_map (λ (p : Path). names_of (value_named actuals p)) found.wobbly in

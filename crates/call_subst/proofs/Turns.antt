@@ -8,15 +8,15 @@ use Rattle.access_domain.specs.declared.access.Access.{Access}
 use Rattle.access_domain.specs.Additions.{keys_added, paths_added}
 use Rattle.access_domain.proofs.AdditionLemmas.{keys_added-append, paths_added-append}
 use Rattle.call_subst.specs.declared.naming.Call.{Call}
-use Rattle.call_subst.specs.Calls.{record_at, records_at, name_at, paths_at}
+use Rattle.call_subst.specs.Calls.{substituted_at, records_at, name_at, paths_at}
 
 pub record_turn : (call : Call) (kept records : List Access) (i : ℕ) (r : Access) → i < length records →
     r ≡ get_or records i r →
-    keys_added (keys_added kept (record_at call (i, r))) (records_at call (i + 1) (drop (i + 1) records)) ≡
+    keys_added (keys_added kept (substituted_at call (i, r))) (records_at call (i + 1) (drop (i + 1) records)) ≡
     keys_added kept (records_at call i (drop i records))
 record_turn call kept records i r within is =
     let rest : List Access = drop (i + 1) records in
-    sym (keys_added-append kept (record_at call (i, r)) (records_at call (i + 1) rest))
+    sym (keys_added-append kept (substituted_at call (i, r)) (records_at call (i + 1) rest))
     ∙ ap (λ (x : Access). keys_added kept (records_at call i (x ∷ rest))) is
     ∙ ap (λ (xs : List Access). keys_added kept (records_at call i xs)) (sym (drop_more records i r within))
 

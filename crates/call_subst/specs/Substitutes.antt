@@ -6,11 +6,11 @@ use Rattle.owner_domain.specs.declared.value.Value.{Value}
 use Rattle.core_code.specs.Core.{Core}
 use Rattle.access_domain.specs.declared.summary.Summary.{Summary}
 use Rattle.access_domain.specs.Findings.{Findings, summary_from}
-use Rattle.access_domain.specs.Given.{Given, given_of, is_static_method}
+use Rattle.access_domain.specs.Given.{FlowContext, given_of, is_static_method}
 use Rattle.access_domain.specs.Substitution.{actuals_from, substituted}
 
 -- what substitution is given of a program; what is known of methods plays no part in it
-abbrev pub given_at : Core → Bool → Given
+abbrev pub given_at : Core → Bool → FlowContext
 given_at core main = given_of core (λ m. None) main
 
 -- Whatever findings the callee's summary holds, the summary that is made holds these in the caller's values.

@@ -8,5 +8,5 @@ pub mod laws;
 mod naming;
 mod substitution;
 
-pub use naming::{Call, is_static, named};
+pub use naming::{Call, is_static, value_named};
 pub use substitution::{record_there, substitute, substitute_value};

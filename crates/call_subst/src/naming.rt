@@ -63,7 +63,7 @@ fn index_of(is_static: bool, parameter: u32) -> usize
 }
 
 /// What a path of the callee names in the caller.
-pub fn named(alloc: Global, call: &Call, path: &Path) -> Result<Value, Memory>
+pub fn value_named(alloc: Global, call: &Call, path: &Path) -> Result<Value, Memory>
     ensures { IfOk result (λ value. value ≡ value_named (actuals call.now) path.now) }
 {
     let fields = path.fields.as_slice();
@@ -89,7 +89,7 @@ pub fn value_there(alloc: Global, call: &Call, value: &Value) -> Result<Value, M
 {
     match value {
         Value::Owned => Ok(Value::Owned),
-        Value::Named(path) => named(alloc, call, path),
+        Value::Named(path) => value_named(alloc, call, path),
         Value::Unnamed => Ok(Value::Unnamed),
     }
 }
@@ -105,7 +105,7 @@ pub fn path_there(alloc: Global, call: &Call, path: &Path) -> Result<Option<Path
     match path.fields.as_slice().last() {
         None => Ok(None),
         Some(field) => {
-            let value = named(alloc, call, path)?;
+            let value = value_named(alloc, call, path)?;
             path_reached(alloc, call.program, value, *field)
         }
     }

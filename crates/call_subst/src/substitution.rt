@@ -9,9 +9,9 @@ ghost use Rattle.access_domain.specs.Substitution.{actuals_from, substituted_val
 ghost use Rattle.access_domain.specs.Additions.{keys_added, paths_added};
 ghost use Rattle.access_domain.specs.Records.{first_of_keys};
 ghost use Rattle.call_subst.specs.Substitutes.{IsSubstituted};
-ghost use Rattle.call_subst.specs.Calls.{record_at, records_at, paths_at, name_at};
+ghost use Rattle.call_subst.specs.Calls.{substituted_at, records_at, paths_at, name_at};
 
-use crate::naming::{Call, is_static, named, path_there, value_there};
+use crate::naming::{Call, is_static, path_there, value_named, value_there};
 use access_domain::{Access, Accesses, Summary};
 use access_paths::Path;
 use core_code::Program;
@@ -60,7 +60,7 @@ pub fn record_there(
     index: u32,
     access: &Access,
 ) -> Result<Option<Access>, Memory>
-    ensures { IfOk result (λ made. option_to_list made ≡ record_at call.now (index, access.now)) }
+    ensures { IfOk result (λ made. option_to_list made ≡ substituted_at call.now (index, access.now)) }
 {
     match path_there(alloc, call, &access.path)? {
         None => Ok(None),
@@ -84,7 +84,7 @@ fn add_record(
     kept: &mut Accesses,
 ) -> Result<(), Memory>
     requires { length kept.old < MAX_SUMMARY_KEYS }
-    ensures all { OnOk result (kept.new ≡ keys_added kept.old (record_at call.now (index, access.now))) }
+    ensures all { OnOk result (kept.new ≡ keys_added kept.old (substituted_at call.now (index, access.now))) }
     ensures count { OnOk result (length kept.new ≤ length kept.old + 1) }
 {
     let Some(made) = record_there(alloc, call, index, access)? else {
@@ -114,7 +114,7 @@ fn add_path(alloc: Global, call: &Call, path: &Path, kept: &mut Wobbly) -> Resul
     ensures all { OnOk result (kept.new ≡ paths_added kept.old (name_at call.now path.now)) }
     ensures count { OnOk result (set.len kept.new ≤ set.len kept.old + 1) }
 {
-    let Value::Named(name) = named(alloc, call, path)? else {
+    let Value::Named(name) = value_named(alloc, call, path)? else {
         return Ok(());
     };
     match kept.add(name) {

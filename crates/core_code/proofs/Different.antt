@@ -8,7 +8,7 @@ use Rattle.std.proofs.lemmas.Bool.{cases_eq, eq-eqb, ne_eqb}
 use Rattle.std.proofs.lemmas.List.Elements.{filter_agree}
 use Rattle.std.proofs.lemmas.List.Folds.{list_any-append}
 use Rattle.racer_base.specs.declared.ids.MethodId.{MethodId}
-use Rattle.core_code.specs.Rows.{different}
+use Rattle.core_code.specs.CalleeRows.{different}
 use Rattle.core_code.specs.Stamps.{is_member, stamp_of, pushed, AreBelow, Tell, others}
 
 filter-filter : {X : Type 0} (p q : X → Bool) (xs : List X) → filter p (filter q xs) ≡ filter (λ x. q x && p x) xs

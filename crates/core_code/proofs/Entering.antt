@@ -29,8 +29,8 @@ module _ (rows : List (List MethodId)) (old new numbers : List ℕ) (path todo :
   abbrev mine : Group
   mine = record { first = length path; base = length todo }
 
-  abbrev row : List MethodId
-  row = row_of rows m
+  abbrev own_calls : List MethodId
+  own_calls = row_of rows m
 
   -- who stands on the path has the place that it had
   same_place : (p : ℕ) (k : MethodId) → At path p k → number_of new k ≡ p + 1
@@ -87,14 +87,14 @@ module _ (rows : List (List MethodId)) (old new numbers : List ℕ) (path todo :
           ]
 
   known : (k : MethodId) → k.0 < length rows →
-      (0 < number_of numbers k) ⊎ (From (path ++ m ∷ []) 0 k ⊎ From (todo ++ row) 0 k)
+      (0 < number_of numbers k) ⊎ (From (path ++ m ∷ []) 0 k ⊎ From (todo ++ own_calls) 0 k)
   known k there =
       elim (w.known k there) [
         | inl done ↦ inl done
         | inr (inl on) ↦ inr (inl (from_left path (m ∷ []) 0 k on))
         | inr (inr left) ↦
             elim (from_more todo m 0 k left) [
-              | inl still ↦ inr (inr (from_left todo row 0 k still))
+              | inl still ↦ inr (inr (from_left todo own_calls 0 k still))
               | inr is ↦
                   inr (inl (subst (λ (x : MethodId). From (path ++ m ∷ []) 0 x) (sym is)
                   (from_end path m 0 (omega arith))))
@@ -183,11 +183,11 @@ module _ (rows : List (List MethodId)) (old new numbers : List ℕ) (path todo :
             ]
       ]
 
-  called : (k : MethodId) → From row 0 k → Calls rows m k
-  called k there = contains_from row k there
+  called : (k : MethodId) → From own_calls 0 k → Calls rows m k
+  called k there = contains_from own_calls k there
 
   wanted : (i : ℕ) (g : Group) (h k : MethodId) → At (groups ++ mine ∷ []) i g → At (path ++ m ∷ []) g.first h →
-      From (todo ++ row) g.base k → LeadsTo rows h k
+      From (todo ++ own_calls) g.base k → LeadsTo rows h k
   wanted i g h k at head left =
       elim (at_more groups mine i g at) [
         | inl before ↦
@@ -195,7 +195,7 @@ module _ (rows : List (List MethodId)) (old new numbers : List ℕ) (path todo :
             elim (at_more path m g.first h head) [
               | inr is ↦ absurd (let e : g.first ≡ length path = is.0 in omega arith)
               | inl there ↦
-                  elim (from_split todo row g.base k left) [
+                  elim (from_split todo own_calls g.base k left) [
                     | inl still ↦ w.wanted i g h k before there (from_left todo (m ∷ []) g.base k still)
                     | inr new_call ↦
                         inr (then_call rows h m k
@@ -209,12 +209,12 @@ module _ (rows : List (List MethodId)) (old new numbers : List ℕ) (path todo :
               | inl there ↦ absurd (let low = at_within path g.first h there in omega arith)
               | inr is ↦
                   subst (λ (x : MethodId). LeadsTo rows x k) (sym is.1)
-                  (inr ([], called k (from_behind todo row g.base k (omega arith) left)))
+                  (inr ([], called k (from_behind todo own_calls g.base k (omega arith) left)))
             ]
       ]
 
   closed : (i : ℕ) (g : Group) (x k : MethodId) → At (groups ++ mine ∷ []) i g → From (path ++ m ∷ []) g.first x →
-      Calls rows x k → IsDone rows numbers k ⊎ (From (path ++ m ∷ []) g.first k ⊎ From (todo ++ row) g.base k)
+      Calls rows x k → IsDone rows numbers k ⊎ (From (path ++ m ∷ []) g.first k ⊎ From (todo ++ own_calls) g.base k)
   closed i g x k at there call =
       elim (at_more groups mine i g at) [
         | inl before ↦
@@ -226,7 +226,7 @@ module _ (rows : List (List MethodId)) (old new numbers : List ℕ) (path todo :
                     | inr (inl on) ↦ inr (inl (from_left path (m ∷ []) g.first k on))
                     | inr (inr left) ↦
                         elim (from_more todo m g.base k left) [
-                          | inl still ↦ inr (inr (from_left todo row g.base k still))
+                          | inl still ↦ inr (inr (from_left todo own_calls g.base k still))
                           | inr is ↦
                               inr (inl (subst (λ (z : MethodId). From (path ++ m ∷ []) g.first z) (sym is)
                               (from_end path m g.first (omega arith))))
@@ -244,16 +244,16 @@ module _ (rows : List (List MethodId)) (old new numbers : List ℕ) (path todo :
       ]
     where
       own_call : (g : Group) → g.base ≤ length todo → (x k : MethodId) → x ≡ m → Calls rows x k →
-          From (todo ++ row) g.base k
+          From (todo ++ own_calls) g.base k
       own_call g less x k is call =
-          from_right todo row g.base k less
-          (from_contains row k (subst (λ (z : MethodId). Calls rows z k) is call))
+          from_right todo own_calls g.base k less
+          (from_contains own_calls k (subst (λ (z : MethodId). Calls rows z k) is call))
 
   within : (i : ℕ) (g : Group) → At (groups ++ mine ∷ []) i g →
-      (g.first < length (path ++ m ∷ [])) × (g.base ≤ length (todo ++ row))
+      (g.first < length (path ++ m ∷ [])) × (g.base ≤ length (todo ++ own_calls))
   within i g at =
       let long : length (path ++ m ∷ []) ≡ length path + 1 = length-more path m in
-      let more : length (todo ++ row) ≡ length todo + length row = length-append todo row in
+      let more : length (todo ++ own_calls) ≡ length todo + length own_calls = length-append todo own_calls in
       elim (at_more groups mine i g at) [
         | inl before ↦
             let first : g.first < length path = (w.within i g before).0 in

@@ -4,11 +4,11 @@ use Rattle.std.proofs.lemmas.List.Concat.{flat_map-append}
 use Rattle.std.specs.List.{flat_map}
 use Rattle.racer_base.specs.declared.ids.MethodId.{MethodId}
 use Rattle.core_code.specs.declared.parts.MethodCore.{MethodCore}
-use Rattle.core_code.specs.Tree.{Tree, Step, Nothing, Then, Either, Again, Held, Operation, steps_of, tree_of}
+use Rattle.core_code.specs.Tree.{Tree, Op, Skip, Seq, Choice, Loop, Sync, Operation, steps_of, tree_of}
 use Rattle.core_code.specs.Core.{Method, method_of}
 use Rattle.core_code.specs.Calls.{calls_in}
 use Rattle.core_code.specs.Recursion.{all_calls_in}
-use Rattle.core_code.specs.Rows.{different}
+use Rattle.core_code.specs.CalleeRows.{different}
 use Rattle.core_code.specs.Gathered.{callees_of_op, callees_of, callee_rows}
 
 module _ (all : Bool) where
@@ -24,12 +24,12 @@ module _ (all : Bool) where
       ∙ sym (flat_map-append callees_at (steps_of left) (steps_of right))
 
   callees_are : (code : Tree) → callees_of all code ≡ flat_map callees_at (steps_of code)
-  callees_are (Step site place op) = unfold callees_at in sym (append-nil (callees_of_op all op))
-  callees_are Nothing = refl
-  callees_are (Then first rest) = together first rest (callees_are first) (callees_are rest)
-  callees_are (Either left right) = together left right (callees_are left) (callees_are right)
-  callees_are (Again body) = callees_are body
-  callees_are (Held place body) = callees_are body
+  callees_are (Op site place op) = unfold callees_at in sym (append-nil (callees_of_op all op))
+  callees_are Skip = refl
+  callees_are (Seq first rest) = together first rest (callees_are first) (callees_are rest)
+  callees_are (Choice left right) = together left right (callees_are left) (callees_are right)
+  callees_are (Loop body) = callees_are body
+  callees_are (Sync place body) = callees_are body
 
 all_callees : (code : Tree) → callees_of true code ≡ all_calls_in code
 unfolding callees_at

@@ -4,7 +4,7 @@ use Rattle.std.proofs.lemmas.List.Folds.{list_all-append}
 use Rattle.std.specs.List.{list_all}
 use Rattle.racer_base.specs.declared.ids.Place.{Place}
 use Rattle.core_code.specs.Core.{Core}
-use Rattle.core_code.specs.Tree.{Tree, Then, Held, steps_of, locks_of}
+use Rattle.core_code.specs.Tree.{Tree, Seq, Sync, steps_of, locks_of}
 use Rattle.core_code.proofs.BoolParts.{both, first_part, last_part}
 use Rattle.core_code.specs.Facts.{is_place, is_operation, is_code}
 
@@ -20,9 +20,9 @@ module _ (core : Core) (variables : ℕ) where
   locks_fit code = list_all (is_place core) (locks_of code)
 
   pub then_in_range : (first rest : Tree) → is_code core variables first ≡ true → is_code core variables rest ≡ true →
-      is_code core variables (Then first rest) ≡ true
+      is_code core variables (Seq first rest) ≡ true
   then_in_range first rest one others =
-      both (steps_fit (Then first rest)) (locks_fit (Then first rest))
+      both (steps_fit (Seq first rest)) (locks_fit (Seq first rest))
       (both_lists (is_operation core variables) (steps_of first) (steps_of rest)
       (first_part (steps_fit first) (locks_fit first) one)
       (first_part (steps_fit rest) (locks_fit rest) others))
@@ -31,7 +31,7 @@ module _ (core : Core) (variables : ℕ) where
       (last_part (steps_fit rest) (locks_fit rest) others))
 
   pub held_in_range : (place : Place) (body : Tree) → is_place core place ≡ true → is_code core variables body ≡ true →
-      is_code core variables (Held place body) ≡ true
+      is_code core variables (Sync place body) ≡ true
   held_in_range place body here inside =
       both (steps_fit body) (is_place core place && locks_fit body)
       (first_part (steps_fit body) (locks_fit body) inside)

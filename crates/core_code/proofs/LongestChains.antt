@@ -12,7 +12,7 @@ use Rattle.core_code.specs.Chains.{Calls, IsChain, IsOnCycle}
 use Rattle.core_code.specs.Core.{Core, Method}
 use Rattle.core_code.specs.Calls.{calls_in, calls_of, greatest, chain_within}
 use Rattle.core_code.specs.CallFacts.{has_ranks}
-use Rattle.core_code.specs.Rows.{code_rows}
+use Rattle.core_code.specs.CalleeRows.{code_rows}
 use Rattle.core_code.proofs.Ranks.{in_tail, in_head, greatest_most, ranks_by_falling}
 
 -- one that is great enough

@@ -13,7 +13,7 @@ use Rattle.core_code.specs.Chains.{row_of, Calls, IsChain, IsOnCycle}
 use Rattle.core_code.specs.Core.{Core, Method}
 use Rattle.core_code.specs.Calls.{calls_in, method_at, is_analysed, rank_of}
 use Rattle.core_code.specs.CallFacts.{is_above, are_calls_right, has_ranks}
-use Rattle.core_code.specs.Rows.{different, rows_of}
+use Rattle.core_code.specs.CalleeRows.{different, rows_of}
 use Rattle.core_code.specs.Tree.{steps_of}
 use Rattle.core_code.proofs.BoolParts.{first_part, last_part}
 use Rattle.core_code.proofs.Members.{passing, passes, each}

@@ -15,7 +15,7 @@ use Rattle.core_code.specs.declared.code.Op.TheVariants.{Set, Prim, Outside, Cal
 use Rattle.core_code.specs.Calls.{called_by, calls_in, calls_of, method_at, is_analysed}
 use Rattle.core_code.specs.CallFacts.{is_right_call, has_right_calls, are_calls_right, takes}
 use Rattle.core_code.specs.Core.{Core, Method}
-use Rattle.core_code.specs.Rows.{different, rows_of}
+use Rattle.core_code.specs.CalleeRows.{different, rows_of}
 use Rattle.core_code.specs.Tree.{Operation, steps_of}
 use Rattle.core_code.proofs.BoolParts.{first_part, last_part}
 

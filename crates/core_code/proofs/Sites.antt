@@ -9,7 +9,7 @@ use Rattle.std.proofs.lemmas.Option.{slice_get-get_or}
 use borrow.Author.Tests.{eqb-true}
 use Rattle.std.proofs.lemmas.Bool.{ne_eqb}
 use Rattle.racer_base.specs.declared.ids.SiteId.{SiteId}
-use Rattle.core_code.specs.Tree.{Tree, Then, Operation, steps_of, op_at}
+use Rattle.core_code.specs.Tree.{Tree, Seq, Operation, steps_of, op_at}
 use Rattle.core_code.proofs.BoolParts.{first_part, last_part}
 use Rattle.core_code.specs.Facts.{sites_of, counts_from}
 use Rattle.core_code.proofs.Membership.{find_gives}
@@ -29,7 +29,7 @@ sites_go_on n first rest a b =
     counts_from-append n first rest ∙ ap (λ x. x && counts_from (n + length first) rest) a ∙ b
 
 -- the sites of one part and then another
-pub sites_of-then : (first rest : Tree) → sites_of (Then first rest) ≡ sites_of first ++ sites_of rest
+pub sites_of-then : (first rest : Tree) → sites_of (Seq first rest) ≡ sites_of first ++ sites_of rest
 sites_of-then first rest = map-append (λ (o : Operation). o.site) (steps_of first) (steps_of rest)
 
 abbrev site_is : ℕ → Operation → Bool

@@ -15,7 +15,7 @@ use Rattle.core_code.specs.declared.code.Op.TheVariants.{Push, PushClass, PushPr
 use Rattle.core_code.specs.declared.code.Op.TheVariants.{Set, Prim, Outside, Call, Unread, Ret}
 use Rattle.core_code.specs.declared.parts.ClassCore.{ClassCore}
 use Rattle.core_code.specs.declared.parts.FieldCore.{FieldCore}
-use Rattle.core_code.specs.Tree.{Tree, Step, Nothing, Then, Either, Again, Held, Operation, steps_of, locks_of}
+use Rattle.core_code.specs.Tree.{Tree, Op, Skip, Seq, Choice, Loop, Sync, Operation, steps_of, locks_of}
 use Rattle.core_code.specs.Core.{Core, Method}
 
 -- All numbers are in range: each names a file, class, field, method or variable that there is.
@@ -143,12 +143,12 @@ same_height (Some h) (Some k) = if nat_eq h k then Some h else None
 -- stack, where the two sides of a choice end at different heights, or where a turn of a loop would change the
 -- height. After a return the height below the returned value goes on.
 abbrev pub height_after : Tree → ℕ → Option ℕ
-height_after (Step site place op) h = if nat_le (pops op) h then Some (h - pops op + pushes op) else None
-height_after Nothing h = Some h
-height_after (Then first rest) h = elim (height_after first h) [ None ↦ None | Some k ↦ height_after rest k ]
-height_after (Either left right) h = same_height (height_after left h) (height_after right h)
-height_after (Again body) h = same_height (Some h) (height_after body h)
-height_after (Held place body) h = if nat_le 1 h then height_after body (h - 1) else None
+height_after (Op site place op) h = if nat_le (pops op) h then Some (h - pops op + pushes op) else None
+height_after Skip h = Some h
+height_after (Seq first rest) h = elim (height_after first h) [ None ↦ None | Some k ↦ height_after rest k ]
+height_after (Choice left right) h = same_height (height_after left h) (height_after right h)
+height_after (Loop body) h = same_height (Some h) (height_after body h)
+height_after (Sync place body) h = if nat_le 1 h then height_after body (h - 1) else None
 
 abbrev pub is_stack_enough : Method → Bool
 is_stack_enough m = is_some (height_after m.code 0)

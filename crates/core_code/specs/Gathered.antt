@@ -3,7 +3,7 @@ use Rattle.std.specs.Prelude.{Bool, true, false, List, [], ◌++◌, map}
 use Rattle.racer_base.specs.declared.ids.MethodId.{MethodId}
 use Rattle.core_code.specs.declared.code.Op.{Op as CoreOp}
 use Rattle.core_code.specs.declared.parts.MethodCore.{MethodCore}
-use Rattle.core_code.specs.Tree.{Tree, Step, Nothing, Then, Either, Again, Held, tree_of}
+use Rattle.core_code.specs.Tree.{Tree, Op, Skip, Seq, Choice, Loop, Sync, tree_of}
 use Rattle.core_code.specs.Calls.{called_by}
 use Rattle.core_code.specs.Recursion.{named_by}
 
@@ -13,12 +13,12 @@ callees_of_op true = named_by
 callees_of_op false = called_by
 
 abbrev pub callees_of : Bool → Tree → List MethodId
-callees_of all (Step site place op) = callees_of_op all op
-callees_of all Nothing = []
-callees_of all (Then first rest) = callees_of all first ++ callees_of all rest
-callees_of all (Either left right) = callees_of all left ++ callees_of all right
-callees_of all (Again body) = callees_of all body
-callees_of all (Held place body) = callees_of all body
+callees_of all (Op site place op) = callees_of_op all op
+callees_of all Skip = []
+callees_of all (Seq first rest) = callees_of all first ++ callees_of all rest
+callees_of all (Choice left right) = callees_of all left ++ callees_of all right
+callees_of all (Loop body) = callees_of all body
+callees_of all (Sync place body) = callees_of all body
 
 abbrev pub callee_rows : Bool → List MethodCore → List (List MethodId)
 callee_rows all methods = map (λ (m : MethodCore). callees_of all (tree_of m.code)) methods

@@ -11,7 +11,7 @@ use Rattle.core_code.specs.declared.code.Op.{Op as CoreOp}
 use Rattle.core_code.specs.declared.code.Op.TheVariants.{Push, PushClass, PushPrim, PushNull, New, Dup, Drop, Get, Put}
 use Rattle.core_code.specs.declared.code.Op.TheVariants.{Set, Prim, Outside, Call, Unread, Ret}
 use Rattle.core_code.specs.declared.parts.FieldCore.{FieldCore}
-use Rattle.core_code.specs.Tree.{Tree, Step, Nothing, Then, Either, Again, Held}
+use Rattle.core_code.specs.Tree.{Tree, Op, Skip, Seq, Choice, Loop, Sync}
 use Rattle.core_code.specs.Core.{Core, Method}
 use Rattle.core_code.specs.Calls.{method_at, taken_by}
 use Rattle.core_code.specs.Kinds.{StackKind, Plain, Declared, Class, Null, Opaque, kind_of, same_kind}
@@ -103,17 +103,17 @@ same_stack = pointwise same_kind
 
 -- A loop leaves the kinds as it found them. A lock is popped.
 abbrev pub kinds_after : Core → Method → Tree → List StackKind → Kinds
-kinds_after core method (Step site place op) stack = kinds_after_op core method op stack
-kinds_after core method Nothing stack = Some stack
-kinds_after core method (Then first rest) stack =
+kinds_after core method (Op site place op) stack = kinds_after_op core method op stack
+kinds_after core method Skip stack = Some stack
+kinds_after core method (Seq first rest) stack =
     and_then (kinds_after core method first stack) (λ between. kinds_after core method rest between)
-kinds_after core method (Either left right) stack =
+kinds_after core method (Choice left right) stack =
     and_then (kinds_after core method left stack) (λ a.
     and_then (kinds_after core method right stack) (λ b. joined_stack a b))
-kinds_after core method (Again body) stack =
+kinds_after core method (Loop body) stack =
     and_then (kinds_after core method body stack) (λ after. where_true (same_stack stack after) stack)
-kinds_after core method (Held place body) [] = None
-kinds_after core method (Held place body) (lock ∷ stack) = kinds_after core method body stack
+kinds_after core method (Sync place body) [] = None
+kinds_after core method (Sync place body) (lock ∷ stack) = kinds_after core method body stack
 
 abbrev pub same_declared_kind : Kind → Kind → Bool
 same_declared_kind a b = same_kind (kind_of a) (kind_of b)

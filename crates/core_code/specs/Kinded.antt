@@ -12,7 +12,7 @@ use Rattle.core_code.specs.declared.code.Op.{Op as CoreOp}
 use Rattle.core_code.specs.declared.code.Reason.TheVariants.{Overload}
 use Rattle.core_code.specs.declared.parts.ClassCore.{ClassCore}
 use Rattle.core_code.specs.declared.parts.FieldCore.{FieldCore}
-use Rattle.core_code.specs.Tree.{Tree, Nothing}
+use Rattle.core_code.specs.Tree.{Tree, Skip}
 use Rattle.core_code.specs.Core.{Core, Method}
 use Rattle.core_code.specs.Pair.{at}
 use Rattle.core_code.specs.Kinds.{StackKind, Declared, Class}
@@ -62,7 +62,7 @@ method_f =
       entry = false;
       main = false;
       status = None;
-      code = Nothing;
+      code = Skip;
     }
 
 abbrev pub method_g : Method

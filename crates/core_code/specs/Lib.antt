@@ -13,7 +13,7 @@ pub mod Names
 pub mod Pair
 pub mod Kinded
 pub mod Recursion
-pub mod Rows
+pub mod CalleeRows
 pub mod Gathered
 pub mod Stamps
 pub mod Counting

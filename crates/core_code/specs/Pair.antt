@@ -14,14 +14,14 @@ use Rattle.core_code.specs.declared.code.Op.TheVariants.{Push, PushPrim, Drop, P
 use Rattle.core_code.specs.declared.code.Reason.{Reason}
 use Rattle.core_code.specs.declared.parts.ClassCore.{ClassCore}
 use Rattle.core_code.specs.declared.parts.FieldCore.{FieldCore}
-use Rattle.core_code.specs.Tree.{Tree, Step, Held, in_sequence}
+use Rattle.core_code.specs.Tree.{Tree, Op, Sync, in_sequence}
 use Rattle.core_code.specs.Core.{Core, Method}
 
 abbrev pub at : ℕ → ℕ → Place
 at line column = record { file = record { 0 = 0 }; line = line; column = column }
 
 abbrev pub step : ℕ → Place → CoreOp → Tree
-step site place op = Step (record { 0 = site }) place op
+step site place op = Op (record { 0 = site }) place op
 
 abbrev pub this : CoreOp
 this = Push (record { 0 = 0 })
@@ -89,7 +89,7 @@ method_both =
       code =
           in_sequence
           (step 0 (at 5 8) this
-          ∷ Held (at 5 17)
+          ∷ Sync (at 5 17)
           (in_sequence
           (step 1 (at 5 8) this ∷ step 2 (at 5 8) PushPrim ∷ step 3 (at 5 44) (put_at 0) ∷ step 4 (at 5 8) Drop
           ∷ step 5 (at 5 8) this ∷ step 6 (at 5 8) PushPrim ∷ step 7 (at 5 56) (put_at 1) ∷ step 8 (at 5 8) Drop ∷ []))
@@ -99,7 +99,7 @@ method_both =
 -- the first method with a lock that stands in another file
 abbrev pub lock_elsewhere : Method
 lock_elsewhere =
-    record method_new { code = Held (record { file = record { 0 = 1 }; line = 1; column = 1 }) (step 0 (at 1 7) this) }
+    record method_new { code = Sync (record { file = record { 0 = 1 }; line = 1; column = 1 }) (step 0 (at 1 7) this) }
 
 abbrev pub pair : Core
 pair =

@@ -7,31 +7,32 @@ use Rattle.racer_base.specs.declared.ids.SiteId.{SiteId}
 use Rattle.core_code.specs.declared.code.Op.{Op as CoreOp}
 use Rattle.core_code.specs.declared.code.Op.TheVariants.{Ret}
 use Rattle.core_code.specs.declared.code.Code.{Code}
-use Rattle.core_code.specs.declared.code.Code.TheOpen.{Code-F, Op, Seq, Choice, Loop, Sync}
+use Rattle.core_code.specs.declared.code.Code.TheOpen.{Code-F}
+use Rattle.core_code.specs.declared.code.Code.TheOpen as node
 use Rattle.core_code.specs.declared.code.Code.TheFolds.{fold-Code}
 
 -- one operation; nothing; a part and what comes after it; one of two; a body done any number of times; a body under a
 -- lock
 pub data Tree : Type 0 where
-  Step : (site : SiteId) (place : Place) (op : CoreOp) → Tree
-  Nothing : Tree
-  Then : (first rest : Tree) → Tree
-  Either : (left right : Tree) → Tree
-  Again : (body : Tree) → Tree
-  Held : (place : Place) (body : Tree) → Tree
+  Op : (site : SiteId) (place : Place) (op : CoreOp) → Tree
+  Skip : Tree
+  Seq : (first rest : Tree) → Tree
+  Choice : (left right : Tree) → Tree
+  Loop : (body : Tree) → Tree
+  Sync : (place : Place) (body : Tree) → Tree
 
 -- the parts one after another
 abbrev pub in_sequence : List Tree → Tree
-in_sequence [] = Nothing
-in_sequence (part ∷ parts) = Then part (in_sequence parts)
+in_sequence [] = Skip
+in_sequence (part ∷ parts) = Seq part (in_sequence parts)
 
 -- one layer of code, with the trees of its parts in their places
 abbrev pub layer : Code-F Tree → Tree
-layer (Op site place op) = Step site place op
-layer (Seq parts) = in_sequence parts.items
-layer (Choice left right) = Either left.value right.value
-layer (Loop body) = Again body.value
-layer (Sync place body) = Held place body.value
+layer (node.Op site place op) = Op site place op
+layer (node.Seq parts) = in_sequence parts.items
+layer (node.Choice left right) = Choice left.value right.value
+layer (node.Loop body) = Loop body.value
+layer (node.Sync place body) = Sync place body.value
 
 -- code as a tree
 abbrev pub tree_of : Code → Tree
@@ -45,21 +46,21 @@ pub record Operation : Type 0 where
 
 -- the operations in reading order
 abbrev pub steps_of : Tree → List Operation
-steps_of (Step site place op) = record { site = site; place = place; op = op } ∷ []
-steps_of Nothing = []
-steps_of (Then first rest) = steps_of first ++ steps_of rest
-steps_of (Either left right) = steps_of left ++ steps_of right
-steps_of (Again body) = steps_of body
-steps_of (Held place body) = steps_of body
+steps_of (Op site place op) = record { site = site; place = place; op = op } ∷ []
+steps_of Skip = []
+steps_of (Seq first rest) = steps_of first ++ steps_of rest
+steps_of (Choice left right) = steps_of left ++ steps_of right
+steps_of (Loop body) = steps_of body
+steps_of (Sync place body) = steps_of body
 
 -- the places of the locks in reading order
 abbrev pub locks_of : Tree → List Place
-locks_of (Step site place op) = []
-locks_of Nothing = []
-locks_of (Then first rest) = locks_of first ++ locks_of rest
-locks_of (Either left right) = locks_of left ++ locks_of right
-locks_of (Again body) = locks_of body
-locks_of (Held place body) = place ∷ locks_of body
+locks_of (Op site place op) = []
+locks_of Skip = []
+locks_of (Seq first rest) = locks_of first ++ locks_of rest
+locks_of (Choice left right) = locks_of left ++ locks_of right
+locks_of (Loop body) = locks_of body
+locks_of (Sync place body) = place ∷ locks_of body
 
 -- the operation that has this site, where the code has one
 abbrev pub op_at : Tree → SiteId → Option Operation
@@ -71,9 +72,9 @@ is_return _ = false
 
 -- whether code can end without a return
 abbrev pub can_end : Tree → Bool
-can_end (Step site place op) = not (is_return op)
-can_end Nothing = true
-can_end (Then first rest) = can_end first && can_end rest
-can_end (Either left right) = can_end left || can_end right
-can_end (Again body) = true
-can_end (Held place body) = can_end body
+can_end (Op site place op) = not (is_return op)
+can_end Skip = true
+can_end (Seq first rest) = can_end first && can_end rest
+can_end (Choice left right) = can_end left || can_end right
+can_end (Loop body) = true
+can_end (Sync place body) = can_end body

@@ -2,7 +2,7 @@
 ghost use Rattle.std.specs.Prelude.{◌≡◌, true, false, [], ◌∷◌, Some, None, map};
 ghost use Rattle.racer_base.specs.declared.ids.Kind.TheVariants as types;
 ghost use Rattle.core_code.specs.declared.code.Op.TheVariants as op;
-ghost use Rattle.core_code.specs.Tree.{Nothing, Then, Either, Again, Held};
+ghost use Rattle.core_code.specs.Tree.{Skip, Seq, Choice, Loop, Sync};
 ghost use Rattle.core_code.specs.Pair.{at, step};
 ghost use Rattle.core_code.specs.Kinds.{Plain, Null, Opaque, Other, joined_stack};
 ghost use Rattle.core_code.specs.KindCheck.{are_kinded, kinds_after_op};
@@ -90,16 +90,16 @@ pub fn joined_kinds()
 
 /// The kinds after code that is more than one operation, and methods that are kinded.
 pub fn kinds_of_code()
-    ensures either { after_code (Either (step 0 (at 1 1) op.PushNull) (step 1 (at 1 1) (op.Push this))) []
+    ensures either { after_code (Choice (step 0 (at 1 1) op.PushNull) (step 1 (at 1 1) (op.Push this))) []
         ≡ Some (an_a ∷ []) }
-    ensures heights { after_code (Either (step 0 (at 1 1) op.PushNull) Nothing) [] ≡ None }
-    ensures repeated { after_code (Again (Then (step 0 (at 1 1) op.Dup) (step 1 (at 1 1) op.Drop))) (Null ∷ [])
+    ensures heights { after_code (Choice (step 0 (at 1 1) op.PushNull) Skip) [] ≡ None }
+    ensures repeated { after_code (Loop (Seq (step 0 (at 1 1) op.Dup) (step 1 (at 1 1) op.Drop))) (Null ∷ [])
         ≡ Some (Null ∷ []) }
-    ensures changed { after_code (Again (Then (step 0 (at 1 1) op.Drop) (step 1 (at 1 1) op.PushPrim))) (Null ∷ [])
+    ensures changed { after_code (Loop (Seq (step 0 (at 1 1) op.Drop) (step 1 (at 1 1) op.PushPrim))) (Null ∷ [])
         ≡ None }
-    ensures held { after_code (Held (at 1 1) (step 0 (at 1 1) op.PushNull)) (Other ∷ Plain ∷ [])
+    ensures held { after_code (Sync (at 1 1) (step 0 (at 1 1) op.PushNull)) (Other ∷ Plain ∷ [])
         ≡ Some (Null ∷ Plain ∷ []) }
-    ensures no_lock { after_code (Held (at 1 1) Nothing) [] ≡ None }
+    ensures no_lock { after_code (Sync (at 1 1) Skip) [] ≡ None }
     ensures methods { are_kinded kinded ≡ true }
     ensures no_parameter { are_kinded (with_variables (types.Declared a ∷ types.Declared a ∷ [])) ≡ false }
     ensures other_parameter { are_kinded (with_variables (types.Declared a ∷ types.Declared b ∷ types.Plain ∷ []))

@@ -7,7 +7,7 @@ ghost use Rattle.core_code.specs.declared.code.Reason.TheVariants.{Overload};
 ghost use Rattle.racer_base.specs.declared.ids.MethodId.{MethodId};
 ghost use Rattle.core_code.specs.Chains.{IsOnCycle};
 ghost use Rattle.core_code.specs.Core.{Core};
-ghost use Rattle.core_code.specs.Rows.{code_rows};
+ghost use Rattle.core_code.specs.CalleeRows.{code_rows};
 ghost use Rattle.core_code.specs.Calls.{rank_of, calls_of};
 ghost use Rattle.racer_base.specs.declared.ids.SiteId.{SiteId};
 ghost use Rattle.core_code.specs.Tree.{Tree, Operation, can_end, steps_of, op_at};

@@ -4,7 +4,7 @@ ghost use Rattle.std.specs.Prelude.{false};
 ghost use Rattle.core_code.specs.Falling.{DoFall};
 ghost use Rattle.core_code.specs.Gathered.{callee_rows};
 ghost use Rattle.core_code.specs.Program.{core};
-ghost use Rattle.core_code.specs.Rows as wanted;
+ghost use Rattle.core_code.specs.CalleeRows as wanted;
 ghost use Rattle.core_code.specs.Stamps.{stamp_of, pushed, AreBelow};
 
 use crate::calls::callees;

@@ -12,7 +12,7 @@ impl CallRows {
     ghost use Rattle.std.specs.Prelude.{◌≡◌, ◌<◌, length};
     ghost use Rattle.core_code.specs.Chains.{row_of};
     ghost use Rattle.core_code.specs.Falling.{number_of};
-    ghost use Rattle.core_code.specs.Rows.{rows_in, ranks_in};
+    ghost use Rattle.core_code.specs.CalleeRows.{rows_in, ranks_in};
 
     /// The different methods that a method calls, in order of first call.
     pub fn row(&self, m: MethodId) -> &[MethodId]

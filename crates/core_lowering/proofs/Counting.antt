@@ -4,7 +4,7 @@ use Rattle.std.proofs.Common.{ap, ◌∙◌, arith, nat_eq, slice_set, append-ni
 use Rattle.std.proofs.Common.{drop, get_or}
 use Rattle.std.proofs.lemmas.List.{at_drop_more}
 use Rattle.racer_base.specs.declared.ids.MethodId.{MethodId}
-use Rattle.core_code.specs.Rows.{different}
+use Rattle.core_code.specs.CalleeRows.{different}
 use Rattle.core_code.specs.Stamps.{stamp_of, pushed, AreBelow, Tell, others}
 use Rattle.core_code.proofs.Different.{others_none, tell_none, turn}
 use Rattle.core_lowering.specs.Calls.{counted}

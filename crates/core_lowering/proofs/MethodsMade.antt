@@ -5,7 +5,7 @@ use Rattle.java_tree.specs.SameParts.{both_5}
 use Rattle.core_code.specs.declared.code.Reason.{Reason}
 use Rattle.core_code.specs.Tree.{Tree}
 use Rattle.core_code.specs.Core.{Method}
-use Rattle.core_lowering_rules.specs.Around.{Folder}
+use Rattle.core_lowering_rules.specs.Context.{Folder}
 use Rattle.core_lowering_rules.specs.Methods.{Source, method_kinds}
 use Rattle.core_lowering_rules.specs.Programs.{is_entry, method_core}
 use Rattle.core_lowering.specs.Calls.{code_in}

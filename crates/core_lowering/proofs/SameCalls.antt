@@ -6,12 +6,12 @@ use Rattle.std.specs.List.{flat_map}
 use Rattle.std.proofs.lemmas.List.Concat.{flat_map-append}
 use Rattle.std.proofs.lemmas.List.Sums.{sum_by-cons}
 use Rattle.racer_base.specs.declared.ids.MethodId.{MethodId}
-use Rattle.core_code.specs.Tree.{Tree, Step, Nothing, Then, Either, Again, Held, Operation, steps_of}
+use Rattle.core_code.specs.Tree.{Tree, Op, Skip, Seq, Choice, Loop, Sync, Operation, steps_of}
 use Rattle.core_code.specs.Core.{Method}
 use Rattle.core_code.specs.Recursion.{named_by, all_calls_in}
-use Rattle.core_code.specs.Rows.{different}
+use Rattle.core_code.specs.CalleeRows.{different}
 use Rattle.core_code.specs.Gathered.{callees_of}
-use Rattle.core_lowering_rules.specs.Around.{Folder}
+use Rattle.core_lowering_rules.specs.Context.{Folder}
 use Rattle.core_lowering_rules.specs.Methods.{Source}
 use Rattle.core_lowering_rules.specs.Programs.{method_cores, statuses_from}
 use Rattle.core_lowering.specs.Calls.{code_in, row_in, edges}
@@ -27,12 +27,12 @@ together f a b x y e h =
     ∙ sym (flat_map-append f (steps_of a) (steps_of b))
 
 pub all-gathered : (code : Tree) → callees_of true code ≡ all_calls_in code
-all-gathered (Step site place op) = sym (append-nil (named_by op))
-all-gathered Nothing = refl
-all-gathered (Then a b) = together named_at a b _ _ (all-gathered a) (all-gathered b)
-all-gathered (Either a b) = together named_at a b _ _ (all-gathered a) (all-gathered b)
-all-gathered (Again body) = all-gathered body
-all-gathered (Held place body) = all-gathered body
+all-gathered (Op site place op) = sym (append-nil (named_by op))
+all-gathered Skip = refl
+all-gathered (Seq a b) = together named_at a b _ _ (all-gathered a) (all-gathered b)
+all-gathered (Choice a b) = together named_at a b _ _ (all-gathered a) (all-gathered b)
+all-gathered (Loop body) = all-gathered body
+all-gathered (Sync place body) = all-gathered body
 
 abbrev all_calls : Method → List MethodId
 all_calls m = all_calls_in m.code

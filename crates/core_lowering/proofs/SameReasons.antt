@@ -7,7 +7,7 @@ use Rattle.racer_base.specs.declared.limits.TheConstants.{MAX_PARAMETERS, MAX_LO
 use Rattle.java_resolver.specs.declared.infos.MethodInfo.{MethodInfo}
 use Rattle.core_code.specs.declared.code.Reason.{Reason}
 use Rattle.core_code.specs.declared.code.Reason.TheVariants.{Overload, Outside, Parameters, Locals, Recursive}
-use Rattle.core_lowering_rules.specs.Around.{Folder}
+use Rattle.core_lowering_rules.specs.Context.{Folder}
 use Rattle.core_lowering_rules.specs.Methods.{Source}
 use Rattle.core_lowering_rules.specs.Programs.{is_unspelled, is_overloaded, where_so, status_of, statuses_from}
 use Rattle.core_lowering.specs.Locals.{locals_of}

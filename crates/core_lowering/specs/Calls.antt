@@ -3,8 +3,8 @@ use Rattle.std.specs.Prelude.{ℕ, ◌+◌, Bool, true, false, List, [], ◌∷�
 use Rattle.racer_base.specs.declared.ids.MethodId.{MethodId}
 use Rattle.core_code.specs.Tree.{Tree, in_sequence}
 use Rattle.core_code.specs.Gathered.{callees_of}
-use Rattle.core_code.specs.Rows.{different}
-use Rattle.core_lowering_rules.specs.Around.{Folder}
+use Rattle.core_code.specs.CalleeRows.{different}
+use Rattle.core_lowering_rules.specs.Context.{Folder}
 use Rattle.core_lowering_rules.specs.Methods.{Source, method_code}
 use Rattle.core_lowering_rules.specs.Sites.{numbered}
 

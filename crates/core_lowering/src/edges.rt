@@ -1,6 +1,6 @@
 //! How many different calls there are.
 ghost use Rattle.std.specs.Prelude.{◌≡◌, ◌+◌, ◌<◌, IfOk, OnOk, length, nat_eq, not, slice_set};
-ghost use Rattle.core_code.specs.Rows.{different};
+ghost use Rattle.core_code.specs.CalleeRows.{different};
 ghost use Rattle.core_code.specs.Stamps.{stamp_of, AreBelow};
 ghost use Rattle.core_lowering.specs.Calls as wanted;
 

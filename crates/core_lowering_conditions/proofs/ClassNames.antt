@@ -10,7 +10,7 @@ use Rattle.java_lexer.specs.declared.token.TokenKind.TheVariants as kind
 use Rattle.java_tree.specs.Formed.{Each}
 use Rattle.java_tree.specs.Brackets.{is_sign_kind}
 use Rattle.java_parser_grammar.specs.Taking.{is_keyword_kind}
-use Rattle.java_parser_grammar.specs.Tokens.{is_name, begins, signed, worded}
+use Rattle.java_parser_grammar.specs.Tokens.{is_name, begins, begins_sign, begins_word}
 use Rattle.java_parser_grammar.specs.Cuts.{joined}
 use Rattle.java_parser_grammar.specs.Pieces.{Item, Piece, cut_pieces, is_annotation}
 use Rattle.java_parser_grammar.specs.Declarations.{is_type_modifier, is_type_word, leads, ends_first, behind_front, names_type}
@@ -31,7 +31,7 @@ not_both kind.Keyword a b e f = absurd cc
 not_both kind.Sign a b e f = absurd cc
 not_both _ a b e f = absurd cc
 
-word_is_no_sign : (i : Item) → worded (codes "class") i ≡ true → signed (codes "@") i ≡ true → ⊥
+word_is_no_sign : (i : Item) → begins_word (codes "class") i ≡ true → begins_sign (codes "@") i ≡ true → ⊥
 word_is_no_sign [] e f = absurd cc
 word_is_no_sign (t ∷ ts) e f = not_both t.kind _ _ e f
 
@@ -45,12 +45,12 @@ named_so true b e = e
 named_so false b e = absurd cc
 
 -- behind `class` stands a name
-behind_class : (i j : Item) (is : List Item) → worded (codes "class") i ≡ true → names_type (i ∷ j ∷ is) ≡ true
+behind_class : (i j : Item) (is : List Item) → begins_word (codes "class") i ≡ true → names_type (i ∷ j ∷ is) ≡ true
     → begins is_name j ≡ true
 behind_class i j is e h =
     named_so (begins is_type_word i) (begins is_name j)
-    (or_so (begins is_type_word i && begins is_name j) (signed (codes "@") i)
-    (worded (codes "interface") j && leads (begins is_name) is) h (word_is_no_sign i e))
+    (or_so (begins is_type_word i && begins is_name j) (begins_sign (codes "@") i)
+    (begins_word (codes "interface") j && leads (begins is_name) is) h (word_is_no_sign i e))
 
 name_by : (a b : Bool) (t : Token) → (a ≡ true → is_name t ≡ true) → IsNamed (if a && b then Some t else None)
 name_by true true t h = h refl
@@ -80,10 +80,10 @@ at_word i (([] ∷ js) ∷ ps) all h = absurd (no_token js all.0) where
   no_token (j ∷ js) k = let no = k.0.0.some in absurd cc
 at_word i (((t ∷ ts) ∷ js) ∷ []) all h = tt
 at_word i (((t ∷ ts) ∷ js) ∷ q ∷ ps) all h =
-    name_by (worded (codes "class") (i ++ []))
-    (signed (codes "{") (joined q) || worded (codes "implements") (joined q)) t
+    name_by (begins_word (codes "class") (i ++ []))
+    (begins_sign (codes "{") (joined q) || begins_word (codes "implements") (joined q)) t
     (λ e. behind_class i (t ∷ ts) (js ++ joined (q ∷ ps))
-    (ap (worded (codes "class")) (sym (append-nil i)) ∙ e) h)
+    (ap (begins_word (codes "class")) (sym (append-nil i)) ∙ e) h)
 
 behind_one : (word : Bool) (i : Item) (ps : List (List Item)) → begins is_type_modifier i ≡ word → IsItem i
     → Each IsPiece ps → FindsName (front_of ps) (words_of ps)
@@ -114,7 +114,7 @@ named_behind ((i ∷ j ∷ js) ∷ ps) all h =
 -- where these are the items of a type, its name is a name
 pub class_is_named : (d : List Item) → AreItems d → is_type d ≡ true → IsNamed (read_name (joined d))
 class_is_named d again h =
-    let named = (and_parts (names_type (front_of (cut_pieces 0 d))) (ends_first (signed (codes "{")) d) h).0 in
+    let named = (and_parts (names_type (front_of (cut_pieces 0 d))) (ends_first (begins_sign (codes "{")) d) h).0 in
     subst (λ (is : List Item). IsNamed (name_in (words_of (cut_pieces 0 is))))
     (sym again)
     (named_behind (cut_pieces 0 d) (pieces_are d (subst (Each IsItem) again (items_are (joined d)))) named)

@@ -3,7 +3,7 @@ use Rattle.std.proofs.Common.{Bool, true, false, cond, ◌&&◌, ◌||◌, not, 
 use Rattle.std.proofs.Common.{Option, Some, None, codes, subst, ◌-◌}
 use Rattle.java_lexer.specs.declared.token.Token.{Token}
 use Rattle.java_tree.specs.Formed.{Each}
-use Rattle.java_parser_grammar.specs.Tokens.{signed, worded, begins}
+use Rattle.java_parser_grammar.specs.Tokens.{begins_sign, begins_word, begins}
 use Rattle.java_parser_grammar.specs.Cuts.{joined}
 use Rattle.java_parser_grammar.specs.Pieces.{Item, items_of, Piece, pieces_of, is_annotation, inside}
 use Rattle.java_parser_grammar.specs.Declarations.{is_type_modifier, is_type, types_among, AreDeclarations}
@@ -39,7 +39,8 @@ module _ (P : Token → Type 0) where
   name_among (word ∷ [] ∷ ps) h = tt
   name_among (word ∷ (t ∷ ts) ∷ []) h = tt
   name_among (word ∷ (t ∷ ts) ∷ next ∷ ps) h =
-      let read = worded (codes "class") word && (signed (codes "{") next || worded (codes "implements") next) in
+      let read = begins_word (codes "class") word &&
+      (begins_sign (codes "{") next || begins_word (codes "implements") next) in
       elim read as (λ b. OfToken (cond b (Some t) None)) [ true ↦ h.1.0.0 | false ↦ tt ]
 
   pub name_each : (type : List Token) → Each P type → OfToken (read_name type)
@@ -92,7 +93,7 @@ module _ (P : Token → Type 0) where
   commas_each [] h = (tt, tt)
   commas_each (i ∷ is) h =
       let others = between_commas is in
-      elim (signed (codes ",") i) as (λ b. Each (Each P) (cond b ([] ∷ others) (before_first i others))) [
+      elim (begins_sign (codes ",") i) as (λ b. Each (Each P) (cond b ([] ∷ others) (before_first i others))) [
         | true ↦ (tt, commas_each is h.1)
         | false ↦ first_each i others h.0 (commas_each is h.1)
       ]

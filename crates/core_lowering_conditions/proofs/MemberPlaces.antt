@@ -14,7 +14,7 @@ use Rattle.java_tree.specs.KeptPlaces.{kept, is_kept}
 use Rattle.java_tree.specs.MethodPlaces.{Marks, AreAt, method_marks}
 use Rattle.java_parser_grammar.specs.declared.unit.Member.{Member}
 use Rattle.java_parser_grammar.specs.declared.unit.Member.TheVariants as member
-use Rattle.java_parser_grammar.specs.Tokens.{is_sign_token, is_name, signed}
+use Rattle.java_parser_grammar.specs.Tokens.{is_sign_token, is_name, begins_sign}
 use Rattle.java_parser_grammar.specs.Pieces.{items_of, Piece, pieces_of}
 use Rattle.java_parser_grammar.specs.Members.{Form, SkippedForm, MethodForm, FieldForm, form_by, form_of, before_parentheses}
 use Rattle.java_parser_grammar.specs.Members.{name_at_end, is_endless, is_block, begins_type, behind_words, is_modifier}
@@ -67,7 +67,7 @@ module _ (n : ℕ) where
   before_in : (ps : List Piece) → Each (Each (StandsIn n)) ps → InHead (before_parentheses ps)
   before_in [] h = tt
   before_in (p ∷ ps) h =
-      head_step p (signed (codes "(") p) (signed (codes "=") p) (before_parentheses ps) h.0 (before_in ps h.1)
+      head_step p (begins_sign (codes "(") p) (begins_sign (codes "=") p) (before_parentheses ps) h.0 (before_in ps h.1)
 
   abbrev pub InName : Option (List Token × Token) → Type 0
   InName None = Unit {0}

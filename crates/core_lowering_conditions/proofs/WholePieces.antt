@@ -9,7 +9,7 @@ use Rattle.java_tree.specs.Formed.{Each, has_some}
 use Rattle.java_tree.specs.declared.words.Spelled.{Spelled}
 use Rattle.java_tree.specs.Brackets.{is_sign}
 use Rattle.java_parser_grammar.proofs.Taken.{sign_is}
-use Rattle.java_parser_grammar.specs.Tokens.{plain, is_sign_token, signed}
+use Rattle.java_parser_grammar.specs.Tokens.{plain, is_sign_token, begins_sign}
 use Rattle.java_parser_grammar.specs.Cuts.{onto_first, with_cut, joined}
 use Rattle.java_parser_grammar.specs.Brackets.{is_closing, depth_behind}
 use Rattle.java_parser_grammar.specs.Pieces.{Item, items_from, items_of, more_of_piece, cut_pieces, is_annotation}
@@ -104,21 +104,22 @@ AreCut (suc n) ps = GoOn ps
 nonzero : (m : ℕ) → (suc m == 0) ≡ false
 nonzero m = grind arith
 
-begun_at : (i : Item) (is : List Item) (k : ℕ) → more_of_piece (i ∷ is) ≡ suc k → signed (codes "@") i ≡ true
+begun_at : (i : Item) (is : List Item) (k : ℕ) → more_of_piece (i ∷ is) ≡ suc k → begins_sign (codes "@") i ≡ true
 begun_at i [] k e = absurd cc
-begun_at i (j ∷ js) k e = by_at (signed (codes "@") i) refl e where
-  by_at : (b : Bool) → signed (codes "@") i ≡ b → more_of_piece (i ∷ j ∷ js) ≡ suc k → signed (codes "@") i ≡ true
+begun_at i (j ∷ js) k e = by_at (begins_sign (codes "@") i) refl e where
+  by_at : (b : Bool) → begins_sign (codes "@") i ≡ b → more_of_piece (i ∷ j ∷ js) ≡ suc k →
+      begins_sign (codes "@") i ≡ true
   by_at true s f = s
   by_at false s f = let none : more_of_piece (i ∷ j ∷ js) ≡ 0 = rw s refl in absurd cc
 
-annotation_begun : (i j : Item) (js : List Item) → IsItem i → IsItem j → signed (codes "@") i ≡ true
+annotation_begun : (i j : Item) (js : List Item) → IsItem i → IsItem j → begins_sign (codes "@") i ≡ true
     → is_annotation (joined (i ∷ j ∷ js)) ≡ true
 annotation_begun [] j js h k s = absurd cc
 annotation_begun (t ∷ []) [] js h k s = let no = k.some in absurd cc
 annotation_begun (t ∷ []) (u ∷ us) js h k s = s
 annotation_begun (t ∷ v ∷ vs) j js h k s = absurd (true≢false (sym s ∙ h.alone))
 
-piece_begun : (i : Item) (ps : List (List Item)) → IsItem i → signed (codes "@") i ≡ true → GoOn ps
+piece_begun : (i : Item) (ps : List (List Item)) → IsItem i → begins_sign (codes "@") i ≡ true → GoOn ps
     → Each IsPiece (onto_first i ps)
 piece_begun i [] h s all = (h, tt)
 piece_begun i ([] ∷ ps) h s all = let no = all.0 in absurd cc

@@ -7,7 +7,7 @@ use Rattle.racer_base.specs.declared.ids.VarId.{VarId}
 use Rattle.java_tree.specs.declared.words.Ident.{Ident}
 use Rattle.java_tree.specs.Trees.{Ty}
 use Rattle.core_lowering_rules.specs.Trees.{Expr, Exprs, Start, Stmt, For, ForEach}
-use Rattle.core_lowering_rules.specs.Around.{Around, Code, repeated, type_kind}
+use Rattle.core_lowering_rules.specs.Context.{Context, Code, repeated, type_kind}
 use Rattle.core_lowering_rules.specs.Scopes.{declared, started, next_variable, back_in, after}
 use Rattle.core_lowering_rules.specs.Statements.{run, run_all, run_some, stmt, closed}
 use Rattle.core_lowering_methods.specs.Parts.{left_at}
@@ -18,14 +18,14 @@ use Rattle.core_lowering_methods.proofs.Inside.{left-back, closed-there}
 
 -- ---- ends of blocks
 
-pub left-then : {T E : Type 0} (r : Result T E) (before inside a b : Around) (n : ℕ) →
+pub left-then : {T E : Type 0} (r : Result T E) (before inside a b : Context) (n : ℕ) →
     n ≡ length before.scope.variables → a ≡ inside → Inside before inside → OnOk r (b ≡ left_at n a) →
     OnOk r (b ≡ back_in before inside)
 left-then r before inside a b n k p i =
     on_ok_weaker r
     (λ e. e ∙ ap (λ m. left_at m a) k ∙ ap (left_at (length before.scope.variables)) p ∙ left-back before inside i)
 
-pub closed-then : {T E : Type 0} (r : Result T E) (before inside a : Around) (start b c x : Code) (n : ℕ) →
+pub closed-then : {T E : Type 0} (r : Result T E) (before inside a : Context) (start b c x : Code) (n : ℕ) →
     n ≡ length before.scope.variables → a ≡ inside → Inside before inside → b ≡ start ++ x →
     OnOk r (c ≡ b ++ closed_from n a) → OnOk r (c ≡ start ++ (x ++ closed before inside))
 closed-then r before inside a start b c x n k p i q =
@@ -36,17 +36,17 @@ closed-then r before inside a start b c x n k p i q =
 
 -- ---- `for`
 
-inside-for : (a : Around) (i : Start) (s : Stmt) → Inside a (after (started a i) s)
+inside-for : (a : Context) (i : Start) (s : Stmt) → Inside a (after (started a i) s)
 inside-for a i s =
     inside-then a (started a i) (after (started a i) s) (inside-started a i) (inside-after (started a i) s)
 
-pub for-around : {T E : Type 0} (r : Result T E) (a c d : Around) (n : ℕ) (i : Start) (e : Option Expr)
+pub for-context : {T E : Type 0} (r : Result T E) (a c d : Context) (n : ℕ) (i : Start) (e : Option Expr)
     (updates : Exprs) (s : Stmt) →
     n ≡ length a.scope.variables → c ≡ after (started a i) s → OnOk r (d ≡ left_at n c) →
     OnOk r (d ≡ after a (For i e updates s))
-for-around r a c d n i e updates s k p = left-then r a (after (started a i) s) c d n k p (inside-for a i s)
+for-context r a c d n i e updates s k p = left-then r a (after (started a i) s) c d n k p (inside-for a i s)
 
-pub for-code : {T E : Type 0} (r : Result T E) (a b c : Around) (code_a code_b code_c code_d code_e : Code)
+pub for-code : {T E : Type 0} (r : Result T E) (a b c : Context) (code_a code_b code_c code_d code_e : Code)
     (n m : ℕ) (i : Start)
     (e : Option Expr) (updates : Exprs) (s : Stmt) →
     n ≡ length a.scope.variables → b ≡ started a i → code_b ≡ code_a ++ entered_for a i e → m ≡ length code_b →
@@ -74,20 +74,20 @@ for-code r a b c code_a code_b code_c code_d code_e n m i e updates s k p q l u 
 
 -- ---- `for` over elements
 
-inside-each : (a : Around) (t : Ty) (x : Ident) (s : Stmt) →
+inside-each : (a : Context) (t : Ty) (x : Ident) (s : Stmt) →
     Inside a (after (declared a (type_kind a t) x) s)
 inside-each a t x s =
     let inside = declared a (type_kind a t) x in
     inside-then a inside (after inside s) (inside-declared a (type_kind a t) x) (inside-after inside s)
 
-pub each-around : {T E : Type 0} (r : Result T E) (a c d : Around) (n : ℕ) (t : Ty) (x : Ident) (e : Expr)
+pub each-context : {T E : Type 0} (r : Result T E) (a c d : Context) (n : ℕ) (t : Ty) (x : Ident) (e : Expr)
     (s : Stmt) →
     n ≡ length a.scope.variables → c ≡ after (declared a (type_kind a t) x) s → OnOk r (d ≡ left_at n c) →
     OnOk r (d ≡ after a (ForEach t x e s))
-each-around r a c d n t x e s k p =
+each-context r a c d n t x e s k p =
     left-then r a (after (declared a (type_kind a t) x) s) c d n k p (inside-each a t x s)
 
-pub each-code : {T E : Type 0} (r : Result T E) (a b c : Around) (code_a code_b code_c code_d code_e code_f : Code)
+pub each-code : {T E : Type 0} (r : Result T E) (a b c : Context) (code_a code_b code_c code_d code_e code_f : Code)
     (n m : ℕ) (v : VarId)
     (t : Ty) (x : Ident) (e : Expr) (s : Stmt) →
     n ≡ length a.scope.variables → code_b ≡ code_a ++ run a e → m ≡ length code_b → v ≡ next_variable a →

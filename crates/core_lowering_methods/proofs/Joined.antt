@@ -10,7 +10,7 @@ use Rattle.java_tree.specs.declared.expressions.Initialiser.{Initialiser}
 use Rattle.core_lowering_rules.specs.Trees.{Expr, Exprs, no_expr, expr_then, pack_exprs, pack_inits}
 use Rattle.core_lowering_rules.specs.TreesOf.{expr_of, init_of}
 use Rattle.core_lowering_rules.specs.ValueKinds.{ValueKind}
-use Rattle.core_lowering_rules.specs.Around.{Around, Code, choice}
+use Rattle.core_lowering_rules.specs.Context.{Context, Code, choice}
 use Rattle.core_lowering_rules.specs.Expressions.{code, kind, passed, init_code, items_code}
 use Rattle.core_lowering_methods.specs.Parts.{converted_first}
 
@@ -35,60 +35,60 @@ rest-drop zero (k ∷ kinds) = refl
 rest-drop (suc i) [] = refl
 rest-drop (suc i) (k ∷ kinds) = rest-drop i kinds
 
-passed-next : (around : Around) (kinds : List Kind) (e : Expr) (es : Exprs) →
-    passed around kinds (expr_then e es)
-    ≡ code around e ++ converted_first around kinds (kind around e) ++ passed around (first-rest kinds) es
-passed-next around [] e es = ap (λ x. x ++ passed around [] es) (sym (append-nil (code around e)))
-passed-next around (k ∷ kinds) e es = refl
+passed-next : (context : Context) (kinds : List Kind) (e : Expr) (es : Exprs) →
+    passed context kinds (expr_then e es)
+    ≡ code context e ++ converted_first context kinds (kind context e) ++ passed context (first-rest kinds) es
+passed-next context [] e es = ap (λ x. x ++ passed context [] es) (sym (append-nil (code context e)))
+passed-next context (k ∷ kinds) e es = refl
 
 -- one argument more
-pub arguments-next : (around : Around) (kinds : List Kind) (all : List Expression) (i : ℕ) (e : Expression)
+pub arguments-next : (context : Context) (kinds : List Kind) (all : List Expression) (i : ℕ) (e : Expression)
     (old one second whole : Code) (given : ValueKind) → i < length all → e ≡ get_or all i e →
-    one ≡ old ++ code around (expr_of e) → given ≡ kind around (expr_of e) →
-    second ≡ one ++ converted_first around (drop i kinds) given →
-    old ++ passed around (drop i kinds) (pack_exprs (map expr_of (drop i all))) ≡ whole →
-    second ++ passed around (drop (i + 1) kinds) (pack_exprs (map expr_of (drop (i + 1) all))) ≡ whole
-arguments-next around kinds all i e old one second whole given within is p k q h =
+    one ≡ old ++ code context (expr_of e) → given ≡ kind context (expr_of e) →
+    second ≡ one ++ converted_first context (drop i kinds) given →
+    old ++ passed context (drop i kinds) (pack_exprs (map expr_of (drop i all))) ≡ whole →
+    second ++ passed context (drop (i + 1) kinds) (pack_exprs (map expr_of (drop (i + 1) all))) ≡ whole
+arguments-next context kinds all i e old one second whole given within is p k q h =
     let es = pack_exprs (map expr_of (drop (i + 1) all)) in
     let ks = drop i kinds in
     let left : drop i all ≡ e ∷ drop (i + 1) all =
     drop_more all i e within ∙ ap (λ x. x ∷ drop (i + 1) all) (sym is) in
     let more : i + 1 ≡ suc i = omega arith in
-    let piece = code around (expr_of e) ++ converted_first around ks (kind around (expr_of e)) in
+    let piece = code context (expr_of e) ++ converted_first context ks (kind context (expr_of e)) in
     let grown : second ≡ old ++ piece =
-    two old one second (code around (expr_of e)) (converted_first around ks (kind around (expr_of e))) p
-    (q ∙ ap (λ g. one ++ converted_first around ks g) k) in
-    ap (λ x. x ++ passed around (drop (i + 1) kinds) es) grown
-    ∙ append_assoc old piece (passed around (drop (i + 1) kinds) es)
-    ∙ ap (λ r. old ++ (piece ++ passed around r es)) (ap (λ n. drop n kinds) more ∙ sym (rest-drop i kinds))
-    ∙ ap (λ x. old ++ x) (sym (passed-next around ks (expr_of e) es))
-    ∙ ap (λ xs. old ++ passed around ks (pack_exprs (map expr_of xs))) (sym left)
+    two old one second (code context (expr_of e)) (converted_first context ks (kind context (expr_of e))) p
+    (q ∙ ap (λ g. one ++ converted_first context ks g) k) in
+    ap (λ x. x ++ passed context (drop (i + 1) kinds) es) grown
+    ∙ append_assoc old piece (passed context (drop (i + 1) kinds) es)
+    ∙ ap (λ r. old ++ (piece ++ passed context r es)) (ap (λ n. drop n kinds) more ∙ sym (rest-drop i kinds))
+    ∙ ap (λ x. old ++ x) (sym (passed-next context ks (expr_of e) es))
+    ∙ ap (λ xs. old ++ passed context ks (pack_exprs (map expr_of xs))) (sym left)
     ∙ h
 
 -- one item more
-pub items-next : (around : Around) (all : List Initialiser) (i : ℕ) (item : Initialiser) (old one whole : Code) →
-    i < length all → item ≡ get_or all i item → one ≡ old ++ init_code around (init_of item) →
-    old ++ items_code around (pack_inits (map init_of (drop i all))) ≡ whole →
-    one ++ items_code around (pack_inits (map init_of (drop (i + 1) all))) ≡ whole
-items-next around all i item old one whole within is p h =
-    let rest = items_code around (pack_inits (map init_of (drop (i + 1) all))) in
+pub items-next : (context : Context) (all : List Initialiser) (i : ℕ) (item : Initialiser) (old one whole : Code) →
+    i < length all → item ≡ get_or all i item → one ≡ old ++ init_code context (init_of item) →
+    old ++ items_code context (pack_inits (map init_of (drop i all))) ≡ whole →
+    one ++ items_code context (pack_inits (map init_of (drop (i + 1) all))) ≡ whole
+items-next context all i item old one whole within is p h =
+    let rest = items_code context (pack_inits (map init_of (drop (i + 1) all))) in
     let left : drop i all ≡ item ∷ drop (i + 1) all =
     drop_more all i item within ∙ ap (λ x. x ∷ drop (i + 1) all) (sym is) in
-    ap (λ x. x ++ rest) p ∙ append_assoc old (init_code around (init_of item)) rest
-    ∙ ap (λ xs. old ++ items_code around (pack_inits (map init_of xs))) (sym left) ∙ h
+    ap (λ x. x ++ rest) p ∙ append_assoc old (init_code context (init_of item)) rest
+    ∙ ap (λ xs. old ++ items_code context (pack_inits (map init_of xs))) (sym left) ∙ h
 
-nothing-passed : (around : Around) (kinds : List Kind) (old : Code) → old ++ passed around kinds no_expr ≡ old
-nothing-passed around [] old = append-nil old
-nothing-passed around (k ∷ kinds) old = append-nil old
+nothing-passed : (context : Context) (kinds : List Kind) (old : Code) → old ++ passed context kinds no_expr ≡ old
+nothing-passed context [] old = append-nil old
+nothing-passed context (k ∷ kinds) old = append-nil old
 
 -- nothing is left
-pub arguments-done : (around : Around) (kinds : List Kind) (all : List Expression) (old whole : Code) (i : ℕ) →
+pub arguments-done : (context : Context) (kinds : List Kind) (all : List Expression) (old whole : Code) (i : ℕ) →
     length all ≤ i →
-    old ++ passed around (drop i kinds) (pack_exprs (map expr_of (drop i all))) ≡ whole → old ≡ whole
-arguments-done around kinds all old whole i past h =
+    old ++ passed context (drop i kinds) (pack_exprs (map expr_of (drop i all))) ≡ whole → old ≡ whole
+arguments-done context kinds all old whole i past h =
     let none : drop i all ≡ [] = drop_all i all past in
-    sym (ap (λ xs. old ++ passed around (drop i kinds) (pack_exprs (map expr_of xs))) none
-    ∙ nothing-passed around (drop i kinds) old) ∙ h
+    sym (ap (λ xs. old ++ passed context (drop i kinds) (pack_exprs (map expr_of xs))) none
+    ∙ nothing-passed context (drop i kinds) old) ∙ h
 
 -- ---- choices
 
@@ -109,11 +109,11 @@ chosen start left right old new l r at_left at_right is made =
     ∙ ap (λ x. x ++ choice (drop (length start) (start ++ left)) right) (take-append_seam start left)
     ∙ ap (λ x. start ++ choice x right) (drop-append_seam start left)
 
-pub items-done : (around : Around) (all : List Initialiser) (old whole : Code) (i : ℕ) → length all ≤ i →
-    old ++ items_code around (pack_inits (map init_of (drop i all))) ≡ whole → old ≡ whole
-items-done around all old whole i past h =
+pub items-done : (context : Context) (all : List Initialiser) (old whole : Code) (i : ℕ) → length all ≤ i →
+    old ++ items_code context (pack_inits (map init_of (drop i all))) ≡ whole → old ≡ whole
+items-done context all old whole i past h =
     let none : drop i all ≡ [] = drop_all i all past in
-    sym (ap (λ xs. old ++ items_code around (pack_inits (map init_of xs))) none ∙ append-nil old) ∙ h
+    sym (ap (λ xs. old ++ items_code context (pack_inits (map init_of xs))) none ∙ append-nil old) ∙ h
 
 -- ---- one piece for each element
 

@@ -8,12 +8,12 @@ use Rattle.racer_base.specs.declared.ids.SiteId.{SiteId}
 use Rattle.racer_base.specs.declared.ids.Place.{Place}
 use Rattle.core_code.specs.declared.code.Code.{Code}
 use Rattle.core_code.specs.declared.code.Op.{Op as CoreOp}
-use Rattle.core_code.specs.Tree.{Tree, Step, Nothing, Then, Either, Again, Held, Operation, steps_of, in_sequence}
+use Rattle.core_code.specs.Tree.{Tree, Op, Skip, Seq, Choice, Loop, Sync, Operation, steps_of, in_sequence}
 use Rattle.core_code.specs.Tree.{tree_of, can_end}
 use Rattle.core_code.specs.Facts.{sites_of, counts_from}
 use Rattle.core_code.proofs.BoolParts.{first_part, last_part, both}
 use Rattle.core_code.proofs.Sites.{counts_from-append, sites_of-then, sites_go_on}
-use Rattle.core_lowering_rules.specs.Around.{op_at, choice, repeated, held}
+use Rattle.core_lowering_rules.specs.Context.{op_at, choice, repeated, held}
 use Rattle.core_lowering_rules.specs.Sites.{numbered}
 use Rattle.core_lowering_methods.specs.Erased.{erased, part_of, whole_of, AreNumbered}
 
@@ -26,12 +26,12 @@ steps-two a b p q =
     ∙ ap (λ n. length (steps_of a) + n) q ∙ sym (length-append (steps_of a) (steps_of b))
 
 steps-erased : (t : Tree) → length (steps_of (erased t)) ≡ length (steps_of t)
-steps-erased (Step site place op) = refl
-steps-erased Nothing = refl
-steps-erased (Then first rest) = steps-two first rest (steps-erased first) (steps-erased rest)
-steps-erased (Either left right) = steps-two left right (steps-erased left) (steps-erased right)
-steps-erased (Again body) = steps-erased body
-steps-erased (Held place body) = steps-erased body
+steps-erased (Op site place op) = refl
+steps-erased Skip = refl
+steps-erased (Seq first rest) = steps-two first rest (steps-erased first) (steps-erased rest)
+steps-erased (Choice left right) = steps-two left right (steps-erased left) (steps-erased right)
+steps-erased (Loop body) = steps-erased body
+steps-erased (Sync place body) = steps-erased body
 
 site-here : (n : ℕ) (site : SiteId) → (nat_eq site.0 n && true) ≡ true → site.0 ≡ n
 site-here n site h = eqb-true site.0 n (first_part (nat_eq site.0 n) true h)
@@ -40,7 +40,7 @@ abbrev count : Tree → ℕ
 count t = length (steps_of t)
 
 -- the sites of one part, and of another behind it
-parts-count : (n : ℕ) (first rest : Tree) → counts_from n (sites_of (Then first rest)) ≡ true →
+parts-count : (n : ℕ) (first rest : Tree) → counts_from n (sites_of (Seq first rest)) ≡ true →
     (counts_from n (sites_of first) ≡ true) × (counts_from (n + count first) (sites_of rest) ≡ true)
 parts-count n first rest h =
     let b = sym (ap (counts_from n) (sites_of-then first rest)
@@ -53,35 +53,35 @@ parts-count n first rest h =
     )
 
 pub numbered-erased : (t : Tree) (n : ℕ) → counts_from n (sites_of t) ≡ true → numbered n (erased t) ≡ t
-numbered-erased (Step site place op) n h =
-    ap (λ k. Step (record { 0 = k }) place op) (sym (site-here n site h))
-numbered-erased Nothing n h = refl
-numbered-erased (Then first rest) n h =
+numbered-erased (Op site place op) n h =
+    ap (λ k. Op (record { 0 = k }) place op) (sym (site-here n site h))
+numbered-erased Skip n h = refl
+numbered-erased (Seq first rest) n h =
     let p = parts-count n first rest h in
-    ap (λ x. Then x (numbered (n + count (erased first)) (erased rest))) (numbered-erased first n p.0)
-    ∙ ap (λ k. Then first (numbered (n + k) (erased rest))) (steps-erased first)
-    ∙ ap (Then first) (numbered-erased rest (n + count first) p.1)
-numbered-erased (Either left right) n h =
+    ap (λ x. Seq x (numbered (n + count (erased first)) (erased rest))) (numbered-erased first n p.0)
+    ∙ ap (λ k. Seq first (numbered (n + k) (erased rest))) (steps-erased first)
+    ∙ ap (Seq first) (numbered-erased rest (n + count first) p.1)
+numbered-erased (Choice left right) n h =
     let p = parts-count n left right h in
-    ap (λ x. Either x (numbered (n + count (erased left)) (erased right))) (numbered-erased left n p.0)
-    ∙ ap (λ k. Either left (numbered (n + k) (erased right))) (steps-erased left)
-    ∙ ap (Either left) (numbered-erased right (n + count left) p.1)
-numbered-erased (Again body) n h = ap Again (numbered-erased body n h)
-numbered-erased (Held place body) n h = ap (Held place) (numbered-erased body n h)
+    ap (λ x. Choice x (numbered (n + count (erased left)) (erased right))) (numbered-erased left n p.0)
+    ∙ ap (λ k. Choice left (numbered (n + k) (erased right))) (steps-erased left)
+    ∙ ap (Choice left) (numbered-erased right (n + count left) p.1)
+numbered-erased (Loop body) n h = ap Loop (numbered-erased body n h)
+numbered-erased (Sync place body) n h = ap (Sync place) (numbered-erased body n h)
 
 pub erased-sequence : (ts : List Tree) → erased (in_sequence ts) ≡ in_sequence (map erased ts)
 erased-sequence [] = refl
-erased-sequence (t ∷ ts) = ap (Then (erased t)) (erased-sequence ts)
+erased-sequence (t ∷ ts) = ap (Seq (erased t)) (erased-sequence ts)
 
 pub can_end-erased : (t : Tree) → can_end (erased t) ≡ can_end t
-can_end-erased (Step site place op) = refl
-can_end-erased Nothing = refl
-can_end-erased (Then first rest) =
+can_end-erased (Op site place op) = refl
+can_end-erased Skip = refl
+can_end-erased (Seq first rest) =
     ap (λ x. x && can_end (erased rest)) (can_end-erased first) ∙ ap (λ x. can_end first && x) (can_end-erased rest)
-can_end-erased (Either left right) =
+can_end-erased (Choice left right) =
     ap (λ x. x || can_end (erased right)) (can_end-erased left) ∙ ap (λ x. can_end left || x) (can_end-erased right)
-can_end-erased (Again body) = refl
-can_end-erased (Held place body) = can_end-erased body
+can_end-erased (Loop body) = refl
+can_end-erased (Sync place body) = can_end-erased body
 
 -- ---- parts
 
@@ -135,10 +135,10 @@ op-counts old new more next h e there =
 
 -- an operation with the next site
 pub op-numbered : (old new : List Code) (next after : ℕ) (place : Place) (op : CoreOp) (code : Code) →
-    AreNumbered old next → new ≡ old ++ code ∷ [] → tree_of code ≡ Step (record { 0 = next }) place op →
+    AreNumbered old next → new ≡ old ++ code ∷ [] → tree_of code ≡ Op (record { 0 = next }) place op →
     after ≡ next + 1 → AreNumbered new after
 op-numbered old new next after place op code h e made more =
-    let step = Step (record { 0 = next }) place op in
+    let step = Op (record { 0 = next }) place op in
     let trees : trees_of new ≡ trees_of old ++ step ∷ [] =
     ap trees_of e ∙ map-append tree_of old (code ∷ []) ∙ ap (λ t. trees_of old ++ t ∷ []) made in
     let steps : steps_of (whole_of new) ≡ steps_of (whole_of old) ++ steps_of step =
@@ -150,7 +150,7 @@ op-numbered old new next after place op code h e made more =
     )
 
 pub op-put : (old new : List Code) (n : SiteId) (place : Place) (op : CoreOp) (code : Code) →
-    new ≡ old ++ code ∷ [] → tree_of code ≡ Step n place op →
+    new ≡ old ++ code ∷ [] → tree_of code ≡ Op n place op →
     map part_of new ≡ map part_of old ++ op_at place op
 op-put old new n place op code e made =
     ap (map part_of) e ∙ map-append part_of old (code ∷ []) ∙ ap (λ t. map part_of old ++ erased t ∷ []) made
@@ -196,7 +196,7 @@ pub repeated-numbered : (old new : List Code) (next at : ℕ) → AreNumbered ol
 repeated-numbered old new next at h e =
     numbered-same old new next h
     (ap (λ ts. steps_of (in_sequence ts)) e
-    ∙ steps-last (trees_of (take at old)) (trees_of (drop at old)) (Again (in_sequence (trees_of (drop at old)))) refl
+    ∙ steps-last (trees_of (take at old)) (trees_of (drop at old)) (Loop (in_sequence (trees_of (drop at old)))) refl
     ∙ ap (λ ts. steps_of (in_sequence ts)) (sym (grouped old at)))
 
 pub held-numbered : (old new : List Code) (next at : ℕ) (place : Place) → AreNumbered old next →
@@ -204,7 +204,7 @@ pub held-numbered : (old new : List Code) (next at : ℕ) (place : Place) → Ar
 held-numbered old new next at place h e =
     numbered-same old new next h
     (ap (λ ts. steps_of (in_sequence ts)) e
-    ∙ steps-last (trees_of (take at old)) (trees_of (drop at old)) (Held place (in_sequence (trees_of (drop at old))))
+    ∙ steps-last (trees_of (take at old)) (trees_of (drop at old)) (Sync place (in_sequence (trees_of (drop at old))))
     refl
     ∙ ap (λ ts. steps_of (in_sequence ts)) (sym (grouped old at)))
 
@@ -224,10 +224,10 @@ chosen-put old new l r e =
     let a = take l (take r old) in
     let b = drop l (take r old) in
     let c = drop r old in
-    last-erased new a (Either (whole_of b) (whole_of c)) (Either (in_sequence (map part_of b)) (in_sequence
+    last-erased new a (Choice (whole_of b) (whole_of c)) (Choice (in_sequence (map part_of b)) (in_sequence
     (map part_of c))) e
-    (ap (λ t. Either t (erased (whole_of c))) (whole-erased b)
-    ∙ ap (λ t. Either (in_sequence (map part_of b)) t) (whole-erased c))
+    (ap (λ t. Choice t (erased (whole_of c))) (whole-erased b)
+    ∙ ap (λ t. Choice (in_sequence (map part_of b)) t) (whole-erased c))
     ∙ ap (λ ts. ts ++ choice (map part_of b) (map part_of c)) (sym (take-map part_of l (take r old)))
     ∙ ap (λ ts. take l (map part_of (take r old)) ++ choice ts (map part_of c)) (sym (drop-map part_of l (take r old)))
     ∙ ap (λ ts. take l ts ++ choice (drop l ts) (map part_of c)) (sym (take-map part_of r old))
@@ -238,8 +238,8 @@ pub repeated-put : (old new : List Code) (at : ℕ) →
     trees_of new ≡ trees_of (take at old) ++ repeated (trees_of (drop at old)) →
     map part_of new ≡ take at (map part_of old) ++ repeated (drop at (map part_of old))
 repeated-put old new at e =
-    last-erased new (take at old) (Again (whole_of (drop at old))) (Again (in_sequence (map part_of (drop at old)))) e
-    (ap Again (whole-erased (drop at old)))
+    last-erased new (take at old) (Loop (whole_of (drop at old))) (Loop (in_sequence (map part_of (drop at old)))) e
+    (ap Loop (whole-erased (drop at old)))
     ∙ ap (λ ts. ts ++ repeated (map part_of (drop at old))) (sym (take-map part_of at old))
     ∙ ap (λ ts. take at (map part_of old) ++ repeated ts) (sym (drop-map part_of at old))
 
@@ -247,7 +247,7 @@ pub held-put : (old new : List Code) (at : ℕ) (place : Place) →
     trees_of new ≡ trees_of (take at old) ++ held place (trees_of (drop at old)) →
     map part_of new ≡ take at (map part_of old) ++ held place (drop at (map part_of old))
 held-put old new at place e =
-    last-erased new (take at old) (Held place (whole_of (drop at old)))
-    (Held place (in_sequence (map part_of (drop at old)))) e (ap (Held place) (whole-erased (drop at old)))
+    last-erased new (take at old) (Sync place (whole_of (drop at old)))
+    (Sync place (in_sequence (map part_of (drop at old)))) e (ap (Sync place) (whole-erased (drop at old)))
     ∙ ap (λ ts. ts ++ held place (map part_of (drop at old))) (sym (take-map part_of at old))
     ∙ ap (λ ts. take at (map part_of old) ++ held place ts) (sym (drop-map part_of at old))

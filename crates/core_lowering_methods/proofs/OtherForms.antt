@@ -15,7 +15,7 @@ use Rattle.core_lowering_rules.specs.Trees.{Expr, Access, Init, Inits, NoAccess,
 use Rattle.core_lowering_rules.specs.Trees.{Binary, Logical}
 use Rattle.core_lowering_rules.specs.TreesOf.{expr_of, init_of, items_of, expr_step, init_step, array_step, access_of}
 use Rattle.core_lowering_rules.specs.TreesOf.{literal, assignment, binary, prefix, is_assignment, is_logical, is_count}
-use Rattle.core_lowering_rules.specs.Around.{Around}
+use Rattle.core_lowering_rules.specs.Context.{Context}
 use Rattle.core_lowering_rules.specs.Expressions.{class_before}
 
 abbrev pub is_name : tree.Expr → Bool
@@ -43,57 +43,60 @@ lowered l =
 
 -- ---- no name
 
-either-class : (around : Around) (b : Bool) (x y : Expr) → None ≡ class_before around x → None ≡ class_before around y →
-    None ≡ class_before around (cond b x y)
-either-class around true x y p q = p
-either-class around false x y p q = q
+either-class : (context : Context) (b : Bool) (x y : Expr) → None ≡ class_before context x →
+    None ≡ class_before context y →
+    None ≡ class_before context (cond b x y)
+either-class context true x y p q = p
+either-class context false x y p q = q
 
-assign-class : (around : Around) (op : List ℕ) (a : Access) (b : Expr) → None ≡ class_before around (assignment op a b)
-assign-class around op a b = either-class around (is_assignment op) (Assign a b) (Combine a b) refl refl
+assign-class : (context : Context) (op : List ℕ) (a : Access) (b : Expr) →
+    None ≡ class_before context (assignment op a b)
+assign-class context op a b = either-class context (is_assignment op) (Assign a b) (Combine a b) refl refl
 
-binary-class : (around : Around) (op : List ℕ) (a b : Expr) → None ≡ class_before around (binary op a b)
-binary-class around op a b = either-class around (is_logical op) (Logical a b) (Binary a b) refl refl
+binary-class : (context : Context) (op : List ℕ) (a b : Expr) → None ≡ class_before context (binary op a b)
+binary-class context op a b = either-class context (is_logical op) (Logical a b) (Binary a b) refl refl
 
-prefix-class : (around : Around) (op : List ℕ) (a : Expr) → None ≡ class_before around (prefix op a)
-prefix-class around op a = either-class around (is_count op) (Count (access_of a)) (Unary a) refl refl
+prefix-class : (context : Context) (op : List ℕ) (a : Expr) → None ≡ class_before context (prefix op a)
+prefix-class context op a = either-class context (is_count op) (Count (access_of a)) (Unary a) refl refl
 
-literal-class : (around : Around) (k : TokenKind) (text : List ℕ) → None ≡ class_before around (literal k text)
-literal-class around token.Text text = refl
-literal-class around token.Fixed text = either-class around (bytes_eq text (codes "null")) Null Prim refl refl
-literal-class around token.Keyword text = refl
-literal-class around token.Name text = refl
-literal-class around token.Number text = refl
-literal-class around token.Character text = refl
-literal-class around token.Sign text = refl
+literal-class : (context : Context) (k : TokenKind) (text : List ℕ) → None ≡ class_before context (literal k text)
+literal-class context token.Text text = refl
+literal-class context token.Fixed text = either-class context (bytes_eq text (codes "null")) Null Prim refl refl
+literal-class context token.Keyword text = refl
+literal-class context token.Name text = refl
+literal-class context token.Number text = refl
+literal-class context token.Character text = refl
+literal-class context token.Sign text = refl
 
-layer-class : (around : Around) (l : Layer) → is_name (seen l) ≡ false → None ≡ class_before around (lowered l)
-layer-class around (expression.Assign a op b) h = assign-class around op (access_of (expr_of a.value)) (expr_of b.value)
-layer-class around (expression.Conditional a b c) h = refl
-layer-class around (expression.Binary a op b) h = binary-class around op (expr_of a.value) (expr_of b.value)
-layer-class around (expression.InstanceOf a t) h = refl
-layer-class around (expression.Prefix op a) h = prefix-class around op (expr_of a.value)
-layer-class around (expression.Cast t a) h = refl
-layer-class around (expression.Postfix a op) h = refl
-layer-class around (expression.Literal k text) h = literal-class around k text
-layer-class around expression.This h = refl
-layer-class around (expression.Name x) h = cc
-layer-class around (expression.Paren a) h = refl
-layer-class around (expression.Field a x) h = refl
-layer-class around (expression.Index a i) h = refl
-layer-class around (expression.Call None x all) h = refl
-layer-class around (expression.Call (Some a) x all) h = refl
-layer-class around (expression.ClassOf xs) h = refl
-layer-class around (expression.New place t all) h = refl
-layer-class around (expression.NewArray place t lengths n) h = refl
-layer-class around (expression.NewItems place t n items) h = refl
+layer-class : (context : Context) (l : Layer) → is_name (seen l) ≡ false → None ≡ class_before context (lowered l)
+layer-class context (expression.Assign a op b) h =
+    assign-class context op (access_of (expr_of a.value)) (expr_of b.value)
+layer-class context (expression.Conditional a b c) h = refl
+layer-class context (expression.Binary a op b) h = binary-class context op (expr_of a.value) (expr_of b.value)
+layer-class context (expression.InstanceOf a t) h = refl
+layer-class context (expression.Prefix op a) h = prefix-class context op (expr_of a.value)
+layer-class context (expression.Cast t a) h = refl
+layer-class context (expression.Postfix a op) h = refl
+layer-class context (expression.Literal k text) h = literal-class context k text
+layer-class context expression.This h = refl
+layer-class context (expression.Name x) h = cc
+layer-class context (expression.Paren a) h = refl
+layer-class context (expression.Field a x) h = refl
+layer-class context (expression.Index a i) h = refl
+layer-class context (expression.Call None x all) h = refl
+layer-class context (expression.Call (Some a) x all) h = refl
+layer-class context (expression.ClassOf xs) h = refl
+layer-class context (expression.New place t all) h = refl
+layer-class context (expression.NewArray place t lengths n) h = refl
+layer-class context (expression.NewItems place t n items) h = refl
 
-pub no-class : (around : Around) (e : Expression) → is_name (view.expr_of e) ≡ false →
-    None ≡ class_before around (expr_of e)
-no-class around e h =
-    layer-class around (out-Expression e)
+pub no-class : (context : Context) (e : Expression) → is_name (view.expr_of e) ≡ false →
+    None ≡ class_before context (expr_of e)
+no-class context e h =
+    layer-class context (out-Expression e)
     (sym (ap is_name (fold_out-Expression tree.Expr tree.Init tree.Array view.expr_step view.init_step view.array_step
     e)) ∙ h)
-    ∙ ap (class_before around) (sym (fold_out-Expression Expr Init Inits expr_step init_step array_step e))
+    ∙ ap (class_before context) (sym (fold_out-Expression Expr Init Inits expr_step init_step array_step e))
 
 -- ---- no access
 

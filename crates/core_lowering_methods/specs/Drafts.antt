@@ -1,6 +1,6 @@
 -- A contract of a public call rests on this: what is seen of a `Draft`.
 use Rattle.std.specs.Prelude.{map}
-use Rattle.core_lowering_rules.specs.Around.{Code}
+use Rattle.core_lowering_rules.specs.Context.{Code}
 use Rattle.core_lowering_methods.specs.declared.draft.Draft.{Draft}
 use Rattle.core_lowering_methods.specs.Erased.{part_of}
 

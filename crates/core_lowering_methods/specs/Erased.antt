@@ -2,16 +2,16 @@
 use Rattle.std.specs.Prelude.{◌≡◌, ℕ, List, map, length, true}
 use Rattle.core_code.specs.declared.code.Code.{Code}
 use Rattle.core_code.specs.Facts.{sites_of, counts_from}
-use Rattle.core_code.specs.Tree.{Tree, Step, Nothing, Then, Either, Again, Held, steps_of, in_sequence, tree_of}
+use Rattle.core_code.specs.Tree.{Tree, Op, Skip, Seq, Choice, Loop, Sync, steps_of, in_sequence, tree_of}
 
 -- the same code, each site 0
 abbrev pub erased : Tree → Tree
-erased (Step site place op) = Step (record { 0 = 0 }) place op
-erased Nothing = Nothing
-erased (Then first rest) = Then (erased first) (erased rest)
-erased (Either left right) = Either (erased left) (erased right)
-erased (Again body) = Again (erased body)
-erased (Held place body) = Held place (erased body)
+erased (Op site place op) = Op (record { 0 = 0 }) place op
+erased Skip = Skip
+erased (Seq first rest) = Seq (erased first) (erased rest)
+erased (Choice left right) = Choice (erased left) (erased right)
+erased (Loop body) = Loop (erased body)
+erased (Sync place body) = Sync place (erased body)
 
 abbrev pub part_of : Code → Tree
 part_of code = erased (tree_of code)

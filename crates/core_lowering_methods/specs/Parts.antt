@@ -12,7 +12,7 @@ use Rattle.java_resolver.specs.declared.table.Table.{Table}
 use Rattle.core_lowering_rules.specs.Trees.{Exprs, count_exprs}
 use Rattle.core_lowering_rules.specs.Expressions.{passed}
 use Rattle.core_lowering_rules.specs.ValueKinds.{ValueKind, Of}
-use Rattle.core_lowering_rules.specs.Around.{Around, Result, Code, op, op_at, converted, push_this}
+use Rattle.core_lowering_rules.specs.Context.{Context, Result, Code, op, op_at, converted, push_this}
 use Rattle.core_lowering_rules.specs.Assignments.{Storage, InVariable, InField, Elsewhere}
 use Rattle.core_lowering_rules.specs.Calls.{Callee, Missing, OfClass, OfObject, parameter_kinds, call_at, constructor_in}
 use Rattle.core_lowering_rules.specs.Calls.{callee_in, if_static, called, result_kind}
@@ -24,7 +24,7 @@ use Rattle.core_lowering_methods.specs.declared.calls.Callee.TheVariants as call
 use Rattle.core_lowering_methods.specs.Views.{folder_of}
 
 -- where a method of a class begins, before its parameters
-abbrev pub entered_in : Table → List (Option Reason) → Place → Result → ClassId → (is_static : Bool) → Around
+abbrev pub entered_in : Table → List (Option Reason) → Place → Result → ClassId → (is_static : Bool) → Context
 entered_in table statuses place result class is_static =
     record {
       folder = folder_of table statuses;
@@ -35,8 +35,8 @@ entered_in table statuses place result class is_static =
     }
 
 -- with the variables before this one in scope
-abbrev pub left_at : ℕ → Around → Around
-left_at at around = record around { scope = record around.scope { variables = take at around.scope.variables } }
+abbrev pub left_at : ℕ → Context → Context
+left_at at context = record context { scope = record context.scope { variables = take at context.scope.variables } }
 
 -- ---- storage
 
@@ -59,32 +59,32 @@ storage_kind (storage.InField f kind name) = Of kind
 storage_kind (storage.Elsewhere n) = Of Other
 
 -- behind the base, what reads it
-abbrev pub then_read : Around → CodeStorage → Code
-then_read around (storage.InVariable v kind) = op around (Push v)
-then_read around (storage.InField f kind name) = op_at name (Get f)
-then_read around (storage.Elsewhere n) = op around (Outside n)
+abbrev pub then_read : Context → CodeStorage → Code
+then_read context (storage.InVariable v kind) = op context (Push v)
+then_read context (storage.InField f kind name) = op_at name (Get f)
+then_read context (storage.Elsewhere n) = op context (Outside n)
 
 -- behind the base and a value of this kind, what stores the value
-abbrev pub then_assigned : Around → CodeStorage → ValueKind → Code
-then_assigned around (storage.InVariable v kind) given = converted around kind given ++ op around (Set v)
-then_assigned around (storage.InField f kind name) given = converted around kind given ++ op_at name (Put f)
-then_assigned around (storage.Elsewhere n) given = op around (Outside (suc n))
+abbrev pub then_assigned : Context → CodeStorage → ValueKind → Code
+then_assigned context (storage.InVariable v kind) given = converted context kind given ++ op context (Set v)
+then_assigned context (storage.InField f kind name) given = converted context kind given ++ op_at name (Put f)
+then_assigned context (storage.Elsewhere n) given = op context (Outside (suc n))
 
 -- behind the base, what fetches the value that is to be changed
-abbrev pub then_fetched : Around → CodeStorage → Code
-then_fetched around (storage.InVariable v kind) = op around (Push v)
-then_fetched around (storage.InField f kind name) = op around Dup ++ op_at name (Get f)
-then_fetched around (storage.Elsewhere n) = []
+abbrev pub then_fetched : Context → CodeStorage → Code
+then_fetched context (storage.InVariable v kind) = op context (Push v)
+then_fetched context (storage.InField f kind name) = op context Dup ++ op_at name (Get f)
+then_fetched context (storage.Elsewhere n) = []
 
 -- behind this and another value, what stores a number made of the two
-abbrev pub then_combined : Around → CodeStorage → Code
-then_combined around (storage.Elsewhere n) = op around (Outside (suc n))
-then_combined around s = op around (Prim 2) ++ then_assigned around s (Of Plain)
+abbrev pub then_combined : Context → CodeStorage → Code
+then_combined context (storage.Elsewhere n) = op context (Outside (suc n))
+then_combined context s = op context (Prim 2) ++ then_assigned context s (Of Plain)
 
 -- behind what is fetched, what stores a number made of it
-abbrev pub then_counted : Around → CodeStorage → Code
-then_counted around (storage.Elsewhere n) = op around (Outside n)
-then_counted around s = op around (Prim 1) ++ then_assigned around s (Of Plain)
+abbrev pub then_counted : Context → CodeStorage → Code
+then_counted context (storage.Elsewhere n) = op context (Outside n)
+then_counted context s = op context (Prim 1) ++ then_assigned context s (Of Plain)
 
 -- ---- calls
 
@@ -94,65 +94,65 @@ callee_seen (callee.OfClass m) = OfClass m
 callee_seen (callee.OfObject m) = OfObject m
 
 -- what arguments are converted to
-abbrev pub passed_kinds : Around → Callee → List Kind
-passed_kinds around Missing = []
-passed_kinds around (OfClass m) = parameter_kinds around m
-passed_kinds around (OfObject m) = parameter_kinds around m
+abbrev pub passed_kinds : Context → Callee → List Kind
+passed_kinds context Missing = []
+passed_kinds context (OfClass m) = parameter_kinds context m
+passed_kinds context (OfObject m) = parameter_kinds context m
 
 -- f(..): before and behind the arguments
-abbrev pub call_front : Around → Callee → Code
-call_front around Missing = []
-call_front around (OfClass m) = []
-call_front around (OfObject m) = push_this around
+abbrev pub call_front : Context → Callee → Code
+call_front context Missing = []
+call_front context (OfClass m) = []
+call_front context (OfObject m) = push_this context
 
-abbrev pub call_end : Around → Place → ℕ → Callee → Code
-call_end around place n Missing = op around (Outside n)
-call_end around place n (OfClass m) = call_at around place m n
-call_end around place n (OfObject m) = call_at around place m (suc n)
+abbrev pub call_end : Context → Place → ℕ → Callee → Code
+call_end context place n Missing = op context (Outside n)
+call_end context place n (OfClass m) = call_at context place m n
+call_end context place n (OfObject m) = call_at context place m (suc n)
 
 -- e.f(..): between e and the arguments, and behind them
-abbrev pub value_call_front : Around → Callee → Code
-value_call_front around Missing = []
-value_call_front around (OfClass m) = op around Drop
-value_call_front around (OfObject m) = []
+abbrev pub value_call_front : Context → Callee → Code
+value_call_front context Missing = []
+value_call_front context (OfClass m) = op context Drop
+value_call_front context (OfObject m) = []
 
-abbrev pub value_call_end : Around → Place → ℕ → Callee → Code
-value_call_end around place n Missing = op around (Outside (suc n))
-value_call_end around place n (OfClass m) = call_at around place m n
-value_call_end around place n (OfObject m) = call_at around place m (suc n)
+abbrev pub value_call_end : Context → Place → ℕ → Callee → Code
+value_call_end context place n Missing = op context (Outside (suc n))
+value_call_end context place n (OfClass m) = call_at context place m n
+value_call_end context place n (OfObject m) = call_at context place m (suc n)
 
 -- new T(..), where T has this kind: its class and the constructor, where they are the folder's
-abbrev pub maker_of : Around → Kind → ℕ → Option (ClassId × MethodId)
-maker_of around (Declared c) n = option_map (λ m. (c, m)) (constructor_in around c n)
-maker_of around _ n = None
+abbrev pub maker_of : Context → Kind → ℕ → Option (ClassId × MethodId)
+maker_of context (Declared c) n = option_map (λ m. (c, m)) (constructor_in context c n)
+maker_of context _ n = None
 
 -- before the arguments, what these are converted to, and behind them
 abbrev pub made_front : Place → Option (ClassId × MethodId) → Code
 made_front place None = []
 made_front place (Some made) = op_at place (New made.0)
 
-abbrev pub made_kinds : Around → Option (ClassId × MethodId) → List Kind
-made_kinds around None = []
-made_kinds around (Some made) = parameter_kinds around made.1
+abbrev pub made_kinds : Context → Option (ClassId × MethodId) → List Kind
+made_kinds context None = []
+made_kinds context (Some made) = parameter_kinds context made.1
 
-abbrev pub made_end : Around → Place → ℕ → Option (ClassId × MethodId) → Code
-made_end around place n None = op_at place (Outside n)
-made_end around place n (Some made) = call_at around place made.1 (suc n)
+abbrev pub made_end : Context → Place → ℕ → Option (ClassId × MethodId) → Code
+made_end context place n None = op_at place (Outside n)
+made_end context place n (Some made) = call_at context place made.1 (suc n)
 
 -- ---- arguments
 
 -- a value on its way to the first of these kinds, if there is one
-abbrev pub converted_first : Around → List Kind → ValueKind → Code
-converted_first around [] given = []
-converted_first around (kind ∷ kinds) given = converted around kind given
+abbrev pub converted_first : Context → List Kind → ValueKind → Code
+converted_first context [] given = []
+converted_first context (kind ∷ kinds) given = converted context kind given
 
 -- C.f(..)
-abbrev pub class_callee : Around → ClassId → Ident → Exprs → Callee
-class_callee around c x es = if_static (callee_in around c x.text (count_exprs es))
+abbrev pub class_callee : Context → ClassId → Ident → Exprs → Callee
+class_callee context c x es = if_static (callee_in context c x.text (count_exprs es))
 
-abbrev pub class_call : Around → ClassId → Ident → Exprs → Code
-class_call around c x es =
-    called around x.place (count_exprs es) (λ kinds. passed around kinds es) (class_callee around c x es)
+abbrev pub class_call : Context → ClassId → Ident → Exprs → Code
+class_call context c x es =
+    called context x.place (count_exprs es) (λ kinds. passed context kinds es) (class_callee context c x es)
 
-abbrev pub class_call_kind : Around → ClassId → Ident → Exprs → ValueKind
-class_call_kind around c x es = result_kind around (class_callee around c x es)
+abbrev pub class_call_kind : Context → ClassId → Ident → Exprs → ValueKind
+class_call_kind context c x es = result_kind context (class_callee context c x es)

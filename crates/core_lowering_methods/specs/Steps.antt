@@ -7,35 +7,35 @@ use Rattle.java_parser_grammar.specs.declared.unit.Member.{Member}
 use Rattle.java_tree.specs.declared.methods.MethodTree.{MethodTree}
 use Rattle.java_resolver.specs.Declarations.{is_constructor}
 use Rattle.core_lowering_rules.specs.Trees.{Expr, Exprs, Start, Stmts}
-use Rattle.core_lowering_rules.specs.Around.{Around, Code, op, repeated}
+use Rattle.core_lowering_rules.specs.Context.{Context, Code, op, repeated}
 use Rattle.core_lowering_rules.specs.Methods.{member_begun}
 use Rattle.core_lowering_rules.specs.Scopes.{started, back_in, after_all}
 use Rattle.core_lowering_rules.specs.Statements.{run_all, run_some, start, set, cleared}
 
 -- the variables from this one on are null
-abbrev pub closed_from : ℕ → Around → Code
-closed_from at around = flat_map (cleared around) (drop at around.scope.variables)
+abbrev pub closed_from : ℕ → Context → Code
+closed_from at context = flat_map (cleared context) (drop at context.scope.variables)
 
 -- what stands before the loop of a `for`
-abbrev pub entered_for : Around → Start → Option Expr → Code
-entered_for around i e = start around i ++ run_some (started around i) e
+abbrev pub entered_for : Context → Start → Option Expr → Code
+entered_for context i e = start context i ++ run_some (started context i) e
 
 -- what stands behind the body of a `for`, in its loop
-abbrev pub turned : Around → Option Expr → Exprs → Code
-turned around e updates = run_all around updates ++ run_some around e
+abbrev pub turned : Context → Option Expr → Exprs → Code
+turned context e updates = run_all context updates ++ run_some context e
 
 -- the parts from this one on are the body of a loop
 abbrev pub repeated_from : ℕ → Code → Code
 repeated_from at parts = take at parts ++ repeated (drop at parts)
 
 -- the next element of what a `for` goes over, in the loop
-abbrev pub next_element : Around → VarId → Code
-next_element around v = op around (Outside 0) ++ set around v
+abbrev pub next_element : Context → VarId → Code
+next_element context v = op context (Outside 0) ++ set context v
 
 -- behind the end of a block
-abbrev pub block_end : Around → Stmts → Around
-block_end around ss = back_in around (after_all around ss)
+abbrev pub block_end : Context → Stmts → Context
+block_end context ss = back_in context (after_all context ss)
 
 -- of a constructor, the fields of its object, without variables in scope
-abbrev pub fields_first : Around → List Member → MethodTree → Code
-fields_first around members m = if is_constructor m.result then flat_map (member_begun around) members else []
+abbrev pub fields_first : Context → List Member → MethodTree → Code
+fields_first context members m = if is_constructor m.result then flat_map (member_begun context) members else []

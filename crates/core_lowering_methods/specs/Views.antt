@@ -5,17 +5,17 @@ use Rattle.core_code.specs.declared.code.Reason.{Reason}
 use Rattle.java_resolver.specs.declared.table.Table.{Table}
 use Rattle.java_resolver.specs.Table.{classes, fields, methods}
 use Rattle.core_lowering_rules.specs.ValueKinds.{ValueKind, Of, Null}
-use Rattle.core_lowering_rules.specs.Around.{Folder, Result, Itself, Nothing, Value}
+use Rattle.core_lowering_rules.specs.Context.{Folder, Result, Itself, Nothing, Value}
 use Rattle.core_lowering_methods.specs.declared.value_kind.ValueKind.{ValueKind as CodeKind}
 use Rattle.core_lowering_methods.specs.declared.value_kind.ValueKind.TheVariants as kinds
-use Rattle.core_lowering_methods.specs.declared.given.Given.{Given}
-use Rattle.core_lowering_methods.specs.declared.given.Given.TheVariants as given
+use Rattle.core_lowering_methods.specs.declared.given.MethodResult.{MethodResult}
+use Rattle.core_lowering_methods.specs.declared.given.MethodResult.TheVariants as given
 
 abbrev pub value_kind : CodeKind → ValueKind
 value_kind (kinds.Of kind) = Of kind
 value_kind kinds.Null = Null
 
-abbrev pub given_of : Given → Result
+abbrev pub given_of : MethodResult → Result
 given_of given.Itself = Itself
 given_of given.Nothing = Nothing
 given_of (given.Value kind) = Value kind

@@ -4,15 +4,15 @@ ghost use Rattle.core_lowering_methods.specs.Drafts.{code_of};
 ghost use Rattle.core_lowering_methods.specs.Parts.{left_at};
 ghost use Rattle.core_lowering_methods.specs.Steps.{closed_from};
 
-use crate::{Around, Draft};
+use crate::{Context, Draft};
 use racer_base::Memory;
 
 /// The end of a block: the variables from this one on are null, and out of scope.
-pub fn end_block(around: &mut Around, draft: &mut Draft, before: usize) -> Result<(), Memory>
-    ensures around { OnOk result (around.new ≡ left_at before around.old) }
-    ensures code { OnOk result (code_of draft.new ≡ code_of draft.old ++ closed_from before around.old) }
+pub fn end_block(context: &mut Context, draft: &mut Draft, before: usize) -> Result<(), Memory>
+    ensures context { OnOk result (context.new ≡ left_at before context.old) }
+    ensures code { OnOk result (code_of draft.new ≡ code_of draft.old ++ closed_from before context.old) }
 {
-    around.clear(draft, before)?;
-    around.leave(before);
+    context.clear(draft, before)?;
+    context.leave(before);
     Ok(())
 }

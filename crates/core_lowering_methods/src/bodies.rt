@@ -17,7 +17,7 @@ use crate::fields::begin_members;
 use crate::returns::lower_return_nothing;
 use crate::sources::{Body, Source};
 use crate::statements::lower_block;
-use crate::{Around, Draft, Given};
+use crate::{Context, Draft, MethodResult};
 use core_code::{Code, Reason};
 use java_parser_grammar::Member;
 use java_resolver::{MethodInfo, Table, has_word};
@@ -35,24 +35,24 @@ pub struct Lowered {
 // ---- where the code begins
 
 /// What a method of a tree gives, where a value of it has this kind.
-fn given_by_tree(kind: Kind, tree: &ResultTree) -> Given
+fn given_by_tree(kind: Kind, tree: &ResultTree) -> MethodResult
     ensures { given_of result ≡ result_of_tree kind tree.now }
 {
     match tree {
-        ResultTree::Constructor => Given::Itself,
-        ResultTree::Void => Given::Nothing,
-        ResultTree::Of(_) => Given::Value(kind),
+        ResultTree::Constructor => MethodResult::Itself,
+        ResultTree::Void => MethodResult::Nothing,
+        ResultTree::Of(_) => MethodResult::Value(kind),
     }
 }
 
 /// What a method gives.
-fn given_by(info: &MethodInfo, body: &Body) -> Given
+fn given_by(info: &MethodInfo, body: &Body) -> MethodResult
     ensures { given_of result ≡ result_of info.now.result (seen.body_of body.now) }
 {
     match body {
-        Body::Default => Given::Itself,
+        Body::Default => MethodResult::Itself,
         Body::Spelled(m) => given_by_tree(info.result, &m.result),
-        Body::Unspelled => Given::Value(info.result),
+        Body::Unspelled => MethodResult::Value(info.result),
     }
 }
 
@@ -62,12 +62,12 @@ fn enter<'a>(
     table: &'a Table,
     statuses: &'a [Option<Reason>],
     source: &Source,
-) -> Result<Around<'a>, Memory>
-    ensures { IfOk result (λ around. around ≡ entered (folder_of table.now statuses.now) (source_of source.now)) }
+) -> Result<Context<'a>, Memory>
+    ensures { IfOk result (λ context. context ≡ entered (folder_of table.now statuses.now) (source_of source.now)) }
 {
     let info = source.info;
     let given = given_by(info, &source.body);
-    Around::new(
+    Context::new(
         alloc,
         table,
         statuses,
@@ -80,14 +80,14 @@ fn enter<'a>(
 
 fn declare_parameters(
     alloc: Global,
-    around: &mut Around,
+    context: &mut Context,
     parameters: &[ParameterTree],
 ) -> Result<(), Memory>
-    ensures { OnOk result (around.new ≡ parameters_declared around.old parameters.now) }
+    ensures { OnOk result (context.new ≡ parameters_declared context.old parameters.now) }
 {
     for parameter in parameters {
-        let kind = around.type_kind(&parameter.kind);
-        around.declare(alloc, kind, &parameter.name)?;
+        let kind = context.type_kind(&parameter.kind);
+        context.declare(alloc, kind, &parameter.name)?;
     }
     Ok(())
 }
@@ -99,13 +99,13 @@ fn enter_spelled<'a>(
     statuses: &'a [Option<Reason>],
     source: &Source,
     m: &MethodTree,
-) -> Result<Around<'a>, Memory>
-    ensures { IfOk result (λ around. around
+) -> Result<Context<'a>, Memory>
+    ensures { IfOk result (λ context. context
         ≡ parameters_declared (entered (folder_of table.now statuses.now) (source_of source.now)) m.now.parameters) }
 {
-    let mut around = enter(alloc, table, statuses, source)?;
-    declare_parameters(alloc, &mut around, m.parameters.as_slice())?;
-    Ok(around)
+    let mut context = enter(alloc, table, statuses, source)?;
+    declare_parameters(alloc, &mut context, m.parameters.as_slice())?;
+    Ok(context)
 }
 
 // ---- what the body is made of
@@ -134,29 +134,29 @@ fn begin_object(
 /// The body of a method, under a lock where it is synchronized (JLS 8.4.3.6).
 fn lower_body(
     alloc: Global,
-    around: &mut Around,
+    context: &mut Context,
     m: &MethodTree,
     draft: &mut Draft,
 ) -> Result<(), Memory>
-    ensures around { OnOk result (around.new ≡ block_end around.old (body_of m.now)) }
-    ensures code { OnOk result (code_of draft.new ≡ code_of draft.old ++ body_code around.old m.now) }
+    ensures context { OnOk result (context.new ≡ block_end context.old (body_of m.now)) }
+    ensures code { OnOk result (code_of draft.new ≡ code_of draft.old ++ body_code context.old m.now) }
 {
     if !has_word(m.modifiers.as_slice(), "synchronized") {
-        return lower_block(alloc, around, m.body.as_slice(), draft);
+        return lower_block(alloc, context, m.body.as_slice(), draft);
     }
-    around.push_owner(draft)?;
-    let place = around.place();
+    context.push_owner(draft)?;
+    let place = context.place();
     let body = draft.len();
-    lower_block(alloc, around, m.body.as_slice(), draft)?;
+    lower_block(alloc, context, m.body.as_slice(), draft)?;
     draft.hold(alloc, place, body)
 }
 
 /// An end that can be reached is as `return;`.
-fn end(around: &Around, draft: &mut Draft) -> Result<(), Memory>
-    ensures { OnOk result (code_of draft.new ≡ ended around.now (code_of draft.old)) }
+fn end(context: &Context, draft: &mut Draft) -> Result<(), Memory>
+    ensures { OnOk result (code_of draft.new ≡ ended context.now (code_of draft.old)) }
 {
     if draft.can_end() {
-        lower_return_nothing(around, draft)
+        lower_return_nothing(context, draft)
     } else {
         Ok(())
     }
@@ -167,15 +167,15 @@ fn end(around: &Around, draft: &mut Draft) -> Result<(), Memory>
 /// The fields of an object, and the end of its constructor.
 fn lower_fields(
     alloc: Global,
-    around: &Around,
+    context: &Context,
     members: &[Member],
     draft: &mut Draft,
 ) -> Result<(), Memory>
-    ensures { OnOk result (code_of draft.new ≡ ended around.now
-        (code_of draft.old ++ flat_map (member_begun around.now) members.now)) }
+    ensures { OnOk result (code_of draft.new ≡ ended context.now
+        (code_of draft.old ++ flat_map (member_begun context.now) members.now)) }
 {
-    begin_members(alloc, around, members, draft)?;
-    end(around, draft)
+    begin_members(alloc, context, members, draft)?;
+    end(context, draft)
 }
 
 /// The constructor that a class has without declaring it.
@@ -190,12 +190,12 @@ fn lower_default(
     ensures kinds { IfOk result (λ lowered. lowered.kinds ≡ kinds_in
         (entered (folder_of table.now statuses.now) (source_of source.now)) (source_of source.now) Default) }
 {
-    let around = enter(alloc, table, statuses, source)?;
+    let context = enter(alloc, table, statuses, source)?;
     let mut draft = Draft::new(alloc);
-    lower_fields(alloc, &around, source.members, &mut draft)?;
+    lower_fields(alloc, &context, source.members, &mut draft)?;
     Ok(Lowered {
         code: draft.into_code(),
-        kinds: around.into_kinds(),
+        kinds: context.into_kinds(),
     })
 }
 
@@ -206,19 +206,19 @@ fn lower_tree(
     statuses: &[Option<Reason>],
     source: &Source,
     m: &MethodTree,
-    around: &mut Around,
+    context: &mut Context,
     draft: &mut Draft,
 ) -> Result<(), Memory>
-    requires entered { around.old
+    requires entered { context.old
         ≡ parameters_declared (entered (folder_of table.now statuses.now) (source_of source.now)) m.now.parameters }
     requires start { code_of draft.old ≡ [] }
-    ensures around { OnOk result (around.new ≡ block_end around.old (body_of m.now)) }
+    ensures context { OnOk result (context.new ≡ block_end context.old (body_of m.now)) }
     ensures code { OnOk result (code_of draft.new
-        ≡ ended around.old (spelled_code around.old source.now.members.now m.now)) }
+        ≡ ended context.old (spelled_code context.old source.now.members.now m.now)) }
 {
     begin_object(alloc, table, statuses, source, m, draft)?;
-    lower_body(alloc, around, m, draft)?;
-    end(around, draft)
+    lower_body(alloc, context, m, draft)?;
+    end(context, draft)
 }
 
 /// A method that a tree spells.
@@ -234,12 +234,12 @@ fn lower_spelled(
     ensures kinds { IfOk result (λ lowered. lowered.kinds ≡ kinds_in
         (entered (folder_of table.now statuses.now) (source_of source.now)) (source_of source.now) (Spelled m.now)) }
 {
-    let mut around = enter_spelled(alloc, table, statuses, source, m)?;
+    let mut context = enter_spelled(alloc, table, statuses, source, m)?;
     let mut draft = Draft::new(alloc);
-    lower_tree(alloc, table, statuses, source, m, &mut around, &mut draft)?;
+    lower_tree(alloc, table, statuses, source, m, &mut context, &mut draft)?;
     Ok(Lowered {
         code: draft.into_code(),
-        kinds: around.into_kinds(),
+        kinds: context.into_kinds(),
     })
 }
 

@@ -1,7 +1,7 @@
 //! Code while it is made.
 ghost use Rattle.std.specs.Prelude.{◌≡◌, ◌++◌, map, take, drop, OnOk, IfOk};
 ghost use Rattle.core_code.specs.Tree.{can_end, tree_of};
-ghost use Rattle.core_lowering_rules.specs.Around.{choice, repeated, held};
+ghost use Rattle.core_lowering_rules.specs.Context.{choice, repeated, held};
 ghost use Rattle.core_lowering_methods.specs.Erased.{AreNumbered, whole_of};
 
 use crate::value_kind::ValueKind;
@@ -72,7 +72,7 @@ fn hold(alloc: Global, parts: &mut Vec<Code>, place: Place, at: usize) -> Result
 impl Draft {
     ghost use Rattle.std.specs.Prelude.{◌≡◌, [], ◌++◌, take, drop, length, OnOk, IfOk};
     ghost use Rattle.core_code.specs.Tree.{can_end, in_sequence, tree_of};
-    ghost use Rattle.core_lowering_rules.specs.Around.{op_at, choice, repeated, held};
+    ghost use Rattle.core_lowering_rules.specs.Context.{op_at, choice, repeated, held};
     ghost use Rattle.core_lowering_rules.specs.Sites.{numbered};
     ghost use Rattle.core_lowering_methods.specs.Drafts.{code_of};
     ghost use Rattle.core_lowering_methods.specs.Views.{value_kind};

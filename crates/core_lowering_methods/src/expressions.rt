@@ -12,13 +12,13 @@ ghost use Rattle.core_lowering_methods.specs.Views.{value_kind};
 ghost use Rattle.core_lowering_methods.specs.Parts.{base_of, without_base};
 ghost use Rattle.core_lowering_methods.specs.declared.storage.Storage.TheVariants.{Elsewhere as StoredElsewhere};
 
-use crate::around::Around;
 use crate::calls::Target;
+use crate::context::Context;
 use crate::draft::Draft;
 use crate::invocations::{lower_arguments, lower_call, lower_call_on, lower_new};
 use crate::names::{class_before, class_object, this_object};
 use crate::operators::{cast, is_count, literal};
-use crate::storage::{Storage, named, of_class, of_value, read};
+use crate::storage::{Storage, of_class, of_name, of_value, read};
 use crate::value_kind::ValueKind;
 use crate::values::{
     begin_assign, begin_conditional, begin_operator, count_value, end_assign, end_conditional,
@@ -32,34 +32,34 @@ use std::alloc::Global;
 #[cycle(lower_expressions)]
 pub fn lower_expression(
     alloc: Global,
-    around: &Around,
+    context: &Context,
     e: &Expression,
     draft: &mut Draft,
 ) -> Result<ValueKind, Memory>
-    ensures code { OnOk result (code_of draft.new ≡ code_of draft.old ++ code around.now (expr_of e.now)) }
-    ensures kind { IfOk result (λ k. value_kind k ≡ kind around.now (expr_of e.now)) }
+    ensures code { OnOk result (code_of draft.new ≡ code_of draft.old ++ code context.now (expr_of e.now)) }
+    ensures kind { IfOk result (λ k. value_kind k ≡ kind context.now (expr_of e.now)) }
 {
     match e {
-        Expression::Assign(a, op, b) => lower_assign(alloc, around, a, op.as_str(), b, draft),
-        Expression::Conditional(c, a, b) => lower_conditional(alloc, around, c, a, b, draft),
-        Expression::Binary(a, op, b) => lower_operator(alloc, around, a, op.as_str(), b, draft),
-        Expression::InstanceOf(a, _) => lower_prefix(alloc, around, a, "instanceof", draft),
-        Expression::Prefix(op, a) => lower_prefix(alloc, around, a, op.as_str(), draft),
-        Expression::Cast(t, a) => lower_cast(alloc, around, a, t, draft),
-        Expression::Postfix(a, _) => lower_prefix(alloc, around, a, "++", draft),
-        Expression::Literal(kind, text) => literal(around, *kind, text.as_str(), draft),
-        Expression::This => this_object(around, draft),
-        Expression::Paren(a) => lower_expression(alloc, around, a, draft),
-        Expression::Name(_) => lower_read(alloc, around, e, draft),
-        Expression::Field(_, _) => lower_read(alloc, around, e, draft),
-        Expression::Index(_, _) => lower_read(alloc, around, e, draft),
-        Expression::Call(None, x, all) => { lower_call(alloc, around, all, Target::Own, x, draft) }
-        Expression::Call(Some(a), x, all) => lower_call_on(alloc, around, a, x, all, draft),
-        Expression::ClassOf(names) => class_object(around, names, draft),
-        Expression::New(place, t, all) => lower_new(alloc, around, all, *place, t, draft),
-        Expression::NewArray(place, _, all, _) => lower_lengths(alloc, around, all, *place, draft),
+        Expression::Assign(a, op, b) => lower_assign(alloc, context, a, op.as_str(), b, draft),
+        Expression::Conditional(c, a, b) => lower_conditional(alloc, context, c, a, b, draft),
+        Expression::Binary(a, op, b) => lower_operator(alloc, context, a, op.as_str(), b, draft),
+        Expression::InstanceOf(a, _) => lower_prefix(alloc, context, a, "instanceof", draft),
+        Expression::Prefix(op, a) => lower_prefix(alloc, context, a, op.as_str(), draft),
+        Expression::Cast(t, a) => lower_cast(alloc, context, a, t, draft),
+        Expression::Postfix(a, _) => lower_prefix(alloc, context, a, "++", draft),
+        Expression::Literal(kind, text) => literal(context, *kind, text.as_str(), draft),
+        Expression::This => this_object(context, draft),
+        Expression::Paren(a) => lower_expression(alloc, context, a, draft),
+        Expression::Name(_) => lower_read(alloc, context, e, draft),
+        Expression::Field(_, _) => lower_read(alloc, context, e, draft),
+        Expression::Index(_, _) => lower_read(alloc, context, e, draft),
+        Expression::Call(None, x, all) => { lower_call(alloc, context, all, Target::Own, x, draft) }
+        Expression::Call(Some(a), x, all) => lower_call_on(alloc, context, a, x, all, draft),
+        Expression::ClassOf(names) => class_object(context, names, draft),
+        Expression::New(place, t, all) => lower_new(alloc, context, all, *place, t, draft),
+        Expression::NewArray(place, _, all, _) => lower_lengths(alloc, context, all, *place, draft),
         Expression::NewItems(place, _, _, array) => {
-            lower_array(alloc, around, &array.items, *place, draft)
+            lower_array(alloc, context, &array.items, *place, draft)
         }
     }
 }
@@ -68,18 +68,18 @@ pub fn lower_expression(
 #[cycle(lower_expressions)]
 fn lower_storage(
     alloc: Global,
-    around: &Around,
+    context: &Context,
     e: &Expression,
     draft: &mut Draft,
 ) -> Result<Storage, Memory>
     ensures code { OnOk result (code_of draft.new ≡ code_of draft.old
-        ++ base_of (storage around.now (access_of (expr_of e.now)))) }
-    ensures storage { IfOk result (λ s. s ≡ without_base (storage around.now (access_of (expr_of e.now)))) }
+        ++ base_of (storage context.now (access_of (expr_of e.now)))) }
+    ensures storage { IfOk result (λ s. s ≡ without_base (storage context.now (access_of (expr_of e.now)))) }
 {
     match e {
-        Expression::Name(x) => named(around, x, draft),
-        Expression::Field(a, x) => lower_selected(alloc, around, a, x, draft),
-        Expression::Index(a, i) => lower_element(alloc, around, a, i, draft),
+        Expression::Name(x) => of_name(context, x, draft),
+        Expression::Field(a, x) => lower_selected(alloc, context, a, x, draft),
+        Expression::Index(a, i) => lower_element(alloc, context, a, i, draft),
         _ => Ok(Storage::Elsewhere(0)),
     }
 }
@@ -88,37 +88,37 @@ fn lower_storage(
 #[cycle(lower_expressions)]
 fn lower_selected(
     alloc: Global,
-    around: &Around,
+    context: &Context,
     a: &Expression,
     x: &Ident,
     draft: &mut Draft,
 ) -> Result<Storage, Memory>
     ensures code { OnOk result (code_of draft.new ≡ code_of draft.old
-        ++ base_of (storage around.now (Selected (expr_of a.now) x.now))) }
-    ensures storage { IfOk result (λ s. s ≡ without_base (storage around.now (Selected (expr_of a.now) x.now))) }
+        ++ base_of (storage context.now (Selected (expr_of a.now) x.now))) }
+    ensures storage { IfOk result (λ s. s ≡ without_base (storage context.now (Selected (expr_of a.now) x.now))) }
 {
-    if let Some(c) = class_before(around, a) {
-        return of_class(around, c, x, draft);
+    if let Some(c) = class_before(context, a) {
+        return of_class(context, c, x, draft);
     }
-    let kind = lower_expression(alloc, around, a, draft)?;
-    of_value(around, kind, x, draft)
+    let kind = lower_expression(alloc, context, a, draft)?;
+    of_value(context, kind, x, draft)
 }
 
 /// `a[i]`
 #[cycle(lower_expressions)]
 fn lower_element(
     alloc: Global,
-    around: &Around,
+    context: &Context,
     a: &Expression,
     i: &Expression,
     draft: &mut Draft,
 ) -> Result<Storage, Memory>
     ensures code { OnOk result (code_of draft.new ≡ code_of draft.old
-        ++ (code around.now (expr_of a.now) ++ code around.now (expr_of i.now))) }
+        ++ (code context.now (expr_of a.now) ++ code context.now (expr_of i.now))) }
     ensures storage { IfOk result (λ s. s ≡ StoredElsewhere 2) }
 {
-    lower_expression(alloc, around, a, draft)?;
-    lower_expression(alloc, around, i, draft)?;
+    lower_expression(alloc, context, a, draft)?;
+    lower_expression(alloc, context, i, draft)?;
     Ok(Storage::Elsewhere(2))
 }
 
@@ -126,118 +126,118 @@ fn lower_element(
 #[cycle(lower_expressions)]
 fn lower_read(
     alloc: Global,
-    around: &Around,
+    context: &Context,
     e: &Expression,
     draft: &mut Draft,
 ) -> Result<ValueKind, Memory>
     ensures code { OnOk result (code_of draft.new ≡ code_of draft.old
-        ++ code around.now (Read (access_of (expr_of e.now)))) }
-    ensures kind { IfOk result (λ k. value_kind k ≡ kind around.now (Read (access_of (expr_of e.now)))) }
+        ++ code context.now (Read (access_of (expr_of e.now)))) }
+    ensures kind { IfOk result (λ k. value_kind k ≡ kind context.now (Read (access_of (expr_of e.now)))) }
 {
-    let storage = lower_storage(alloc, around, e, draft)?;
-    read(around, storage, draft)
+    let storage = lower_storage(alloc, context, e, draft)?;
+    read(context, storage, draft)
 }
 
 /// An assignment with this operator.
 #[cycle(lower_expressions)]
 fn lower_assign(
     alloc: Global,
-    around: &Around,
+    context: &Context,
     a: &Expression,
     op: &str,
     b: &Expression,
     draft: &mut Draft,
 ) -> Result<ValueKind, Memory>
     ensures code { OnOk result (code_of draft.new ≡ code_of draft.old
-        ++ code around.now (assignment op.now (access_of (expr_of a.now)) (expr_of b.now))) }
+        ++ code context.now (assignment op.now (access_of (expr_of a.now)) (expr_of b.now))) }
     ensures kind { IfOk result (λ k. value_kind k
-        ≡ kind around.now (assignment op.now (access_of (expr_of a.now)) (expr_of b.now))) }
+        ≡ kind context.now (assignment op.now (access_of (expr_of a.now)) (expr_of b.now))) }
 {
-    let target = lower_storage(alloc, around, a, draft)?;
-    begin_assign(around, op, target, draft)?;
-    let given = lower_expression(alloc, around, b, draft)?;
-    end_assign(around, op, target, given, draft)
+    let target = lower_storage(alloc, context, a, draft)?;
+    begin_assign(context, op, target, draft)?;
+    let given = lower_expression(alloc, context, b, draft)?;
+    end_assign(context, op, target, given, draft)
 }
 
 /// A prefix operator, of which `++` and `--` store.
 #[cycle(lower_expressions)]
 fn lower_prefix(
     alloc: Global,
-    around: &Around,
+    context: &Context,
     a: &Expression,
     op: &str,
     draft: &mut Draft,
 ) -> Result<ValueKind, Memory>
     ensures code { OnOk result (code_of draft.new ≡ code_of draft.old
-        ++ code around.now (prefix op.now (expr_of a.now))) }
-    ensures kind { IfOk result (λ k. value_kind k ≡ kind around.now (prefix op.now (expr_of a.now))) }
+        ++ code context.now (prefix op.now (expr_of a.now))) }
+    ensures kind { IfOk result (λ k. value_kind k ≡ kind context.now (prefix op.now (expr_of a.now))) }
 {
     if is_count(op) {
-        let storage = lower_storage(alloc, around, a, draft)?;
-        return count_value(around, storage, draft);
+        let storage = lower_storage(alloc, context, a, draft)?;
+        return count_value(context, storage, draft);
     }
-    lower_expression(alloc, around, a, draft)?;
-    prim(around, 1, draft)
+    lower_expression(alloc, context, a, draft)?;
+    prim(context, 1, draft)
 }
 
 /// `(T) a`
 #[cycle(lower_expressions)]
 fn lower_cast(
     alloc: Global,
-    around: &Around,
+    context: &Context,
     a: &Expression,
     t: &TypeTree,
     draft: &mut Draft,
 ) -> Result<ValueKind, Memory>
     ensures code { OnOk result (code_of draft.new ≡ code_of draft.old
-        ++ code around.now (Cast (ty_of t.now) (expr_of a.now))) }
-    ensures kind { IfOk result (λ k. value_kind k ≡ kind around.now (Cast (ty_of t.now) (expr_of a.now))) }
+        ++ code context.now (Cast (ty_of t.now) (expr_of a.now))) }
+    ensures kind { IfOk result (λ k. value_kind k ≡ kind context.now (Cast (ty_of t.now) (expr_of a.now))) }
 {
-    lower_expression(alloc, around, a, draft)?;
-    cast(around, around.type_kind(t), draft)
+    lower_expression(alloc, context, a, draft)?;
+    cast(context, context.type_kind(t), draft)
 }
 
 /// An operator with two operands.
 #[cycle(lower_expressions)]
 fn lower_operator(
     alloc: Global,
-    around: &Around,
+    context: &Context,
     a: &Expression,
     op: &str,
     b: &Expression,
     draft: &mut Draft,
 ) -> Result<ValueKind, Memory>
     ensures code { OnOk result (code_of draft.new ≡ code_of draft.old
-        ++ code around.now (binary op.now (expr_of a.now) (expr_of b.now))) }
+        ++ code context.now (binary op.now (expr_of a.now) (expr_of b.now))) }
     ensures kind { IfOk result (λ k. value_kind k
-        ≡ kind around.now (binary op.now (expr_of a.now) (expr_of b.now))) }
+        ≡ kind context.now (binary op.now (expr_of a.now) (expr_of b.now))) }
 {
-    lower_expression(alloc, around, a, draft)?;
-    let at = begin_operator(around, op, draft)?;
-    lower_expression(alloc, around, b, draft)?;
-    end_operator(alloc, around, op, at, draft)
+    lower_expression(alloc, context, a, draft)?;
+    let at = begin_operator(context, op, draft)?;
+    lower_expression(alloc, context, b, draft)?;
+    end_operator(alloc, context, op, at, draft)
 }
 
 /// `c ? a : b`
 #[cycle(lower_expressions)]
 fn lower_conditional(
     alloc: Global,
-    around: &Around,
+    context: &Context,
     c: &Expression,
     a: &Expression,
     b: &Expression,
     draft: &mut Draft,
 ) -> Result<ValueKind, Memory>
     ensures code { OnOk result (code_of draft.new ≡ code_of draft.old
-        ++ code around.now (Conditional (expr_of c.now) (expr_of a.now) (expr_of b.now))) }
-    ensures kind { IfOk result (λ k. value_kind k ≡ kind around.now
+        ++ code context.now (Conditional (expr_of c.now) (expr_of a.now) (expr_of b.now))) }
+    ensures kind { IfOk result (λ k. value_kind k ≡ kind context.now
         (Conditional (expr_of c.now) (expr_of a.now) (expr_of b.now))) }
 {
-    lower_expression(alloc, around, c, draft)?;
-    let left = begin_conditional(around, draft)?;
-    let first = lower_expression(alloc, around, a, draft)?;
+    lower_expression(alloc, context, c, draft)?;
+    let left = begin_conditional(context, draft)?;
+    let first = lower_expression(alloc, context, a, draft)?;
     let right = draft.len();
-    let second = lower_expression(alloc, around, b, draft)?;
+    let second = lower_expression(alloc, context, b, draft)?;
     end_conditional(alloc, (left, right), (first, second), draft)
 }
 
@@ -245,16 +245,16 @@ fn lower_conditional(
 #[cycle(lower_expressions)]
 fn lower_lengths(
     alloc: Global,
-    around: &Around,
+    context: &Context,
     lengths: &[Expression],
     place: Place,
     draft: &mut Draft,
 ) -> Result<ValueKind, Memory>
     ensures code { OnOk result (code_of draft.new ≡ code_of draft.old
-        ++ code around.now (NewArray place (pack_exprs (map expr_of lengths.now)))) }
+        ++ code context.now (NewArray place (pack_exprs (map expr_of lengths.now)))) }
     ensures kind { IfOk result (λ k. value_kind k ≡ Of kinds.Other) }
 {
-    lower_arguments(alloc, around, lengths, &[], draft)?;
+    lower_arguments(alloc, context, lengths, &[], draft)?;
     new_array(place, lengths.len(), draft)
 }
 
@@ -262,17 +262,17 @@ fn lower_lengths(
 #[cycle(lower_expressions)]
 fn lower_array(
     alloc: Global,
-    around: &Around,
+    context: &Context,
     items: &[Initialiser],
     place: Place,
     draft: &mut Draft,
 ) -> Result<ValueKind, Memory>
     ensures code { OnOk result (code_of draft.new ≡ code_of draft.old
-        ++ code around.now (NewItems place (pack_inits (map init_of items.now)))) }
+        ++ code context.now (NewItems place (pack_inits (map init_of items.now)))) }
     ensures kind { IfOk result (λ k. value_kind k ≡ Of kinds.Other) }
 {
     for item in items {
-        lower_initialiser(alloc, around, item, draft)?;
+        lower_initialiser(alloc, context, item, draft)?;
     }
     new_array(place, items.len(), draft)
 }
@@ -281,18 +281,18 @@ fn lower_array(
 #[cycle(lower_expressions)]
 pub fn lower_initialiser(
     alloc: Global,
-    around: &Around,
+    context: &Context,
     initialiser: &Initialiser,
     draft: &mut Draft,
 ) -> Result<ValueKind, Memory>
     ensures code { OnOk result (code_of draft.new ≡ code_of draft.old
-        ++ init_code around.now (init_of initialiser.now)) }
-    ensures kind { IfOk result (λ k. value_kind k ≡ init_kind around.now (init_of initialiser.now)) }
+        ++ init_code context.now (init_of initialiser.now)) }
+    ensures kind { IfOk result (λ k. value_kind k ≡ init_kind context.now (init_of initialiser.now)) }
 {
     match initialiser {
-        Initialiser::Value(e) => lower_expression(alloc, around, e, draft),
+        Initialiser::Value(e) => lower_expression(alloc, context, e, draft),
         Initialiser::Items(array) => {
-            lower_array(alloc, around, &array.items, around.place(), draft)
+            lower_array(alloc, context, &array.items, context.place(), draft)
         }
     }
 }

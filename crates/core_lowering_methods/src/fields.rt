@@ -6,7 +6,7 @@ ghost use Rattle.core_lowering_rules.specs.Methods.{field_begun, member_begun, u
 ghost use Rattle.core_lowering_methods.specs.Drafts.{code_of};
 ghost use Rattle.core_lowering_methods.specs.Views.{value_kind};
 
-use crate::{Around, Draft, ValueKind, assign, lower_initialiser, named};
+use crate::{Context, Draft, ValueKind, assign, lower_initialiser, of_name};
 use core_code::Op;
 use java_parser_grammar::Member;
 use java_resolver::has_word;
@@ -17,75 +17,75 @@ use std::alloc::Global;
 /// A field that begins with what has a tree.
 fn begin_formed(
     alloc: Global,
-    around: &Around,
+    context: &Context,
     x: &Ident,
     initialiser: &Initialiser,
     draft: &mut Draft,
 ) -> Result<(), Memory>
     ensures { OnOk result (code_of draft.new ≡ code_of draft.old
-        ++ field_begun around.now x.now (Formed initialiser.now)) }
+        ++ field_begun context.now x.now (Formed initialiser.now)) }
 {
-    let storage = named(around, x, draft)?;
-    let given = lower_initialiser(alloc, around, initialiser, draft)?;
-    assign(around, storage, given, draft)?;
-    around.op(draft, Op::Drop)
+    let storage = of_name(context, x, draft)?;
+    let given = lower_initialiser(alloc, context, initialiser, draft)?;
+    assign(context, storage, given, draft)?;
+    context.op(draft, Op::Drop)
 }
 
 /// A value that is not read.
-fn push_unread(around: &Around, kind: ValueKind, draft: &mut Draft) -> Result<(), Memory>
-    ensures { OnOk result (code_of draft.new ≡ code_of draft.old ++ unread around.now (value_kind kind)) }
+fn push_unread(context: &Context, kind: ValueKind, draft: &mut Draft) -> Result<(), Memory>
+    ensures { OnOk result (code_of draft.new ≡ code_of draft.old ++ unread context.now (value_kind kind)) }
 {
     match kind {
-        ValueKind::Of(Kind::Plain) => around.op(draft, Op::PushPrim),
-        _ => around.op(draft, Op::Outside(0)),
+        ValueKind::Of(Kind::Plain) => context.op(draft, Op::PushPrim),
+        _ => context.op(draft, Op::Outside(0)),
     }
 }
 
 /// A field that begins with what has no tree.
-fn begin_unread(around: &Around, x: &Ident, draft: &mut Draft) -> Result<(), Memory>
-    ensures { OnOk result (code_of draft.new ≡ code_of draft.old ++ field_begun around.now x.now Unread) }
+fn begin_unread(context: &Context, x: &Ident, draft: &mut Draft) -> Result<(), Memory>
+    ensures { OnOk result (code_of draft.new ≡ code_of draft.old ++ field_begun context.now x.now Unread) }
 {
-    let storage = named(around, x, draft)?;
-    push_unread(around, storage.kind(), draft)?;
-    assign(around, storage, ValueKind::Of(Kind::Other), draft)?;
-    around.op(draft, Op::Drop)
+    let storage = of_name(context, x, draft)?;
+    push_unread(context, storage.kind(), draft)?;
+    assign(context, storage, ValueKind::Of(Kind::Other), draft)?;
+    context.op(draft, Op::Drop)
 }
 
 /// A field of the object, where it has an initialiser.
 fn begin_field(
     alloc: Global,
-    around: &Around,
+    context: &Context,
     field: &FieldVariable,
     draft: &mut Draft,
 ) -> Result<(), Memory>
     ensures { OnOk result (code_of draft.new ≡ code_of draft.old
-        ++ field_begun around.now field.now.name field.now.initialiser) }
+        ++ field_begun context.now field.now.name field.now.initialiser) }
 {
     match &field.initialiser {
         FieldInitialiser::Absent => Ok(()),
         FieldInitialiser::Formed(initialiser) => begin_formed(
             alloc,
-            around,
+            context,
             &field.name,
             initialiser,
             draft,
         ),
-        FieldInitialiser::Unread => begin_unread(around, &field.name, draft),
+        FieldInitialiser::Unread => begin_unread(context, &field.name, draft),
     }
 }
 
 /// The fields of a declaration.
 fn begin_variables(
     alloc: Global,
-    around: &Around,
+    context: &Context,
     fields: &[FieldVariable],
     draft: &mut Draft,
 ) -> Result<(), Memory>
     ensures { OnOk result (code_of draft.new ≡ code_of draft.old
-        ++ flat_map (λ v. field_begun around.now v.name v.initialiser) fields.now) }
+        ++ flat_map (λ v. field_begun context.now v.name v.initialiser) fields.now) }
 {
     for field in fields {
-        begin_field(alloc, around, field, draft)?;
+        begin_field(alloc, context, field, draft)?;
     }
     Ok(())
 }
@@ -93,18 +93,18 @@ fn begin_variables(
 /// The fields of a member.
 fn begin_member(
     alloc: Global,
-    around: &Around,
+    context: &Context,
     member: &Member,
     draft: &mut Draft,
 ) -> Result<(), Memory>
-    ensures { OnOk result (code_of draft.new ≡ code_of draft.old ++ member_begun around.now member.now) }
+    ensures { OnOk result (code_of draft.new ≡ code_of draft.old ++ member_begun context.now member.now) }
 {
     match member {
         Member::Field(f) => {
             if has_word(f.modifiers.as_slice(), "static") {
                 Ok(())
             } else {
-                begin_variables(alloc, around, f.variables.as_slice(), draft)
+                begin_variables(alloc, context, f.variables.as_slice(), draft)
             }
         }
         _ => Ok(()),
@@ -114,14 +114,14 @@ fn begin_member(
 /// The fields of all members.
 pub fn begin_members(
     alloc: Global,
-    around: &Around,
+    context: &Context,
     members: &[Member],
     draft: &mut Draft,
 ) -> Result<(), Memory>
-    ensures { OnOk result (code_of draft.new ≡ code_of draft.old ++ flat_map (member_begun around.now) members.now) }
+    ensures { OnOk result (code_of draft.new ≡ code_of draft.old ++ flat_map (member_begun context.now) members.now) }
 {
     for member in members {
-        begin_member(alloc, around, member, draft)?;
+        begin_member(alloc, context, member, draft)?;
     }
     Ok(())
 }

@@ -3,7 +3,7 @@ use racer_base::Kind;
 
 /// A constructor gives its object, another method nothing, or a value of a kind.
 #[derive(Clone, Copy)]
-pub enum Given {
+pub enum MethodResult {
     Itself,
     Nothing,
     Value(Kind),

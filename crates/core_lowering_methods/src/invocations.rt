@@ -9,10 +9,10 @@ ghost use Rattle.core_lowering_methods.specs.Views.{value_kind};
 ghost use Rattle.core_lowering_methods.specs.Parts.{converted_first};
 ghost use Rattle.core_lowering_methods.specs.Together.{target_call, target_kind};
 
-use crate::around::Around;
 use crate::calls::{
     Target, begin_call, begin_new, callee_on, finish_call, finish_new, made_kinds, passed_kinds,
 };
+use crate::context::Context;
 use crate::draft::Draft;
 use crate::expressions::lower_expression;
 use crate::names::class_before;
@@ -24,17 +24,17 @@ use std::alloc::Global;
 
 /// What an argument goes through on its way to the kind with this index, if there is one.
 fn convert_at(
-    around: &Around,
+    context: &Context,
     kinds: &[Kind],
     index: usize,
     given: ValueKind,
     draft: &mut Draft,
 ) -> Result<(), Memory>
     ensures { OnOk result (code_of draft.new ≡ code_of draft.old
-        ++ converted_first around.now (drop index kinds.now) (value_kind given)) }
+        ++ converted_first context.now (drop index kinds.now) (value_kind given)) }
 {
     match kinds.get(index) {
-        Some(kind) => around.convert(draft, *kind, given),
+        Some(kind) => context.convert(draft, *kind, given),
         None => Ok(()),
     }
 }
@@ -43,17 +43,17 @@ fn convert_at(
 #[cycle(lower_expressions)]
 pub fn lower_arguments(
     alloc: Global,
-    around: &Around,
+    context: &Context,
     arguments: &[Expression],
     kinds: &[Kind],
     draft: &mut Draft,
 ) -> Result<(), Memory>
     ensures { OnOk result (code_of draft.new ≡ code_of draft.old
-        ++ passed around.now kinds.now (pack_exprs (map expr_of arguments.now))) }
+        ++ passed context.now kinds.now (pack_exprs (map expr_of arguments.now))) }
 {
     for (index, argument) in arguments.iter().enumerate() {
-        let given = lower_expression(alloc, around, argument, draft)?;
-        convert_at(around, kinds, index, given, draft)?;
+        let given = lower_expression(alloc, context, argument, draft)?;
+        convert_at(context, kinds, index, given, draft)?;
     }
     Ok(())
 }
@@ -62,68 +62,68 @@ pub fn lower_arguments(
 #[cycle(lower_expressions)]
 pub fn lower_call(
     alloc: Global,
-    around: &Around,
+    context: &Context,
     arguments: &[Expression],
     target: Target,
     x: &Ident,
     draft: &mut Draft,
 ) -> Result<ValueKind, Memory>
     ensures code { OnOk result (code_of draft.new ≡ code_of draft.old
-        ++ target_call around.now target x.now (pack_exprs (map expr_of arguments.now))) }
+        ++ target_call context.now target x.now (pack_exprs (map expr_of arguments.now))) }
     ensures kind { IfOk result (λ k. value_kind k
-        ≡ target_kind around.now target x.now (pack_exprs (map expr_of arguments.now))) }
+        ≡ target_kind context.now target x.now (pack_exprs (map expr_of arguments.now))) }
 {
     let count = number_of(arguments.len())?;
-    let callee = callee_on(around, target, x, count);
-    begin_call(around, target, callee, draft)?;
+    let callee = callee_on(context, target, x, count);
+    begin_call(context, target, callee, draft)?;
     lower_arguments(
         alloc,
-        around,
+        context,
         arguments,
-        passed_kinds(around, callee),
+        passed_kinds(context, callee),
         draft,
     )?;
-    finish_call(around, target, x.place, count, callee, draft)
+    finish_call(context, target, x.place, count, callee, draft)
 }
 
 /// e.f(..)
 #[cycle(lower_expressions)]
 pub fn lower_call_on(
     alloc: Global,
-    around: &Around,
+    context: &Context,
     e: &Expression,
     x: &Ident,
     arguments: &[Expression],
     draft: &mut Draft,
 ) -> Result<ValueKind, Memory>
     ensures code { OnOk result (code_of draft.new ≡ code_of draft.old
-        ++ code around.now (CallOn (expr_of e.now) x.now (pack_exprs (map expr_of arguments.now)))) }
-    ensures kind { IfOk result (λ k. value_kind k ≡ kind around.now
+        ++ code context.now (CallOn (expr_of e.now) x.now (pack_exprs (map expr_of arguments.now)))) }
+    ensures kind { IfOk result (λ k. value_kind k ≡ kind context.now
         (CallOn (expr_of e.now) x.now (pack_exprs (map expr_of arguments.now)))) }
 {
-    if let Some(c) = class_before(around, e) {
-        return lower_call(alloc, around, arguments, Target::Class(c), x, draft);
+    if let Some(c) = class_before(context, e) {
+        return lower_call(alloc, context, arguments, Target::Class(c), x, draft);
     }
-    let kind = lower_expression(alloc, around, e, draft)?;
-    lower_call(alloc, around, arguments, Target::Value(kind), x, draft)
+    let kind = lower_expression(alloc, context, e, draft)?;
+    lower_call(alloc, context, arguments, Target::Value(kind), x, draft)
 }
 
 /// new T(..)
 #[cycle(lower_expressions)]
 pub fn lower_new(
     alloc: Global,
-    around: &Around,
+    context: &Context,
     arguments: &[Expression],
     place: Place,
     t: &TypeTree,
     draft: &mut Draft,
 ) -> Result<ValueKind, Memory>
     ensures code { OnOk result (code_of draft.new ≡ code_of draft.old
-        ++ code around.now (New place (ty_of t.now) (pack_exprs (map expr_of arguments.now)))) }
-    ensures kind { IfOk result (λ k. value_kind k ≡ kind around.now
+        ++ code context.now (New place (ty_of t.now) (pack_exprs (map expr_of arguments.now)))) }
+    ensures kind { IfOk result (λ k. value_kind k ≡ kind context.now
         (New place (ty_of t.now) (pack_exprs (map expr_of arguments.now)))) }
 {
-    let maker = begin_new(around, place, t, arguments.len(), draft)?;
-    lower_arguments(alloc, around, arguments, made_kinds(around, maker), draft)?;
-    finish_new(around, place, t, arguments.len(), maker, draft)
+    let maker = begin_new(context, place, t, arguments.len(), draft)?;
+    lower_arguments(alloc, context, arguments, made_kinds(context, maker), draft)?;
+    finish_new(context, place, t, arguments.len(), maker, draft)
 }

@@ -1,16 +1,16 @@
 //! The lowering of expressions (JLS 15), of statements (JLS 14), and of the bodies of methods and constructors (JLS 8.4,
 //! 8.8, 12.5) to core code.
 //!
-//! `code_of` of `specs/Drafts.antt` says what is seen of a `Draft`, and an `Around` is seen as that of the definition. The
+//! `code_of` of `specs/Drafts.antt` says what is seen of a `Draft`, and an `Context` is seen as that of the definition. The
 //! code of a method and the kinds of its variables are those of core_lowering_rules's `specs/Methods.antt`, for every table of
 //! names and every method (`lower_method`).
 #![tactic(auto)]
 
-mod around;
 mod blocks;
 mod bodies;
 mod by_name;
 mod calls;
+mod context;
 mod draft;
 mod expressions;
 mod fields;
@@ -30,11 +30,11 @@ mod value_kind;
 mod values;
 mod variables;
 
-pub use around::Around;
 pub use bodies::{Lowered, lower_method};
+pub use context::Context;
 pub use draft::Draft;
 pub use expressions::{lower_expression, lower_initialiser};
-pub use given::Given;
+pub use given::MethodResult;
 pub use sources::{Body, Source};
-pub use storage::{Storage, assign, named};
+pub use storage::{Storage, assign, of_name};
 pub use value_kind::ValueKind;

@@ -2,14 +2,14 @@
 ghost use Rattle.std.specs.Prelude.{◌≡◌, ◌++◌, OnOk, map, option_map};
 ghost use Rattle.java_tree.specs.View.{ty_of};
 ghost use Rattle.core_lowering_rules.specs.TreesOf.{init_of, variable_of, start_of};
-ghost use Rattle.core_lowering_rules.specs.Around.{type_kind};
+ghost use Rattle.core_lowering_rules.specs.Context.{type_kind};
 ghost use Rattle.core_lowering_rules.specs.Scopes.{next_variable, declared, all_declared, started};
 ghost use Rattle.core_lowering_rules.specs.Statements.{begun, begun_all};
 ghost use Rattle.core_lowering_rules.specs.Statements as lowering;
 ghost use Rattle.core_lowering_methods.specs.Drafts.{code_of};
 
 use crate::parts::{lower_run_all, set};
-use crate::{Around, Draft, lower_initialiser};
+use crate::{Context, Draft, lower_initialiser};
 use java_tree::{Initialiser, LocalsTree, StartTree, VariableTree};
 use racer_base::{Kind, Memory, VarId};
 use std::alloc::Global;
@@ -17,54 +17,54 @@ use std::alloc::Global;
 /// What a variable begins with.
 fn lower_begin(
     alloc: Global,
-    around: &Around,
+    context: &Context,
     v: VarId,
     kind: Kind,
     initialiser: &Option<Initialiser>,
     draft: &mut Draft,
 ) -> Result<(), Memory>
     ensures { OnOk result (code_of draft.new ≡ code_of draft.old
-        ++ begun around.now v kind (option_map init_of initialiser.now)) }
+        ++ begun context.now v kind (option_map init_of initialiser.now)) }
 {
     let Some(initialiser) = initialiser else {
         return Ok(());
     };
-    let given = lower_initialiser(alloc, around, initialiser, draft)?;
-    around.convert(draft, kind, given)?;
-    set(around, v, draft)
+    let given = lower_initialiser(alloc, context, initialiser, draft)?;
+    context.convert(draft, kind, given)?;
+    set(context, v, draft)
 }
 
 /// A variable of this kind, which is in scope from its initialiser on.
 fn lower_variable(
     alloc: Global,
-    around: &mut Around,
+    context: &mut Context,
     kind: Kind,
     variable: &VariableTree,
     draft: &mut Draft,
 ) -> Result<(), Memory>
-    ensures around { OnOk result (around.new ≡ declared around.old kind variable.now.name) }
+    ensures context { OnOk result (context.new ≡ declared context.old kind variable.now.name) }
     ensures code { OnOk result (code_of draft.new ≡ code_of draft.old
-        ++ begun (declared around.old kind variable.now.name) (next_variable around.old) kind
+        ++ begun (declared context.old kind variable.now.name) (next_variable context.old) kind
         (option_map init_of variable.now.initialiser)) }
 {
-    let v = around.declare(alloc, kind, &variable.name)?;
-    lower_begin(alloc, around, v, kind, &variable.initialiser, draft)
+    let v = context.declare(alloc, kind, &variable.name)?;
+    lower_begin(alloc, context, v, kind, &variable.initialiser, draft)
 }
 
 /// Variables of this kind.
 fn lower_variables(
     alloc: Global,
-    around: &mut Around,
+    context: &mut Context,
     kind: Kind,
     variables: &[VariableTree],
     draft: &mut Draft,
 ) -> Result<(), Memory>
-    ensures around { OnOk result (around.new ≡ all_declared around.old kind (map variable_of variables.now)) }
+    ensures context { OnOk result (context.new ≡ all_declared context.old kind (map variable_of variables.now)) }
     ensures code { OnOk result (code_of draft.new ≡ code_of draft.old
-        ++ begun_all around.old kind (map variable_of variables.now)) }
+        ++ begun_all context.old kind (map variable_of variables.now)) }
 {
     for variable in variables {
-        lower_variable(alloc, around, kind, variable, draft)?;
+        lower_variable(alloc, context, kind, variable, draft)?;
     }
     Ok(())
 }
@@ -72,33 +72,33 @@ fn lower_variables(
 /// A declaration of local variables.
 pub fn lower_locals(
     alloc: Global,
-    around: &mut Around,
+    context: &mut Context,
     locals: &LocalsTree,
     draft: &mut Draft,
 ) -> Result<(), Memory>
-    ensures around { OnOk result (around.new ≡ all_declared around.old (type_kind around.old (ty_of locals.now.kind))
+    ensures context { OnOk result (context.new ≡ all_declared context.old (type_kind context.old (ty_of locals.now.kind))
         (map variable_of locals.now.variables)) }
     ensures code { OnOk result (code_of draft.new ≡ code_of draft.old
-        ++ begun_all around.old (type_kind around.old (ty_of locals.now.kind))
+        ++ begun_all context.old (type_kind context.old (ty_of locals.now.kind))
         (map variable_of locals.now.variables)) }
 {
-    let kind = around.type_kind(&locals.kind);
-    lower_variables(alloc, around, kind, locals.variables.as_slice(), draft)
+    let kind = context.type_kind(&locals.kind);
+    lower_variables(alloc, context, kind, locals.variables.as_slice(), draft)
 }
 
 /// What stands before the first `;` of a `for` (JLS 14.14.1).
 pub fn lower_start(
     alloc: Global,
-    around: &mut Around,
+    context: &mut Context,
     start: &StartTree,
     draft: &mut Draft,
 ) -> Result<(), Memory>
-    ensures around { OnOk result (around.new ≡ started around.old (start_of start.now)) }
+    ensures context { OnOk result (context.new ≡ started context.old (start_of start.now)) }
     ensures code { OnOk result (code_of draft.new ≡ code_of draft.old
-        ++ lowering.start around.old (start_of start.now)) }
+        ++ lowering.start context.old (start_of start.now)) }
 {
     match start {
-        StartTree::Local(locals) => lower_locals(alloc, around, locals, draft),
-        StartTree::Expressions(all) => lower_run_all(alloc, around, all.as_slice(), draft),
+        StartTree::Local(locals) => lower_locals(alloc, context, locals, draft),
+        StartTree::Expressions(all) => lower_run_all(alloc, context, all.as_slice(), draft),
     }
 }

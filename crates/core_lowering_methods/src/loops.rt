@@ -9,7 +9,7 @@ ghost use Rattle.core_lowering_methods.specs.Steps.{entered_for, turned, repeate
 
 use crate::locals::lower_start;
 use crate::parts::{lower_run, lower_run_all, lower_run_some, set};
-use crate::{Around, Draft};
+use crate::{Context, Draft};
 use core_code::Op;
 use java_tree::{Expression, StartTree};
 use racer_base::{Memory, VarId};
@@ -18,55 +18,55 @@ use std::alloc::Global;
 /// What stands before the loop of a `for`.
 pub fn begin_for(
     alloc: Global,
-    around: &mut Around,
+    context: &mut Context,
     start: &StartTree,
     e: &Option<Expression>,
     draft: &mut Draft,
 ) -> Result<(), Memory>
-    ensures around { OnOk result (around.new ≡ started around.old (start_of start.now)) }
+    ensures context { OnOk result (context.new ≡ started context.old (start_of start.now)) }
     ensures code { OnOk result (code_of draft.new ≡ code_of draft.old
-        ++ entered_for around.old (start_of start.now) (option_map expr_of e.now)) }
+        ++ entered_for context.old (start_of start.now) (option_map expr_of e.now)) }
 {
-    lower_start(alloc, around, start, draft)?;
-    lower_run_some(alloc, around, e, draft)
+    lower_start(alloc, context, start, draft)?;
+    lower_run_some(alloc, context, e, draft)
 }
 
 /// The loop of a `for`, whose body is there from this part on.
 pub fn end_for(
     alloc: Global,
-    around: &Around,
+    context: &Context,
     e: &Option<Expression>,
     updates: &[Expression],
     body: usize,
     draft: &mut Draft,
 ) -> Result<(), Memory>
     ensures { OnOk result (code_of draft.new ≡ repeated_from body (code_of draft.old
-        ++ turned around.now (option_map expr_of e.now) (pack_exprs (map expr_of updates.now)))) }
+        ++ turned context.now (option_map expr_of e.now) (pack_exprs (map expr_of updates.now)))) }
 {
-    lower_run_all(alloc, around, updates, draft)?;
-    lower_run_some(alloc, around, e, draft)?;
+    lower_run_all(alloc, context, updates, draft)?;
+    lower_run_some(alloc, context, e, draft)?;
     draft.repeat(alloc, body)
 }
 
 /// The loop of a `while`, whose body is there from this part on.
 pub fn end_while(
     alloc: Global,
-    around: &Around,
+    context: &Context,
     e: &Expression,
     body: usize,
     draft: &mut Draft,
 ) -> Result<(), Memory>
     ensures { OnOk result (code_of draft.new ≡ repeated_from body (code_of draft.old
-        ++ run around.now (expr_of e.now))) }
+        ++ run context.now (expr_of e.now))) }
 {
-    lower_run(alloc, around, e, draft)?;
+    lower_run(alloc, context, e, draft)?;
     draft.repeat(alloc, body)
 }
 
 /// The next element of what a `for` goes over.
-pub fn lower_next(around: &Around, v: VarId, draft: &mut Draft) -> Result<(), Memory>
-    ensures { OnOk result (code_of draft.new ≡ code_of draft.old ++ next_element around.now v) }
+pub fn lower_next(context: &Context, v: VarId, draft: &mut Draft) -> Result<(), Memory>
+    ensures { OnOk result (code_of draft.new ≡ code_of draft.old ++ next_element context.now v) }
 {
-    around.op(draft, Op::Outside(0))?;
-    set(around, v, draft)
+    context.op(draft, Op::Outside(0))?;
+    set(context, v, draft)
 }

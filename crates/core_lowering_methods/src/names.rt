@@ -9,7 +9,7 @@ ghost use Rattle.core_lowering_rules.specs.Expressions.{this_kind};
 ghost use Rattle.core_lowering_methods.specs.Drafts.{code_of};
 ghost use Rattle.core_lowering_methods.specs.Views.{value_kind};
 
-use crate::around::Around;
+use crate::context::Context;
 use crate::draft::Draft;
 use crate::value_kind::ValueKind;
 use core_code::Op;
@@ -28,52 +28,52 @@ fn class_meant(meaning: Meaning) -> Option<ClassId>
 }
 
 /// The class that an expression before a `.` names.
-pub fn class_before(around: &Around, e: &Expression) -> Option<ClassId>
-    ensures { result ≡ class_before around.now (expr_of e.now) }
+pub fn class_before(context: &Context, e: &Expression) -> Option<ClassId>
+    ensures { result ≡ class_before context.now (expr_of e.now) }
 {
     match e {
-        Expression::Name(x) => class_meant(around.meaning(x)),
+        Expression::Name(x) => class_meant(context.meaning(x)),
         _ => None,
     }
 }
 
 /// The class of the folder that is written before `.class`, as one name.
-fn class_written(around: &Around, names: &[Ident]) -> Option<ClassId>
-    ensures { result ≡ class_written around.now names.now }
+fn class_written(context: &Context, names: &[Ident]) -> Option<ClassId>
+    ensures { result ≡ class_written context.now names.now }
 {
     match names {
-        [x] => around.class_named(x.text.as_str()),
+        [x] => context.class_named(x.text.as_str()),
         _ => None,
     }
 }
 
 /// `x.class`
 pub fn class_object(
-    around: &Around,
+    context: &Context,
     names: &[Ident],
     draft: &mut Draft,
 ) -> Result<ValueKind, Memory>
     ensures code { OnOk result (code_of draft.new ≡ code_of draft.old
-        ++ class_object around.now (class_written around.now names.now)) }
+        ++ class_object context.now (class_written context.now names.now)) }
     ensures kind { IfOk result (λ k. value_kind k ≡ Of Other) }
 {
-    match class_written(around, names) {
-        Some(c) => around.value(draft, Op::PushClass(c), ValueKind::Of(Kind::Other)),
-        None => around.value(draft, Op::Outside(0), ValueKind::Of(Kind::Other)),
+    match class_written(context, names) {
+        Some(c) => context.value(draft, Op::PushClass(c), ValueKind::Of(Kind::Other)),
+        None => context.value(draft, Op::Outside(0), ValueKind::Of(Kind::Other)),
     }
 }
 
 /// `this`
-pub fn this_object(around: &Around, draft: &mut Draft) -> Result<ValueKind, Memory>
-    ensures code { OnOk result (code_of draft.new ≡ code_of draft.old ++ this_object around.now) }
-    ensures kind { IfOk result (λ k. value_kind k ≡ this_kind around.now) }
+pub fn this_object(context: &Context, draft: &mut Draft) -> Result<ValueKind, Memory>
+    ensures code { OnOk result (code_of draft.new ≡ code_of draft.old ++ this_object context.now) }
+    ensures kind { IfOk result (λ k. value_kind k ≡ this_kind context.now) }
 {
-    if around.is_static() {
-        return around.value(draft, Op::Outside(0), ValueKind::Of(Kind::Other));
+    if context.is_static() {
+        return context.value(draft, Op::Outside(0), ValueKind::Of(Kind::Other));
     }
-    around.value(
+    context.value(
         draft,
         Op::Push(VarId(0)),
-        ValueKind::Of(Kind::Declared(around.class())),
+        ValueKind::Of(Kind::Declared(context.class())),
     )
 }

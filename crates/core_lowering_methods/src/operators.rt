@@ -6,7 +6,7 @@ ghost use Rattle.core_lowering_rules.specs.Expressions.{code, kind, cast};
 ghost use Rattle.core_lowering_methods.specs.Drafts.{code_of};
 ghost use Rattle.core_lowering_methods.specs.Views.{value_kind};
 
-use crate::around::Around;
+use crate::context::Context;
 use crate::draft::Draft;
 use crate::value_kind::ValueKind;
 use core_code::Op;
@@ -33,29 +33,29 @@ pub fn is_count(op: &str) -> bool
 
 /// A literal (JLS 15.8.1).
 pub fn literal(
-    around: &Around,
+    context: &Context,
     token: TokenKind,
     text: &str,
     draft: &mut Draft,
 ) -> Result<ValueKind, Memory>
-    ensures code { OnOk result (code_of draft.new ≡ code_of draft.old ++ code around.now (literal token text.now)) }
-    ensures kind { IfOk result (λ k. value_kind k ≡ kind around.now (literal token text.now)) }
+    ensures code { OnOk result (code_of draft.new ≡ code_of draft.old ++ code context.now (literal token text.now)) }
+    ensures kind { IfOk result (λ k. value_kind k ≡ kind context.now (literal token text.now)) }
 {
     match token {
-        TokenKind::Text => around.value(draft, Op::Outside(0), ValueKind::Of(Kind::Other)),
-        TokenKind::Fixed if text == "null" => around.value(draft, Op::PushNull, ValueKind::Null),
-        _ => around.value(draft, Op::PushPrim, ValueKind::Of(Kind::Plain)),
+        TokenKind::Text => context.value(draft, Op::Outside(0), ValueKind::Of(Kind::Other)),
+        TokenKind::Fixed if text == "null" => context.value(draft, Op::PushNull, ValueKind::Null),
+        _ => context.value(draft, Op::PushPrim, ValueKind::Of(Kind::Plain)),
     }
 }
 
 /// A value on its way through a cast to a kind.
-pub fn cast(around: &Around, kind: Kind, draft: &mut Draft) -> Result<ValueKind, Memory>
-    ensures code { OnOk result (code_of draft.new ≡ code_of draft.old ++ cast around.now kind) }
+pub fn cast(context: &Context, kind: Kind, draft: &mut Draft) -> Result<ValueKind, Memory>
+    ensures code { OnOk result (code_of draft.new ≡ code_of draft.old ++ cast context.now kind) }
     ensures kind { IfOk result (λ k. value_kind k ≡ Of kind) }
 {
     match kind {
-        Kind::Plain => around.value(draft, Op::Prim(1), ValueKind::Of(kind)),
-        Kind::Declared(_) => around.value(draft, Op::Outside(1), ValueKind::Of(kind)),
-        Kind::Other => around.value(draft, Op::Outside(1), ValueKind::Of(kind)),
+        Kind::Plain => context.value(draft, Op::Prim(1), ValueKind::Of(kind)),
+        Kind::Declared(_) => context.value(draft, Op::Outside(1), ValueKind::Of(kind)),
+        Kind::Other => context.value(draft, Op::Outside(1), ValueKind::Of(kind)),
     }
 }

@@ -5,7 +5,7 @@ ghost use Rattle.core_lowering_rules.specs.TreesOf.{expr_of};
 ghost use Rattle.core_lowering_rules.specs.Statements.{run, run_all, run_some, set};
 ghost use Rattle.core_lowering_methods.specs.Drafts.{code_of};
 
-use crate::{Around, Draft, lower_expression};
+use crate::{Context, Draft, lower_expression};
 use core_code::Op;
 use java_tree::Expression;
 use racer_base::{Memory, VarId};
@@ -14,28 +14,28 @@ use std::alloc::Global;
 /// An expression whose value is not used.
 pub fn lower_run(
     alloc: Global,
-    around: &Around,
+    context: &Context,
     e: &Expression,
     draft: &mut Draft,
 ) -> Result<(), Memory>
-    ensures { OnOk result (code_of draft.new ≡ code_of draft.old ++ run around.now (expr_of e.now)) }
+    ensures { OnOk result (code_of draft.new ≡ code_of draft.old ++ run context.now (expr_of e.now)) }
 {
-    lower_expression(alloc, around, e, draft)?;
-    around.op(draft, Op::Drop)
+    lower_expression(alloc, context, e, draft)?;
+    context.op(draft, Op::Drop)
 }
 
 /// Such expressions, one after another.
 pub fn lower_run_all(
     alloc: Global,
-    around: &Around,
+    context: &Context,
     all: &[Expression],
     draft: &mut Draft,
 ) -> Result<(), Memory>
     ensures { OnOk result (code_of draft.new ≡ code_of draft.old
-        ++ run_all around.now (pack_exprs (map expr_of all.now))) }
+        ++ run_all context.now (pack_exprs (map expr_of all.now))) }
 {
     for e in all {
-        lower_run(alloc, around, e, draft)?;
+        lower_run(alloc, context, e, draft)?;
     }
     Ok(())
 }
@@ -43,22 +43,22 @@ pub fn lower_run_all(
 /// Such an expression, where there is one.
 pub fn lower_run_some(
     alloc: Global,
-    around: &Around,
+    context: &Context,
     e: &Option<Expression>,
     draft: &mut Draft,
 ) -> Result<(), Memory>
-    ensures { OnOk result (code_of draft.new ≡ code_of draft.old ++ run_some around.now (option_map expr_of e.now)) }
+    ensures { OnOk result (code_of draft.new ≡ code_of draft.old ++ run_some context.now (option_map expr_of e.now)) }
 {
     match e {
-        Some(e) => lower_run(alloc, around, e, draft),
+        Some(e) => lower_run(alloc, context, e, draft),
         None => Ok(()),
     }
 }
 
 /// Stores the value on top of the stack.
-pub fn set(around: &Around, v: VarId, draft: &mut Draft) -> Result<(), Memory>
-    ensures { OnOk result (code_of draft.new ≡ code_of draft.old ++ set around.now v) }
+pub fn set(context: &Context, v: VarId, draft: &mut Draft) -> Result<(), Memory>
+    ensures { OnOk result (code_of draft.new ≡ code_of draft.old ++ set context.now v) }
 {
-    around.op(draft, Op::Set(v))?;
-    around.op(draft, Op::Drop)
+    context.op(draft, Op::Set(v))?;
+    context.op(draft, Op::Drop)
 }

@@ -4,13 +4,13 @@ ghost use Rattle.racer_base.specs.declared.ids.Kind.TheVariants.{Plain, Other};
 ghost use Rattle.core_code.specs.declared.code.Op.TheVariants.{Drop, Prim, Outside};
 ghost use Rattle.core_lowering_rules.specs.TreesOf.{is_assignment, is_logical};
 ghost use Rattle.core_lowering_rules.specs.ValueKinds.{Of, common_kind};
-ghost use Rattle.core_lowering_rules.specs.Around.{Code, op, op_at, choice};
+ghost use Rattle.core_lowering_rules.specs.Context.{Code, op, op_at, choice};
 ghost use Rattle.core_lowering_methods.specs.Drafts.{code_of};
 ghost use Rattle.core_lowering_methods.specs.Views.{value_kind};
 ghost use Rattle.core_lowering_methods.specs.Parts.{storage_kind, then_fetched, then_counted};
 ghost use Rattle.core_lowering_methods.specs.Together.{operator_front, operator_end, assign_front, assign_end};
 
-use crate::around::Around;
+use crate::context::Context;
 use crate::draft::Draft;
 use crate::numbers::number_of;
 use crate::operators::{is_assignment, is_logical};
@@ -21,21 +21,21 @@ use racer_base::{Kind, Memory, Place};
 use std::alloc::Global;
 
 /// Behind so many operands: a number made of them.
-pub fn prim(around: &Around, count: u32, draft: &mut Draft) -> Result<ValueKind, Memory>
-    ensures code { OnOk result (code_of draft.new ≡ code_of draft.old ++ op around.now (Prim count)) }
+pub fn prim(context: &Context, count: u32, draft: &mut Draft) -> Result<ValueKind, Memory>
+    ensures code { OnOk result (code_of draft.new ≡ code_of draft.old ++ op context.now (Prim count)) }
     ensures kind { IfOk result (λ k. value_kind k ≡ Of Plain) }
 {
-    around.value(draft, Op::Prim(count), ValueKind::Of(Kind::Plain))
+    context.value(draft, Op::Prim(count), ValueKind::Of(Kind::Plain))
 }
 
 /// Behind the left operand of an operator with two: where the right one begins.
-pub fn begin_operator(around: &Around, op: &str, draft: &mut Draft) -> Result<usize, Memory>
+pub fn begin_operator(context: &Context, op: &str, draft: &mut Draft) -> Result<usize, Memory>
     ensures code { OnOk result (code_of draft.new ≡ code_of draft.old
-        ++ operator_front around.now (is_logical op.now)) }
+        ++ operator_front context.now (is_logical op.now)) }
     ensures at { IfOk result (λ at. at ≡ length (code_of draft.new)) }
 {
     if is_logical(op) {
-        around.op(draft, Op::Prim(1))?;
+        context.op(draft, Op::Prim(1))?;
     }
     Ok(draft.len())
 }
@@ -43,15 +43,15 @@ pub fn begin_operator(around: &Around, op: &str, draft: &mut Draft) -> Result<us
 /// Behind the right operand of `&&` or `||`, which began here.
 fn end_logical(
     alloc: Global,
-    around: &Around,
+    context: &Context,
     at: usize,
     draft: &mut Draft,
 ) -> Result<ValueKind, Memory>
     ensures code { OnOk result ((left right : Code) → at ≡ length left → code_of draft.old ≡ left ++ right
-        → code_of draft.new ≡ left ++ choice (right ++ op around.now (Prim 2)) []) }
+        → code_of draft.new ≡ left ++ choice (right ++ op context.now (Prim 2)) []) }
     ensures kind { IfOk result (λ k. value_kind k ≡ Of Plain) }
 {
-    around.op(draft, Op::Prim(2))?;
+    context.op(draft, Op::Prim(2))?;
     let end = draft.len();
     draft.choose(alloc, at, end)?;
     Ok(ValueKind::Of(Kind::Plain))
@@ -60,28 +60,28 @@ fn end_logical(
 /// Behind the right operand of an operator with two, which began here.
 pub fn end_operator(
     alloc: Global,
-    around: &Around,
+    context: &Context,
     op: &str,
     at: usize,
     draft: &mut Draft,
 ) -> Result<ValueKind, Memory>
     ensures code { OnOk result ((left right : Code) → at ≡ length left → code_of draft.old ≡ left ++ right
-        → code_of draft.new ≡ left ++ operator_end around.now (is_logical op.now) right) }
+        → code_of draft.new ≡ left ++ operator_end context.now (is_logical op.now) right) }
     ensures kind { IfOk result (λ k. value_kind k ≡ Of Plain) }
 {
     if is_logical(op) {
-        end_logical(alloc, around, at, draft)
+        end_logical(alloc, context, at, draft)
     } else {
-        prim(around, 2, draft)
+        prim(context, 2, draft)
     }
 }
 
 /// Behind a condition: where the value for true begins.
-pub fn begin_conditional(around: &Around, draft: &mut Draft) -> Result<usize, Memory>
-    ensures code { OnOk result (code_of draft.new ≡ code_of draft.old ++ op around.now Drop) }
+pub fn begin_conditional(context: &Context, draft: &mut Draft) -> Result<usize, Memory>
+    ensures code { OnOk result (code_of draft.new ≡ code_of draft.old ++ op context.now Drop) }
     ensures at { IfOk result (λ at. at ≡ length (code_of draft.new)) }
 {
-    around.op(draft, Op::Drop)?;
+    context.op(draft, Op::Drop)?;
     Ok(draft.len())
 }
 
@@ -103,53 +103,53 @@ pub fn end_conditional(
 
 /// Behind an access that is assigned to with this operator: what all but `=` fetch.
 pub fn begin_assign(
-    around: &Around,
+    context: &Context,
     op: &str,
     storage: Storage,
     draft: &mut Draft,
 ) -> Result<(), Memory>
     ensures { OnOk result (code_of draft.new ≡ code_of draft.old
-        ++ assign_front around.now (is_assignment op.now) storage) }
+        ++ assign_front context.now (is_assignment op.now) storage) }
 {
     if is_assignment(op) {
         Ok(())
     } else {
-        fetch(around, storage, draft)
+        fetch(context, storage, draft)
     }
 }
 
 /// Behind this and a value of this kind: the value, or what is made of the two, is stored.
 pub fn end_assign(
-    around: &Around,
+    context: &Context,
     op: &str,
     storage: Storage,
     given: ValueKind,
     draft: &mut Draft,
 ) -> Result<ValueKind, Memory>
     ensures code { OnOk result (code_of draft.new ≡ code_of draft.old
-        ++ assign_end around.now (is_assignment op.now) storage (value_kind given)) }
+        ++ assign_end context.now (is_assignment op.now) storage (value_kind given)) }
     ensures kind { IfOk result (λ k. value_kind k ≡ storage_kind storage) }
 {
     if is_assignment(op) {
-        assign(around, storage, given, draft)?;
+        assign(context, storage, given, draft)?;
     } else {
-        combine(around, storage, draft)?;
+        combine(context, storage, draft)?;
     }
     Ok(storage.kind())
 }
 
 /// Behind an access: what is there is counted.
 pub fn count_value(
-    around: &Around,
+    context: &Context,
     storage: Storage,
     draft: &mut Draft,
 ) -> Result<ValueKind, Memory>
     ensures code { OnOk result (code_of draft.new ≡ code_of draft.old
-        ++ (then_fetched around.now storage ++ then_counted around.now storage)) }
+        ++ (then_fetched context.now storage ++ then_counted context.now storage)) }
     ensures kind { IfOk result (λ k. value_kind k ≡ Of Plain) }
 {
-    fetch(around, storage, draft)?;
-    count(around, storage, draft)?;
+    fetch(context, storage, draft)?;
+    count(context, storage, draft)?;
     Ok(ValueKind::Of(Kind::Plain))
 }
 

@@ -12,7 +12,7 @@ use Rattle.core_code.specs.declared.code.Op.{Op as CoreOp}
 use Rattle.core_code.specs.declared.code.Op.TheVariants.{Push, PushClass, PushPrim, PushNull, New, Dup, Drop, Get, Put}
 use Rattle.core_code.specs.declared.code.Op.TheVariants.{Set, Prim, Outside, Call, Unread, Ret}
 use Rattle.core_code.specs.declared.parts.FieldCore.{FieldCore}
-use Rattle.core_code.specs.Tree.{Tree, Step, Nothing, Then, Either, Again, Held, steps_of}
+use Rattle.core_code.specs.Tree.{Tree, Op, Skip, Seq, Choice, Loop, Sync, steps_of}
 use Rattle.core_code.specs.Tree.{in_sequence}
 use Rattle.core_code.specs.Core.{Core, Method}
 use Rattle.core_code.specs.Kinds.{StackKind, joined_stack}
@@ -22,7 +22,7 @@ use Rattle.core_code.specs.Calls.{method_at}
 use Rattle.core_code.specs.Facts.{is_place, is_class, is_method, is_op, is_code}
 use Rattle.core_code.proofs.BoolParts.{both, first_part, last_part}
 use Rattle.core_code.proofs.InRange.{then_in_range, held_in_range}
-use Rattle.core_lowering_rules.specs.Around.{Code, op_at, choice, repeated, held}
+use Rattle.core_lowering_rules.specs.Context.{Code, op_at, choice, repeated, held}
 use Rattle.core_lowering_rules.specs.Sites.{numbered}
 
 -- ---- what the check of kinds does not look at
@@ -45,12 +45,12 @@ is_named_op core (Call m n) = true
 is_named_op core Ret = true
 
 abbrev pub is_sound : Core → Tree → Bool
-is_sound core (Step site place o) = is_place core place && is_named_op core o
-is_sound core Nothing = true
-is_sound core (Then first rest) = is_sound core first && is_sound core rest
-is_sound core (Either left right) = is_sound core left && is_sound core right
-is_sound core (Again body) = is_sound core body
-is_sound core (Held place body) = is_place core place && is_sound core body
+is_sound core (Op site place o) = is_place core place && is_named_op core o
+is_sound core Skip = true
+is_sound core (Seq first rest) = is_sound core first && is_sound core rest
+is_sound core (Choice left right) = is_sound core left && is_sound core right
+is_sound core (Loop body) = is_sound core body
+is_sound core (Sync place body) = is_place core place && is_sound core body
 
 -- the code of parts
 pub record Fine (core : Core) (code : Code) : Type 0 where
@@ -128,16 +128,16 @@ module _ (core : Core) where
   -- ---- numbers of sites
 
   sound-numbered : (t : Tree) (n : ℕ) → is_sound core (numbered n t) ≡ is_sound core t
-  sound-numbered (Step site place o) n = refl
-  sound-numbered Nothing n = refl
-  sound-numbered (Then first rest) n =
+  sound-numbered (Op site place o) n = refl
+  sound-numbered Skip n = refl
+  sound-numbered (Seq first rest) n =
       ap (λ b. b && is_sound core (numbered (n + length (steps_of first)) rest)) (sound-numbered first n)
       ∙ ap (λ b. is_sound core first && b) (sound-numbered rest (n + length (steps_of first)))
-  sound-numbered (Either left right) n =
+  sound-numbered (Choice left right) n =
       ap (λ b. b && is_sound core (numbered (n + length (steps_of left)) right)) (sound-numbered left n)
       ∙ ap (λ b. is_sound core left && b) (sound-numbered right (n + length (steps_of left)))
-  sound-numbered (Again body) n = sound-numbered body n
-  sound-numbered (Held place body) n = ap (λ b. is_place core place && b) (sound-numbered body n)
+  sound-numbered (Loop body) n = sound-numbered body n
+  sound-numbered (Sync place body) n = ap (λ b. is_place core place && b) (sound-numbered body n)
 
   -- ---- what the check of kinds shows
 
@@ -196,7 +196,7 @@ module _ (core : Core) (m : Method) where
   InRange t = is_code core (length m.variables) t ≡ true
 
   -- the operations and the locks of two parts
-  two-in_range : (a b : Tree) → InRange a → InRange b → InRange (Then a b)
+  two-in_range : (a b : Tree) → InRange a → InRange b → InRange (Seq a b)
   two-in_range a b p q = then_in_range core (length m.variables) a b p q
 
   first-some : (o : Kinds) (f : List StackKind → Kinds) → is_some (and_then o f) ≡ true →
@@ -209,20 +209,20 @@ module _ (core : Core) (m : Method) where
 
   pub in_range : (t : Tree) (stack : List StackKind) → is_some (kinds_after core m t stack) ≡ true →
       is_sound core t ≡ true → InRange t
-  in_range (Step site place o) stack h k =
+  in_range (Op site place o) stack h k =
       let there = first_part (is_place core place) (is_named_op core o) k in
       let right = op-in_range o stack h (last_part (is_place core place) (is_named_op core o) k) in
       both ((is_place core place && is_op core (length m.variables) o) && true) true
       (both (is_place core place && is_op core (length m.variables) o) true
       (both (is_place core place) (is_op core (length m.variables) o) there right) refl) refl
-  in_range Nothing stack h k = refl
-  in_range (Then first rest) stack h k =
+  in_range Skip stack h k = refl
+  in_range (Seq first rest) stack h k =
       let between = first-some (kinds_after core m first stack) (λ s. kinds_after core m rest s) h in
       two-in_range first rest
       (in_range first stack (some-by (kinds_after core m first stack) between.0 between.1)
       (first_part (is_sound core first) _ k))
       (in_range rest between.0 between.2 (last_part (is_sound core first) _ k))
-  in_range (Either left right) stack h k =
+  in_range (Choice left right) stack h k =
       let one = first-some (kinds_after core m left stack)
       (λ a. and_then (kinds_after core m right stack) (λ b. joined_stack a b)) h in
       let other = first-some (kinds_after core m right stack) (λ b. joined_stack one.0 b) one.2 in
@@ -230,11 +230,11 @@ module _ (core : Core) (m : Method) where
       (in_range left stack (some-by (kinds_after core m left stack) one.0 one.1) (first_part (is_sound core left) _ k))
       (in_range right stack (some-by (kinds_after core m right stack) other.0 other.1)
       (last_part (is_sound core left) _ k))
-  in_range (Again body) stack h k =
+  in_range (Loop body) stack h k =
       let after = first-some (kinds_after core m body stack) (λ after. where_true (same_stack stack after) stack) h in
       in_range body stack (some-by (kinds_after core m body stack) after.0 after.1) k
-  in_range (Held place body) [] h k = absurd (false≢true h)
-  in_range (Held place body) (lock ∷ stack) h k =
+  in_range (Sync place body) [] h k = absurd (false≢true h)
+  in_range (Sync place body) (lock ∷ stack) h k =
       held_in_range core (length m.variables) place body (first_part (is_place core place) (is_sound core body) k)
       (in_range body stack h (last_part (is_place core place) (is_sound core body) k))
 

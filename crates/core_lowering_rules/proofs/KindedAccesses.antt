@@ -26,8 +26,8 @@ use Rattle.core_code.specs.KindCheck.{Kinds, where_true, is_base_of, variable_at
 use Rattle.core_code.specs.KindCheck.{after_set}
 use Rattle.core_lowering_rules.specs.ValueKinds.{ValueKind, Of}
 use Rattle.core_lowering_rules.specs.ValueKinds as value
-use Rattle.core_lowering_rules.specs.Around.{Around, Code, op_at, op, push_this, push_own_class}
-use Rattle.core_lowering_rules.specs.Assignments.{Storage, InVariable, InField, Elsewhere, kind_in, in_field, named_in, named}
+use Rattle.core_lowering_rules.specs.Context.{Context, Code, op_at, op, push_this, push_own_class}
+use Rattle.core_lowering_rules.specs.Assignments.{Storage, InVariable, InField, Elsewhere, kind_in, in_field, of_meaning, of_name}
 use Rattle.core_lowering_rules.specs.Assignments.{of_class, of_object, of_value, selected, element, read, assigned, combined}
 use Rattle.core_lowering_rules.specs.Assignments.{counted, field_at}
 use Rattle.core_lowering_rules.specs.Programs.{field_core}
@@ -62,7 +62,7 @@ IsStorage core m (InVariable v kind) = variable_at m v ≡ Some kind
 IsStorage core m (InField f kind name base) = FieldBase core m f kind base
 IsStorage core m (Elsewhere n operands) = LeavesMany core m operands n
 
-module _ (core : Core) (m : Method) (around : Around) (stands : Stands core m around) where
+module _ (core : Core) (m : Method) (context : Context) (stands : Stands core m context) where
   -- ---- operations
 
   pub pushes : (place : Place) (v : VarId) (kind : Kind) (stack : List StackKind) → variable_at m v ≡ Some kind →
@@ -99,9 +99,9 @@ module _ (core : Core) (m : Method) (around : Around) (stands : Stands core m ar
 
   -- ---- what is there
 
-  pub read-leaves : (s : Storage) → IsStorage core m s → Leaves core m (read around s) (kind_in s)
+  pub read-leaves : (s : Storage) → IsStorage core m s → Leaves core m (read context s) (kind_in s)
   read-leaves (InVariable v kind) h =
-      record { leaves = λ stack. (kind_of kind, suits-own kind, pushes around.place v kind stack h) }
+      record { leaves = λ stack. (kind_of kind, suits-own kind, pushes context.place v kind stack h) }
   read-leaves (InField f kind name base) h =
       record {
         leaves = λ stack.
@@ -115,20 +115,20 @@ module _ (core : Core) (m : Method) (around : Around) (stands : Stands core m ar
       record {
         leaves = λ stack.
             let values = h.leaves stack in
-            (Opaque, tt, followed core m values.1 (outside core m around.place values.0 stack n values.2));
+            (Opaque, tt, followed core m values.1 (outside core m context.place values.0 stack n values.2));
       }
 
   -- `= e`
   pub assigned-leaves : (s : Storage) → IsStorage core m s → (given : ValueKind) (e : Code) → Leaves core m e given →
-      Leaves core m (assigned around s given e) (kind_in s)
+      Leaves core m (assigned context s given e) (kind_in s)
   assigned-leaves (InVariable v kind) h given e l =
       record {
         leaves = λ stack.
             let value = l.leaves stack in
-            let c = comes core m around kind given value.0 stack value.1 in (
+            let c = comes core m context kind given value.0 stack value.1 in (
               c.to,
               fits-suits kind c.to c.fitting,
-              in_turn_3 core m value.2 c.runs (sets around.place v kind c.to stack h c.fitting),
+              in_turn_3 core m value.2 c.runs (sets context.place v kind c.to stack h c.fitting),
             );
       }
   assigned-leaves (InField f kind name base) h given e l =
@@ -136,7 +136,7 @@ module _ (core : Core) (m : Method) (around : Around) (stands : Stands core m ar
         leaves = λ stack.
             let b = h.behind.leaves stack in
             let value = l.leaves (b.0 ∷ stack) in
-            let c = comes core m around kind given value.0 (b.0 ∷ stack) value.1 in
+            let c = comes core m context kind given value.0 (b.0 ∷ stack) value.1 in
             let fitting = subst (λ k. fits k c.to ≡ true) (sym h.kind_is) c.fitting in (
               c.to,
               fits-suits kind c.to c.fitting,
@@ -150,23 +150,23 @@ module _ (core : Core) (m : Method) (around : Around) (stands : Stands core m ar
             let value = l.leaves (values.0 ++ stack) in (
               Opaque,
               tt,
-              in_turn_3 core m values.1 value.2 (outside core m around.place (value.0 ∷ values.0) stack (suc n)
+              in_turn_3 core m values.1 value.2 (outside core m context.place (value.0 ∷ values.0) stack (suc n)
                   (ap suc values.2)),
             );
       }
 
   -- `op= e`
   pub combined-leaves : (s : Storage) → IsStorage core m s → (given : ValueKind) (e : Code) → Leaves core m e given →
-      Leaves core m (combined around s e) (kind_in s)
+      Leaves core m (combined context s e) (kind_in s)
   combined-leaves (InVariable v kind) h given e l =
       record {
         leaves = λ stack.
             let value = l.leaves (kind_of kind ∷ stack) in
-            let c = comes core m around kind (Of types.Plain) Plain stack tt in (
+            let c = comes core m context kind (Of types.Plain) Plain stack tt in (
               c.to,
               fits-suits kind c.to c.fitting,
-              in_turn_5 core m (pushes around.place v kind stack h) value.2 (prims around.place
-                  (value.0 ∷ kind_of kind ∷ []) stack 2 refl) c.runs (sets around.place v kind c.to stack h c.fitting),
+              in_turn_5 core m (pushes context.place v kind stack h) value.2 (prims context.place
+                  (value.0 ∷ kind_of kind ∷ []) stack 2 refl) c.runs (sets context.place v kind c.to stack h c.fitting),
             );
       }
   combined-leaves (InField f kind name base) h given e l =
@@ -174,13 +174,13 @@ module _ (core : Core) (m : Method) (around : Around) (stands : Stands core m ar
         leaves = λ stack.
             let b = h.behind.leaves stack in
             let value = l.leaves (kind_of h.field.kind ∷ b.0 ∷ stack) in
-            let c = comes core m around kind (Of types.Plain) Plain (b.0 ∷ stack) tt in
+            let c = comes core m context kind (Of types.Plain) Plain (b.0 ∷ stack) tt in
             let fitting = subst (λ k. fits k c.to ≡ true) (sym h.kind_is) c.fitting in (
               c.to,
               fits-suits kind c.to c.fitting,
-              in_turn_7 core m b.1 (once core m around.place Dup (b.0 ∷ [])
+              in_turn_7 core m b.1 (once core m context.place Dup (b.0 ∷ [])
                   (b.0 ∷ b.0 ∷ []) stack refl refl refl refl) (gets name f h.field b.0
-                  (b.0 ∷ stack) h.there b.2) value.2 (prims around.place (value.0 ∷ kind_of h.field.kind ∷ [])
+                  (b.0 ∷ stack) h.there b.2) value.2 (prims context.place (value.0 ∷ kind_of h.field.kind ∷ [])
                   (b.0 ∷ stack) 2 refl) c.runs (puts name f h.field c.to b.0 stack h.there b.2 fitting),
             );
       }
@@ -191,34 +191,34 @@ module _ (core : Core) (m : Method) (around : Around) (stands : Stands core m ar
             let value = l.leaves (values.0 ++ stack) in (
               Opaque,
               tt,
-              in_turn_3 core m values.1 value.2 (outside core m around.place (value.0 ∷ values.0) stack (suc n)
+              in_turn_3 core m values.1 value.2 (outside core m context.place (value.0 ∷ values.0) stack (suc n)
                   (ap suc values.2)),
             );
       }
 
   -- `++` and `--`
-  pub counted-leaves : (s : Storage) → IsStorage core m s → Leaves core m (counted around s) (Of types.Plain)
+  pub counted-leaves : (s : Storage) → IsStorage core m s → Leaves core m (counted context s) (Of types.Plain)
   counted-leaves (InVariable v kind) h =
       record {
         leaves = λ stack.
-            let c = comes core m around kind (Of types.Plain) Plain stack tt in (
+            let c = comes core m context kind (Of types.Plain) Plain stack tt in (
               c.to,
               tt,
-              in_turn_4 core m (pushes around.place v kind stack h) (prims around.place
-                  (kind_of kind ∷ []) stack 1 refl) c.runs (sets around.place v kind c.to stack h c.fitting),
+              in_turn_4 core m (pushes context.place v kind stack h) (prims context.place
+                  (kind_of kind ∷ []) stack 1 refl) c.runs (sets context.place v kind c.to stack h c.fitting),
             );
       }
   counted-leaves (InField f kind name base) h =
       record {
         leaves = λ stack.
             let b = h.behind.leaves stack in
-            let c = comes core m around kind (Of types.Plain) Plain (b.0 ∷ stack) tt in
+            let c = comes core m context kind (Of types.Plain) Plain (b.0 ∷ stack) tt in
             let fitting = subst (λ k. fits k c.to ≡ true) (sym h.kind_is) c.fitting in (
               c.to,
               tt,
-              in_turn_6 core m b.1 (once core m around.place Dup (b.0 ∷ [])
+              in_turn_6 core m b.1 (once core m context.place Dup (b.0 ∷ [])
                   (b.0 ∷ b.0 ∷ []) stack refl refl refl refl) (gets name f h.field b.0
-                  (b.0 ∷ stack) h.there b.2) (prims around.place (kind_of h.field.kind ∷ [])
+                  (b.0 ∷ stack) h.there b.2) (prims context.place (kind_of h.field.kind ∷ [])
                   (b.0 ∷ stack) 1 refl) c.runs (puts name f h.field c.to b.0 stack h.there b.2 fitting),
             );
       }
@@ -228,7 +228,7 @@ module _ (core : Core) (m : Method) (around : Around) (stands : Stands core m ar
             let values = h.leaves stack in (
               Opaque,
               tt,
-              followed core m values.1 (outside core m around.place values.0 stack n values.2),
+              followed core m values.1 (outside core m context.place values.0 stack n values.2),
             );
       }
 
@@ -257,10 +257,10 @@ module _ (core : Core) (m : Method) (around : Around) (stands : Stands core m ar
   by-static info class object p q true e = p e
   by-static info class object p q false e = q e
 
-  field-in : (x : Ident) (f : FieldId) (info : FieldInfo) (class object : Code) → field_at around f ≡ Some info →
+  field-in : (x : Ident) (f : FieldId) (info : FieldInfo) (class object : Code) → field_at context f ≡ Some info →
       (info.is_static ≡ true → IsBase core m class (field_core info)) →
       (info.is_static ≡ false → IsBase core m object (field_core info)) →
-      IsStorage core m (in_field class object x f (field_at around f))
+      IsStorage core m (in_field class object x f (field_at context f))
   field-in x f info class object there p q =
       subst (λ o. IsStorage core m (in_field class object x f o)) (sym there)
       (record {
@@ -271,12 +271,12 @@ module _ (core : Core) (m : Method) (around : Around) (stands : Stands core m ar
       })
 
   class-pushed : (info : FieldInfo) (c : ClassId) → info.class ≡ c → info.is_static ≡ true →
-      IsBase core m (op around (PushClass c)) (field_core info)
+      IsBase core m (op context (PushClass c)) (field_core info)
   class-pushed info c same e =
       record {
         leaves = λ stack. (
           Class c,
-          once core m around.place (PushClass c) []
+          once core m context.place (PushClass c) []
               (Class c ∷ []) stack refl refl refl refl,
           class-base info c same e,
         );
@@ -286,16 +286,16 @@ module _ (core : Core) (m : Method) (around : Around) (stands : Stands core m ar
   not-static true t f e = sym (f refl) ∙ e
   not-static false t f e = refl
 
-  this-pushed : (info : FieldInfo) → info.class ≡ around.scope.class →
-      (around.scope.is_static ≡ true → info.is_static ≡ true) → info.is_static ≡ false →
-      IsBase core m (push_this around) (field_core info)
+  this-pushed : (info : FieldInfo) → info.class ≡ context.scope.class →
+      (context.scope.is_static ≡ true → info.is_static ≡ true) → info.is_static ≡ false →
+      IsBase core m (push_this context) (field_core info)
   this-pushed info same seen e =
-      let inside = not-static around.scope.is_static info.is_static seen e in
+      let inside = not-static context.scope.is_static info.is_static seen e in
       record {
         leaves = λ stack. (
-          Declared around.scope.class,
-          pushes around.place (record { 0 = 0 }) (types.Declared around.scope.class) stack (stands.object inside),
-          object-base info (Declared around.scope.class) e
+          Declared context.scope.class,
+          pushes context.place (record { 0 = 0 }) (types.Declared context.scope.class) stack (stands.object inside),
+          object-base info (Declared context.scope.class) e
               (subst (λ d. same_class info.class d ≡ true) same (class_same info.class)),
         );
       }
@@ -321,47 +321,47 @@ module _ (core : Core) (m : Method) (around : Around) (stands : Stands core m ar
   meaning-chosen None None None = refl
 
   own-field : (x : Ident) (f : FieldId) →
-      FieldThere around.folder.fields around.scope.class around.scope.is_static f →
-      IsStorage core m (in_field (push_own_class around) (push_this around) x f (field_at around f))
+      FieldThere context.folder.fields context.scope.class context.scope.is_static f →
+      IsStorage core m (in_field (push_own_class context) (push_this context) x f (field_at context f))
   own-field x f h =
-      field-in x f h.info (push_own_class around) (push_this around) h.there
-      (class-pushed h.info around.scope.class h.class_is) (this-pushed h.info h.class_is h.static_is)
+      field-in x f h.info (push_own_class context) (push_this context) h.there
+      (class-pushed h.info context.scope.class h.class_is) (this-pushed h.info h.class_is h.static_is)
 
   is-meant : (x : Ident) (o : Option ScopeVariable) (f : Option FieldId) (c : Option ClassId) →
-      variable_named around.scope x.text ≡ o →
-      field_named around.folder.fields around.scope.class around.scope.is_static x.text ≡ f →
-      IsStorage core m (named_in around x (chosen_meaning o f c))
-  is-meant x (Some v) f c p q = last-holds (IsVariable m) _ around.scope.variables v stands.variables p
+      variable_named context.scope x.text ≡ o →
+      field_named context.folder.fields context.scope.class context.scope.is_static x.text ≡ f →
+      IsStorage core m (of_meaning context x (chosen_meaning o f c))
+  is-meant x (Some v) f c p q = last-holds (IsVariable m) _ context.scope.variables v stands.variables p
   is-meant x None (Some f) c p q =
-      own-field x f (field-there around.folder.fields around.scope.class around.scope.is_static x.text f q)
+      own-field x f (field-there context.folder.fields context.scope.class context.scope.is_static x.text f q)
   is-meant x None None (Some c) p q = no_values
   is-meant x None None None p q = no_values
 
-  pub is-named : (x : Ident) → IsStorage core m (named around x)
+  pub is-named : (x : Ident) → IsStorage core m (of_name context x)
   is-named x =
-      let o = variable_named around.scope x.text in
-      let f = field_named around.folder.fields around.scope.class around.scope.is_static x.text in
-      let c = class_named (class_names around.folder.classes) x.text in
-      subst (λ (mean : Meaning). IsStorage core m (named_in around x mean)) (sym (meaning-chosen o f c))
+      let o = variable_named context.scope x.text in
+      let f = field_named context.folder.fields context.scope.class context.scope.is_static x.text in
+      let c = class_named (class_names context.folder.classes) x.text in
+      subst (λ (mean : Meaning). IsStorage core m (of_meaning context x mean)) (sym (meaning-chosen o f c))
       (is-meant x o f c refl refl)
 
   is-of_class : (c : ClassId) (x : Ident) (o : Option FieldId) →
-      field_named around.folder.fields c true x.text ≡ o → IsStorage core m (of_class around c x o)
+      field_named context.folder.fields c true x.text ≡ o → IsStorage core m (of_class context c x o)
   is-of_class c x None e = no_values
   is-of_class c x (Some f) e =
-      let h = field-there around.folder.fields c true x.text f e in
+      let h = field-there context.folder.fields c true x.text f e in
       let pushed = class-pushed h.info c h.class_is (h.static_is refl) in
-      field-in x f h.info (op around (PushClass c)) (op around (PushClass c)) h.there (λ _. pushed) (λ _. pushed)
+      field-in x f h.info (op context (PushClass c)) (op context (PushClass c)) h.there (λ _. pushed) (λ _. pushed)
 
   dropped : (e : Code) (c : ClassId) (info : FieldInfo) → Leaves core m e (Of (types.Declared c)) → info.class ≡ c →
-      info.is_static ≡ true → IsBase core m (e ++ op around Drop ++ op around (PushClass c)) (field_core info)
+      info.is_static ≡ true → IsBase core m (e ++ op context Drop ++ op context (PushClass c)) (field_core info)
   dropped e c info l same is_static =
       record {
         leaves = λ stack.
             let value = l.leaves stack in (
               Class c,
-              in_turn_3 core m value.2 (once core m around.place Drop (value.0 ∷ []) [] stack refl refl refl refl)
-                  (once core m around.place (PushClass c) [] (Class c ∷ []) stack refl refl refl refl),
+              in_turn_3 core m value.2 (once core m context.place Drop (value.0 ∷ []) [] stack refl refl refl refl)
+                  (once core m context.place (PushClass c) [] (Class c ∷ []) stack refl refl refl refl),
               class-base info c same is_static,
             );
       }
@@ -379,26 +379,26 @@ module _ (core : Core) (m : Method) (around : Around) (stands : Stands core m ar
       }
 
   is-of_object : (c : ClassId) (e : Code) (x : Ident) (o : Option FieldId) →
-      field_named around.folder.fields c false x.text ≡ o → Leaves core m e (Of (types.Declared c)) →
-      IsStorage core m (of_object around c e x o)
+      field_named context.folder.fields c false x.text ≡ o → Leaves core m e (Of (types.Declared c)) →
+      IsStorage core m (of_object context c e x o)
   is-of_object c e x None h l = one_value l
   is-of_object c e x (Some f) h l =
-      let there = field-there around.folder.fields c false x.text f h in
-      field-in x f there.info (e ++ op around Drop ++ op around (PushClass c)) e there.there
+      let there = field-there context.folder.fields c false x.text f h in
+      field-in x f there.info (e ++ op context Drop ++ op context (PushClass c)) e there.there
       (dropped e c there.info l there.class_is) (object-there e c there.info l there.class_is)
 
   is-of_value : (kind : ValueKind) (e : Code) (x : Ident) → Leaves core m e kind →
-      IsStorage core m (of_value around kind e x)
+      IsStorage core m (of_value context kind e x)
   is-of_value value.Null e x l = one_value l
   is-of_value (Of types.Plain) e x l = one_value l
   is-of_value (Of types.Other) e x l = one_value l
   is-of_value (Of (types.Declared c)) e x l = is-of_object c e x
-      (field_named around.folder.fields c false x.text) refl l
+      (field_named context.folder.fields c false x.text) refl l
 
   pub is-selected : (class : Option ClassId) (kind : ValueKind) (e : Code) (x : Ident) → Leaves core m e kind →
-      IsStorage core m (selected around class kind e x)
+      IsStorage core m (selected context class kind e x)
   is-selected None kind e x l = is-of_value kind e x l
-  is-selected (Some c) kind e x l = is-of_class c x (field_named around.folder.fields c true x.text) refl
+  is-selected (Some c) kind e x l = is-of_class c x (field_named context.folder.fields c true x.text) refl
 
   pub is-element : (a i : Code) {k l : ValueKind} → Leaves core m a k → Leaves core m i l →
       IsStorage core m (element a i)
@@ -417,18 +417,18 @@ kind_in-in_field : (class object class' object' : Code) (x : Ident) (f : FieldId
 kind_in-in_field class object class' object' x f None = refl
 kind_in-in_field class object class' object' x f (Some info) = refl
 
-kind_in-of_object : (around : Around) (c : ClassId) (e e' : Code) (x : Ident) (o : Option FieldId) →
-    kind_in (of_object around c e x o) ≡ kind_in (of_object around c e' x o)
-kind_in-of_object around c e e' x None = refl
-kind_in-of_object around c e e' x (Some f) =
-    kind_in-in_field (e ++ op around Drop ++ op around (PushClass c)) e
-    (e' ++ op around Drop ++ op around (PushClass c)) e' x f (field_at around f)
+kind_in-of_object : (context : Context) (c : ClassId) (e e' : Code) (x : Ident) (o : Option FieldId) →
+    kind_in (of_object context c e x o) ≡ kind_in (of_object context c e' x o)
+kind_in-of_object context c e e' x None = refl
+kind_in-of_object context c e e' x (Some f) =
+    kind_in-in_field (e ++ op context Drop ++ op context (PushClass c)) e
+    (e' ++ op context Drop ++ op context (PushClass c)) e' x f (field_at context f)
 
-pub kind_in-selected : (around : Around) (class : Option ClassId) (kind : ValueKind) (e e' : Code) (x : Ident) →
-    kind_in (selected around class kind e x) ≡ kind_in (selected around class kind e' x)
-kind_in-selected around (Some c) kind e e' x = refl
-kind_in-selected around None value.Null e e' x = refl
-kind_in-selected around None (Of types.Plain) e e' x = refl
-kind_in-selected around None (Of types.Other) e e' x = refl
-kind_in-selected around None (Of (types.Declared c)) e e' x =
-    kind_in-of_object around c e e' x (field_named around.folder.fields c false x.text)
+pub kind_in-selected : (context : Context) (class : Option ClassId) (kind : ValueKind) (e e' : Code) (x : Ident) →
+    kind_in (selected context class kind e x) ≡ kind_in (selected context class kind e' x)
+kind_in-selected context (Some c) kind e e' x = refl
+kind_in-selected context None value.Null e e' x = refl
+kind_in-selected context None (Of types.Plain) e e' x = refl
+kind_in-selected context None (Of types.Other) e e' x = refl
+kind_in-selected context None (Of (types.Declared c)) e e' x =
+    kind_in-of_object context c e e' x (field_named context.folder.fields c false x.text)

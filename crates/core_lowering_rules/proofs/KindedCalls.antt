@@ -24,7 +24,7 @@ use Rattle.core_code.specs.Kinds.{StackKind, Declared, Opaque, kind_of, fits_cla
 use Rattle.core_code.specs.KindCheck.{Kinds, and_then, below_fitting, after_call}
 use Rattle.core_lowering_rules.specs.ValueKinds.{ValueKind, Of}
 use Rattle.core_lowering_rules.specs.ValueKinds as value
-use Rattle.core_lowering_rules.specs.Around.{Around, Code, op_at, op, converted, push_this, is_analysed}
+use Rattle.core_lowering_rules.specs.Context.{Context, Code, op_at, op, converted, push_this, is_analysed}
 use Rattle.core_lowering_rules.specs.Calls.{Callee, Missing, OfClass, OfObject, info_at, callee_of, callee_found, callee_in}
 use Rattle.core_lowering_rules.specs.Calls.{if_static, own_callee, callee_on, result_of, result_kind}
 use Rattle.core_lowering_rules.specs.Calls.{parameters_of, parameter_kinds, call_at, Passing, called, called_on_value}
@@ -76,26 +76,26 @@ pub record Receives (core : Core) (m : core_specs.Method) (code : Code) (c : Cla
       (s : StackKind) × Runs core m code stack (s ∷ stack) × (fits_class c s ≡ true)
 
 -- what is known of a method that is called
-pub record CalleeInfo (around : Around) (n : MethodId) (c : ClassId) (count : ℕ) (is_static : Bool) : Type 0 where
+pub record CalleeInfo (context : Context) (n : MethodId) (c : ClassId) (count : ℕ) (is_static : Bool) : Type 0 where
   pub info : MethodInfo
-  pub there : info_at around n ≡ Some info
+  pub there : info_at context n ≡ Some info
   pub class_is : info.class ≡ c
   pub many : length info.parameters ≡ count
   pub static_is : info.is_static ≡ is_static
 
-abbrev pub IsCallee : Around → ClassId → ℕ → Callee → Type 0
-IsCallee around c count Missing = Unit {0}
-IsCallee around c count (OfClass n) = CalleeInfo around n c count true
-IsCallee around c count (OfObject n) = CalleeInfo around n c count false
+abbrev pub IsCallee : Context → ClassId → ℕ → Callee → Type 0
+IsCallee context c count Missing = Unit {0}
+IsCallee context c count (OfClass n) = CalleeInfo context n c count true
+IsCallee context c count (OfObject n) = CalleeInfo context n c count false
 
 -- the same where the object is `this`
-abbrev pub IsOwn : Around → ClassId → ℕ → Callee → Type 0
-IsOwn around c count Missing = Unit {0}
-IsOwn around c count (OfClass n) = CalleeInfo around n c count true
-IsOwn around c count (OfObject n) =
-    CalleeInfo around n c count false × (around.scope.is_static ≡ false) × (c ≡ around.scope.class)
+abbrev pub IsOwn : Context → ClassId → ℕ → Callee → Type 0
+IsOwn context c count Missing = Unit {0}
+IsOwn context c count (OfClass n) = CalleeInfo context n c count true
+IsOwn context c count (OfObject n) =
+    CalleeInfo context n c count false × (context.scope.is_static ≡ false) × (c ≡ context.scope.class)
 
-module _ (core : Core) (m : core_specs.Method) (around : Around) (stands : Stands core m around) where
+module _ (core : Core) (m : core_specs.Method) (context : Context) (stands : Stands core m context) where
   -- ---- arguments
 
   pub passed-none : (kinds : List Kind) → PassedTo core m [] kinds 0
@@ -119,15 +119,15 @@ module _ (core : Core) (m : core_specs.Method) (around : Around) (stands : Stand
       }
 
   pub passed-kind : {e rest : Code} {given : ValueKind} {n : ℕ} (k : Kind) (kinds : List Kind) → Leaves core m e given →
-      PassedTo core m rest kinds n → PassedTo core m (e ++ converted around k given ++ rest) (k ∷ kinds) (suc n)
+      PassedTo core m rest kinds n → PassedTo core m (e ++ converted context k given ++ rest) (k ∷ kinds) (suc n)
   passed-kind {e} {rest} {given = given} {n = n} k kinds l p =
       record {
         passes = λ stack.
             let value = l.leaves stack in
-            let c = comes core m around k given value.0 stack value.1 in
+            let c = comes core m context k given value.0 stack value.1 in
             let more = p.passes (c.to ∷ stack) in (
               more.0 ++ c.to ∷ [],
-              subst (λ after. Runs core m (e ++ converted around k given ++ rest) stack after) (sym
+              subst (λ after. Runs core m (e ++ converted context k given ++ rest) stack after) (sym
                   (append_assoc more.0 (c.to ∷ []) stack))
                   (in_turn_3 core m value.2 c.runs more.1),
               one_more more.0 c.to n more.2,
@@ -140,45 +140,45 @@ module _ (core : Core) (m : core_specs.Method) (around : Around) (stands : Stand
 
   -- ---- what is called
 
-  by-static : (n : MethodId) (c : ClassId) (count : ℕ) (h : MethodThere around.folder.methods c count n) (b : Bool) →
-      h.info.is_static ≡ b → IsCallee around c count (cond b (OfClass n) (OfObject n))
+  by-static : (n : MethodId) (c : ClassId) (count : ℕ) (h : MethodThere context.folder.methods c count n) (b : Bool) →
+      h.info.is_static ≡ b → IsCallee context c count (cond b (OfClass n) (OfObject n))
   by-static n c count h true e =
       record { info = h.info; there = h.there; class_is = h.class_is; many = h.many; static_is = e }
   by-static n c count h false e =
       record { info = h.info; there = h.there; class_is = h.class_is; many = h.many; static_is = e }
 
   is-found : (c : ClassId) (name : List ℕ) (count : ℕ) (o : Option MethodId) →
-      found around.folder.methods c name count ≡ o → IsCallee around c count (callee_found around o)
+      found context.folder.methods c name count ≡ o → IsCallee context c count (callee_found context o)
   is-found c name count None e = tt
   is-found c name count (Some n) e =
-      let h = method-there around.folder.methods c name count n e in
-      subst (λ o. IsCallee around c count (callee_of n o)) (sym h.there)
+      let h = method-there context.folder.methods c name count n e in
+      subst (λ o. IsCallee context c count (callee_of n o)) (sym h.there)
       (by-static n c count h h.info.is_static refl)
 
-  is-callee : (c : ClassId) (name : List ℕ) (count : ℕ) → IsCallee around c count (callee_in around c name count)
-  is-callee c name count = is-found c name count (found around.folder.methods c name count) refl
+  is-callee : (c : ClassId) (name : List ℕ) (count : ℕ) → IsCallee context c count (callee_in context c name count)
+  is-callee c name count = is-found c name count (found context.folder.methods c name count) refl
 
-  static-own : (c : ClassId) (count : ℕ) (callee : Callee) → IsCallee around c count callee →
-      IsOwn around c count (if_static callee)
+  static-own : (c : ClassId) (count : ℕ) (callee : Callee) → IsCallee context c count callee →
+      IsOwn context c count (if_static callee)
   static-own c count Missing h = tt
   static-own c count (OfClass n) h = h
   static-own c count (OfObject n) h = tt
 
-  object-own : (count : ℕ) (callee : Callee) → around.scope.is_static ≡ false →
-      IsCallee around around.scope.class count callee → IsOwn around around.scope.class count callee
+  object-own : (count : ℕ) (callee : Callee) → context.scope.is_static ≡ false →
+      IsCallee context context.scope.class count callee → IsOwn context context.scope.class count callee
   object-own count Missing e h = tt
   object-own count (OfClass n) e h = h
   object-own count (OfObject n) e h = (h, e, refl)
 
-  own-by : (x : Ident) (count : ℕ) (b : Bool) → around.scope.is_static ≡ b →
-      IsOwn around around.scope.class count
-      (cond b (if_static (callee_in around around.scope.class x.text count))
-      (callee_in around around.scope.class x.text count))
-  own-by x count true e = static-own around.scope.class count _ (is-callee around.scope.class x.text count)
-  own-by x count false e = object-own count _ e (is-callee around.scope.class x.text count)
+  own-by : (x : Ident) (count : ℕ) (b : Bool) → context.scope.is_static ≡ b →
+      IsOwn context context.scope.class count
+      (cond b (if_static (callee_in context context.scope.class x.text count))
+      (callee_in context context.scope.class x.text count))
+  own-by x count true e = static-own context.scope.class count _ (is-callee context.scope.class x.text count)
+  own-by x count false e = object-own count _ e (is-callee context.scope.class x.text count)
 
-  pub is-own : (x : Ident) (count : ℕ) → IsOwn around around.scope.class count (own_callee around x count)
-  is-own x count = own-by x count around.scope.is_static refl
+  pub is-own : (x : Ident) (count : ℕ) → IsOwn context context.scope.class count (own_callee context x count)
+  is-own x count = own-by x count context.scope.is_static refl
 
   -- ---- the call
 
@@ -203,7 +203,7 @@ module _ (core : Core) (m : core_specs.Method) (around : Around) (stands : Stand
       ∙ ap (λ (o : Kinds). and_then o (λ rest. Some (kind_of h.method.result ∷ rest))) e
       ∙ ap (λ k. Some (kind_of k ∷ stack)) h.gives)
 
-  unreads : (place : Place) (n : MethodId) (count : ℕ) (values stack : List StackKind) → is_analysed around n ≡ false →
+  unreads : (place : Place) (n : MethodId) (count : ℕ) (values stack : List StackKind) → is_analysed context n ≡ false →
       length values ≡ count → Runs core m (op_at place (Unread n count)) (values ++ stack) (Opaque ∷ stack)
   unreads place n count values stack e many =
       once core m place (Unread n count) values (Opaque ∷ []) stack many refl (ap not (stands.unread n e))
@@ -213,8 +213,8 @@ module _ (core : Core) (m : core_specs.Method) (around : Around) (stands : Stand
   taken_by_test info b = cond b info.parameters (types.Declared info.class ∷ info.parameters)
 
   static-call : (place : Place) (n : MethodId) (info : MethodInfo) (count : ℕ) (arguments : Passing) →
-      ((kinds : List Kind) → PassedTo core m (arguments kinds) kinds count) → info_at around n ≡ Some info →
-      info.is_static ≡ true → length info.parameters ≡ count → (b : Bool) → is_analysed around n ≡ b →
+      ((kinds : List Kind) → PassedTo core m (arguments kinds) kinds count) → info_at context n ≡ Some info →
+      info.is_static ≡ true → length info.parameters ≡ count → (b : Bool) → is_analysed context n ≡ b →
       Leaves core m (arguments (cond b info.parameters []) ++ op_at place (cond b (Call n count) (Unread n count)))
       (Of info.result)
   static-call place n info count arguments passing there static_is many true e =
@@ -242,19 +242,19 @@ module _ (core : Core) (m : core_specs.Method) (around : Around) (stands : Stand
       }
 
   pub static-called : (place : Place) (n : MethodId) (c : ClassId) (count : ℕ) (arguments : Passing) →
-      ((kinds : List Kind) → PassedTo core m (arguments kinds) kinds count) → CalleeInfo around n c count true →
-      Leaves core m (arguments (parameter_kinds around n) ++ call_at around place n count)
-      (result_of (info_at around n))
+      ((kinds : List Kind) → PassedTo core m (arguments kinds) kinds count) → CalleeInfo context n c count true →
+      Leaves core m (arguments (parameter_kinds context n) ++ call_at context place n count)
+      (result_of (info_at context n))
   static-called place n c count arguments passing h =
       subst (λ o. Leaves core m
-      (arguments (cond (is_analysed around n) (parameters_of o) []) ++ call_at around place n count) (result_of o))
+      (arguments (cond (is_analysed context n) (parameters_of o) []) ++ call_at context place n count) (result_of o))
       (sym h.there)
-      (static-call place n h.info count arguments passing h.there h.static_is h.many (is_analysed around n) refl)
+      (static-call place n h.info count arguments passing h.there h.static_is h.many (is_analysed context n) refl)
 
   object-call : (place : Place) (n : MethodId) (info : MethodInfo) (count : ℕ) (receiver : Code) (arguments : Passing) →
       ((kinds : List Kind) → PassedTo core m (arguments kinds) kinds count) → Receives core m receiver info.class →
-      info_at around n ≡ Some info → info.is_static ≡ false → length info.parameters ≡ count → (b : Bool) →
-      is_analysed around n ≡ b →
+      info_at context n ≡ Some info → info.is_static ≡ false → length info.parameters ≡ count → (b : Bool) →
+      is_analysed context n ≡ b →
       Leaves core m
       (receiver ++ arguments (cond b info.parameters [])
       ++ op_at place (cond b (Call n (suc count)) (Unread n (suc count))))
@@ -295,27 +295,27 @@ module _ (core : Core) (m : core_specs.Method) (around : Around) (stands : Stand
 
   pub object-called : (place : Place) (n : MethodId) (c : ClassId) (count : ℕ) (receiver : Code) (arguments : Passing) →
       ((kinds : List Kind) → PassedTo core m (arguments kinds) kinds count) → Receives core m receiver c →
-      CalleeInfo around n c count false →
-      Leaves core m (receiver ++ arguments (parameter_kinds around n) ++ call_at around place n (suc count))
-      (result_of (info_at around n))
+      CalleeInfo context n c count false →
+      Leaves core m (receiver ++ arguments (parameter_kinds context n) ++ call_at context place n (suc count))
+      (result_of (info_at context n))
   object-called place n c count receiver arguments passing r h =
       subst (λ o. Leaves core m
-      (receiver ++ arguments (cond (is_analysed around n) (parameters_of o) []) ++ call_at around place n (suc count))
+      (receiver ++ arguments (cond (is_analysed context n) (parameters_of o) []) ++ call_at context place n (suc count))
       (result_of o)) (sym h.there)
       (object-call place n h.info count receiver arguments passing
       (subst (λ d. Receives core m receiver d) (sym h.class_is) r) h.there h.static_is h.many
-      (is_analysed around n) refl)
+      (is_analysed context n) refl)
 
   -- ---- forms
 
-  this-received : around.scope.is_static ≡ false → Receives core m (push_this around) around.scope.class
+  this-received : context.scope.is_static ≡ false → Receives core m (push_this context) context.scope.class
   this-received e =
       record {
         leaves = λ stack. (
-          Declared around.scope.class,
-          pushes core m around stands around.place (record { 0 = 0 }) (types.Declared around.scope.class) stack
+          Declared context.scope.class,
+          pushes core m context stands context.place (record { 0 = 0 }) (types.Declared context.scope.class) stack
               (stands.object e),
-          class_same around.scope.class,
+          class_same context.scope.class,
         );
       }
 
@@ -325,26 +325,26 @@ module _ (core : Core) (m : core_specs.Method) (around : Around) (stands : Stand
   -- f(..)
   pub called-leaves : (place : Place) (c : ClassId) (count : ℕ) (arguments : Passing) →
       ((kinds : List Kind) → PassedTo core m (arguments kinds) kinds count) → (callee : Callee) →
-      IsOwn around c count callee →
-      Leaves core m (called around place count arguments callee) (result_kind around callee)
+      IsOwn context c count callee →
+      Leaves core m (called context place count arguments callee) (result_kind context callee)
   called-leaves place c count arguments passing Missing h =
       record {
         leaves = λ stack.
             let p = (passing []).passes stack in
-            (Opaque, tt, followed core m p.1 (outside core m around.place p.0 stack count p.2));
+            (Opaque, tt, followed core m p.1 (outside core m context.place p.0 stack count p.2));
       }
   called-leaves place c count arguments passing (OfClass n) h = static-called place n c count arguments passing h
   called-leaves place c count arguments passing (OfObject n) h =
-      object-called place n c count (push_this around) arguments passing
-      (subst (λ d. Receives core m (push_this around) d) (sym h.2) (this-received h.1)) h.0
+      object-called place n c count (push_this context) arguments passing
+      (subst (λ d. Receives core m (push_this context) d) (sym h.2) (this-received h.1)) h.0
 
   -- e.f(..)
   dropped-call : (place : Place) (n : MethodId) (c : ClassId) (count : ℕ) (e : Code) (arguments : Passing) →
       ((kinds : List Kind) → PassedTo core m (arguments kinds) kinds count) → {kind : ValueKind} →
-      Leaves core m e kind → CalleeInfo around n c count true →
+      Leaves core m e kind → CalleeInfo context n c count true →
       Leaves core m
-      (e ++ op around Drop ++ arguments (parameter_kinds around n) ++ call_at around place n count)
-      (result_of (info_at around n))
+      (e ++ op context Drop ++ arguments (parameter_kinds context n) ++ call_at context place n count)
+      (result_of (info_at context n))
   dropped-call place n c count e arguments passing l h =
       record {
         leaves = λ stack.
@@ -352,8 +352,9 @@ module _ (core : Core) (m : core_specs.Method) (around : Around) (stands : Stand
             let rest = (static-called place n c count arguments passing h).leaves stack in (
               rest.0,
               rest.1,
-              grouped core m (e ++ op around Drop) (arguments (parameter_kinds around n)) (call_at around place n count)
-                  (in_turn_3 core m value.2 (once core m around.place Drop
+              grouped core m (e ++ op context Drop) (arguments (parameter_kinds context n))
+                  (call_at context place n count)
+                  (in_turn_3 core m value.2 (once core m context.place Drop
                   (value.0 ∷ []) [] stack refl refl refl refl) rest.2),
             );
       }
@@ -361,23 +362,23 @@ module _ (core : Core) (m : core_specs.Method) (around : Around) (stands : Stand
   missing-on : (place : Place) (count : ℕ) (e : Code) (arguments : Passing) →
       ((kinds : List Kind) → PassedTo core m (arguments kinds) kinds count) → {kind : ValueKind} →
       Leaves core m e kind →
-      Leaves core m (e ++ arguments [] ++ op around (Outside (suc count))) (Of types.Other)
+      Leaves core m (e ++ arguments [] ++ op context (Outside (suc count))) (Of types.Other)
   missing-on place count e arguments passing l =
       record {
         leaves = λ stack.
             let value = l.leaves stack in
             let p = (passing []).passes (value.0 ∷ stack) in
-            let pops : Runs core m (op around (Outside (suc count))) (p.0 ++ value.0 ∷ stack) (Opaque ∷ stack) =
-            subst (λ before. Runs core m (op around (Outside (suc count))) before (Opaque ∷ stack))
+            let pops : Runs core m (op context (Outside (suc count))) (p.0 ++ value.0 ∷ stack) (Opaque ∷ stack) =
+            subst (λ before. Runs core m (op context (Outside (suc count))) before (Opaque ∷ stack))
             (append_assoc p.0 (value.0 ∷ []) stack)
-            (outside core m around.place (p.0 ++ value.0 ∷ []) stack (suc count) (one_more p.0 value.0 count p.2)) in
+            (outside core m context.place (p.0 ++ value.0 ∷ []) stack (suc count) (one_more p.0 value.0 count p.2)) in
             (Opaque, tt, in_turn_3 core m value.2 p.1 pops);
       }
 
   called_on_value-leaves : (place : Place) (c : ClassId) (count : ℕ) (e : Code) (arguments : Passing) →
       ((kinds : List Kind) → PassedTo core m (arguments kinds) kinds count) →
-      Leaves core m e (Of (types.Declared c)) → (callee : Callee) → IsCallee around c count callee →
-      Leaves core m (called_on_value around place e count arguments callee) (result_kind around callee)
+      Leaves core m e (Of (types.Declared c)) → (callee : Callee) → IsCallee context c count callee →
+      Leaves core m (called_on_value context place e count arguments callee) (result_kind context callee)
   called_on_value-leaves place c count e arguments passing l Missing h =
       missing-on place count e arguments passing l
   called_on_value-leaves place c count e arguments passing l (OfClass n) h =
@@ -388,16 +389,16 @@ module _ (core : Core) (m : core_specs.Method) (around : Around) (stands : Stand
   pub called_on-leaves : (x : Ident) (class : Option ClassId) (kind : ValueKind) (e : Code) (count : ℕ)
       (arguments : Passing) → ((kinds : List Kind) → PassedTo core m (arguments kinds) kinds count) →
       Leaves core m e kind →
-      Leaves core m (called_on around x.place class e count arguments (callee_on around class kind x count))
-      (result_kind around (callee_on around class kind x count))
+      Leaves core m (called_on context x.place class e count arguments (callee_on context class kind x count))
+      (result_kind context (callee_on context class kind x count))
   called_on-leaves x (Some c) kind e count arguments passing l =
-      called-leaves x.place c count arguments passing (if_static (callee_in around c x.text count))
+      called-leaves x.place c count arguments passing (if_static (callee_in context c x.text count))
       (static-own c count _ (is-callee c x.text count))
   called_on-leaves x None value.Null e count arguments passing l = missing-on x.place count e arguments passing l
   called_on-leaves x None (Of types.Plain) e count arguments passing l = missing-on x.place count e arguments passing l
   called_on-leaves x None (Of types.Other) e count arguments passing l = missing-on x.place count e arguments passing l
   called_on-leaves x None (Of (types.Declared c)) e count arguments passing l =
-      called_on_value-leaves x.place c count e arguments passing l (callee_in around c x.text count)
+      called_on_value-leaves x.place c count e arguments passing l (callee_in context c x.text count)
       (is-callee c x.text count)
 
   -- new C(..)
@@ -424,32 +425,32 @@ module _ (core : Core) (m : core_specs.Method) (around : Around) (stands : Stand
 
   constructed : (place : Place) (n : MethodId) (c : ClassId) (count : ℕ) (arguments : Passing) →
       ((kinds : List Kind) → PassedTo core m (arguments kinds) kinds count) →
-      (h : MethodThere around.folder.methods c count n) → (b : Bool) → h.info.is_constructor ≡ b →
-      Leaves core m (made_by around place c count arguments (cond b (Some n) None)) (Of (types.Declared c))
+      (h : MethodThere context.folder.methods c count n) → (b : Bool) → h.info.is_constructor ≡ b →
+      Leaves core m (made_by context place c count arguments (cond b (Some n) None)) (Of (types.Declared c))
   constructed place n c count arguments passing h false e = not_made place (types.Declared c) count arguments passing
   constructed place n c count arguments passing h true e =
       let known = stands.constructors n h.info h.there e in
-      let info : CalleeInfo around n c count false =
+      let info : CalleeInfo context n c count false =
       record { info = h.info; there = h.there; class_is = h.class_is; many = h.many; static_is = known.1 } in
       subst (λ kind. Leaves core m (op_at place (New c) ++ arguments
-      (parameter_kinds around n) ++ call_at around place n (suc count)) kind)
+      (parameter_kinds context n) ++ call_at context place n (suc count)) kind)
       (ap result_of h.there ∙ ap (λ k. Of k) known.0 ∙ ap (λ d. Of (types.Declared d)) h.class_is)
       (object-called place n c count (op_at place (New c)) arguments passing (created place c) info)
 
   among : (place : Place) (c : ClassId) (count : ℕ) (arguments : Passing) →
       ((kinds : List Kind) → PassedTo core m (arguments kinds) kinds count) → (o : Option MethodId) →
-      found around.folder.methods c constructor_name count ≡ o →
-      Leaves core m (made_by around place c count arguments (constructor_among around o)) (Of (types.Declared c))
+      found context.folder.methods c constructor_name count ≡ o →
+      Leaves core m (made_by context place c count arguments (constructor_among context o)) (Of (types.Declared c))
   among place c count arguments passing None e = not_made place (types.Declared c) count arguments passing
   among place c count arguments passing (Some n) e =
-      let h = method-there around.folder.methods c constructor_name count n e in
-      subst (λ o. Leaves core m (made_by around place c count arguments (constructor_of n o)) (Of (types.Declared c)))
+      let h = method-there context.folder.methods c constructor_name count n e in
+      subst (λ o. Leaves core m (made_by context place c count arguments (constructor_of n o)) (Of (types.Declared c)))
       (sym h.there) (constructed place n c count arguments passing h h.info.is_constructor refl)
 
   pub made-leaves : (place : Place) (kind : Kind) (count : ℕ) (arguments : Passing) →
       ((kinds : List Kind) → PassedTo core m (arguments kinds) kinds count) →
-      Leaves core m (made around place kind count arguments) (Of kind)
+      Leaves core m (made context place kind count arguments) (Of kind)
   made-leaves place types.Plain count arguments passing = not_made place types.Plain count arguments passing
   made-leaves place types.Other count arguments passing = not_made place types.Other count arguments passing
   made-leaves place (types.Declared c) count arguments passing =
-      among place c count arguments passing (found around.folder.methods c constructor_name count) refl
+      among place c count arguments passing (found context.folder.methods c constructor_name count) refl

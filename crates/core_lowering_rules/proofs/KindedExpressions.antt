@@ -15,7 +15,7 @@ use Rattle.core_lowering_rules.specs.Trees.{Combine, Count, Call, CallOn, New, N
 use Rattle.core_lowering_rules.specs.Trees.{Selected, Element, NoAccess, Exprs, no_expr, expr_then, Init, Value, Items, Inits}
 use Rattle.core_lowering_rules.specs.Trees.{no_init, init_then, count_exprs, count_inits}
 use Rattle.core_lowering_rules.specs.ValueKinds.{ValueKind, Of, common_kind}
-use Rattle.core_lowering_rules.specs.Around.{Around, Code, op, choice, push_this, type_kind}
+use Rattle.core_lowering_rules.specs.Context.{Context, Code, op, choice, push_this, type_kind}
 use Rattle.core_lowering_rules.specs.Assignments.{kind_in}
 use Rattle.core_lowering_rules.specs.Calls.{own_callee}
 use Rattle.core_lowering_rules.specs.Expressions.{class_before, class_written, class_object, kind}
@@ -32,78 +32,78 @@ use Rattle.core_lowering_rules.proofs.KindedCalls.{PassedTo, passed-none, passed
 use Rattle.core_lowering_rules.proofs.KindedCalls.{called_on-leaves, not_made, made-leaves, one_more}
 
 -- the kind of what is stored
-pub storage-kind : (around : Around) (a : Access) → kind_in (storage around a) ≡ access_kind around a
-storage-kind around (Named x) = refl
-storage-kind around (Selected e x) =
-    kind_in-selected around (class_before around e) (kind around e) (code around e) [] x
-storage-kind around (Element a i) = refl
-storage-kind around NoAccess = refl
+pub storage-kind : (context : Context) (a : Access) → kind_in (storage context a) ≡ access_kind context a
+storage-kind context (Named x) = refl
+storage-kind context (Selected e x) =
+    kind_in-selected context (class_before context e) (kind context e) (code context e) [] x
+storage-kind context (Element a i) = refl
+storage-kind context NoAccess = refl
 
-module _ (core : Core) (m : Method) (around : Around) (stands : Stands core m around) where
-  this-by : (b : Bool) → around.scope.is_static ≡ b →
-      Leaves core m (cond b (op around (Outside 0)) (push_this around))
-      (cond b (Of types.Other) (Of (types.Declared around.scope.class)))
+module _ (core : Core) (m : Method) (context : Context) (stands : Stands core m context) where
+  this-by : (b : Bool) → context.scope.is_static ≡ b →
+      Leaves core m (cond b (op context (Outside 0)) (push_this context))
+      (cond b (Of types.Other) (Of (types.Declared context.scope.class)))
   this-by true e =
-      record { leaves = λ stack. (Opaque, tt, outside core m around.place [] stack 0 refl) }
+      record { leaves = λ stack. (Opaque, tt, outside core m context.place [] stack 0 refl) }
   this-by false e =
       record {
         leaves = λ stack. (
-          Declared around.scope.class,
-          class_same around.scope.class,
-          pushes core m around stands around.place (record { 0 = 0 }) (types.Declared around.scope.class) stack
+          Declared context.scope.class,
+          class_same context.scope.class,
+          pushes core m context stands context.place (record { 0 = 0 }) (types.Declared context.scope.class) stack
               (stands.object e),
         );
       }
 
-  class-leaves : (o : Option ClassId) → Leaves core m (class_object around o) (Of types.Other)
-  class-leaves None = record { leaves = λ stack. (Opaque, tt, outside core m around.place [] stack 0 refl) }
+  class-leaves : (o : Option ClassId) → Leaves core m (class_object context o) (Of types.Other)
+  class-leaves None = record { leaves = λ stack. (Opaque, tt, outside core m context.place [] stack 0 refl) }
   class-leaves (Some c) = record {
     leaves = λ stack. (
       Class c,
       tt,
-      once core m around.place (PushClass c) []
+      once core m context.place (PushClass c) []
           (Class c ∷ []) stack refl refl refl refl,
     );
   }
 
   cast-leaves : {e : Code} {given : ValueKind} (k : Kind) → Leaves core m e given →
-      Leaves core m (e ++ cast around k) (Of k)
+      Leaves core m (e ++ cast context k) (Of k)
   cast-leaves types.Plain l =
       record {
         leaves = λ stack.
             let value = l.leaves stack in (
               Plain,
               tt,
-              followed core m value.2 (prims core m around stands around.place (value.0 ∷ []) stack 1 refl),
+              followed core m value.2 (prims core m context stands context.place (value.0 ∷ []) stack 1 refl),
             );
       }
   cast-leaves (types.Declared c) l =
       record {
         leaves = λ stack.
             let value = l.leaves stack in
-            (Opaque, refl, followed core m value.2 (outside core m around.place (value.0 ∷ []) stack 1 refl));
+            (Opaque, refl, followed core m value.2 (outside core m context.place (value.0 ∷ []) stack 1 refl));
       }
   cast-leaves types.Other l =
       record {
         leaves = λ stack.
             let value = l.leaves stack in
-            (Opaque, tt, followed core m value.2 (outside core m around.place (value.0 ∷ []) stack 1 refl));
+            (Opaque, tt, followed core m value.2 (outside core m context.place (value.0 ∷ []) stack 1 refl));
       }
 
   unary-leaves : {e : Code} {given : ValueKind} → Leaves core m e given →
-      Leaves core m (e ++ op around (Prim 1)) (Of types.Plain)
+      Leaves core m (e ++ op context (Prim 1)) (Of types.Plain)
   unary-leaves l =
       record {
         leaves = λ stack.
             let value = l.leaves stack in (
               Plain,
               tt,
-              followed core m value.2 (prims core m around stands around.place (value.0 ∷ []) stack 1 refl),
+              followed core m value.2 (prims core m context stands context.place (value.0 ∷ []) stack 1 refl),
             );
       }
 
   binary-leaves : {a b : Code} {k l : ValueKind} → Leaves core m a k → Leaves core m b l →
-      Leaves core m (a ++ b ++ op around (Prim 2)) (Of types.Plain)
+      Leaves core m (a ++ b ++ op context (Prim 2)) (Of types.Plain)
   binary-leaves p q =
       record {
         leaves = λ stack.
@@ -111,13 +111,13 @@ module _ (core : Core) (m : Method) (around : Around) (stands : Stands core m ar
             let second = q.leaves (first.0 ∷ stack) in (
               Plain,
               tt,
-              in_turn_3 core m first.2 second.2 (prims core m around stands around.place
+              in_turn_3 core m first.2 second.2 (prims core m context stands context.place
                   (second.0 ∷ first.0 ∷ []) stack 2 refl),
             );
       }
 
   logical-leaves : {a b : Code} {k l : ValueKind} → Leaves core m a k → Leaves core m b l →
-      Leaves core m (a ++ op around (Prim 1) ++ choice (b ++ op around (Prim 2)) []) (Of types.Plain)
+      Leaves core m (a ++ op context (Prim 1) ++ choice (b ++ op context (Prim 2)) []) (Of types.Plain)
   logical-leaves p q =
       record {
         leaves = λ stack.
@@ -125,16 +125,16 @@ module _ (core : Core) (m : Method) (around : Around) (stands : Stands core m ar
             let second = q.leaves (Plain ∷ stack) in (
               Plain,
               tt,
-              in_turn_3 core m first.2 (prims core m around stands around.place (first.0 ∷ []) stack 1 refl)
+              in_turn_3 core m first.2 (prims core m context stands context.place (first.0 ∷ []) stack 1 refl)
                   (chosen core m
-                  (followed core m second.2 (prims core m around stands around.place
+                  (followed core m second.2 (prims core m context stands context.place
                   (second.0 ∷ Plain ∷ []) stack 2 refl))
                   (nothing core m (Plain ∷ stack)) (joined_stack-top Plain Plain stack)),
             );
       }
 
   conditional-leaves : {c a b : Code} {j : ValueKind} (k l : ValueKind) → Leaves core m c j → Leaves core m a k →
-      Leaves core m b l → Leaves core m (c ++ op around Drop ++ choice a b) (common_kind k l)
+      Leaves core m b l → Leaves core m (c ++ op context Drop ++ choice a b) (common_kind k l)
   conditional-leaves k l test p q =
       record {
         leaves = λ stack.
@@ -143,7 +143,7 @@ module _ (core : Core) (m : Method) (around : Around) (stands : Stands core m ar
             let second = q.leaves stack in (
               joined_kind first.0 second.0,
               suits-common k l first.0 second.0 first.1 second.1,
-              in_turn_3 core m value.2 (once core m around.place Drop (value.0 ∷ []) [] stack refl refl refl refl)
+              in_turn_3 core m value.2 (once core m context.place Drop (value.0 ∷ []) [] stack refl refl refl refl)
                   (chosen core m first.2 second.2
                   (joined_stack-top first.0 second.0 stack)),
             );
@@ -164,55 +164,58 @@ module _ (core : Core) (m : Method) (around : Around) (stands : Stands core m ar
       }
 
   mutual
-    pub code-leaves : (e : Expr) → Leaves core m (code around e) (kind around e)
+    pub code-leaves : (e : Expr) → Leaves core m (code context e) (kind context e)
     code-leaves tree.Prim = record {
       leaves = λ stack. (
         Plain,
         tt,
-        once core m around.place PushPrim []
+        once core m context.place PushPrim []
             (Plain ∷ []) stack refl refl refl refl,
       );
     }
-    code-leaves Text = record { leaves = λ stack. (Opaque, tt, outside core m around.place [] stack 0 refl) }
+    code-leaves Text = record { leaves = λ stack. (Opaque, tt, outside core m context.place [] stack 0 refl) }
     code-leaves tree.Null = record {
       leaves = λ stack. (
         Null,
         refl,
-        once core m around.place PushNull []
+        once core m context.place PushNull []
             (Null ∷ []) stack refl refl refl refl,
       );
     }
-    code-leaves This = this-by around.scope.is_static refl
-    code-leaves (ClassOf xs) = class-leaves (class_written around xs)
+    code-leaves This = this-by context.scope.is_static refl
+    code-leaves (ClassOf xs) = class-leaves (class_written context xs)
     code-leaves (Read a) =
-        subst (λ k. Leaves core m (code around (Read a)) k) (storage-kind around a)
-        (read-leaves core m around stands (storage around a) (is-storage a))
+        subst (λ k. Leaves core m (code context (Read a)) k) (storage-kind context a)
+        (read-leaves core m context stands (storage context a) (is-storage a))
     code-leaves (Unary e) = unary-leaves (code-leaves e)
-    code-leaves (Cast t e) = cast-leaves (type_kind around t) (code-leaves e)
+    code-leaves (Cast t e) = cast-leaves (type_kind context t) (code-leaves e)
     code-leaves (Binary a b) = binary-leaves (code-leaves a) (code-leaves b)
     code-leaves (Logical a b) = logical-leaves (code-leaves a) (code-leaves b)
     code-leaves (Conditional c a b) =
-        conditional-leaves (kind around a) (kind around b) (code-leaves c) (code-leaves a) (code-leaves b)
+        conditional-leaves (kind context a) (kind context b) (code-leaves c) (code-leaves a) (code-leaves b)
     code-leaves (Assign a e) =
-        subst (λ k. Leaves core m (code around (Assign a e)) k) (storage-kind around a)
-        (assigned-leaves core m around stands (storage around a) (is-storage a) (kind around e) (code around e)
+        subst (λ k. Leaves core m (code context (Assign a e)) k) (storage-kind context a)
+        (assigned-leaves core m context stands (storage context a) (is-storage a) (kind context e) (code context e)
         (code-leaves e))
     code-leaves (Combine a e) =
-        subst (λ k. Leaves core m (code around (Combine a e)) k) (storage-kind around a)
-        (combined-leaves core m around stands (storage around a) (is-storage a) (kind around e) (code around e)
+        subst (λ k. Leaves core m (code context (Combine a e)) k) (storage-kind context a)
+        (combined-leaves core m context stands (storage context a) (is-storage a) (kind context e) (code context e)
         (code-leaves e))
-    code-leaves (Count a) = counted-leaves core m around stands (storage around a) (is-storage a)
+    code-leaves (Count a) = counted-leaves core m context stands (storage context a) (is-storage a)
     code-leaves (Call x es) =
-        called-leaves core m around stands x.place around.scope.class (count_exprs es) (λ kinds. passed around kinds es)
-        (passed-to es) (own_callee around x (count_exprs es)) (is-own core m around stands x (count_exprs es))
+        called-leaves core m context stands x.place context.scope.class (count_exprs es)
+        (λ kinds. passed context kinds es)
+        (passed-to es) (own_callee context x (count_exprs es)) (is-own core m context stands x (count_exprs es))
     code-leaves (CallOn e x es) =
-        called_on-leaves core m around stands x (class_before around e) (kind around e) (code around e) (count_exprs es)
-        (λ kinds. passed around kinds es) (passed-to es) (code-leaves e)
+        called_on-leaves core m context stands x (class_before context e) (kind context e) (code context e)
+        (count_exprs es)
+        (λ kinds. passed context kinds es) (passed-to es) (code-leaves e)
     code-leaves (New place t es) =
-        made-leaves core m around stands place (type_kind around t) (count_exprs es) (λ kinds. passed around kinds es)
+        made-leaves core m context stands place (type_kind context t) (count_exprs es)
+        (λ kinds. passed context kinds es)
         (passed-to es)
     code-leaves (NewArray place lengths) =
-        not_made core m around stands place types.Other (count_exprs lengths) (λ kinds. passed around kinds lengths)
+        not_made core m context stands place types.Other (count_exprs lengths) (λ kinds. passed context kinds lengths)
         (passed-to lengths)
     code-leaves (NewItems place items) =
         let l = items-leave items in
@@ -226,21 +229,21 @@ module _ (core : Core) (m : Method) (around : Around) (stands : Stands core m ar
         }
     code-leaves (Paren e) = code-leaves e
 
-    pub is-storage : (a : Access) → IsStorage core m (storage around a)
-    is-storage (Named x) = is-named core m around stands x
+    pub is-storage : (a : Access) → IsStorage core m (storage context a)
+    is-storage (Named x) = is-named core m context stands x
     is-storage (Selected e x) =
-        is-selected core m around stands (class_before around e) (kind around e) (code around e) x (code-leaves e)
+        is-selected core m context stands (class_before context e) (kind context e) (code context e) x (code-leaves e)
     is-storage (Element a i) =
-        is-element core m around stands (code around a) (code around i) (code-leaves a) (code-leaves i)
-    is-storage NoAccess = no_values core m around stands
+        is-element core m context stands (code context a) (code context i) (code-leaves a) (code-leaves i)
+    is-storage NoAccess = no_values core m context stands
 
-    pub passed-to : (es : Exprs) (kinds : List Kind) → PassedTo core m (passed around kinds es) kinds (count_exprs es)
-    passed-to no_expr kinds = passed-none core m around stands kinds
-    passed-to (expr_then e es) [] = passed-bare core m around stands (code-leaves e) (passed-to es [])
+    pub passed-to : (es : Exprs) (kinds : List Kind) → PassedTo core m (passed context kinds es) kinds (count_exprs es)
+    passed-to no_expr kinds = passed-none core m context stands kinds
+    passed-to (expr_then e es) [] = passed-bare core m context stands (code-leaves e) (passed-to es [])
     passed-to (expr_then e es) (k ∷ kinds) =
-        passed-kind core m around stands k kinds (code-leaves e) (passed-to es kinds)
+        passed-kind core m context stands k kinds (code-leaves e) (passed-to es kinds)
 
-    pub init-leaves : (i : Init) → Leaves core m (init_code around i) (init_kind around i)
+    pub init-leaves : (i : Init) → Leaves core m (init_code context i) (init_kind context i)
     init-leaves (Value e) = code-leaves e
     init-leaves (Items items) =
         let l = items-leave items in
@@ -249,10 +252,10 @@ module _ (core : Core) (m : Method) (around : Around) (stands : Stands core m ar
               let values = l.leaves stack in (
                 Opaque,
                 tt,
-                followed core m values.1 (outside core m around.place values.0 stack (count_inits items) values.2),
+                followed core m values.1 (outside core m context.place values.0 stack (count_inits items) values.2),
               );
         }
 
-    items-leave : (items : Inits) → LeavesMany core m (items_code around items) (count_inits items)
-    items-leave no_init = no_values core m around stands
+    items-leave : (items : Inits) → LeavesMany core m (items_code context items) (count_inits items)
+    items-leave no_init = no_values core m context stands
     items-leave (init_then i is) = many-more (init-leaves i) (items-leave is)

@@ -23,7 +23,7 @@ use Rattle.java_resolver.specs.Declarations.{class_names, kinds_of, is_construct
 use Rattle.java_resolver.specs.Words.{has_word}
 use Rattle.core_code.specs.declared.code.Op.TheVariants.{PushClass, PushPrim, Drop}
 use Rattle.core_code.specs.declared.code.Reason.{Reason}
-use Rattle.core_code.specs.Tree.{Tree, Step, Nothing, Then, Either, Again, Held, steps_of, can_end, in_sequence}
+use Rattle.core_code.specs.Tree.{Tree, Op, Skip, Seq, Choice, Loop, Sync, steps_of, can_end, in_sequence}
 use Rattle.core_code.specs.Core.{Core, Method}
 use Rattle.core_code.specs.Kinds.{StackKind, Plain, Declared, Class, Opaque, joined_stack}
 use Rattle.core_code.specs.KindCheck.{Kinds, and_then, where_true, kinds_after, same_stack, same_declared_kind}
@@ -36,9 +36,9 @@ use Rattle.core_lowering_rules.specs.Trees.{Stmts}
 use Rattle.core_lowering_rules.specs.TreesOf.{init_of}
 use Rattle.core_lowering_rules.specs.ValueKinds.{ValueKind, Of}
 use Rattle.core_lowering_rules.specs.ValueKinds as value
-use Rattle.core_lowering_rules.specs.Around.{Folder, Around, Itself, Code, op, push_this, push_own_class}
-use Rattle.core_lowering_rules.specs.Around.{type_kind}
-use Rattle.core_lowering_rules.specs.Assignments.{named, kind_in}
+use Rattle.core_lowering_rules.specs.Context.{Folder, Context, Itself, Code, op, push_this, push_own_class}
+use Rattle.core_lowering_rules.specs.Context.{type_kind}
+use Rattle.core_lowering_rules.specs.Assignments.{of_name, kind_in}
 use Rattle.core_lowering_rules.specs.Expressions.{init_kind, init_code}
 use Rattle.core_lowering_rules.specs.Scopes.{declared, after_all}
 use Rattle.core_lowering_rules.specs.Statements.{returned}
@@ -61,72 +61,73 @@ use Rattle.core_lowering_rules.proofs.KindedStatements.{Keeps, closed-keeps, ret
 
 -- ---- parameters
 
-grows-parameters : (around : Around) (ps : List ParameterTree) → Grows around (parameters_declared around ps)
-grows-parameters around [] = grows-same around
-grows-parameters around (p ∷ ps) =
-    let k = type_kind around (ty_of p.kind) in
-    grows-then around (declared around k p.name) (parameters_declared (declared around k p.name) ps)
-    (grows-declared around k p.name) (grows-parameters (declared around k p.name) ps)
+grows-parameters : (context : Context) (ps : List ParameterTree) → Grows context (parameters_declared context ps)
+grows-parameters context [] = grows-same context
+grows-parameters context (p ∷ ps) =
+    let k = type_kind context (ty_of p.kind) in
+    grows-then context (declared context k p.name) (parameters_declared (declared context k p.name) ps)
+    (grows-declared context k p.name) (grows-parameters (declared context k p.name) ps)
 
-abbrev parameter_kind : Around → ParameterTree → Kind
-parameter_kind around p = type_kind around (ty_of p.kind)
+abbrev parameter_kind : Context → ParameterTree → Kind
+parameter_kind context p = type_kind context (ty_of p.kind)
 
-kinds-parameters : (around : Around) (ps : List ParameterTree) →
-    (parameters_declared around ps).kinds ≡ around.kinds ++ map (parameter_kind around) ps
-kinds-parameters around [] = sym (append-nil around.kinds)
-kinds-parameters around (p ∷ ps) =
-    let k = type_kind around (ty_of p.kind) in
-    kinds-parameters (declared around k p.name) ps
-    ∙ append_assoc around.kinds (k ∷ []) (map (parameter_kind around) ps)
+kinds-parameters : (context : Context) (ps : List ParameterTree) →
+    (parameters_declared context ps).kinds ≡ context.kinds ++ map (parameter_kind context) ps
+kinds-parameters context [] = sym (append-nil context.kinds)
+kinds-parameters context (p ∷ ps) =
+    let k = type_kind context (ty_of p.kind) in
+    kinds-parameters (declared context k p.name) ps
+    ∙ append_assoc context.kinds (k ∷ []) (map (parameter_kind context) ps)
 
 module _ (core : Core) (m : Method) where
-  parameters-stand : (around : Around) (ps : List ParameterTree) → Stands core m around →
-      HasKinds m (parameters_declared around ps) → Stands core m (parameters_declared around ps)
-  parameters-stand around [] s h = s
-  parameters-stand around (p ∷ ps) s h =
-      let k = type_kind around (ty_of p.kind) in
-      let inside = declared around k p.name in
+  parameters-stand : (context : Context) (ps : List ParameterTree) → Stands core m context →
+      HasKinds m (parameters_declared context ps) → Stands core m (parameters_declared context ps)
+  parameters-stand context [] s h = s
+  parameters-stand context (p ∷ ps) s h =
+      let k = type_kind context (ty_of p.kind) in
+      let inside = declared context k p.name in
       let own = has-earlier m inside (parameters_declared inside ps) (grows-parameters inside ps) h in
-      parameters-stand inside ps (declared-stands core m around k p.name s own) h
+      parameters-stand inside ps (declared-stands core m context k p.name s own) h
 
   -- ---- fields
 
-  dropped : (around : Around) {code : Code} {kind : ValueKind} → Leaves core m code kind →
-      Keeps core m (code ++ op around Drop)
-  dropped around l =
-      let value = l.leaves [] in followed core m value.2 (once core m around.place Drop
+  dropped : (context : Context) {code : Code} {kind : ValueKind} → Leaves core m code kind →
+      Keeps core m (code ++ op context Drop)
+  dropped context l =
+      let value = l.leaves [] in followed core m value.2 (once core m context.place Drop
       (value.0 ∷ []) [] [] refl refl refl refl)
 
-  unread-leaves : (around : Around) (k : ValueKind) → Leaves core m (unread around k) (Of types.Other)
-  unread-leaves around value.Null = record {
+  unread-leaves : (context : Context) (k : ValueKind) → Leaves core m (unread context k) (Of types.Other)
+  unread-leaves context value.Null = record {
     leaves = λ stack.
-        (Opaque, tt, outside core m around.place [] stack 0 refl);
+        (Opaque, tt, outside core m context.place [] stack 0 refl);
   }
-  unread-leaves around (Of types.Plain) =
+  unread-leaves context (Of types.Plain) =
       record {
         leaves = λ stack. (
           Plain,
           tt,
-          once core m around.place PushPrim []
+          once core m context.place PushPrim []
               (Plain ∷ []) stack refl refl refl refl,
         );
       }
-  unread-leaves around (Of (types.Declared c)) =
-      record { leaves = λ stack. (Opaque, tt, outside core m around.place [] stack 0 refl) }
-  unread-leaves around (Of types.Other) =
-      record { leaves = λ stack. (Opaque, tt, outside core m around.place [] stack 0 refl) }
+  unread-leaves context (Of (types.Declared c)) =
+      record { leaves = λ stack. (Opaque, tt, outside core m context.place [] stack 0 refl) }
+  unread-leaves context (Of types.Other) =
+      record { leaves = λ stack. (Opaque, tt, outside core m context.place [] stack 0 refl) }
 
-  field-keeps : (around : Around) → Stands core m around → (x : Ident) (i : FieldInitialiser) →
-      Keeps core m (field_begun around x i)
-  field-keeps around s x field.Absent = nothing core m []
-  field-keeps around s x (field.Formed i) =
-      dropped around
-      (assigned-leaves core m around s (named around x) (is-named core m around s x) (init_kind around (init_of i))
-      (init_code around (init_of i)) (init-leaves core m around s (init_of i)))
-  field-keeps around s x field.Unread =
-      dropped around
-      (assigned-leaves core m around s (named around x) (is-named core m around s x) (Of types.Other)
-      (unread around (kind_in (named around x))) (unread-leaves around (kind_in (named around x))))
+  field-keeps : (context : Context) → Stands core m context → (x : Ident) (i : FieldInitialiser) →
+      Keeps core m (field_begun context x i)
+  field-keeps context s x field.Absent = nothing core m []
+  field-keeps context s x (field.Formed i) =
+      dropped context
+      (assigned-leaves core m context s (of_name context x) (is-named core m context s x)
+      (init_kind context (init_of i))
+      (init_code context (init_of i)) (init-leaves core m context s (init_of i)))
+  field-keeps context s x field.Unread =
+      dropped context
+      (assigned-leaves core m context s (of_name context x) (is-named core m context s x) (Of types.Other)
+      (unread context (kind_in (of_name context x))) (unread-leaves context (kind_in (of_name context x))))
 
   each-keeps : {A : Type 0} (f : A → Code) → ((x : A) → Keeps core m (f x)) → (xs : List A) →
       Keeps core m (flat_map f xs)
@@ -137,20 +138,20 @@ module _ (core : Core) (m : Method) where
   unless-static true k = nothing core m []
   unless-static false k = k
 
-  member-keeps : (around : Around) → Stands core m around → (x : Member) → Keeps core m (member_begun around x)
-  member-keeps around s (member.Field f) =
+  member-keeps : (context : Context) → Stands core m context → (x : Member) → Keeps core m (member_begun context x)
+  member-keeps context s (member.Field f) =
       unless-static (has_word (codes "static") f.modifiers)
-      (each-keeps (λ (v : FieldVariable). field_begun around v.name v.initialiser)
-      (λ v. field-keeps around s v.name v.initialiser) f.variables)
-  member-keeps around s (member.Method t) = nothing core m []
-  member-keeps around s (member.Outside h) = nothing core m []
-  member-keeps around s (member.Skipped place) = nothing core m []
+      (each-keeps (λ (v : FieldVariable). field_begun context v.name v.initialiser)
+      (λ v. field-keeps context s v.name v.initialiser) f.variables)
+  member-keeps context s (member.Method t) = nothing core m []
+  member-keeps context s (member.Outside h) = nothing core m []
+  member-keeps context s (member.Skipped place) = nothing core m []
 
-  abbrev without_variables : Around → Around
-  without_variables around = record around { scope = record around.scope { variables = [] } }
+  abbrev without_variables : Context → Context
+  without_variables context = record context { scope = record context.scope { variables = [] } }
 
-  bare-stands : (around : Around) → Stands core m around → Stands core m (without_variables around)
-  bare-stands around s =
+  bare-stands : (context : Context) → Stands core m context → Stands core m (without_variables context)
+  bare-stands context s =
       record {
         fields = s.fields;
         methods = s.methods;
@@ -161,82 +162,82 @@ module _ (core : Core) (m : Method) where
         gives = s.gives;
       }
 
-  fields-keep : (around : Around) → Stands core m around → (members : List Member) →
-      Keeps core m (fields_begun around members)
-  fields-keep around s members =
-      each-keeps (member_begun (without_variables around))
-      (member-keeps (without_variables around) (bare-stands around s)) members
+  fields-keep : (context : Context) → Stands core m context → (members : List Member) →
+      Keeps core m (fields_begun context members)
+  fields-keep context s members =
+      each-keeps (member_begun (without_variables context))
+      (member-keeps (without_variables context) (bare-stands context s)) members
 
   -- ---- bodies
 
-  owner : (around : Around) → Stands core m around → (b : Bool) → around.scope.is_static ≡ b →
-      (lock : StackKind) × Runs core m (cond b (push_own_class around) (push_this around)) [] (lock ∷ [])
-  owner around s true e = (
-    Class around.scope.class,
-    once core m around.place (PushClass around.scope.class) []
-        (Class around.scope.class ∷ []) [] refl refl refl refl,
+  owner : (context : Context) → Stands core m context → (b : Bool) → context.scope.is_static ≡ b →
+      (lock : StackKind) × Runs core m (cond b (push_own_class context) (push_this context)) [] (lock ∷ [])
+  owner context s true e = (
+    Class context.scope.class,
+    once core m context.place (PushClass context.scope.class) []
+        (Class context.scope.class ∷ []) [] refl refl refl refl,
   )
-  owner around s false e = (
-    Declared around.scope.class,
-    pushes core m around s around.place (record { 0 = 0 }) (types.Declared around.scope.class) [] (s.object e),
+  owner context s false e = (
+    Declared context.scope.class,
+    pushes core m context s context.place (record { 0 = 0 }) (types.Declared context.scope.class) [] (s.object e),
   )
 
-  locked-keeps : (around : Around) → Stands core m around → (b : Bool) {body : Code} → Keeps core m body →
-      Keeps core m (locked around b body)
-  locked-keeps around s true x =
-      let lock = owner around s around.scope.is_static refl in
-      followed core m lock.1 (runs.locked core m around.place lock.0 x)
-  locked-keeps around s false x = x
+  locked-keeps : (context : Context) → Stands core m context → (b : Bool) {body : Code} → Keeps core m body →
+      Keeps core m (locked context b body)
+  locked-keeps context s true x =
+      let lock = owner context s context.scope.is_static refl in
+      followed core m lock.1 (runs.locked core m context.place lock.0 x)
+  locked-keeps context s false x = x
 
-  block-keeps : (around : Around) → Stands core m around → (ss : Stmts) → HasKinds m (after_all around ss) →
-      Keeps core m (block around ss)
-  block-keeps around s ss h =
-      followed core m (stmts-keep core m around s ss h)
-      (closed-keeps core m around (after_all around ss) s (after_all-stands core m around ss s h))
+  block-keeps : (context : Context) → Stands core m context → (ss : Stmts) → HasKinds m (after_all context ss) →
+      Keeps core m (block context ss)
+  block-keeps context s ss h =
+      followed core m (stmts-keep core m context s ss h)
+      (closed-keeps core m context (after_all context ss) s (after_all-stands core m context ss s h))
 
-  ends : (around : Around) → Stands core m around → (b : Bool) {body : Code} → Keeps core m body →
-      Keeps core m (cond b (body ++ returned around None) body)
-  ends around s true x = followed core m x (returned-keeps core m around s None)
-  ends around s false x = x
+  ends : (context : Context) → Stands core m context → (b : Bool) {body : Code} → Keeps core m body →
+      Keeps core m (cond b (body ++ returned context None) body)
+  ends context s true x = followed core m x (returned-keeps core m context s None)
+  ends context s false x = x
 
-  ended-keeps : (around : Around) → Stands core m around → {body : Code} → Keeps core m body →
-      Keeps core m (ended around body)
-  ended-keeps around s {body} x = ends around s (can_end (in_sequence body)) x
+  ended-keeps : (context : Context) → Stands core m context → {body : Code} → Keeps core m body →
+      Keeps core m (ended context body)
+  ended-keeps context s {body} x = ends context s (can_end (in_sequence body)) x
 
   fields-first : (b : Bool) {first body : Code} → Keeps core m first → Keeps core m body →
       Keeps core m (cond b (first ++ body) body)
   fields-first true x y = followed core m x y
   fields-first false x y = y
 
-  spelled-keeps : (around : Around) → Stands core m around → (members : List Member) (t : MethodTree) →
-      HasKinds m (after_all around (body_of t)) → Keeps core m (spelled_code around members t)
-  spelled-keeps around s members t h =
-      fields-first (is_constructor t.result) (fields-keep around s members)
-      (locked-keeps around s (has_word (codes "synchronized") t.modifiers) (block-keeps around s (body_of t) h))
+  spelled-keeps : (context : Context) → Stands core m context → (members : List Member) (t : MethodTree) →
+      HasKinds m (after_all context (body_of t)) → Keeps core m (spelled_code context members t)
+  spelled-keeps context s members t h =
+      fields-first (is_constructor t.result) (fields-keep context s members)
+      (locked-keeps context s (has_word (codes "synchronized") t.modifiers) (block-keeps context s (body_of t) h))
 
   -- ---- sites
 
   -- the kinds do not depend on the sites
   kinds-numbered : (t : Tree) (n : ℕ) (stack : List StackKind) →
       kinds_after core m (numbered n t) stack ≡ kinds_after core m t stack
-  kinds-numbered (Step site place o) n stack = refl
-  kinds-numbered Nothing n stack = refl
-  kinds-numbered (Then first rest) n stack =
+  kinds-numbered (Op site place o) n stack = refl
+  kinds-numbered Skip n stack = refl
+  kinds-numbered (Seq first rest) n stack =
       ap (λ (o : Kinds). and_then o (λ s. kinds_after core m (numbered (n + length (steps_of first)) rest) s))
       (kinds-numbered first n stack)
       ∙ runs.and_then-agree (kinds_after core m first stack)
       (λ s. kinds_after core m (numbered (n + length (steps_of first)) rest) s) (λ s. kinds_after core m rest s)
       (kinds-numbered rest (n + length (steps_of first)))
-  kinds-numbered (Either left right) n stack =
+  kinds-numbered (Choice left right) n stack =
       ap (λ (o : Kinds). and_then o (λ a.
       and_then (kinds_after core m (numbered (n + length (steps_of left)) right) stack) (λ b. joined_stack a b)))
       (kinds-numbered left n stack)
       ∙ ap (λ (o : Kinds). and_then (kinds_after core m left stack) (λ a. and_then o (λ b. joined_stack a b)))
       (kinds-numbered right (n + length (steps_of left)) stack)
-  kinds-numbered (Again body) n stack =
+  kinds-numbered (Loop body) n stack =
       ap (λ (o : Kinds). and_then o (λ after. where_true (same_stack stack after) stack)) (kinds-numbered body n stack)
-  kinds-numbered (Held place body) n [] = refl
-  kinds-numbered (Held place body) n (lock ∷ stack) = kinds-numbered body n stack
+  kinds-numbered (Sync place body) n [] = refl
+  kinds-numbered (Sync place body) n (lock ∷ stack) = kinds-numbered body n stack
 
 -- ---- what a method takes
 
@@ -342,21 +343,21 @@ module _ (core : Core) (folder : Folder) (known : FolderStands core folder) (inf
       Keeps core (made body) (method_code folder (source body))
   method-keeps Default right =
       let m = made Default in
-      let around = entered folder (source Default) in
-      let h : HasKinds m around = record { rest = []; all = sym (append-nil (this_kinds info)) } in
+      let context = entered folder (source Default) in
+      let h : HasKinds m context = record { rest = []; all = sym (append-nil (this_kinds info)) } in
       let s = entered-stands m Default refl h right in
-      ended-keeps core m around s (fields-keep core m around s members)
+      ended-keeps core m context s (fields-keep core m context s members)
   method-keeps (Spelled t) right =
       let m = made (Spelled t) in
-      let around = entered folder (source (Spelled t)) in
-      let inside = parameters_declared around t.parameters in
+      let context = entered folder (source (Spelled t)) in
+      let inside = parameters_declared context t.parameters in
       let end = after_all inside (body_of t) in
       let last : HasKinds m end = record { rest = []; all = sym (append-nil end.kinds) } in
       let first = has-earlier m inside end (grows-after_all inside (body_of t)) last in
       let s = entered-stands m (Spelled t) refl
-      (has-earlier m around inside (grows-parameters around t.parameters) first) right in
-      let stands = parameters-stand core m around t.parameters s first in
-      ended-keeps core m around s (spelled-keeps core m inside stands members t last)
+      (has-earlier m context inside (grows-parameters context t.parameters) first) right in
+      let stands = parameters-stand core m context t.parameters s first in
+      ended-keeps core m context s (spelled-keeps core m inside stands members t last)
   method-keeps Unspelled right = nothing core (made Unspelled) []
 
   pub kinded : (body : Body) → IsRight (class_names folder.classes) info body → is_kinded core (made body) ≡ true
@@ -365,11 +366,11 @@ module _ (core : Core) (folder : Folder) (known : FolderStands core folder) (inf
       (sym (append-nil (this_kinds info)) ∙ ap (λ ps. this_kinds info ++ ps) (sym right.2)
       ∙ sym (append-nil (this_kinds info ++ info.parameters)))
   kinded (Spelled t) right =
-      let around = entered folder (source (Spelled t)) in
-      let grown = grows-after_all (parameters_declared around t.parameters) (body_of t) in
+      let context = entered folder (source (Spelled t)) in
+      let grown = grows-after_all (parameters_declared context t.parameters) (body_of t) in
       checked (Spelled t) grown.more (method-keeps (Spelled t) right)
       (grown.longer
       ∙ ap (λ kinds. kinds ++ grown.more)
-      (kinds-parameters around t.parameters ∙ ap (λ ps. this_kinds info ++ ps) (sym right.1)))
+      (kinds-parameters context t.parameters ∙ ap (λ ps. this_kinds info ++ ps) (sym right.1)))
   kinded Unspelled right =
       checked Unspelled [] (method-keeps Unspelled right) (sym (append-nil (this_kinds info ++ info.parameters)))

@@ -29,7 +29,7 @@ use Rattle.core_code.specs.declared.code.Reason.{Reason}
 use Rattle.core_code.specs.Core.{Core, Method}
 use Rattle.core_code.specs.KindCheck.{is_kinded, are_kinded}
 use Rattle.core_code.proofs.BoolParts.{both}
-use Rattle.core_lowering_rules.specs.Around.{Folder}
+use Rattle.core_lowering_rules.specs.Context.{Folder}
 use Rattle.core_lowering_rules.specs.Methods.{Source, Default}
 use Rattle.core_lowering_rules.specs.Programs.{member_sources, default_sources, class_sources, sources_of}
 use Rattle.core_lowering_rules.specs.Programs.{folder_of, method_core, method_cores, program_of}

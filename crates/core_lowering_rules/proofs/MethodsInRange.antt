@@ -25,8 +25,8 @@ use Rattle.core_code.proofs.BoolParts.{first_part, last_part}
 use Rattle.core_lowering_rules.specs.TreesOf.{init_of}
 use Rattle.core_lowering_rules.specs.ValueKinds.{ValueKind, Of}
 use Rattle.core_lowering_rules.specs.ValueKinds as value
-use Rattle.core_lowering_rules.specs.Around.{Around, Code, type_kind}
-use Rattle.core_lowering_rules.specs.Assignments.{named, kind_in}
+use Rattle.core_lowering_rules.specs.Context.{Context, Code, type_kind}
+use Rattle.core_lowering_rules.specs.Assignments.{of_name, kind_in}
 use Rattle.core_lowering_rules.specs.Expressions.{init_kind}
 use Rattle.core_lowering_rules.specs.Scopes.{declared, after_all}
 use Rattle.core_lowering_rules.specs.Methods.{Body, Default, Spelled, Unspelled, Source}
@@ -48,99 +48,100 @@ module _ (core : Core) where
   abbrev test : Place → Bool
   test = is_place core
 
-  parameters-grounded : (around : Around) → Grounded core around → (ps : List ParameterTree) →
-      Grounded core (parameters_declared around ps)
-  parameters-grounded around g [] = g
-  parameters-grounded around g (p ∷ ps) =
-      let k = type_kind around (ty_of p.kind) in
-      parameters-grounded (declared around k p.name)
-      (declared-grounded core around g k p.name (g.types (ty_of p.kind))) ps
+  parameters-grounded : (context : Context) → Grounded core context → (ps : List ParameterTree) →
+      Grounded core (parameters_declared context ps)
+  parameters-grounded context g [] = g
+  parameters-grounded context g (p ∷ ps) =
+      let k = type_kind context (ty_of p.kind) in
+      parameters-grounded (declared context k p.name)
+      (declared-grounded core context g k p.name (g.types (ty_of p.kind))) ps
 
-  unread-fine : (around : Around) → Grounded core around → (k : ValueKind) → Fine core (unread around k)
-  unread-fine around g value.Null = here core around g (Outside 0) refl
-  unread-fine around g (Of types.Plain) = here core around g PushPrim refl
-  unread-fine around g (Of (types.Declared c)) = here core around g (Outside 0) refl
-  unread-fine around g (Of types.Other) = here core around g (Outside 0) refl
+  unread-fine : (context : Context) → Grounded core context → (k : ValueKind) → Fine core (unread context k)
+  unread-fine context g value.Null = here core context g (Outside 0) refl
+  unread-fine context g (Of types.Plain) = here core context g PushPrim refl
+  unread-fine context g (Of (types.Declared c)) = here core context g (Outside 0) refl
+  unread-fine context g (Of types.Other) = here core context g (Outside 0) refl
 
-  field-fine : (around : Around) → Grounded core around → (x : Ident) (i : FieldInitialiser) →
-      is_place core x.place ≡ true → list_all test (initialiser_places i) ≡ true → Fine core (field_begun around x i)
-  field-fine around g x field.Absent h k = empty core
-  field-fine around g x (field.Formed i) h k =
+  field-fine : (context : Context) → Grounded core context → (x : Ident) (i : FieldInitialiser) →
+      is_place core x.place ≡ true → list_all test (initialiser_places i) ≡ true → Fine core (field_begun context x i)
+  field-fine context g x field.Absent h k = empty core
+  field-fine context g x (field.Formed i) h k =
       let p = init-kept test i [] k in
       joined core
-      (assigned-fine core around g (named around x) (named-fine core around g x h) (init_kind around (init_of i))
-      (init-fine core around g (init_of i) p.0))
-      (here core around g Drop refl)
-  field-fine around g x field.Unread h k =
+      (assigned-fine core context g (of_name context x) (named-fine core context g x h) (init_kind context (init_of i))
+      (init-fine core context g (init_of i) p.0))
+      (here core context g Drop refl)
+  field-fine context g x field.Unread h k =
       joined core
-      (assigned-fine core around g (named around x) (named-fine core around g x h) (Of types.Other)
-      (unread-fine around g (kind_in (named around x))))
-      (here core around g Drop refl)
+      (assigned-fine core context g (of_name context x) (named-fine core context g x h) (Of types.Other)
+      (unread-fine context g (kind_in (of_name context x))))
+      (here core context g Drop refl)
 
-  variables-fine : (around : Around) → Grounded core around → (vs : List FieldVariable) →
+  variables-fine : (context : Context) → Grounded core context → (vs : List FieldVariable) →
       list_all test (flat_map variable_places vs) ≡ true →
-      Fine core (flat_map (λ (v : FieldVariable). field_begun around v.name v.initialiser) vs)
-  variables-fine around g [] h = empty core
-  variables-fine around g (v ∷ vs) h =
+      Fine core (flat_map (λ (v : FieldVariable). field_begun context v.name v.initialiser) vs)
+  variables-fine context g [] h = empty core
+  variables-fine context g (v ∷ vs) h =
       let p = all-two test (variable_places v) (flat_map variable_places vs) h in
       joined core
-      (field-fine around g v.name v.initialiser (first_part (test v.name.place) _ p.0)
+      (field-fine context g v.name v.initialiser (first_part (test v.name.place) _ p.0)
       (last_part (test v.name.place) _ p.0))
-      (variables-fine around g vs p.1)
+      (variables-fine context g vs p.1)
 
-  member-fine : (around : Around) → Grounded core around → (x : Member) → list_all test (member_places x) ≡ true →
-      Fine core (member_begun around x)
-  member-fine around g (member.Field f) h =
-      by_test core (has_word (codes "static") f.modifiers) (empty core) (variables-fine around g f.variables h)
-  member-fine around g (member.Method t) h = empty core
-  member-fine around g (member.Outside o) h = empty core
-  member-fine around g (member.Skipped place) h = empty core
+  member-fine : (context : Context) → Grounded core context → (x : Member) → list_all test (member_places x) ≡ true →
+      Fine core (member_begun context x)
+  member-fine context g (member.Field f) h =
+      by_test core (has_word (codes "static") f.modifiers) (empty core) (variables-fine context g f.variables h)
+  member-fine context g (member.Method t) h = empty core
+  member-fine context g (member.Outside o) h = empty core
+  member-fine context g (member.Skipped place) h = empty core
 
-  abbrev bare : Around → Around
-  bare around = record around { scope = record around.scope { variables = [] } }
+  abbrev bare : Context → Context
+  bare context = record context { scope = record context.scope { variables = [] } }
 
-  bare-grounded : (around : Around) → Grounded core around → Grounded core (bare around)
-  bare-grounded around g =
+  bare-grounded : (context : Context) → Grounded core context → Grounded core (bare context)
+  bare-grounded context g =
       record {
         here = g.here;
         class = g.class;
         kinds = g.kinds;
         fields = g.fields;
         methods = g.methods;
-        named = g.named;
+        of_name = g.named;
         types = g.types;
       }
 
-  members-fine : (around : Around) → Grounded core around → (xs : List Member) →
-      list_all test (flat_map member_places xs) ≡ true → Fine core (flat_map (member_begun around) xs)
-  members-fine around g [] h = empty core
-  members-fine around g (x ∷ xs) h =
+  members-fine : (context : Context) → Grounded core context → (xs : List Member) →
+      list_all test (flat_map member_places xs) ≡ true → Fine core (flat_map (member_begun context) xs)
+  members-fine context g [] h = empty core
+  members-fine context g (x ∷ xs) h =
       let p = all-two test (member_places x) (flat_map member_places xs) h in
-      joined core (member-fine around g x p.0) (members-fine around g xs p.1)
+      joined core (member-fine context g x p.0) (members-fine context g xs p.1)
 
-  fields-fine : (around : Around) → Grounded core around → (xs : List Member) →
-      list_all test (flat_map member_places xs) ≡ true → Fine core (fields_begun around xs)
-  fields-fine around g xs h = members-fine (bare around) (bare-grounded around g) xs h
+  fields-fine : (context : Context) → Grounded core context → (xs : List Member) →
+      list_all test (flat_map member_places xs) ≡ true → Fine core (fields_begun context xs)
+  fields-fine context g xs h = members-fine (bare context) (bare-grounded context g) xs h
 
-  locked-fine : (around : Around) → Grounded core around → (b : Bool) {body : Code} → Fine core body →
-      Fine core (locked around b body)
-  locked-fine around g true p = joined core (owner-pushed core around g) (under core around.place g.here p)
-  locked-fine around g false p = p
+  locked-fine : (context : Context) → Grounded core context → (b : Bool) {body : Code} → Fine core body →
+      Fine core (locked context b body)
+  locked-fine context g true p = joined core (owner-pushed core context g) (under core context.place g.here p)
+  locked-fine context g false p = p
 
-  ended-fine : (around : Around) → Grounded core around → {body : Code} → Fine core body → Fine core (ended around body)
-  ended-fine around g {body} p =
-      by_test core (can_end (in_sequence body)) (joined core p (returned-fine core around g None tt)) p
+  ended-fine : (context : Context) → Grounded core context → {body : Code} → Fine core body →
+      Fine core (ended context body)
+  ended-fine context g {body} p =
+      by_test core (can_end (in_sequence body)) (joined core p (returned-fine core context g None tt)) p
 
-  spelled-fine : (around : Around) → Grounded core around → (xs : List Member) (t : MethodTree) →
+  spelled-fine : (context : Context) → Grounded core context → (xs : List Member) (t : MethodTree) →
       list_all test (flat_map member_places xs) ≡ true → list_all test (kept_of (method_marks t)) ≡ true →
-      Fine core (spelled_code around xs t)
-  spelled-fine around g xs t h k =
+      Fine core (spelled_code context xs t)
+  spelled-fine context g xs t h k =
       let places = method-places test t k in
       let ss = stmts-kept test t.body [] places.1 in
-      let body = locked-fine around g (has_word (codes "synchronized") t.modifiers)
-      (joined core (stmts-fine core around g (body_of t) ss.0)
-      (closed-fine core around (after_all around (body_of t)) g)) in
-      by_test core (is_constructor t.result) (joined core (fields-fine around g xs h) body) body
+      let body = locked-fine context g (has_word (codes "synchronized") t.modifiers)
+      (joined core (stmts-fine core context g (body_of t) ss.0)
+      (closed-fine core context (after_all context (body_of t)) g)) in
+      by_test core (is_constructor t.result) (joined core (fields-fine context g xs h) body) body
 
   -- what is known of a method and its class is in range
   pub record Sound (s : Source) : Type 0 where
@@ -151,21 +152,21 @@ module _ (core : Core) where
     pub members : list_all test (flat_map member_places s.members) ≡ true
     pub body : PlacedBody test s.body
 
-  pub code-in : (around : Around) → Grounded core around → (s : Source) → Sound s → (body : Body) →
+  pub code-in : (context : Context) → Grounded core context → (s : Source) → Sound s → (body : Body) →
       PlacedBody test body →
-      Fine core (code_in around s body)
-  code-in around g s right Default p = ended-fine around g (fields-fine around g s.members right.members)
-  code-in around g s right (Spelled t) p =
-      ended-fine around g
-      (spelled-fine (parameters_declared around t.parameters) (parameters-grounded around g t.parameters) s.members t
+      Fine core (code_in context s body)
+  code-in context g s right Default p = ended-fine context g (fields-fine context g s.members right.members)
+  code-in context g s right (Spelled t) p =
+      ended-fine context g
+      (spelled-fine (parameters_declared context t.parameters) (parameters-grounded context g t.parameters) s.members t
       right.members p)
-  code-in around g s right Unspelled p = empty core
+  code-in context g s right Unspelled p = empty core
 
-  pub kinds-in : (around : Around) → Grounded core around → (s : Source) → Sound s → (body : Body) →
-      Each (λ k. is_kind core k ≡ true) (kinds_in around s body)
-  kinds-in around g s right Default = g.kinds
-  kinds-in around g s right (Spelled t) =
-      let inside = parameters-grounded around g t.parameters in
-      let end = after_all-grounded core (parameters_declared around t.parameters) inside (body_of t) in end.kinds
-  kinds-in around g s right Unspelled =
-      each-append (λ k. is_kind core k ≡ true) around.kinds s.info.parameters g.kinds right.parameters
+  pub kinds-in : (context : Context) → Grounded core context → (s : Source) → Sound s → (body : Body) →
+      Each (λ k. is_kind core k ≡ true) (kinds_in context s body)
+  kinds-in context g s right Default = g.kinds
+  kinds-in context g s right (Spelled t) =
+      let inside = parameters-grounded context g t.parameters in
+      let end = after_all-grounded core (parameters_declared context t.parameters) inside (body_of t) in end.kinds
+  kinds-in context g s right Unspelled =
+      each-append (λ k. is_kind core k ≡ true) context.kinds s.info.parameters g.kinds right.parameters

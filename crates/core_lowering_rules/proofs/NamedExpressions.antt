@@ -21,10 +21,10 @@ use Rattle.core_lowering_rules.specs.Trees.{Conditional, Assign, Combine, Count,
 use Rattle.core_lowering_rules.specs.Trees.{Access, Named, Selected, Element, NoAccess, Exprs, no_expr, expr_then}
 use Rattle.core_lowering_rules.specs.Trees.{Init, Value, Items, Inits, no_init, init_then, count_exprs, count_inits}
 use Rattle.core_lowering_rules.specs.ValueKinds.{ValueKind, Of, Null, common_kind}
-use Rattle.core_lowering_rules.specs.Around.{Around, Code, op_at, op, choice, converted, push_this}
-use Rattle.core_lowering_rules.specs.Around.{type_kind, meaning_of, is_analysed}
+use Rattle.core_lowering_rules.specs.Context.{Context, Code, op_at, op, choice, converted, push_this}
+use Rattle.core_lowering_rules.specs.Context.{type_kind, meaning_of, is_analysed}
 use Rattle.core_lowering_rules.specs.Assignments.{Storage, InVariable, InField, Elsewhere, kind_in, in_field}
-use Rattle.core_lowering_rules.specs.Assignments.{named_in, named}
+use Rattle.core_lowering_rules.specs.Assignments.{of_meaning, of_name}
 use Rattle.core_lowering_rules.specs.Assignments.{of_class, of_object, of_value, selected, read, assigned, combined}
 use Rattle.core_lowering_rules.specs.Assignments.{counted, field_at}
 use Rattle.core_lowering_rules.specs.Calls.{Callee, Missing, OfClass, OfObject, Passing, result_kind, callee_on, own_callee}
@@ -37,8 +37,8 @@ use Rattle.core_lowering_rules.proofs.NamedCalls.{call-named}
 use Rattle.core_lowering_rules.proofs.NamedCalls as calls
 
 -- the same with other statuses
-abbrev pub with_statuses : List (Option Reason) → Around → Around
-with_statuses statuses around = record around { folder = record around.folder { statuses = statuses } }
+abbrev pub with_statuses : List (Option Reason) → Context → Context
+with_statuses statuses context = record context { folder = record context.folder { statuses = statuses } }
 
 -- ---- what is stored where
 
@@ -50,424 +50,433 @@ base (Elsewhere n operands) = operands
 quiet_first : (a b c : Code) → Alike a [] → Alike b c → Alike (a ++ b) c
 quiet_first a b c h k = both a b [] c h k
 
-read-named : (around : Around) (s : Storage) → Alike (read around s) (base s)
-read-named around (InVariable v k) = record { same = refl }
-read-named around (InField f k name b) = and_quiet b (op_at name (Get f)) b (alike b) (record { same = refl })
-read-named around (Elsewhere n operands) =
-    and_quiet operands (op around (Outside n)) operands (alike operands) (record { same = refl })
+read-named : (context : Context) (s : Storage) → Alike (read context s) (base s)
+read-named context (InVariable v k) = record { same = refl }
+read-named context (InField f k name b) = and_quiet b (op_at name (Get f)) b (alike b) (record { same = refl })
+read-named context (Elsewhere n operands) =
+    and_quiet operands (op context (Outside n)) operands (alike operands) (record { same = refl })
 
-pub assigned-named : (around : Around) (s : Storage) (given : ValueKind) (e : Code) →
-    Alike (assigned around s given e) (base s ++ e)
-assigned-named around (InVariable v k) given e =
-    and_quiet (e ++ converted around k given) (op around (Set v)) e
-    (and_quiet e (converted around k given) e (alike e) (converted-quiet around k given)) (record { same = refl })
-assigned-named around (InField f k name b) given e =
-    and_quiet (b ++ e ++ converted around k given) (op_at name (Put f)) (b ++ e)
-    (and_quiet (b ++ e) (converted around k given) (b ++ e) (alike (b ++ e)) (converted-quiet around k given))
+pub assigned-named : (context : Context) (s : Storage) (given : ValueKind) (e : Code) →
+    Alike (assigned context s given e) (base s ++ e)
+assigned-named context (InVariable v k) given e =
+    and_quiet (e ++ converted context k given) (op context (Set v)) e
+    (and_quiet e (converted context k given) e (alike e) (converted-quiet context k given)) (record { same = refl })
+assigned-named context (InField f k name b) given e =
+    and_quiet (b ++ e ++ converted context k given) (op_at name (Put f)) (b ++ e)
+    (and_quiet (b ++ e) (converted context k given) (b ++ e) (alike (b ++ e)) (converted-quiet context k given))
     (record { same = refl })
-assigned-named around (Elsewhere n operands) given e =
-    and_quiet (operands ++ e) (op around (Outside (suc n))) (operands ++ e) (alike (operands ++ e))
+assigned-named context (Elsewhere n operands) given e =
+    and_quiet (operands ++ e) (op context (Outside (suc n))) (operands ++ e) (alike (operands ++ e))
     (record { same = refl })
 
-combined-named : (around : Around) (s : Storage) (e : Code) → Alike (combined around s e) (base s ++ e)
-combined-named around (InVariable v k) e =
-    and_quiet (op around (Push v) ++ e ++ op around (Prim 2) ++ converted around k (Of Plain)) (op around (Set v)) e
-    (and_quiet (op around (Push v) ++ e ++ op around (Prim 2)) (converted around k (Of Plain)) e
-    (and_quiet (op around (Push v) ++ e) (op around (Prim 2)) e
-    (quiet_first (op around (Push v)) e e (record { same = refl }) (alike e))
-    (record { same = refl })) (converted-quiet around k (Of Plain))) (record { same = refl })
-combined-named around (InField f k name b) e =
-    and_quiet (b ++ op around Dup ++ op_at name (Get f) ++ e ++ op around (Prim 2) ++ converted around k (Of Plain))
+combined-named : (context : Context) (s : Storage) (e : Code) → Alike (combined context s e) (base s ++ e)
+combined-named context (InVariable v k) e =
+    and_quiet (op context (Push v) ++ e ++ op context (Prim 2) ++ converted context k (Of Plain)) (op context (Set v)) e
+    (and_quiet (op context (Push v) ++ e ++ op context (Prim 2)) (converted context k (Of Plain)) e
+    (and_quiet (op context (Push v) ++ e) (op context (Prim 2)) e
+    (quiet_first (op context (Push v)) e e (record { same = refl }) (alike e))
+    (record { same = refl })) (converted-quiet context k (Of Plain))) (record { same = refl })
+combined-named context (InField f k name b) e =
+    and_quiet (b ++ op context Dup ++ op_at name (Get f) ++ e ++ op context (Prim 2) ++ converted context k (Of Plain))
     (op_at name (Put f)) (b ++ e)
-    (and_quiet (b ++ op around Dup ++ op_at name (Get f) ++ e ++ op around (Prim 2)) (converted around k (Of Plain))
+    (and_quiet (b ++ op context Dup ++ op_at name (Get f) ++ e ++ op context (Prim 2)) (converted context k (Of Plain))
     (b ++ e)
-    (and_quiet (b ++ op around Dup ++ op_at name (Get f) ++ e) (op around (Prim 2)) (b ++ e)
-    (both (b ++ op around Dup ++ op_at name (Get f)) e b e
-    (and_quiet (b ++ op around Dup) (op_at name (Get f)) b
-    (and_quiet b (op around Dup) b (alike b) (record { same = refl })) (record { same = refl })) (alike e))
-    (record { same = refl })) (converted-quiet around k (Of Plain))) (record { same = refl })
-combined-named around (Elsewhere n operands) e =
-    and_quiet (operands ++ e) (op around (Outside (suc n))) (operands ++ e) (alike (operands ++ e))
+    (and_quiet (b ++ op context Dup ++ op_at name (Get f) ++ e) (op context (Prim 2)) (b ++ e)
+    (both (b ++ op context Dup ++ op_at name (Get f)) e b e
+    (and_quiet (b ++ op context Dup) (op_at name (Get f)) b
+    (and_quiet b (op context Dup) b (alike b) (record { same = refl })) (record { same = refl })) (alike e))
+    (record { same = refl })) (converted-quiet context k (Of Plain))) (record { same = refl })
+combined-named context (Elsewhere n operands) e =
+    and_quiet (operands ++ e) (op context (Outside (suc n))) (operands ++ e) (alike (operands ++ e))
     (record { same = refl })
 
-counted-named : (around : Around) (s : Storage) → Alike (counted around s) (base s)
-counted-named around (InVariable v k) =
-    and_quiet (op around (Push v) ++ op around (Prim 1) ++ converted around k (Of Plain)) (op around (Set v)) []
-    (and_quiet (op around (Push v) ++ op around (Prim 1)) (converted around k (Of Plain)) [] (record { same = refl })
-    (converted-quiet around k (Of Plain))) (record { same = refl })
-counted-named around (InField f k name b) =
-    and_quiet (b ++ op around Dup ++ op_at name (Get f) ++ op around (Prim 1) ++ converted around k (Of Plain))
+counted-named : (context : Context) (s : Storage) → Alike (counted context s) (base s)
+counted-named context (InVariable v k) =
+    and_quiet (op context (Push v) ++ op context (Prim 1) ++ converted context k (Of Plain)) (op context (Set v)) []
+    (and_quiet (op context (Push v) ++ op context (Prim 1)) (converted context k (Of Plain)) [] (record { same = refl })
+    (converted-quiet context k (Of Plain))) (record { same = refl })
+counted-named context (InField f k name b) =
+    and_quiet (b ++ op context Dup ++ op_at name (Get f) ++ op context (Prim 1) ++ converted context k (Of Plain))
     (op_at name (Put f)) b
-    (and_quiet (b ++ op around Dup ++ op_at name (Get f) ++ op around (Prim 1)) (converted around k (Of Plain)) b
-    (and_quiet (b ++ op around Dup ++ op_at name (Get f)) (op around (Prim 1)) b
-    (and_quiet (b ++ op around Dup) (op_at name (Get f)) b
-    (and_quiet b (op around Dup) b (alike b) (record { same = refl })) (record { same = refl }))
-    (record { same = refl })) (converted-quiet around k (Of Plain))) (record { same = refl })
-counted-named around (Elsewhere n operands) =
-    and_quiet operands (op around (Outside n)) operands (alike operands) (record { same = refl })
+    (and_quiet (b ++ op context Dup ++ op_at name (Get f) ++ op context (Prim 1)) (converted context k (Of Plain)) b
+    (and_quiet (b ++ op context Dup ++ op_at name (Get f)) (op context (Prim 1)) b
+    (and_quiet (b ++ op context Dup) (op_at name (Get f)) b
+    (and_quiet b (op context Dup) b (alike b) (record { same = refl })) (record { same = refl }))
+    (record { same = refl })) (converted-quiet context k (Of Plain))) (record { same = refl })
+counted-named context (Elsewhere n operands) =
+    and_quiet operands (op context (Outside n)) operands (alike operands) (record { same = refl })
 
 -- ---- what does not see statuses
 
 module _ (statuses : List (Option Reason)) where
-  abbrev other : Around → Around
-  other around = with_statuses statuses around
+  abbrev other : Context → Context
+  other context = with_statuses statuses context
 
-  named-same : (around : Around) (x : Ident) (m : Meaning) → named_in (other around) x m ≡ named_in around x m
-  named-same around x (means.Variable v k) = refl
-  named-same around x (means.Field f) = refl
-  named-same around x (means.Class c) = refl
-  named-same around x means.Opaque = refl
+  named-same : (context : Context) (x : Ident) (m : Meaning) → of_meaning (other context) x m ≡ of_meaning context x m
+  named-same context x (means.Variable v k) = refl
+  named-same context x (means.Field f) = refl
+  named-same context x (means.Class c) = refl
+  named-same context x means.Opaque = refl
 
-  of_class-same : (around : Around) (c : ClassId) (x : Ident) (f : Option FieldId) →
-      of_class (other around) c x f ≡ of_class around c x f
-  of_class-same around c x None = refl
-  of_class-same around c x (Some f) = refl
+  of_class-same : (context : Context) (c : ClassId) (x : Ident) (f : Option FieldId) →
+      of_class (other context) c x f ≡ of_class context c x f
+  of_class-same context c x None = refl
+  of_class-same context c x (Some f) = refl
 
-  of_object-same : (around : Around) (c : ClassId) (e : Code) (x : Ident) (f : Option FieldId) →
-      of_object (other around) c e x f ≡ of_object around c e x f
-  of_object-same around c e x None = refl
-  of_object-same around c e x (Some f) = refl
+  of_object-same : (context : Context) (c : ClassId) (e : Code) (x : Ident) (f : Option FieldId) →
+      of_object (other context) c e x f ≡ of_object context c e x f
+  of_object-same context c e x None = refl
+  of_object-same context c e x (Some f) = refl
 
-  of_value-same : (around : Around) (k : ValueKind) (e : Code) (x : Ident) →
-      of_value (other around) k e x ≡ of_value around k e x
-  of_value-same around (Of (Declared c)) e x =
-      of_object-same around c e x (field_named around.folder.fields c false x.text)
-  of_value-same around (Of Plain) e x = refl
-  of_value-same around (Of Other) e x = refl
-  of_value-same around Null e x = refl
+  of_value-same : (context : Context) (k : ValueKind) (e : Code) (x : Ident) →
+      of_value (other context) k e x ≡ of_value context k e x
+  of_value-same context (Of (Declared c)) e x =
+      of_object-same context c e x (field_named context.folder.fields c false x.text)
+  of_value-same context (Of Plain) e x = refl
+  of_value-same context (Of Other) e x = refl
+  of_value-same context Null e x = refl
 
-  selected-same : (around : Around) (c : Option ClassId) (k : ValueKind) (e : Code) (x : Ident) →
-      selected (other around) c k e x ≡ selected around c k e x
-  selected-same around (Some c) k e x =
-      of_class-same around c x (field_named around.folder.fields c true x.text)
-  selected-same around None k e x = of_value-same around k e x
+  selected-same : (context : Context) (c : Option ClassId) (k : ValueKind) (e : Code) (x : Ident) →
+      selected (other context) c k e x ≡ selected context c k e x
+  selected-same context (Some c) k e x =
+      of_class-same context c x (field_named context.folder.fields c true x.text)
+  selected-same context None k e x = of_value-same context k e x
 
-  result-same : (around : Around) (callee : Callee) → result_kind (other around) callee ≡ result_kind around callee
-  result-same around Missing = refl
-  result-same around (OfClass m) = refl
-  result-same around (OfObject m) = refl
+  result-same : (context : Context) (callee : Callee) → result_kind (other context) callee ≡ result_kind context callee
+  result-same context Missing = refl
+  result-same context (OfClass m) = refl
+  result-same context (OfObject m) = refl
 
-  callee-same : (around : Around) (c : Option ClassId) (k : ValueKind) (x : Ident) (n : ℕ) →
-      callee_on (other around) c k x n ≡ callee_on around c k x n
-  callee-same around (Some c) k x n = refl
-  callee-same around None (Of (Declared c)) x n = refl
-  callee-same around None (Of Plain) x n = refl
-  callee-same around None (Of Other) x n = refl
-  callee-same around None Null x n = refl
+  callee-same : (context : Context) (c : Option ClassId) (k : ValueKind) (x : Ident) (n : ℕ) →
+      callee_on (other context) c k x n ≡ callee_on context c k x n
+  callee-same context (Some c) k x n = refl
+  callee-same context None (Of (Declared c)) x n = refl
+  callee-same context None (Of Plain) x n = refl
+  callee-same context None (Of Other) x n = refl
+  callee-same context None Null x n = refl
 
-  class_before-same : (around : Around) (e : Expr) → class_before (other around) e ≡ class_before around e
-  class_before-same around (Read (Named x)) = refl
-  class_before-same around _ = refl
+  class_before-same : (context : Context) (e : Expr) → class_before (other context) e ≡ class_before context e
+  class_before-same context (Read (Named x)) = refl
+  class_before-same context _ = refl
 
   mutual
-    pub kind-same : (around : Around) (e : Expr) → kind (other around) e ≡ kind around e
-    kind-same around tree.Prim = refl
-    kind-same around Text = refl
-    kind-same around tree.Null = refl
-    kind-same around This = refl
-    kind-same around (ClassOf xs) = refl
-    kind-same around (Read a) = access_kind-same around a
-    kind-same around (Unary e) = refl
-    kind-same around (Cast t e) = refl
-    kind-same around (Binary a b) = refl
-    kind-same around (Logical a b) = refl
-    kind-same around (Conditional c a b) =
-        ap (λ (k : ValueKind). common_kind k (kind (other around) b)) (kind-same around a)
-        ∙ ap (λ (k : ValueKind). common_kind (kind around a) k) (kind-same around b)
-    kind-same around (Assign a e) = access_kind-same around a
-    kind-same around (Combine a e) = access_kind-same around a
-    kind-same around (Count a) = refl
-    kind-same around (tree.Call x es) = result-same around (own_callee around x (count_exprs es))
-    kind-same around (CallOn e x es) =
-        result-same around
-        (callee_on (other around) (class_before (other around) e) (kind (other around) e) x (count_exprs es))
-        ∙ ap (result_kind around)
-        (callee-same around (class_before (other around) e) (kind (other around) e) x (count_exprs es)
-        ∙ ap (λ (c : Option ClassId). callee_on around c (kind (other around) e) x (count_exprs es))
-        (class_before-same around e)
-        ∙ ap (λ (k : ValueKind). callee_on around (class_before around e) k x (count_exprs es)) (kind-same around e))
-    kind-same around (tree.New place t es) = refl
-    kind-same around (NewArray place lengths) = refl
-    kind-same around (NewItems place items) = refl
-    kind-same around (Paren e) = kind-same around e
+    pub kind-same : (context : Context) (e : Expr) → kind (other context) e ≡ kind context e
+    kind-same context tree.Prim = refl
+    kind-same context Text = refl
+    kind-same context tree.Null = refl
+    kind-same context This = refl
+    kind-same context (ClassOf xs) = refl
+    kind-same context (Read a) = access_kind-same context a
+    kind-same context (Unary e) = refl
+    kind-same context (Cast t e) = refl
+    kind-same context (Binary a b) = refl
+    kind-same context (Logical a b) = refl
+    kind-same context (Conditional c a b) =
+        ap (λ (k : ValueKind). common_kind k (kind (other context) b)) (kind-same context a)
+        ∙ ap (λ (k : ValueKind). common_kind (kind context a) k) (kind-same context b)
+    kind-same context (Assign a e) = access_kind-same context a
+    kind-same context (Combine a e) = access_kind-same context a
+    kind-same context (Count a) = refl
+    kind-same context (tree.Call x es) = result-same context (own_callee context x (count_exprs es))
+    kind-same context (CallOn e x es) =
+        result-same context
+        (callee_on (other context) (class_before (other context) e) (kind (other context) e) x (count_exprs es))
+        ∙ ap (result_kind context)
+        (callee-same context (class_before (other context) e) (kind (other context) e) x (count_exprs es)
+        ∙ ap (λ (c : Option ClassId). callee_on context c (kind (other context) e) x (count_exprs es))
+        (class_before-same context e)
+        ∙ ap (λ (k : ValueKind). callee_on context (class_before context e) k x (count_exprs es)) (kind-same context e))
+    kind-same context (tree.New place t es) = refl
+    kind-same context (NewArray place lengths) = refl
+    kind-same context (NewItems place items) = refl
+    kind-same context (Paren e) = kind-same context e
 
-    pub access_kind-same : (around : Around) (a : Access) → access_kind (other around) a ≡ access_kind around a
-    access_kind-same around (Named x) = ap kind_in (named-same around x (meaning_of around x))
-    access_kind-same around (Selected e x) =
+    pub access_kind-same : (context : Context) (a : Access) → access_kind (other context) a ≡ access_kind context a
+    access_kind-same context (Named x) = ap kind_in (named-same context x (meaning_of context x))
+    access_kind-same context (Selected e x) =
         ap kind_in
-        (selected-same around (class_before (other around) e) (kind (other around) e) [] x
-        ∙ ap (λ (c : Option ClassId). selected around c (kind (other around) e) [] x) (class_before-same around e)
-        ∙ ap (λ (k : ValueKind). selected around (class_before around e) k [] x) (kind-same around e))
-    access_kind-same around (Element a i) = refl
-    access_kind-same around NoAccess = refl
+        (selected-same context (class_before (other context) e) (kind (other context) e) [] x
+        ∙ ap (λ (c : Option ClassId). selected context c (kind (other context) e) [] x) (class_before-same context e)
+        ∙ ap (λ (k : ValueKind). selected context (class_before context e) k [] x) (kind-same context e))
+    access_kind-same context (Element a i) = refl
+    access_kind-same context NoAccess = refl
 
   -- ---- calls
 
-  call-alike : (around : Around) (place : Place) (m : MethodId) (n : ℕ) →
-      Alike (call_at (other around) place m n) (call_at around place m n)
-  call-alike around place m n =
+  call-alike : (context : Context) (place : Place) (m : MethodId) (n : ℕ) →
+      Alike (call_at (other context) place m n) (call_at context place m n)
+  call-alike context place m n =
       record {
         same =
-            call-named place m n (is_analysed (other around) m) ∙ sym (call-named place m n (is_analysed around m));
+            call-named place m n (is_analysed (other context) m) ∙ sym (call-named place m n (is_analysed context m));
       }
 
-  called-alike : (around : Around) (place : Place) (n : ℕ) (f g : Passing) →
+  called-alike : (context : Context) (place : Place) (n : ℕ) (f g : Passing) →
       ((ks ls : List Kind) → Alike (f ks) (g ls)) → (callee : Callee) →
-      Alike (called (other around) place n f callee) (called around place n g callee)
-  called-alike around place n f g h Missing =
-      both (f []) (op around (Outside n)) (g []) (op around (Outside n)) (h [] []) (alike (op around (Outside n)))
-  called-alike around place n f g h (OfClass m) =
-      both (f (parameter_kinds (other around) m)) (call_at (other around) place m n) (g (parameter_kinds around m))
-      (call_at around place m n) (h (parameter_kinds (other around) m) (parameter_kinds around m))
-      (call-alike around place m n)
-  called-alike around place n f g h (OfObject m) =
-      both (push_this around ++ f (parameter_kinds (other around) m)) (call_at (other around) place m (suc n))
-      (push_this around ++ g (parameter_kinds around m)) (call_at around place m (suc n))
-      (both (push_this around) (f (parameter_kinds (other around) m)) (push_this around) (g (parameter_kinds around m))
-      (alike (push_this around)) (h (parameter_kinds (other around) m) (parameter_kinds around m)))
-      (call-alike around place m (suc n))
+      Alike (called (other context) place n f callee) (called context place n g callee)
+  called-alike context place n f g h Missing =
+      both (f []) (op context (Outside n)) (g []) (op context (Outside n)) (h [] []) (alike (op context (Outside n)))
+  called-alike context place n f g h (OfClass m) =
+      both (f (parameter_kinds (other context) m)) (call_at (other context) place m n) (g (parameter_kinds context m))
+      (call_at context place m n) (h (parameter_kinds (other context) m) (parameter_kinds context m))
+      (call-alike context place m n)
+  called-alike context place n f g h (OfObject m) =
+      both (push_this context ++ f (parameter_kinds (other context) m)) (call_at (other context) place m (suc n))
+      (push_this context ++ g (parameter_kinds context m)) (call_at context place m (suc n))
+      (both (push_this context) (f (parameter_kinds (other context) m)) (push_this context)
+      (g (parameter_kinds context m))
+      (alike (push_this context)) (h (parameter_kinds (other context) m) (parameter_kinds context m)))
+      (call-alike context place m (suc n))
 
-  on_value-alike : (around : Around) (place : Place) (e d : Code) (n : ℕ) (f g : Passing) → Alike e d →
+  on_value-alike : (context : Context) (place : Place) (e d : Code) (n : ℕ) (f g : Passing) → Alike e d →
       ((ks ls : List Kind) → Alike (f ks) (g ls)) → (callee : Callee) →
-      Alike (called_on_value (other around) place e n f callee) (called_on_value around place d n g callee)
-  on_value-alike around place e d n f g k h Missing =
-      both (e ++ f []) (op around (Outside (suc n))) (d ++ g []) (op around (Outside (suc n)))
-      (both e (f []) d (g []) k (h [] [])) (alike (op around (Outside (suc n))))
-  on_value-alike around place e d n f g k h (OfClass m) =
-      both (e ++ op around Drop ++ f (parameter_kinds (other around) m)) (call_at (other around) place m n)
-      (d ++ op around Drop ++ g (parameter_kinds around m)) (call_at around place m n)
-      (both (e ++ op around Drop) (f (parameter_kinds (other around) m)) (d ++ op around Drop)
-      (g (parameter_kinds around m)) (both e (op around Drop) d (op around Drop) k (alike (op around Drop)))
-      (h (parameter_kinds (other around) m) (parameter_kinds around m))) (call-alike around place m n)
-  on_value-alike around place e d n f g k h (OfObject m) =
-      both (e ++ f (parameter_kinds (other around) m)) (call_at (other around) place m (suc n))
-      (d ++ g (parameter_kinds around m)) (call_at around place m (suc n))
-      (both e (f (parameter_kinds (other around) m)) d (g (parameter_kinds around m)) k
-      (h (parameter_kinds (other around) m) (parameter_kinds around m))) (call-alike around place m (suc n))
+      Alike (called_on_value (other context) place e n f callee) (called_on_value context place d n g callee)
+  on_value-alike context place e d n f g k h Missing =
+      both (e ++ f []) (op context (Outside (suc n))) (d ++ g []) (op context (Outside (suc n)))
+      (both e (f []) d (g []) k (h [] [])) (alike (op context (Outside (suc n))))
+  on_value-alike context place e d n f g k h (OfClass m) =
+      both (e ++ op context Drop ++ f (parameter_kinds (other context) m)) (call_at (other context) place m n)
+      (d ++ op context Drop ++ g (parameter_kinds context m)) (call_at context place m n)
+      (both (e ++ op context Drop) (f (parameter_kinds (other context) m)) (d ++ op context Drop)
+      (g (parameter_kinds context m)) (both e (op context Drop) d (op context Drop) k (alike (op context Drop)))
+      (h (parameter_kinds (other context) m) (parameter_kinds context m))) (call-alike context place m n)
+  on_value-alike context place e d n f g k h (OfObject m) =
+      both (e ++ f (parameter_kinds (other context) m)) (call_at (other context) place m (suc n))
+      (d ++ g (parameter_kinds context m)) (call_at context place m (suc n))
+      (both e (f (parameter_kinds (other context) m)) d (g (parameter_kinds context m)) k
+      (h (parameter_kinds (other context) m) (parameter_kinds context m))) (call-alike context place m (suc n))
 
-  on-alike : (around : Around) (place : Place) (c : Option ClassId) (e d : Code) (n : ℕ) (f g : Passing) → Alike e d →
+  on-alike : (context : Context) (place : Place) (c : Option ClassId) (e d : Code) (n : ℕ) (f g : Passing) → Alike e d →
       ((ks ls : List Kind) → Alike (f ks) (g ls)) → (callee : Callee) →
-      Alike (called_on (other around) place c e n f callee) (called_on around place c d n g callee)
-  on-alike around place (Some c) e d n f g k h callee = called-alike around place n f g h callee
-  on-alike around place None e d n f g k h callee = on_value-alike around place e d n f g k h callee
+      Alike (called_on (other context) place c e n f callee) (called_on context place c d n g callee)
+  on-alike context place (Some c) e d n f g k h callee = called-alike context place n f g h callee
+  on-alike context place None e d n f g k h callee = on_value-alike context place e d n f g k h callee
 
-  made_by-alike : (around : Around) (place : Place) (c : ClassId) (n : ℕ) (f g : Passing) →
+  made_by-alike : (context : Context) (place : Place) (c : ClassId) (n : ℕ) (f g : Passing) →
       ((ks ls : List Kind) → Alike (f ks) (g ls)) → (m : Option MethodId) →
-      Alike (made_by (other around) place c n f m) (made_by around place c n g m)
-  made_by-alike around place c n f g h None =
+      Alike (made_by (other context) place c n f m) (made_by context place c n g m)
+  made_by-alike context place c n f g h None =
       both (f []) (op_at place (Outside n)) (g []) (op_at place (Outside n)) (h [] []) (alike (op_at place (Outside n)))
-  made_by-alike around place c n f g h (Some m) =
-      both (op_at place (New c) ++ f (parameter_kinds (other around) m)) (call_at (other around) place m (suc n))
-      (op_at place (New c) ++ g (parameter_kinds around m)) (call_at around place m (suc n))
-      (both (op_at place (New c)) (f (parameter_kinds (other around) m)) (op_at place (New c))
-      (g (parameter_kinds around m)) (alike (op_at place (New c)))
-      (h (parameter_kinds (other around) m) (parameter_kinds around m))) (call-alike around place m (suc n))
+  made_by-alike context place c n f g h (Some m) =
+      both (op_at place (New c) ++ f (parameter_kinds (other context) m)) (call_at (other context) place m (suc n))
+      (op_at place (New c) ++ g (parameter_kinds context m)) (call_at context place m (suc n))
+      (both (op_at place (New c)) (f (parameter_kinds (other context) m)) (op_at place (New c))
+      (g (parameter_kinds context m)) (alike (op_at place (New c)))
+      (h (parameter_kinds (other context) m) (parameter_kinds context m))) (call-alike context place m (suc n))
 
-  made-alike : (around : Around) (place : Place) (k : Kind) (n : ℕ) (f g : Passing) →
-      ((ks ls : List Kind) → Alike (f ks) (g ls)) → Alike (made (other around) place k n f) (made around place k n g)
-  made-alike around place (Declared c) n f g h = made_by-alike around place c n f g h (constructor_in around c n)
-  made-alike around place Plain n f g h =
+  made-alike : (context : Context) (place : Place) (k : Kind) (n : ℕ) (f g : Passing) →
+      ((ks ls : List Kind) → Alike (f ks) (g ls)) → Alike (made (other context) place k n f) (made context place k n g)
+  made-alike context place (Declared c) n f g h = made_by-alike context place c n f g h (constructor_in context c n)
+  made-alike context place Plain n f g h =
       both (f []) (op_at place (Outside n)) (g []) (op_at place (Outside n)) (h [] []) (alike (op_at place (Outside n)))
-  made-alike around place Other n f g h =
+  made-alike context place Other n f g h =
       both (f []) (op_at place (Outside n)) (g []) (op_at place (Outside n)) (h [] []) (alike (op_at place (Outside n)))
 
   -- ---- fields of values
 
-  of_value-alike : (around : Around) (k : ValueKind) (e d : Code) (x : Ident) → Alike e d →
-      Alike (base (of_value around k e x)) (base (of_value around k d x))
-  of_value-alike around (Of (Declared c)) e d x h =
-      of_field (field_named around.folder.fields c false x.text)
+  of_value-alike : (context : Context) (k : ValueKind) (e d : Code) (x : Ident) → Alike e d →
+      Alike (base (of_value context k e x)) (base (of_value context k d x))
+  of_value-alike context (Of (Declared c)) e d x h =
+      of_field (field_named context.folder.fields c false x.text)
     where
-      static_or : (b : Bool) → Alike (cond b (e ++ op around Drop ++ op around (PushClass c)) e)
-          (cond b (d ++ op around Drop ++ op around (PushClass c)) d)
+      static_or : (b : Bool) → Alike (cond b (e ++ op context Drop ++ op context (PushClass c)) e)
+          (cond b (d ++ op context Drop ++ op context (PushClass c)) d)
       static_or true =
-          both (e ++ op around Drop) (op around (PushClass c)) (d ++ op around Drop) (op around (PushClass c))
-          (both e (op around Drop) d (op around Drop) h (alike (op around Drop))) (alike (op around (PushClass c)))
+          both (e ++ op context Drop) (op context (PushClass c)) (d ++ op context Drop) (op context (PushClass c))
+          (both e (op context Drop) d (op context Drop) h (alike (op context Drop))) (alike (op context (PushClass c)))
       static_or false = h
 
       at : (f : FieldId) (o : Option FieldInfo) →
-          Alike (base (in_field (e ++ op around Drop ++ op around (PushClass c)) e x f o))
-          (base (in_field (d ++ op around Drop ++ op around (PushClass c)) d x f o))
+          Alike (base (in_field (e ++ op context Drop ++ op context (PushClass c)) e x f o))
+          (base (in_field (d ++ op context Drop ++ op context (PushClass c)) d x f o))
       at f None = alike []
       at f (Some field) = static_or field.is_static
 
-      of_field : (f : Option FieldId) → Alike (base (of_object around c e x f)) (base (of_object around c d x f))
+      of_field : (f : Option FieldId) → Alike (base (of_object context c e x f)) (base (of_object context c d x f))
       of_field None = h
-      of_field (Some f) = at f (field_at around f)
-  of_value-alike around (Of Plain) e d x h = h
-  of_value-alike around (Of Other) e d x h = h
-  of_value-alike around Null e d x h = h
+      of_field (Some f) = at f (field_at context f)
+  of_value-alike context (Of Plain) e d x h = h
+  of_value-alike context (Of Other) e d x h = h
+  of_value-alike context Null e d x h = h
 
-  selected-alike : (around : Around) (c : Option ClassId) (k : ValueKind) (e d : Code) (x : Ident) → Alike e d →
-      Alike (base (selected around c k e x)) (base (selected around c k d x))
-  selected-alike around (Some c) k e d x h =
-      alike (base (of_class around c x (field_named around.folder.fields c true x.text)))
-  selected-alike around None k e d x h = of_value-alike around k e d x h
+  selected-alike : (context : Context) (c : Option ClassId) (k : ValueKind) (e d : Code) (x : Ident) → Alike e d →
+      Alike (base (selected context c k e x)) (base (selected context c k d x))
+  selected-alike context (Some c) k e d x h =
+      alike (base (of_class context c x (field_named context.folder.fields c true x.text)))
+  selected-alike context None k e d x h = of_value-alike context k e d x h
 
   equal-alike : (s t : Storage) → s ≡ t → Alike (base s) (base t)
-  equal-alike s t e = record { same = ap (λ (r : Storage). calls.named (base r)) e }
+  equal-alike s t e = record { same = ap (λ (r : Storage). calls.methods_named (base r)) e }
 
   -- ---- arguments
 
-  first_passed : (around : Around) (ks : List Kind) (e : Expr) (es : Exprs) →
-      Alike (passed around ks (expr_then e es)) (code around e ++ passed around (drop 1 ks) es)
-  first_passed around [] e es = alike (code around e ++ passed around [] es)
-  first_passed around (k ∷ ks) e es =
-      both (code around e ++ converted around k (kind around e)) (passed around ks es) (code around e)
-      (passed around ks es)
-      (and_quiet (code around e) (converted around k (kind around e)) (code around e) (alike (code around e))
-      (converted-quiet around k (kind around e))) (alike (passed around ks es))
+  first_passed : (context : Context) (ks : List Kind) (e : Expr) (es : Exprs) →
+      Alike (passed context ks (expr_then e es)) (code context e ++ passed context (drop 1 ks) es)
+  first_passed context [] e es = alike (code context e ++ passed context [] es)
+  first_passed context (k ∷ ks) e es =
+      both (code context e ++ converted context k (kind context e)) (passed context ks es) (code context e)
+      (passed context ks es)
+      (and_quiet (code context e) (converted context k (kind context e)) (code context e) (alike (code context e))
+      (converted-quiet context k (kind context e))) (alike (passed context ks es))
 
   mutual
-    pub code-alike : (around : Around) (e : Expr) → Alike (code (other around) e) (code around e)
-    code-alike around tree.Prim = alike (code around tree.Prim)
-    code-alike around Text = alike (code around Text)
-    code-alike around tree.Null = alike (code around tree.Null)
-    code-alike around This = alike (code around This)
-    code-alike around (ClassOf xs) = alike (code around (ClassOf xs))
-    code-alike around (Read a) =
-        through (read (other around) (storage (other around) a)) (base (storage (other around) a))
-        (read around (storage around a)) (read-named (other around) (storage (other around) a))
-        (through (base (storage (other around) a)) (base (storage around a)) (read around (storage around a))
-        (storage-alike around a)
-        (turned (read around (storage around a)) (base (storage around a)) (read-named around (storage around a))))
-    code-alike around (Unary e) =
-        both (code (other around) e) (op around (Prim 1)) (code around e) (op around (Prim 1)) (code-alike around e)
-        (alike (op around (Prim 1)))
-    code-alike around (Cast t e) =
-        both (code (other around) e) (cast (other around) (type_kind around t)) (code around e)
-        (cast around (type_kind around t)) (code-alike around e) (cast-alike (type_kind around t))
+    pub code-alike : (context : Context) (e : Expr) → Alike (code (other context) e) (code context e)
+    code-alike context tree.Prim = alike (code context tree.Prim)
+    code-alike context Text = alike (code context Text)
+    code-alike context tree.Null = alike (code context tree.Null)
+    code-alike context This = alike (code context This)
+    code-alike context (ClassOf xs) = alike (code context (ClassOf xs))
+    code-alike context (Read a) =
+        through (read (other context) (storage (other context) a)) (base (storage (other context) a))
+        (read context (storage context a)) (read-named (other context) (storage (other context) a))
+        (through (base (storage (other context) a)) (base (storage context a)) (read context (storage context a))
+        (storage-alike context a)
+        (turned (read context (storage context a)) (base (storage context a)) (read-named context (storage context a))))
+    code-alike context (Unary e) =
+        both (code (other context) e) (op context (Prim 1)) (code context e) (op context (Prim 1))
+        (code-alike context e)
+        (alike (op context (Prim 1)))
+    code-alike context (Cast t e) =
+        both (code (other context) e) (cast (other context) (type_kind context t)) (code context e)
+        (cast context (type_kind context t)) (code-alike context e) (cast-alike (type_kind context t))
       where
-        cast-alike : (k : Kind) → Alike (cast (other around) k) (cast around k)
-        cast-alike Plain = alike (op around (Prim 1))
-        cast-alike (Declared c) = alike (op around (Outside 1))
-        cast-alike Other = alike (op around (Outside 1))
-    code-alike around (Binary a b) =
-        both (code (other around) a ++ code (other around) b) (op around (Prim 2)) (code around a ++ code around b)
-        (op around (Prim 2))
-        (both (code (other around) a) (code (other around) b) (code around a) (code around b) (code-alike around a)
-        (code-alike around b)) (alike (op around (Prim 2)))
-    code-alike around (Logical a b) =
-        both (code (other around) a ++ op around (Prim 1)) (choice (code (other around) b ++ op around (Prim 2)) [])
-        (code around a ++ op around (Prim 1)) (choice (code around b ++ op around (Prim 2)) [])
-        (both (code (other around) a) (op around (Prim 1)) (code around a) (op around (Prim 1)) (code-alike around a)
-        (alike (op around (Prim 1))))
-        (choices (code (other around) b ++ op around (Prim 2)) [] (code around b ++ op around (Prim 2)) []
-        (both (code (other around) b) (op around (Prim 2)) (code around b) (op around (Prim 2)) (code-alike around b)
-        (alike (op around (Prim 2)))) (alike []))
-    code-alike around (Conditional c a b) =
-        both (code (other around) c ++ op around Drop) (choice (code (other around) a) (code (other around) b))
-        (code around c ++ op around Drop) (choice (code around a) (code around b))
-        (both (code (other around) c) (op around Drop) (code around c) (op around Drop) (code-alike around c)
-        (alike (op around Drop)))
-        (choices (code (other around) a) (code (other around) b) (code around a) (code around b) (code-alike around a)
-        (code-alike around b))
-    code-alike around (Assign a e) =
-        through (assigned (other around) (storage (other around) a) (kind (other around) e) (code (other around) e))
-        (base (storage (other around) a) ++ code (other around) e)
-        (assigned around (storage around a) (kind around e) (code around e))
-        (assigned-named (other around) (storage (other around) a) (kind (other around) e) (code (other around) e))
-        (through (base (storage (other around) a) ++ code (other around) e) (base (storage around a) ++ code around e)
-        (assigned around (storage around a) (kind around e) (code around e))
-        (both (base (storage (other around) a)) (code (other around) e) (base (storage around a)) (code around e)
-        (storage-alike around a) (code-alike around e))
-        (turned (assigned around (storage around a) (kind around e) (code around e))
-        (base (storage around a) ++ code around e)
-        (assigned-named around (storage around a) (kind around e) (code around e))))
-    code-alike around (Combine a e) =
-        through (combined (other around) (storage (other around) a) (code (other around) e))
-        (base (storage (other around) a) ++ code (other around) e)
-        (combined around (storage around a) (code around e))
-        (combined-named (other around) (storage (other around) a) (code (other around) e))
-        (through (base (storage (other around) a) ++ code (other around) e) (base (storage around a) ++ code around e)
-        (combined around (storage around a) (code around e))
-        (both (base (storage (other around) a)) (code (other around) e) (base (storage around a)) (code around e)
-        (storage-alike around a) (code-alike around e))
-        (turned (combined around (storage around a) (code around e)) (base (storage around a) ++ code around e)
-        (combined-named around (storage around a) (code around e))))
-    code-alike around (Count a) =
-        through (counted (other around) (storage (other around) a)) (base (storage (other around) a))
-        (counted around (storage around a)) (counted-named (other around) (storage (other around) a))
-        (through (base (storage (other around) a)) (base (storage around a)) (counted around (storage around a))
-        (storage-alike around a)
-        (turned (counted around (storage around a)) (base (storage around a))
-        (counted-named around (storage around a))))
-    code-alike around (tree.Call x es) =
-        called-alike around x.place (count_exprs es) (λ ks. passed (other around) ks es) (λ ks. passed around ks es)
-        (λ ks ls. passed-alike around es ks ls) (own_callee around x (count_exprs es))
-    code-alike around (CallOn e x es) =
+        cast-alike : (k : Kind) → Alike (cast (other context) k) (cast context k)
+        cast-alike Plain = alike (op context (Prim 1))
+        cast-alike (Declared c) = alike (op context (Outside 1))
+        cast-alike Other = alike (op context (Outside 1))
+    code-alike context (Binary a b) =
+        both (code (other context) a ++ code (other context) b) (op context (Prim 2)) (code context a ++ code context b)
+        (op context (Prim 2))
+        (both (code (other context) a) (code (other context) b) (code context a) (code context b) (code-alike context a)
+        (code-alike context b)) (alike (op context (Prim 2)))
+    code-alike context (Logical a b) =
+        both (code (other context) a ++ op context (Prim 1)) (choice (code (other context) b ++ op context (Prim 2)) [])
+        (code context a ++ op context (Prim 1)) (choice (code context b ++ op context (Prim 2)) [])
+        (both (code (other context) a) (op context (Prim 1)) (code context a) (op context (Prim 1))
+        (code-alike context a)
+        (alike (op context (Prim 1))))
+        (choices (code (other context) b ++ op context (Prim 2)) [] (code context b ++ op context (Prim 2)) []
+        (both (code (other context) b) (op context (Prim 2)) (code context b) (op context (Prim 2))
+        (code-alike context b)
+        (alike (op context (Prim 2)))) (alike []))
+    code-alike context (Conditional c a b) =
+        both (code (other context) c ++ op context Drop) (choice (code (other context) a) (code (other context) b))
+        (code context c ++ op context Drop) (choice (code context a) (code context b))
+        (both (code (other context) c) (op context Drop) (code context c) (op context Drop) (code-alike context c)
+        (alike (op context Drop)))
+        (choices (code (other context) a) (code (other context) b) (code context a) (code context b)
+        (code-alike context a)
+        (code-alike context b))
+    code-alike context (Assign a e) =
+        through (assigned (other context) (storage (other context) a) (kind (other context) e) (code (other context) e))
+        (base (storage (other context) a) ++ code (other context) e)
+        (assigned context (storage context a) (kind context e) (code context e))
+        (assigned-named (other context) (storage (other context) a) (kind (other context) e) (code (other context) e))
+        (through (base (storage (other context) a) ++ code (other context) e)
+        (base (storage context a) ++ code context e)
+        (assigned context (storage context a) (kind context e) (code context e))
+        (both (base (storage (other context) a)) (code (other context) e) (base (storage context a)) (code context e)
+        (storage-alike context a) (code-alike context e))
+        (turned (assigned context (storage context a) (kind context e) (code context e))
+        (base (storage context a) ++ code context e)
+        (assigned-named context (storage context a) (kind context e) (code context e))))
+    code-alike context (Combine a e) =
+        through (combined (other context) (storage (other context) a) (code (other context) e))
+        (base (storage (other context) a) ++ code (other context) e)
+        (combined context (storage context a) (code context e))
+        (combined-named (other context) (storage (other context) a) (code (other context) e))
+        (through (base (storage (other context) a) ++ code (other context) e)
+        (base (storage context a) ++ code context e)
+        (combined context (storage context a) (code context e))
+        (both (base (storage (other context) a)) (code (other context) e) (base (storage context a)) (code context e)
+        (storage-alike context a) (code-alike context e))
+        (turned (combined context (storage context a) (code context e)) (base (storage context a) ++ code context e)
+        (combined-named context (storage context a) (code context e))))
+    code-alike context (Count a) =
+        through (counted (other context) (storage (other context) a)) (base (storage (other context) a))
+        (counted context (storage context a)) (counted-named (other context) (storage (other context) a))
+        (through (base (storage (other context) a)) (base (storage context a)) (counted context (storage context a))
+        (storage-alike context a)
+        (turned (counted context (storage context a)) (base (storage context a))
+        (counted-named context (storage context a))))
+    code-alike context (tree.Call x es) =
+        called-alike context x.place (count_exprs es) (λ ks. passed (other context) ks es) (λ ks. passed context ks es)
+        (λ ks ls. passed-alike context es ks ls) (own_callee context x (count_exprs es))
+    code-alike context (CallOn e x es) =
         subst (λ (c : Option ClassId).
-        Alike (called_on (other around) x.place c (code (other around) e) (count_exprs es)
-        (λ ks. passed (other around) ks es)
-        (callee_on (other around) c (kind (other around) e) x (count_exprs es))) (code around (CallOn e x es)))
-        (sym (class_before-same around e))
+        Alike (called_on (other context) x.place c (code (other context) e) (count_exprs es)
+        (λ ks. passed (other context) ks es)
+        (callee_on (other context) c (kind (other context) e) x (count_exprs es))) (code context (CallOn e x es)))
+        (sym (class_before-same context e))
         (subst (λ (callee : Callee).
-        Alike (called_on (other around) x.place (class_before around e) (code (other around) e) (count_exprs es)
-        (λ ks. passed (other around) ks es) callee) (code around (CallOn e x es)))
-        (sym (callee-same around (class_before around e) (kind (other around) e) x (count_exprs es)
-        ∙ ap (λ (k : ValueKind). callee_on around (class_before around e) k x (count_exprs es)) (kind-same around e)))
-        (on-alike around x.place (class_before around e) (code (other around) e) (code around e) (count_exprs es)
-        (λ ks. passed (other around) ks es) (λ ks. passed around ks es) (code-alike around e)
-        (λ ks ls. passed-alike around es ks ls)
-        (callee_on around (class_before around e) (kind around e) x (count_exprs es))))
-    code-alike around (tree.New place t es) =
-        made-alike around place (type_kind around t) (count_exprs es) (λ ks. passed (other around) ks es)
-        (λ ks. passed around ks es) (λ ks ls. passed-alike around es ks ls)
-    code-alike around (NewArray place lengths) =
-        both (passed (other around) [] lengths) (op_at place (Outside (count_exprs lengths))) (passed around [] lengths)
-        (op_at place (Outside (count_exprs lengths))) (passed-alike around lengths [] [])
+        Alike (called_on (other context) x.place (class_before context e) (code (other context) e) (count_exprs es)
+        (λ ks. passed (other context) ks es) callee) (code context (CallOn e x es)))
+        (sym (callee-same context (class_before context e) (kind (other context) e) x (count_exprs es)
+        ∙ ap (λ (k : ValueKind). callee_on context (class_before context e) k x (count_exprs es))
+        (kind-same context e)))
+        (on-alike context x.place (class_before context e) (code (other context) e) (code context e) (count_exprs es)
+        (λ ks. passed (other context) ks es) (λ ks. passed context ks es) (code-alike context e)
+        (λ ks ls. passed-alike context es ks ls)
+        (callee_on context (class_before context e) (kind context e) x (count_exprs es))))
+    code-alike context (tree.New place t es) =
+        made-alike context place (type_kind context t) (count_exprs es) (λ ks. passed (other context) ks es)
+        (λ ks. passed context ks es) (λ ks ls. passed-alike context es ks ls)
+    code-alike context (NewArray place lengths) =
+        both (passed (other context) [] lengths) (op_at place (Outside (count_exprs lengths)))
+        (passed context [] lengths)
+        (op_at place (Outside (count_exprs lengths))) (passed-alike context lengths [] [])
         (alike (op_at place (Outside (count_exprs lengths))))
-    code-alike around (NewItems place items) =
-        both (items_code (other around) items) (op_at place (Outside (count_inits items))) (items_code around items)
-        (op_at place (Outside (count_inits items))) (items-alike around items)
+    code-alike context (NewItems place items) =
+        both (items_code (other context) items) (op_at place (Outside (count_inits items))) (items_code context items)
+        (op_at place (Outside (count_inits items))) (items-alike context items)
         (alike (op_at place (Outside (count_inits items))))
-    code-alike around (Paren e) = code-alike around e
+    code-alike context (Paren e) = code-alike context e
 
-    pub storage-alike : (around : Around) (a : Access) →
-        Alike (base (storage (other around) a)) (base (storage around a))
-    storage-alike around (Named x) =
-        equal-alike (named (other around) x) (named around x) (named-same around x (meaning_of around x))
-    storage-alike around (Selected e x) =
-        through (base (storage (other around) (Selected e x)))
-        (base (selected around (class_before around e) (kind around e) (code (other around) e) x))
-        (base (storage around (Selected e x)))
-        (equal-alike (storage (other around) (Selected e x))
-        (selected around (class_before around e) (kind around e) (code (other around) e) x)
-        (selected-same around (class_before (other around) e) (kind (other around) e) (code (other around) e) x
-        ∙ ap (λ (c : Option ClassId). selected around c (kind (other around) e) (code (other around) e) x)
-        (class_before-same around e)
-        ∙ ap (λ (k : ValueKind). selected around (class_before around e) k (code (other around) e) x)
-        (kind-same around e)))
-        (selected-alike around (class_before around e) (kind around e) (code (other around) e) (code around e) x
-        (code-alike around e))
-    storage-alike around (Element a i) =
-        both (code (other around) a) (code (other around) i) (code around a) (code around i) (code-alike around a)
-        (code-alike around i)
-    storage-alike around NoAccess = alike []
+    pub storage-alike : (context : Context) (a : Access) →
+        Alike (base (storage (other context) a)) (base (storage context a))
+    storage-alike context (Named x) =
+        equal-alike (of_name (other context) x) (of_name context x) (named-same context x (meaning_of context x))
+    storage-alike context (Selected e x) =
+        through (base (storage (other context) (Selected e x)))
+        (base (selected context (class_before context e) (kind context e) (code (other context) e) x))
+        (base (storage context (Selected e x)))
+        (equal-alike (storage (other context) (Selected e x))
+        (selected context (class_before context e) (kind context e) (code (other context) e) x)
+        (selected-same context (class_before (other context) e) (kind (other context) e) (code (other context) e) x
+        ∙ ap (λ (c : Option ClassId). selected context c (kind (other context) e) (code (other context) e) x)
+        (class_before-same context e)
+        ∙ ap (λ (k : ValueKind). selected context (class_before context e) k (code (other context) e) x)
+        (kind-same context e)))
+        (selected-alike context (class_before context e) (kind context e) (code (other context) e) (code context e) x
+        (code-alike context e))
+    storage-alike context (Element a i) =
+        both (code (other context) a) (code (other context) i) (code context a) (code context i) (code-alike context a)
+        (code-alike context i)
+    storage-alike context NoAccess = alike []
 
-    pub passed-alike : (around : Around) (es : Exprs) (ks ls : List Kind) →
-        Alike (passed (other around) ks es) (passed around ls es)
-    passed-alike around no_expr ks ls = alike []
-    passed-alike around (expr_then e es) ks ls =
-        through (passed (other around) ks (expr_then e es))
-        (code (other around) e ++ passed (other around) (drop 1 ks) es) (passed around ls (expr_then e es))
-        (first_passed (other around) ks e es)
-        (through (code (other around) e ++ passed (other around) (drop 1 ks) es)
-        (code around e ++ passed around (drop 1 ls) es) (passed around ls (expr_then e es))
-        (both (code (other around) e) (passed (other around) (drop 1 ks) es) (code around e)
-        (passed around (drop 1 ls) es) (code-alike around e) (passed-alike around es (drop 1 ks) (drop 1 ls)))
-        (turned (passed around ls (expr_then e es)) (code around e ++ passed around (drop 1 ls) es)
-        (first_passed around ls e es)))
+    pub passed-alike : (context : Context) (es : Exprs) (ks ls : List Kind) →
+        Alike (passed (other context) ks es) (passed context ls es)
+    passed-alike context no_expr ks ls = alike []
+    passed-alike context (expr_then e es) ks ls =
+        through (passed (other context) ks (expr_then e es))
+        (code (other context) e ++ passed (other context) (drop 1 ks) es) (passed context ls (expr_then e es))
+        (first_passed (other context) ks e es)
+        (through (code (other context) e ++ passed (other context) (drop 1 ks) es)
+        (code context e ++ passed context (drop 1 ls) es) (passed context ls (expr_then e es))
+        (both (code (other context) e) (passed (other context) (drop 1 ks) es) (code context e)
+        (passed context (drop 1 ls) es) (code-alike context e) (passed-alike context es (drop 1 ks) (drop 1 ls)))
+        (turned (passed context ls (expr_then e es)) (code context e ++ passed context (drop 1 ls) es)
+        (first_passed context ls e es)))
 
-    pub init-alike : (around : Around) (i : Init) → Alike (init_code (other around) i) (init_code around i)
-    init-alike around (Value e) = code-alike around e
-    init-alike around (Items items) =
-        both (items_code (other around) items) (op around (Outside (count_inits items))) (items_code around items)
-        (op around (Outside (count_inits items))) (items-alike around items)
-        (alike (op around (Outside (count_inits items))))
+    pub init-alike : (context : Context) (i : Init) → Alike (init_code (other context) i) (init_code context i)
+    init-alike context (Value e) = code-alike context e
+    init-alike context (Items items) =
+        both (items_code (other context) items) (op context (Outside (count_inits items))) (items_code context items)
+        (op context (Outside (count_inits items))) (items-alike context items)
+        (alike (op context (Outside (count_inits items))))
 
-    pub items-alike : (around : Around) (is : Inits) → Alike (items_code (other around) is) (items_code around is)
-    items-alike around no_init = alike []
-    items-alike around (init_then i is) =
-        both (init_code (other around) i) (items_code (other around) is) (init_code around i) (items_code around is)
-        (init-alike around i) (items-alike around is)
+    pub items-alike : (context : Context) (is : Inits) → Alike (items_code (other context) is) (items_code context is)
+    items-alike context no_init = alike []
+    items-alike context (init_then i is) =
+        both (init_code (other context) i) (items_code (other context) is) (init_code context i) (items_code context is)
+        (init-alike context i) (items-alike context is)

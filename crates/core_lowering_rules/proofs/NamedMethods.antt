@@ -26,8 +26,8 @@ use Rattle.core_code.specs.Tree.{in_sequence, can_end}
 use Rattle.core_code.specs.Recursion.{all_calls_in}
 use Rattle.core_lowering_rules.specs.Trees.{Named}
 use Rattle.core_lowering_rules.specs.ValueKinds.{ValueKind, Of, Null}
-use Rattle.core_lowering_rules.specs.Around.{Around, Folder, Code, op, held, push_owner, type_kind}
-use Rattle.core_lowering_rules.specs.Assignments.{assigned, named, kind_in}
+use Rattle.core_lowering_rules.specs.Context.{Context, Folder, Code, op, held, push_owner, type_kind}
+use Rattle.core_lowering_rules.specs.Assignments.{assigned, of_name, kind_in}
 use Rattle.core_lowering_rules.specs.Expressions.{init_kind, init_code}
 use Rattle.core_lowering_rules.specs.Statements.{returned, returned_nothing}
 use Rattle.core_lowering_rules.specs.Methods.{Source, Body, Default, Spelled, Unspelled, entered, parameters_declared}
@@ -47,122 +47,127 @@ all_alike : {X : Type 0} (f g : X → Code) → ((x : X) → Alike (f x) (g x)) 
 all_alike f g h [] = alike []
 all_alike f g h (x ∷ xs) = both (f x) (flat_map f xs) (g x) (flat_map g xs) (h x) (all_alike f g h xs)
 
-ended-named : (around : Around) (body : Code) → Alike (ended around body) body
-ended-named around body = by (can_end (in_sequence body))
+ended-named : (context : Context) (body : Code) → Alike (ended context body) body
+ended-named context body = by (can_end (in_sequence body))
   where
-    by : (b : Bool) → Alike (cond b (body ++ returned around None) body) body
+    by : (b : Bool) → Alike (cond b (body ++ returned context None) body) body
     by true =
-        and_quiet body (returned around None) body (alike body)
-        (both (returned_nothing around around.result) (op around Ret) [] [] (nothing-quiet around around.result)
+        and_quiet body (returned context None) body (alike body)
+        (both (returned_nothing context context.result) (op context Ret) [] [] (nothing-quiet context context.result)
         (record { same = refl }))
     by false = alike body
 
-unread-quiet : (around : Around) (k : ValueKind) → Alike (unread around k) []
-unread-quiet around (Of kinds.Plain) = record { same = refl }
-unread-quiet around (Of (kinds.Declared c)) = record { same = refl }
-unread-quiet around (Of kinds.Other) = record { same = refl }
-unread-quiet around Null = record { same = refl }
+unread-quiet : (context : Context) (k : ValueKind) → Alike (unread context k) []
+unread-quiet context (Of kinds.Plain) = record { same = refl }
+unread-quiet context (Of (kinds.Declared c)) = record { same = refl }
+unread-quiet context (Of kinds.Other) = record { same = refl }
+unread-quiet context Null = record { same = refl }
 
 module _ (statuses : List (Option Reason)) where
-  abbrev other : Around → Around
-  other around = with_statuses statuses around
+  abbrev other : Context → Context
+  other context = with_statuses statuses context
 
   -- a store of alike values to x
-  store-alike : (around : Around) (x : Ident) (k l : ValueKind) (e d : Code) → Alike e d →
-      Alike (assigned (other around) (named (other around) x) k e) (assigned around (named around x) l d)
-  store-alike around x k l e d h =
-      through (assigned (other around) (named (other around) x) k e) (base (named (other around) x) ++ e)
-      (assigned around (named around x) l d) (assigned-named (other around) (named (other around) x) k e)
-      (through (base (named (other around) x) ++ e) (base (named around x) ++ d)
-      (assigned around (named around x) l d)
-      (both (base (named (other around) x)) e (base (named around x)) d (storage-alike statuses around (Named x)) h)
-      (turned (assigned around (named around x) l d) (base (named around x) ++ d)
-      (assigned-named around (named around x) l d)))
+  store-alike : (context : Context) (x : Ident) (k l : ValueKind) (e d : Code) → Alike e d →
+      Alike (assigned (other context) (of_name (other context) x) k e) (assigned context (of_name context x) l d)
+  store-alike context x k l e d h =
+      through (assigned (other context) (of_name (other context) x) k e) (base (of_name (other context) x) ++ e)
+      (assigned context (of_name context x) l d) (assigned-named (other context) (of_name (other context) x) k e)
+      (through (base (of_name (other context) x) ++ e) (base (of_name context x) ++ d)
+      (assigned context (of_name context x) l d)
+      (both (base (of_name (other context) x)) e (base (of_name context x)) d
+      (storage-alike statuses context (Named x)) h)
+      (turned (assigned context (of_name context x) l d) (base (of_name context x) ++ d)
+      (assigned-named context (of_name context x) l d)))
 
-  field-alike : (around : Around) (x : Ident) (i : FieldInitialiser) →
-      Alike (field_begun (other around) x i) (field_begun around x i)
-  field-alike around x field.Absent = alike []
-  field-alike around x (field.Formed i) =
-      both (assigned (other around) (named (other around) x) (init_kind (other around) (init_of i))
-      (init_code (other around) (init_of i))) (op around Drop)
-      (assigned around (named around x) (init_kind around (init_of i)) (init_code around (init_of i))) (op around Drop)
-      (store-alike around x (init_kind (other around) (init_of i)) (init_kind around (init_of i))
-      (init_code (other around) (init_of i)) (init_code around (init_of i)) (init-alike statuses around (init_of i)))
-      (alike (op around Drop))
-  field-alike around x field.Unread =
-      both (assigned (other around) (named (other around) x) (Of kinds.Other)
-      (unread (other around) (kind_in (named (other around) x)))) (op around Drop)
-      (assigned around (named around x) (Of kinds.Other) (unread around (kind_in (named around x)))) (op around Drop)
-      (store-alike around x (Of kinds.Other) (Of kinds.Other)
-      (unread (other around) (kind_in (named (other around) x))) (unread around (kind_in (named around x)))
-      (through (unread (other around) (kind_in (named (other around) x))) [] (unread around (kind_in (named around x)))
-      (unread-quiet (other around) (kind_in (named (other around) x)))
-      (turned (unread around (kind_in (named around x))) [] (unread-quiet around (kind_in (named around x))))))
-      (alike (op around Drop))
+  field-alike : (context : Context) (x : Ident) (i : FieldInitialiser) →
+      Alike (field_begun (other context) x i) (field_begun context x i)
+  field-alike context x field.Absent = alike []
+  field-alike context x (field.Formed i) =
+      both (assigned (other context) (of_name (other context) x) (init_kind (other context) (init_of i))
+      (init_code (other context) (init_of i))) (op context Drop)
+      (assigned context (of_name context x) (init_kind context (init_of i)) (init_code context (init_of i)))
+      (op context Drop)
+      (store-alike context x (init_kind (other context) (init_of i)) (init_kind context (init_of i))
+      (init_code (other context) (init_of i)) (init_code context (init_of i)) (init-alike statuses context (init_of i)))
+      (alike (op context Drop))
+  field-alike context x field.Unread =
+      both (assigned (other context) (of_name (other context) x) (Of kinds.Other)
+      (unread (other context) (kind_in (of_name (other context) x)))) (op context Drop)
+      (assigned context (of_name context x) (Of kinds.Other) (unread context (kind_in (of_name context x))))
+      (op context Drop)
+      (store-alike context x (Of kinds.Other) (Of kinds.Other)
+      (unread (other context) (kind_in (of_name (other context) x))) (unread context (kind_in (of_name context x)))
+      (through (unread (other context) (kind_in (of_name (other context) x))) []
+      (unread context (kind_in (of_name context x)))
+      (unread-quiet (other context) (kind_in (of_name (other context) x)))
+      (turned (unread context (kind_in (of_name context x))) [] (unread-quiet context (kind_in (of_name context x))))))
+      (alike (op context Drop))
 
-  member-alike : (around : Around) (m : Member) → Alike (member_begun (other around) m) (member_begun around m)
-  member-alike around (member.Field f) = by (has_word (codes "static") f.modifiers)
+  member-alike : (context : Context) (m : Member) → Alike (member_begun (other context) m) (member_begun context m)
+  member-alike context (member.Field f) = by (has_word (codes "static") f.modifiers)
     where
       by : (b : Bool) →
           Alike
-          (cond b [] (flat_map (λ (v : FieldVariable). field_begun (other around) v.name v.initialiser) f.variables))
-          (cond b [] (flat_map (λ (v : FieldVariable). field_begun around v.name v.initialiser) f.variables))
+          (cond b [] (flat_map (λ (v : FieldVariable). field_begun (other context) v.name v.initialiser) f.variables))
+          (cond b [] (flat_map (λ (v : FieldVariable). field_begun context v.name v.initialiser) f.variables))
       by true = alike []
       by false =
-          all_alike (λ (v : FieldVariable). field_begun (other around) v.name v.initialiser)
-          (λ (v : FieldVariable). field_begun around v.name v.initialiser)
-          (λ v. field-alike around v.name v.initialiser) f.variables
-  member-alike around _ = alike []
+          all_alike (λ (v : FieldVariable). field_begun (other context) v.name v.initialiser)
+          (λ (v : FieldVariable). field_begun context v.name v.initialiser)
+          (λ v. field-alike context v.name v.initialiser) f.variables
+  member-alike context _ = alike []
 
-  fields-alike : (around : Around) (ms : List Member) → Alike (fields_begun (other around) ms) (fields_begun around ms)
-  fields-alike around ms =
-      let bare : Around = record around { scope = record around.scope { variables = [] } } in
+  fields-alike : (context : Context) (ms : List Member) →
+      Alike (fields_begun (other context) ms) (fields_begun context ms)
+  fields-alike context ms =
+      let bare : Context = record context { scope = record context.scope { variables = [] } } in
       all_alike (member_begun (other bare)) (member_begun bare) (member-alike bare) ms
 
-  locked-alike : (around : Around) (b : Bool) (c d : Code) → Alike c d →
-      Alike (locked (other around) b c) (locked around b d)
-  locked-alike around true c d h =
-      both (push_owner around) (held around.place c) (push_owner around) (held around.place d)
-      (alike (push_owner around)) (helds around.place c d h)
-  locked-alike around false c d h = h
+  locked-alike : (context : Context) (b : Bool) (c d : Code) → Alike c d →
+      Alike (locked (other context) b c) (locked context b d)
+  locked-alike context true c d h =
+      both (push_owner context) (held context.place c) (push_owner context) (held context.place d)
+      (alike (push_owner context)) (helds context.place c d h)
+  locked-alike context false c d h = h
 
-  body-alike : (around : Around) (m : MethodTree) → Alike (body_code (other around) m) (body_code around m)
-  body-alike around m =
-      locked-alike around (has_word (codes "synchronized") m.modifiers) (block (other around) (body_of m))
-      (block around (body_of m)) (block-alike statuses around (body_of m))
+  body-alike : (context : Context) (m : MethodTree) → Alike (body_code (other context) m) (body_code context m)
+  body-alike context m =
+      locked-alike context (has_word (codes "synchronized") m.modifiers) (block (other context) (body_of m))
+      (block context (body_of m)) (block-alike statuses context (body_of m))
 
-  spelled-alike : (around : Around) (ms : List Member) (m : MethodTree) →
-      Alike (spelled_code (other around) ms m) (spelled_code around ms m)
-  spelled-alike around ms m = by (is_constructor m.result)
+  spelled-alike : (context : Context) (ms : List Member) (m : MethodTree) →
+      Alike (spelled_code (other context) ms m) (spelled_code context ms m)
+  spelled-alike context ms m = by (is_constructor m.result)
     where
-      by : (b : Bool) → Alike (cond b (fields_begun (other around) ms ++ body_code (other around) m)
-          (body_code (other around) m)) (cond b (fields_begun around ms ++ body_code around m) (body_code around m))
+      by : (b : Bool) → Alike (cond b (fields_begun (other context) ms ++ body_code (other context) m)
+          (body_code (other context) m)) (cond b (fields_begun context ms ++ body_code context m) (body_code context m))
       by true =
-          both (fields_begun (other around) ms) (body_code (other around) m) (fields_begun around ms)
-          (body_code around m) (fields-alike around ms) (body-alike around m)
-      by false = body-alike around m
+          both (fields_begun (other context) ms) (body_code (other context) m) (fields_begun context ms)
+          (body_code context m) (fields-alike context ms) (body-alike context m)
+      by false = body-alike context m
 
-  parameters-same : (around : Around) (ps : List ParameterTree) →
-      parameters_declared (other around) ps ≡ other (parameters_declared around ps)
-  parameters-same around [] = refl
-  parameters-same around (p ∷ ps) = parameters-same (declared around (type_kind around (ty_of p.kind)) p.name) ps
+  parameters-same : (context : Context) (ps : List ParameterTree) →
+      parameters_declared (other context) ps ≡ other (parameters_declared context ps)
+  parameters-same context [] = refl
+  parameters-same context (p ∷ ps) = parameters-same (declared context (type_kind context (ty_of p.kind)) p.name) ps
 
-  ended-alike : (x y : Around) (c d : Code) → Alike c d → Alike (ended x c) (ended y d)
+  ended-alike : (x y : Context) (c d : Code) → Alike c d → Alike (ended x c) (ended y d)
   ended-alike x y c d h =
       through (ended x c) c (ended y d) (ended-named x c)
       (through c d (ended y d) h (turned (ended y d) d (ended-named y d)))
 
-  in-alike : (around : Around) (s : Source) (b : Body) → Alike (code_in (other around) s b) (code_in around s b)
-  in-alike around s Default =
-      ended-alike (other around) around (fields_begun (other around) s.members) (fields_begun around s.members)
-      (fields-alike around s.members)
-  in-alike around s (Spelled m) =
-      let inside = parameters_declared around m.parameters in
-      ended-alike (other around) around
-      (spelled_code (parameters_declared (other around) m.parameters) s.members m) (spelled_code inside s.members m)
-      (subst (λ (x : Around). Alike (spelled_code x s.members m) (spelled_code inside s.members m))
-      (sym (parameters-same around m.parameters)) (spelled-alike inside s.members m))
-  in-alike around s Unspelled = alike []
+  in-alike : (context : Context) (s : Source) (b : Body) → Alike (code_in (other context) s b) (code_in context s b)
+  in-alike context s Default =
+      ended-alike (other context) context (fields_begun (other context) s.members) (fields_begun context s.members)
+      (fields-alike context s.members)
+  in-alike context s (Spelled m) =
+      let inside = parameters_declared context m.parameters in
+      ended-alike (other context) context
+      (spelled_code (parameters_declared (other context) m.parameters) s.members m) (spelled_code inside s.members m)
+      (subst (λ (x : Context). Alike (spelled_code x s.members m) (spelled_code inside s.members m))
+      (sym (parameters-same context m.parameters)) (spelled-alike inside s.members m))
+  in-alike context s Unspelled = alike []
 
 pub method-alike : (statuses : List (Option Reason)) (folder : Folder) (s : Source) →
     Alike (method_code (record folder { statuses = statuses }) s) (method_code folder s)
@@ -170,7 +175,7 @@ method-alike statuses folder s = in-alike statuses (entered folder s) s s.body
 
 -- ---- the rows of methods
 
-code-named : (c : Code) → all_calls_in (numbered 0 (in_sequence c)) ≡ calls.named c
+code-named : (c : Code) → all_calls_in (numbered 0 (in_sequence c)) ≡ calls.methods_named c
 code-named c = numbered-named (in_sequence c) 0 ∙ in_sequence-named c
 
 pub rows-same : (declared : Folder) (first second : List (Option Reason)) (d : Folder) (f g : MethodId → Bool) (n : ℕ)

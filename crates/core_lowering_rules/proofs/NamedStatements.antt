@@ -12,8 +12,8 @@ use Rattle.core_lowering_rules.specs.Trees.{Expr, Exprs, no_expr, expr_then, Ini
 use Rattle.core_lowering_rules.specs.Trees.{Stmt, Run}
 use Rattle.core_lowering_rules.specs.Trees.{Local, If, IfElse, While, For, ForEach, Sync, Return, Block, Empty, Stmts}
 use Rattle.core_lowering_rules.specs.Trees.{no_stmt, stmt_then}
-use Rattle.core_lowering_rules.specs.Around.{Around, Itself, Nothing, Value, Code, op, choice, repeated, held, converted}
-use Rattle.core_lowering_rules.specs.Around.{Result, push_this, type_kind}
+use Rattle.core_lowering_rules.specs.Context.{Context, Itself, Nothing, Value, Code, op, choice, repeated, held, converted}
+use Rattle.core_lowering_rules.specs.Context.{Result, push_this, type_kind}
 use Rattle.core_lowering_rules.specs.Expressions.{kind, code, init_kind, init_code}
 use Rattle.core_lowering_rules.specs.Scopes.{next_variable, declared, all_declared, started, after, after_all}
 use Rattle.core_lowering_rules.specs.Scopes.{new_variables}
@@ -26,22 +26,22 @@ use Rattle.core_lowering_rules.proofs.NamedExpressions.{with_statuses, code-alik
 
 -- ---- what names nothing
 
-set-quiet : (around : Around) (v : VarId) → Alike (set around v) []
-set-quiet around v = record { same = refl }
+set-quiet : (context : Context) (v : VarId) → Alike (set context v) []
+set-quiet context v = record { same = refl }
 
-pub closed-quiet : (before inside : Around) → Alike (closed before inside) []
+pub closed-quiet : (before inside : Context) → Alike (closed before inside) []
 closed-quiet before inside = all (new_variables before inside)
   where
     all : (vs : List ScopeVariable) → Alike (flat_map (cleared before) vs) []
     all [] = alike []
     all (v ∷ vs) = both (cleared before v) (flat_map (cleared before) vs) [] [] (record { same = refl }) (all vs)
 
-pub nothing-quiet : (around : Around) (r : Result) → Alike (returned_nothing around r) []
-nothing-quiet around Itself = record { same = refl }
-nothing-quiet around Nothing = record { same = refl }
-nothing-quiet around (Value kinds.Plain) = record { same = refl }
-nothing-quiet around (Value (kinds.Declared c)) = record { same = refl }
-nothing-quiet around (Value kinds.Other) = record { same = refl }
+pub nothing-quiet : (context : Context) (r : Result) → Alike (returned_nothing context r) []
+nothing-quiet context Itself = record { same = refl }
+nothing-quiet context Nothing = record { same = refl }
+nothing-quiet context (Value kinds.Plain) = record { same = refl }
+nothing-quiet context (Value (kinds.Declared c)) = record { same = refl }
+nothing-quiet context (Value kinds.Other) = record { same = refl }
 
 -- parts with ends that name nothing
 quiet_ends : (a b c d : Code) → Alike a c → Alike b [] → Alike d [] → Alike (a ++ b) (c ++ d)
@@ -49,153 +49,159 @@ quiet_ends a b c d h k l =
     through (a ++ b) c (c ++ d) (and_quiet a b c h k) (turned (c ++ d) c (and_quiet c d c (alike c) l))
 
 module _ (statuses : List (Option Reason)) where
-  abbrev other : Around → Around
-  other around = with_statuses statuses around
+  abbrev other : Context → Context
+  other context = with_statuses statuses context
 
-  run-alike : (around : Around) (e : Expr) → Alike (run (other around) e) (run around e)
-  run-alike around e =
-      both (code (other around) e) (op around Drop) (code around e) (op around Drop) (code-alike statuses around e)
-      (alike (op around Drop))
+  run-alike : (context : Context) (e : Expr) → Alike (run (other context) e) (run context e)
+  run-alike context e =
+      both (code (other context) e) (op context Drop) (code context e) (op context Drop) (code-alike statuses context e)
+      (alike (op context Drop))
 
-  run_all-alike : (around : Around) (es : Exprs) → Alike (run_all (other around) es) (run_all around es)
-  run_all-alike around no_expr = alike []
-  run_all-alike around (expr_then e es) =
-      both (run (other around) e) (run_all (other around) es) (run around e) (run_all around es) (run-alike around e)
-      (run_all-alike around es)
+  run_all-alike : (context : Context) (es : Exprs) → Alike (run_all (other context) es) (run_all context es)
+  run_all-alike context no_expr = alike []
+  run_all-alike context (expr_then e es) =
+      both (run (other context) e) (run_all (other context) es) (run context e) (run_all context es)
+      (run-alike context e)
+      (run_all-alike context es)
 
-  run_some-alike : (around : Around) (e : Option Expr) → Alike (run_some (other around) e) (run_some around e)
-  run_some-alike around None = alike []
-  run_some-alike around (Some e) = run-alike around e
+  run_some-alike : (context : Context) (e : Option Expr) → Alike (run_some (other context) e) (run_some context e)
+  run_some-alike context None = alike []
+  run_some-alike context (Some e) = run-alike context e
 
-  begun-alike : (around : Around) (v : VarId) (k : Kind) (i : Option Init) →
-      Alike (begun (other around) v k i) (begun around v k i)
-  begun-alike around v k None = alike []
-  begun-alike around v k (Some i) =
-      both (init_code (other around) i ++ converted (other around) k (init_kind (other around) i)) (set around v)
-      (init_code around i ++ converted around k (init_kind around i)) (set around v)
-      (quiet_ends (init_code (other around) i) (converted (other around) k (init_kind (other around) i))
-      (init_code around i) (converted around k (init_kind around i)) (init-alike statuses around i)
-      (converted-quiet (other around) k (init_kind (other around) i))
-      (converted-quiet around k (init_kind around i))) (alike (set around v))
+  begun-alike : (context : Context) (v : VarId) (k : Kind) (i : Option Init) →
+      Alike (begun (other context) v k i) (begun context v k i)
+  begun-alike context v k None = alike []
+  begun-alike context v k (Some i) =
+      both (init_code (other context) i ++ converted (other context) k (init_kind (other context) i)) (set context v)
+      (init_code context i ++ converted context k (init_kind context i)) (set context v)
+      (quiet_ends (init_code (other context) i) (converted (other context) k (init_kind (other context) i))
+      (init_code context i) (converted context k (init_kind context i)) (init-alike statuses context i)
+      (converted-quiet (other context) k (init_kind (other context) i))
+      (converted-quiet context k (init_kind context i))) (alike (set context v))
 
-  begun_all-alike : (around : Around) (k : Kind) (vs : List Variable) →
-      Alike (begun_all (other around) k vs) (begun_all around k vs)
-  begun_all-alike around k [] = alike []
-  begun_all-alike around k (v ∷ vs) =
-      both (begun (other (declared around k v.name)) (next_variable around) k v.initialiser)
-      (begun_all (other (declared around k v.name)) k vs)
-      (begun (declared around k v.name) (next_variable around) k v.initialiser)
-      (begun_all (declared around k v.name) k vs)
-      (begun-alike (declared around k v.name) (next_variable around) k v.initialiser)
-      (begun_all-alike (declared around k v.name) k vs)
+  begun_all-alike : (context : Context) (k : Kind) (vs : List Variable) →
+      Alike (begun_all (other context) k vs) (begun_all context k vs)
+  begun_all-alike context k [] = alike []
+  begun_all-alike context k (v ∷ vs) =
+      both (begun (other (declared context k v.name)) (next_variable context) k v.initialiser)
+      (begun_all (other (declared context k v.name)) k vs)
+      (begun (declared context k v.name) (next_variable context) k v.initialiser)
+      (begun_all (declared context k v.name) k vs)
+      (begun-alike (declared context k v.name) (next_variable context) k v.initialiser)
+      (begun_all-alike (declared context k v.name) k vs)
 
-  start-alike : (around : Around) (i : Start) → Alike (start (other around) i) (start around i)
-  start-alike around (Declares t vs) = begun_all-alike around (type_kind around t) vs
-  start-alike around (Runs es) = run_all-alike around es
+  start-alike : (context : Context) (i : Start) → Alike (start (other context) i) (start context i)
+  start-alike context (Declares t vs) = begun_all-alike context (type_kind context t) vs
+  start-alike context (Runs es) = run_all-alike context es
 
-  value-alike : (around : Around) (r : Result) (e : Expr) →
-      Alike (returned_value (other around) r e) (returned_value around r e)
-  value-alike around Itself e =
-      both (run (other around) e) (push_this around) (run around e) (push_this around) (run-alike around e)
-      (alike (push_this around))
-  value-alike around Nothing e =
-      both (run (other around) e) (op around PushPrim) (run around e) (op around PushPrim) (run-alike around e)
-      (alike (op around PushPrim))
-  value-alike around (Value k) e =
-      quiet_ends (code (other around) e) (converted (other around) k (kind (other around) e)) (code around e)
-      (converted around k (kind around e)) (code-alike statuses around e)
-      (converted-quiet (other around) k (kind (other around) e)) (converted-quiet around k (kind around e))
+  value-alike : (context : Context) (r : Result) (e : Expr) →
+      Alike (returned_value (other context) r e) (returned_value context r e)
+  value-alike context Itself e =
+      both (run (other context) e) (push_this context) (run context e) (push_this context) (run-alike context e)
+      (alike (push_this context))
+  value-alike context Nothing e =
+      both (run (other context) e) (op context PushPrim) (run context e) (op context PushPrim) (run-alike context e)
+      (alike (op context PushPrim))
+  value-alike context (Value k) e =
+      quiet_ends (code (other context) e) (converted (other context) k (kind (other context) e)) (code context e)
+      (converted context k (kind context e)) (code-alike statuses context e)
+      (converted-quiet (other context) k (kind (other context) e)) (converted-quiet context k (kind context e))
 
-  pub returned-alike : (around : Around) (e : Option Expr) → Alike (returned (other around) e) (returned around e)
-  returned-alike around None =
-      both (returned_nothing (other around) around.result) (op around Ret) (returned_nothing around around.result)
-      (op around Ret)
-      (through (returned_nothing (other around) around.result) [] (returned_nothing around around.result)
-      (nothing-quiet (other around) around.result)
-      (turned (returned_nothing around around.result) [] (nothing-quiet around around.result))) (alike (op around Ret))
-  returned-alike around (Some e) =
-      both (returned_value (other around) around.result e) (op around Ret) (returned_value around around.result e)
-      (op around Ret) (value-alike around around.result e) (alike (op around Ret))
+  pub returned-alike : (context : Context) (e : Option Expr) → Alike (returned (other context) e) (returned context e)
+  returned-alike context None =
+      both (returned_nothing (other context) context.result) (op context Ret) (returned_nothing context context.result)
+      (op context Ret)
+      (through (returned_nothing (other context) context.result) [] (returned_nothing context context.result)
+      (nothing-quiet (other context) context.result)
+      (turned (returned_nothing context context.result) [] (nothing-quiet context context.result)))
+      (alike (op context Ret))
+  returned-alike context (Some e) =
+      both (returned_value (other context) context.result e) (op context Ret) (returned_value context context.result e)
+      (op context Ret) (value-alike context context.result e) (alike (op context Ret))
 
   -- ---- what stands behind
 
-  declared-same : (around : Around) (k : Kind) (vs : List Variable) →
-      all_declared (other around) k vs ≡ other (all_declared around k vs)
-  declared-same around k [] = refl
-  declared-same around k (v ∷ vs) = declared-same (declared around k v.name) k vs
+  declared-same : (context : Context) (k : Kind) (vs : List Variable) →
+      all_declared (other context) k vs ≡ other (all_declared context k vs)
+  declared-same context k [] = refl
+  declared-same context k (v ∷ vs) = declared-same (declared context k v.name) k vs
 
-  started-same : (around : Around) (i : Start) → started (other around) i ≡ other (started around i)
-  started-same around (Declares t vs) = declared-same around (type_kind around t) vs
-  started-same around (Runs es) = refl
+  started-same : (context : Context) (i : Start) → started (other context) i ≡ other (started context i)
+  started-same context (Declares t vs) = declared-same context (type_kind context t) vs
+  started-same context (Runs es) = refl
 
   mutual
-    after-same : (around : Around) (s : Stmt) → after (other around) s ≡ other (after around s)
-    after-same around (Run e) = refl
-    after-same around (Local t vs) = declared-same around (type_kind around t) vs
-    after-same around (If e s) = after-same around s
-    after-same around (IfElse e s t) =
-        ap (λ (x : Around). after x t) (after-same around s) ∙ after-same (after around s) t
-    after-same around (While e s) = after-same around s
-    after-same around (For i e updates s) =
-        ap (λ (x : Around). back_in around (after x s)) (started-same around i)
-        ∙ ap (λ (x : Around). back_in around x) (after-same (started around i) s)
-    after-same around (ForEach t x e s) =
-        ap (λ (y : Around). back_in around y) (after-same (declared around (type_kind around t) x) s)
-    after-same around (Sync place e ss) = ap (λ (x : Around). back_in around x) (after_all-same around ss)
-    after-same around (Return e) = refl
-    after-same around (Block ss) = ap (λ (x : Around). back_in around x) (after_all-same around ss)
-    after-same around Empty = refl
+    after-same : (context : Context) (s : Stmt) → after (other context) s ≡ other (after context s)
+    after-same context (Run e) = refl
+    after-same context (Local t vs) = declared-same context (type_kind context t) vs
+    after-same context (If e s) = after-same context s
+    after-same context (IfElse e s t) =
+        ap (λ (x : Context). after x t) (after-same context s) ∙ after-same (after context s) t
+    after-same context (While e s) = after-same context s
+    after-same context (For i e updates s) =
+        ap (λ (x : Context). back_in context (after x s)) (started-same context i)
+        ∙ ap (λ (x : Context). back_in context x) (after-same (started context i) s)
+    after-same context (ForEach t x e s) =
+        ap (λ (y : Context). back_in context y) (after-same (declared context (type_kind context t) x) s)
+    after-same context (Sync place e ss) = ap (λ (x : Context). back_in context x) (after_all-same context ss)
+    after-same context (Return e) = refl
+    after-same context (Block ss) = ap (λ (x : Context). back_in context x) (after_all-same context ss)
+    after-same context Empty = refl
 
-    after_all-same : (around : Around) (ss : Stmts) → after_all (other around) ss ≡ other (after_all around ss)
-    after_all-same around no_stmt = refl
-    after_all-same around (stmt_then s ss) =
-        ap (λ (x : Around). after_all x ss) (after-same around s) ∙ after_all-same (after around s) ss
+    after_all-same : (context : Context) (ss : Stmts) → after_all (other context) ss ≡ other (after_all context ss)
+    after_all-same context no_stmt = refl
+    after_all-same context (stmt_then s ss) =
+        ap (λ (x : Context). after_all x ss) (after-same context s) ∙ after_all-same (after context s) ss
 
   -- code at a place that is the other of one
-  moved : (f : Around → Code) (x y : Around) → x ≡ other y → Alike (f (other y)) (f y) → Alike (f x) (f y)
-  moved f x y e h = subst (λ (z : Around). Alike (f z) (f y)) (sym e) h
+  moved : (f : Context → Code) (x y : Context) → x ≡ other y → Alike (f (other y)) (f y) → Alike (f x) (f y)
+  moved f x y e h = subst (λ (z : Context). Alike (f z) (f y)) (sym e) h
 
   mutual
-    pub stmt-alike : (around : Around) (s : Stmt) → Alike (stmt (other around) s) (stmt around s)
-    stmt-alike around (Run e) = run-alike around e
-    stmt-alike around (Local t vs) = begun_all-alike around (type_kind around t) vs
-    stmt-alike around (If e s) =
-        both (run (other around) e) (choice (stmt (other around) s) []) (run around e) (choice (stmt around s) [])
-        (run-alike around e) (choices (stmt (other around) s) [] (stmt around s) [] (stmt-alike around s) (alike []))
-    stmt-alike around (IfElse e s t) =
-        both (run (other around) e) (choice (stmt (other around) s) (stmt (after (other around) s) t)) (run around e)
-        (choice (stmt around s) (stmt (after around s) t)) (run-alike around e)
-        (choices (stmt (other around) s) (stmt (after (other around) s) t) (stmt around s) (stmt (after around s) t)
-        (stmt-alike around s)
-        (moved (λ x. stmt x t) (after (other around) s) (after around s) (after-same around s)
-        (stmt-alike (after around s) t)))
-    stmt-alike around (While e s) =
-        both (run (other around) e) (repeated (stmt (other around) s ++ run (after (other around) s) e)) (run around e)
-        (repeated (stmt around s ++ run (after around s) e)) (run-alike around e)
-        (repeats (stmt (other around) s ++ run (after (other around) s) e) (stmt around s ++ run (after around s) e)
-        (both (stmt (other around) s) (run (after (other around) s) e) (stmt around s) (run (after around s) e)
-        (stmt-alike around s)
-        (moved (λ x. run x e) (after (other around) s) (after around s) (after-same around s)
-        (run-alike (after around s) e))))
-    stmt-alike around (For i e updates s) =
-        let inside = started around i in
-        let inside2 = started (other around) i in
+    pub stmt-alike : (context : Context) (s : Stmt) → Alike (stmt (other context) s) (stmt context s)
+    stmt-alike context (Run e) = run-alike context e
+    stmt-alike context (Local t vs) = begun_all-alike context (type_kind context t) vs
+    stmt-alike context (If e s) =
+        both (run (other context) e) (choice (stmt (other context) s) []) (run context e) (choice (stmt context s) [])
+        (run-alike context e) (choices (stmt (other context) s) [] (stmt context s) [] (stmt-alike context s)
+        (alike []))
+    stmt-alike context (IfElse e s t) =
+        both (run (other context) e) (choice (stmt (other context) s) (stmt (after (other context) s) t))
+        (run context e)
+        (choice (stmt context s) (stmt (after context s) t)) (run-alike context e)
+        (choices (stmt (other context) s) (stmt (after (other context) s) t) (stmt context s) (stmt (after context s) t)
+        (stmt-alike context s)
+        (moved (λ x. stmt x t) (after (other context) s) (after context s) (after-same context s)
+        (stmt-alike (after context s) t)))
+    stmt-alike context (While e s) =
+        both (run (other context) e) (repeated (stmt (other context) s ++ run (after (other context) s) e))
+        (run context e)
+        (repeated (stmt context s ++ run (after context s) e)) (run-alike context e)
+        (repeats (stmt (other context) s ++ run (after (other context) s) e) (stmt context s ++ run (after context s) e)
+        (both (stmt (other context) s) (run (after (other context) s) e) (stmt context s) (run (after context s) e)
+        (stmt-alike context s)
+        (moved (λ x. run x e) (after (other context) s) (after context s) (after-same context s)
+        (run-alike (after context s) e))))
+    stmt-alike context (For i e updates s) =
+        let inside = started context i in
+        let inside2 = started (other context) i in
         let behind = after inside s in
         let behind2 = after inside2 s in
-        let same : inside2 ≡ other inside = started-same around i in
-        let same2 : behind2 ≡ other behind = ap (λ (x : Around). after x s) same ∙ after-same inside s in
+        let same : inside2 ≡ other inside = started-same context i in
+        let same2 : behind2 ≡ other behind = ap (λ (x : Context). after x s) same ∙ after-same inside s in
         quiet_ends
-        (start (other around) i ++ run_some inside2 e
+        (start (other context) i ++ run_some inside2 e
         ++ repeated (stmt inside2 s ++ run_all behind2 updates ++ run_some behind2 e))
-        (closed (other around) behind2)
-        (start around i ++ run_some inside e
+        (closed (other context) behind2)
+        (start context i ++ run_some inside e
         ++ repeated (stmt inside s ++ run_all behind updates ++ run_some behind e))
-        (closed around behind)
-        (both (start (other around) i ++ run_some inside2 e)
+        (closed context behind)
+        (both (start (other context) i ++ run_some inside2 e)
         (repeated (stmt inside2 s ++ run_all behind2 updates ++ run_some behind2 e))
-        (start around i ++ run_some inside e)
+        (start context i ++ run_some inside e)
         (repeated (stmt inside s ++ run_all behind updates ++ run_some behind e))
-        (both (start (other around) i) (run_some inside2 e) (start around i) (run_some inside e) (start-alike around i)
+        (both (start (other context) i) (run_some inside2 e) (start context i) (run_some inside e)
+        (start-alike context i)
         (moved (λ x. run_some x e) inside2 inside same (run_some-alike inside e)))
         (repeats (stmt inside2 s ++ run_all behind2 updates ++ run_some behind2 e)
         (stmt inside s ++ run_all behind updates ++ run_some behind e)
@@ -205,52 +211,56 @@ module _ (statuses : List (Option Reason)) where
         (moved (λ x. stmt x s) inside2 inside same (stmt-alike inside s))
         (moved (λ x. run_all x updates) behind2 behind same2 (run_all-alike behind updates)))
         (moved (λ x. run_some x e) behind2 behind same2 (run_some-alike behind e)))))
-        (closed-quiet (other around) behind2) (closed-quiet around behind)
-    stmt-alike around (ForEach t x e s) =
-        let inside = declared around (type_kind around t) x in
+        (closed-quiet (other context) behind2) (closed-quiet context behind)
+    stmt-alike context (ForEach t x e s) =
+        let inside = declared context (type_kind context t) x in
         quiet_ends
-        (run (other around) e
-        ++ repeated (op around (Outside 0) ++ set around (next_variable around) ++ stmt (other inside) s))
-        (closed (other around) (after (other inside) s))
-        (run around e ++ repeated (op around (Outside 0) ++ set around (next_variable around) ++ stmt inside s))
-        (closed around (after inside s))
-        (both (run (other around) e)
-        (repeated (op around (Outside 0) ++ set around (next_variable around) ++ stmt (other inside) s)) (run around e)
-        (repeated (op around (Outside 0) ++ set around (next_variable around) ++ stmt inside s)) (run-alike around e)
-        (repeats (op around (Outside 0) ++ set around (next_variable around) ++ stmt (other inside) s)
-        (op around (Outside 0) ++ set around (next_variable around) ++ stmt inside s)
-        (both (op around (Outside 0) ++ set around (next_variable around)) (stmt (other inside) s)
-        (op around (Outside 0) ++ set around (next_variable around)) (stmt inside s)
-        (alike (op around (Outside 0) ++ set around (next_variable around))) (stmt-alike inside s))))
-        (closed-quiet (other around) (after (other inside) s)) (closed-quiet around (after inside s))
-    stmt-alike around (Sync place e ss) =
-        both (code (other around) e)
-        (held place (stmts (other around) ss ++ closed (other around) (after_all (other around) ss))) (code around e)
-        (held place (stmts around ss ++ closed around (after_all around ss))) (code-alike statuses around e)
-        (helds place (stmts (other around) ss ++ closed (other around) (after_all (other around) ss))
-        (stmts around ss ++ closed around (after_all around ss))
-        (quiet_ends (stmts (other around) ss) (closed (other around) (after_all (other around) ss)) (stmts around ss)
-        (closed around (after_all around ss)) (stmts-alike around ss)
-        (closed-quiet (other around) (after_all (other around) ss)) (closed-quiet around (after_all around ss))))
-    stmt-alike around (Return e) = returned-alike around e
-    stmt-alike around (Block ss) =
-        quiet_ends (stmts (other around) ss) (closed (other around) (after_all (other around) ss)) (stmts around ss)
-        (closed around (after_all around ss)) (stmts-alike around ss)
-        (closed-quiet (other around) (after_all (other around) ss)) (closed-quiet around (after_all around ss))
-    stmt-alike around Empty = alike []
+        (run (other context) e
+        ++ repeated (op context (Outside 0) ++ set context (next_variable context) ++ stmt (other inside) s))
+        (closed (other context) (after (other inside) s))
+        (run context e ++ repeated (op context (Outside 0) ++ set context (next_variable context) ++ stmt inside s))
+        (closed context (after inside s))
+        (both (run (other context) e)
+        (repeated (op context (Outside 0) ++ set context (next_variable context) ++ stmt (other inside) s))
+        (run context e)
+        (repeated (op context (Outside 0) ++ set context (next_variable context) ++ stmt inside s))
+        (run-alike context e)
+        (repeats (op context (Outside 0) ++ set context (next_variable context) ++ stmt (other inside) s)
+        (op context (Outside 0) ++ set context (next_variable context) ++ stmt inside s)
+        (both (op context (Outside 0) ++ set context (next_variable context)) (stmt (other inside) s)
+        (op context (Outside 0) ++ set context (next_variable context)) (stmt inside s)
+        (alike (op context (Outside 0) ++ set context (next_variable context))) (stmt-alike inside s))))
+        (closed-quiet (other context) (after (other inside) s)) (closed-quiet context (after inside s))
+    stmt-alike context (Sync place e ss) =
+        both (code (other context) e)
+        (held place (stmts (other context) ss ++ closed (other context) (after_all (other context) ss)))
+        (code context e)
+        (held place (stmts context ss ++ closed context (after_all context ss))) (code-alike statuses context e)
+        (helds place (stmts (other context) ss ++ closed (other context) (after_all (other context) ss))
+        (stmts context ss ++ closed context (after_all context ss))
+        (quiet_ends (stmts (other context) ss) (closed (other context) (after_all (other context) ss))
+        (stmts context ss)
+        (closed context (after_all context ss)) (stmts-alike context ss)
+        (closed-quiet (other context) (after_all (other context) ss)) (closed-quiet context (after_all context ss))))
+    stmt-alike context (Return e) = returned-alike context e
+    stmt-alike context (Block ss) =
+        quiet_ends (stmts (other context) ss) (closed (other context) (after_all (other context) ss)) (stmts context ss)
+        (closed context (after_all context ss)) (stmts-alike context ss)
+        (closed-quiet (other context) (after_all (other context) ss)) (closed-quiet context (after_all context ss))
+    stmt-alike context Empty = alike []
 
-    pub stmts-alike : (around : Around) (ss : Stmts) → Alike (stmts (other around) ss) (stmts around ss)
-    stmts-alike around no_stmt = alike []
-    stmts-alike around (stmt_then s ss) =
-        both (stmt (other around) s) (stmts (after (other around) s) ss) (stmt around s) (stmts (after around s) ss)
-        (stmt-alike around s)
-        (moved (λ x. stmts x ss) (after (other around) s) (after around s) (after-same around s)
-        (stmts-alike (after around s) ss))
+    pub stmts-alike : (context : Context) (ss : Stmts) → Alike (stmts (other context) ss) (stmts context ss)
+    stmts-alike context no_stmt = alike []
+    stmts-alike context (stmt_then s ss) =
+        both (stmt (other context) s) (stmts (after (other context) s) ss) (stmt context s) (stmts (after context s) ss)
+        (stmt-alike context s)
+        (moved (λ x. stmts x ss) (after (other context) s) (after context s) (after-same context s)
+        (stmts-alike (after context s) ss))
 
-  pub block-alike : (around : Around) (ss : Stmts) →
-      Alike (stmts (other around) ss ++ closed (other around) (after_all (other around) ss))
-      (stmts around ss ++ closed around (after_all around ss))
-  block-alike around ss =
-      quiet_ends (stmts (other around) ss) (closed (other around) (after_all (other around) ss)) (stmts around ss)
-      (closed around (after_all around ss)) (stmts-alike around ss)
-      (closed-quiet (other around) (after_all (other around) ss)) (closed-quiet around (after_all around ss))
+  pub block-alike : (context : Context) (ss : Stmts) →
+      Alike (stmts (other context) ss ++ closed (other context) (after_all (other context) ss))
+      (stmts context ss ++ closed context (after_all context ss))
+  block-alike context ss =
+      quiet_ends (stmts (other context) ss) (closed (other context) (after_all (other context) ss)) (stmts context ss)
+      (closed context (after_all context ss)) (stmts-alike context ss)
+      (closed-quiet (other context) (after_all (other context) ss)) (closed-quiet context (after_all context ss))

@@ -39,7 +39,7 @@ use Rattle.core_code.specs.Facts.{is_field_in_range, is_method_in_range, are_num
 use Rattle.core_code.specs.Calls.{taken_by}
 use Rattle.core_code.specs.KindCheck.{begins_with}
 use Rattle.core_code.proofs.BoolParts.{both, first_part, last_part}
-use Rattle.core_lowering_rules.specs.Around.{Folder}
+use Rattle.core_lowering_rules.specs.Context.{Folder}
 use Rattle.core_lowering_rules.specs.Scopes.{declared}
 use Rattle.core_lowering_rules.specs.Methods.{Default, Source, entered}
 use Rattle.core_lowering_rules.specs.Programs.{member_sources, default_sources, class_sources, sources_of, declared_in}

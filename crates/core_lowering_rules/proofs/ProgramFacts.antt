@@ -18,7 +18,7 @@ use Rattle.core_code.specs.Core.{Core, Method}
 use Rattle.core_code.specs.Facts.{is_stack_enough, are_stacks_enough, is_in_order, are_sites_in_order, may_be_entry}
 use Rattle.core_code.specs.Facts.{are_entries_analysed, has_few_parameters, are_parameters_few}
 use Rattle.core_code.specs.CallFacts.{has_right_calls, are_calls_right, ends_by_return, do_end_by_return}
-use Rattle.core_lowering_rules.specs.Around.{Folder}
+use Rattle.core_lowering_rules.specs.Context.{Folder}
 use Rattle.core_lowering_rules.specs.Methods.{Body, Default, Spelled, Unspelled, Source, entered, fields_begun}
 use Rattle.core_lowering_rules.specs.Methods.{parameters_declared}
 use Rattle.core_lowering_rules.specs.Methods.{spelled_code, method_code}

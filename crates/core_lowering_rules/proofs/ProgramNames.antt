@@ -29,7 +29,7 @@ use Rattle.core_code.specs.Names.{is_identifier, are_identifiers, all_differ, sa
 use Rattle.core_code.specs.Names.{do_fields_differ, same_signature, do_methods_differ}
 use Rattle.core_code.specs.Names as names
 use Rattle.core_code.proofs.BoolParts.{both, first_part, last_part}
-use Rattle.core_lowering_rules.specs.Around.{Folder}
+use Rattle.core_lowering_rules.specs.Context.{Folder}
 use Rattle.core_lowering_rules.specs.Methods.{Source}
 use Rattle.core_lowering_rules.specs.Programs.{sources_of, is_unspelled, is_overloaded, local_count, where_so, status_of}
 use Rattle.core_lowering_rules.specs.Programs.{declared_in, statuses_from, folder_of, class_core, field_core, method_core}

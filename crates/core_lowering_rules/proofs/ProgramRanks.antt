@@ -20,13 +20,13 @@ use Rattle.core_code.specs.Core.{Core, Method}
 use Rattle.core_code.specs.Calls.{called_by, calls_in, calls_of, method_at, is_analysed}
 use Rattle.core_code.specs.CallFacts.{are_calls_right, has_ranks}
 use Rattle.core_code.specs.Recursion.{named_by, all_calls_in, all_rows, TellRecursion}
-use Rattle.core_code.specs.Rows.{code_rows}
+use Rattle.core_code.specs.CalleeRows.{code_rows}
 use Rattle.core_code.specs.Tree.{Operation, steps_of}
 use Rattle.core_code.proofs.ChainLemmas.{caller_in_range}
 use Rattle.core_code.proofs.LongestChains.{ranks_by_chains}
 use Rattle.core_code.proofs.Members.{passes}
 use Rattle.core_code.proofs.RowCallees.{is_method, analysed_among, right_at, method_there, analysed_at}
-use Rattle.core_lowering_rules.specs.Around.{Folder}
+use Rattle.core_lowering_rules.specs.Context.{Folder}
 use Rattle.core_lowering_rules.specs.Methods.{Source}
 use Rattle.core_lowering_rules.specs.Programs.{sources_of, declared_in, statuses_from, status_of, where_so, method_cores}
 use Rattle.core_lowering_rules.specs.Programs.{program_of, draft_of, folder_of, is_overloaded, is_unspelled, local_count}

@@ -13,7 +13,7 @@ use Rattle.racer_base.specs.declared.ids.ClassId.{ClassId}
 use Rattle.racer_base.specs.declared.ids.Place.{Place}
 use Rattle.core_code.specs.declared.code.Op.{Op as CoreOp}
 use Rattle.core_code.specs.declared.code.Op.TheVariants.{Outside}
-use Rattle.core_code.specs.Tree.{Tree, Step, Either, Again, Held, Operation, in_sequence, steps_of}
+use Rattle.core_code.specs.Tree.{Tree, Op, Choice, Loop, Sync, Operation, in_sequence, steps_of}
 use Rattle.core_code.specs.Facts.{height_after, same_height, pops, pushes}
 use Rattle.core_code.specs.CallFacts.{is_right_call}
 use Rattle.core_code.proofs.BoolParts.{both}
@@ -23,7 +23,7 @@ use Rattle.core_code.specs.KindCheck.{Kinds, and_then, where_true, after_popping
 use Rattle.core_code.specs.KindCheck.{same_stack}
 use Rattle.core_lowering_rules.specs.ValueKinds.{ValueKind, Of, is_converted}
 use Rattle.core_lowering_rules.specs.ValueKinds as value
-use Rattle.core_lowering_rules.specs.Around.{Around, Code, op_at, op, choice, repeated, held, converted}
+use Rattle.core_lowering_rules.specs.Context.{Context, Code, op_at, op, choice, repeated, held, converted}
 use Rattle.core_lowering_rules.proofs.Suits.{Suits, class_equal}
 
 pub and_then-agree : (o : Kinds) (f g : List StackKind → Kinds) → ((s : List StackKind) → f s ≡ g s) →
@@ -218,14 +218,14 @@ module _ (core : Core) (m : Method) where
       kinds_after_op core m o (values ++ rest) ≡ Some (made ++ rest) →
       Runs (op_at place o) (values ++ rest) (made ++ rest)
   once place o values made rest p q right e =
-      part-runs (Step (record { 0 = 0 }) place o) e (moved values made rest (pops o) (pushes o) p q)
+      part-runs (Op (record { 0 = 0 }) place o) e (moved values made rest (pops o) (pushes o) p q)
       (both (is_right_call core o) true right refl)
 
   pub chosen : {a b : Code} {s t u v : List StackKind} → Runs a s t → Runs b s u → joined_stack t u ≡ Some v →
       Runs (choice a b) s v
   chosen {a} {b} {s} {t} {u} {v} x y e =
       let lengths = joined-length t u v e in
-      part-runs (Either (in_sequence a) (in_sequence b))
+      part-runs (Choice (in_sequence a) (in_sequence b))
       (ap (λ (o : Kinds). and_then o (λ l. and_then (kinds_after core m (in_sequence b) s) (λ r. joined_stack l r)))
       (whole x)
       ∙ ap (λ (o : Kinds). and_then o (λ r. joined_stack t r)) (whole y) ∙ e)
@@ -239,12 +239,12 @@ module _ (core : Core) (m : Method) where
 
   pub again : {a : Code} → Runs a [] [] → Runs (repeated a) [] []
   again {a} x =
-      part-runs (Again (in_sequence a))
+      part-runs (Loop (in_sequence a))
       (ap (λ (o : Kinds). and_then o (λ after. where_true (same_stack [] after) [])) (whole x))
       (ap (same_height (Some 0)) (whole_high x)) (whole_calls x)
 
   pub locked : (place : Place) (lock : StackKind) {a : Code} → Runs a [] [] → Runs (held place a) (lock ∷ []) []
-  locked place lock {a} x = part-runs (Held place (in_sequence a)) (whole x) (whole_high x) (whole_calls x)
+  locked place lock {a} x = part-runs (Sync place (in_sequence a)) (whole x) (whole_high x) (whole_calls x)
 
   -- ---- values
 
@@ -254,34 +254,35 @@ module _ (core : Core) (m : Method) where
       (popped Opaque values stack n many)
 
   -- what a value is when it comes to a kind
-  pub record Comes (around : Around) (kind : Kind) (given : ValueKind) (s : StackKind) (rest : List StackKind) : Type 0
+  pub record ConvertsTo (context : Context) (kind : Kind) (given : ValueKind) (s : StackKind)
+      (rest : List StackKind) : Type 0
     where
       pub to : StackKind
       pub fitting : fits kind to ≡ true
-      pub runs : Runs (converted around kind given) (s ∷ rest) (to ∷ rest)
+      pub runs : Runs (converted context kind given) (s ∷ rest) (to ∷ rest)
 
-  made_opaque : (around : Around) (s : StackKind) (rest : List StackKind) →
-      Runs (op around (Outside 1)) (s ∷ rest) (Opaque ∷ rest)
-  made_opaque around s rest = outside around.place (s ∷ []) rest 1 refl
+  made_opaque : (context : Context) (s : StackKind) (rest : List StackKind) →
+      Runs (op context (Outside 1)) (s ∷ rest) (Opaque ∷ rest)
+  made_opaque context s rest = outside context.place (s ∷ []) rest 1 refl
 
-  of_class : (around : Around) (c d : ClassId) (s : StackKind) (rest : List StackKind) (b : Bool) →
+  of_class : (context : Context) (c d : ClassId) (s : StackKind) (rest : List StackKind) (b : Bool) →
       same_class c d ≡ b → fits_class d s ≡ true →
-      (to : StackKind) × (fits_class c to ≡ true) × Runs (cond (not b) (op around (Outside 1)) []) (s ∷ rest)
+      (to : StackKind) × (fits_class c to ≡ true) × Runs (cond (not b) (op context (Outside 1)) []) (s ∷ rest)
       (to ∷ rest)
-  of_class around c d s rest true e h =
+  of_class context c d s rest true e h =
       (s, subst (λ x. fits_class x s ≡ true) (sym (class_equal c d e)) h, nothing (s ∷ rest))
-  of_class around c d s rest false e h = (Opaque, refl, made_opaque around s rest)
+  of_class context c d s rest false e h = (Opaque, refl, made_opaque context s rest)
 
-  pub comes : (around : Around) (kind : Kind) (given : ValueKind) (s : StackKind) (rest : List StackKind) →
-      Suits given s → Comes around kind given s rest
-  comes around types.Plain given s rest h = record { to = s; fitting = refl; runs = nothing (s ∷ rest) }
-  comes around types.Other given s rest h = record { to = s; fitting = refl; runs = nothing (s ∷ rest) }
-  comes around (types.Declared c) value.Null s rest h =
+  pub comes : (context : Context) (kind : Kind) (given : ValueKind) (s : StackKind) (rest : List StackKind) →
+      Suits given s → ConvertsTo context kind given s rest
+  comes context types.Plain given s rest h = record { to = s; fitting = refl; runs = nothing (s ∷ rest) }
+  comes context types.Other given s rest h = record { to = s; fitting = refl; runs = nothing (s ∷ rest) }
+  comes context (types.Declared c) value.Null s rest h =
       record { to = s; fitting = ap (fits_class c) h; runs = nothing (s ∷ rest) }
-  comes around (types.Declared c) (Of types.Plain) s rest h =
-      record { to = Opaque; fitting = refl; runs = made_opaque around s rest }
-  comes around (types.Declared c) (Of types.Other) s rest h =
-      record { to = Opaque; fitting = refl; runs = made_opaque around s rest }
-  comes around (types.Declared c) (Of (types.Declared d)) s rest h =
-      let all = of_class around c d s rest (same_class c d) refl h in
+  comes context (types.Declared c) (Of types.Plain) s rest h =
+      record { to = Opaque; fitting = refl; runs = made_opaque context s rest }
+  comes context (types.Declared c) (Of types.Other) s rest h =
+      record { to = Opaque; fitting = refl; runs = made_opaque context s rest }
+  comes context (types.Declared c) (Of (types.Declared d)) s rest h =
+      let all = of_class context c d s rest (same_class c d) refl h in
       record { to = all.0; fitting = all.1; runs = all.2 }

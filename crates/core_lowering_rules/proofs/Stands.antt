@@ -17,7 +17,7 @@ use Rattle.core_code.specs.Calls.{method_at, taken_by}
 use Rattle.core_code.specs.Calls as core_calls
 use Rattle.std.proofs.Common.{false, is_none}
 use Rattle.core_code.specs.KindCheck.{field_at, variable_at}
-use Rattle.core_lowering_rules.specs.Around.{Around, Result, Itself, Nothing, Value, is_analysed}
+use Rattle.core_lowering_rules.specs.Context.{Context, Result, Itself, Nothing, Value, is_analysed}
 use Rattle.core_lowering_rules.specs.Calls.{info_at}
 use Rattle.core_lowering_rules.specs.Programs.{field_core}
 use Rattle.core_lowering_rules.proofs.FoundElements.{Each}
@@ -44,22 +44,22 @@ IsResult m Itself =
 IsResult m Nothing = m.result ≡ Plain
 IsResult m (Value k) = m.result ≡ k
 
-pub record Stands (core : Core) (m : Method) (around : Around) : Type 0 where
-  pub fields : core.fields ≡ map field_core around.folder.fields
-  pub methods : (n : MethodId) (info : MethodInfo) → info_at around n ≡ Some info → is_analysed around n ≡ true →
+pub record Stands (core : Core) (m : Method) (context : Context) : Type 0 where
+  pub fields : core.fields ≡ map field_core context.folder.fields
+  pub methods : (n : MethodId) (info : MethodInfo) → info_at context n ≡ Some info → is_analysed context n ≡ true →
       HasMethod core n info
-  pub unread : (n : MethodId) → is_analysed around n ≡ false → core_calls.is_analysed core n ≡ false
-  pub constructors : (n : MethodId) (info : MethodInfo) → info_at around n ≡ Some info → info.is_constructor ≡ true →
+  pub unread : (n : MethodId) → is_analysed context n ≡ false → core_calls.is_analysed core n ≡ false
+  pub constructors : (n : MethodId) (info : MethodInfo) → info_at context n ≡ Some info → info.is_constructor ≡ true →
       (info.result ≡ Declared info.class) × (info.is_static ≡ false)
-  pub variables : Each (IsVariable m) around.scope.variables
-  pub object : around.scope.is_static ≡ false →
-      variable_at m (record { 0 = 0 }) ≡ Some (Declared around.scope.class)
-  pub gives : IsResult m around.result
+  pub variables : Each (IsVariable m) context.scope.variables
+  pub object : context.scope.is_static ≡ false →
+      variable_at m (record { 0 = 0 }) ≡ Some (Declared context.scope.class)
+  pub gives : IsResult m context.result
 
 -- the field of the program
-pub field-stands : {core : Core} {m : Method} {around : Around} → Stands core m around → (f : FieldId)
+pub field-stands : {core : Core} {m : Method} {context : Context} → Stands core m context → (f : FieldId)
     (info : FieldInfo) →
-    slice_get around.folder.fields f.0 ≡ Some info → field_at core f ≡ Some (field_core info)
-field-stands {around = around} s f info e =
+    slice_get context.folder.fields f.0 ≡ Some info → field_at core f ≡ Some (field_core info)
+field-stands {context = context} s f info e =
     ap (λ (fields : List FieldCore). slice_get fields f.0) s.fields
-    ∙ slice_get-map field_core around.folder.fields f.0 ∙ ap (option_map field_core) e
+    ∙ slice_get-map field_core context.folder.fields f.0 ∙ ap (option_map field_core) e

@@ -14,8 +14,8 @@ use Rattle.java_resolver.specs.declared.scope.Meaning.TheVariants as means
 use Rattle.java_resolver.specs.Meanings.{field_named}
 use Rattle.core_code.specs.declared.code.Op.TheVariants.{Push, PushClass, Dup, Drop, Get, Put, Set, Prim, Outside}
 use Rattle.core_lowering_rules.specs.ValueKinds.{ValueKind, Of}
-use Rattle.core_lowering_rules.specs.Around.{Around, Code, op_at, op, converted, push_this, push_own_class}
-use Rattle.core_lowering_rules.specs.Around.{meaning_of}
+use Rattle.core_lowering_rules.specs.Context.{Context, Code, op_at, op, converted, push_this, push_own_class}
+use Rattle.core_lowering_rules.specs.Context.{meaning_of}
 
 -- a variable; a field, with its kind, the place of its name, and the code of its base; what is not the folder's, with
 -- the number and the code of its operands
@@ -31,8 +31,8 @@ kind_in (Elsewhere n operands) = Of Other
 
 -- ---- what is stored where
 
-abbrev pub field_at : Around → FieldId → Option FieldInfo
-field_at around f = slice_get around.folder.fields f.0
+abbrev pub field_at : Context → FieldId → Option FieldInfo
+field_at context f = slice_get context.folder.fields f.0
 
 -- a field that is named x: behind the class where it is static, and else behind an object
 abbrev pub in_field : (class object : Code) → Ident → FieldId → Option FieldInfo → Storage
@@ -40,36 +40,36 @@ in_field class object x f None = Elsewhere 0 []
 in_field class object x f (Some field) = InField f field.kind x.place (if field.is_static then class else object)
 
 -- x, with this meaning
-abbrev pub named_in : Around → Ident → Meaning → Storage
-named_in around x (means.Variable v kind) = InVariable v kind
-named_in around x (means.Field f) = in_field (push_own_class around) (push_this around) x f (field_at around f)
-named_in around x (means.Class c) = Elsewhere 0 []
-named_in around x means.Opaque = Elsewhere 0 []
+abbrev pub of_meaning : Context → Ident → Meaning → Storage
+of_meaning context x (means.Variable v kind) = InVariable v kind
+of_meaning context x (means.Field f) = in_field (push_own_class context) (push_this context) x f (field_at context f)
+of_meaning context x (means.Class c) = Elsewhere 0 []
+of_meaning context x means.Opaque = Elsewhere 0 []
 
-abbrev pub named : Around → Ident → Storage
-named around x = named_in around x (meaning_of around x)
+abbrev pub of_name : Context → Ident → Storage
+of_name context x = of_meaning context x (meaning_of context x)
 
 -- C.x, where this static field of the class is x
-abbrev pub of_class : Around → ClassId → Ident → Option FieldId → Storage
-of_class around c x None = Elsewhere 0 []
-of_class around c x (Some f) =
-    in_field (op around (PushClass c)) (op around (PushClass c)) x f (field_at around f)
+abbrev pub of_class : Context → ClassId → Ident → Option FieldId → Storage
+of_class context c x None = Elsewhere 0 []
+of_class context c x (Some f) =
+    in_field (op context (PushClass c)) (op context (PushClass c)) x f (field_at context f)
 
 -- e.x, where e is an object of a class, and this field of the class is x
-abbrev pub of_object : Around → ClassId → Code → Ident → Option FieldId → Storage
-of_object around c e x None = Elsewhere 1 e
-of_object around c e x (Some f) =
-    in_field (e ++ op around Drop ++ op around (PushClass c)) e x f (field_at around f)
+abbrev pub of_object : Context → ClassId → Code → Ident → Option FieldId → Storage
+of_object context c e x None = Elsewhere 1 e
+of_object context c e x (Some f) =
+    in_field (e ++ op context Drop ++ op context (PushClass c)) e x f (field_at context f)
 
 -- e.x, where e has this kind
-abbrev pub of_value : Around → ValueKind → Code → Ident → Storage
-of_value around (Of (Declared c)) e x = of_object around c e x (field_named around.folder.fields c false x.text)
-of_value around _ e x = Elsewhere 1 e
+abbrev pub of_value : Context → ValueKind → Code → Ident → Storage
+of_value context (Of (Declared c)) e x = of_object context c e x (field_named context.folder.fields c false x.text)
+of_value context _ e x = Elsewhere 1 e
 
 -- e.x, where the class that e names stands first
-abbrev pub selected : Around → Option ClassId → ValueKind → Code → Ident → Storage
-selected around (Some c) kind e x = of_class around c x (field_named around.folder.fields c true x.text)
-selected around None kind e x = of_value around kind e x
+abbrev pub selected : Context → Option ClassId → ValueKind → Code → Ident → Storage
+selected context (Some c) kind e x = of_class context c x (field_named context.folder.fields c true x.text)
+selected context None kind e x = of_value context kind e x
 
 -- a[i]
 abbrev pub element : Code → Code → Storage
@@ -77,31 +77,31 @@ element a i = Elsewhere 2 (a ++ i)
 
 -- ---- what is done there
 
-abbrev pub read : Around → Storage → Code
-read around (InVariable v kind) = op around (Push v)
-read around (InField f kind name base) = base ++ op_at name (Get f)
-read around (Elsewhere n operands) = operands ++ op around (Outside n)
+abbrev pub read : Context → Storage → Code
+read context (InVariable v kind) = op context (Push v)
+read context (InField f kind name base) = base ++ op_at name (Get f)
+read context (Elsewhere n operands) = operands ++ op context (Outside n)
 
 -- `= e`, where e has this kind
-abbrev pub assigned : Around → Storage → ValueKind → Code → Code
-assigned around (InVariable v kind) given e = e ++ converted around kind given ++ op around (Set v)
-assigned around (InField f kind name base) given e = base ++ e ++ converted around kind given ++ op_at name (Put f)
-assigned around (Elsewhere n operands) given e = operands ++ e ++ op around (Outside (suc n))
+abbrev pub assigned : Context → Storage → ValueKind → Code → Code
+assigned context (InVariable v kind) given e = e ++ converted context kind given ++ op context (Set v)
+assigned context (InField f kind name base) given e = base ++ e ++ converted context kind given ++ op_at name (Put f)
+assigned context (Elsewhere n operands) given e = operands ++ e ++ op context (Outside (suc n))
 
 -- `op= e`
-abbrev pub combined : Around → Storage → Code → Code
-combined around (InVariable v kind) e =
-    op around (Push v) ++ e ++ op around (Prim 2) ++ converted around kind (Of Plain) ++ op around (Set v)
-combined around (InField f kind name base) e =
-    base ++ op around Dup ++ op_at name (Get f) ++ e ++ op around (Prim 2) ++ converted around kind (Of Plain)
+abbrev pub combined : Context → Storage → Code → Code
+combined context (InVariable v kind) e =
+    op context (Push v) ++ e ++ op context (Prim 2) ++ converted context kind (Of Plain) ++ op context (Set v)
+combined context (InField f kind name base) e =
+    base ++ op context Dup ++ op_at name (Get f) ++ e ++ op context (Prim 2) ++ converted context kind (Of Plain)
     ++ op_at name (Put f)
-combined around (Elsewhere n operands) e = operands ++ e ++ op around (Outside (suc n))
+combined context (Elsewhere n operands) e = operands ++ e ++ op context (Outside (suc n))
 
 -- `++` and `--`
-abbrev pub counted : Around → Storage → Code
-counted around (InVariable v kind) =
-    op around (Push v) ++ op around (Prim 1) ++ converted around kind (Of Plain) ++ op around (Set v)
-counted around (InField f kind name base) =
-    base ++ op around Dup ++ op_at name (Get f) ++ op around (Prim 1) ++ converted around kind (Of Plain)
+abbrev pub counted : Context → Storage → Code
+counted context (InVariable v kind) =
+    op context (Push v) ++ op context (Prim 1) ++ converted context kind (Of Plain) ++ op context (Set v)
+counted context (InField f kind name base) =
+    base ++ op context Dup ++ op_at name (Get f) ++ op context (Prim 1) ++ converted context kind (Of Plain)
     ++ op_at name (Put f)
-counted around (Elsewhere n operands) = operands ++ op around (Outside n)
+counted context (Elsewhere n operands) = operands ++ op context (Outside n)

@@ -12,7 +12,7 @@ use Rattle.java_resolver.specs.Declarations.{constructor_name}
 use Rattle.java_resolver.specs.Meanings.{found}
 use Rattle.core_code.specs.declared.code.Op.TheVariants.{New, Drop, Outside, Call, Unread}
 use Rattle.core_lowering_rules.specs.ValueKinds.{ValueKind, Of}
-use Rattle.core_lowering_rules.specs.Around.{Around, Code, op_at, op, push_this, is_analysed}
+use Rattle.core_lowering_rules.specs.Context.{Context, Code, op_at, op, push_this, is_analysed}
 
 -- ---- what is called
 
@@ -22,20 +22,20 @@ pub data Callee : Type 0 where
   OfClass : MethodId → Callee
   OfObject : MethodId → Callee
 
-abbrev pub info_at : Around → MethodId → Option MethodInfo
-info_at around m = slice_get around.folder.methods m.0
+abbrev pub info_at : Context → MethodId → Option MethodInfo
+info_at context m = slice_get context.folder.methods m.0
 
 abbrev pub callee_of : MethodId → Option MethodInfo → Callee
 callee_of m None = Missing
 callee_of m (Some info) = if info.is_static then OfClass m else OfObject m
 
-abbrev pub callee_found : Around → Option MethodId → Callee
-callee_found around None = Missing
-callee_found around (Some m) = callee_of m (info_at around m)
+abbrev pub callee_found : Context → Option MethodId → Callee
+callee_found context None = Missing
+callee_found context (Some m) = callee_of m (info_at context m)
 
 -- the method of a class by its name and its number of arguments, of two the first
-abbrev pub callee_in : Around → ClassId → List ℕ → ℕ → Callee
-callee_in around c name count = callee_found around (found around.folder.methods c name count)
+abbrev pub callee_in : Context → ClassId → List ℕ → ℕ → Callee
+callee_in context c name count = callee_found context (found context.folder.methods c name count)
 
 -- where there is no object
 abbrev pub if_static : Callee → Callee
@@ -43,29 +43,29 @@ if_static (OfClass m) = OfClass m
 if_static _ = Missing
 
 -- f(..)
-abbrev pub own_callee : Around → Ident → ℕ → Callee
-own_callee around x count =
-    if around.scope.is_static then if_static (callee_in around around.scope.class x.text count)
-    else callee_in around around.scope.class x.text count
+abbrev pub own_callee : Context → Ident → ℕ → Callee
+own_callee context x count =
+    if context.scope.is_static then if_static (callee_in context context.scope.class x.text count)
+    else callee_in context context.scope.class x.text count
 
 -- e.f(..), where e has this kind
-abbrev pub callee_of_value : Around → ValueKind → Ident → ℕ → Callee
-callee_of_value around (Of (Declared c)) x count = callee_in around c x.text count
-callee_of_value around _ x count = Missing
+abbrev pub callee_of_value : Context → ValueKind → Ident → ℕ → Callee
+callee_of_value context (Of (Declared c)) x count = callee_in context c x.text count
+callee_of_value context _ x count = Missing
 
 -- the same, where the class that e names stands first
-abbrev pub callee_on : Around → Option ClassId → ValueKind → Ident → ℕ → Callee
-callee_on around (Some c) kind x count = if_static (callee_in around c x.text count)
-callee_on around None kind x count = callee_of_value around kind x count
+abbrev pub callee_on : Context → Option ClassId → ValueKind → Ident → ℕ → Callee
+callee_on context (Some c) kind x count = if_static (callee_in context c x.text count)
+callee_on context None kind x count = callee_of_value context kind x count
 
 abbrev pub result_of : Option MethodInfo → ValueKind
 result_of None = Of Other
 result_of (Some info) = Of info.result
 
-abbrev pub result_kind : Around → Callee → ValueKind
-result_kind around Missing = Of Other
-result_kind around (OfClass m) = result_of (info_at around m)
-result_kind around (OfObject m) = result_of (info_at around m)
+abbrev pub result_kind : Context → Callee → ValueKind
+result_kind context Missing = Of Other
+result_kind context (OfClass m) = result_of (info_at context m)
+result_kind context (OfObject m) = result_of (info_at context m)
 
 -- ---- the call
 
@@ -74,36 +74,36 @@ parameters_of None = []
 parameters_of (Some info) = info.parameters
 
 -- what arguments are converted to: those of a method that is not analysed to nothing
-abbrev pub parameter_kinds : Around → MethodId → List Kind
-parameter_kinds around m = if is_analysed around m then parameters_of (info_at around m) else []
+abbrev pub parameter_kinds : Context → MethodId → List Kind
+parameter_kinds context m = if is_analysed context m then parameters_of (info_at context m) else []
 
 -- the call with so many values, at the place of the name or of `new`
-abbrev pub call_at : Around → Place → MethodId → ℕ → Code
-call_at around place m n = op_at place (if is_analysed around m then Call m n else Unread m n)
+abbrev pub call_at : Context → Place → MethodId → ℕ → Code
+call_at context place m n = op_at place (if is_analysed context m then Call m n else Unread m n)
 
 -- The arguments, converted to kinds.
 abbrev pub Passing : Type 0
 Passing = List Kind → Code
 
 -- f(..)
-abbrev pub called : Around → Place → ℕ → Passing → Callee → Code
-called around place n arguments Missing = arguments [] ++ op around (Outside n)
-called around place n arguments (OfClass m) = arguments (parameter_kinds around m) ++ call_at around place m n
-called around place n arguments (OfObject m) =
-    push_this around ++ arguments (parameter_kinds around m) ++ call_at around place m (suc n)
+abbrev pub called : Context → Place → ℕ → Passing → Callee → Code
+called context place n arguments Missing = arguments [] ++ op context (Outside n)
+called context place n arguments (OfClass m) = arguments (parameter_kinds context m) ++ call_at context place m n
+called context place n arguments (OfObject m) =
+    push_this context ++ arguments (parameter_kinds context m) ++ call_at context place m (suc n)
 
 -- e.f(..)
-abbrev pub called_on_value : Around → Place → Code → ℕ → Passing → Callee → Code
-called_on_value around place e n arguments Missing = e ++ arguments [] ++ op around (Outside (suc n))
-called_on_value around place e n arguments (OfClass m) =
-    e ++ op around Drop ++ arguments (parameter_kinds around m) ++ call_at around place m n
-called_on_value around place e n arguments (OfObject m) =
-    e ++ arguments (parameter_kinds around m) ++ call_at around place m (suc n)
+abbrev pub called_on_value : Context → Place → Code → ℕ → Passing → Callee → Code
+called_on_value context place e n arguments Missing = e ++ arguments [] ++ op context (Outside (suc n))
+called_on_value context place e n arguments (OfClass m) =
+    e ++ op context Drop ++ arguments (parameter_kinds context m) ++ call_at context place m n
+called_on_value context place e n arguments (OfObject m) =
+    e ++ arguments (parameter_kinds context m) ++ call_at context place m (suc n)
 
 -- the same; behind the class that e names stands no object
-abbrev pub called_on : Around → Place → Option ClassId → Code → ℕ → Passing → Callee → Code
-called_on around place (Some c) e n arguments callee = called around place n arguments callee
-called_on around place None e n arguments callee = called_on_value around place e n arguments callee
+abbrev pub called_on : Context → Place → Option ClassId → Code → ℕ → Passing → Callee → Code
+called_on context place (Some c) e n arguments callee = called context place n arguments callee
+called_on context place None e n arguments callee = called_on_value context place e n arguments callee
 
 -- ---- object creations
 
@@ -111,21 +111,21 @@ abbrev pub constructor_of : MethodId → Option MethodInfo → Option MethodId
 constructor_of m None = None
 constructor_of m (Some info) = if info.is_constructor then Some m else None
 
-abbrev pub constructor_among : Around → Option MethodId → Option MethodId
-constructor_among around None = None
-constructor_among around (Some m) = constructor_of m (info_at around m)
+abbrev pub constructor_among : Context → Option MethodId → Option MethodId
+constructor_among context None = None
+constructor_among context (Some m) = constructor_of m (info_at context m)
 
 -- the constructor of a class by its number of arguments, of two the first
-abbrev pub constructor_in : Around → ClassId → ℕ → Option MethodId
-constructor_in around c count = constructor_among around (found around.folder.methods c constructor_name count)
+abbrev pub constructor_in : Context → ClassId → ℕ → Option MethodId
+constructor_in context c count = constructor_among context (found context.folder.methods c constructor_name count)
 
 -- new C(..), where this constructor is found
-abbrev pub made_by : Around → Place → ClassId → ℕ → Passing → Option MethodId → Code
-made_by around place c n arguments None = arguments [] ++ op_at place (Outside n)
-made_by around place c n arguments (Some m) =
-    op_at place (New c) ++ arguments (parameter_kinds around m) ++ call_at around place m (suc n)
+abbrev pub made_by : Context → Place → ClassId → ℕ → Passing → Option MethodId → Code
+made_by context place c n arguments None = arguments [] ++ op_at place (Outside n)
+made_by context place c n arguments (Some m) =
+    op_at place (New c) ++ arguments (parameter_kinds context m) ++ call_at context place m (suc n)
 
 -- new T(..), where T has this kind
-abbrev pub made : Around → Place → Kind → ℕ → Passing → Code
-made around place (Declared c) n arguments = made_by around place c n arguments (constructor_in around c n)
-made around place _ n arguments = arguments [] ++ op_at place (Outside n)
+abbrev pub made : Context → Place → Kind → ℕ → Passing → Code
+made context place (Declared c) n arguments = made_by context place c n arguments (constructor_in context c n)
+made context place _ n arguments = arguments [] ++ op_at place (Outside n)

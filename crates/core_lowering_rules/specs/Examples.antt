@@ -22,9 +22,9 @@ use Rattle.java_resolver.specs.NameExamples.{ints, absent, words, method_tree}
 use Rattle.core_code.specs.declared.code.Op.{Op as CoreOp}
 use Rattle.core_code.specs.declared.code.Op.TheVariants as op
 use Rattle.core_code.specs.declared.code.Reason.TheVariants.{Recursive}
-use Rattle.core_code.specs.Tree.{Tree, Step, Either, Again, Held, in_sequence}
+use Rattle.core_code.specs.Tree.{Tree, Op, Choice, Loop, Sync, in_sequence}
 use Rattle.core_lowering_rules.specs.ValueKinds.{ValueKind}
-use Rattle.core_lowering_rules.specs.Around.{Folder, Around, Result, Itself, Nothing, Value, Code}
+use Rattle.core_lowering_rules.specs.Context.{Folder, Context, Result, Itself, Nothing, Value, Code}
 use Rattle.core_lowering_rules.specs.Expressions.{kind, code}
 use Rattle.core_lowering_rules.specs.Scopes.{declared}
 use Rattle.core_lowering_rules.specs.Statements.{stmt}
@@ -89,7 +89,7 @@ folder =
 -- ---- where code stands
 
 -- a method of A without parameters
-abbrev pub entered : Bool → Result → List Kind → Around
+abbrev pub entered : Bool → Result → List Kind → Context
 entered is_static result kinds =
     record {
       folder = folder;
@@ -100,23 +100,23 @@ entered is_static result kinds =
     }
 
 -- variables k, a and o: a number, an object of A, any other
-abbrev pub with_variables : Around → Around
-with_variables around =
-    declared (declared (declared around Plain (ident (codes "k"))) an_a (ident (codes "a"))) Other
+abbrev pub with_variables : Context → Context
+with_variables context =
+    declared (declared (declared context Plain (ident (codes "k"))) an_a (ident (codes "a"))) Other
     (ident (codes "o"))
 
 -- variable 0 is `this`; k, a and o are 1, 2 and 3
-abbrev pub in_object : Result → Around
+abbrev pub in_object : Result → Context
 in_object result = with_variables (entered false result (an_a ∷ []))
 
 -- k, a and o are 0, 1 and 2
-abbrev pub in_class : Result → Around
+abbrev pub in_class : Result → Context
 in_class result = with_variables (entered true result [])
 
 -- ---- code
 
-abbrev pub lowered_in : Around → List ℕ → Option Code
-lowered_in around text = option_map (stmt around) (stmt_of_text text)
+abbrev pub lowered_in : Context → List ℕ → Option Code
+lowered_in context text = option_map (stmt context) (stmt_of_text text)
 
 -- a statement of a method that gives an object of A
 abbrev pub lowered : List ℕ → Option Code
@@ -138,13 +138,13 @@ kind_of_text text = option_map (kind (in_object Nothing)) (expr_of_text text)
 -- ---- operations: at the method, at a name, at `new`
 
 abbrev pub step : CoreOp → Tree
-step o = Step (record { 0 = 0 }) method_place o
+step o = Op (record { 0 = 0 }) method_place o
 
 abbrev pub step_at_name : CoreOp → Tree
-step_at_name o = Step (record { 0 = 0 }) name_place o
+step_at_name o = Op (record { 0 = 0 }) name_place o
 
 abbrev pub step_at_word : CoreOp → Tree
-step_at_word o = Step (record { 0 = 0 }) word_place o
+step_at_word o = Op (record { 0 = 0 }) word_place o
 
 abbrev pub push : ℕ → Tree
 push v = step (op.Push (record { 0 = v }))
@@ -201,33 +201,33 @@ abbrev pub unread : ℕ → ℕ → Tree
 unread m n = step_at_name (op.Unread (record { 0 = m }) n)
 
 abbrev pub choice : Code → Code → Tree
-choice left right = Either (in_sequence left) (in_sequence right)
+choice left right = Choice (in_sequence left) (in_sequence right)
 
 abbrev pub repeated : Code → Tree
-repeated body = Again (in_sequence body)
+repeated body = Loop (in_sequence body)
 
 abbrev pub held : Code → Tree
-held body = Held word_place (in_sequence body)
+held body = Sync word_place (in_sequence body)
 
 -- ---- bodies of methods
 
 -- a method of this text as its body, with the return at its end
-abbrev pub ended_body : Around → List ℕ → Option Code
-ended_body around text = option_map (λ s. ended around (stmt around s)) (stmt_of_text text)
+abbrev pub ended_body : Context → List ℕ → Option Code
+ended_body context text = option_map (λ s. ended context (stmt context s)) (stmt_of_text text)
 
 -- void m(A a)
-abbrev pub in_m : Around
+abbrev pub in_m : Context
 in_m = declared (entered false Nothing (an_a ∷ [])) an_a (ident (codes "a"))
 
 -- void w()
-abbrev pub in_w : Around
+abbrev pub in_w : Context
 in_w = entered false Nothing (an_a ∷ [])
 
 -- a constructor without parameters
-abbrev pub in_constructor : Around
+abbrev pub in_constructor : Context
 in_constructor = entered false Itself (an_a ∷ [])
 
-abbrev pub in_static : Around
+abbrev pub in_static : Context
 in_static = entered true Nothing []
 
 -- what a field of this name begins with, where it is not read

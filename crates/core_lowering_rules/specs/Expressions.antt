@@ -16,8 +16,8 @@ use Rattle.core_lowering_rules.specs.Trees.{Conditional, Assign, Combine, Count,
 use Rattle.core_lowering_rules.specs.Trees.{Access, Named, Selected, Element, NoAccess, Exprs, no_expr, expr_then}
 use Rattle.core_lowering_rules.specs.Trees.{Init, Value, Items, Inits, no_init, init_then, count_exprs, count_inits}
 use Rattle.core_lowering_rules.specs.ValueKinds.{ValueKind, Of, Null, common_kind}
-use Rattle.core_lowering_rules.specs.Around.{Around, Code, op_at, op, choice, converted, push_this, type_kind, meaning_of}
-use Rattle.core_lowering_rules.specs.Assignments.{Storage, Elsewhere, kind_in, named, selected, element, read, assigned}
+use Rattle.core_lowering_rules.specs.Context.{Context, Code, op_at, op, choice, converted, push_this, type_kind, meaning_of}
+use Rattle.core_lowering_rules.specs.Assignments.{Storage, Elsewhere, kind_in, of_name, selected, element, read, assigned}
 use Rattle.core_lowering_rules.specs.Assignments.{combined, counted}
 use Rattle.core_lowering_rules.specs.Calls.{own_callee, callee_on, result_kind, called, called_on, made}
 
@@ -28,117 +28,118 @@ class_meant (means.Class c) = Some c
 class_meant _ = None
 
 -- the class that an expression before a `.` names
-abbrev pub class_before : Around → Expr → Option ClassId
-class_before around (Read (Named x)) = class_meant (meaning_of around x)
-class_before around _ = None
+abbrev pub class_before : Context → Expr → Option ClassId
+class_before context (Read (Named x)) = class_meant (meaning_of context x)
+class_before context _ = None
 
 -- the class of the folder that is written before `.class`, as one name
-abbrev pub class_written : Around → List Ident → Option ClassId
-class_written around (x ∷ []) = class_named (class_names around.folder.classes) x.text
-class_written around _ = None
+abbrev pub class_written : Context → List Ident → Option ClassId
+class_written context (x ∷ []) = class_named (class_names context.folder.classes) x.text
+class_written context _ = None
 
-abbrev pub class_object : Around → Option ClassId → Code
-class_object around None = op around (Outside 0)
-class_object around (Some c) = op around (PushClass c)
+abbrev pub class_object : Context → Option ClassId → Code
+class_object context None = op context (Outside 0)
+class_object context (Some c) = op context (PushClass c)
 
 -- a static method has no `this`
-abbrev pub this_kind : Around → ValueKind
-this_kind around = if around.scope.is_static then Of Other else Of (Declared around.scope.class)
+abbrev pub this_kind : Context → ValueKind
+this_kind context = if context.scope.is_static then Of Other else Of (Declared context.scope.class)
 
-abbrev pub this_object : Around → Code
-this_object around = if around.scope.is_static then op around (Outside 0) else push_this around
+abbrev pub this_object : Context → Code
+this_object context = if context.scope.is_static then op context (Outside 0) else push_this context
 
 -- ---- kinds
 
 abbrev mutual
-  pub kind : Around → Expr → ValueKind
-  kind around tree.Prim = Of Plain
-  kind around Text = Of Other
-  kind around tree.Null = Null
-  kind around This = this_kind around
-  kind around (ClassOf xs) = Of Other
-  kind around (Read a) = access_kind around a
-  kind around (Unary e) = Of Plain
-  kind around (Cast t e) = Of (type_kind around t)
-  kind around (Binary a b) = Of Plain
-  kind around (Logical a b) = Of Plain
-  kind around (Conditional c a b) = common_kind (kind around a) (kind around b)
-  kind around (Assign a e) = access_kind around a
-  kind around (Combine a e) = access_kind around a
-  kind around (Count a) = Of Plain
-  kind around (Call x es) = result_kind around (own_callee around x (count_exprs es))
-  kind around (CallOn e x es) =
-      result_kind around (callee_on around (class_before around e) (kind around e) x (count_exprs es))
-  kind around (New place t es) = Of (type_kind around t)
-  kind around (NewArray place lengths) = Of Other
-  kind around (NewItems place items) = Of Other
-  kind around (Paren e) = kind around e
+  pub kind : Context → Expr → ValueKind
+  kind context tree.Prim = Of Plain
+  kind context Text = Of Other
+  kind context tree.Null = Null
+  kind context This = this_kind context
+  kind context (ClassOf xs) = Of Other
+  kind context (Read a) = access_kind context a
+  kind context (Unary e) = Of Plain
+  kind context (Cast t e) = Of (type_kind context t)
+  kind context (Binary a b) = Of Plain
+  kind context (Logical a b) = Of Plain
+  kind context (Conditional c a b) = common_kind (kind context a) (kind context b)
+  kind context (Assign a e) = access_kind context a
+  kind context (Combine a e) = access_kind context a
+  kind context (Count a) = Of Plain
+  kind context (Call x es) = result_kind context (own_callee context x (count_exprs es))
+  kind context (CallOn e x es) =
+      result_kind context (callee_on context (class_before context e) (kind context e) x (count_exprs es))
+  kind context (New place t es) = Of (type_kind context t)
+  kind context (NewArray place lengths) = Of Other
+  kind context (NewItems place items) = Of Other
+  kind context (Paren e) = kind context e
 
   -- of the left side of an assignment
-  pub access_kind : Around → Access → ValueKind
-  access_kind around (Named x) = kind_in (named around x)
-  access_kind around (Selected e x) = kind_in (selected around (class_before around e) (kind around e) [] x)
-  access_kind around (Element a i) = Of Other
-  access_kind around NoAccess = Of Other
+  pub access_kind : Context → Access → ValueKind
+  access_kind context (Named x) = kind_in (of_name context x)
+  access_kind context (Selected e x) = kind_in (selected context (class_before context e) (kind context e) [] x)
+  access_kind context (Element a i) = Of Other
+  access_kind context NoAccess = Of Other
 
-abbrev pub init_kind : Around → Init → ValueKind
-init_kind around (Value e) = kind around e
-init_kind around (Items items) = Of Other
+abbrev pub init_kind : Context → Init → ValueKind
+init_kind context (Value e) = kind context e
+init_kind context (Items items) = Of Other
 
 -- ---- code
 
 -- a cast makes a number, or what nothing is known of
-abbrev pub cast : Around → Kind → Code
-cast around Plain = op around (Prim 1)
-cast around _ = op around (Outside 1)
+abbrev pub cast : Context → Kind → Code
+cast context Plain = op context (Prim 1)
+cast context _ = op context (Outside 1)
 
 abbrev mutual
   -- leaves one value
-  pub code : Around → Expr → Code
-  code around tree.Prim = op around PushPrim
-  code around Text = op around (Outside 0)
-  code around tree.Null = op around PushNull
-  code around This = this_object around
-  code around (ClassOf xs) = class_object around (class_written around xs)
-  code around (Read a) = read around (storage around a)
-  code around (Unary e) = code around e ++ op around (Prim 1)
-  code around (Cast t e) = code around e ++ cast around (type_kind around t)
-  code around (Binary a b) = code around a ++ code around b ++ op around (Prim 2)
-  code around (Logical a b) =
-      code around a ++ op around (Prim 1) ++ choice (code around b ++ op around (Prim 2)) []
-  code around (Conditional c a b) = code around c ++ op around Drop ++ choice (code around a) (code around b)
-  code around (Assign a e) = assigned around (storage around a) (kind around e) (code around e)
-  code around (Combine a e) = combined around (storage around a) (code around e)
-  code around (Count a) = counted around (storage around a)
-  code around (Call x es) =
-      called around x.place (count_exprs es) (λ kinds. passed around kinds es)
-      (own_callee around x (count_exprs es))
-  code around (CallOn e x es) =
-      called_on around x.place (class_before around e) (code around e) (count_exprs es)
-      (λ kinds. passed around kinds es) (callee_on around (class_before around e) (kind around e) x (count_exprs es))
-  code around (New place t es) =
-      made around place (type_kind around t) (count_exprs es) (λ kinds. passed around kinds es)
-  code around (NewArray place lengths) = passed around [] lengths ++ op_at place (Outside (count_exprs lengths))
-  code around (NewItems place items) = items_code around items ++ op_at place (Outside (count_inits items))
-  code around (Paren e) = code around e
+  pub code : Context → Expr → Code
+  code context tree.Prim = op context PushPrim
+  code context Text = op context (Outside 0)
+  code context tree.Null = op context PushNull
+  code context This = this_object context
+  code context (ClassOf xs) = class_object context (class_written context xs)
+  code context (Read a) = read context (storage context a)
+  code context (Unary e) = code context e ++ op context (Prim 1)
+  code context (Cast t e) = code context e ++ cast context (type_kind context t)
+  code context (Binary a b) = code context a ++ code context b ++ op context (Prim 2)
+  code context (Logical a b) =
+      code context a ++ op context (Prim 1) ++ choice (code context b ++ op context (Prim 2)) []
+  code context (Conditional c a b) = code context c ++ op context Drop ++ choice (code context a) (code context b)
+  code context (Assign a e) = assigned context (storage context a) (kind context e) (code context e)
+  code context (Combine a e) = combined context (storage context a) (code context e)
+  code context (Count a) = counted context (storage context a)
+  code context (Call x es) =
+      called context x.place (count_exprs es) (λ kinds. passed context kinds es)
+      (own_callee context x (count_exprs es))
+  code context (CallOn e x es) =
+      called_on context x.place (class_before context e) (code context e) (count_exprs es)
+      (λ kinds. passed context kinds es) (callee_on context (class_before context e) (kind context e) x
+      (count_exprs es))
+  code context (New place t es) =
+      made context place (type_kind context t) (count_exprs es) (λ kinds. passed context kinds es)
+  code context (NewArray place lengths) = passed context [] lengths ++ op_at place (Outside (count_exprs lengths))
+  code context (NewItems place items) = items_code context items ++ op_at place (Outside (count_inits items))
+  code context (Paren e) = code context e
 
-  pub storage : Around → Access → Storage
-  storage around (Named x) = named around x
-  storage around (Selected e x) = selected around (class_before around e) (kind around e) (code around e) x
-  storage around (Element a i) = element (code around a) (code around i)
-  storage around NoAccess = Elsewhere 0 []
+  pub storage : Context → Access → Storage
+  storage context (Named x) = of_name context x
+  storage context (Selected e x) = selected context (class_before context e) (kind context e) (code context e) x
+  storage context (Element a i) = element (code context a) (code context i)
+  storage context NoAccess = Elsewhere 0 []
 
   -- arguments, converted to the kinds as far as these go
-  pub passed : Around → List Kind → Exprs → Code
-  passed around kinds no_expr = []
-  passed around [] (expr_then e es) = code around e ++ passed around [] es
-  passed around (k ∷ kinds) (expr_then e es) =
-      code around e ++ converted around k (kind around e) ++ passed around kinds es
+  pub passed : Context → List Kind → Exprs → Code
+  passed context kinds no_expr = []
+  passed context [] (expr_then e es) = code context e ++ passed context [] es
+  passed context (k ∷ kinds) (expr_then e es) =
+      code context e ++ converted context k (kind context e) ++ passed context kinds es
 
-  pub init_code : Around → Init → Code
-  init_code around (Value e) = code around e
-  init_code around (Items items) = items_code around items ++ op around (Outside (count_inits items))
+  pub init_code : Context → Init → Code
+  init_code context (Value e) = code context e
+  init_code context (Items items) = items_code context items ++ op context (Outside (count_inits items))
 
-  pub items_code : Around → Inits → Code
-  items_code around no_init = []
-  items_code around (init_then i is) = init_code around i ++ items_code around is
+  pub items_code : Context → Inits → Code
+  items_code context no_init = []
+  items_code context (init_then i is) = init_code context i ++ items_code context is

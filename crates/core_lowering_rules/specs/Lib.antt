@@ -2,7 +2,7 @@
 pub mod Trees
 pub mod TreesOf
 pub mod ValueKinds
-pub mod Around
+pub mod Context
 pub mod Assignments
 pub mod Calls
 pub mod Expressions

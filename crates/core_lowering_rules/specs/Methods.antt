@@ -23,9 +23,9 @@ use Rattle.core_code.specs.Tree.{can_end, in_sequence}
 use Rattle.core_lowering_rules.specs.Trees.{Stmts, pack_stmts}
 use Rattle.core_lowering_rules.specs.TreesOf.{init_of, stmt_of}
 use Rattle.core_lowering_rules.specs.ValueKinds.{ValueKind, Of}
-use Rattle.core_lowering_rules.specs.Around.{Folder, Around, Result, Itself, Nothing, Value, Code, op, held, push_owner}
-use Rattle.core_lowering_rules.specs.Around.{type_kind}
-use Rattle.core_lowering_rules.specs.Assignments.{kind_in, named, assigned}
+use Rattle.core_lowering_rules.specs.Context.{Folder, Context, Result, Itself, Nothing, Value, Code, op, held, push_owner}
+use Rattle.core_lowering_rules.specs.Context.{type_kind}
+use Rattle.core_lowering_rules.specs.Assignments.{kind_in, of_name, assigned}
 use Rattle.core_lowering_rules.specs.Expressions.{init_kind, init_code}
 use Rattle.core_lowering_rules.specs.Scopes.{declared, after_all}
 use Rattle.core_lowering_rules.specs.Statements.{closed, returned, stmts}
@@ -60,7 +60,7 @@ result_of kind Unspelled = Value kind
 abbrev pub this_kinds : MethodInfo → List Kind
 this_kinds m = if m.is_static then [] else kinds.Declared m.class ∷ []
 
-abbrev pub entered : Folder → Source → Around
+abbrev pub entered : Folder → Source → Context
 entered folder s =
     record {
       folder = folder;
@@ -70,35 +70,37 @@ entered folder s =
       kinds = this_kinds s.info;
     }
 
-abbrev pub parameters_declared : Around → List ParameterTree → Around
-parameters_declared around [] = around
-parameters_declared around (p ∷ ps) =
-    parameters_declared (declared around (type_kind around (ty_of p.kind)) p.name) ps
+abbrev pub parameters_declared : Context → List ParameterTree → Context
+parameters_declared context [] = context
+parameters_declared context (p ∷ ps) =
+    parameters_declared (declared context (type_kind context (ty_of p.kind)) p.name) ps
 
 -- ---- what fields begin with
 
 -- a value that is not read
-abbrev pub unread : Around → ValueKind → Code
-unread around (Of kinds.Plain) = op around PushPrim
-unread around _ = op around (Outside 0)
+abbrev pub unread : Context → ValueKind → Code
+unread context (Of kinds.Plain) = op context PushPrim
+unread context _ = op context (Outside 0)
 
 -- as the statement `x = e;` of the constructor, without its variables
-abbrev pub field_begun : Around → Ident → FieldInitialiser → Code
-field_begun around x field.Absent = []
-field_begun around x (field.Formed i) =
-    assigned around (named around x) (init_kind around (init_of i)) (init_code around (init_of i)) ++ op around Drop
-field_begun around x field.Unread =
-    assigned around (named around x) (Of kinds.Other) (unread around (kind_in (named around x))) ++ op around Drop
+abbrev pub field_begun : Context → Ident → FieldInitialiser → Code
+field_begun context x field.Absent = []
+field_begun context x (field.Formed i) =
+    assigned context (of_name context x) (init_kind context (init_of i))
+    (init_code context (init_of i)) ++ op context Drop
+field_begun context x field.Unread =
+    assigned context (of_name context x) (Of kinds.Other)
+    (unread context (kind_in (of_name context x))) ++ op context Drop
 
-abbrev pub member_begun : Around → Member → Code
-member_begun around (member.Field f) =
+abbrev pub member_begun : Context → Member → Code
+member_begun context (member.Field f) =
     if has_word (codes "static") f.modifiers then []
-    else flat_map (λ (v : FieldVariable). field_begun around v.name v.initialiser) f.variables
-member_begun around _ = []
+    else flat_map (λ (v : FieldVariable). field_begun context v.name v.initialiser) f.variables
+member_begun context _ = []
 
-abbrev pub fields_begun : Around → List Member → Code
-fields_begun around members =
-    flat_map (member_begun (record around { scope = record around.scope { variables = [] } })) members
+abbrev pub fields_begun : Context → List Member → Code
+fields_begun context members =
+    flat_map (member_begun (record context { scope = record context.scope { variables = [] } })) members
 
 -- ---- code
 
@@ -106,40 +108,40 @@ abbrev pub body_of : MethodTree → Stmts
 body_of m = pack_stmts (map stmt_of m.body)
 
 -- the body is a block; where the method is synchronized, under the lock of its object or of its class (JLS 8.4.3.6)
-abbrev pub block : Around → Stmts → Code
-block around ss = stmts around ss ++ closed around (after_all around ss)
+abbrev pub block : Context → Stmts → Code
+block context ss = stmts context ss ++ closed context (after_all context ss)
 
-abbrev pub locked : Around → Bool → Code → Code
-locked around true body = push_owner around ++ held around.place body
-locked around false body = body
+abbrev pub locked : Context → Bool → Code → Code
+locked context true body = push_owner context ++ held context.place body
+locked context false body = body
 
-abbrev pub body_code : Around → MethodTree → Code
-body_code around m = locked around (has_word (codes "synchronized") m.modifiers) (block around (body_of m))
+abbrev pub body_code : Context → MethodTree → Code
+body_code context m = locked context (has_word (codes "synchronized") m.modifiers) (block context (body_of m))
 
 -- an end that can be reached is as `return;`
-abbrev pub ended : Around → Code → Code
-ended around body = if can_end (in_sequence body) then body ++ returned around None else body
+abbrev pub ended : Context → Code → Code
+ended context body = if can_end (in_sequence body) then body ++ returned context None else body
 
 -- of a constructor, the fields of its object first
-abbrev pub spelled_code : Around → List Member → MethodTree → Code
-spelled_code around members m =
-    if is_constructor m.result then fields_begun around members ++ body_code around m else body_code around m
+abbrev pub spelled_code : Context → List Member → MethodTree → Code
+spelled_code context members m =
+    if is_constructor m.result then fields_begun context members ++ body_code context m else body_code context m
 
-abbrev pub code_in : Around → Source → Body → Code
-code_in around s Default = ended around (fields_begun around s.members)
-code_in around s (Spelled m) =
-    ended around (spelled_code (parameters_declared around m.parameters) s.members m)
-code_in around s Unspelled = []
+abbrev pub code_in : Context → Source → Body → Code
+code_in context s Default = ended context (fields_begun context s.members)
+code_in context s (Spelled m) =
+    ended context (spelled_code (parameters_declared context m.parameters) s.members m)
+code_in context s Unspelled = []
 
 abbrev pub method_code : Folder → Source → Code
 method_code folder s = code_in (entered folder s) s s.body
 
 -- ---- variables
 
-abbrev pub kinds_in : Around → Source → Body → List Kind
-kinds_in around s Default = around.kinds
-kinds_in around s (Spelled m) = (after_all (parameters_declared around m.parameters) (body_of m)).kinds
-kinds_in around s Unspelled = around.kinds ++ s.info.parameters
+abbrev pub kinds_in : Context → Source → Body → List Kind
+kinds_in context s Default = context.kinds
+kinds_in context s (Spelled m) = (after_all (parameters_declared context m.parameters) (body_of m)).kinds
+kinds_in context s Unspelled = context.kinds ++ s.info.parameters
 
 -- the kinds of all variables of a method
 abbrev pub method_kinds : Folder → Source → List Kind

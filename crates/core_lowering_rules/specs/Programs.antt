@@ -25,9 +25,9 @@ use Rattle.core_code.specs.declared.parts.FieldCore.{FieldCore}
 use Rattle.core_code.specs.Tree.{in_sequence}
 use Rattle.core_code.specs.Core.{Core, Method}
 use Rattle.core_code.specs.Recursion.{TellRecursion, all_calls_in}
-use Rattle.core_code.specs.Rows.{different}
+use Rattle.core_code.specs.CalleeRows.{different}
 use Rattle.core_code.specs.Chains.{flag_of}
-use Rattle.core_lowering_rules.specs.Around.{Folder}
+use Rattle.core_lowering_rules.specs.Context.{Folder}
 use Rattle.core_lowering_rules.specs.Methods.{Body, Default, Spelled, Unspelled, Source, this_kinds, method_code}
 use Rattle.core_lowering_rules.specs.Methods.{method_kinds}
 use Rattle.core_lowering_rules.specs.Sites.{numbered}

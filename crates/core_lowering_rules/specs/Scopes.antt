@@ -6,53 +6,53 @@ use Rattle.java_tree.specs.declared.words.Ident.{Ident}
 use Rattle.java_resolver.specs.declared.scope.ScopeVariable.{ScopeVariable}
 use Rattle.core_lowering_rules.specs.Trees.{Variable, Start, Declares, Runs, Stmt, Run, Local, If, IfElse, While, For}
 use Rattle.core_lowering_rules.specs.Trees.{ForEach, Sync, Return, Block, Empty, Stmts, no_stmt, stmt_then}
-use Rattle.core_lowering_rules.specs.Around.{Around, type_kind}
+use Rattle.core_lowering_rules.specs.Context.{Context, type_kind}
 
 -- the next variable
-abbrev pub next_variable : Around → VarId
-next_variable around = record { 0 = length around.kinds }
+abbrev pub next_variable : Context → VarId
+next_variable context = record { 0 = length context.kinds }
 
-abbrev pub new_variable : Around → Kind → Ident → ScopeVariable
-new_variable around kind x = record { name = x.text; id = next_variable around; kind = kind }
+abbrev pub new_variable : Context → Kind → Ident → ScopeVariable
+new_variable context kind x = record { name = x.text; id = next_variable context; kind = kind }
 
 -- x is declared, and is in scope
-abbrev pub declared : Around → Kind → Ident → Around
-declared around kind x =
-    record around {
-      scope = record around.scope { variables = around.scope.variables ++ new_variable around kind x ∷ [] };
-      kinds = around.kinds ++ kind ∷ [];
+abbrev pub declared : Context → Kind → Ident → Context
+declared context kind x =
+    record context {
+      scope = record context.scope { variables = context.scope.variables ++ new_variable context kind x ∷ [] };
+      kinds = context.kinds ++ kind ∷ [];
     }
 
-abbrev pub all_declared : Around → Kind → List Variable → Around
-all_declared around kind [] = around
-all_declared around kind (v ∷ vs) = all_declared (declared around kind v.name) kind vs
+abbrev pub all_declared : Context → Kind → List Variable → Context
+all_declared context kind [] = context
+all_declared context kind (v ∷ vs) = all_declared (declared context kind v.name) kind vs
 
-abbrev pub started : Around → Start → Around
-started around (Declares t vs) = all_declared around (type_kind around t) vs
-started around (Runs es) = around
+abbrev pub started : Context → Start → Context
+started context (Declares t vs) = all_declared context (type_kind context t) vs
+started context (Runs es) = context
 
 -- behind the end of a block, a `for` or a lock, with the scope that was before
-abbrev pub back_in : Around → Around → Around
+abbrev pub back_in : Context → Context → Context
 back_in before inside = record inside { scope = before.scope }
 
 -- the variables that came into scope
-abbrev pub new_variables : Around → Around → List ScopeVariable
+abbrev pub new_variables : Context → Context → List ScopeVariable
 new_variables before inside = drop (length before.scope.variables) inside.scope.variables
 
 abbrev mutual
-  pub after : Around → Stmt → Around
-  after around (Run e) = around
-  after around (Local t vs) = all_declared around (type_kind around t) vs
-  after around (If e s) = after around s
-  after around (IfElse e s t) = after (after around s) t
-  after around (While e s) = after around s
-  after around (For i e updates s) = back_in around (after (started around i) s)
-  after around (ForEach t x e s) = back_in around (after (declared around (type_kind around t) x) s)
-  after around (Sync place e ss) = back_in around (after_all around ss)
-  after around (Return e) = around
-  after around (Block ss) = back_in around (after_all around ss)
-  after around Empty = around
+  pub after : Context → Stmt → Context
+  after context (Run e) = context
+  after context (Local t vs) = all_declared context (type_kind context t) vs
+  after context (If e s) = after context s
+  after context (IfElse e s t) = after (after context s) t
+  after context (While e s) = after context s
+  after context (For i e updates s) = back_in context (after (started context i) s)
+  after context (ForEach t x e s) = back_in context (after (declared context (type_kind context t) x) s)
+  after context (Sync place e ss) = back_in context (after_all context ss)
+  after context (Return e) = context
+  after context (Block ss) = back_in context (after_all context ss)
+  after context Empty = context
 
-  pub after_all : Around → Stmts → Around
-  after_all around no_stmt = around
-  after_all around (stmt_then s ss) = after_all (after around s) ss
+  pub after_all : Context → Stmts → Context
+  after_all context no_stmt = context
+  after_all context (stmt_then s ss) = after_all (after context s) ss

@@ -9,95 +9,95 @@ use Rattle.core_code.specs.declared.code.Op.TheVariants.{PushPrim, PushNull, Dro
 use Rattle.core_lowering_rules.specs.Trees.{Expr, Exprs, no_expr, expr_then, Init, Variable, Start, Declares, Runs, Stmt, Run}
 use Rattle.core_lowering_rules.specs.Trees.{Local, If, IfElse, While, For, ForEach, Sync, Return, Block, Empty, Stmts}
 use Rattle.core_lowering_rules.specs.Trees.{no_stmt, stmt_then}
-use Rattle.core_lowering_rules.specs.Around.{Around, Itself, Nothing, Value, Code, op, choice, repeated, held, converted}
-use Rattle.core_lowering_rules.specs.Around.{Result}
-use Rattle.core_lowering_rules.specs.Around.{push_this, type_kind}
+use Rattle.core_lowering_rules.specs.Context.{Context, Itself, Nothing, Value, Code, op, choice, repeated, held, converted}
+use Rattle.core_lowering_rules.specs.Context.{Result}
+use Rattle.core_lowering_rules.specs.Context.{push_this, type_kind}
 use Rattle.core_lowering_rules.specs.Expressions.{kind, code, init_kind, init_code}
 use Rattle.core_lowering_rules.specs.Scopes.{next_variable, declared, started, after, after_all, new_variables}
 
 -- ---- parts of statements
 
-abbrev pub run : Around → Expr → Code
-run around e = code around e ++ op around Drop
+abbrev pub run : Context → Expr → Code
+run context e = code context e ++ op context Drop
 
-abbrev pub run_all : Around → Exprs → Code
-run_all around no_expr = []
-run_all around (expr_then e es) = run around e ++ run_all around es
+abbrev pub run_all : Context → Exprs → Code
+run_all context no_expr = []
+run_all context (expr_then e es) = run context e ++ run_all context es
 
 -- the condition of a `for`
-abbrev pub run_some : Around → Option Expr → Code
-run_some around None = []
-run_some around (Some e) = run around e
+abbrev pub run_some : Context → Option Expr → Code
+run_some context None = []
+run_some context (Some e) = run context e
 
-abbrev pub set : Around → VarId → Code
-set around v = op around (Set v) ++ op around Drop
+abbrev pub set : Context → VarId → Code
+set context v = op context (Set v) ++ op context Drop
 
 -- the value that a variable begins with
-abbrev pub begun : Around → VarId → Kind → Option Init → Code
-begun around v kind None = []
-begun around v kind (Some i) = init_code around i ++ converted around kind (init_kind around i) ++ set around v
+abbrev pub begun : Context → VarId → Kind → Option Init → Code
+begun context v kind None = []
+begun context v kind (Some i) = init_code context i ++ converted context kind (init_kind context i) ++ set context v
 
 -- each in scope from its own initialiser on
-abbrev pub begun_all : Around → Kind → List Variable → Code
-begun_all around kind [] = []
-begun_all around kind (v ∷ vs) =
-    begun (declared around kind v.name) (next_variable around) kind v.initialiser
-    ++ begun_all (declared around kind v.name) kind vs
+abbrev pub begun_all : Context → Kind → List Variable → Code
+begun_all context kind [] = []
+begun_all context kind (v ∷ vs) =
+    begun (declared context kind v.name) (next_variable context) kind v.initialiser
+    ++ begun_all (declared context kind v.name) kind vs
 
-abbrev pub start : Around → Start → Code
-start around (Declares t vs) = begun_all around (type_kind around t) vs
-start around (Runs es) = run_all around es
+abbrev pub start : Context → Start → Code
+start context (Declares t vs) = begun_all context (type_kind context t) vs
+start context (Runs es) = run_all context es
 
 -- the variables that a block or a `for` declares are null at its end
-abbrev pub cleared : Around → ScopeVariable → Code
-cleared around v = op around PushNull ++ set around v.id
+abbrev pub cleared : Context → ScopeVariable → Code
+cleared context v = op context PushNull ++ set context v.id
 
-abbrev pub closed : Around → Around → Code
+abbrev pub closed : Context → Context → Code
 closed before inside = flat_map (cleared before) (new_variables before inside)
 
 -- ---- returns (JLS 14.17)
 
-abbrev pub returned_nothing : Around → Result → Code
-returned_nothing around Itself = push_this around
-returned_nothing around Nothing = op around PushPrim
-returned_nothing around (Value kinds.Plain) = op around PushPrim
-returned_nothing around (Value _) = op around (Outside 0)
+abbrev pub returned_nothing : Context → Result → Code
+returned_nothing context Itself = push_this context
+returned_nothing context Nothing = op context PushPrim
+returned_nothing context (Value kinds.Plain) = op context PushPrim
+returned_nothing context (Value _) = op context (Outside 0)
 
-abbrev pub returned_value : Around → Result → Expr → Code
-returned_value around Itself e = run around e ++ push_this around
-returned_value around Nothing e = run around e ++ op around PushPrim
-returned_value around (Value k) e = code around e ++ converted around k (kind around e)
+abbrev pub returned_value : Context → Result → Expr → Code
+returned_value context Itself e = run context e ++ push_this context
+returned_value context Nothing e = run context e ++ op context PushPrim
+returned_value context (Value k) e = code context e ++ converted context k (kind context e)
 
-abbrev pub returned : Around → Option Expr → Code
-returned around None = returned_nothing around around.result ++ op around Ret
-returned around (Some e) = returned_value around around.result e ++ op around Ret
+abbrev pub returned : Context → Option Expr → Code
+returned context None = returned_nothing context context.result ++ op context Ret
+returned context (Some e) = returned_value context context.result e ++ op context Ret
 
 -- ---- statements
 
 abbrev mutual
   -- leaves the stack as it was
-  pub stmt : Around → Stmt → Code
-  stmt around (Run e) = run around e
-  stmt around (Local t vs) = begun_all around (type_kind around t) vs
-  stmt around (If e s) = run around e ++ choice (stmt around s) []
-  stmt around (IfElse e s t) = run around e ++ choice (stmt around s) (stmt (after around s) t)
-  stmt around (While e s) = run around e ++ repeated (stmt around s ++ run (after around s) e)
-  stmt around (For i e updates s) =
-      let inside = started around i in
+  pub stmt : Context → Stmt → Code
+  stmt context (Run e) = run context e
+  stmt context (Local t vs) = begun_all context (type_kind context t) vs
+  stmt context (If e s) = run context e ++ choice (stmt context s) []
+  stmt context (IfElse e s t) = run context e ++ choice (stmt context s) (stmt (after context s) t)
+  stmt context (While e s) = run context e ++ repeated (stmt context s ++ run (after context s) e)
+  stmt context (For i e updates s) =
+      let inside = started context i in
       let behind = after inside s in
-      start around i ++ run_some inside e
-      ++ repeated (stmt inside s ++ run_all behind updates ++ run_some behind e) ++ closed around behind
-  stmt around (ForEach t x e s) =
-      let inside = declared around (type_kind around t) x in
-      run around e
-      ++ repeated (op around (Outside 0) ++ set around (next_variable around) ++ stmt inside s)
-      ++ closed around (after inside s)
-  stmt around (Sync place e ss) =
-      code around e ++ held place (stmts around ss ++ closed around (after_all around ss))
-  stmt around (Return e) = returned around e
-  stmt around (Block ss) = stmts around ss ++ closed around (after_all around ss)
-  stmt around Empty = []
+      start context i ++ run_some inside e
+      ++ repeated (stmt inside s ++ run_all behind updates ++ run_some behind e) ++ closed context behind
+  stmt context (ForEach t x e s) =
+      let inside = declared context (type_kind context t) x in
+      run context e
+      ++ repeated (op context (Outside 0) ++ set context (next_variable context) ++ stmt inside s)
+      ++ closed context (after inside s)
+  stmt context (Sync place e ss) =
+      code context e ++ held place (stmts context ss ++ closed context (after_all context ss))
+  stmt context (Return e) = returned context e
+  stmt context (Block ss) = stmts context ss ++ closed context (after_all context ss)
+  stmt context Empty = []
 
-  pub stmts : Around → Stmts → Code
-  stmts around no_stmt = []
-  stmts around (stmt_then s ss) = stmt around s ++ stmts (after around s) ss
+  pub stmts : Context → Stmts → Code
+  stmts context no_stmt = []
+  stmts context (stmt_then s ss) = stmt context s ++ stmts (after context s) ss

@@ -5,7 +5,7 @@ use Rattle.std.proofs.lemmas.Bool.{cases_lt}
 use Rattle.std.proofs.lemmas.List.{length-append, length-reverse, take_all, take_rest}
 use Rattle.std.proofs.Math.Seq.{take-length}
 use Rattle.std.proofs.lemmas.Option.{unwrap_or-slice_get}
-use Rattle.core_semantics.proofs.Piles.{drop_reversed}
+use Rattle.core_semantics.proofs.Stacks.{drop_reversed}
 
 -- where nothing is, there is the default
 pub none_at : {A : Type 0} (xs : List A) (n : ℕ) (d : A) → slice_get xs n ≡ None → get_or xs n d ≡ d
@@ -20,10 +20,10 @@ take_all_but n xs =
       | inr within ↦ let some : length xs - (length xs - n) ≡ n = omega arith in ap (λ m. take m xs) some
     ]
 
--- so many from the top of a pile, the top last
-pub top_of_pile : {A : Type 0} (n k : ℕ) (xs all : List A) → all ≡ reverse xs → k ≡ length all - n →
+-- so many from the top of a stack, the top last
+pub top_of_stack : {A : Type 0} (n k : ℕ) (xs all : List A) → all ≡ reverse xs → k ≡ length all - n →
     take (length all - k) (drop k all) ≡ reverse (take n xs)
-top_of_pile n k xs all same is_rest =
+top_of_stack n k xs all same is_rest =
     let rest : k ≡ length xs - n =
     is_rest ∙ ap (λ ys. length ys - n) same ∙ ap (λ m. m - n) (length-reverse xs) in
     take_rest all k

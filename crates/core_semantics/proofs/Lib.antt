@@ -1,4 +1,4 @@
-pub mod Piles
+pub mod Stacks
 pub mod Unfolding
 pub mod EnteredFrames
 pub mod StoredCells
@@ -13,3 +13,4 @@ pub mod Entries
 pub mod FieldKinds
 pub mod Held
 pub mod MonitorLemmas
+pub mod NextLooks

@@ -6,7 +6,7 @@ use Rattle.std.specs.List.{list_any}
 use Rattle.std.specs.BTreeMap.{is_at}
 use Rattle.core_semantics.specs.declared.answer.Holder.{Holder}
 use Rattle.core_semantics.specs.declared.answer.Holder.TheVariants.{Object as Of, Outside}
-use Rattle.core_semantics.specs.declared.monitors.Held.{Held}
+use Rattle.core_semantics.specs.declared.monitors.HeldMonitor.{HeldMonitor}
 use Rattle.core_semantics.specs.Monitors.{AreFirsts, HasMonitorsOf, HasPopped, HasPushed, IsAsBefore, IsIndexed, IsPopped}
 use Rattle.core_semantics.specs.Monitors.{IsWithout, is_held, monitors_in}
 use Rattle.core_semantics.specs.Objects.{same_monitor}
@@ -24,7 +24,8 @@ either : (a b : Bool) → cond a true b ≡ (a || b)
 either true b = refl
 either false b = refl
 
-pub pushed-on : (old new : BTreeSet Holder) (held : List Held) (m copy : Holder) → copy ≡ m → IsIndexed old held →
+pub pushed-on : (old new : BTreeSet Holder) (held : List HeldMonitor) (m copy : Holder) → copy ≡ m →
+    IsIndexed old held →
     Updates holder_cmp old new copy true →
     IsIndexed new (record { monitor = m; is_first = not (contains holder_cmp old copy) } ∷ held)
 pushed-on old new held m copy same has updates =
@@ -56,7 +57,7 @@ not-false : (b : Bool) → false ≡ not b → b ≡ true
 not-false true e = refl
 not-false false e = absurd cc
 
-popped-by : (first : Bool) (old new : BTreeSet Holder) (held : List Held) (m : Holder) →
+popped-by : (first : Bool) (old new : BTreeSet Holder) (held : List HeldMonitor) (m : Holder) →
     ((x : Holder) → contains holder_cmp old x ≡ (same_monitor m x || is_held (monitors_in held) x)) →
     first ≡ not (is_held (monitors_in held) m) → IsWithout first m old new →
     (x : Holder) → contains holder_cmp new x ≡ is_held (monitors_in held) x
@@ -72,7 +73,7 @@ popped-by false old new held m has first same x =
     ∙ stays (same_monitor m x) (is_held (monitors_in held) x)
     (λ e. ap (is_held (monitors_in held)) (sym (equal_monitors m x e)) ∙ not-false (is_held (monitors_in held) m) first)
 
-kept-keys : (old new : BTreeSet Holder) (held held2 : List Held) → held2 ≡ held → new.keys ≡ old.keys →
+kept-keys : (old new : BTreeSet Holder) (held held2 : List HeldMonitor) → held2 ≡ held → new.keys ≡ old.keys →
     IsIndexed old held → IsIndexed new held2
 kept-keys old new held held2 is same has =
     let there : (x : Holder) → contains holder_cmp new x ≡ is_held (monitors_in held2) x = λ x.
@@ -81,7 +82,8 @@ kept-keys old new held held2 is same has =
     ∙ ap (λ h. is_held (monitors_in h) x) (sym is) in
     (there, subst AreFirsts (sym is) has.1)
 
-popped-on : (old new : BTreeSet Holder) (held left : List Held) → IsIndexed old held → IsPopped held old left new →
+popped-on : (old new : BTreeSet Holder) (held left : List HeldMonitor) → IsIndexed old held →
+    IsPopped held old left new →
     IsIndexed new left
 popped-on old new [] left has popped = kept-keys old new [] left popped.0 popped.1 has
 popped-on old new (h ∷ held) left has popped =
@@ -92,28 +94,29 @@ popped-on old new (h ∷ held) left has popped =
 
 -- what is put, what stays, what is taken
 
-pub has_pushed : (old new : BTreeSet Holder) (held more : List Held) (m copy : Holder) → copy ≡ m →
+pub has_pushed : (old new : BTreeSet Holder) (held more : List HeldMonitor) (m copy : Holder) → copy ≡ m →
     HasMonitorsOf old held → HasPushed held old more new m copy → HasMonitorsOf new more
 has_pushed old new held more m copy same has pushed =
     subst (IsIndexed new) (sym pushed.0) (pushed-on old new (reverse held) m copy same has pushed.1)
 
-pub has_as_before : (old new : BTreeSet Holder) (held held2 : List Held) → HasMonitorsOf old held →
+pub has_as_before : (old new : BTreeSet Holder) (held held2 : List HeldMonitor) → HasMonitorsOf old held →
     IsAsBefore held old held2 new → HasMonitorsOf new held2
 has_as_before old new held held2 has same =
     kept-keys old new (reverse held) (reverse held2) (ap reverse same.0) same.1 has
 
-pub has_popped : (old new : BTreeSet Holder) (held left : List Held) → HasMonitorsOf old held →
+pub has_popped : (old new : BTreeSet Holder) (held left : List HeldMonitor) → HasMonitorsOf old held →
     HasPopped held old left new → HasMonitorsOf new left
 has_popped old new held left has popped = popped-on old new (reverse held) (reverse left) has popped
 
-pub seen-popped : (old new : BTreeSet Holder) (held left : List Held) → IsPopped held old left new →
+pub seen-popped : (old new : BTreeSet Holder) (held left : List HeldMonitor) → IsPopped held old left new →
     monitors_in left ≡ drop 1 (monitors_in held)
 seen-popped old new [] left popped = ap monitors_in popped.0
 seen-popped old new (h ∷ held) left popped = ap monitors_in popped.0
 
-pub has_none : (index : BTreeSet Holder) (held : List Held) → index.keys ≡ [] → held ≡ [] → HasMonitorsOf index held
+pub has_none : (index : BTreeSet Holder) (held : List HeldMonitor) → index.keys ≡ [] → held ≡ [] →
+    HasMonitorsOf index held
 has_none index held no_keys none =
     let there : (m : Holder) → contains holder_cmp index m ≡ is_held (monitors_in (reverse held)) m = λ m.
     ap (λ ks. list_any (is_at (holder_cmp m)) ks) no_keys
-    ∙ ap (λ (hs : List Held). is_held (monitors_in (reverse hs)) m) (sym none) in
-    (there, subst (λ (hs : List Held). AreFirsts (reverse hs)) (sym none) tt)
+    ∙ ap (λ (hs : List HeldMonitor). is_held (monitors_in (reverse hs)) m) (sym none) in
+    (there, subst (λ (hs : List HeldMonitor). AreFirsts (reverse hs)) (sym none) tt)

@@ -7,8 +7,8 @@ use Rattle.core_code.specs.declared.code.Op.TheVariants.{Ret}
 use Rattle.core_semantics.specs.declared.answer.Holder.{Holder}
 use Rattle.core_semantics.specs.declared.answer.StepAnswer.{StepAnswer}
 use Rattle.core_semantics.specs.declared.answer.Turn.{Turn}
-use Rattle.core_semantics.specs.declared.later.Later.{Later}
-use Rattle.core_semantics.specs.declared.later.NextStep.{NextStep}
+use Rattle.core_semantics.specs.declared.pending.Pending.{Pending}
+use Rattle.core_semantics.specs.declared.pending.NextStep.{NextStep}
 use Rattle.core_semantics.specs.declared.thread.Running.{Running}
 use Rattle.core_semantics.specs.Answers.{IsAnswer}
 use Rattle.core_semantics.specs.State.{Todo, Store}
@@ -29,30 +29,30 @@ ret_returns core s rest op is_ret none =
     ap (operated core s rest) is_ret
     ∙ ap (λ (b : Bool). cond b (Goes (after (unlocked s))) (returned (with_todo s rest))) (le-ltb 0 s.frame.locked none)
 
-abbrev pub with_laters : Running → List Later → Running
-with_laters r laters =
+abbrev pub with_pending : Running → List Pending → Running
+with_pending r pending =
     record {
-      frame = record { vars = r.frame.vars; stack = r.frame.stack; laters = laters; locked = r.frame.locked };
+      frame = record { vars = r.frame.vars; stack = r.frame.stack; pending = pending; locked = r.frame.locked };
       callers = r.callers;
     }
 
 -- unfolding changes nothing that is seen
-pub settled : (store : Store) (r : Running) (locks : List Holder) (laters : List Later) →
-    todo_of laters ≡ todo_of r.frame.laters → spot_of store (with_laters r laters) locks ≡ spot_of store r locks
-settled store r locks laters same = λ i. record (spot_of store r locks) {
+pub settled : (store : Store) (r : Running) (locks : List Holder) (pending : List Pending) →
+    todo_of pending ≡ todo_of r.frame.pending → spot_of store (with_pending r pending) locks ≡ spot_of store r locks
+settled store r locks pending same = λ i. record (spot_of store r locks) {
   frame = record { vars = r.frame.vars.items; stack = r.frame.stack; todo = same i; locked = r.frame.locked };
 }
 
 pub settled_answer : (core : Core) (turn : Turn) (others : List Holder) (store : Store) (r : Running)
-    (locks : List Holder) (laters : List Later) (next : NextStep) (new : After) (answer : StepAnswer) →
-    todo_of laters ≡ todo_of r.frame.laters → todo_of laters ≡ step_of next ∷ todo_of (drop 1 laters) →
-    IsAnswer (todo_step core turn others (spot_of store (with_laters r laters) locks)
-    (step_of next ∷ todo_of (drop 1 laters)))
-    (after (spot_of store (with_laters r laters) locks)) new answer →
+    (locks : List Holder) (pending : List Pending) (next : NextStep) (new : After) (answer : StepAnswer) →
+    todo_of pending ≡ todo_of r.frame.pending → todo_of pending ≡ step_of next ∷ todo_of (drop 1 pending) →
+    IsAnswer (todo_step core turn others (spot_of store (with_pending r pending) locks)
+    (step_of next ∷ todo_of (drop 1 pending)))
+    (after (spot_of store (with_pending r pending) locks)) new answer →
     IsAnswer (frame_step core turn others (spot_of store r locks)) (after (spot_of store r locks)) new answer
-settled_answer core turn others store r locks laters next new answer same is_next h =
-    let s : Spot = spot_of store (with_laters r laters) locks in
+settled_answer core turn others store r locks pending next new answer same is_next h =
+    let s : Spot = spot_of store (with_pending r pending) locks in
     let P : Spot → Type 0 = λ t. IsAnswer (frame_step core turn others t) (after t) new answer in
-    subst P (settled store r locks laters same)
-    (along (todo_step core turn others s (step_of next ∷ todo_of (drop 1 laters))) (frame_step core turn others s)
+    subst P (settled store r locks pending same)
+    (along (todo_step core turn others s (step_of next ∷ todo_of (drop 1 pending))) (frame_step core turn others s)
     (after s) new answer (ap (todo_step core turn others s) is_next) h)

@@ -15,7 +15,7 @@ use Rattle.core_semantics.specs.declared.object.Object.{Object}
 use Rattle.core_semantics.specs.declared.object.Value.{Value}
 use Rattle.core_semantics.specs.declared.object.Value.TheVariants.{Plain, Opaque, Null, Object as Ref}
 use Rattle.core_semantics.specs.Runs.{Access, innermost, is_turn, next_of, next_touch}
-use Rattle.core_semantics.specs.State.{Frame, State, Todo, Operate, thread_of}
+use Rattle.core_semantics.specs.State.{Frame, State, Todo, Op, thread_of}
 use Rattle.core_semantics.specs.Steps.{kind_of, slot_of, top}
 
 abbrev pub is_plain_kind : Kind → Bool
@@ -47,7 +47,7 @@ op_change core f (New c) = Loud
 op_change core f _ = Quiet
 
 abbrev pub todo_change : Core → Frame → Todo → Change
-todo_change core f (Operate place op) = op_change core f op
+todo_change core f (Op place op) = op_change core f op
 todo_change core f _ = Quiet
 
 abbrev pub running_change : Core → Frame → Change
@@ -106,7 +106,7 @@ op_sight core f (New c) = changing_sight code.Anything
 op_sight core f _ = quiet_sight false
 
 abbrev pub todo_sight : Core → Frame → Todo → Sight
-todo_sight core f (Operate place op) = op_sight core f op
+todo_sight core f (Op place op) = op_sight core f op
 todo_sight core f todo = quiet_sight (is_turn todo)
 
 abbrev pub frame_sight : Core → Frame → Sight

@@ -27,24 +27,24 @@ pub data Halt : Type 0 where
 -- many steps
 pub data Ran : Type 0 where
   Came : (to : State) (left : List Turn) → Ran
-  Broke : (halt : Halt) (at : State) (steps : ℕ) → Ran
+  Halted : (halt : Halt) (at : State) (steps : ℕ) → Ran
 
-abbrev pub later : Ran → Ran
-later (Came to left) = Came to left
-later (Broke halt at steps) = Broke halt at (suc steps)
+abbrev pub one_step_more : Ran → Ran
+one_step_more (Came to left) = Came to left
+one_step_more (Halted halt at steps) = Halted halt at (suc steps)
 
 abbrev pub went : (State → Ran) → State → Next State → Ran
-went rest s (Goes next) = later (rest next)
-went rest s (Sticks why) = Broke (StuckFor why) s 0
-went rest s (Waits monitor) = Broke (HeldBy monitor) s 0
-went rest s Ends = Broke HasEnded s 0
+went rest s (Goes next) = one_step_more (rest next)
+went rest s (Sticks why) = Halted (StuckFor why) s 0
+went rest s (Waits monitor) = Halted (HeldBy monitor) s 0
+went rest s Ends = Halted HasEnded s 0
 
 -- so many steps of a thread, each choice or loop taking the next turn
 abbrev pub runs : Core → ℕ → ℕ → List Turn → State → Ran
 runs core t zero turns s = Came s turns
 runs core t (suc n) turns s =
     if wants_turn s t
-    then (elim turns [ [] ↦ Broke NoTurn s 0 | ◌∷◌ turn rest ↦ went (runs core t n rest) s (step core s t turn) ])
+    then (elim turns [ [] ↦ Halted NoTurn s 0 | ◌∷◌ turn rest ↦ went (runs core t n rest) s (step core s t turn) ])
     else went (runs core t n turns) s (step core s t Right)
 
 -- where all steps were made and all turns were used

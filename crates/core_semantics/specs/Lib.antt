@@ -7,6 +7,7 @@ pub mod Monitors
 pub mod State
 pub mod Steps
 pub mod Runs
+pub mod Looks
 pub mod Cells
 pub mod Changes
 pub mod CellOrder
@@ -14,5 +15,5 @@ pub mod Answers
 pub mod View
 pub mod Weights
 pub mod Legs
-pub mod Rows
+pub mod Examples
 pub mod Behind

@@ -25,7 +25,7 @@ use Rattle.core_semantics.specs.declared.object.Object.TheVariants.{Start as Sta
 use Rattle.core_semantics.specs.declared.object.Value.{Value}
 use Rattle.core_semantics.specs.declared.object.Value.TheVariants.{Plain, Opaque, Null, Object as Ref}
 use Rattle.core_semantics.specs.Objects.{root_path, same_start_path, same_object}
-use Rattle.core_semantics.specs.State.{Todo, Operate, Choose, Repeat, Lock, Unlock, Frame, Thread, State, Store, thread_of}
+use Rattle.core_semantics.specs.State.{Todo, Op, Choice, Loop, Sync, Unlock, Frame, Thread, State, Store, thread_of}
 use Rattle.core_semantics.specs.Steps.{entered, read, top, slot_of}
 
 -- The beginning: two entries with one shared `this`, each with parameters of its own. Nothing is stored, and no monitor
@@ -78,10 +78,10 @@ abbrev pub next_todo : State → ℕ → Option Todo
 next_todo s t = option_and_then next_of (innermost s t)
 
 abbrev pub is_turn : Todo → Bool
-is_turn (Operate place op) = false
-is_turn (Choose left right) = true
-is_turn (Repeat body) = true
-is_turn (Lock place body) = false
+is_turn (Op place op) = false
+is_turn (Choice left right) = true
+is_turn (Loop body) = true
+is_turn (Sync place body) = false
 is_turn Unlock = false
 
 -- whether a thread is at a choice or a loop
@@ -89,10 +89,10 @@ abbrev pub wants_turn : State → ℕ → Bool
 wants_turn s t = elim (next_todo s t) [ None ↦ false | Some todo ↦ is_turn todo ]
 
 abbrev pub place_of : Todo → Option Place
-place_of (Operate place op) = Some place
-place_of (Choose left right) = None
-place_of (Repeat body) = None
-place_of (Lock place body) = Some place
+place_of (Op place op) = Some place
+place_of (Choice left right) = None
+place_of (Loop body) = None
+place_of (Sync place body) = Some place
 place_of Unlock = None
 
 -- the place of the operation or the lock that a thread is at
@@ -115,7 +115,7 @@ op_touch f (Put x) = access_of (slot_of f 1) x Write
 op_touch f _ = None
 
 abbrev pub todo_touch : Frame → Todo → Option Access
-todo_touch f (Operate place op) = op_touch f op
+todo_touch f (Op place op) = op_touch f op
 todo_touch f _ = None
 
 abbrev pub frame_touch : Frame → Option Access

@@ -4,7 +4,8 @@ use Rattle.std.specs.Prelude.{ℕ, Bool, List, ◌∷◌, Option, nat_eq, if◌t
 use Rattle.racer_base.specs.declared.ids.FieldId.{FieldId}
 use Rattle.racer_base.specs.declared.ids.Place.{Place}
 use Rattle.core_code.specs.declared.code.Op.{Op as CoreOp}
-use Rattle.core_code.specs.Tree.{Tree, Step, Nothing, Then, Either, Again, Held}
+use Rattle.core_code.specs.Tree.{Tree}
+use Rattle.core_code.specs.Tree as tree
 use Rattle.core_semantics.specs.declared.answer.Holder.{Holder}
 use Rattle.core_semantics.specs.declared.object.StartPath.{StartPath}
 use Rattle.core_semantics.specs.declared.object.Object.{Object}
@@ -12,20 +13,20 @@ use Rattle.core_semantics.specs.declared.object.Value.{Value}
 
 -- one step that is still to do: an operation; a choice; a loop; a lock round a body; the innermost lock's end
 pub data Todo : Type 0 where
-  Operate : (place : Place) (op : CoreOp) → Todo
-  Choose : (left right : Tree) → Todo
-  Repeat : (body : Tree) → Todo
-  Lock : (place : Place) (body : Tree) → Todo
+  Op : (place : Place) (op : CoreOp) → Todo
+  Choice : (left right : Tree) → Todo
+  Loop : (body : Tree) → Todo
+  Sync : (place : Place) (body : Tree) → Todo
   Unlock : Todo
 
 -- code before what is still to do: sequences unfold without a step
 abbrev pub before : Tree → List Todo → List Todo
-before (Step site place op) todo = Operate place op ∷ todo
-before Nothing todo = todo
-before (Then first rest) todo = before first (before rest todo)
-before (Either left right) todo = Choose left right ∷ todo
-before (Again body) todo = Repeat body ∷ todo
-before (Held place body) todo = Lock place body ∷ todo
+before (tree.Op site place op) todo = Op place op ∷ todo
+before tree.Skip todo = todo
+before (tree.Seq first rest) todo = before first (before rest todo)
+before (tree.Choice left right) todo = Choice left right ∷ todo
+before (tree.Loop body) todo = Loop body ∷ todo
+before (tree.Sync place body) todo = Sync place body ∷ todo
 
 -- The stack's top stands first. Of the monitors that its thread holds a frame locked so many, the innermost ones that
 -- inner frames did not lock.

@@ -30,7 +30,7 @@ use Rattle.core_semantics.specs.declared.object.Object.TheVariants.{Start, Fresh
 use Rattle.core_semantics.specs.declared.object.Value.{Value}
 use Rattle.core_semantics.specs.declared.object.Value.TheVariants.{Plain, Opaque, Null, Object as Ref}
 use Rattle.core_semantics.specs.Objects.{lengthened, root_path, same_monitor, same_object}
-use Rattle.core_semantics.specs.State.{Todo, Operate, Choose, Repeat, Lock, Unlock, before, Frame, Thread, Store, State}
+use Rattle.core_semantics.specs.State.{Todo, Op, Choice, Loop, Sync, Unlock, before, Frame, Thread, Store, State}
 use Rattle.core_semantics.specs.State.{thread_of, other_of, with_thread}
 
 -- what comes of a step: what is so after it; or why it cannot be made; or the monitor that the other thread holds; or
@@ -279,12 +279,12 @@ operated core s rest op =
 
 abbrev pub todo_step : Core → Turn → List Holder → Spot → List Todo → Next After
 todo_step core turn others s [] = Ends
-todo_step core turn others s (Operate place op ∷ rest) = operated core s rest op
-todo_step core turn others s (Choose left right ∷ rest) =
+todo_step core turn others s (Op place op ∷ rest) = operated core s rest op
+todo_step core turn others s (Choice left right ∷ rest) =
     Goes (after (with_todo s (chosen turn (before left rest) (before right rest))))
-todo_step core turn others s (Repeat body ∷ rest) =
-    Goes (after (with_todo s (chosen turn (before body (Repeat body ∷ rest)) rest)))
-todo_step core turn others s (Lock place body ∷ rest) =
+todo_step core turn others s (Loop body ∷ rest) =
+    Goes (after (with_todo s (chosen turn (before body (Loop body ∷ rest)) rest)))
+todo_step core turn others s (Sync place body ∷ rest) =
     lock_step others (with_todo s rest) body (top s.frame)
 todo_step core turn others s (Unlock ∷ rest) = Goes (after (unlocked (with_todo s rest)))
 

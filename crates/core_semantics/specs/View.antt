@@ -7,12 +7,12 @@ use Rattle.core_semantics.specs.declared.object.Object.{Object}
 use Rattle.core_semantics.specs.Runs.{Access}
 use Rattle.core_code.specs.declared.code.Op.{Op as CoreOp}
 use Rattle.core_code.specs.Tree.{tree_of, in_sequence, is_return}
-use Rattle.core_semantics.specs.declared.later.Later.{Later}
-use Rattle.core_semantics.specs.declared.later.Later.TheVariants.{One, Parts, Unlock as LaterUnlock}
-use Rattle.core_semantics.specs.declared.later.NextStep.{NextStep}
-use Rattle.core_semantics.specs.declared.later.NextStep.TheVariants.{Operation, Choice, Loop, Lock as NextLock, Unlock as NextUnlock}
-use Rattle.core_semantics.specs.declared.later.Unfolded.{Unfolded}
-use Rattle.core_semantics.specs.declared.later.Unfolded.TheVariants.{Next as ANext, Nothing as ANothing, One as AOne, Two as ATwo}
+use Rattle.core_semantics.specs.declared.pending.Pending.{Pending}
+use Rattle.core_semantics.specs.declared.pending.Pending.TheVariants.{One, Parts, Unlock as PendingUnlock}
+use Rattle.core_semantics.specs.declared.pending.NextStep.{NextStep}
+use Rattle.core_semantics.specs.declared.pending.NextStep.TheVariants as step
+use Rattle.core_semantics.specs.declared.pending.Unfolded.{Unfolded}
+use Rattle.core_semantics.specs.declared.pending.Unfolded.TheVariants.{Next as ANext, Nothing as ANothing, One as AOne, Two as ATwo}
 use Rattle.core_semantics.specs.declared.frame.Frame.{Frame as CodeFrame}
 use Rattle.core_semantics.specs.declared.store.Store.{Store as CodeStore}
 use Rattle.core_semantics.specs.CellOrder.{cells_of, heap_of}
@@ -21,25 +21,25 @@ use Rattle.core_semantics.specs.declared.machine.Machine.{Machine}
 use Rattle.core_semantics.specs.declared.thread.Running.{Running}
 use Rattle.core_semantics.specs.declared.thread.Thread.{Thread as CodeThread}
 use Rattle.core_semantics.specs.Steps.{Inner, Spot, After}
-use Rattle.core_semantics.specs.State.{Frame, Thread, State, Store, Todo, Operate, Choose, Repeat, Lock, Unlock, before}
+use Rattle.core_semantics.specs.State.{Frame, Thread, State, Store, Todo, Op, Choice, Loop, Sync, Unlock, before}
 
 -- the steps of a part, before others
-abbrev pub before_later : Later → List Todo → List Todo
-before_later (One code) todo = before (tree_of code.now) todo
-before_later (Parts parts) todo = before (in_sequence (map tree_of parts.now)) todo
-before_later LaterUnlock todo = Unlock ∷ todo
+abbrev pub before_part : Pending → List Todo → List Todo
+before_part (One code) todo = before (tree_of code.now) todo
+before_part (Parts parts) todo = before (in_sequence (map tree_of parts.now)) todo
+before_part PendingUnlock todo = Unlock ∷ todo
 
 -- the steps of parts
-abbrev pub todo_of : List Later → List Todo
+abbrev pub todo_of : List Pending → List Todo
 todo_of [] = []
-todo_of (later ∷ laters) = before_later later (todo_of laters)
+todo_of (part ∷ pending) = before_part part (todo_of pending)
 
 abbrev pub step_of : NextStep → Todo
-step_of (Operation place op) = Operate place op
-step_of (Choice left right) = Choose (tree_of left.now) (tree_of right.now)
-step_of (Loop body) = Repeat (tree_of body.now)
-step_of (NextLock place body) = Lock place (tree_of body.now)
-step_of NextUnlock = Unlock
+step_of (step.Op place op) = Op place op
+step_of (step.Choice left right) = Choice (tree_of left.now) (tree_of right.now)
+step_of (step.Loop body) = Loop (tree_of body.now)
+step_of (step.Sync place body) = Sync place (tree_of body.now)
+step_of step.Unlock = Unlock
 
 -- this step where there is one, else what comes then
 abbrev pub or_next : Option NextStep → Option Todo → Option Todo
@@ -49,21 +49,21 @@ or_next (Some next) then_next = Some (step_of next)
 abbrev pub before_unfolded : Unfolded → List Todo → List Todo
 before_unfolded (ANext next) todo = step_of next ∷ todo
 before_unfolded ANothing todo = todo
-before_unfolded (AOne part) todo = before_later part todo
-before_unfolded (ATwo part rest) todo = before_later part (before_later rest todo)
+before_unfolded (AOne part) todo = before_part part todo
+before_unfolded (ATwo part rest) todo = before_part part (before_part rest todo)
 
 -- the next step of parts, and that it is all of the first of them
-abbrev pub IsNext : Option NextStep → List Later → Type 0
-IsNext None laters = todo_of laters ≡ []
-IsNext (Some next) laters = (0 < length laters) × (todo_of laters ≡ step_of next ∷ todo_of (drop 1 laters))
+abbrev pub IsNext : Option NextStep → List Pending → Type 0
+IsNext None pending = todo_of pending ≡ []
+IsNext (Some next) pending = (0 < length pending) × (todo_of pending ≡ step_of next ∷ todo_of (drop 1 pending))
 
 -- what is seen of a frame
 abbrev pub frame_of : CodeFrame → Frame
-frame_of f = record { vars = f.vars.items; stack = f.stack; todo = todo_of f.laters; locked = f.locked }
+frame_of f = record { vars = f.vars.items; stack = f.stack; todo = todo_of f.pending; locked = f.locked }
 
 -- the same behind its next step
 abbrev pub behind : CodeFrame → Frame
-behind f = record (frame_of f) { todo = todo_of (drop 1 f.laters) }
+behind f = record (frame_of f) { todo = todo_of (drop 1 f.pending) }
 
 -- the same with these steps still to do
 abbrev pub with_steps : CodeFrame → List Todo → Frame
@@ -118,7 +118,7 @@ abbrev pub ends_with : CoreOp → Running → Bool
 ends_with op r = is_return op && nat_eq r.frame.locked 0 && nat_eq (length r.callers.items) 0
 
 abbrev pub ends_thread : NextStep → Running → Bool
-ends_thread (Operation place op) r = ends_with op r
+ends_thread (step.Op place op) r = ends_with op r
 ends_thread _ r = false
 
 -- what is seen of a machine

@@ -2,10 +2,10 @@
 ghost use Rattle.std.specs.Prelude.{◌≡◌, ◌+◌, List, drop, option_map, map, slice_get};
 ghost use Rattle.core_code.specs.Tree.{tree_of, in_sequence};
 ghost use Rattle.core_semantics.specs.State.{Todo, before};
-ghost use Rattle.core_semantics.specs.View.{before_later, or_next, step_of, todo_of};
+ghost use Rattle.core_semantics.specs.View.{before_part, or_next, step_of, todo_of};
 
-use crate::later::{Later, NextStep};
-use crate::pile::Pile;
+use crate::pending::{NextStep, Pending};
+use crate::stack::Stack;
 use core_code::Code;
 
 /// The first step of code.
@@ -15,11 +15,11 @@ fn first_of<'a>(code: &'a Code) -> Option<NextStep<'a>>
         slice_get (before (tree_of code.now) todo) 0 ≡ or_next result (slice_get todo 0) }
 {
     match code {
-        Code::Op(_, place, op) => Some(NextStep::Operation(*place, *op)),
+        Code::Op(_, place, op) => Some(NextStep::Op(*place, *op)),
         Code::Seq(parts) => first_of_parts(parts.as_slice()),
         Code::Choice(left, right) => Some(NextStep::Choice(left, right)),
         Code::Loop(body) => Some(NextStep::Loop(body)),
-        Code::Sync(place, body) => Some(NextStep::Lock(*place, body)),
+        Code::Sync(place, body) => Some(NextStep::Sync(*place, body)),
     }
 }
 
@@ -38,33 +38,33 @@ fn first_of_parts<'a>(parts: &'a [Code]) -> Option<NextStep<'a>>
 }
 
 /// The first step of a part.
-fn first_of_later<'a>(later: Later<'a>) -> Option<NextStep<'a>>
-    ensures { (todo : List Todo) → slice_get (before_later later.entry todo) 0 ≡ or_next result (slice_get todo 0) }
+fn first_of_part<'a>(part: Pending<'a>) -> Option<NextStep<'a>>
+    ensures { (todo : List Todo) → slice_get (before_part part.entry todo) 0 ≡ or_next result (slice_get todo 0) }
 {
-    match later {
-        Later::One(code) => first_of(code),
-        Later::Parts(parts) => first_of_parts(parts),
-        Later::Unlock => Some(NextStep::Unlock),
+    match part {
+        Pending::One(code) => first_of(code),
+        Pending::Parts(parts) => first_of_parts(parts),
+        Pending::Unlock => Some(NextStep::Unlock),
     }
 }
 
 /// The first step of the part of this number, counted from the next one.
-fn step_at<'a>(laters: &Pile<Later<'a>>, number: usize) -> Option<NextStep<'a>>
-    ensures { slice_get (todo_of (drop number laters.now)) 0
-        ≡ or_next result (slice_get (todo_of (drop (number + 1) laters.now)) 0) }
+fn step_at<'a>(pending: &Stack<Pending<'a>>, number: usize) -> Option<NextStep<'a>>
+    ensures { slice_get (todo_of (drop number pending.now)) 0
+        ≡ or_next result (slice_get (todo_of (drop (number + 1) pending.now)) 0) }
 {
-    match laters.get(number) {
-        Some(later) => first_of_later(*later),
+    match pending.get(number) {
+        Some(part) => first_of_part(*part),
         None => None,
     }
 }
 
 /// The next step.
-pub(crate) fn ahead<'a>(laters: &Pile<Later<'a>>) -> Option<NextStep<'a>>
-    ensures { option_map step_of result ≡ slice_get (todo_of laters.now) 0 }
+pub(crate) fn ahead<'a>(pending: &Stack<Pending<'a>>) -> Option<NextStep<'a>>
+    ensures { option_map step_of result ≡ slice_get (todo_of pending.now) 0 }
 {
-    for number in 0..laters.len() {
-        if let Some(next) = step_at(laters, number) {
+    for number in 0..pending.len() {
+        if let Some(next) = step_at(pending, number) {
             return Some(next);
         }
     }

@@ -10,7 +10,7 @@ ghost use Rattle.core_semantics.specs.View.{frame_of, state_of};
 use crate::ahead::ahead;
 use crate::frame::Frame;
 use crate::inner::kind_of;
-use crate::later::NextStep;
+use crate::pending::NextStep;
 use crate::touch::is_turn;
 use crate::{Machine, Value};
 use core_code::{Op, Program};
@@ -129,10 +129,10 @@ impl Frame<'_> {
     fn sight(&self, program: &Program) -> Sight
         ensures { result ≡ frame_sight (core program.now) (frame_of self.now) }
     {
-        match ahead(&self.laters) {
-            Some(NextStep::Operation(_, Op::Get(f))) => self.get_sight(program, f),
-            Some(NextStep::Operation(_, Op::Put(f))) => changing(self.put_change(program, f)),
-            Some(NextStep::Operation(_, Op::New(_))) => changing(FieldChange::Anything),
+        match ahead(&self.pending) {
+            Some(NextStep::Op(_, Op::Get(f))) => self.get_sight(program, f),
+            Some(NextStep::Op(_, Op::Put(f))) => changing(self.put_change(program, f)),
+            Some(NextStep::Op(_, Op::New(_))) => changing(FieldChange::Anything),
             Some(next) => quiet(is_turn(next)),
             None => quiet(false),
         }

@@ -11,8 +11,8 @@ ghost use Rattle.core_semantics.specs.State.{before};
 ghost use Rattle.core_semantics.specs.Steps.{Goes, base_of, entered, passed_from, popped, replaced, slot_of, top};
 ghost use Rattle.core_semantics.specs.View.{frame_of, behind, todo_of};
 
-use crate::later::Later;
-use crate::pile::Pile;
+use crate::pending::Pending;
+use crate::stack::Stack;
 use crate::{Object, StepAnswer, Value, Why};
 use core_code::{Code, MethodCore};
 use racer_base::{Memory, VarId};
@@ -22,8 +22,8 @@ use std::alloc::Global;
 #[derive(Drop)]
 pub(crate) struct Frame<'a> {
     pub vars: Vec<Value>,
-    pub stack: Pile<Value>,
-    pub laters: Pile<Later<'a>>,
+    pub stack: Stack<Value>,
+    pub pending: Stack<Pending<'a>>,
     /// How many monitors it locked.
     pub locked: usize,
 }
@@ -40,14 +40,14 @@ fn with_nulls(mut values: Vec<Value>, count: usize) -> Result<Vec<Value>, Memory
 }
 
 /// Code that is still to be done, and nothing behind it.
-fn later_code<'a>(alloc: Global, code: &'a Code) -> Result<Pile<Later<'a>>, Memory>
-    ensures { IfOk result (λ laters. todo_of laters ≡ before (tree_of code.now) []) }
+fn pending_code<'a>(alloc: Global, code: &'a Code) -> Result<Stack<Pending<'a>>, Memory>
+    ensures { IfOk result (λ pending. todo_of pending ≡ before (tree_of code.now) []) }
 {
-    let mut laters = Pile::new(alloc);
-    let Ok(()) = laters.replace(0, Later::One(code)) else {
+    let mut pending = Stack::new(alloc);
+    let Ok(()) = pending.replace(0, Pending::One(code)) else {
         return Err(Memory);
     };
-    Ok(laters)
+    Ok(pending)
 }
 
 impl<'a> Frame<'a> {
@@ -62,13 +62,13 @@ impl<'a> Frame<'a> {
         let Ok(vars) = with_nulls(passed, method.variables.len()) else {
             return Err(Memory);
         };
-        let Ok(laters) = later_code(alloc, &method.code) else {
+        let Ok(pending) = pending_code(alloc, &method.code) else {
             return Err(Memory);
         };
         Ok(Frame {
             vars,
-            stack: Pile::new(alloc),
-            laters,
+            stack: Stack::new(alloc),
+            pending,
             locked: 0,
         })
     }
@@ -132,7 +132,7 @@ impl<'a> Frame<'a> {
         let Ok(()) = self.stack.replace(count, value) else {
             return Err(Memory);
         };
-        self.laters.cut(1);
+        self.pending.cut(1);
         Ok(())
     }
 
@@ -141,7 +141,7 @@ impl<'a> Frame<'a> {
         ensures { frame_of self.new ≡ popped (behind self.old) count }
     {
         self.stack.cut(count);
-        self.laters.cut(1);
+        self.pending.cut(1);
     }
 
     /// Sets a variable, and leaves the next step behind.
@@ -152,7 +152,7 @@ impl<'a> Frame<'a> {
         if (v.0 as usize) < self.vars.len() {
             self.vars[v.0 as usize] = value;
         }
-        self.laters.cut(1);
+        self.pending.cut(1);
     }
 
     /// Puts a value, where there was memory for it, in the place of so many on the stack, and leaves the next step
@@ -176,6 +176,6 @@ impl<'a> Frame<'a> {
             frame_of self.new ≡ replaced (behind self.old) 2 (top (frame_of self.old)) }
     {
         self.stack.pull();
-        self.laters.cut(1);
+        self.pending.cut(1);
     }
 }

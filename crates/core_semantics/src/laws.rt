@@ -15,9 +15,9 @@ ghost use Rattle.core_semantics.specs.Legs.{NoTurn, StuckFor, HeldBy, HasEnded};
 ghost use Rattle.core_semantics.specs.Objects.{root_path};
 ghost use Rattle.core_semantics.specs.Runs.{place, next_touch, wants_turn};
 ghost use Rattle.core_semantics.specs.Steps.{op_step, Sticks};
-ghost use Rattle.core_semantics.specs.Rows.{class, field, method, var, fresh, this_path, this_value};
-ghost use Rattle.core_semantics.specs.Rows.{null, gate, early, calls, leg, after_legs, is_race, halt_after};
-ghost use Rattle.core_semantics.specs.Rows.{stack_of, vars_of, after_op, with_stack};
+ghost use Rattle.core_semantics.specs.Examples.{class, field, method, var, fresh, this_path, this_value};
+ghost use Rattle.core_semantics.specs.Examples.{null, gate, early, calls, leg, after_legs, is_race, halt_after};
+ghost use Rattle.core_semantics.specs.Examples.{stack_of, vars_of, after_op, with_stack};
 
 /// What each operation leaves on the stack, which holds a plain value on `this` on an object.
 pub fn stacks_after_operations()

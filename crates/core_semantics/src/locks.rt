@@ -7,8 +7,8 @@ ghost use Rattle.core_semantics.specs.Steps.{after, lock_step, locking, monitor_
 ghost use Rattle.core_semantics.specs.View.{behind, behind_at, frame_of, spot_at};
 
 use crate::frame::Frame;
-use crate::later::Later;
 use crate::monitors::Monitors;
+use crate::pending::Pending;
 use crate::{Holder, StepAnswer, Value, Why};
 use core_code::Code;
 use std::alloc::Global;
@@ -33,7 +33,7 @@ fn take<'a>(
     monitor: Holder,
     body: &'a Code,
 ) -> StepAnswer
-    requires { 0 < length frame.old.laters }
+    requires { 0 < length frame.old.pending }
     ensures { (store : Store) (callers : List FrameSeen) →
         IsAnswer (locking others.now (behind_at store frame.old callers locks.old) (tree_of body.now) monitor)
         (after (spot_at store frame.old callers locks.old)) (after (spot_at store frame.new callers locks.new)) result }
@@ -47,7 +47,10 @@ fn take<'a>(
     let Ok(()) = locks.push(monitor) else {
         return StepAnswer::Memory;
     };
-    let Ok(()) = frame.laters.replace_by_two(Later::One(body), Later::Unlock) else {
+    let Ok(()) = frame
+        .pending
+        .replace_by_two(Pending::One(body), Pending::Unlock)
+    else {
         locks.pop();
         return StepAnswer::Memory;
     };
@@ -64,7 +67,7 @@ pub(crate) fn lock<'a>(
     locks: &mut Monitors,
     body: &'a Code,
 ) -> StepAnswer
-    requires { 0 < length frame.old.laters }
+    requires { 0 < length frame.old.pending }
     ensures { (store : Store) (callers : List FrameSeen) →
         IsAnswer (lock_step others.now (behind_at store frame.old callers locks.old) (tree_of body.now)
         (top (frame_of frame.old)))
@@ -85,7 +88,7 @@ pub(crate) fn end_lock(frame: &mut Frame, locks: &mut Monitors)
         ≡ unlocked (behind_at store frame.old callers locks.old) }
 {
     frame.locked = frame.locked.saturating_sub(1);
-    frame.laters.cut(1);
+    frame.pending.cut(1);
     locks.pop();
 }
 

@@ -15,7 +15,7 @@ ghost use Rattle.core_semantics.specs.View.{frames_of, seen_of, state_of};
 
 use crate::frame::Frame;
 use crate::monitors::Monitors;
-use crate::step::{Given, step_thread};
+use crate::step::{StepContext, step_thread};
 use crate::store::{Cells, Heap, Store};
 use crate::thread::{Running, Thread};
 use crate::{Object, Start, StartPath, StartRoot, StepAnswer, Turn, Value};
@@ -206,7 +206,7 @@ impl<'a> Machine<'a> {
             (state_of self.new) result }
     {
         if thread == 0 {
-            let given = Given {
+            let given = StepContext {
                 alloc: self.alloc,
                 program,
                 turn,
@@ -214,7 +214,7 @@ impl<'a> Machine<'a> {
             };
             step_thread(&given, &mut self.store, &mut self.first)
         } else {
-            let given = Given {
+            let given = StepContext {
                 alloc: self.alloc,
                 program,
                 turn,

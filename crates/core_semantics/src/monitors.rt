@@ -12,7 +12,7 @@ use std::marker::Model;
 
 /// A monitor that is held.
 #[derive(Drop)]
-pub(crate) struct Held {
+pub(crate) struct HeldMonitor {
     pub monitor: Holder,
     /// Whether its thread did not hold it before.
     pub is_first: bool,
@@ -24,7 +24,7 @@ pub(crate) struct Held {
 pub(crate) struct Monitors {
     alloc: Global,
     /// The last one stands last.
-    held: Vec<Held>,
+    held: Vec<HeldMonitor>,
     index: BTreeSet<Holder>,
 }
 
@@ -42,7 +42,7 @@ impl Model for Monitors {
 
 /// Puts a monitor at the end, and its copy among the others. Where memory is refused, both are as before.
 fn put(
-    held: &mut Vec<Held>,
+    held: &mut Vec<HeldMonitor>,
     index: &mut BTreeSet<Holder>,
     monitor: Holder,
     copy: Holder,
@@ -52,18 +52,18 @@ fn put(
 {
     held.reserve(1)?;
     let is_first = index.insert(copy)?;
-    let Ok(()) = held.push(Held { monitor, is_first }) else {
+    let Ok(()) = held.push(HeldMonitor { monitor, is_first }) else {
         unreachable!()
     };
     Ok(())
 }
 
 /// Takes the last monitor, where there is one.
-fn take(held: &mut Vec<Held>, index: &mut BTreeSet<Holder>)
+fn take(held: &mut Vec<HeldMonitor>, index: &mut BTreeSet<Holder>)
     ensures { HasPopped held.old.items index.old held.new.items index.new }
 {
     if let Some(last) = held.pop() {
-        let Held { monitor, is_first } = last;
+        let HeldMonitor { monitor, is_first } = last;
         if is_first {
             index.remove(&monitor);
         }

@@ -11,9 +11,9 @@ ghost use Rattle.core_semantics.specs.View.{step_of, store_of, todo_of, with_ste
 use crate::calls::{call, give_back};
 use crate::frame::Frame;
 use crate::inner::operate;
-use crate::later::{Later, NextStep, settle};
 use crate::locks::{end_lock, lock, unlock};
 use crate::monitors::Monitors;
+use crate::pending::{NextStep, Pending, unfold_next};
 use crate::store::Store;
 use crate::thread::{Running, Thread};
 use crate::{StepAnswer, Turn};
@@ -23,7 +23,7 @@ use std::alloc::Global;
 
 /// What a step is given.
 #[derive(Clone, Copy)]
-pub(crate) struct Given<'a, 'b> {
+pub(crate) struct StepContext<'a, 'b> {
     pub alloc: Global,
     pub program: &'a Program,
     pub turn: Turn,
@@ -34,15 +34,15 @@ pub(crate) struct Given<'a, 'b> {
 /// Does one side of a choice.
 fn choose<'a>(frame: &mut Frame<'a>, turn: Turn, left: &'a Code, right: &'a Code) -> StepAnswer
     ensures { IsAnswer (Goes (with_steps frame.old (chosen turn
-        (before (tree_of left.now) (todo_of (drop 1 frame.old.laters)))
-        (before (tree_of right.now) (todo_of (drop 1 frame.old.laters))))))
+        (before (tree_of left.now) (todo_of (drop 1 frame.old.pending)))
+        (before (tree_of right.now) (todo_of (drop 1 frame.old.pending))))))
         (frame_of frame.old) (frame_of frame.new) result }
 {
     let side = match turn {
         Turn::Left => left,
         Turn::Right => right,
     };
-    match frame.laters.replace(1, Later::One(side)) {
+    match frame.pending.replace(1, Pending::One(side)) {
         Ok(()) => StepAnswer::Stepped,
         Err(Memory) => StepAnswer::Memory,
     }
@@ -51,16 +51,16 @@ fn choose<'a>(frame: &mut Frame<'a>, turn: Turn, left: &'a Code, right: &'a Code
 /// Does the body of the loop that is next once more, or leaves the loop behind.
 fn repeat<'a>(frame: &mut Frame<'a>, turn: Turn, body: &'a Code) -> StepAnswer
     ensures { IsAnswer (Goes (with_steps frame.old (chosen turn
-        (before (tree_of body.now) (todo_of frame.old.laters)) (todo_of (drop 1 frame.old.laters)))))
+        (before (tree_of body.now) (todo_of frame.old.pending)) (todo_of (drop 1 frame.old.pending)))))
         (frame_of frame.old) (frame_of frame.new) result }
 {
     match turn {
-        Turn::Left => match frame.laters.replace(0, Later::One(body)) {
+        Turn::Left => match frame.pending.replace(0, Pending::One(body)) {
             Ok(()) => StepAnswer::Stepped,
             Err(Memory) => StepAnswer::Memory,
         },
         Turn::Right => {
-            frame.laters.cut(1);
+            frame.pending.cut(1);
             StepAnswer::Stepped
         }
     }
@@ -68,7 +68,7 @@ fn repeat<'a>(frame: &mut Frame<'a>, turn: Turn, body: &'a Code) -> StepAnswer
 
 /// Does the operation that is next. It is not the return that ends the thread.
 fn operated<'a>(
-    given: &Given<'a, '_>,
+    given: &StepContext<'a, '_>,
     store: &mut Store,
     running: &mut Running<'a>,
     locks: &mut Monitors,
@@ -76,7 +76,7 @@ fn operated<'a>(
 ) -> StepAnswer
     requires { ends_with op running.old ≡ false }
     ensures { IsAnswer (operated (core given.now.program.now) (spot_of (store_of store.old) running.old locks.old)
-        (todo_of (drop 1 running.old.frame.laters)) op)
+        (todo_of (drop 1 running.old.frame.pending)) op)
         (after (spot_of (store_of store.old) running.old locks.old))
         (after (spot_of (store_of store.new) running.new locks.new)) result }
 {
@@ -93,25 +93,25 @@ fn operated<'a>(
 
 /// Does this step, which is next. It is not the return that ends the thread.
 fn step_next<'a>(
-    given: &Given<'a, '_>,
+    given: &StepContext<'a, '_>,
     store: &mut Store,
     running: &mut Running<'a>,
     locks: &mut Monitors,
     next: NextStep<'a>,
 ) -> StepAnswer
-    requires ready { IsNext (SomeOf next) running.old.frame.laters }
+    requires ready { IsNext (SomeOf next) running.old.frame.pending }
     requires goes_on { ends_thread next running.old ≡ false }
     ensures { IsAnswer (todo_step (core given.now.program.now) given.now.turn given.now.others.now
         (spot_of (store_of store.old) running.old locks.old)
-        (step_of next.entry ∷ todo_of (drop 1 running.old.frame.laters)))
+        (step_of next.entry ∷ todo_of (drop 1 running.old.frame.pending)))
         (after (spot_of (store_of store.old) running.old locks.old))
         (after (spot_of (store_of store.new) running.new locks.new)) result }
 {
     match next {
-        NextStep::Operation(_, op) => operated(given, store, running, locks, op),
+        NextStep::Op(_, op) => operated(given, store, running, locks, op),
         NextStep::Choice(left, right) => choose(&mut running.frame, given.turn, left, right),
         NextStep::Loop(body) => repeat(&mut running.frame, given.turn, body),
-        NextStep::Lock(_, body) => {
+        NextStep::Sync(_, body) => {
             lock(given.alloc, given.others, &mut running.frame, locks, body)
         }
         NextStep::Unlock => {
@@ -126,16 +126,14 @@ fn ends_thread(next: NextStep, running: &Running) -> bool
     ensures { result ≡ ends_thread next.entry running.now }
 {
     match next {
-        NextStep::Operation(_, Op::Ret) => {
-            running.frame.locked == 0 && running.callers.is_empty()
-        }
+        NextStep::Op(_, Op::Ret) => { running.frame.locked == 0 && running.callers.is_empty() }
         _ => false,
     }
 }
 
 /// One step of a thread that has not ended. No answer says that it ends the thread.
 fn step_running<'a>(
-    given: &Given<'a, '_>,
+    given: &StepContext<'a, '_>,
     store: &mut Store,
     running: &mut Running<'a>,
     locks: &mut Monitors,
@@ -146,7 +144,7 @@ fn step_running<'a>(
         (after (spot_of (store_of store.new) running.new locks.new))
         (ended_with (store_of store.new) locks.new) result }
 {
-    let Ok(next) = settle(&mut running.frame.laters) else {
+    let Ok(next) = unfold_next(&mut running.frame.pending) else {
         return Some(StepAnswer::Memory);
     };
     let Some(next) = next else {
@@ -160,7 +158,7 @@ fn step_running<'a>(
 
 /// One step of a thread.
 pub(crate) fn step_thread<'a>(
-    given: &Given<'a, '_>,
+    given: &StepContext<'a, '_>,
     store: &mut Store,
     thread: &mut Thread<'a>,
 ) -> StepAnswer

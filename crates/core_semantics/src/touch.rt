@@ -10,7 +10,7 @@ ghost use Rattle.core_semantics.specs.View.{frame_of, seen_access, seen_of, stat
 use crate::ahead::ahead;
 use crate::frame::Frame;
 use crate::inner::read;
-use crate::later::NextStep;
+use crate::pending::NextStep;
 use crate::thread::Thread;
 use crate::{Machine, Object, Value};
 use core_code::{Op, Program};
@@ -21,8 +21,8 @@ fn place_of(next: NextStep) -> Option<Place>
     ensures { result ≡ place_of (step_of next.entry) }
 {
     match next {
-        NextStep::Operation(place, _) => Some(place),
-        NextStep::Lock(place, _) => Some(place),
+        NextStep::Op(place, _) => Some(place),
+        NextStep::Sync(place, _) => Some(place),
         NextStep::Choice(_, _) => None,
         NextStep::Loop(_) => None,
         NextStep::Unlock => None,
@@ -34,8 +34,8 @@ pub(crate) fn is_turn(next: NextStep) -> bool
     ensures { result ≡ is_turn (step_of next.entry) }
 {
     match next {
-        NextStep::Operation(_, _) => false,
-        NextStep::Lock(_, _) => false,
+        NextStep::Op(_, _) => false,
+        NextStep::Sync(_, _) => false,
         NextStep::Choice(_, _) => true,
         NextStep::Loop(_) => true,
         NextStep::Unlock => false,
@@ -57,9 +57,9 @@ impl Frame<'_> {
     fn touch(&self) -> Option<(&Object, FieldId, Touch)>
         ensures { option_map seen_access result ≡ frame_touch (frame_of self.now) }
     {
-        match ahead(&self.laters) {
-            Some(NextStep::Operation(_, Op::Get(f))) => self.access(0, f, Touch::Read),
-            Some(NextStep::Operation(_, Op::Put(f))) => self.access(1, f, Touch::Write),
+        match ahead(&self.pending) {
+            Some(NextStep::Op(_, Op::Get(f))) => self.access(0, f, Touch::Read),
+            Some(NextStep::Op(_, Op::Put(f))) => self.access(1, f, Touch::Write),
             _ => None,
         }
     }
@@ -82,7 +82,7 @@ impl Machine<'_> {
         ensures { option_map step_of result ≡ next_todo (state_of self.now) thread }
     {
         match &self.thread(thread).running {
-            Some(running) => ahead(&running.frame.laters),
+            Some(running) => ahead(&running.frame.pending),
             None => None,
         }
     }

@@ -17,11 +17,11 @@ use Rattle.core_semantics.specs.declared.answer.Why.TheVariants.{UnreadCall}
 use Rattle.core_semantics.specs.declared.object.Object.{Object}
 use Rattle.core_semantics.specs.declared.object.Start.{Start}
 use Rattle.core_semantics.specs.declared.object.Value.TheVariants.{Null}
-use Rattle.core_semantics.specs.Legs.{Leg, Ran, Came, Broke, NoTurn, later, run, run_leg, runs, went, whole}
+use Rattle.core_semantics.specs.Legs.{Leg, Ran, Came, Halted, NoTurn, one_step_more, run, run_leg, runs, went, whole}
 use Rattle.core_semantics.specs.Objects.{same_monitor}
 use Rattle.core_semantics.specs.Runs.{begun, given_to, wants_turn}
 use Rattle.core_semantics.specs.SameMonitor.{same_monitor-laws}
-use Rattle.core_semantics.specs.State.{State, Store, Thread, Todo, Operate, Choose, Repeat, Lock, Unlock}
+use Rattle.core_semantics.specs.State.{State, Store, Thread, Todo, Op, Choice, Loop, Sync, Unlock}
 use Rattle.core_semantics.specs.State.{other_of, thread_of}
 use Rattle.core_semantics.specs.Steps.{After, Inner, Next, Goes, Sticks, Waits, Ends, Spot, after, base_of}
 use Rattle.core_semantics.specs.Steps.{called, called_method, ended_with, entered, entering, frame_step, inner}
@@ -185,10 +185,10 @@ lock-keeps others s body (Err why) free = tt
 turn-keeps : (core : Core) (turn : Turn) (others : List Holder) (s : Spot) (todo : List Todo) →
     AreFree others s.locks → Keeps others (todo_step core turn others s todo)
 turn-keeps core turn others s [] free = tt
-turn-keeps core turn others s (Operate place op ∷ rest) free = operated-keeps core others s rest op free
-turn-keeps core turn others s (Choose left right ∷ rest) free = free
-turn-keeps core turn others s (Repeat body ∷ rest) free = free
-turn-keeps core turn others s (Lock place body ∷ rest) free =
+turn-keeps core turn others s (Op place op ∷ rest) free = operated-keeps core others s rest op free
+turn-keeps core turn others s (Choice left right ∷ rest) free = free
+turn-keeps core turn others s (Loop body ∷ rest) free = free
+turn-keeps core turn others s (Sync place body ∷ rest) free =
     lock-keeps others (with_todo s rest) body (monitor_of (top s.frame)) free
 turn-keeps core turn others s (Unlock ∷ rest) free = fewer-free others s.locks free
 
@@ -277,9 +277,9 @@ moved-keeps core (m ∷ moves) from s one e =
           (made-keeps (step core from m.thread m.turn) next (step-keeps core from m.thread m.turn one) is) rest
     ] refl e
 
-later-keeps : (r : Ran) → HaveOneHolderIn r → HaveOneHolderIn (later r)
+later-keeps : (r : Ran) → HaveOneHolderIn r → HaveOneHolderIn (one_step_more r)
 later-keeps (Came to left) one = one
-later-keeps (Broke halt at steps) one = one
+later-keeps (Halted halt at steps) one = one
 
 went-keeps : (rest : State → Ran) (s : State) (n : Next State) → HaveOneHolder s → OnNext n →
     ((next : State) → HaveOneHolder next → HaveOneHolderIn (rest next)) → HaveOneHolderIn (went rest s n)
@@ -294,11 +294,11 @@ runs-keep core t zero turns s one = one
 runs-keep core t (suc n) turns s one =
     elim (wants_turn s t) as (λ b. HaveOneHolderIn (cond b
     (elim turns as (λ _. Ran) [
-      | [] ↦ Broke NoTurn s 0
+      | [] ↦ Halted NoTurn s 0
       | ◌∷◌ turn rest ↦ went (runs core t n rest) s (step core s t turn)
     ]) (went (runs core t n turns) s (step core s t Right)))) [
       | true ↦ elim turns as (λ ts. HaveOneHolderIn (elim ts as (λ _. Ran) [
-        | [] ↦ Broke NoTurn s 0
+        | [] ↦ Halted NoTurn s 0
         | ◌∷◌ turn rest ↦ went (runs core t n rest) s (step core s t turn)
       ])) [
         | [] ↦ one
@@ -314,7 +314,7 @@ runs-keep core t (suc n) turns s one =
 whole-keeps : (r : Ran) (s : State) → HaveOneHolderIn r → whole r ≡ Some s → HaveOneHolder s
 whole-keeps (Came to []) s one e = let same : to ≡ s = cc in subst HaveOneHolder same one
 whole-keeps (Came to (turn ∷ turns)) s one e = absurd cc
-whole-keeps (Broke halt at steps) s one e = absurd cc
+whole-keeps (Halted halt at steps) s one e = absurd cc
 
 run-keeps : (core : Core) (legs : List Leg) (from s : State) → HaveOneHolder from → run core legs from ≡ Some s →
     HaveOneHolder s

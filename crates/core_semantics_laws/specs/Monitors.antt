@@ -6,7 +6,7 @@ use Rattle.std.specs.Option.{option_and_then}
 use Rattle.core_code.specs.Core.{Core}
 use Rattle.core_semantics.specs.declared.answer.Holder.{Holder}
 use Rattle.core_semantics.specs.declared.answer.Turn.{Turn}
-use Rattle.core_semantics.specs.Legs.{Ran, Came, Broke}
+use Rattle.core_semantics.specs.Legs.{Ran, Came, Halted}
 use Rattle.core_semantics.specs.Objects.{same_monitor}
 use Rattle.core_semantics.specs.State.{State, Thread}
 use Rattle.core_semantics.specs.Steps.{Next, Goes, Sticks, Waits, Ends, step}
@@ -42,4 +42,4 @@ HaveOneHolder s = (monitor : Holder) → (holds s.first monitor && holds s.secon
 -- the same of the state that a run comes to, or in which a step cannot be made
 abbrev pub HaveOneHolderIn : Ran → Type 0
 HaveOneHolderIn (Came to left) = HaveOneHolder to
-HaveOneHolderIn (Broke halt at steps) = HaveOneHolder at
+HaveOneHolderIn (Halted halt at steps) = HaveOneHolder at

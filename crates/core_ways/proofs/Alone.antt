@@ -10,8 +10,9 @@ use Rattle.core_code.specs.declared.code.Op.TheVariants.{Push, PushClass, PushPr
 use Rattle.core_code.specs.declared.code.Op.TheVariants.{Set, Prim, Outside, Call, Unread as UnreadCall, Ret}
 use Rattle.core_code.specs.Calls.{method_at}
 use Rattle.core_code.specs.Core.{Core, Method}
-use Rattle.core_code.specs.Tree.{Tree, Step as Operate, Nothing, Then, Either, Again, Held}
+use Rattle.core_code.specs.Tree.{Tree}
 use Rattle.core_code.specs.Tree.{can_end, steps_of}
+use Rattle.core_code.specs.Tree as tree
 use Rattle.core_code.specs.Calls.{called_by}
 use Rattle.core_code.proofs.BoolParts.{first_part, last_part}
 use Rattle.racer_base.specs.declared.ids.SiteId.{SiteId}
@@ -27,7 +28,7 @@ use Rattle.std.proofs.Common.{slice_index_or, ◌-◌}
 use Rattle.std.proofs.lemmas.Bool.{lt-ltb}
 use Rattle.core_semantics.specs.declared.object.Object.{Object}
 use Rattle.core_semantics.specs.declared.object.Value.{Value}
-use Rattle.core_semantics.specs.State.{Frame, Store, Todo, Operate as DoOp, Choose, Lock, Unlock, before}
+use Rattle.core_semantics.specs.State.{Frame, Store, Todo, Op, Choice, Sync, Unlock, before}
 use Rattle.core_semantics.specs.Steps.{After, Inner, Next, Spot, Goes, Sticks, Waits, Ends, after, base_of}
 use Rattle.core_semantics.specs.Steps.{lock_with, called_method, entered, entering, going, inner, inner_step}
 use Rattle.core_semantics.specs.Steps.{monitor_of, on_base}
@@ -35,7 +36,7 @@ use Rattle.core_semantics.specs.Steps.{on_object, op_step, passed_from, put, rea
 use Rattle.core_semantics.specs.Steps.{unlocked}
 use Rattle.core_semantics.specs.Steps.{thread_step, with_inner, with_todo, within}
 use Rattle.core_ways.specs.declared.part.WayPart.{WayPart}
-use Rattle.core_ways.specs.declared.part.WayPart.TheVariants.{Step, Turned}
+use Rattle.core_ways.specs.declared.part.WayPart.TheVariants.{Step, Branched}
 use Rattle.core_ways.specs.Alone.{Alone, Came, Stuck, Broken, onward, alone, is_at_turn, ComesTo, LeadsTo, here}
 use Rattle.core_ways.specs.Alone.{IsAt, HasReturned, IsBehind, MethodRuns, RunsPast}
 use Rattle.core_ways.specs.Ways.{Trip, straight, joined, trip_along, trip_of_part, passed}
@@ -196,7 +197,7 @@ abbrev Past : Core → CoreOp → Type 0
 Past core op =
     (place : Place) (locked : ℕ) (store : Store) (vars stack : List Value) (todo : List Todo)
     (callers : List Frame) (locks : List Holder) →
-    LeadsTo core [] 1 (here store vars stack (DoOp place op ∷ todo) locked callers locks)
+    LeadsTo core [] 1 (here store vars stack (Op place op ∷ todo) locked callers locks)
     (IsAt todo locked callers locks)
 
 past-op : (core : Core) (op : CoreOp) (s : Spot) (rest : List Turn) →
@@ -239,31 +240,31 @@ returned-comes store vars stack todo (f ∷ callers) locks rest =
 -- one step at a return within locks: the innermost is unlocked
 unlocks : (core : Core) (place : Place) (n : ℕ) (store : Store) (vars stack : List Value) (todo : List Todo)
     (callers : List Frame) (locks : List Holder) (P : After → Type 0) →
-    LeadsTo core [] (suc n) (here store vars stack (DoOp place Ret ∷ todo) n callers (drop 1 locks)) P →
-    LeadsTo core [] (suc (suc n)) (here store vars stack (DoOp place Ret ∷ todo) (suc n) callers locks) P
+    LeadsTo core [] (suc n) (here store vars stack (Op place Ret ∷ todo) n callers (drop 1 locks)) P →
+    LeadsTo core [] (suc (suc n)) (here store vars stack (Op place Ret ∷ todo) (suc n) callers locks) P
 unlocks core place n store vars stack todo callers locks P leads rest =
-    let s : Spot = spot store vars stack (DoOp place Ret ∷ todo) (suc n) callers locks in
+    let s : Spot = spot store vars stack (Op place Ret ∷ todo) (suc n) callers locks in
     subst (λ (b : Bool). ComesTo P rest
     (onward (λ a. alone core (suc n) rest a)
     (cond b (Goes (after (unlocked s))) (op_step core (with_todo s todo) Ret))))
     (sym (lt-ltb 0 (suc n) (omega arith)))
     (subst (λ (k : ℕ). ComesTo P rest
-    (alone core (suc n) rest (here store vars stack (DoOp place Ret ∷ todo) k callers (drop 1 locks))))
+    (alone core (suc n) rest (here store vars stack (Op place Ret ∷ todo) k callers (drop 1 locks))))
     (let one : n ≡ suc n - 1 = omega arith in one) (leads rest))
 
 -- a return within so many locks of its frame
 pub past-ret : (core : Core) (place : Place) (locked : ℕ) (store : Store) (vars stack : List Value)
     (todo : List Todo) (callers : List Frame) (locks : List Holder) →
-    LeadsTo core [] (suc locked) (here store vars stack (DoOp place Ret ∷ todo) locked callers locks)
+    LeadsTo core [] (suc locked) (here store vars stack (Op place Ret ∷ todo) locked callers locks)
     (HasReturned callers (drop locked locks))
 past-ret core place zero store vars stack todo callers locks = λ rest.
     subst (λ (ls : List Holder). ComesTo (HasReturned callers ls) rest
-    (alone core 1 rest (here store vars stack (DoOp place Ret ∷ todo) 0 callers locks))) (sym (drop-none locks))
+    (alone core 1 rest (here store vars stack (Op place Ret ∷ todo) 0 callers locks))) (sym (drop-none locks))
     (returned-comes store vars stack todo callers locks rest)
 past-ret core place (suc n) store vars stack todo callers locks =
     unlocks core place n store vars stack todo callers locks (HasReturned callers (drop (suc n) locks))
     (subst (λ (ls : List Holder). LeadsTo core [] (suc n)
-    (here store vars stack (DoOp place Ret ∷ todo) n callers (drop 1 locks)) (HasReturned callers ls))
+    (here store vars stack (Op place Ret ∷ todo) n callers (drop 1 locks)) (HasReturned callers ls))
     (drop-more n locks) (past-ret core place n store vars stack todo callers (drop 1 locks)))
 
 -- so many steps
@@ -335,7 +336,7 @@ pub past-call : (core : Core) (trips : MethodId → Trip) (m : MethodId) (n : �
     (store : Store) (vars stack : List Value) (todo : List Todo) (callers : List Frame) (locks : List Holder) →
     MethodRuns core trips m →
     LeadsTo core (trips m).turns (suc (trips m).steps)
-    (here store vars stack (DoOp place (Call m n) ∷ todo) locked callers locks) (IsAt todo locked callers locks)
+    (here store vars stack (Op place (Call m n) ∷ todo) locked callers locks) (IsAt todo locked callers locks)
 past-call core trips m n place locked store vars stack todo callers locks runs rest =
     calls core trips m n place locked store vars stack todo callers locks rest (method_at core m) refl runs
 
@@ -378,9 +379,9 @@ or-false false = refl
 module _ (core : Core) (trips : MethodId → Trip) (test : MethodId → Bool)
     (holds : (m : MethodId) → test m ≡ true → MethodRuns core trips m) where
   runs-op : (site : SiteId) (place : Place) (op : CoreOp) → list_all test (called_by op ++ []) ≡ true →
-      RunsPast core trips (Operate site place op)
+      RunsPast core trips (tree.Op site place op)
   runs-op site place Ret all locked store vars stack todo callers locks =
-      subst (λ (t : Trip). Leads core t (here store vars stack (DoOp place Ret ∷ todo) locked callers locks)
+      subst (λ (t : Trip). Leads core t (here store vars stack (Op place Ret ∷ todo) locked callers locks)
       (HasReturned callers (drop locked locks))) (sym (steps-of trips (suc locked)))
       (past-ret core place locked store vars stack todo callers locks)
   runs-op site place (Call m n) all locked store vars stack todo callers locks =
@@ -388,10 +389,10 @@ module _ (core : Core) (trips : MethodId → Trip) (test : MethodId → Bool)
       let turns : (trips m).turns ≡ ([] ++ (trips m).turns) ++ [] = sym (append-nil (trips m).turns) in
       let steps : suc (trips m).steps ≡ (1 + (trips m).steps) + 0 = omega arith in
       subst (λ (ts : List Turn). LeadsTo core ts ((1 + (trips m).steps) + 0)
-      (here store vars stack (DoOp place (Call m n) ∷ todo) locked callers locks) (IsAt todo locked callers locks))
+      (here store vars stack (Op place (Call m n) ∷ todo) locked callers locks) (IsAt todo locked callers locks))
       turns
       (one-more core (trips m).turns (trips m).steps ((1 + (trips m).steps) + 0)
-      (here store vars stack (DoOp place (Call m n) ∷ todo) locked callers locks) (IsAt todo locked callers locks) steps
+      (here store vars stack (Op place (Call m n) ∷ todo) locked callers locks) (IsAt todo locked callers locks) steps
       (past-call core trips m n place locked store vars stack todo callers locks runs))
   runs-op site place (UnreadCall m n) all locked store vars stack todo callers locks = λ rest. tt
   runs-op site place op all locked store vars stack todo callers locks =
@@ -425,11 +426,11 @@ module _ (core : Core) (trips : MethodId → Trip) (test : MethodId → Bool)
   runs-either : (left right : Tree) (locked : ℕ) (store : Store) (vars stack : List Value) (todo : List Todo)
       (callers : List Frame) (locks : List Holder) (b : Bool) → can_end right ≡ b → RunsPast core trips left →
       RunsPast core trips right →
-      Leads core (trip_along trips (cond b (Turned Right ∷ passed locked right) (Turned Left ∷ passed locked left)))
-      (here store vars stack (Choose left right ∷ todo) locked callers locks)
+      Leads core (trip_along trips (cond b (Branched Right ∷ passed locked right) (Branched Left ∷ passed locked left)))
+      (here store vars stack (Choice left right ∷ todo) locked callers locks)
       (IsBehind (can_end left || b) todo locked callers locks)
   runs-either left right locked store vars stack todo callers locks true ends on_left on_right =
-      let a = here store vars stack (Choose left right ∷ todo) locked callers locks in
+      let a = here store vars stack (Choice left right ∷ todo) locked callers locks in
       let b = here store vars stack (before right todo) locked callers locks in
       let trip = trip_along trips (passed locked right) in
       subst (λ (x : Bool). Leads core (joined (record { turns = Right ∷ []; steps = 1; unread = [] }) trip) a
@@ -438,7 +439,7 @@ module _ (core : Core) (trips : MethodId → Trip) (test : MethodId → Bool)
       (subst (λ (x : Bool). Leads core trip b (IsBehind x todo locked callers locks)) ends
       (on_right locked store vars stack todo callers locks)))
   runs-either left right locked store vars stack todo callers locks false ends on_left on_right =
-      let a = here store vars stack (Choose left right ∷ todo) locked callers locks in
+      let a = here store vars stack (Choice left right ∷ todo) locked callers locks in
       let b = here store vars stack (before left todo) locked callers locks in
       let trip = trip_along trips (passed locked left) in
       subst (λ (x : Bool). Leads core (joined (record { turns = Left ∷ []; steps = 1; unread = [] }) trip) a
@@ -470,26 +471,26 @@ module _ (core : Core) (trips : MethodId → Trip) (test : MethodId → Bool)
       (past-body core trips body todo locked callers locks monitor (can_end body)) rest)
 
   pub runs-past : (code : Tree) → do_pass test (steps_of code) ≡ true → RunsPast core trips code
-  runs-past (Operate site place op) all = runs-op site place op all
-  runs-past Nothing all = λ locked store vars stack todo callers locks rest. (refl, (store, vars, stack, refl))
-  runs-past (Then first rest) all =
+  runs-past (tree.Op site place op) all = runs-op site place op all
+  runs-past tree.Skip all = λ locked store vars stack todo callers locks rest. (refl, (store, vars, stack, refl))
+  runs-past (tree.Seq first rest) all =
       let both = pass-both test (steps_of first) (steps_of rest) all in
       let early = runs-past first (first_part (do_pass test (steps_of first)) (do_pass test (steps_of rest)) both) in
       let late = runs-past rest (last_part (do_pass test (steps_of first)) (do_pass test (steps_of rest)) both) in
       λ locked store vars stack todo callers locks.
       runs-then first rest locked store vars stack todo callers locks (can_end first) late
       (early locked store vars stack (before rest todo) callers locks)
-  runs-past (Either left right) all =
+  runs-past (tree.Choice left right) all =
       let both = pass-both test (steps_of left) (steps_of right) all in
       let on_left = runs-past left (first_part (do_pass test (steps_of left)) (do_pass test (steps_of right)) both) in
       let on_right = runs-past right (last_part (do_pass test (steps_of left)) (do_pass test (steps_of right)) both) in
       λ locked store vars stack todo callers locks.
       runs-either left right locked store vars stack todo callers locks (can_end right) refl on_left on_right
-  runs-past (Again body) all = λ locked store vars stack todo callers locks rest. (refl, (store, vars, stack, refl))
-  runs-past (Held place body) all = λ locked store vars stack todo callers locks.
+  runs-past (tree.Loop body) all = λ locked store vars stack todo callers locks rest. (refl, (store, vars, stack, refl))
+  runs-past (tree.Sync place body) all = λ locked store vars stack todo callers locks.
       let trip = trip_along trips (passed (suc locked) body ++ cond (can_end body) (Step ∷ []) []) in
       one-more core trip.turns trip.steps (1 + trip.steps)
-      (here store vars stack (Lock place body ∷ todo) locked callers locks)
+      (here store vars stack (Sync place body ∷ todo) locked callers locks)
       (IsBehind (can_end body) todo locked callers locks) (omega arith)
       (runs-lock place body locked store vars stack todo callers locks (monitor_of (slice_index_or stack 0 Null))
       (runs-past body all))

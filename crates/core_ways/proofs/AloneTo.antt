@@ -11,8 +11,9 @@ use Rattle.racer_base.specs.declared.ids.SiteId.{SiteId}
 use Rattle.racer_base.specs.declared.ids.Place.{Place}
 use Rattle.core_code.specs.declared.code.Op.{Op as CoreOp}
 use Rattle.core_code.specs.Core.{Core}
-use Rattle.core_code.specs.Tree.{Tree, Step as Operate, Nothing, Then, Either, Again, Held, Operation}
+use Rattle.core_code.specs.Tree.{Tree, Operation}
 use Rattle.core_code.specs.Tree.{can_end, op_at, steps_of}
+use Rattle.core_code.specs.Tree as tree
 use Rattle.core_code.proofs.BoolParts.{first_part, last_part}
 use Rattle.core_semantics.specs.declared.answer.Holder.{Holder}
 use Rattle.core_semantics.specs.declared.answer.Turn.{Turn}
@@ -20,9 +21,9 @@ use Rattle.core_semantics.specs.declared.answer.Turn.TheVariants.{Left, Right}
 use Rattle.core_semantics.specs.declared.answer.Why.{Why}
 use Rattle.core_semantics.specs.declared.object.Value.{Value}
 use Rattle.core_semantics.specs.declared.object.Value.TheVariants.{Null}
-use Rattle.core_semantics.specs.State.{Frame, Store, Todo, Operate as DoOp, Choose, Repeat, Lock, Unlock, before}
+use Rattle.core_semantics.specs.State.{Frame, Store, Todo, Op, Choice, Loop, Sync, Unlock, before}
 use Rattle.core_semantics.specs.Steps.{After, lock_with, monitor_of}
-use Rattle.core_ways.specs.declared.part.WayPart.TheVariants.{Turned}
+use Rattle.core_ways.specs.declared.part.WayPart.TheVariants.{Branched}
 use Rattle.core_ways.specs.Alone.{ComesTo, IsAt, IsBefore, IsBehind, RunsPast, RunsTo, alone, here}
 use Rattle.core_ways.specs.Alone.{do_end_before}
 use Rattle.core_ways.specs.Alone.{locks_round, onward}
@@ -39,18 +40,18 @@ second-of : (p q : Option Operation) (o : Operation) → is_some p ≡ false →
 second-of None q o has is = is
 second-of (Some x) q o has is = absurd cc
 
-op-first : (a b : Tree) (site : SiteId) (o : Operation) → has_site a site ≡ true → op_at (Then a b) site ≡ Some o →
+op-first : (a b : Tree) (site : SiteId) (o : Operation) → has_site a site ≡ true → op_at (tree.Seq a b) site ≡ Some o →
     op_at a site ≡ Some o
 op-first a b site o has is =
     first-of (op_at a site) (op_at b site) o has (sym (find-append _ (steps_of a) (steps_of b)) ∙ is)
 
 op-second : (a b : Tree) (site : SiteId) (o : Operation) → has_site a site ≡ false →
-    op_at (Then a b) site ≡ Some o → op_at b site ≡ Some o
+    op_at (tree.Seq a b) site ≡ Some o → op_at b site ≡ Some o
 op-second a b site o has is =
     second-of (op_at a site) (op_at b site) o has (sym (find-append _ (steps_of a) (steps_of b)) ∙ is)
 
 found-here : (site : SiteId) (place : Place) (op : CoreOp) (s : SiteId) (o : Operation) →
-    op_at (Operate site place op) s ≡ Some o → (o.place ≡ place) × (o.op ≡ op)
+    op_at (tree.Op site place op) s ≡ Some o → (o.place ≡ place) × (o.op ≡ op)
 found-here site place op s o is =
     elim (nat_eq site.0 s.0) as (λ b. cond b (Some (record { site = site; place = place; op = op })) None ≡ Some o →
     (o.place ≡ place) × (o.op ≡ op)) [
@@ -76,13 +77,13 @@ one-lock-more o n locked callers locks monitor a b =
       count = counted;
       is =
           b.is
-          ∙ (λ i. here b.store b.vars b.stack (DoOp o.place o.op ∷ b.todo) (number i) callers
+          ∙ (λ i. here b.store b.vars b.stack (Op o.place o.op ∷ b.todo) (number i) callers
           (sym (append_assoc b.monitors (monitor ∷ []) locks) i));
     }
 
 at-once : (o : Operation) (place : Place) (op : CoreOp) (locked : ℕ) (store : Store) (vars stack : List Value)
     (todo : List Todo) (callers : List Frame) (locks : List Holder) → (o.place ≡ place) × (o.op ≡ op) →
-    IsBefore o 0 locked callers locks (here store vars stack (DoOp place op ∷ todo) locked callers locks)
+    IsBefore o 0 locked callers locks (here store vars stack (Op place op ∷ todo) locked callers locks)
 at-once o place op locked store vars stack todo callers locks same =
     let number : locked ≡ 0 + locked = omega arith in
     record {
@@ -92,7 +93,7 @@ at-once o place op locked store vars stack todo callers locks same =
       todo = todo;
       monitors = [];
       count = refl;
-      is = (λ i. here store vars stack (DoOp (sym same.0 i) (sym same.1 i) ∷ todo) (number i) callers locks);
+      is = (λ i. here store vars stack (Op (sym same.0 i) (sym same.1 i) ∷ todo) (number i) callers locks);
     }
 
 module _ (core : Core) (trips : MethodId → Trip) (site : SiteId) (o : Operation) where
@@ -125,18 +126,19 @@ module _ (core : Core) (trips : MethodId → Trip) (site : SiteId) (o : Operatio
       (callers : List Frame) (locks : List Holder) →
       (b ≡ true → RunsTo core trips site left o) → (b ≡ false → RunsTo core trips site right o) →
       Leads core
-      (trip_along trips (cond b (Turned Left ∷ reached locked site left) (Turned Right ∷ reached locked site right)))
-      (here store vars stack (Choose left right ∷ todo) locked callers locks)
+      (trip_along trips (cond b (Branched Left ∷ reached locked site left)
+      (Branched Right ∷ reached locked site right)))
+      (here store vars stack (Choice left right ∷ todo) locked callers locks)
       (IsBefore o (cond b (locks_round site left) (locks_round site right)) locked callers locks)
   to-either left right true locked store vars stack todo callers locks on_left on_right =
       past-turn core (trip_along trips (reached locked site left)) Left
-      (here store vars stack (Choose left right ∷ todo) locked callers locks)
+      (here store vars stack (Choice left right ∷ todo) locked callers locks)
       (here store vars stack (before left todo) locked callers locks)
       (IsBefore o (locks_round site left) locked callers locks) (λ rest. refl)
       (on_left refl locked store vars stack todo callers locks)
   to-either left right false locked store vars stack todo callers locks on_left on_right =
       past-turn core (trip_along trips (reached locked site right)) Right
-      (here store vars stack (Choose left right ∷ todo) locked callers locks)
+      (here store vars stack (Choice left right ∷ todo) locked callers locks)
       (here store vars stack (before right todo) locked callers locks)
       (IsBefore o (locks_round site right) locked callers locks) (λ rest. refl)
       (on_right refl locked store vars stack todo callers locks)
@@ -163,10 +165,10 @@ module _ (core : Core) (trips : MethodId → Trip) (test : MethodId → Bool)
   -- code is gone into up to the operation at a site
   pub runs-to : (code : Tree) → do_pass test (steps_of code) ≡ true → op_at code site ≡ Some o →
       do_end_before site code ≡ true → RunsTo core trips site code o
-  runs-to (Operate s place op) all is ends = λ locked store vars stack todo callers locks rest.
+  runs-to (tree.Op s place op) all is ends = λ locked store vars stack todo callers locks rest.
       (refl, at-once o place op locked store vars stack todo callers locks (found-here s place op site o is))
-  runs-to Nothing all is ends = absurd cc
-  runs-to (Then first rest) all is ends =
+  runs-to tree.Skip all is ends = absurd cc
+  runs-to (tree.Seq first rest) all is ends =
       let both = pass-both test (steps_of first) (steps_of rest) all in
       let early = first_part (do_pass test (steps_of first)) (do_pass test (steps_of rest)) both in
       let late = last_part (do_pass test (steps_of first)) (do_pass test (steps_of rest)) both in
@@ -177,7 +179,7 @@ module _ (core : Core) (trips : MethodId → Trip) (test : MethodId → Bool)
       (λ has. runs-to rest late (op-second first rest site o has is)
       (last_part (can_end first) (do_end_before site rest) (ap by (sym has) ∙ ends)))
       (runs-past core trips test holds first early) ends
-  runs-to (Either left right) all is ends =
+  runs-to (tree.Choice left right) all is ends =
       let both = pass-both test (steps_of left) (steps_of right) all in
       let early = first_part (do_pass test (steps_of left)) (do_pass test (steps_of right)) both in
       let late = last_part (do_pass test (steps_of left)) (do_pass test (steps_of right)) both in
@@ -186,16 +188,16 @@ module _ (core : Core) (trips : MethodId → Trip) (test : MethodId → Bool)
       to-either core trips site o left right (has_site left site) locked store vars stack todo callers locks
       (λ has. runs-to left early (op-first left right site o has is) (ap by (sym has) ∙ ends))
       (λ has. runs-to right late (op-second left right site o has is) (ap by (sym has) ∙ ends))
-  runs-to (Again body) all is ends = λ locked store vars stack todo callers locks.
+  runs-to (tree.Loop body) all is ends = λ locked store vars stack todo callers locks.
       past-turn core (trip_along trips (reached locked site body)) Left
-      (here store vars stack (Repeat body ∷ todo) locked callers locks)
-      (here store vars stack (before body (Repeat body ∷ todo)) locked callers locks)
+      (here store vars stack (Loop body ∷ todo) locked callers locks)
+      (here store vars stack (before body (Loop body ∷ todo)) locked callers locks)
       (IsBefore o (locks_round site body) locked callers locks) (λ rest. refl)
-      (runs-to body all is ends locked store vars stack (Repeat body ∷ todo) callers locks)
-  runs-to (Held place body) all is ends = λ locked store vars stack todo callers locks.
+      (runs-to body all is ends locked store vars stack (Loop body ∷ todo) callers locks)
+  runs-to (tree.Sync place body) all is ends = λ locked store vars stack todo callers locks.
       let trip = trip_along trips (reached (suc locked) site body) in
       one-more core trip.turns trip.steps (1 + trip.steps)
-      (here store vars stack (Lock place body ∷ todo) locked callers locks)
+      (here store vars stack (Sync place body ∷ todo) locked callers locks)
       (IsBefore o (suc (locks_round site body)) locked callers locks) (omega arith)
       (to-lock core trips site o body locked store vars stack todo callers locks
       (monitor_of (slice_index_or stack 0 Null)) (runs-to body all is ends))

@@ -5,7 +5,7 @@ use Rattle.core_code.specs.Core.{Core}
 use Rattle.core_semantics.specs.declared.answer.Holder.{Holder}
 use Rattle.core_semantics.specs.declared.answer.Turn.{Turn}
 use Rattle.core_semantics.specs.declared.answer.Turn.TheVariants.{Right}
-use Rattle.core_semantics.specs.Legs.{Ran, Came as CameTo, Broke, NoTurn, later, runs, went}
+use Rattle.core_semantics.specs.Legs.{Ran, Came as CameTo, Halted, NoTurn, one_step_more, runs, went}
 use Rattle.core_semantics.specs.Runs.{wants_turn}
 use Rattle.core_semantics.specs.State.{State, Thread, other_of, thread_of, with_thread}
 use Rattle.core_semantics.specs.Steps.{After, Next, Goes, Sticks, Waits, Ends, step, thread_step, within}
@@ -60,10 +60,10 @@ with-again s t a b =
     ]
 
 seen-later : (s : State) (t : ℕ) (a : After) (r : Alone) (q : Ran) →
-    IsSeen (with_thread s t a.store a.thread) t r q → IsSeen s t r (later q)
+    IsSeen (with_thread s t a.store a.thread) t r q → IsSeen s t r (one_step_more q)
 seen-later s t a (Came b left) q seen =
-    ap later seen ∙ ap (λ (x : State). CameTo x left) (with-again s t a b)
-seen-later s t a (Stuck why) q seen = (seen.0, suc seen.1, ap later seen.2)
+    ap one_step_more seen ∙ ap (λ (x : State). CameTo x left) (with-again s t a b)
+seen-later s t a (Stuck why) q seen = (seen.0, suc seen.1, ap one_step_more seen.2)
 seen-later s t a Broken q seen = tt
 
 module _ (core : Core) (t n : ℕ)
@@ -75,7 +75,7 @@ module _ (core : Core) (t n : ℕ)
   by-next s rest (Goes a) free =
       let w : State = with_thread s t a.store a.thread in
       let others : (other_of w t).locks ≡ [] = ap (λ (x : Thread). x.locks) (other-stays s t a) ∙ free in
-      subst (λ (x : After). IsSeen s t (alone core n rest x) (later (runs core t n rest w))) (part-again s t a)
+      subst (λ (x : After). IsSeen s t (alone core n rest x) (one_step_more (runs core t n rest w))) (part-again s t a)
       (seen-later s t a (alone core n rest (part_of w t)) (runs core t n rest w) (ih rest w others))
   by-next s rest (Sticks why) free = (s, 0, refl)
   by-next s rest (Waits monitor) free = tt
@@ -100,7 +100,7 @@ module _ (core : Core) (t n : ℕ)
         | ◌∷◌ turn rest ↦ onward (alone core n rest) (thread_step core turn [] s.store (thread_of s t))
       ]) (onward (alone core n turns) (thread_step core Right [] s.store (thread_of s t))))
       (cond b (elim turns as (λ _. Ran) [
-        | [] ↦ Broke NoTurn s 0
+        | [] ↦ Halted NoTurn s 0
         | ◌∷◌ turn rest ↦ went (runs core t n rest) s (step core s t turn)
       ]) (went (runs core t n turns) s (step core s t Right)))) [
         | true ↦ elim turns as (λ ts. IsSeen s t
@@ -109,7 +109,7 @@ module _ (core : Core) (t n : ℕ)
               | ◌∷◌ turn rest ↦ onward (alone core n rest) (thread_step core turn [] s.store (thread_of s t))
             ])
             (elim ts as (λ _. Ran) [
-              | [] ↦ Broke NoTurn s 0
+              | [] ↦ Halted NoTurn s 0
               | ◌∷◌ turn rest ↦ went (runs core t n rest) s (step core s t turn)
             ])) [
               | [] ↦ tt

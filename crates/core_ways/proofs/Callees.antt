@@ -15,12 +15,12 @@ use Rattle.core_code.specs.declared.code.Reason.{Reason}
 use Rattle.core_code.specs.Calls.{called_by, method_at, rank_of}
 use Rattle.core_code.specs.CallFacts.{is_above, has_ranks}
 use Rattle.core_code.specs.Core.{Core, Method}
-use Rattle.core_code.specs.Tree.{Tree, Step as Operate, Nothing, Then, Either, Again, Held, Operation}
+use Rattle.core_code.specs.Tree.{Tree, Op, Skip, Seq, Choice, Loop, Sync, Operation}
 use Rattle.core_code.specs.Tree.{can_end, op_at, steps_of}
 use Rattle.core_code.proofs.BoolParts.{first_part, last_part}
 use Rattle.core_semantics.specs.declared.answer.Turn.TheVariants.{Left, Right}
 use Rattle.core_ways.specs.declared.part.WayPart.{WayPart}
-use Rattle.core_ways.specs.declared.part.WayPart.TheVariants.{Step, Turned}
+use Rattle.core_ways.specs.declared.part.WayPart.TheVariants.{Step, Branched}
 use Rattle.core_ways.specs.Ways.{code_at, parts_of, passed, passed_op}
 use Rattle.core_ways.proofs.Trips.{EachPassed, each-append, each-steps}
 
@@ -54,21 +54,21 @@ module _ (P : MethodId → Type 0) (test : MethodId → Bool) (holds : (m : Meth
   either false xs ys a b = b
 
   pub each-passed : (locks : ℕ) (code : Tree) → do_pass test (steps_of code) ≡ true → EachPassed P (passed locks code)
-  each-passed locks (Operate site place op) all = each-op locks place op all
-  each-passed locks Nothing all = tt
-  each-passed locks (Then first rest) all =
+  each-passed locks (Op site place op) all = each-op locks place op all
+  each-passed locks Skip all = tt
+  each-passed locks (Seq first rest) all =
       let both = pass-both test (steps_of first) (steps_of rest) all in
       each-append P (passed locks first) (cond (can_end first) (passed locks rest) [])
       (each-passed locks first (first_part (do_pass test (steps_of first)) (do_pass test (steps_of rest)) both))
       (either (can_end first) (passed locks rest) []
       (each-passed locks rest (last_part (do_pass test (steps_of first)) (do_pass test (steps_of rest)) both)) tt)
-  each-passed locks (Either left right) all =
+  each-passed locks (Choice left right) all =
       let both = pass-both test (steps_of left) (steps_of right) all in
-      either (can_end right) (Turned Right ∷ passed locks right) (Turned Left ∷ passed locks left)
+      either (can_end right) (Branched Right ∷ passed locks right) (Branched Left ∷ passed locks left)
       (each-passed locks right (last_part (do_pass test (steps_of left)) (do_pass test (steps_of right)) both))
       (each-passed locks left (first_part (do_pass test (steps_of left)) (do_pass test (steps_of right)) both))
-  each-passed locks (Again body) all = tt
-  each-passed locks (Held place body) all =
+  each-passed locks (Loop body) all = tt
+  each-passed locks (Sync place body) all =
       each-append P (passed (suc locks) body) (cond (can_end body) (Step ∷ []) []) (each-passed (suc locks) body all)
       (either (can_end body) (Step ∷ []) [] tt tt)
 

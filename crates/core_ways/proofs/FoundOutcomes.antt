@@ -12,20 +12,21 @@ use Rattle.access_domain.specs.declared.summary.Outcome.{Outcome}
 use Rattle.access_domain.specs.Outcomes.{outcomes_held}
 use Rattle.core_ways.specs.Found.{outcome_among}
 
-abbrev pub Held : Type 0
-Held = Option (Arc Outcome Global)
+abbrev pub SharedOutcome : Type 0
+SharedOutcome = Option (Arc Outcome Global)
 
-abbrev outcome_at : Option Held → Option Outcome
+abbrev outcome_at : Option SharedOutcome → Option Outcome
 outcome_at o = option_and_then (λ (x : Option Outcome). x) (option_map (option_map arc_value) o)
 
-among : (xs : List Held) (m : MethodId) → outcome_among (outcomes_held xs) m ≡ outcome_at (slice_get xs m.0)
+among : (xs : List SharedOutcome) (m : MethodId) → outcome_among (outcomes_held xs) m ≡ outcome_at (slice_get xs m.0)
 among xs m = ap (option_and_then (λ (x : Option Outcome). x)) (slice_get-map (option_map arc_value) xs m.0)
 
-pub past-end : (xs : List Held) (m : MethodId) → false ≡ ltb m.0 (length xs) →
+pub past-end : (xs : List SharedOutcome) (m : MethodId) → false ≡ ltb m.0 (length xs) →
     None ≡ outcome_among (outcomes_held xs) m
 past-end xs m past = sym (among xs m ∙ ap outcome_at (slice_get_past xs m.0 (ltb-false m.0 (length xs) (sym past))))
 
-pub found-at : (xs : List Held) (m : MethodId) (place : Held) (found : Option Outcome) → true ≡ ltb m.0 (length xs) →
+pub found-at : (xs : List SharedOutcome) (m : MethodId) (place : SharedOutcome) (found : Option Outcome) →
+    true ≡ ltb m.0 (length xs) →
     place ≡ get_or xs m.0 place → found ≡ option_map arc_value place → found ≡ outcome_among (outcomes_held xs) m
 found-at xs m place found within at is =
     is

@@ -13,3 +13,4 @@ pub mod AloneTo
 pub mod Beside
 pub mod Gathering
 pub mod LegSteps
+pub mod LookedSteps

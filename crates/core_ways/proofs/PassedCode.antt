@@ -5,27 +5,27 @@ use Rattle.std.proofs.Math.Seq.{take-append_seam}
 use Rattle.std.proofs.lemmas.List.{append-nil, at_drop_more}
 use Rattle.racer_base.specs.declared.ids.Place.{Place}
 use Rattle.core_code.specs.declared.code.Code.{Code}
-use Rattle.core_code.specs.Tree.{Tree, Then, Either, Held, can_end, in_sequence, tree_of}
+use Rattle.core_code.specs.Tree.{Tree, Seq, Choice, Sync, can_end, in_sequence, tree_of}
 use Rattle.core_semantics.specs.declared.answer.Turn.TheVariants.{Left, Right}
 use Rattle.core_ways.specs.declared.part.WayPart.{WayPart}
-use Rattle.core_ways.specs.declared.part.WayPart.TheVariants.{Step, Turned}
+use Rattle.core_ways.specs.declared.part.WayPart.TheVariants.{Step, Branched}
 use Rattle.core_ways.specs.Ways.{passed}
 
 -- the pieces from one on are that one and the others
 pub turn : (codes : List Code) (i : ℕ) (code : Code) → i < length codes → code ≡ get_or codes i code →
-    in_sequence (map tree_of (drop i codes)) ≡ Then (tree_of code) (in_sequence (map tree_of (drop (i + 1) codes)))
+    in_sequence (map tree_of (drop i codes)) ≡ Seq (tree_of code) (in_sequence (map tree_of (drop (i + 1) codes)))
 turn codes i code within is =
     at_drop_more (λ cs. in_sequence (map tree_of cs)) codes i code within
-    ∙ ap (λ (c : Code). Then (tree_of c) (in_sequence (map tree_of (drop (i + 1) codes)))) (sym is)
+    ∙ ap (λ (c : Code). Seq (tree_of c) (in_sequence (map tree_of (drop (i + 1) codes)))) (sym is)
 
 -- a first part behind which the rest is done, and one behind which it is not
 pub passed-on : (locks : ℕ) (first rest : Tree) → can_end first ≡ true →
-    passed locks (Then first rest) ≡ passed locks first ++ passed locks rest
+    passed locks (Seq first rest) ≡ passed locks first ++ passed locks rest
 passed-on locks first rest ends =
     ap (λ (b : Bool). passed locks first ++ cond b (passed locks rest) []) ends
 
 pub passed-ended : (locks : ℕ) (first rest : Tree) → can_end first ≡ false →
-    passed locks (Then first rest) ≡ passed locks first
+    passed locks (Seq first rest) ≡ passed locks first
 passed-ended locks first rest ends =
     ap (λ (b : Bool). passed locks first ++ cond b (passed locks rest) []) ends ∙ append-nil (passed locks first)
 
@@ -49,38 +49,38 @@ or-false true = refl
 or-false false = refl
 
 -- it ends where its right side does, else where its left side does
-pub right-ends : (left right : Tree) → can_end right ≡ true → true ≡ can_end (Either left right)
+pub right-ends : (left right : Tree) → can_end right ≡ true → true ≡ can_end (Choice left right)
 right-ends left right ends = sym (ap (λ (b : Bool). can_end left || b) ends ∙ or-true (can_end left))
 
-pub left-ends : (left right : Tree) → can_end right ≡ false → can_end left ≡ can_end (Either left right)
+pub left-ends : (left right : Tree) → can_end right ≡ false → can_end left ≡ can_end (Choice left right)
 left-ends left right ends = sym (ap (λ (b : Bool). can_end left || b) ends ∙ or-false (can_end left))
 
 abbrev side-passed : (locks : ℕ) (left right : Tree) → Bool → List WayPart
-side-passed locks left right b = cond b (Turned Right ∷ passed locks right) (Turned Left ∷ passed locks left)
+side-passed locks left right b = cond b (Branched Right ∷ passed locks right) (Branched Left ∷ passed locks left)
 
 pub right-passed : (locks : ℕ) (left right : Tree) (old pushed new : List WayPart) → can_end right ≡ true →
-    pushed ≡ old ++ Turned Right ∷ [] → new ≡ pushed ++ passed locks right →
-    new ≡ old ++ passed locks (Either left right)
+    pushed ≡ old ++ Branched Right ∷ [] → new ≡ pushed ++ passed locks right →
+    new ≡ old ++ passed locks (Choice left right)
 right-passed locks left right old pushed new ends turn grown =
     grown
     ∙ ap (λ (ps : List WayPart). ps ++ passed locks right) turn
-    ∙ append_assoc old (Turned Right ∷ []) (passed locks right)
+    ∙ append_assoc old (Branched Right ∷ []) (passed locks right)
     ∙ ap (λ (b : Bool). old ++ side-passed locks left right b) (sym ends)
 
 -- the right side is tried, and what was put there is cut back
 pub left-passed : (locks : ℕ) (left right : Tree) (old pushed tried turned : List WayPart) (n : ℕ) →
-    can_end right ≡ false → n ≡ length old → pushed ≡ old ++ Turned Right ∷ [] →
-    tried ≡ pushed ++ passed locks right → turned ≡ take n tried ++ Turned Left ∷ [] →
-    turned ++ passed locks left ≡ old ++ passed locks (Either left right)
+    can_end right ≡ false → n ≡ length old → pushed ≡ old ++ Branched Right ∷ [] →
+    tried ≡ pushed ++ passed locks right → turned ≡ take n tried ++ Branched Left ∷ [] →
+    turned ++ passed locks left ≡ old ++ passed locks (Choice left right)
 left-passed locks left right old pushed tried turned n ends count turn grown back =
     let kept : take n tried ≡ old =
     (λ i. take (count i) (grown i))
     ∙ ap (λ (ps : List WayPart). take (length old) (ps ++ passed locks right)) turn
-    ∙ ap (take (length old)) (append_assoc old (Turned Right ∷ []) (passed locks right))
-    ∙ take-append_seam old (Turned Right ∷ passed locks right) in
+    ∙ ap (take (length old)) (append_assoc old (Branched Right ∷ []) (passed locks right))
+    ∙ take-append_seam old (Branched Right ∷ passed locks right) in
     ap (λ (ps : List WayPart). ps ++ passed locks left)
-    (back ∙ ap (λ (ps : List WayPart). ps ++ Turned Left ∷ []) kept)
-    ∙ append_assoc old (Turned Left ∷ []) (passed locks left)
+    (back ∙ ap (λ (ps : List WayPart). ps ++ Branched Left ∷ []) kept)
+    ∙ append_assoc old (Branched Left ∷ []) (passed locks left)
     ∙ ap (λ (b : Bool). old ++ side-passed locks left right b) (sym ends)
 
 -- ---- a lock
@@ -94,7 +94,7 @@ held-grown locks within body old pushed new more step grown =
 
 pub held-stays : (locks within : ℕ) (place : Place) (body : Tree) (old pushed new : List WayPart) →
     can_end body ≡ false → within ≡ suc locks → pushed ≡ old ++ Step ∷ [] → new ≡ pushed ++ passed within body →
-    new ≡ old ++ passed locks (Held place body)
+    new ≡ old ++ passed locks (Sync place body)
 held-stays locks within place body old pushed new ends more step grown =
     held-grown locks within body old pushed new more step grown
     ∙ ap (λ (ps : List WayPart). old ++ Step ∷ ps) (sym (append-nil (passed (suc locks) body)))
@@ -102,7 +102,7 @@ held-stays locks within place body old pushed new ends more step grown =
 
 pub held-ends : (locks within : ℕ) (place : Place) (body : Tree) (old pushed new : List WayPart) →
     can_end body ≡ true → within ≡ suc locks → pushed ≡ old ++ Step ∷ [] → new ≡ pushed ++ passed within body →
-    new ++ Step ∷ [] ≡ old ++ passed locks (Held place body)
+    new ++ Step ∷ [] ≡ old ++ passed locks (Sync place body)
 held-ends locks within place body old pushed new ends more step grown =
     ap (λ (ps : List WayPart). ps ++ Step ∷ []) (held-grown locks within body old pushed new more step grown)
     ∙ append_assoc old (Step ∷ passed (suc locks) body) (Step ∷ [])

@@ -8,34 +8,34 @@ use Rattle.std.specs.Option.{option_or}
 use Rattle.racer_base.specs.declared.ids.Place.{Place}
 use Rattle.racer_base.specs.declared.ids.SiteId.{SiteId}
 use Rattle.core_code.specs.declared.code.Op.{Op as CoreOp}
-use Rattle.core_code.specs.Tree.{Tree, Step as Operate, Nothing, Then, Either, Again, Held, Operation, op_at, steps_of}
+use Rattle.core_code.specs.Tree.{Tree, Op, Skip, Seq, Choice, Loop, Sync, Operation, op_at, steps_of}
 use Rattle.core_semantics.specs.declared.answer.Turn.TheVariants.{Left, Right}
 use Rattle.core_ways.specs.declared.part.WayPart.{WayPart}
-use Rattle.core_ways.specs.declared.part.WayPart.TheVariants.{Step, Turned}
+use Rattle.core_ways.specs.declared.part.WayPart.TheVariants.{Step, Branched}
 use Rattle.core_ways.specs.Ways.{has_site, passed, reached}
 use Rattle.core_ways.specs.Paths.{op_there, path_to, path_where, followed, reached_where}
 
 -- what is passed along the path to a site is what is reached towards it
 pub followed-path : (locks : ℕ) (site : SiteId) (code : Tree) →
     followed locks (path_to site code) code ≡ reached locks site code
-followed-path locks site (Operate at place op) = refl
-followed-path locks site Nothing = refl
-followed-path locks site (Then first rest) =
+followed-path locks site (Op at place op) = refl
+followed-path locks site Skip = refl
+followed-path locks site (Seq first rest) =
     elim (has_site first site) as (λ b.
-    followed locks (cond b (true ∷ path_to site first) (false ∷ path_to site rest)) (Then first rest) ≡
+    followed locks (cond b (true ∷ path_to site first) (false ∷ path_to site rest)) (Seq first rest) ≡
     cond b (reached locks site first) (passed locks first ++ reached locks site rest)) [
       | true ↦ followed-path locks site first
       | false ↦ ap (λ (ps : List WayPart). passed locks first ++ ps) (followed-path locks site rest)
     ]
-followed-path locks site (Either left right) =
+followed-path locks site (Choice left right) =
     elim (has_site left site) as (λ b.
-    followed locks (cond b (true ∷ path_to site left) (false ∷ path_to site right)) (Either left right) ≡
-    cond b (Turned Left ∷ reached locks site left) (Turned Right ∷ reached locks site right)) [
-      | true ↦ ap (λ (ps : List WayPart). Turned Left ∷ ps) (followed-path locks site left)
-      | false ↦ ap (λ (ps : List WayPart). Turned Right ∷ ps) (followed-path locks site right)
+    followed locks (cond b (true ∷ path_to site left) (false ∷ path_to site right)) (Choice left right) ≡
+    cond b (Branched Left ∷ reached locks site left) (Branched Right ∷ reached locks site right)) [
+      | true ↦ ap (λ (ps : List WayPart). Branched Left ∷ ps) (followed-path locks site left)
+      | false ↦ ap (λ (ps : List WayPart). Branched Right ∷ ps) (followed-path locks site right)
     ]
-followed-path locks site (Again body) = ap (λ (ps : List WayPart). Turned Left ∷ ps) (followed-path locks site body)
-followed-path locks site (Held place body) = ap (λ (ps : List WayPart). Step ∷ ps) (followed-path (suc locks) site body)
+followed-path locks site (Loop body) = ap (λ (ps : List WayPart). Branched Left ∷ ps) (followed-path locks site body)
+followed-path locks site (Sync place body) = ap (λ (ps : List WayPart). Step ∷ ps) (followed-path (suc locks) site body)
 
 map-or : (p q : Option Operation) →
     option_map (λ (o : Operation). o.op) (option_or p q) ≡
@@ -45,7 +45,7 @@ map-or (Some o) q = refl
 
 -- the operation at a site of one part and then another
 pub there-both : (a b : Tree) (site : SiteId) →
-    op_there (Then a b) site ≡ option_or (op_there a site) (op_there b site)
+    op_there (Seq a b) site ≡ option_or (op_there a site) (op_there b site)
 there-both a b site =
     ap (option_map (λ (o : Operation). o.op)) (find-append _ (steps_of a) (steps_of b))
     ∙ map-or (op_at a site) (op_at b site)
@@ -60,13 +60,13 @@ has-there code site = some-mapped (op_at code site)
 -- ---- the operation at a site of one operation
 
 pub op-found : (at : SiteId) (place : Place) (op : CoreOp) (site : SiteId) → nat_eq at.0 site.0 ≡ true →
-    Some op ≡ op_there (Operate at place op) site
+    Some op ≡ op_there (Op at place op) site
 op-found at place op site same =
     let one : Operation = record { site = at; place = place; op = op } in
     sym (ap (λ (b : Bool). option_map (λ (o : Operation). o.op) (cond b (Some one) None)) same)
 
 pub op-missed : (at : SiteId) (place : Place) (op : CoreOp) (site : SiteId) → nat_eq at.0 site.0 ≡ false →
-    None ≡ op_there (Operate at place op) site
+    None ≡ op_there (Op at place op) site
 op-missed at place op site other =
     let one : Operation = record { site = at; place = place; op = op } in
     sym (ap (λ (b : Bool). option_map (λ (o : Operation). o.op) (cond b (Some one) None)) other)
@@ -76,10 +76,10 @@ either-empty true = refl
 either-empty false = refl
 
 pub op-path : (at : SiteId) (place : Place) (op : CoreOp) (site : SiteId) (old : List Bool) →
-    old ≡ old ++ path_where site (Operate at place op)
+    old ≡ old ++ path_where site (Op at place op)
 op-path at place op site old =
     sym (append-nil old)
-    ∙ ap (λ (p : List Bool). old ++ p) (sym (either-empty (has_site (Operate at place op) site)))
+    ∙ ap (λ (p : List Bool). old ++ p) (sym (either-empty (has_site (Op at place op) site)))
 
 -- ---- the operation at a site of two parts
 
@@ -92,14 +92,14 @@ none-goes None q none = refl
 none-goes (Some o) q none = absurd cc
 
 pub first-there : (a b : Tree) (site : SiteId) (found : Option CoreOp) → found ≡ op_there a site →
-    is_some found ≡ true → found ≡ op_there (Then a b) site
+    is_some found ≡ true → found ≡ op_there (Seq a b) site
 first-there a b site found is some =
     is
     ∙ some-stays (op_there a site) (op_there b site) (ap is_some (sym is) ∙ some)
     ∙ sym (there-both a b site)
 
 pub second-there : (a b : Tree) (site : SiteId) (first : Option CoreOp) → first ≡ op_there a site →
-    is_some first ≡ false → op_there b site ≡ op_there (Then a b) site
+    is_some first ≡ false → op_there b site ≡ op_there (Seq a b) site
 second-there a b site first is none =
     sym (there-both a b site ∙ none-goes (op_there a site) (op_there b site) (ap is_some (sym is) ∙ none))
 
@@ -109,36 +109,36 @@ has-found code site found b is some = has-there code site ∙ ap is_some (sym is
 
 -- ---- the path to a site of two parts
 
-has-first : (a b : Tree) (site : SiteId) → has_site a site ≡ true → has_site (Then a b) site ≡ true
+has-first : (a b : Tree) (site : SiteId) → has_site a site ≡ true → has_site (Seq a b) site ≡ true
 has-first a b site has =
-    has-there (Then a b) site
+    has-there (Seq a b) site
     ∙ ap is_some (sym (some-stays (op_there a site) (op_there b site) (sym (has-there a site) ∙ has)
     ∙ sym (there-both a b site)))
     ∙ sym (has-there a site)
     ∙ has
 
-has-second : (a b : Tree) (site : SiteId) → has_site a site ≡ false → has_site (Then a b) site ≡ has_site b site
+has-second : (a b : Tree) (site : SiteId) → has_site a site ≡ false → has_site (Seq a b) site ≡ has_site b site
 has-second a b site none =
-    has-there (Then a b) site
+    has-there (Seq a b) site
     ∙ ap is_some (there-both a b site
     ∙ none-goes (op_there a site) (op_there b site) (sym (has-there a site) ∙ none))
     ∙ sym (has-there b site)
 
 where-first : (a b : Tree) (site : SiteId) → has_site a site ≡ true →
-    path_where site (Then a b) ≡ true ∷ path_to site a
+    path_where site (Seq a b) ≡ true ∷ path_to site a
 where-first a b site has = (λ i.
     cond (has-first a b site has i) (cond (has i) (true ∷ path_to site a) (false ∷ path_to site b)) [])
 
 where-second : (a b : Tree) (site : SiteId) → has_site a site ≡ false → has_site b site ≡ true →
-    path_where site (Then a b) ≡ false ∷ path_to site b
+    path_where site (Seq a b) ≡ false ∷ path_to site b
 where-second a b site none has =
-    let whole : has_site (Then a b) site ≡ true = has-second a b site none ∙ has in
+    let whole : has_site (Seq a b) site ≡ true = has-second a b site none ∙ has in
     (λ i. cond (whole i) (cond (none i) (true ∷ path_to site a) (false ∷ path_to site b)) [])
 
 where-none : (a b : Tree) (site : SiteId) → has_site a site ≡ false → has_site b site ≡ false →
-    path_where site (Then a b) ≡ []
+    path_where site (Seq a b) ≡ []
 where-none a b site none other =
-    ap (λ (x : Bool). cond x (path_to site (Then a b)) []) (has-second a b site none ∙ other)
+    ap (λ (x : Bool). cond x (path_to site (Seq a b)) []) (has-second a b site none ∙ other)
 
 pub where-there : (a : Tree) (site : SiteId) → has_site a site ≡ true → path_where site a ≡ path_to site a
 where-there a site has = ap (λ (x : Bool). cond x (path_to site a) []) has
@@ -147,7 +147,7 @@ pub where-not : (a : Tree) (site : SiteId) → has_site a site ≡ false → pat
 where-not a site none = ap (λ (x : Bool). cond x (path_to site a) []) none
 
 pub first-path : (a b : Tree) (site : SiteId) (old pushed new : List Bool) → pushed ≡ old ++ true ∷ [] →
-    new ≡ pushed ++ path_where site a → has_site a site ≡ true → new ≡ old ++ path_where site (Then a b)
+    new ≡ pushed ++ path_where site a → has_site a site ≡ true → new ≡ old ++ path_where site (Seq a b)
 first-path a b site old pushed new grown is has =
     is
     ∙ (λ i. grown i ++ where-there a site has i)
@@ -156,7 +156,7 @@ first-path a b site old pushed new grown is has =
 
 pub second-path : (a b : Tree) (site : SiteId) (old base pushed new : List Bool) → base ≡ old →
     pushed ≡ base ++ false ∷ [] → new ≡ pushed ++ path_where site b → has_site a site ≡ false →
-    has_site b site ≡ true → new ≡ old ++ path_where site (Then a b)
+    has_site b site ≡ true → new ≡ old ++ path_where site (Seq a b)
 second-path a b site old base pushed new same grown is none has =
     is
     ∙ (λ i. (grown ∙ ap (λ (p : List Bool). p ++ false ∷ []) same) i ++ where-there b site has i)
@@ -164,7 +164,7 @@ second-path a b site old base pushed new same grown is none has =
     ∙ ap (λ (p : List Bool). old ++ p) (sym (where-second a b site none has))
 
 pub none-path : (a b : Tree) (site : SiteId) (old new : List Bool) → new ≡ old → has_site a site ≡ false →
-    has_site b site ≡ false → new ≡ old ++ path_where site (Then a b)
+    has_site b site ≡ false → new ≡ old ++ path_where site (Seq a b)
 none-path a b site old new same none other =
     same ∙ sym (append-nil old) ∙ ap (λ (p : List Bool). old ++ p) (sym (where-none a b site none other))
 
@@ -190,7 +190,7 @@ start-stays fn xs n b count is =
 
 -- one part of what is left has no such site
 pub path-on : (a b : Tree) (site : SiteId) (xs left : List Bool) → has_site a site ≡ false →
-    left ≡ path_to site (Then a b) → (xs ++ false ∷ []) ++ path_to site b ≡ xs ++ left
+    left ≡ path_to site (Seq a b) → (xs ++ false ∷ []) ++ path_to site b ≡ xs ++ left
 path-on a b site xs left none is =
     append_assoc xs (false ∷ []) (path_to site b)
     ∙ ap (λ (p : List Bool). xs ++ p)

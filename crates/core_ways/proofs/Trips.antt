@@ -6,7 +6,7 @@ use Rattle.core_code.specs.Calls.{rank_of, known_below}
 use Rattle.core_code.specs.Core.{Core}
 use Rattle.core_code.proofs.ByRank.{known_below-lower}
 use Rattle.core_ways.specs.declared.part.WayPart.{WayPart}
-use Rattle.core_ways.specs.declared.part.WayPart.TheVariants.{Step, Turned, Passed, Unread}
+use Rattle.core_ways.specs.declared.part.WayPart.TheVariants.{Step, Branched, Passed, Unread}
 use Rattle.core_ways.specs.Counts.{height_of}
 use Rattle.core_ways.specs.Ways.{Trip, straight, joined, trip_of_part, trip_along, trip_of, trip_given, parts_of}
 
@@ -14,7 +14,7 @@ use Rattle.core_ways.specs.Ways.{Trip, straight, joined, trip_of_part, trip_alon
 abbrev pub EachPassed : (MethodId → Type 0) → List WayPart → Type 0
 EachPassed P [] = Unit {0}
 EachPassed P (Step ∷ parts) = EachPassed P parts
-EachPassed P (Turned turn ∷ parts) = EachPassed P parts
+EachPassed P (Branched turn ∷ parts) = EachPassed P parts
 EachPassed P (Passed m ∷ parts) = P m × EachPassed P parts
 EachPassed P (Unread place ∷ parts) = EachPassed P parts
 
@@ -22,7 +22,7 @@ pub each-append : (P : MethodId → Type 0) (xs ys : List WayPart) → EachPasse
     EachPassed P (xs ++ ys)
 each-append P [] ys a b = b
 each-append P (Step ∷ xs) ys a b = each-append P xs ys a b
-each-append P (Turned turn ∷ xs) ys a b = each-append P xs ys a b
+each-append P (Branched turn ∷ xs) ys a b = each-append P xs ys a b
 each-append P (Passed m ∷ xs) ys a b = (a.0, each-append P xs ys a.1 b)
 each-append P (Unread place ∷ xs) ys a b = each-append P xs ys a b
 
@@ -35,8 +35,8 @@ pub trip_along-same : (f g : MethodId → Trip) (parts : List WayPart) → EachP
     trip_along f parts ≡ trip_along g parts
 trip_along-same f g [] same = refl
 trip_along-same f g (Step ∷ parts) same = ap (joined (straight 1)) (trip_along-same f g parts same)
-trip_along-same f g (Turned turn ∷ parts) same =
-    ap (joined (trip_of_part f (Turned turn))) (trip_along-same f g parts same)
+trip_along-same f g (Branched turn ∷ parts) same =
+    ap (joined (trip_of_part f (Branched turn))) (trip_along-same f g parts same)
 trip_along-same f g (Passed m ∷ parts) same = (λ i.
     joined (joined (straight 1) (same.0 i)) (trip_along-same f g parts same.1 i))
 trip_along-same f g (Unread place ∷ parts) same =
@@ -46,7 +46,7 @@ each-map : (P Q : MethodId → Type 0) (parts : List WayPart) → ((m : MethodId
     EachPassed Q parts
 each-map P Q [] f a = tt
 each-map P Q (Step ∷ parts) f a = each-map P Q parts f a
-each-map P Q (Turned turn ∷ parts) f a = each-map P Q parts f a
+each-map P Q (Branched turn ∷ parts) f a = each-map P Q parts f a
 each-map P Q (Passed m ∷ parts) f a = (f m a.0, each-map P Q parts f a.1)
 each-map P Q (Unread place ∷ parts) f a = each-map P Q parts f a
 
@@ -64,7 +64,7 @@ pub height-below : (core : Core) (k : ℕ) (parts : List WayPart) → EachPassed
     height_of core parts ≤ k
 height-below core k [] low = omega arith
 height-below core k (Step ∷ parts) low = let rest = height-below core k parts low in omega arith
-height-below core k (Turned turn ∷ parts) low = let rest = height-below core k parts low in omega arith
+height-below core k (Branched turn ∷ parts) low = let rest = height-below core k parts low in omega arith
 height-below core k (Passed m ∷ parts) low =
     let rest = height-below core k parts low.1 in let here = low.0 in omega arith
 height-below core k (Unread place ∷ parts) low = let rest = height-below core k parts low in omega arith

@@ -6,15 +6,16 @@ use Rattle.racer_base.specs.declared.ids.MethodId.{MethodId}
 use Rattle.core_code.specs.Calls.{method_at}
 use Rattle.core_code.specs.Core.{Core, Method}
 use Rattle.racer_base.specs.declared.ids.SiteId.{SiteId}
-use Rattle.core_code.specs.Tree.{Tree, Step as Operate, Nothing, Then, Either, Again, Held, Operation, can_end}
+use Rattle.core_code.specs.Tree.{Tree, Operation, can_end}
+use Rattle.core_code.specs.Tree as tree
 use Rattle.core_semantics.specs.declared.answer.Holder.{Holder}
 use Rattle.core_semantics.specs.declared.answer.Turn.{Turn}
 use Rattle.core_semantics.specs.declared.answer.Turn.TheVariants.{Right}
 use Rattle.core_semantics.specs.declared.answer.Why.{Why}
 use Rattle.core_semantics.specs.declared.object.Value.{Value}
-use Rattle.core_semantics.specs.Legs.{Ran, Came as CameTo, Broke, StuckFor}
+use Rattle.core_semantics.specs.Legs.{Ran, Came as CameTo, Halted, StuckFor}
 use Rattle.core_semantics.specs.Runs.{is_turn, next_of}
-use Rattle.core_semantics.specs.State.{Frame, State, Store, Thread, Todo, Operate as DoOp, before, thread_of}
+use Rattle.core_semantics.specs.State.{Frame, State, Store, Thread, Todo, Op, before, thread_of}
 use Rattle.core_semantics.specs.State.{with_thread}
 use Rattle.core_semantics.specs.Steps.{After, Next, Goes, Sticks, Waits, Ends, ended_with, thread_step}
 use Rattle.core_ways.specs.Ways.{Trip, has_site, passed, reached, trip_along}
@@ -102,23 +103,23 @@ MethodRuns core trips m =
 
 -- how many locks code has round a site
 abbrev pub locks_round : SiteId → Tree → ℕ
-locks_round site (Operate at place op) = 0
-locks_round site Nothing = 0
-locks_round site (Then first rest) = if has_site first site then locks_round site first else locks_round site rest
-locks_round site (Either left right) = if has_site left site then locks_round site left else locks_round site right
-locks_round site (Again body) = locks_round site body
-locks_round site (Held place body) = suc (locks_round site body)
+locks_round site (tree.Op at place op) = 0
+locks_round site tree.Skip = 0
+locks_round site (tree.Seq first rest) = if has_site first site then locks_round site first else locks_round site rest
+locks_round site (tree.Choice left right) = if has_site left site then locks_round site left else locks_round site right
+locks_round site (tree.Loop body) = locks_round site body
+locks_round site (tree.Sync place body) = suc (locks_round site body)
 
 -- whether each part that stands in sequence before a site can end
 abbrev pub do_end_before : SiteId → Tree → Bool
-do_end_before site (Operate at place op) = true
-do_end_before site Nothing = true
-do_end_before site (Then first rest) =
+do_end_before site (tree.Op at place op) = true
+do_end_before site tree.Skip = true
+do_end_before site (tree.Seq first rest) =
     if has_site first site then do_end_before site first else can_end first && do_end_before site rest
-do_end_before site (Either left right) =
+do_end_before site (tree.Choice left right) =
     if has_site left site then do_end_before site left else do_end_before site right
-do_end_before site (Again body) = do_end_before site body
-do_end_before site (Held place body) = do_end_before site body
+do_end_before site (tree.Loop body) = do_end_before site body
+do_end_before site (tree.Sync place body) = do_end_before site body
 
 -- the frame is at this operation, within so many more locks
 pub record IsBefore (o : Operation) (more locked : ℕ) (callers : List Frame) (locks : List Holder)
@@ -129,7 +130,7 @@ pub record IsBefore (o : Operation) (more locked : ℕ) (callers : List Frame) (
   pub todo : List Todo
   pub monitors : List Holder
   pub count : length monitors ≡ more
-  pub is : a ≡ here store vars stack (DoOp o.place o.op ∷ todo) (more + locked) callers (monitors ++ locks)
+  pub is : a ≡ here store vars stack (Op o.place o.op ∷ todo) (more + locked) callers (monitors ++ locks)
 
 -- code is gone into up to a site
 abbrev pub RunsTo : Core → (MethodId → Trip) → SiteId → Tree → Operation → Type 0
@@ -147,5 +148,5 @@ part_of s t = record { store = s.store; thread = thread_of s t }
 -- a run of a thread in the machine of two threads is this run of it alone
 abbrev pub IsSeen : State → ℕ → Alone → Ran → Type 0
 IsSeen s t (Came a left) ran = ran ≡ CameTo (with_thread s t a.store a.thread) left
-IsSeen s t (Stuck why) ran = (at : State) × (steps : ℕ) × (ran ≡ Broke (StuckFor why) at steps)
+IsSeen s t (Stuck why) ran = (at : State) × (steps : ℕ) × (ran ≡ Halted (StuckFor why) at steps)
 IsSeen s t Broken ran = Unit {0}

@@ -5,7 +5,7 @@ use Rattle.core_code.specs.Calls.{rank_of}
 use Rattle.core_code.specs.Core.{Core}
 use Rattle.core_ways.specs.declared.count.Count.{Count}
 use Rattle.core_ways.specs.declared.part.WayPart.{WayPart}
-use Rattle.core_ways.specs.declared.part.WayPart.TheVariants.{Step, Turned, Passed, Unread}
+use Rattle.core_ways.specs.declared.part.WayPart.TheVariants.{Step, Branched, Passed, Unread}
 use Rattle.core_ways.specs.Answers.{counted}
 use Rattle.core_ways.specs.Ways.{Trip}
 
@@ -18,7 +18,7 @@ added a b = record { steps = counted (a.steps + b.steps); unread = option_or a.u
 -- greater than the rank of the method that a part passes
 abbrev pub part_height : Core → WayPart → ℕ
 part_height core Step = 0
-part_height core (Turned turn) = 0
+part_height core (Branched turn) = 0
 part_height core (Passed m) = suc (rank_of core m)
 part_height core (Unread place) = 0
 

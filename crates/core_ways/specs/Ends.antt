@@ -6,7 +6,7 @@ use Rattle.core_code.specs.Core.{Core}
 use Rattle.core_semantics.specs.declared.answer.Turn.{Turn}
 use Rattle.core_semantics.specs.declared.answer.Turn.TheVariants.{Right}
 use Rattle.core_semantics.specs.declared.object.StartPath.{StartPath}
-use Rattle.core_semantics.specs.Legs.{Ran, Came, Broke}
+use Rattle.core_semantics.specs.Legs.{Ran, Came, Halted}
 use Rattle.core_semantics.specs.Runs.{wants_turn}
 use Rattle.core_semantics.specs.State.{State}
 use Rattle.core_semantics.specs.Steps.{Next, Goes, Sticks, Waits, Ends, step}
@@ -19,7 +19,7 @@ pub data Ended : Type 0 where
 
 abbrev pub ended : Ran → Ended
 ended (Came to left) = Past to
-ended (Broke halt at steps) = Stopped at
+ended (Halted halt at steps) = Stopped at
 
 -- the state after a step, where it is made
 abbrev pub made_of : Next State → Option State

@@ -8,8 +8,8 @@ pub mod Counts
 pub mod Passings
 pub mod Stable
 pub mod Marks
-pub mod Rows
+pub mod Examples
 pub mod Alone
 pub mod Gathered
 pub mod Ends
-pub mod Both
+pub mod WayPairs

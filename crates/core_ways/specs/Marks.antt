@@ -16,7 +16,7 @@ use Rattle.core_semantics.specs.declared.object.Start.TheVariants.{All}
 use Rattle.core_semantics.specs.declared.object.Object.TheVariants.{Start as StartOf}
 use Rattle.core_semantics.specs.declared.object.Value.{Value}
 use Rattle.core_semantics.specs.declared.object.Value.TheVariants.{Object as Ref}
-use Rattle.core_semantics.specs.Legs.{Leg, Came, Broke, run, runs}
+use Rattle.core_semantics.specs.Legs.{Leg, Came, Halted, run, runs}
 use Rattle.core_semantics.specs.Objects.{same_start_path}
 use Rattle.core_semantics.specs.Runs.{Access as Touching, begun, next_touch, place, wants_turn}
 use Rattle.core_semantics.specs.State.{State}
@@ -97,7 +97,7 @@ reads_of_legs core (leg ∷ legs) s =
     reads core leg.thread leg.steps leg.turns s
     ++ (elim (runs core leg.thread leg.steps leg.turns s) [
       | Came to left ↦ reads_of_legs core legs to
-      | Broke halt at steps ↦ []
+      | Halted halt at steps ↦ []
     ])
 
 abbrev pub objects_of : Core → List Leg → State → List StartPath
@@ -129,7 +129,7 @@ first_halt core [] s = None
 first_halt core (leg ∷ legs) s =
     elim (runs core leg.thread leg.steps leg.turns s) [
       | Came to left ↦ first_halt core legs to
-      | Broke halt at steps ↦ Some (leg.thread, place at leg.thread)
+      | Halted halt at steps ↦ Some (leg.thread, place at leg.thread)
     ]
 
 -- A thread cannot make its next step at this place. At no place nothing is known; no way comes to that, as the law

@@ -6,9 +6,9 @@ use Rattle.core_code.specs.declared.code.Op.{Op as CoreOp}
 use Rattle.racer_base.specs.declared.ids.SiteId.{SiteId}
 use Rattle.core_semantics.specs.declared.answer.Turn.{Turn}
 use Rattle.core_semantics.specs.declared.answer.Turn.TheVariants.{Left, Right}
-use Rattle.core_code.specs.Tree.{Tree, Step as Operate, Nothing, Then, Either, Again, Held, Operation, op_at}
+use Rattle.core_code.specs.Tree.{Tree, Op, Skip, Seq, Choice, Loop, Sync, Operation, op_at}
 use Rattle.core_ways.specs.declared.part.WayPart.{WayPart}
-use Rattle.core_ways.specs.declared.part.WayPart.TheVariants.{Step, Turned}
+use Rattle.core_ways.specs.declared.part.WayPart.TheVariants.{Step, Branched}
 use Rattle.core_ways.specs.Ways.{has_site, passed, reached}
 
 -- the operation that has this site, where the code has one
@@ -17,14 +17,14 @@ op_there code site = option_map (λ (o : Operation). o.op) (op_at code site)
 
 -- at each sequence and choice round a site, from the outside, whether it stands in the first part
 abbrev pub path_to : SiteId → Tree → List Bool
-path_to site (Operate at place op) = []
-path_to site Nothing = []
-path_to site (Then first rest) =
+path_to site (Op at place op) = []
+path_to site Skip = []
+path_to site (Seq first rest) =
     if has_site first site then true ∷ path_to site first else false ∷ path_to site rest
-path_to site (Either left right) =
+path_to site (Choice left right) =
     if has_site left site then true ∷ path_to site left else false ∷ path_to site right
-path_to site (Again body) = path_to site body
-path_to site (Held place body) = path_to site body
+path_to site (Loop body) = path_to site body
+path_to site (Sync place body) = path_to site body
 
 -- none where the code has no such site
 abbrev pub path_where : SiteId → Tree → List Bool
@@ -36,22 +36,22 @@ reached_where site code = if has_site code site then reached 0 site code else []
 
 -- what is passed of code, and which turns it takes, along a path
 abbrev pub followed : ℕ → List Bool → Tree → List WayPart
-followed locks path (Operate at place op) = []
-followed locks path Nothing = []
-followed locks path (Then first rest) =
+followed locks path (Op at place op) = []
+followed locks path Skip = []
+followed locks path (Seq first rest) =
     elim path [
       | [] ↦ []
       | ◌∷◌ is_first sides ↦
           if is_first then followed locks sides first else passed locks first ++ followed locks sides rest
     ]
-followed locks path (Either left right) =
+followed locks path (Choice left right) =
     elim path [
       | [] ↦ []
       | ◌∷◌ is_left sides ↦
-          if is_left then Turned Left ∷ followed locks sides left else Turned Right ∷ followed locks sides right
+          if is_left then Branched Left ∷ followed locks sides left else Branched Right ∷ followed locks sides right
     ]
-followed locks path (Again body) = Turned Left ∷ followed locks path body
-followed locks path (Held place body) = Step ∷ followed (suc locks) path body
+followed locks path (Loop body) = Branched Left ∷ followed locks path body
+followed locks path (Sync place body) = Step ∷ followed (suc locks) path body
 
 -- a path by its first side and those behind it
 abbrev pub sides_of : Option (Bool × Bor (List Bool)) → List Bool

@@ -9,7 +9,7 @@ use Rattle.racer_base.specs.declared.ids.Place.{Place}
 use Rattle.racer_base.specs.declared.ids.SiteId.{SiteId}
 use Rattle.core_code.specs.declared.code.Op.{Op as CoreOp}
 use Rattle.core_code.specs.declared.code.Op.TheVariants.{Call, Unread as UnreadCall, Ret}
-use Rattle.core_code.specs.Tree.{Tree, Step as Operate, Nothing, Then, Either, Again, Held, can_end, op_at}
+use Rattle.core_code.specs.Tree.{Tree, Op, Skip, Seq, Choice, Loop, Sync, can_end, op_at}
 use Rattle.core_code.specs.Core.{Core, Method}
 use Rattle.core_code.specs.Calls.{method_at, closed_by_rank}
 use Rattle.access_domain.specs.declared.access.Access.{Access}
@@ -18,7 +18,7 @@ use Rattle.access_domain.specs.Summaries.{accesses_of, outcome_of}
 use Rattle.core_semantics.specs.declared.answer.Turn.{Turn}
 use Rattle.core_semantics.specs.declared.answer.Turn.TheVariants.{Left, Right}
 use Rattle.core_ways.specs.declared.part.WayPart.{WayPart}
-use Rattle.core_ways.specs.declared.part.WayPart.TheVariants.{Step, Turned, Passed, Unread}
+use Rattle.core_ways.specs.declared.part.WayPart.TheVariants.{Step, Branched, Passed, Unread}
 
 -- Passing code, where the frame is within so many locks: a loop takes right at once; a choice takes right where its
 -- right side can end, else left; what stands behind code that cannot end is not done. A return unlocks first.
@@ -30,13 +30,13 @@ passed_op locks place (UnreadCall m n) = Unread place ∷ []
 passed_op locks place _ = Step ∷ []
 
 abbrev pub passed : ℕ → Tree → List WayPart
-passed locks (Operate site place op) = passed_op locks place op
-passed locks Nothing = []
-passed locks (Then first rest) = passed locks first ++ (if can_end first then passed locks rest else [])
-passed locks (Either left right) =
-    if can_end right then Turned Right ∷ passed locks right else Turned Left ∷ passed locks left
-passed locks (Again body) = Turned Right ∷ []
-passed locks (Held place body) =
+passed locks (Op site place op) = passed_op locks place op
+passed locks Skip = []
+passed locks (Seq first rest) = passed locks first ++ (if can_end first then passed locks rest else [])
+passed locks (Choice left right) =
+    if can_end right then Branched Right ∷ passed locks right else Branched Left ∷ passed locks left
+passed locks (Loop body) = Branched Right ∷ []
+passed locks (Sync place body) =
     Step ∷ passed (suc locks) body ++ (if can_end body then Step ∷ [] else [])
 
 -- Going towards a site: each choice and each loop round it is taken towards it, a loop once. What stands before it is
@@ -46,14 +46,14 @@ abbrev pub has_site : Tree → SiteId → Bool
 has_site code site = is_some (op_at code site)
 
 abbrev pub reached : ℕ → SiteId → Tree → List WayPart
-reached locks site (Operate at place op) = []
-reached locks site Nothing = []
-reached locks site (Then first rest) =
+reached locks site (Op at place op) = []
+reached locks site Skip = []
+reached locks site (Seq first rest) =
     if has_site first site then reached locks site first else passed locks first ++ reached locks site rest
-reached locks site (Either left right) =
-    if has_site left site then Turned Left ∷ reached locks site left else Turned Right ∷ reached locks site right
-reached locks site (Again body) = Turned Left ∷ reached locks site body
-reached locks site (Held place body) = Step ∷ reached (suc locks) site body
+reached locks site (Choice left right) =
+    if has_site left site then Branched Left ∷ reached locks site left else Branched Right ∷ reached locks site right
+reached locks site (Loop body) = Branched Left ∷ reached locks site body
+reached locks site (Sync place body) = Step ∷ reached (suc locks) site body
 
 -- The turns of a way, how many steps it has, and the places of the calls on it that are not read.
 pub record Trip : Type 0 where
@@ -71,7 +71,7 @@ joined a b = record { turns = a.turns ++ b.turns; steps = a.steps + b.steps; unr
 -- what a part makes up, where this is what passing each method makes up
 abbrev pub trip_of_part : (MethodId → Trip) → WayPart → Trip
 trip_of_part trips Step = straight 1
-trip_of_part trips (Turned turn) = record { turns = turn ∷ []; steps = 1; unread = [] }
+trip_of_part trips (Branched turn) = record { turns = turn ∷ []; steps = 1; unread = [] }
 trip_of_part trips (Passed m) = joined (straight 1) (trips m)
 trip_of_part trips (Unread place) = record { turns = []; steps = 1; unread = place ∷ [] }
 

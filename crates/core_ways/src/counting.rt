@@ -85,7 +85,7 @@ fn count_part(
     };
     match part {
         WayPart::Step => Ok(one),
-        WayPart::Turned(_) => Ok(one),
+        WayPart::Branched(_) => Ok(one),
         WayPart::Passed(method) => Ok(one.and(count_method(alloc, program, table, method)?)),
         WayPart::Unread(place) => Ok(Count {
             steps: 1,

@@ -11,14 +11,14 @@ ghost use Rattle.core_ways.specs.Gathered.{gathered};
 use crate::mark::Leg;
 use crate::objects::Objects;
 use core_code::Program;
-use core_semantics::{Machine, StepAnswer, Turn};
+use core_semantics::{Look, Machine, StepAnswer, Turn};
 use racer_base::Memory;
 
 /// Lets a machine go. Each type of its parts is taken apart here, so a crate that runs legs need not show how.
 pub fn let_go(_machine: Machine) {}
 
 /// One step of a thread; these turns, which are left then, where it was made.
-fn go<'a, 't>(
+fn take_step<'a, 't>(
     program: &'a Program,
     machine: &mut Machine<'a>,
     thread: u32,
@@ -50,7 +50,7 @@ fn take_turn<'a, 't>(
 {
     match turns {
         [] => Ok(None),
-        [turn, rest @ ..] => go(program, machine, thread, *turn, rest),
+        [turn, rest @ ..] => take_step(program, machine, thread, *turn, rest),
     }
 }
 
@@ -83,13 +83,19 @@ fn advance<'a, 't>(
     ensures reads { OnOk result (
         objects.new ≡ gathered objects.old (step_reads (core program.now) (state_of machine.old) thread)) }
 {
-    if machine.wants_turn(thread) {
-        return take_turn(program, machine, thread, turns);
-    }
-    let Ok(()) = gather(program, machine, objects, thread) else {
+    let Ok(look) = machine.look(thread) else {
         return Err(Memory);
     };
-    go(program, machine, thread, Turn::Right, turns)
+    match look {
+        Look::Turn => take_turn(program, machine, thread, turns),
+        Look::Read => {
+            let Ok(()) = gather(program, machine, objects, thread) else {
+                return Err(Memory);
+            };
+            take_step(program, machine, thread, Turn::Right, turns)
+        }
+        Look::Other => take_step(program, machine, thread, Turn::Right, turns),
+    }
 }
 
 /// The steps of a leg, with its turns; whether all were made.

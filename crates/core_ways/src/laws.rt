@@ -14,10 +14,10 @@ ghost use Rattle.core_semantics.specs.declared.answer.Turn.TheVariants.{Left, Ri
 ghost use Rattle.core_semantics.specs.declared.object.StartRoot.TheVariants.{This as StartThis};
 ghost use Rattle.core_semantics.specs.Legs.{runs};
 ghost use Rattle.core_semantics.specs.State.{State, other_of};
-ghost use Rattle.core_semantics.specs.Rows.{early, field, gate, method, null};
+ghost use Rattle.core_semantics.specs.Examples.{early, field, gate, method, null};
 ghost use Rattle.core_ways.specs.Marks.{mark_of, Unnamed, Unread, Unstable, Blocked, Confirmed};
-ghost use Rattle.core_ways.specs.Rows.{with_sites, card, circle, doubling, turning, storing};
-ghost use Rattle.core_ways.specs.Rows.{pair_of, leg_of, this_path};
+ghost use Rattle.core_ways.specs.Examples.{with_sites, card, circle, doubling, turning, storing};
+ghost use Rattle.core_ways.specs.Examples.{pair_of, leg_of, this_path};
 ghost use Rattle.core_ways.specs.Alone.{IsSeen, MethodRuns, RunsTo, alone, do_end_before, part_of};
 ghost use Rattle.core_ways.specs.Ways.{trip_of, way_of};
 

@@ -6,7 +6,6 @@
 //! `specs/Ends.antt` and `specs/Gathered.antt` say where a leg that is run ends, and what it read.
 #![tactic(auto)]
 
-mod both;
 mod count;
 mod counting;
 mod driving;
@@ -20,8 +19,8 @@ mod passing;
 mod reaching;
 mod taken;
 mod turns;
+mod way_pair;
 
-pub use both::{Both, Target, behind_long, behind_taken, ways};
 pub use count::Count;
 pub use counting::{Passing, Passings, count_along};
 pub use driving::{let_go, run_leg};
@@ -33,3 +32,4 @@ pub use passing::pass;
 pub use reaching::{code_of, parts_to};
 pub use taken::{WayFault, WayTaken, way};
 pub use turns::push_turns;
+pub use way_pair::{Target, WayPair, behind_long, behind_taken, ways};

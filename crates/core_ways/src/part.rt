@@ -8,7 +8,7 @@ pub enum WayPart {
     /// One step that takes no turn.
     Step,
     /// One step at a choice or a loop, with the turn that it takes.
-    Turned(Turn),
+    Branched(Turn),
     /// A call of this method, and all of its steps up to its first return.
     Passed(MethodId),
     /// A call at this place of a method that is not analysed.

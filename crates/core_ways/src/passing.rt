@@ -2,7 +2,7 @@
 ghost use Rattle.std.specs.Prelude.{◌≡◌, ◌++◌, ◌∷◌, [], false, true, map, not, suc, take, replicate, IfOk, OnOk};
 ghost use Rattle.core_code.specs.Tree.{tree_of, in_sequence, can_end, is_return};
 ghost use Rattle.core_semantics.specs.declared.answer.Turn.TheVariants.{Left};
-ghost use Rattle.core_ways.specs.declared.part.WayPart.TheVariants.{Step, Turned};
+ghost use Rattle.core_ways.specs.declared.part.WayPart.TheVariants.{Step, Branched};
 ghost use Rattle.core_ways.specs.Ways.{passed, passed_op};
 ghost use Rattle.core_ways.specs.Paths.{followed, sides_of, turn_to};
 
@@ -54,10 +54,10 @@ fn turn_to(is_left: bool) -> Turn
 
 /// Takes the left side of a choice that has so many parts before it.
 fn turn_left(parts: &mut Vec<WayPart>, before: usize) -> Result<(), Memory>
-    ensures { OnOk result (parts.new.items ≡ take before parts.old.items ++ Turned Left ∷ []) }
+    ensures { OnOk result (parts.new.items ≡ take before parts.old.items ++ Branched Left ∷ []) }
 {
     parts.truncate(before);
-    let Ok(()) = parts.push(WayPart::Turned(Turn::Left)) else {
+    let Ok(()) = parts.push(WayPart::Branched(Turn::Left)) else {
         return Err(Memory);
     };
     Ok(())
@@ -87,7 +87,7 @@ pub fn pass(parts: &mut Vec<WayPart>, locks: u32, code: &Code) -> Result<bool, M
         Code::Seq(codes) => pass_through(parts, locks, codes.as_slice()),
         Code::Choice(left, right) => {
             let before = parts.len();
-            let Ok(()) = parts.push(WayPart::Turned(Turn::Right)) else {
+            let Ok(()) = parts.push(WayPart::Branched(Turn::Right)) else {
                 return Err(Memory);
             };
             let Ok(right_ends) = pass(parts, locks, right) else {
@@ -101,7 +101,7 @@ pub fn pass(parts: &mut Vec<WayPart>, locks: u32, code: &Code) -> Result<bool, M
             };
             pass(parts, locks, left)
         }
-        Code::Loop(_) => put(parts, WayPart::Turned(Turn::Right)),
+        Code::Loop(_) => put(parts, WayPart::Branched(Turn::Right)),
         Code::Sync(_, body) => {
             let Ok(()) = parts.push(WayPart::Step) else {
                 return Err(Memory);
@@ -165,7 +165,7 @@ pub(crate) fn follow(
             let Some((is_left, rest)) = first_side(path) else {
                 return Ok(());
             };
-            let Ok(()) = parts.push(WayPart::Turned(turn_to(is_left))) else {
+            let Ok(()) = parts.push(WayPart::Branched(turn_to(is_left))) else {
                 return Err(Memory);
             };
             if is_left {
@@ -174,7 +174,7 @@ pub(crate) fn follow(
             follow(parts, locks, rest, right)
         }
         Code::Loop(body) => {
-            let Ok(()) = parts.push(WayPart::Turned(Turn::Left)) else {
+            let Ok(()) = parts.push(WayPart::Branched(Turn::Left)) else {
                 return Err(Memory);
             };
             follow(parts, locks, path, body)

@@ -56,7 +56,7 @@ fn push_part(
         ≡ turns.old.items ++ (trip_of_part (trip_of (core program.now)) part).turns) }
 {
     match part {
-        WayPart::Turned(turn) => push_turn(turns, turn),
+        WayPart::Branched(turn) => push_turn(turns, turn),
         WayPart::Passed(method) => push_method(alloc, program, table, turns, method),
         WayPart::Step | WayPart::Unread(_) => Ok(()),
     }

@@ -12,7 +12,7 @@ use Rattle.owner_domain.specs.declared.value.Value.{Value as Called}
 use Rattle.owner_domain.specs.declared.value.Value.TheVariants.{Owned, Named, Unnamed}
 use Rattle.access_domain.specs.declared.access.Access.{Access}
 use Rattle.access_domain.specs.Findings.{Table}
-use Rattle.access_domain.specs.Given.{Given, given_of}
+use Rattle.access_domain.specs.Given.{FlowContext, given_of}
 use Rattle.access_domain.specs.Operations.{op_effects, record_of, slot_of, top}
 use Rattle.access_domain.specs.Substitution.{touched}
 use Rattle.core_code.specs.declared.code.Op.{Op as CoreOp}
@@ -25,7 +25,7 @@ use Rattle.core_code.specs.KindCheck.{after_get, after_put, field_at, is_base_of
 use Rattle.core_code.specs.Kinds.{StackKind, fits, kind_of}
 use Rattle.core_code.proofs.BoolParts.{first_part}
 use Rattle.core_code.proofs.Membership.{In}
-use Rattle.core_ways_laws.specs.Tops.{Tops, top_at}
+use Rattle.core_ways_laws.specs.Arrivals.{Arrivals, arrival_at}
 use Rattle.core_ways_laws.specs.Values.{Point}
 use Rattle.core_ways_laws.specs.Kept.{IsMet}
 use Rattle.core_ways_laws.specs.Meets.{base_path, base_value, touching}
@@ -54,11 +54,13 @@ pub record IsPathOf (base : Called) (f : FieldId) (p : Path) : Type 0 where
   pub last : last_of p.fields ≡ Some f
   pub named : is_some_root p.root ≡ false → base ≡ Named (base_path p)
 
-some-path-of : (g : Given) (base : Called) (f : FieldId) (p : Path) → some_path (g.class_of f) f ≡ p → IsPathOf base f p
+some-path-of : (g : FlowContext) (base : Called) (f : FieldId) (p : Path) → some_path (g.class_of f) f ≡ p →
+    IsPathOf base f p
 some-path-of g base f p same =
     subst (λ (x : Path). IsPathOf base f x) same (record { last = refl; named = λ e. absurd cc })
 
-pub touched-is : (g : Given) (base : Called) (f : FieldId) (p : Path) → touched g base f ≡ Some p → IsPathOf base f p
+pub touched-is : (g : FlowContext) (base : Called) (f : FieldId) (p : Path) → touched g base f ≡ Some p →
+    IsPathOf base f p
 touched-is g Owned f p e = absurd cc
 touched-is g Unnamed f p e = some-path-of g Unnamed f p cc
 touched-is g (Named q) f p e =
@@ -78,12 +80,12 @@ touched-is g (Named q) f p e =
 
 -- ---- the record of a read or a write
 
-record IsRecordOf (g : Given) (kind : Touch) (base : Called) (f : FieldId) (r : Access) : Type 0 where
+record IsRecordOf (g : FlowContext) (kind : Touch) (base : Called) (f : FieldId) (r : Access) : Type 0 where
   same_kind : kind ≡ r.kind
   below : None ≡ r.below
   path : touched g base f ≡ Some r.path
 
-made : (g : Given) (kind : Touch) (locked : Bool) (site : SiteId) (base : Called) (f : FieldId) (o : Option Path)
+made : (g : FlowContext) (kind : Touch) (locked : Bool) (site : SiteId) (base : Called) (f : FieldId) (o : Option Path)
     (r : Access) → touched g base f ≡ o → In (elim o as (λ _. List Access) [
       | None ↦ []
       | Some p ↦ record { path = p; kind = kind; locked = locked; main = g.main; site = site; below = None } ∷ []
@@ -98,7 +100,8 @@ made g kind locked site base f (Some p) r is has =
     })
     (λ none. absurd none) has
 
-made-record : (g : Given) (kind : Touch) (locked : Bool) (site : SiteId) (base : Called) (f : FieldId) (r : Access) →
+made-record : (g : FlowContext) (kind : Touch) (locked : Bool) (site : SiteId) (base : Called) (f : FieldId)
+    (r : Access) →
     In (record_of g kind locked site base f) r → IsRecordOf g kind base f r
 made-record g kind locked site base f r has =
     elim (g.is_recorded f) as (λ b. In (cond b (elim (touched g base f) as (λ _. List Access) [
@@ -112,16 +115,16 @@ made-record g kind locked site base f r has =
 -- ---- the access
 
 module _ (core : Core) (quiet : Quietness core) (n : Naming) (method : Method) (table : Table) (main locked : Bool)
-    (tops : Tops) (site : SiteId) where
+    (tops : Arrivals) (site : SiteId) where
   met : (kind : Touch) (f : FieldId) (kb : StackKind) (base : Called) (at : Point) (r : Access) → is_strong kb ≡ true →
       IsPlace core quiet kb (name_of n base) (base_value kind at) → IsStore core quiet at.store →
       In (record_of (given_of core table main) kind locked site base f) r →
-      IsMet core quiet n r (top_at core tops r.below (touching kind f) at)
+      IsMet core quiet n r (arrival_at core tops r.below (touching kind f) at)
   met kind f kb base at r strong place stored has =
       let of : IsRecordOf (given_of core table main) kind base f r =
       made-record (given_of core table main) kind locked site base f r has in
       let path : IsPathOf base f r.path = touched-is (given_of core table main) base f r.path of.path in
-      subst (λ (below : Option ℕ). IsMet core quiet n r (top_at core tops below (touching kind f) at)) of.below (
+      subst (λ (below : Option ℕ). IsMet core quiet n r (arrival_at core tops below (touching kind f) at)) of.below (
         stored,
         record {
           field = f;
@@ -137,7 +140,7 @@ module _ (core : Core) (quiet : Quietness core) (n : Naming) (method : Method) (
   get-met : (f : FieldId) (o : Option FieldCore) (kinds after : List StackKind) (s : State) (at : Point) (r : Access) →
       after_get o kinds ≡ Some after → IsFrame core quiet n method kinds s at → IsStore core quiet at.store →
       In (record_of (given_of core table main) Read locked site (top s) f) r →
-      IsMet core quiet n r (top_at core tops r.below (Get f) at)
+      IsMet core quiet n r (arrival_at core tops r.below (Get f) at)
   get-met f None kinds after s at r kinded frame stored has = absurd cc
   get-met f (Some field) [] after s at r kinded frame stored has = absurd cc
   get-met f (Some field) (kb ∷ rest) after s at r kinded frame stored has =
@@ -148,7 +151,7 @@ module _ (core : Core) (quiet : Quietness core) (n : Naming) (method : Method) (
   put-met : (f : FieldId) (o : Option FieldCore) (kinds after : List StackKind) (s : State) (at : Point) (r : Access) →
       after_put o kinds ≡ Some after → IsFrame core quiet n method kinds s at → IsStore core quiet at.store →
       In (record_of (given_of core table main) Write locked site (slot_of s 1) f) r →
-      IsMet core quiet n r (top_at core tops r.below (Put f) at)
+      IsMet core quiet n r (arrival_at core tops r.below (Put f) at)
   put-met f None kinds after s at r kinded frame stored has = absurd cc
   put-met f (Some field) [] after s at r kinded frame stored has = absurd cc
   put-met f (Some field) (kv ∷ []) after s at r kinded frame stored has = absurd cc
@@ -162,7 +165,7 @@ module _ (core : Core) (quiet : Quietness core) (n : Naming) (method : Method) (
   pub op-met : (op : CoreOp) (kinds after : List StackKind) (s : State) (at : Point) (r : Access) → called_by op ≡ [] →
       kinds_after_op core method op kinds ≡ Some after → IsFrame core quiet n method kinds s at →
       IsStore core quiet at.store → In (op_effects (given_of core table main) locked site op s).records r →
-      IsMet core quiet n r (top_at core tops r.below op at)
+      IsMet core quiet n r (arrival_at core tops r.below op at)
   op-met (Get f) kinds after s at r no_call kinded frame stored has =
       get-met f (field_at core f) kinds after s at r kinded frame stored has
   op-met (Put f) kinds after s at r no_call kinded frame stored has =

@@ -16,13 +16,13 @@ use Rattle.core_code.specs.KindCheck.{Kinds, after_call, and_then, below_fitting
 use Rattle.core_code.specs.Kinds.{StackKind, kind_of}
 use Rattle.core_code.proofs.BoolParts.{last_part}
 use Rattle.access_domain.specs.Findings.{Findings, Known, Large, Whole, Table}
-use Rattle.access_domain.specs.Given.{Given, given_of, is_static_method}
+use Rattle.access_domain.specs.Given.{FlowContext, given_of, is_static_method}
 use Rattle.access_domain.specs.Operations.{Effects, call_effects, found_effects, op_effects, passed_from, replaced}
 use Rattle.access_domain.specs.Substitution.{Actuals, actuals_from, substituted, substituted_value}
 use Rattle.core_semantics.specs.declared.object.Value.{Value}
 use Rattle.core_semantics.specs.State.{Store}
 use Rattle.core_semantics.specs.Steps.{base_of}
-use Rattle.core_ways_laws.specs.Values.{Point, End, Calls, go_op, on_ok, received, returned_to, values_passed}
+use Rattle.core_ways_laws.specs.Values.{Point, End, Calls, evaluate_op, on_ok, received, returned_to, values_passed}
 use Rattle.core_ways_laws.specs.Kept.{IsEntered, IsGiven, IsGood, IsKept}
 use Rattle.core_ways_laws.specs.Names.{Naming, callee_naming, name_of}
 use Rattle.core_ways_laws.specs.Places.{AreHushed, ArePlaces, IsFrame, IsPlace, IsStore}
@@ -86,7 +86,7 @@ module _ (core : Core) (quiet : Quietness core) (n : Naming) (method : Method) w
       }
 
   -- what a call of a method of which all is known has of the method
-  pub whole-call-kept : (kinds ends : List StackKind) (g : Given) (locked : Bool) (site : SiteId) (s : State)
+  pub whole-call-kept : (kinds ends : List StackKind) (g : FlowContext) (locked : Bool) (site : SiteId) (s : State)
       (at : Point) (m : MethodId) (count : ℕ) (found : Findings) (known : Option Known)
       (call : List Value → Store → Option (Store × Value)) (good : IsGood core quiet m known call) →
       good.what ≡ Whole found → IsTaken good.method count kinds ends → (actuals : Actuals) →
@@ -123,7 +123,7 @@ module _ (core : Core) (quiet : Quietness core) (n : Naming) (method : Method) w
       (good.keeps found whole inner (values_passed at count) at.store entered stored hushed)
 
   -- by what is known of the method
-  known-call-kept : (kinds ends : List StackKind) (g : Given) (locked : Bool) (site : SiteId) (s : State)
+  known-call-kept : (kinds ends : List StackKind) (g : FlowContext) (locked : Bool) (site : SiteId) (s : State)
       (at : Point) (m : MethodId) (count : ℕ) (known : Option Known)
       (call : List Value → Store → Option (Store × Value)) (good : IsGood core quiet m known call) (what : Known) →
       good.what ≡ what → IsTaken good.method count kinds ends → g.is_static m ≡ good.method.is_static →
@@ -147,9 +147,9 @@ module _ (core : Core) (quiet : Quietness core) (n : Naming) (method : Method) w
       (op_effects (given_of core table main) locked site (Call m count) s).large ≡ false →
       IsFrame core quiet n method kinds s at → IsStore core quiet at.store →
       IsKept core quiet n method ends (op_effects (given_of core table main) locked site (Call m count) s)
-      (go_op core calls (Call m count) at)
+      (evaluate_op core calls (Call m count) at)
   call-kept table main locked calls site m count kinds ends s at right good fits hush small frame stored =
-      let g : Given = given_of core table main in
+      let g : FlowContext = given_of core table main in
       let by : Option Known → Effects = λ o. call_effects g locked site m count s o in
       let takes_it : IsTaken good.method count kinds ends =
       taken core method good.method m count kinds ends good.there right fits in

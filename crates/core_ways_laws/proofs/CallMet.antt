@@ -5,7 +5,7 @@ use Rattle.racer_base.specs.declared.ids.SiteId.{SiteId}
 use Rattle.owner_domain.specs.declared.value.State.{State}
 use Rattle.access_domain.specs.declared.access.Access.{Access}
 use Rattle.access_domain.specs.Findings.{Findings, Known, Large, Whole, Table}
-use Rattle.access_domain.specs.Given.{Given, given_of, is_static_method}
+use Rattle.access_domain.specs.Given.{FlowContext, given_of, is_static_method}
 use Rattle.access_domain.specs.Operations.{call_effects, op_effects, passed_from}
 use Rattle.access_domain.specs.Substitution.{Actuals, actuals_from}
 use Rattle.core_code.specs.declared.code.Op.TheVariants.{Call}
@@ -14,7 +14,7 @@ use Rattle.core_code.specs.Core.{Core, Method}
 use Rattle.core_code.specs.KindCheck.{kinds_after_op}
 use Rattle.core_code.specs.Kinds.{StackKind}
 use Rattle.core_code.proofs.Membership.{In}
-use Rattle.core_ways_laws.specs.Tops.{Top, Tops, top_at}
+use Rattle.core_ways_laws.specs.Arrivals.{Arrival, Arrivals, arrival_at}
 use Rattle.core_ways_laws.specs.Values.{Point, received, values_passed}
 use Rattle.core_ways_laws.specs.Kept.{AreMet, IsEntered, IsMet}
 use Rattle.core_ways_laws.specs.Names.{Naming, callee_naming}
@@ -27,7 +27,7 @@ use Rattle.core_ways_laws.proofs.Hushing.{hush-callee}
 
 module _ (core : Core) (quiet : Quietness core) (n : Naming) (method : Method) where
   -- towards the record of a callee of which all is known
-  whole-call-met : (g : Given) (locked : Bool) (tops : Tops) (site : SiteId) (m : MethodId) (count : ℕ)
+  whole-call-met : (g : FlowContext) (locked : Bool) (tops : Arrivals) (site : SiteId) (m : MethodId) (count : ℕ)
       (kinds ends : List StackKind) (s : State) (at : Point) (r : Access) (found : Findings) (known : Option Known)
       (met : AreMet core quiet m known (tops m)) → known ≡ Some (Whole found) →
       IsTaken met.method count kinds ends →
@@ -35,7 +35,7 @@ module _ (core : Core) (quiet : Quietness core) (n : Naming) (method : Method) w
       AreHushed core quiet n (call_effects g locked site m count s (Some (Whole found))).wobbly →
       IsFrame core quiet n method kinds s at → IsStore core quiet at.store →
       In (call_effects g locked site m count s (Some (Whole found))).records r →
-      IsMet core quiet n r (top_at core tops r.below (Call m count) at)
+      IsMet core quiet n r (arrival_at core tops r.below (Call m count) at)
   whole-call-met g locked tops site m count kinds ends s at r found known met is takes_it static hushed frame
       stored has =
       let actuals : Actuals = actuals_from (g.is_static m) (passed_from s count) in
@@ -49,8 +49,8 @@ module _ (core : Core) (quiet : Quietness core) (n : Naming) (method : Method) w
       (tops m of.index (values_passed at count) at.store) =
       met.meets found is (callee_naming n actuals) (values_passed at count) at.store entered stored
       (hush-callee core quiet n g actuals found locked site hushed) of.index of.inner of.has in
-      subst (λ (below : Option ℕ). IsMet core quiet n r (top_at core tops below (Call m count) at)) of.below
-      (subst (λ (o : Option Method). IsMet core quiet n r (elim o as (λ _. Option Top) [
+      subst (λ (below : Option ℕ). IsMet core quiet n r (arrival_at core tops below (Call m count) at)) of.below
+      (subst (λ (o : Option Method). IsMet core quiet n r (elim o as (λ _. Option Arrival) [
         | None ↦ None
         | Some x ↦ received x (values_passed at count) (tops m of.index (values_passed at count) at.store)
       ])) (sym met.there)
@@ -59,14 +59,14 @@ module _ (core : Core) (quiet : Quietness core) (n : Naming) (method : Method) w
       (met-through core quiet n g actuals of.inner r (tops m of.index (values_passed at count) at.store) of.kind of.path
       inner)))
 
-  known-call-met : (g : Given) (locked : Bool) (tops : Tops) (site : SiteId) (m : MethodId) (count : ℕ)
+  known-call-met : (g : FlowContext) (locked : Bool) (tops : Arrivals) (site : SiteId) (m : MethodId) (count : ℕ)
       (kinds ends : List StackKind) (s : State) (at : Point) (r : Access) (known what : Option Known)
       (met : AreMet core quiet m known (tops m)) → known ≡ what →
       IsTaken met.method count kinds ends →
       g.is_static m ≡ met.method.is_static → AreHushed core quiet n (call_effects g locked site m count s what).wobbly →
       IsFrame core quiet n method kinds s at → IsStore core quiet at.store →
       In (call_effects g locked site m count s what).records r →
-      IsMet core quiet n r (top_at core tops r.below (Call m count) at)
+      IsMet core quiet n r (arrival_at core tops r.below (Call m count) at)
   known-call-met g locked tops site m count kinds ends s at r known None met is takes_it static hushed frame
       stored has = absurd has
   known-call-met g locked tops site m count kinds ends s at r known (Some Large) met is takes_it static hushed
@@ -76,14 +76,14 @@ module _ (core : Core) (quiet : Quietness core) (n : Naming) (method : Method) w
       whole-call-met g locked tops site m count kinds ends s at r found known met is takes_it static hushed frame
       stored has
 
-  pub call-met : (table : Table) (main locked : Bool) (tops : Tops) (site : SiteId) (m : MethodId) (count : ℕ)
+  pub call-met : (table : Table) (main locked : Bool) (tops : Arrivals) (site : SiteId) (m : MethodId) (count : ℕ)
       (kinds ends : List StackKind) (s : State) (at : Point) (r : Access) → is_right_call core (Call m count) ≡ true →
       (met : AreMet core quiet m (table m) (tops m)) →
       kinds_after_op core method (Call m count) kinds ≡ Some ends →
       AreHushed core quiet n (op_effects (given_of core table main) locked site (Call m count) s).wobbly →
       IsFrame core quiet n method kinds s at → IsStore core quiet at.store →
       In (op_effects (given_of core table main) locked site (Call m count) s).records r →
-      IsMet core quiet n r (top_at core tops r.below (Call m count) at)
+      IsMet core quiet n r (arrival_at core tops r.below (Call m count) at)
   call-met table main locked tops site m count kinds ends s at r right met fits hushed frame stored has =
       let static : is_static_method core m ≡ met.method.is_static =
       ap (λ (o : Option Method). elim o as (λ _. Bool) [ None ↦ true | Some x ↦ x.is_static ]) met.there in

@@ -12,7 +12,7 @@ use Rattle.core_code.specs.declared.code.Op.TheVariants.{Prim, Call}
 use Rattle.core_code.specs.Calls.{called_by, is_analysed, known_below, method_at, rank_of}
 use Rattle.core_code.specs.CallFacts.{ends_by_return, has_ranks}
 use Rattle.core_code.specs.Core.{Core, Method}
-use Rattle.core_code.specs.Tree.{Tree, Step as Operate, Nothing, Then, Either, Again, Held, can_end, steps_of}
+use Rattle.core_code.specs.Tree.{Tree, Op, Skip, Seq, Choice, Loop, Sync, can_end, steps_of}
 use Rattle.core_code.proofs.BoolParts.{first_part, last_part}
 use Rattle.core_code.proofs.ByRank.{known_below-lower}
 use Rattle.core_semantics.specs.declared.answer.Holder.{Holder}
@@ -26,17 +26,17 @@ use Rattle.core_ways.proofs.Alone.{Leads, weaker}
 use Rattle.core_ways.proofs.AloneMethods.{AreRight, calls-pass, code-there, may_call}
 use Rattle.core_ways.proofs.Callees.{do_pass, lower-calls, lower-parts, pass-both}
 use Rattle.core_ways.proofs.Trips.{trip_of-parts}
-use Rattle.core_ways_laws.specs.Values.{Behind, Back, Calls, End, Point, call_given, call_of, entry_point, go, go_on}
-use Rattle.core_ways_laws.specs.Values.{go_op}
+use Rattle.core_ways_laws.specs.Values.{Behind, Back, Calls, End, Point, call_given, call_of, entry_point, evaluate, go_on}
+use Rattle.core_ways_laws.specs.Values.{evaluate_op}
 use Rattle.core_ways_laws.specs.Values.{on_ok, point_popped, received, returned_to, top_value, value_back, values_passed}
-use Rattle.core_ways_laws.specs.Led.{GoesPast, IsBack, IsEnd, MethodGoes, at_point, back_at}
+use Rattle.core_ways_laws.specs.RunValues.{GoesPast, IsBack, IsEnd, MethodGoes, at_point, back_at}
 use Rattle.core_ways_laws.proofs.PassedValues.{EndsAs, go-ends, goes-past}
 
 -- ---- what calls give, from what the methods of smaller ranks give
 
 module _ (core : Core) (f g : Calls) (test : MethodId → Bool) (same : (m : MethodId) → test m ≡ true → f m ≡ g m) where
   op-same : (op : CoreOp) → list_all test (called_by op ++ []) ≡ true →
-      ◌≡◌ {A = Point → Option End} (λ at. go_op core f op at) (λ at. go_op core g op at)
+      ◌≡◌ {A = Point → Option End} (λ at. evaluate_op core f op at) (λ at. evaluate_op core g op at)
   op-same (Call m n) all = (λ i at. elim (method_at core m) as (λ _. Option End) [
     | None ↦ None
     | Some method ↦
@@ -46,21 +46,21 @@ module _ (core : Core) (f g : Calls) (test : MethodId → Bool) (same : (m : Met
   op-same op all = refl
 
   pub go-same : (code : Tree) → do_pass test (steps_of code) ≡ true →
-      ◌≡◌ {A = Point → Option End} (λ at. go core f code at) (λ at. go core g code at)
-  go-same (Operate site place op) all = op-same op all
-  go-same Nothing all = refl
-  go-same (Then first rest) all =
+      ◌≡◌ {A = Point → Option End} (λ at. evaluate core f code at) (λ at. evaluate core g code at)
+  go-same (Op site place op) all = op-same op all
+  go-same Skip all = refl
+  go-same (Seq first rest) all =
       let both = pass-both test (steps_of first) (steps_of rest) all in
       let early = go-same first (first_part (do_pass test (steps_of first)) (do_pass test (steps_of rest)) both) in
       let late = go-same rest (last_part (do_pass test (steps_of first)) (do_pass test (steps_of rest)) both) in
       (λ i at. go_on (early i at) (late i))
-  go-same (Either left right) all =
+  go-same (Choice left right) all =
       let both = pass-both test (steps_of left) (steps_of right) all in
       let l = go-same left (first_part (do_pass test (steps_of left)) (do_pass test (steps_of right)) both) in
       let r = go-same right (last_part (do_pass test (steps_of left)) (do_pass test (steps_of right)) both) in
       (λ i at. cond (can_end right) (r i at) (l i at))
-  go-same (Again body) all = refl
-  go-same (Held place body) all =
+  go-same (Loop body) all = refl
+  go-same (Sync place body) all =
       let inside = go-same body all in
       (λ i at. on_ok (monitor_of (top_value at)) (inside i (point_popped at 1)))
 
@@ -73,8 +73,8 @@ inner_calls core m = known_below (λ values store. None) (call_given core) core 
 -- passing code of an analysed method, with what the calls of all methods give
 pub go-closed : (core : Core) → has_ranks core ≡ true → (m : MethodId) (method : Method) →
     method_at core m ≡ Some method → is_analysed core m ≡ true →
-    ◌≡◌ {A = Point → Option End} (λ at. go core (inner_calls core m) method.code at)
-    (λ at. go core (call_of core) method.code at)
+    ◌≡◌ {A = Point → Option End} (λ at. evaluate core (inner_calls core m) method.code at)
+    (λ at. evaluate core (call_of core) method.code at)
 go-closed core ranks m method is analysed =
     go-same core (inner_calls core m) (call_of core) (lower core m)
     (λ n low. known_below-lower (λ values store. None) (call_given core) core (rank_of core m) n
@@ -85,11 +85,11 @@ go-closed core ranks m method is analysed =
 pub call_of-code : (core : Core) → has_ranks core ≡ true → (m : MethodId) (method : Method) →
     method_at core m ≡ Some method → is_analysed core m ≡ true →
     ◌≡◌ {A = List Value → Store → Option (Store × Value)} (call_of core m)
-    (λ values store. value_back (go core (call_of core) method.code (entry_point method values store)))
+    (λ values store. value_back (evaluate core (call_of core) method.code (entry_point method values store)))
 call_of-code core ranks m method is analysed =
     (λ i values store. elim (is i) as (λ _. Option (Store × Value)) [
       | None ↦ None
-      | Some x ↦ value_back (go core (inner_calls core m) x.code (entry_point x values store))
+      | Some x ↦ value_back (evaluate core (inner_calls core m) x.code (entry_point x values store))
     ])
     ∙ (λ i values store.
     value_back (go-closed core ranks m method is analysed i (entry_point method values store)))
@@ -149,7 +149,7 @@ method-goes core right (suc k) m low analysed method is =
     trip_along (trip_of core) (elim o as (λ _. List WayPart) [ None ↦ [] | Some c ↦ passed 0 c ])) at in
     λ values store callers locks.
     let p : Point = entry_point method values store in
-    let o : Option End = go core (call_of core) code p in
+    let o : Option End = evaluate core (call_of core) code p in
     let a : After = at_point p (before code []) 0 callers locks in
     subst (λ (x : Option (Store × Value)). Leads core (trip_of core m) a (IsBack x callers locks))
     (sym (ap (λ (c : List Value → Store → Option (Store × Value)). c values store)

@@ -12,14 +12,14 @@ use Rattle.owner_domain.specs.declared.value.Value.TheVariants.{Named}
 use Rattle.owner_domain.specs.Values.{along}
 use Rattle.access_domain.specs.declared.access.Access.{Access}
 use Rattle.access_domain.specs.Findings.{Findings}
-use Rattle.access_domain.specs.Given.{Given}
+use Rattle.access_domain.specs.Given.{FlowContext}
 use Rattle.access_domain.specs.Records.{firsts, same_key}
 use Rattle.access_domain.specs.Substitution.{Actuals, root_value, substituted, substituted_path, substituted_record}
 use Rattle.access_domain.specs.Substitution.{touched}
 use Rattle.access_domain.specs.Substitution.{value_named}
 use Rattle.core_code.specs.Core.{Core}
 use Rattle.core_code.proofs.Membership.{In, in_enumerate_from, in_flat_map}
-use Rattle.core_ways_laws.specs.Tops.{Top}
+use Rattle.core_ways_laws.specs.Arrivals.{Arrival}
 use Rattle.core_ways_laws.specs.Kept.{IsMet}
 use Rattle.core_ways_laws.specs.Meets.{DoesMeet, base_path, base_value, touching}
 use Rattle.core_ways_laws.specs.Names.{Naming, callee_naming, name_of}
@@ -43,7 +43,7 @@ in-firsts same (x ∷ xs) y h =
     ⊎_elim (λ e. inl e) (λ r. inr (in-firsts same xs y (in-filter (λ z. not (same x z)) (firsts same xs) y r))) h
 
 -- the record of a callee at a call at this site, and the callee's record that it comes from
-pub record IsThrough (g : Given) (actuals : Actuals) (found : Findings) (at : SiteId) (r : Access) : Type 0 where
+pub record IsThrough (g : FlowContext) (actuals : Actuals) (found : Findings) (at : SiteId) (r : Access) : Type 0 where
   pub index : ℕ
   pub inner : Access
   pub has : slice_get found.records index ≡ Some inner
@@ -52,13 +52,13 @@ pub record IsThrough (g : Given) (actuals : Actuals) (found : Findings) (at : Si
   pub kind : inner.kind ≡ r.kind
   pub path : substituted_path g actuals inner.path ≡ Some r.path
 
-record IsBrought (g : Given) (actuals : Actuals) (at : SiteId) (e : ℕ × Access) (r : Access) : Type 0 where
+record IsBrought (g : FlowContext) (actuals : Actuals) (at : SiteId) (e : ℕ × Access) (r : Access) : Type 0 where
   site : at ≡ r.site
   below : Some e.0 ≡ r.below
   kind : e.1.kind ≡ r.kind
   path : substituted_path g actuals e.1.path ≡ Some r.path
 
-brought : (g : Given) (actuals : Actuals) (locked : Bool) (site : SiteId) (e : ℕ × Access) (r : Access)
+brought : (g : FlowContext) (actuals : Actuals) (locked : Bool) (site : SiteId) (e : ℕ × Access) (r : Access)
     (o : Option Path) → substituted_path g actuals e.1.path ≡ o → In (elim o as (λ _. List Access) [
       | None ↦ []
       | Some p ↦
@@ -82,7 +82,8 @@ brought g actuals locked site e r (Some p) is has =
     })
     (λ none. absurd none) has
 
-pub callee-record : (g : Given) (actuals : Actuals) (found : Findings) (locked : Bool) (site : SiteId) (r : Access) →
+pub callee-record : (g : FlowContext) (actuals : Actuals) (found : Findings) (locked : Bool) (site : SiteId)
+    (r : Access) →
     In (substituted g actuals found locked site).records r → IsThrough g actuals found site r
 callee-record g actuals found locked site r has =
     let made : ℕ × Access → List Access = substituted_record g actuals locked site in
@@ -105,9 +106,9 @@ callee-record g actuals found locked site r has =
 
 -- ---- the access
 
-module _ (core : Core) (quiet : Quietness core) (n : Naming) (g : Given) (actuals : Actuals) where
+module _ (core : Core) (quiet : Quietness core) (n : Naming) (g : FlowContext) (actuals : Actuals) where
   -- the record keeps its path
-  meets-kept : (inner r : Access) (top : Top) → inner.kind ≡ r.kind → is_some_root inner.path.root ≡ true →
+  meets-kept : (inner r : Access) (top : Arrival) → inner.kind ≡ r.kind → is_some_root inner.path.root ≡ true →
       inner.path ≡ r.path → DoesMeet core quiet (callee_naming n actuals) inner top → DoesMeet core quiet n r top
   meets-kept inner r top kind some path met =
       let wrong : is_some_root r.path.root ≡ true = ap (λ (p : Path). is_some_root p.root) (sym path) ∙ some in
@@ -120,7 +121,7 @@ module _ (core : Core) (quiet : Quietness core) (n : Naming) (g : Given) (actual
       }
 
   -- the record's path is put into the caller's values
-  meets-named : (inner r : Access) (top : Top) → inner.kind ≡ r.kind → is_some_root inner.path.root ≡ false →
+  meets-named : (inner r : Access) (top : Arrival) → inner.kind ≡ r.kind → is_some_root inner.path.root ≡ false →
       (met : DoesMeet core quiet (callee_naming n actuals) inner top) →
       touched g (value_named actuals (base_path inner.path)) met.field ≡ Some r.path → DoesMeet core quiet n r top
   meets-named inner r top kind own met path =
@@ -138,7 +139,7 @@ module _ (core : Core) (quiet : Quietness core) (n : Naming) (g : Given) (actual
             ap (λ (k : Touch). base_value k top.at) (sym kind) ∙ met.base own q (name known ∙ named) in_q;
       }
 
-  pub meets-through : (inner r : Access) (top : Top) → inner.kind ≡ r.kind →
+  pub meets-through : (inner r : Access) (top : Arrival) → inner.kind ≡ r.kind →
       substituted_path g actuals inner.path ≡ Some r.path → DoesMeet core quiet (callee_naming n actuals) inner top →
       DoesMeet core quiet n r top
   meets-through inner r top kind path met =
@@ -152,7 +153,7 @@ module _ (core : Core) (quiet : Quietness core) (n : Naming) (g : Given) (actual
         | false ↦ λ own is. meets-named inner r top kind own met (ap named (sym met.last) ∙ is)
       ] refl path
 
-  pub met-through : (inner r : Access) (o : Option Top) → inner.kind ≡ r.kind →
+  pub met-through : (inner r : Access) (o : Option Arrival) → inner.kind ≡ r.kind →
       substituted_path g actuals inner.path ≡ Some r.path → IsMet core quiet (callee_naming n actuals) inner o →
       IsMet core quiet n r o
   met-through inner r None kind path met = tt

@@ -38,7 +38,7 @@ use Rattle.core_ways_laws.specs.Names.{name_of, name_along, root_name, entry_nam
 use Rattle.core_ways_laws.specs.Places.{ArePlaces, AreHushed, IsPlace, IsStore, start_object}
 use Rattle.core_semantics.specs.Steps.{kind_of as field_kind}
 use Rattle.core_ways_laws.specs.Quiet.{Quietness, is_declared, start_path}
-use Rattle.core_ways_laws.specs.Quiets.{quietness_of}
+use Rattle.core_ways_laws.specs.QuietEntries.{quietness_of}
 use Rattle.core_ways_laws.proofs.Locals.{entered-with, nameless}
 use Rattle.core_ways_laws.proofs.Naming.{name_along-is, name_along-none, name_along-short}
 use Rattle.core_ways_laws.proofs.StartPaths.{path-back, not-param}

@@ -9,9 +9,9 @@ use Rattle.owner_domain.specs.declared.value.State.{State}
 use Rattle.core_code.specs.declared.code.Op.{Op as CoreOp}
 use Rattle.core_code.specs.declared.code.Op.TheVariants.{Push, PushClass, PushPrim, PushNull, New, Dup, Drop, Get, Put}
 use Rattle.core_code.specs.declared.code.Op.TheVariants.{Set, Prim, Outside, Call, Unread, Ret}
-use Rattle.core_code.specs.Tree.{Tree, Step, Nothing, Then, Either, Again, Held, can_end, is_return}
+use Rattle.core_code.specs.Tree.{Tree, Op, Skip, Seq, Choice, Loop, Sync, can_end, is_return}
 use Rattle.access_domain.specs.Findings.{Findings, Known, Large, Whole}
-use Rattle.access_domain.specs.Given.{Given}
+use Rattle.access_domain.specs.Given.{FlowContext}
 use Rattle.access_domain.specs.Operations.{Effects, popped, call_effects, op_effects}
 use Rattle.access_domain.specs.Flow.{both, after, joined_next, joined_result, flow}
 
@@ -38,13 +38,14 @@ after_cases first rest P none some =
 
 -- ---- states at ends
 
-call_ends : (g : Given) (locked : Bool) (site : SiteId) (m : MethodId) (count : ℕ) (s : State) (o : Option Known) →
+call_ends : (g : FlowContext) (locked : Bool) (site : SiteId) (m : MethodId) (count : ℕ) (s : State)
+    (o : Option Known) →
     is_some (call_effects g locked site m count s o).next ≡ true
 call_ends g locked site m count s None = refl
 call_ends g locked site m count s (Some Large) = refl
 call_ends g locked site m count s (Some (Whole found)) = refl
 
-op_ends : (g : Given) (locked : Bool) (site : SiteId) (op : CoreOp) (s : State) →
+op_ends : (g : FlowContext) (locked : Bool) (site : SiteId) (op : CoreOp) (s : State) →
     is_some (op_effects g locked site op s).next ≡ not (is_return op)
 op_ends g locked site (Push v) s = refl
 op_ends g locked site (PushClass c) s = refl
@@ -68,22 +69,22 @@ joined_ends (Some a) None = refl
 joined_ends (Some a) (Some b) = refl
 
 -- a flow has a state at its end exactly where its code can end
-pub ends_with_state : (g : Given) (code : Tree) (locked : Bool) (s : State) →
+pub ends_with_state : (g : FlowContext) (code : Tree) (locked : Bool) (s : State) →
     is_some (flow g code locked s).next ≡ can_end code
-ends_with_state g (Step site place op) locked s = op_ends g locked site op s
-ends_with_state g Nothing locked s = refl
-ends_with_state g (Then first rest) locked s =
+ends_with_state g (Op site place op) locked s = op_ends g locked site op s
+ends_with_state g Skip locked s = refl
+ends_with_state g (Seq first rest) locked s =
     let e : Effects = flow g first locked s in
     let ends : is_some e.next ≡ can_end first = ends_with_state g first locked s in
     after_cases e (flow g rest locked) (λ x. is_some x.next ≡ (can_end first && can_end rest))
     (λ none. ap is_some none ∙ ap (λ b. b && can_end rest) (sym (ap is_some none) ∙ ends))
     (λ t some. ends_with_state g rest locked t
     ∙ ap (λ b. b && can_end rest) (sym (ap is_some some) ∙ ends))
-ends_with_state g (Either left right) locked s =
+ends_with_state g (Choice left right) locked s =
     joined_ends (flow g left locked s).next (flow g right locked s).next
     ∙ (λ i. ends_with_state g left locked s i || ends_with_state g right locked s i)
-ends_with_state g (Again body) locked s = refl
-ends_with_state g (Held place body) locked s = ends_with_state g body true (popped s 1)
+ends_with_state g (Loop body) locked s = refl
+ends_with_state g (Sync place body) locked s = ends_with_state g body true (popped s 1)
 
 -- ---- results
 
@@ -91,7 +92,7 @@ or_false : (a b : Bool) → (a || b) ≡ false → (a ≡ false) × (b ≡ false
 or_false true b h = cc
 or_false false b h = (refl, h)
 
-returned : (g : Given) (locked : Bool) (site : SiteId) (op : CoreOp) (s : State) → not (is_return op) ≡ false →
+returned : (g : FlowContext) (locked : Bool) (site : SiteId) (op : CoreOp) (s : State) → not (is_return op) ≡ false →
     is_some (op_effects g locked site op s).result ≡ true
 returned g locked site Ret s h = refl
 returned g locked site _ s h = cc
@@ -107,26 +108,26 @@ joined_last (Some a) None h = cc
 joined_last (Some a) (Some b) h = refl
 
 -- the flow of code that cannot end has a result
-pub has_result : (g : Given) (code : Tree) (locked : Bool) (s : State) → can_end code ≡ false →
+pub has_result : (g : FlowContext) (code : Tree) (locked : Bool) (s : State) → can_end code ≡ false →
     is_some (flow g code locked s).result ≡ true
-has_result g (Step site place op) locked s h = returned g locked site op s h
-has_result g Nothing locked s h = cc
-has_result g (Then first rest) locked s h =
+has_result g (Op site place op) locked s h = returned g locked site op s h
+has_result g Skip locked s h = cc
+has_result g (Seq first rest) locked s h =
     let e : Effects = flow g first locked s in
     let ends : is_some e.next ≡ can_end first = ends_with_state g first locked s in
     after_cases e (flow g rest locked) (λ x. is_some x.result ≡ true)
     (λ none. has_result g first locked s (sym ends ∙ ap is_some none))
     (λ t some. joined_last e.result (flow g rest locked t).result
     (has_result g rest locked t (ap (λ b. b && can_end rest) (sym (ap is_some some) ∙ ends) ∙ h)))
-has_result g (Either left right) locked s h =
+has_result g (Choice left right) locked s h =
     joined_first (flow g left locked s).result (flow g right locked s).result
     (has_result g left locked s (or_false (can_end left) (can_end right) h).0)
-has_result g (Again body) locked s h = cc
-has_result g (Held place body) locked s h = has_result g body true (popped s 1) h
+has_result g (Loop body) locked s h = cc
+has_result g (Sync place body) locked s h = has_result g body true (popped s 1) h
 
 -- ---- large flows
 
-not_large : (g : Given) (locked : Bool) (site : SiteId) (m : MethodId) (count : ℕ) (s : State) (o : Option Known)
+not_large : (g : FlowContext) (locked : Bool) (site : SiteId) (m : MethodId) (count : ℕ) (s : State) (o : Option Known)
     (k : Known) → o ≡ Some k → (call_effects g locked site m count s o).large ≡ false →
     (found : Findings) × (o ≡ Some (Whole found))
 not_large g locked site m count s None k is small = cc
@@ -134,7 +135,7 @@ not_large g locked site m count s (Some Large) k is small = cc
 not_large g locked site m count s (Some (Whole found)) k is small = (found, refl)
 
 -- a call of a method that something is known of, where the flow is not large
-pub whole_call : (g : Given) (locked : Bool) (site : SiteId) (m : MethodId) (count : ℕ) (s : State) (k : Known) →
+pub whole_call : (g : FlowContext) (locked : Bool) (site : SiteId) (m : MethodId) (count : ℕ) (s : State) (k : Known) →
     g.known_of m ≡ Some k → (op_effects g locked site (Call m count) s).large ≡ false →
     (found : Findings) × (g.known_of m ≡ Some (Whole found))
 whole_call g locked site m count s k is small = not_large g locked site m count s (g.known_of m) k is small

@@ -15,7 +15,7 @@ use Rattle.core_code.specs.declared.code.Op.{Op as CoreOp}
 use Rattle.core_code.specs.declared.code.Op.TheVariants.{Push, PushClass, PushPrim, PushNull, New, Dup, Drop, Get, Put}
 use Rattle.core_code.specs.declared.code.Op.TheVariants.{Set, Prim, Outside, Call, Unread, Ret}
 use Rattle.core_code.specs.declared.parts.FieldCore.{FieldCore}
-use Rattle.core_code.specs.Tree.{Tree, Step, Nothing, Then, Either, Again, Held, Operation, steps_of}
+use Rattle.core_code.specs.Tree.{Tree, Op, Skip, Seq, Choice, Loop, Sync, Operation, steps_of}
 use Rattle.core_code.specs.Core.{Core, Method}
 use Rattle.core_code.specs.Calls.{method_at, is_analysed, taken_by}
 use Rattle.core_code.specs.CallFacts.{is_right_call, takes}
@@ -25,7 +25,7 @@ use Rattle.core_code.specs.KindCheck.{below_fitting, field_at, variable_at, is_b
 use Rattle.core_code.proofs.BoolParts.{last_part}
 use Rattle.core_code.proofs.Membership.{In}
 use Rattle.access_domain.specs.Findings.{Known, Large, Whole, Table}
-use Rattle.access_domain.specs.Given.{Given, given_of}
+use Rattle.access_domain.specs.Given.{FlowContext, given_of}
 use Rattle.access_domain.specs.Operations.{Effects, popped, pushed, replaced, call_effects, op_effects}
 use Rattle.access_domain.specs.Flow.{joined_next, rounds, flow}
 use Rattle.core_ways_laws.proofs.KindFacts.{AreInTurn, AreBeside, IsWithin, then_kinds, either_kinds, loop-kinds}
@@ -129,7 +129,7 @@ module _ (method : Method) where
       subst (λ (x : State). IsShaped method ends x) same
       (record { vars = p.vars; stack = ap suc p.stack ∙ sym height })
 
-  shape_called : (g : Given) (locked : Bool) (site : SiteId) (m : MethodId) (n : ℕ) (o : Option Known)
+  shape_called : (g : FlowContext) (locked : Bool) (site : SiteId) (m : MethodId) (n : ℕ) (o : Option Known)
       (ks ends : List StackKind) (s t : State) →
       length ends ≡ suc (length ks - n) → IsShaped method ks s →
       (call_effects g locked site m n s o).next ≡ Some t → IsShaped method ends t
@@ -174,7 +174,7 @@ height_drop core method (k ∷ ks) ends h =
 height_one : (k : StackKind) (ks ends : List StackKind) → Some (k ∷ ks) ≡ Some ends → length ends ≡ suc (length ks)
 height_one k ks ends h = let is : k ∷ ks ≡ ends = cc in ap length (sym is)
 
-op_shape : (core : Core) (method : Method) (g : Given) (locked : Bool) (site : SiteId) (op : CoreOp)
+op_shape : (core : Core) (method : Method) (g : FlowContext) (locked : Bool) (site : SiteId) (op : CoreOp)
     (ks ends : List StackKind) (s t : State) → is_right_call core op ≡ true →
     kinds_after_op core method op ks ≡ Some ends → IsShaped method ks s →
     (op_effects g locked site op s).next ≡ Some t → IsShaped method ends t
@@ -271,18 +271,19 @@ rounds_shape method ks body keeps (suc count) s p =
 abbrev pub AreRight : Core → Tree → Type 0
 AreRight core code = (o : Operation) → In (steps_of code) o → is_right_call core o.op ≡ true
 
-pub flow_shape : (core : Core) (method : Method) (g : Given) (code : Tree) (locked : Bool) (ks ends : List StackKind)
+pub flow_shape : (core : Core) (method : Method) (g : FlowContext) (code : Tree) (locked : Bool)
+    (ks ends : List StackKind)
     (s t : State) → AreRight core code → kinds_after core method code ks ≡ Some ends → IsShaped method ks s →
     (flow g code locked s).next ≡ Some t → IsShaped method ends t
-flow_shape core method g (Step site place op) locked ks ends s t right h p is =
+flow_shape core method g (Op site place op) locked ks ends s t right h p is =
     op_shape core method g locked site op ks ends s t
     (right (record { site = site; place = place; op = op }) (inl refl)) h p is
-flow_shape core method g Nothing locked ks ends s t right h p is =
+flow_shape core method g Skip locked ks ends s t right h p is =
     let kinds : ks ≡ ends = cc in
     let same : s ≡ t = cc in
     subst (λ (x : State). IsShaped method ends x) same
     (subst (λ (x : List StackKind). IsShaped method x s) kinds p)
-flow_shape core method g (Then first rest) locked ks ends s t right h p is =
+flow_shape core method g (Seq first rest) locked ks ends s t right h p is =
     let k : AreInTurn core method first rest ks ends = then_kinds core method first rest ks ends h in
     let right_first : AreRight core first = λ o there. right o (in_first (steps_of first) (steps_of rest) o there) in
     let right_rest : AreRight core rest = λ o there. right o (in_last (steps_of first) (steps_of rest) o there) in
@@ -290,7 +291,7 @@ flow_shape core method g (Then first rest) locked ks ends s t right h p is =
     (λ none e. absurd (none_some t (sym none ∙ e)))
     (λ m some e. flow_shape core method g rest locked k.between ends m t right_rest k.late
     (flow_shape core method g first locked ks k.between s m right_first k.early p some) e) is
-flow_shape core method g (Either left right) locked ks ends s t fits h p is =
+flow_shape core method g (Choice left right) locked ks ends s t fits h p is =
     let k : AreBeside core method left right ks ends = either_kinds core method left right ks ends h in
     shape_beside method k.after_left k.after_right ends (flow g left locked s).next (flow g right locked s).next t
     k.joins
@@ -298,7 +299,7 @@ flow_shape core method g (Either left right) locked ks ends s t fits h p is =
     (λ o there. fits o (in_first (steps_of left) (steps_of right) o there)) k.on_left p e)
     (λ b e. flow_shape core method g right locked ks k.after_right s b
     (λ o there. fits o (in_last (steps_of left) (steps_of right) o there)) k.on_right p e) is
-flow_shape core method g (Again body) locked ks ends s t right h p is =
+flow_shape core method g (Loop body) locked ks ends s t right h p is =
     let k = loop-kinds core method body ks ends h in
     let same : (rounds (flow g body locked) (length s.vars + length s.stack + 1) s).0 ≡ t = cc in
     subst (λ (x : State). IsShaped method ends x) same
@@ -306,7 +307,7 @@ flow_shape core method g (Again body) locked ks ends s t right h p is =
     (rounds_shape method ks (flow g body locked)
     (λ a b q e. flow_shape core method g body locked ks ks a b right k.1 q e)
     (length s.vars + length s.stack + 1) s p))
-flow_shape core method g (Held place body) locked ks ends s t right h p is =
+flow_shape core method g (Sync place body) locked ks ends s t right h p is =
     let k : IsWithin core method body ks ends = held_kinds core method place body ks ends h in
     let high : length ks ≡ suc (length k.below) = ap length (sym k.is) in
     let made : length (drop 1 s.stack) ≡ length ks - 1 =

@@ -9,7 +9,7 @@ use Rattle.owner_domain.specs.declared.value.Value.{Value}
 use Rattle.owner_domain.specs.declared.value.Value.TheVariants.{Owned, Named, Unnamed}
 use Rattle.owner_domain.specs.Values.{names_of}
 use Rattle.access_domain.specs.Findings.{Findings}
-use Rattle.access_domain.specs.Given.{Given}
+use Rattle.access_domain.specs.Given.{FlowContext}
 use Rattle.access_domain.specs.Substitution.{Actuals, value_named, substituted}
 use Rattle.core_code.specs.Core.{Core}
 use Rattle.core_ways_laws.specs.Names.{Naming, name_of, callee_naming}
@@ -39,7 +39,7 @@ names-contain : (v : Value) (p : Path) → v ≡ Named p → Contains (names_of 
 names-contain v p is = subst (λ (a : Value). Contains (names_of a) p) (sym is) (0, omega arith, refl)
 
 -- what is hushed of a callee in its caller's names is hushed in its own
-pub hush-callee : (core : Core) (quiet : Quietness core) (n : Naming) (g : Given) (actuals : Actuals)
+pub hush-callee : (core : Core) (quiet : Quietness core) (n : Naming) (g : FlowContext) (actuals : Actuals)
     (found : Findings) (locked : Bool) (site : SiteId) →
     AreHushed core quiet n (substituted g actuals found locked site).wobbly →
     AreHushed core quiet (callee_naming n actuals) found.wobbly

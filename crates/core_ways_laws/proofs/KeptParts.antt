@@ -146,18 +146,18 @@ module _ (core : Core) (quiet : Quietness core) (n : Naming) (method : Method) w
 
   -- ---- either of two
 
-  abbrev Frame : List StackKind → State → Point → Type 0
-  Frame kinds s at = IsFrame core quiet n method kinds s at
+  abbrev FrameAt : List StackKind → State → Point → Type 0
+  FrameAt kinds s at = IsFrame core quiet n method kinds s at
 
   abbrev IsNext : List StackKind → Option State → Point → Type 0
-  IsNext kinds next at = (s : State) × (next ≡ Some s) × Frame kinds s at
+  IsNext kinds next at = (s : State) × (next ≡ Some s) × FrameAt kinds s at
 
   abbrev AreAlike : State → State → Type 0
   AreAlike a b = (length a.vars ≡ length b.vars) × (length a.stack ≡ length b.stack)
 
   next-first : (kinds : List StackKind) (a : State) (b : Option State) (at : Point) →
       ((t : State) → b ≡ Some t → AreAlike a t) → AreHushed core quiet n (lost_next (Some a) b) →
-      Frame kinds a at → IsNext kinds (joined_next (Some a) b) at
+      FrameAt kinds a at → IsNext kinds (joined_next (Some a) b) at
   next-first kinds a None at alike hush frame = (a, refl, frame)
   next-first kinds a (Some b) at alike hush frame = (
     joined_state a b,
@@ -167,7 +167,7 @@ module _ (core : Core) (quiet : Quietness core) (n : Naming) (method : Method) w
 
   next-second : (kinds : List StackKind) (a : Option State) (b : State) (at : Point) →
       ((t : State) → a ≡ Some t → AreAlike t b) → AreHushed core quiet n (lost_next a (Some b)) →
-      Frame kinds b at → IsNext kinds (joined_next a (Some b)) at
+      FrameAt kinds b at → IsNext kinds (joined_next a (Some b)) at
   next-second kinds None b at alike hush frame = (b, refl, frame)
   next-second kinds (Some a) b at alike hush frame = (
     joined_state a b,

@@ -7,7 +7,7 @@ use Rattle.racer_base.specs.declared.ids.Kind.{Kind}
 use Rattle.racer_base.specs.declared.ids.Kind.TheVariants as types
 use Rattle.racer_base.specs.declared.ids.Place.{Place}
 use Rattle.core_code.specs.declared.parts.FieldCore.{FieldCore}
-use Rattle.core_code.specs.Tree.{Tree, Then, Either, Again, Held}
+use Rattle.core_code.specs.Tree.{Tree, Seq, Choice, Loop, Sync}
 use Rattle.core_code.specs.Core.{Core, Method}
 use Rattle.core_code.specs.Kinds.{StackKind, Plain, Declared, Class, Null, Opaque, Other, kind_of, same_kind}
 use Rattle.core_code.specs.Kinds.{joined_kind, joined_stack, fits_class, fits}
@@ -167,13 +167,13 @@ pub record IsWithin (core : Core) (method : Method) (body : Tree) (ks ends : Lis
 
 module _ (core : Core) (method : Method) where
   pub then_kinds : (first rest : Tree) (ks ends : List StackKind) →
-      kinds_after core method (Then first rest) ks ≡ Some ends → AreInTurn core method first rest ks ends
+      kinds_after core method (Seq first rest) ks ≡ Some ends → AreInTurn core method first rest ks ends
   then_kinds first rest ks ends h =
       let on = went_on (kinds_after core method first ks) (kinds_after core method rest) ends h in
       record { between = on.0; early = on.1; late = on.2 }
 
   pub either_kinds : (left right : Tree) (ks ends : List StackKind) →
-      kinds_after core method (Either left right) ks ≡ Some ends → AreBeside core method left right ks ends
+      kinds_after core method (Choice left right) ks ≡ Some ends → AreBeside core method left right ks ends
   either_kinds left right ks ends h =
       let on = went_on (kinds_after core method left ks)
       (λ a. and_then (kinds_after core method right ks) (λ b. joined_stack a b)) ends h in
@@ -181,7 +181,7 @@ module _ (core : Core) (method : Method) where
       record { after_left = on.0; after_right = by.0; on_left = on.1; on_right = by.1; joins = by.2 }
 
   -- a loop keeps the kinds
-  pub loop-kinds : (body : Tree) (ks ends : List StackKind) → kinds_after core method (Again body) ks ≡ Some ends →
+  pub loop-kinds : (body : Tree) (ks ends : List StackKind) → kinds_after core method (Loop body) ks ≡ Some ends →
       (ends ≡ ks) × (kinds_after core method body ks ≡ Some ks)
   loop-kinds body ks ends h =
       let on = went_on (kinds_after core method body ks) (λ after. where_true (same_stack ks after) ks) ends h in
@@ -189,6 +189,6 @@ module _ (core : Core) (method : Method) where
       (sym t.1, on.1 ∙ ap Some (sym (equal_stacks ks on.0 t.0)))
 
   pub held_kinds : (place : Place) (body : Tree) (ks ends : List StackKind) →
-      kinds_after core method (Held place body) ks ≡ Some ends → IsWithin core method body ks ends
+      kinds_after core method (Sync place body) ks ≡ Some ends → IsWithin core method body ks ends
   held_kinds place body [] ends h = cc
   held_kinds place body (k ∷ below) ends h = record { lock = k; below = below; is = refl; inside = h }

@@ -14,7 +14,7 @@ use Rattle.owner_domain.specs.declared.value.Value.{Value}
 use Rattle.owner_domain.specs.declared.value.Value.TheVariants.{Owned, Named, Unnamed}
 use Rattle.owner_domain.specs.Values.{along, field_value, has_known_root, joined, joined_state, joined_values}
 use Rattle.owner_domain.specs.Values.{named_or_unnamed, same_value}
-use Rattle.access_domain.specs.Given.{Given, is_plain}
+use Rattle.access_domain.specs.Given.{FlowContext, is_plain}
 use Rattle.access_domain.specs.Operations.{read_value}
 use Rattle.access_domain.specs.Substitution.{Actuals, actuals_from, root_value, substituted_value}
 use Rattle.access_domain.specs.Summaries.{parameter_value, parameter_values, passed_values, start_of}
@@ -101,7 +101,7 @@ pub known-along : (fs : List FieldId) (v : Value) → IsKnown v → IsKnown (alo
 known-along [] v known = known
 known-along (f ∷ fs) v known = known-along fs (field_value v f) (known-field v f known)
 
-pub known-read : (g : Given) (v : Value) (f : FieldId) → IsKnown v → IsKnown (read_value g v f)
+pub known-read : (g : FlowContext) (v : Value) (f : FieldId) → IsKnown v → IsKnown (read_value g v f)
 known-read g v f known =
     elim (g.is_plain_field f) as (λ b. IsKnown (cond b Unnamed (field_value v f))) [
       | true ↦ refl

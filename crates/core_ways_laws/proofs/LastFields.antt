@@ -9,7 +9,7 @@ use Rattle.access_paths.specs.Paths.{extended, front_of, is_some_root, last_of, 
 use Rattle.owner_domain.specs.declared.value.Value.{Value}
 use Rattle.owner_domain.specs.declared.value.Value.TheVariants.{Owned, Named, Unnamed}
 use Rattle.owner_domain.specs.Values.{along}
-use Rattle.access_domain.specs.Given.{Given}
+use Rattle.access_domain.specs.Given.{FlowContext}
 use Rattle.access_domain.specs.Substitution.{Actuals, root_value, substituted_path}
 use Rattle.access_domain.specs.Substitution.{touched}
 
@@ -32,7 +32,7 @@ last-of-some : (p q : Path) → Some p ≡ Some q → last_of p.fields ≡ last_
 last-of-some p q e =
     ap (λ (o : Option Path). elim o as (λ _. Option FieldId) [ None ↦ None | Some x ↦ last_of x.fields ]) e
 
-pub touched-last : (g : Given) (base : Value) (f : FieldId) (q : Path) → touched g base f ≡ Some q →
+pub touched-last : (g : FlowContext) (base : Value) (f : FieldId) (q : Path) → touched g base f ≡ Some q →
     Some f ≡ last_of q.fields
 touched-last g Owned f q is = absurd cc
 touched-last g Unnamed f q is = last-of-some (some_path (g.class_of f) f) q is
@@ -44,7 +44,7 @@ touched-last g (Named p) f q is =
       | Some x ↦ λ e k. extended-last p f x e ∙ last-of-some x q k
     ] refl is
 
-pub substituted-last : (g : Given) (actuals : Actuals) (p q : Path) → substituted_path g actuals p ≡ Some q →
+pub substituted-last : (g : FlowContext) (actuals : Actuals) (p q : Path) → substituted_path g actuals p ≡ Some q →
     last_of q.fields ≡ last_of p.fields
 substituted-last g actuals p q is =
     elim (is_some_root p.root) as (λ b.

@@ -11,13 +11,13 @@ use Rattle.core_semantics.specs.Runs.{given_to}
 use Rattle.core_semantics.specs.State.{Store}
 use Rattle.core_ways.specs.Stable.{IsStable}
 use Rattle.core_ways.specs.Ways.{record_at}
-use Rattle.core_ways_laws.specs.Tops.{Top, top_of}
+use Rattle.core_ways_laws.specs.Arrivals.{Arrival, top_of}
 use Rattle.core_ways_laws.specs.Kept.{AreMet, IsEntered, IsMet}
 use Rattle.core_ways_laws.specs.Meets.{DoesMeet, base_path, base_value}
 use Rattle.core_ways_laws.specs.Names.{entry_naming}
 use Rattle.core_ways_laws.specs.Places.{IsStore, start_object}
 use Rattle.core_ways_laws.specs.Quiet.{Quietness}
-use Rattle.core_ways_laws.specs.Quiets.{quietness_of}
+use Rattle.core_ways_laws.specs.QuietEntries.{quietness_of}
 use Rattle.core_ways_laws.proofs.Entries.{entered-entry, hush-entry}
 use Rattle.core_ways_laws.proofs.ProgramFacts.{is_right, known_is_analysed}
 use Rattle.core_ways_laws.proofs.RankedTops.{IsOf, in_at, record-of, tops-met}
@@ -31,7 +31,7 @@ same-method core m x y a b = let same : Some x ≡ Some y = sym a ∙ b in cc
 -- where the way to a record leads in a leg, the invariant holds, and the access is that of the record
 pub leg-meets : (p : Program) (m1 m2 m : MethodId) (method : Method) (i : ℕ) (r : Access) (t : ℕ) →
     (m ≡ m1) ⊎ (m ≡ m2) → method_at (core p) m ≡ Some method → record_at (core p) m i ≡ Some r → (store : Store)
-    (top : Top) → IsStore (core p) (quietness_of (core p) m1 m2) store →
+    (top : Arrival) → IsStore (core p) (quietness_of (core p) m1 m2) store →
     top_of (core p) m i (given_to t method) store ≡ Some top →
     IsStore (core p) (quietness_of (core p) m1 m2) top.at.store ×
     DoesMeet (core p) (quietness_of (core p) m1 m2) entry_naming r top
@@ -45,14 +45,14 @@ leg-meets p m1 m2 m method i r t which there at store top stored leads =
     subst (λ (x : Method). IsEntered (core p) quiet entry_naming x (given_to t method) store)
     (same-method (core p) m method met.method there met.there)
     (entered-entry (core p) quiet t method store (is_right p m method there analysed).begins) in
-    subst (λ (o : Option Top). IsMet (core p) quiet entry_naming r o) leads
+    subst (λ (o : Option Arrival). IsMet (core p) quiet entry_naming r o) leads
     (met.meets of.found of.known entry_naming (given_to t method) store entered stored
     (hush-entry (core p) m1 m2 m of.found which of.known) i r of.has)
 
 -- where its path is stable, the base is the object of the path without its last field at the begin of the run
 pub leg-leads : (p : Program) (m1 m2 m : MethodId) (method : Method) (i : ℕ) (r : Access) (t : ℕ) →
     (m ≡ m1) ⊎ (m ≡ m2) → method_at (core p) m ≡ Some method → record_at (core p) m i ≡ Some r →
-    IsStable (core p) m1 m2 r.path → (store : Store) (top : Top) →
+    IsStable (core p) m1 m2 r.path → (store : Store) (top : Arrival) →
     IsStore (core p) (quietness_of (core p) m1 m2) store →
     top_of (core p) m i (given_to t method) store ≡ Some top →
     IsStore (core p) (quietness_of (core p) m1 m2) top.at.store ×

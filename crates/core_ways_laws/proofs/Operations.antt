@@ -40,7 +40,7 @@ use Rattle.core_semantics.specs.Objects.{root_path}
 use Rattle.core_semantics.specs.State.{Store}
 use Rattle.core_semantics.specs.Steps.{base_of, going, on_base, put, read, replaced as frame_replaced, written}
 use Rattle.core_ways.specs.Stable.{is_lasting_root}
-use Rattle.core_ways_laws.specs.Values.{Behind, Calls, Point, behind, go_op, inner_of, top_value}
+use Rattle.core_ways_laws.specs.Values.{Behind, Calls, Point, behind, evaluate_op, inner_of, top_value}
 use Rattle.core_ways_laws.specs.Kept.{IsKept}
 use Rattle.core_ways_laws.specs.Names.{Naming, name_of}
 use Rattle.core_ways_laws.specs.Places.{AreHushed, ArePlaces, IsFrame, IsPlace, IsStore, start_object}
@@ -143,7 +143,7 @@ module _ (core : Core) (quiet : Quietness core) (n : Naming) (method : Method) (
   Before kinds s at = IsFrame core quiet n method kinds s at × IsStore core quiet at.store
 
   abbrev Kept : CoreOp → List StackKind → State → Point → Type 0
-  Kept op after s at = IsKept core quiet n method after (effects op s) (go_op core calls op at)
+  Kept op after s at = IsKept core quiet n method after (effects op s) (evaluate_op core calls op at)
 
   -- one value more, and the rest as before
   one-more : (op : CoreOp) (kind : StackKind) (kinds after : List StackKind) (s : State) (at : Point) (called : Called)
@@ -291,7 +291,8 @@ module _ (core : Core) (quiet : Quietness core) (n : Naming) (method : Method) (
       kinds_after_op core method op kinds ≡ Some after →
       AreHushed core quiet n (op_effects (given_of core table main) locked site op s).wobbly →
       IsFrame core quiet n method kinds s at → IsStore core quiet at.store →
-      IsKept core quiet n method after (op_effects (given_of core table main) locked site op s) (go_op core calls op at)
+      IsKept core quiet n method after (op_effects (given_of core table main) locked site op s)
+      (evaluate_op core calls op at)
   op-kept (Push v) kinds after s at no_call kinded hushed frame stored =
       push-kept v (variable_at method v) refl kinds after s at kinded (frame, stored)
   op-kept (PushClass c) kinds after s at no_call kinded hushed frame stored =

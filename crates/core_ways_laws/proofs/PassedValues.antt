@@ -14,8 +14,9 @@ use Rattle.core_code.specs.declared.code.Op.TheVariants.{Get, Put}
 use Rattle.core_code.specs.declared.code.Op.TheVariants.{Prim, Call, Unread as UnreadCall, Ret}
 use Rattle.core_code.specs.Calls.{called_by, method_at}
 use Rattle.core_code.specs.Core.{Core, Method}
-use Rattle.core_code.specs.Tree.{Tree, Step as Operate, Nothing, Then, Either, Again, Held, can_end, is_return}
+use Rattle.core_code.specs.Tree.{Tree, can_end, is_return}
 use Rattle.core_code.specs.Tree.{steps_of}
+use Rattle.core_code.specs.Tree as tree
 use Rattle.core_code.proofs.BoolParts.{first_part, last_part}
 use Rattle.core_semantics.specs.declared.answer.Holder.{Holder}
 use Rattle.core_semantics.specs.declared.answer.Turn.{Turn}
@@ -25,21 +26,21 @@ use Rattle.core_semantics.specs.declared.answer.Why.TheVariants.{UnreadCall as U
 use Rattle.core_semantics.specs.declared.object.Object.{Object}
 use Rattle.core_semantics.specs.declared.object.Value.{Value}
 use Rattle.core_semantics.specs.declared.object.Value.TheVariants.{Null}
-use Rattle.core_semantics.specs.State.{Frame, Store, Todo, Operate as DoOp, Choose, Lock, Unlock, before}
+use Rattle.core_semantics.specs.State.{Frame, Store, Todo, Op, Choice, Sync, Unlock, before}
 use Rattle.core_semantics.specs.Steps.{After, Inner, Next, Spot, Goes, Sticks, Waits, Ends, after, base_of}
 use Rattle.core_semantics.specs.Steps.{called_method}
 use Rattle.core_semantics.specs.Steps.{entering, going, inner, inner_step, lock_with, monitor_of, on_base, on_object}
 use Rattle.core_semantics.specs.Steps.{op_step, passed_from, put, read, replaced, returned, slot_of, top, unlocked}
 use Rattle.core_semantics.specs.Steps.{with_inner, with_todo, within}
 use Rattle.core_ways.specs.declared.part.WayPart.{WayPart}
-use Rattle.core_ways.specs.declared.part.WayPart.TheVariants.{Step, Turned}
+use Rattle.core_ways.specs.declared.part.WayPart.TheVariants.{Step, Branched}
 use Rattle.core_ways.specs.Alone.{Alone, Came, ComesTo, LeadsTo, alone, onward}
 use Rattle.core_ways.specs.Ways.{Trip, joined, passed, straight, trip_along}
 use Rattle.core_ways.proofs.Alone.{Leads, along-both, leads-on, one-more, past-turn, spot, weaker}
 use Rattle.core_ways.proofs.Callees.{do_pass, pass-both}
-use Rattle.core_ways_laws.specs.Values.{Behind, Back, Calls, End, Point, behind, call_at, entry_point, go, go_on, go_op}
+use Rattle.core_ways_laws.specs.Values.{Behind, Back, Calls, End, Point, behind, call_at, entry_point, evaluate, go_on, evaluate_op}
 use Rattle.core_ways_laws.specs.Values.{inner_of, on_ok, point_popped, received, returned_to, top_value, values_passed}
-use Rattle.core_ways_laws.specs.Led.{GoesPast, IsBack, IsEnd, MethodGoes, at_point, back_at}
+use Rattle.core_ways_laws.specs.RunValues.{GoesPast, IsBack, IsEnd, MethodGoes, at_point, back_at}
 
 -- ---- one operation in a frame
 
@@ -134,30 +135,30 @@ returned-comes at todo (f ∷ callers) locks rest = (refl, refl)
 -- one step at a return within locks: the innermost is unlocked
 unlocks : (core : Core) (place : Place) (n : ℕ) (at : Point) (todo : List Todo) (callers : List Frame)
     (locks : List Holder) (P : After → Type 0) →
-    LeadsTo core [] (suc n) (at_point at (DoOp place Ret ∷ todo) n callers (drop 1 locks)) P →
-    LeadsTo core [] (suc (suc n)) (at_point at (DoOp place Ret ∷ todo) (suc n) callers locks) P
+    LeadsTo core [] (suc n) (at_point at (Op place Ret ∷ todo) n callers (drop 1 locks)) P →
+    LeadsTo core [] (suc (suc n)) (at_point at (Op place Ret ∷ todo) (suc n) callers locks) P
 unlocks core place n at todo callers locks P leads rest =
-    let s : Spot = spot_at at (DoOp place Ret ∷ todo) (suc n) callers locks in
+    let s : Spot = spot_at at (Op place Ret ∷ todo) (suc n) callers locks in
     subst (λ (b : Bool). ComesTo P rest
     (onward (λ a. alone core (suc n) rest a)
     (cond b (Goes (after (unlocked s))) (op_step core (with_todo s todo) Ret))))
     (sym (lt-ltb 0 (suc n) (omega arith)))
     (subst (λ (k : ℕ). ComesTo P rest
-    (alone core (suc n) rest (at_point at (DoOp place Ret ∷ todo) k callers (drop 1 locks))))
+    (alone core (suc n) rest (at_point at (Op place Ret ∷ todo) k callers (drop 1 locks))))
     (let one : n ≡ suc n - 1 = omega arith in one) (leads rest))
 
 past-ret : (core : Core) (place : Place) (locked : ℕ) (at : Point) (todo : List Todo) (callers : List Frame)
     (locks : List Holder) →
-    LeadsTo core [] (suc locked) (at_point at (DoOp place Ret ∷ todo) locked callers locks)
+    LeadsTo core [] (suc locked) (at_point at (Op place Ret ∷ todo) locked callers locks)
     (IsReturned at callers (drop locked locks))
 past-ret core place zero at todo callers locks = λ rest.
     subst (λ (ls : List Holder). ComesTo (IsReturned at callers ls) rest
-    (alone core 1 rest (at_point at (DoOp place Ret ∷ todo) 0 callers locks))) (sym (drop-none locks))
+    (alone core 1 rest (at_point at (Op place Ret ∷ todo) 0 callers locks))) (sym (drop-none locks))
     (returned-comes at todo callers locks rest)
 past-ret core place (suc n) at todo callers locks =
     unlocks core place n at todo callers locks (IsReturned at callers (drop (suc n) locks))
     (subst (λ (ls : List Holder). LeadsTo core [] (suc n)
-    (at_point at (DoOp place Ret ∷ todo) n callers (drop 1 locks)) (IsReturned at callers ls))
+    (at_point at (Op place Ret ∷ todo) n callers (drop 1 locks)) (IsReturned at callers ls))
     (drop-more n locks) (past-ret core place n at todo callers (drop 1 locks)))
 
 -- so many steps
@@ -232,7 +233,7 @@ past-call : (core : Core) (trips : MethodId → Trip) (calls : Calls) (m : Metho
     (locked : ℕ) (at : Point) (todo : List Todo) (callers : List Frame) (locks : List Holder) →
     MethodGoes core trips calls m →
     LeadsTo core (trips m).turns (suc (trips m).steps)
-    (at_point at (DoOp place (Call m n) ∷ todo) locked callers locks)
+    (at_point at (Op place (Call m n) ∷ todo) locked callers locks)
     (IsEnd (call_at core calls m n at) todo locked callers locks)
 past-call core trips calls m n place locked at todo callers locks goes rest =
     called core trips calls m n at todo locked callers locks rest (method_at core m) refl goes
@@ -288,7 +289,7 @@ call-ends calls m n at (Some method) =
     (returned-ends at n (calls m (values_passed at n) at.store))
 
 op-ends : (core : Core) (calls : Calls) (op : CoreOp) (at : Point) →
-    EndsAs (not (is_return op)) (go_op core calls op at)
+    EndsAs (not (is_return op)) (evaluate_op core calls op at)
 op-ends core calls (Call m n) at = call-ends calls m n at (method_at core m)
 op-ends core calls Ret at = refl
 op-ends core calls op at = behind-ends (inner_step core (inner_of at) op)
@@ -304,18 +305,20 @@ either-ends : (a b : Bool) (l r : Option End) → EndsAs a l → EndsAs b r → 
 either-ends a true l r left right = subst (λ (x : Bool). EndsAs x r) (sym (or-true a)) right
 either-ends a false l r left right = subst (λ (x : Bool). EndsAs x l) (sym (or-false a)) left
 
-pub go-ends : (core : Core) (calls : Calls) (code : Tree) (at : Point) → EndsAs (can_end code) (go core calls code at)
-go-ends core calls (Operate site place op) at = op-ends core calls op at
-go-ends core calls Nothing at = refl
-go-ends core calls (Then first rest) at =
-    then-ends (can_end first) (can_end rest) (go core calls first at) (go core calls rest) (go-ends core calls first at)
+pub go-ends : (core : Core) (calls : Calls) (code : Tree) (at : Point) →
+    EndsAs (can_end code) (evaluate core calls code at)
+go-ends core calls (tree.Op site place op) at = op-ends core calls op at
+go-ends core calls tree.Skip at = refl
+go-ends core calls (tree.Seq first rest) at =
+    then-ends (can_end first) (can_end rest) (evaluate core calls first at) (evaluate core calls rest)
+    (go-ends core calls first at)
     (go-ends core calls rest)
-go-ends core calls (Either left right) at =
-    either-ends (can_end left) (can_end right) (go core calls left at) (go core calls right at)
+go-ends core calls (tree.Choice left right) at =
+    either-ends (can_end left) (can_end right) (evaluate core calls left at) (evaluate core calls right at)
     (go-ends core calls left at) (go-ends core calls right at)
-go-ends core calls (Again body) at = refl
-go-ends core calls (Held place body) at =
-    ok-ends (can_end body) (monitor_of (top_value at)) (go core calls body (point_popped at 1))
+go-ends core calls (tree.Loop body) at = refl
+go-ends core calls (tree.Sync place body) at =
+    ok-ends (can_end body) (monitor_of (top_value at)) (evaluate core calls body (point_popped at 1))
     (go-ends core calls body (point_popped at 1))
 
 -- ---- turns and locks
@@ -345,16 +348,16 @@ past-body core trips (Some (Back store value)) todo locked callers locks monitor
 module _ (core : Core) (trips : MethodId → Trip) (calls : Calls) (test : MethodId → Bool)
     (holds : (m : MethodId) → test m ≡ true → MethodGoes core trips calls m) where
   goes-op : (site : SiteId) (place : Place) (op : CoreOp) → list_all test (called_by op ++ []) ≡ true →
-      GoesPast core trips calls (Operate site place op)
+      GoesPast core trips calls (tree.Op site place op)
   goes-op site place Ret all locked at todo callers locks =
-      subst (λ (t : Trip). Leads core t (at_point at (DoOp place Ret ∷ todo) locked callers locks)
+      subst (λ (t : Trip). Leads core t (at_point at (Op place Ret ∷ todo) locked callers locks)
       (IsReturned at callers (drop locked locks))) (sym (steps-of trips (suc locked)))
       (past-ret core place locked at todo callers locks)
   goes-op site place (Call m n) all locked at todo callers locks =
       let goes : MethodGoes core trips calls m = holds m (first_part (test m) true all) in
       let turns : (trips m).turns ≡ ([] ++ (trips m).turns) ++ [] = sym (append-nil (trips m).turns) in
       let steps : suc (trips m).steps ≡ (1 + (trips m).steps) + 0 = omega arith in
-      let a : After = at_point at (DoOp place (Call m n) ∷ todo) locked callers locks in
+      let a : After = at_point at (Op place (Call m n) ∷ todo) locked callers locks in
       let P : After → Type 0 = IsEnd (call_at core calls m n at) todo locked callers locks in
       subst (λ (ts : List Turn). LeadsTo core ts ((1 + (trips m).steps) + 0) a P) turns
       (one-more core (trips m).turns (trips m).steps ((1 + (trips m).steps) + 0) a P steps
@@ -366,7 +369,7 @@ module _ (core : Core) (trips : MethodId → Trip) (calls : Calls) (test : Metho
       (locks : List Holder) (b : Bool) (o : Option End) → EndsAs b o → GoesPast core trips calls rest →
       Leads core (trip_along trips (passed locked first)) a (IsEnd o (before rest todo) locked callers locks) →
       Leads core (trip_along trips (passed locked first ++ cond b (passed locked rest) [])) a
-      (IsEnd (go_on o (go core calls rest)) todo locked callers locks)
+      (IsEnd (go_on o (evaluate core calls rest)) todo locked callers locks)
   goes-then first rest locked a todo callers locks b None ends past leads =
       let more : List WayPart = cond b (passed locked rest) [] in
       subst (λ (t : Trip). Leads core t a (λ x. ⊥)) (sym (along-both trips (passed locked first) more))
@@ -374,7 +377,7 @@ module _ (core : Core) (trips : MethodId → Trip) (calls : Calls) (test : Metho
       (trip_along trips (passed locked first)).steps (trip_along trips more).steps a leads
       (λ x none. nowhere core (trip_along trips more) (λ y. ⊥) x none))
   goes-then first rest locked a todo callers locks b (Some (Behind at)) ends past leads =
-      let P : After → Type 0 = IsEnd (go core calls rest at) todo locked callers locks in
+      let P : After → Type 0 = IsEnd (evaluate core calls rest at) todo locked callers locks in
       subst (λ (x : Bool). Leads core (trip_along trips (passed locked first ++ cond x (passed locked rest) [])) a P)
       (sym ends)
       (subst (λ (t : Trip). Leads core t a P) (sym (along-both trips (passed locked first) (passed locked rest)))
@@ -392,29 +395,31 @@ module _ (core : Core) (trips : MethodId → Trip) (calls : Calls) (test : Metho
 
   goes-either : (left right : Tree) (locked : ℕ) (at : Point) (todo : List Todo) (callers : List Frame)
       (locks : List Holder) (b : Bool) → GoesPast core trips calls left → GoesPast core trips calls right →
-      Leads core (trip_along trips (cond b (Turned Right ∷ passed locked right) (Turned Left ∷ passed locked left)))
-      (at_point at (Choose left right ∷ todo) locked callers locks)
-      (IsEnd (cond b (go core calls right at) (go core calls left at)) todo locked callers locks)
+      Leads core (trip_along trips (cond b (Branched Right ∷ passed locked right) (Branched Left ∷ passed locked left)))
+      (at_point at (Choice left right ∷ todo) locked callers locks)
+      (IsEnd (cond b (evaluate core calls right at) (evaluate core calls left at)) todo locked callers locks)
   goes-either left right locked at todo callers locks true on_left on_right =
       past-turn core (trip_along trips (passed locked right)) Right
-      (at_point at (Choose left right ∷ todo) locked callers locks)
-      (at_point at (before right todo) locked callers locks) (IsEnd (go core calls right at) todo locked callers locks)
+      (at_point at (Choice left right ∷ todo) locked callers locks)
+      (at_point at (before right todo) locked callers locks)
+      (IsEnd (evaluate core calls right at) todo locked callers locks)
       (λ rest. refl) (on_right locked at todo callers locks)
   goes-either left right locked at todo callers locks false on_left on_right =
       past-turn core (trip_along trips (passed locked left)) Left
-      (at_point at (Choose left right ∷ todo) locked callers locks)
-      (at_point at (before left todo) locked callers locks) (IsEnd (go core calls left at) todo locked callers locks)
+      (at_point at (Choice left right ∷ todo) locked callers locks)
+      (at_point at (before left todo) locked callers locks)
+      (IsEnd (evaluate core calls left at) todo locked callers locks)
       (λ rest. refl) (on_left locked at todo callers locks)
 
   goes-lock : (body : Tree) (locked : ℕ) (at : Point) (todo : List Todo) (callers : List Frame) (locks : List Holder)
       (r : Result Holder Why) → GoesPast core trips calls body → (rest : List Turn) →
       let trip = trip_along trips (passed (suc locked) body ++ cond (can_end body) (Step ∷ []) []) in
-      ComesTo (IsEnd (on_ok r (go core calls body (point_popped at 1))) todo locked callers locks) rest
+      ComesTo (IsEnd (on_ok r (evaluate core calls body (point_popped at 1))) todo locked callers locks) rest
       (onward (λ a. alone core trip.steps (trip.turns ++ rest) a)
       (lock_with [] (spot_at at todo locked callers locks) body r))
   goes-lock body locked at todo callers locks (Err why) past rest = tt
   goes-lock body locked at todo callers locks (Ok monitor) past rest =
-      let o : Option End = go core calls body (point_popped at 1) in
+      let o : Option End = evaluate core calls body (point_popped at 1) in
       let P : After → Type 0 = IsEnd o todo locked callers locks in
       let a : After =
       at_point (point_popped at 1) (before body (Unlock ∷ todo)) (suc locked) callers (monitor ∷ locks) in
@@ -429,25 +434,25 @@ module _ (core : Core) (trips : MethodId → Trip) (calls : Calls) (test : Metho
       (go-ends core calls body (point_popped at 1)) is) rest)
 
   pub goes-past : (code : Tree) → do_pass test (steps_of code) ≡ true → GoesPast core trips calls code
-  goes-past (Operate site place op) all = goes-op site place op all
-  goes-past Nothing all = λ locked at todo callers locks rest. (refl, refl)
-  goes-past (Then first rest) all =
+  goes-past (tree.Op site place op) all = goes-op site place op all
+  goes-past tree.Skip all = λ locked at todo callers locks rest. (refl, refl)
+  goes-past (tree.Seq first rest) all =
       let both = pass-both test (steps_of first) (steps_of rest) all in
       let early = goes-past first (first_part (do_pass test (steps_of first)) (do_pass test (steps_of rest)) both) in
       let late = goes-past rest (last_part (do_pass test (steps_of first)) (do_pass test (steps_of rest)) both) in
       λ locked at todo callers locks.
       goes-then first rest locked (at_point at (before first (before rest todo)) locked callers locks) todo callers
-      locks (can_end first) (go core calls first at) (go-ends core calls first at) late
+      locks (can_end first) (evaluate core calls first at) (go-ends core calls first at) late
       (early locked at (before rest todo) callers locks)
-  goes-past (Either left right) all =
+  goes-past (tree.Choice left right) all =
       let both = pass-both test (steps_of left) (steps_of right) all in
       let on_left = goes-past left (first_part (do_pass test (steps_of left)) (do_pass test (steps_of right)) both) in
       let on_right = goes-past right (last_part (do_pass test (steps_of left)) (do_pass test (steps_of right)) both) in
       λ locked at todo callers locks.
       goes-either left right locked at todo callers locks (can_end right) on_left on_right
-  goes-past (Again body) all = λ locked at todo callers locks rest. (refl, refl)
-  goes-past (Held place body) all = λ locked at todo callers locks.
+  goes-past (tree.Loop body) all = λ locked at todo callers locks rest. (refl, refl)
+  goes-past (tree.Sync place body) all = λ locked at todo callers locks.
       let trip = trip_along trips (passed (suc locked) body ++ cond (can_end body) (Step ∷ []) []) in
-      one-more core trip.turns trip.steps (1 + trip.steps) (at_point at (Lock place body ∷ todo) locked callers locks)
-      (IsEnd (go core calls (Held place body) at) todo locked callers locks) (omega arith)
+      one-more core trip.turns trip.steps (1 + trip.steps) (at_point at (Sync place body ∷ todo) locked callers locks)
+      (IsEnd (evaluate core calls (tree.Sync place body) at) todo locked callers locks) (omega arith)
       (goes-lock body locked at todo callers locks (monitor_of (top_value at)) (goes-past body all))

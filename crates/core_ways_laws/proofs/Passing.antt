@@ -10,13 +10,13 @@ use Rattle.core_code.specs.CallFacts.{is_right_call}
 use Rattle.core_code.specs.Core.{Core, Method}
 use Rattle.core_code.specs.KindCheck.{kinds_after, kinds_after_op}
 use Rattle.core_code.specs.Kinds.{StackKind, kind_of}
-use Rattle.core_code.specs.Tree.{Tree, Step as Operate, Nothing, Then, Either, Again, Held, Operation, can_end, steps_of}
+use Rattle.core_code.specs.Tree.{Tree, Op, Skip, Seq, Choice, Loop, Sync, Operation, can_end, steps_of}
 use Rattle.core_code.proofs.Membership.{In}
 use Rattle.access_domain.specs.Findings.{Table}
 use Rattle.access_domain.specs.Flow.{chosen, flow, lost_next, lost_result, rounds}
-use Rattle.access_domain.specs.Given.{Given, given_of}
+use Rattle.access_domain.specs.Given.{FlowContext, given_of}
 use Rattle.access_domain.specs.Operations.{Effects, op_effects, popped}
-use Rattle.core_ways_laws.specs.Values.{Point, Calls, go, go_op, point_popped}
+use Rattle.core_ways_laws.specs.Values.{Point, Calls, evaluate, evaluate_op, point_popped}
 use Rattle.core_ways_laws.specs.Kept.{IsGood, IsKept}
 use Rattle.core_ways_laws.specs.Names.{Naming}
 use Rattle.core_ways_laws.specs.Places.{AreHushed, IsFrame, IsStore}
@@ -43,7 +43,7 @@ AreSafe core quiet table calls code =
 
 module _ (core : Core) (quiet : Quietness core) (n : Naming) (method : Method) (table : Table) (main : Bool)
     (calls : Calls) where
-  abbrev g : Given
+  abbrev g : FlowContext
   g = given_of core table main
 
   abbrev effects : Tree → Bool → State → Effects
@@ -61,7 +61,7 @@ module _ (core : Core) (quiet : Quietness core) (n : Naming) (method : Method) (
 
   -- a state at a loop's begin, after its rounds
   pub looped-frame : (body : Tree) (locked : Bool) (kinds ends : List StackKind) (s : State) (at : Point) →
-      AreRight core body → kinds_after core method (Again body) kinds ≡ Some ends →
+      AreRight core body → kinds_after core method (Loop body) kinds ≡ Some ends →
       AreHushed core quiet n
       (rounds (effects body locked) (length s.vars + length s.stack + 1) s).1 →
       IsFrame core quiet n method kinds s at →
@@ -79,7 +79,7 @@ module _ (core : Core) (quiet : Quietness core) (n : Naming) (method : Method) (
 
   -- the first part of two that are done in turn
   pub first-hushed : (first rest : Tree) (locked : Bool) (s : State) →
-      AreHushed core quiet n (effects (Then first rest) locked s).wobbly →
+      AreHushed core quiet n (effects (Seq first rest) locked s).wobbly →
       AreHushed core quiet n (effects first locked s).wobbly
   first-hushed first rest locked s =
       let one : Effects = effects first locked s in
@@ -91,7 +91,7 @@ module _ (core : Core) (quiet : Quietness core) (n : Naming) (method : Method) (
       (hush-first core quiet n (one.wobbly ++ (two t).wobbly) (lost_result one.result (two t).result) hush))
 
   pub first-small : (first rest : Tree) (locked : Bool) (s : State) →
-      (effects (Then first rest) locked s).large ≡ false → (effects first locked s).large ≡ false
+      (effects (Seq first rest) locked s).large ≡ false → (effects first locked s).large ≡ false
   first-small first rest locked s =
       in-turn-first (λ e. e.large ≡ false) (λ e. e.large ≡ false) (effects first locked s) (effects rest locked)
       (λ small. small)
@@ -134,7 +134,7 @@ module _ (core : Core) (quiet : Quietness core) (n : Naming) (method : Method) (
       kinds_after_op core method op kinds ≡ Some ends →
       AreHushed core quiet n (op_effects g locked site op s).wobbly → (op_effects g locked site op s).large ≡ false →
       IsFrame core quiet n method kinds s at → IsStore core quiet at.store →
-      IsKept core quiet n method ends (op_effects g locked site op s) (go_op core calls op at)
+      IsKept core quiet n method ends (op_effects g locked site op s) (evaluate_op core calls op at)
   step-kept locked site (Call m count) kinds ends s at right safe fits hush small frame stored =
       call-kept core quiet n method table main locked calls site m count kinds ends s at right safe fits hush small
       frame stored
@@ -145,11 +145,11 @@ module _ (core : Core) (quiet : Quietness core) (n : Naming) (method : Method) (
       (kinds ends : List StackKind) (s : State) (at : Point) → kinds_after core method code kinds ≡ Some ends →
       AreHushed core quiet n (effects code locked s).wobbly → (effects code locked s).large ≡ false →
       IsFrame core quiet n method kinds s at → IsStore core quiet at.store →
-      IsKept core quiet n method ends (effects code locked s) (go core calls code at)
-  kept (Operate site place op) right safe locked kinds ends s at fits hush small frame stored =
+      IsKept core quiet n method ends (effects code locked s) (evaluate core calls code at)
+  kept (Op site place op) right safe locked kinds ends s at fits hush small frame stored =
       step-kept locked site op kinds ends s at (right (record { site = site; place = place; op = op }) (inl refl))
       (safe (record { site = site; place = place; op = op }) (inl refl)) fits hush small frame stored
-  kept Nothing right safe locked kinds ends s at fits hush small frame stored =
+  kept Skip right safe locked kinds ends s at fits hush small frame stored =
       let same : kinds ≡ ends = cc in
       record {
         store = stored;
@@ -157,10 +157,10 @@ module _ (core : Core) (quiet : Quietness core) (n : Naming) (method : Method) (
         next = refl;
         frame = subst (λ (ks : List StackKind). IsFrame core quiet n method ks s at) same frame;
       }
-  kept (Then first rest) right safe locked kinds ends s at fits hush small frame stored =
+  kept (Seq first rest) right safe locked kinds ends s at fits hush small frame stored =
       let parts : AreInTurn core method first rest kinds ends = then_kinds core method first rest kinds ends fits in
       in-turn-kept core quiet n method parts.between ends (effects first locked s) (effects rest locked)
-      (go core calls first at) (go core calls rest) hush small
+      (evaluate core calls first at) (evaluate core calls rest) hush small
       (kept first (λ o there. right o (in_first (steps_of first) (steps_of rest) o there))
       (λ o there. safe o (in_first (steps_of first) (steps_of rest) o there)) locked kinds parts.between s at
       parts.early
@@ -170,7 +170,7 @@ module _ (core : Core) (quiet : Quietness core) (n : Naming) (method : Method) (
       (λ o in_rest. safe o (in_last (steps_of first) (steps_of rest) o in_rest)) locked parts.between ends t to
       parts.late
       still few there held)
-  kept (Either left right) all safe locked kinds ends s at fits hush small frame stored =
+  kept (Choice left right) all safe locked kinds ends s at fits hush small frame stored =
       let parts : AreBeside core method left right kinds ends = either_kinds core method left right kinds ends fits in
       let on_left : AreRight core left = λ o there. all o (in_first (steps_of left) (steps_of right) o there) in
       let on_right : AreRight core right = λ o there. all o (in_last (steps_of left) (steps_of right) o there) in
@@ -186,21 +186,21 @@ module _ (core : Core) (quiet : Quietness core) (n : Naming) (method : Method) (
       let heights = same_heights parts.after_left parts.after_right ends parts.joins in
       (x.vars ∙ sym y.vars, x.stack ∙ heights.0 ∙ sym heights.1 ∙ sym y.stack) in
       elim (can_end right) as (λ b. IsKept core quiet n method ends (chosen one two)
-      (cond b (go core calls right at) (go core calls left at))) [
+      (cond b (evaluate core calls right at) (evaluate core calls left at))) [
         | true ↦
             chosen-second core quiet n method parts.after_left parts.after_right ends one two
-            (go core calls right at) parts.joins alike
+            (evaluate core calls right at) parts.joins alike
             each.nexts each.results
             (kept right on_right (λ o there. safe o (in_last (steps_of left) (steps_of right) o there)) locked kinds
             parts.after_right s at parts.on_right each.right_hush each.right_small frame stored)
         | false ↦
             chosen-first core quiet n method parts.after_left parts.after_right ends one two
-            (go core calls left at) parts.joins alike
+            (evaluate core calls left at) parts.joins alike
             each.nexts each.results
             (kept left on_left (λ o there. safe o (in_first (steps_of left) (steps_of right) o there)) locked kinds
             parts.after_left s at parts.on_left each.left_hush each.left_small frame stored)
       ]
-  kept (Again body) right safe locked kinds ends s at fits hush small frame stored =
+  kept (Loop body) right safe locked kinds ends s at fits hush small frame stored =
       let last = rounds (effects body locked) (length s.vars + length s.stack + 1) s in
       record {
         store = stored;
@@ -212,8 +212,8 @@ module _ (core : Core) (quiet : Quietness core) (n : Naming) (method : Method) (
             (looped-frame body locked kinds ends s at right fits
             (hush-first core quiet n last.1 (effects body locked last.0).wobbly hush) frame);
       }
-  kept (Held place body) right safe locked [] ends s at fits hush small frame stored = absurd cc
-  kept (Held place body) right safe locked (kind ∷ kinds) ends s at fits hush small frame stored =
-      ok-kept core quiet n method ends (effects body true (popped s 1)) _ (go core calls body (point_popped at 1))
+  kept (Sync place body) right safe locked [] ends s at fits hush small frame stored = absurd cc
+  kept (Sync place body) right safe locked (kind ∷ kinds) ends s at fits hush small frame stored =
+      ok-kept core quiet n method ends (effects body true (popped s 1)) _ (evaluate core calls body (point_popped at 1))
       (kept body right safe true kinds ends (popped s 1) (point_popped at 1) fits hush small
       (popped-frame kind kinds s at frame) stored)

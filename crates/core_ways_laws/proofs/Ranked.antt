@@ -18,7 +18,7 @@ use Rattle.access_domain.specs.Operations.{Effects}
 use Rattle.access_domain.specs.Summaries.{effects_given, known_of, known_of_callees, start_of}
 use Rattle.core_semantics.specs.declared.object.Value.{Value}
 use Rattle.core_semantics.specs.State.{Store}
-use Rattle.core_ways_laws.specs.Values.{Point, End, Behind, Back, Calls, call_of, entry_point, go, value_back}
+use Rattle.core_ways_laws.specs.Values.{Point, End, Behind, Back, Calls, call_of, entry_point, evaluate, value_back}
 use Rattle.core_ways_laws.proofs.CalledValues.{call_of-code}
 use Rattle.core_ways_laws.specs.Kept.{IsEntered, IsGiven, IsGood, IsKept}
 use Rattle.core_ways_laws.specs.Names.{Naming, name_of}
@@ -99,7 +99,8 @@ module _ (p : Program) (quiet : Quietness (core p)) where
       subst (λ (call : List Value → Store → Option (Store × Value)).
       IsGiven (core p) quiet n (kind_of method.result) found.result (call values store))
       (sym (call_of-code (core p) p.ranks_there m method there analysed))
-      (given-back (core p) quiet n method right.kinds e found.result (go (core p) (call_of (core p)) method.code at)
+      (given-back (core p) quiet n method right.kinds e found.result
+      (evaluate (core p) (call_of (core p)) method.code at)
       whole.result
       (kept (core p) quiet n method table method.main (call_of (core p)) method.code right.calls safe false []
       right.kinds (start_of method) at right.kinded hushed whole.small frame stored))

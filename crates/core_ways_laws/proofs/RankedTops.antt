@@ -20,7 +20,7 @@ use Rattle.access_domain.specs.Summaries.{effects_given, known_of, known_of_call
 use Rattle.core_semantics.specs.declared.object.Value.{Value}
 use Rattle.core_semantics.specs.State.{Store}
 use Rattle.core_ways.specs.Ways.{record_at, records_held}
-use Rattle.core_ways_laws.specs.Tops.{Top, Tops, to, to_record, top_given, top_of}
+use Rattle.core_ways_laws.specs.Arrivals.{Arrival, Arrivals, to, to_record, top_given, top_of}
 use Rattle.core_ways_laws.specs.Values.{call_of, entry_point}
 use Rattle.core_ways_laws.specs.Kept.{AreMet, IsEntered, IsMet}
 use Rattle.core_ways_laws.specs.Names.{Naming}
@@ -61,7 +61,7 @@ record-of core m i r is = of_known core m i r (known_of core m) refl is
 
 -- ---- ways to records, from those of methods of smaller ranks
 
-abbrev inner_tops : Core → MethodId → Tops
+abbrev inner_tops : Core → MethodId → Arrivals
 inner_tops core m = known_below (λ i values store. None) (top_given core) core (rank_of core m)
 
 top-is : (core : Core) (m : MethodId) (method : Method) (i : ℕ) (r : Access) (values : List Value) (store : Store) →
@@ -69,13 +69,13 @@ top-is : (core : Core) (m : MethodId) (method : Method) (i : ℕ) (r : Access) (
     top_of core m i values store ≡
     to core (call_of core) (inner_tops core m) r.site r.below method.code (entry_point method values store)
 top-is core m method i r values store there has =
-    ap (λ (o : Option Method). elim o as (λ _. Option Top) [
+    ap (λ (o : Option Method). elim o as (λ _. Option Arrival) [
       | None ↦ None
       | Some x ↦ to_record core (inner_tops core m) (record_at core m i) x values store
     ]) there
     ∙ ap (λ (o : Option Access). to_record core (inner_tops core m) o method values store) has
 
-meeting-op : (core : Core) (quiet : Quietness core) (table : Table) (tops : Tops) (op : CoreOp) →
+meeting-op : (core : Core) (quiet : Quietness core) (table : Table) (tops : Arrivals) (op : CoreOp) →
     ((callee : MethodId) (count : ℕ) → op ≡ Call callee count → AreMet core quiet callee (table callee) (tops callee)) →
     IsLed core quiet table tops op
 meeting-op core quiet table tops (Call callee count) each = each callee count refl
@@ -111,7 +111,7 @@ callees-met p quiet m method there analysed lower o stands =
     known_below-lower (λ i values store. None) (top_given (core p)) (core p) (rank_of (core p) m) callee low in
     subst (λ (k : Option Known). AreMet (core p) quiet callee k (inner_tops (core p) m callee))
     (sym (callee_known (core p) m callee low))
-    (subst (λ (tops : ℕ → List Value → Store → Option Top).
+    (subst (λ (tops : ℕ → List Value → Store → Option Arrival).
     AreMet (core p) quiet callee (known_of (core p) callee) tops) (sym same) met))
 
 -- the way to a record of a method
@@ -133,7 +133,7 @@ method-met p quiet m method there analysed meets found known n values store ente
     (subst (λ (rs : List Access). In rs r) (sym whole.records) (in_at found.records i r has)) in
     let frame : IsFrame (core p) quiet n method [] (start_of method) (entry_point method values store) =
     record { vars = entered; stack = tt } in
-    subst (λ (o : Option Top). IsMet (core p) quiet n r o)
+    subst (λ (o : Option Arrival). IsMet (core p) quiet n r o)
     (sym (top-is (core p) m method i r values store there (record-there (core p) m found i r known has)))
     (towards-met (core p) quiet n method table method.main (call_of (core p)) (inner_tops (core p) m) method.code
     right.calls (good-callees p quiet m method there analysed) meets 0 right.sites false [] right.kinds

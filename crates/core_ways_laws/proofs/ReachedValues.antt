@@ -11,24 +11,25 @@ use Rattle.racer_base.specs.declared.ids.Place.{Place}
 use Rattle.racer_base.specs.declared.ids.SiteId.{SiteId}
 use Rattle.core_code.specs.declared.code.Op.{Op as CoreOp}
 use Rattle.core_code.specs.Core.{Core}
-use Rattle.core_code.specs.Tree.{Tree, Step as Operate, Nothing, Then, Either, Again, Held, Operation}
+use Rattle.core_code.specs.Tree.{Tree, Operation}
 use Rattle.core_code.specs.Tree.{can_end, op_at, steps_of}
+use Rattle.core_code.specs.Tree as tree
 use Rattle.core_code.proofs.BoolParts.{first_part, last_part}
 use Rattle.core_semantics.specs.declared.answer.Holder.{Holder}
 use Rattle.core_semantics.specs.declared.answer.Turn.{Turn}
 use Rattle.core_semantics.specs.declared.answer.Turn.TheVariants.{Left, Right}
 use Rattle.core_semantics.specs.declared.answer.Why.{Why}
-use Rattle.core_semantics.specs.State.{Frame, Todo, Operate as DoOp, Choose, Repeat, Lock, Unlock, before}
+use Rattle.core_semantics.specs.State.{Frame, Todo, Op, Choice, Loop, Sync, Unlock, before}
 use Rattle.core_semantics.specs.Steps.{After, lock_with, monitor_of}
 use Rattle.core_ways.specs.declared.part.WayPart.{WayPart}
-use Rattle.core_ways.specs.declared.part.WayPart.TheVariants.{Turned}
+use Rattle.core_ways.specs.declared.part.WayPart.TheVariants.{Branched}
 use Rattle.core_ways.specs.Alone.{ComesTo, alone, do_end_before, locks_round, onward}
 use Rattle.core_ways.specs.Ways.{Trip, entered, has_site, passed, reached, trip_along}
 use Rattle.core_ways.proofs.Alone.{Leads, along-both, leads-on, one-more, past-turn, weaker}
 use Rattle.core_ways.proofs.Callees.{do_pass, pass-both}
-use Rattle.core_ways_laws.specs.Values.{Behind, Back, Calls, End, Point, go, on_ok, point_popped, top_value}
-use Rattle.core_ways_laws.specs.Tops.{Top, Tops, behind_first, one_lock_more, to, top_at}
-use Rattle.core_ways_laws.specs.Led.{Arrives, GoesPast, GoesTo, IsEnd, IsTop, MethodGoes, at_point}
+use Rattle.core_ways_laws.specs.Values.{Behind, Back, Calls, End, Point, evaluate, on_ok, point_popped, top_value}
+use Rattle.core_ways_laws.specs.Arrivals.{Arrival, Arrivals, behind_first, one_lock_more, to, arrival_at}
+use Rattle.core_ways_laws.specs.RunValues.{Arrives, GoesPast, GoesTo, IsEnd, IsTop, MethodGoes, at_point}
 use Rattle.core_ways_laws.proofs.PassedValues.{EndsAs, go-ends, goes-past, spot_at}
 
 -- ---- the operation at a site
@@ -41,18 +42,18 @@ second-of : (p q : Option Operation) (o : Operation) → is_some p ≡ false →
 second-of None q o has is = is
 second-of (Some x) q o has is = absurd cc
 
-op-first : (a b : Tree) (site : SiteId) (o : Operation) → has_site a site ≡ true → op_at (Then a b) site ≡ Some o →
+op-first : (a b : Tree) (site : SiteId) (o : Operation) → has_site a site ≡ true → op_at (tree.Seq a b) site ≡ Some o →
     op_at a site ≡ Some o
 op-first a b site o has is =
     first-of (op_at a site) (op_at b site) o has (sym (find-append _ (steps_of a) (steps_of b)) ∙ is)
 
 op-second : (a b : Tree) (site : SiteId) (o : Operation) → has_site a site ≡ false →
-    op_at (Then a b) site ≡ Some o → op_at b site ≡ Some o
+    op_at (tree.Seq a b) site ≡ Some o → op_at b site ≡ Some o
 op-second a b site o has is =
     second-of (op_at a site) (op_at b site) o has (sym (find-append _ (steps_of a) (steps_of b)) ∙ is)
 
 found-here : (site : SiteId) (place : Place) (op : CoreOp) (s : SiteId) (o : Operation) →
-    op_at (Operate site place op) s ≡ Some o → o.op ≡ op
+    op_at (tree.Op site place op) s ≡ Some o → o.op ≡ op
 found-here site place op s o is =
     elim (nat_eq site.0 s.0) as (λ b. cond b (Some (record { site = site; place = place; op = op })) None ≡ Some o →
     o.op ≡ op) [
@@ -63,7 +64,7 @@ found-here site place op s o is =
 
 -- ---- within one more lock
 
-lock-more : (o : Option Top) (locks : List Holder) (monitor : Holder) (a : After) →
+lock-more : (o : Option Arrival) (locks : List Holder) (monitor : Holder) (a : After) →
     IsTop o (monitor ∷ locks) a → IsTop (option_map one_lock_more o) locks a
 lock-more None locks monitor a is = is
 lock-more (Some top) locks monitor a b =
@@ -78,13 +79,13 @@ lock-more (Some top) locks monitor a b =
       count = counted;
       is =
           b.is
-          ∙ (λ i. at_point top.at (DoOp b.place top.op ∷ b.todo) b.locked b.callers
+          ∙ (λ i. at_point top.at (Op b.place top.op ∷ b.todo) b.locked b.callers
           (sym (append_assoc b.monitors (monitor ∷ []) locks) i));
     }
 
 -- ---- runs
 
-module _ (core : Core) (trips : MethodId → Trip) (calls : Calls) (tops : Tops) (ways : MethodId → ℕ → List WayPart)
+module _ (core : Core) (trips : MethodId → Trip) (calls : Calls) (tops : Arrivals) (ways : MethodId → ℕ → List WayPart)
     (site : SiteId) (below : Option ℕ) (op : CoreOp) where
   abbrev Goes : Tree → Type 0
   Goes code = GoesTo core trips ways site below op code (to core calls tops site below code)
@@ -121,35 +122,35 @@ module _ (core : Core) (trips : MethodId → Trip) (calls : Calls) (tops : Tops)
       (cond b (reached locked site first) (passed locked first ++ reached locked site rest) ++ more))
       (at_point at (before first (before rest todo)) locked callers locks)
       (IsTop (cond b (to core calls tops site below first at)
-      (behind_first (go core calls first at) (to core calls tops site below rest))) locks)
+      (behind_first (evaluate core calls first at) (to core calls tops site below rest))) locks)
   to-then first rest true locked at todo callers locks on_first on_rest past ends =
       on_first refl locked at (before rest todo) callers locks
   to-then first rest false locked at todo callers locks on_first on_rest past ends =
       let a : After = at_point at (before first (before rest todo)) locked callers locks in
       let goes : can_end first ≡ true = first_part (can_end first) (do_end_before site rest) ends in
       subst (λ (ps : List WayPart). Leads core (trip_along trips ps) a
-      (IsTop (behind_first (go core calls first at) (to core calls tops site below rest)) locks))
+      (IsTop (behind_first (evaluate core calls first at) (to core calls tops site below rest)) locks))
       (sym (append_assoc (passed locked first) (reached locked site rest) more))
-      (behind-passed first rest locked a todo callers locks (go core calls first at)
-      (subst (λ (x : Bool). EndsAs x (go core calls first at)) goes (go-ends core calls first at)) (on_rest refl)
+      (behind-passed first rest locked a todo callers locks (evaluate core calls first at)
+      (subst (λ (x : Bool). EndsAs x (evaluate core calls first at)) goes (go-ends core calls first at)) (on_rest refl)
       (past locked at (before rest todo) callers locks))
 
   to-either : (left right : Tree) (b : Bool) (locked : ℕ) (at : Point) (todo : List Todo) (callers : List Frame)
       (locks : List Holder) → (b ≡ true → Goes left) → (b ≡ false → Goes right) →
       Leads core
       (trip_along trips
-      (cond b (Turned Left ∷ reached locked site left) (Turned Right ∷ reached locked site right) ++ more))
-      (at_point at (Choose left right ∷ todo) locked callers locks)
+      (cond b (Branched Left ∷ reached locked site left) (Branched Right ∷ reached locked site right) ++ more))
+      (at_point at (Choice left right ∷ todo) locked callers locks)
       (IsTop (cond b (to core calls tops site below left at) (to core calls tops site below right at)) locks)
   to-either left right true locked at todo callers locks on_left on_right =
       past-turn core (trip_along trips (reached locked site left ++ more)) Left
-      (at_point at (Choose left right ∷ todo) locked callers locks)
+      (at_point at (Choice left right ∷ todo) locked callers locks)
       (at_point at (before left todo) locked callers locks)
       (IsTop (to core calls tops site below left at) locks) (λ rest. refl)
       (on_left refl locked at todo callers locks)
   to-either left right false locked at todo callers locks on_left on_right =
       past-turn core (trip_along trips (reached locked site right ++ more)) Right
-      (at_point at (Choose left right ∷ todo) locked callers locks)
+      (at_point at (Choice left right ∷ todo) locked callers locks)
       (at_point at (before right todo) locked callers locks)
       (IsTop (to core calls tops site below right at) locks) (λ rest. refl)
       (on_right refl locked at todo callers locks)
@@ -157,34 +158,34 @@ module _ (core : Core) (trips : MethodId → Trip) (calls : Calls) (tops : Tops)
   to-lock : (body : Tree) (locked : ℕ) (at : Point) (todo : List Todo) (callers : List Frame) (locks : List Holder)
       (r : Result Holder Why) → Goes body → (rest : List Turn) →
       let trip = trip_along trips (reached (suc locked) site body ++ more) in
-      let o : Option Top = to core calls tops site below body (point_popped at 1) in
+      let o : Option Arrival = to core calls tops site below body (point_popped at 1) in
       ComesTo (IsTop (on_ok r (option_map one_lock_more o)) locks) rest
       (onward (λ a. alone core trip.steps (trip.turns ++ rest) a)
       (lock_with [] (spot_at at todo locked callers locks) body r))
   to-lock body locked at todo callers locks (Err why) goes rest = tt
   to-lock body locked at todo callers locks (Ok monitor) goes rest =
       let trip = trip_along trips (reached (suc locked) site body ++ more) in
-      let o : Option Top = to core calls tops site below body (point_popped at 1) in
+      let o : Option Arrival = to core calls tops site below body (point_popped at 1) in
       weaker (IsTop o (monitor ∷ locks)) (IsTop (option_map one_lock_more o) locks) rest
       (alone core trip.steps (trip.turns ++ rest)
       (at_point (point_popped at 1) (before body (Unlock ∷ todo)) (suc locked) callers (monitor ∷ locks)))
       (lock-more o locks monitor)
       (goes (suc locked) (point_popped at 1) (Unlock ∷ todo) callers (monitor ∷ locks) rest)
 
-module _ (core : Core) (trips : MethodId → Trip) (calls : Calls) (tops : Tops) (ways : MethodId → ℕ → List WayPart)
+module _ (core : Core) (trips : MethodId → Trip) (calls : Calls) (tops : Arrivals) (ways : MethodId → ℕ → List WayPart)
     (site : SiteId) (below : Option ℕ) (test : MethodId → Bool)
     (holds : (m : MethodId) → test m ≡ true → MethodGoes core trips calls m) (o : Operation)
-    (arrives : Arrives core trips ways below o.op (top_at core tops below o.op)) where
+    (arrives : Arrives core trips ways below o.op (arrival_at core tops below o.op)) where
   -- code is gone into towards a site, and on from the operation there
   pub goes-to : (code : Tree) → do_pass test (steps_of code) ≡ true → op_at code site ≡ Some o →
       do_end_before site code ≡ true →
       GoesTo core trips ways site below o.op code (to core calls tops site below code)
-  goes-to (Operate s place op) all is ends = λ locked at todo callers locks.
+  goes-to (tree.Op s place op) all is ends = λ locked at todo callers locks.
       subst (λ (x : CoreOp). Leads core (trip_along trips (entered ways below o.op))
-      (at_point at (DoOp place x ∷ todo) locked callers locks) (IsTop (top_at core tops below x at) locks))
+      (at_point at (Op place x ∷ todo) locked callers locks) (IsTop (arrival_at core tops below x at) locks))
       (found-here s place op site o is) (arrives place locked at todo callers locks)
-  goes-to Nothing all is ends = absurd cc
-  goes-to (Then first rest) all is ends =
+  goes-to tree.Skip all is ends = absurd cc
+  goes-to (tree.Seq first rest) all is ends =
       let both = pass-both test (steps_of first) (steps_of rest) all in
       let early = first_part (do_pass test (steps_of first)) (do_pass test (steps_of rest)) both in
       let late = last_part (do_pass test (steps_of first)) (do_pass test (steps_of rest)) both in
@@ -195,7 +196,7 @@ module _ (core : Core) (trips : MethodId → Trip) (calls : Calls) (tops : Tops)
       (λ has. goes-to rest late (op-second first rest site o has is)
       (last_part (can_end first) (do_end_before site rest) (ap by (sym has) ∙ ends)))
       (goes-past core trips calls test holds first early) ends
-  goes-to (Either left right) all is ends =
+  goes-to (tree.Choice left right) all is ends =
       let both = pass-both test (steps_of left) (steps_of right) all in
       let early = first_part (do_pass test (steps_of left)) (do_pass test (steps_of right)) both in
       let late = last_part (do_pass test (steps_of left)) (do_pass test (steps_of right)) both in
@@ -204,35 +205,35 @@ module _ (core : Core) (trips : MethodId → Trip) (calls : Calls) (tops : Tops)
       to-either core trips calls tops ways site below o.op left right (has_site left site) locked at todo callers locks
       (λ has. goes-to left early (op-first left right site o has is) (ap by (sym has) ∙ ends))
       (λ has. goes-to right late (op-second left right site o has is) (ap by (sym has) ∙ ends))
-  goes-to (Again body) all is ends = λ locked at todo callers locks.
+  goes-to (tree.Loop body) all is ends = λ locked at todo callers locks.
       past-turn core (trip_along trips (reached locked site body ++ entered ways below o.op)) Left
-      (at_point at (Repeat body ∷ todo) locked callers locks)
-      (at_point at (before body (Repeat body ∷ todo)) locked callers locks)
+      (at_point at (Loop body ∷ todo) locked callers locks)
+      (at_point at (before body (Loop body ∷ todo)) locked callers locks)
       (IsTop (to core calls tops site below body at) locks) (λ rest. refl)
-      (goes-to body all is ends locked at (Repeat body ∷ todo) callers locks)
-  goes-to (Held place body) all is ends = λ locked at todo callers locks.
+      (goes-to body all is ends locked at (Loop body ∷ todo) callers locks)
+  goes-to (tree.Sync place body) all is ends = λ locked at todo callers locks.
       let trip = trip_along trips (reached (suc locked) site body ++ entered ways below o.op) in
       one-more core trip.turns trip.steps (1 + trip.steps)
-      (at_point at (Lock place body ∷ todo) locked callers locks)
-      (IsTop (to core calls tops site below (Held place body) at) locks) (omega arith)
+      (at_point at (Sync place body ∷ todo) locked callers locks)
+      (IsTop (to core calls tops site below (tree.Sync place body) at) locks) (omega arith)
       (to-lock core trips calls tops ways site below o.op body locked at todo callers locks
       (monitor_of (top_value at)) (goes-to body all is ends))
 
 -- ---- what comes next has what the operation at the site leads to
 
 -- what comes next, where there is such, is so
-abbrev pub OnTop : (Top → Type 0) → Option Top → Type 0
+abbrev pub OnTop : (Arrival → Type 0) → Option Arrival → Type 0
 OnTop P None = Unit {0}
 OnTop P (Some top) = P top
 
-ok-has : {X E : Type 0} (P : Top → Type 0) (r : Result X E) (o : Option Top) → OnTop P o → OnTop P (on_ok r o)
+ok-has : {X E : Type 0} (P : Arrival → Type 0) (r : Result X E) (o : Option Arrival) → OnTop P o → OnTop P (on_ok r o)
 ok-has P (Ok x) o has = has
 ok-has P (Err e) o has = tt
 
-module _ (core : Core) (calls : Calls) (tops : Tops) (site : SiteId) (below : Option ℕ) (o : Operation)
-    (P : ℕ → Top → Type 0) (deeper : (n : ℕ) (top : Top) → P n top → P (suc n) (one_lock_more top))
-    (next : (at : Point) → OnTop (P 0) (top_at core tops below o.op at)) where
-  behind-has : (n : ℕ) (e : Option End) (rest : Point → Option Top) → ((at : Point) → OnTop (P n) (rest at)) →
+module _ (core : Core) (calls : Calls) (tops : Arrivals) (site : SiteId) (below : Option ℕ) (o : Operation)
+    (P : ℕ → Arrival → Type 0) (deeper : (n : ℕ) (top : Arrival) → P n top → P (suc n) (one_lock_more top))
+    (next : (at : Point) → OnTop (P 0) (arrival_at core tops below o.op at)) where
+  behind-has : (n : ℕ) (e : Option End) (rest : Point → Option Arrival) → ((at : Point) → OnTop (P n) (rest at)) →
       OnTop (P n) (behind_first e rest)
   behind-has n None rest has = tt
   behind-has n (Some (Behind at)) rest has = has at
@@ -243,10 +244,11 @@ module _ (core : Core) (calls : Calls) (tops : Tops) (site : SiteId) (below : Op
       (b ≡ false → (x : Point) → OnTop (P (locks_round site rest)) (to core calls tops site below rest x)) →
       OnTop (P (cond b (locks_round site first) (locks_round site rest)))
       (cond b (to core calls tops site below first at)
-      (behind_first (go core calls first at) (to core calls tops site below rest)))
+      (behind_first (evaluate core calls first at) (to core calls tops site below rest)))
   then-has first rest true at on_first on_rest = on_first refl
   then-has first rest false at on_first on_rest =
-      behind-has (locks_round site rest) (go core calls first at) (to core calls tops site below rest) (on_rest refl)
+      behind-has (locks_round site rest) (evaluate core calls first at) (to core calls tops site below rest)
+      (on_rest refl)
 
   either-has : (left right : Tree) (b : Bool) (at : Point) →
       (b ≡ true → OnTop (P (locks_round site left)) (to core calls tops site below left at)) →
@@ -256,25 +258,25 @@ module _ (core : Core) (calls : Calls) (tops : Tops) (site : SiteId) (below : Op
   either-has left right true at on_left on_right = on_left refl
   either-has left right false at on_left on_right = on_right refl
 
-  lock-has : (n : ℕ) (e : Option Top) → OnTop (P n) e → OnTop (P (suc n)) (option_map one_lock_more e)
+  lock-has : (n : ℕ) (e : Option Arrival) → OnTop (P n) e → OnTop (P (suc n)) (option_map one_lock_more e)
   lock-has n None has = tt
   lock-has n (Some top) has = deeper n top has
 
   pub to-has : (code : Tree) → op_at code site ≡ Some o → (at : Point) →
       OnTop (P (locks_round site code)) (to core calls tops site below code at)
-  to-has (Operate s place op) is at =
-      subst (λ (x : CoreOp). OnTop (P 0) (top_at core tops below x at)) (found-here s place op site o is) (next at)
-  to-has Nothing is at = absurd cc
-  to-has (Then first rest) is at =
+  to-has (tree.Op s place op) is at =
+      subst (λ (x : CoreOp). OnTop (P 0) (arrival_at core tops below x at)) (found-here s place op site o is) (next at)
+  to-has tree.Skip is at = absurd cc
+  to-has (tree.Seq first rest) is at =
       then-has first rest (has_site first site) at
       (λ has. to-has first (op-first first rest site o has is) at)
       (λ has. to-has rest (op-second first rest site o has is))
-  to-has (Either left right) is at =
+  to-has (tree.Choice left right) is at =
       either-has left right (has_site left site) at
       (λ has. to-has left (op-first left right site o has is) at)
       (λ has. to-has right (op-second left right site o has is) at)
-  to-has (Again body) is at = to-has body is at
-  to-has (Held place body) is at =
+  to-has (tree.Loop body) is at = to-has body is at
+  to-has (tree.Sync place body) is at =
       ok-has (P (suc (locks_round site body))) (monitor_of (top_value at))
       (option_map one_lock_more (to core calls tops site below body (point_popped at 1)))
       (lock-has (locks_round site body) (to core calls tops site below body (point_popped at 1))

@@ -21,7 +21,7 @@ use Rattle.owner_domain.specs.Values.{along, joined_state, lost_state}
 use Rattle.access_domain.specs.declared.access.Access.{Access}
 use Rattle.access_domain.specs.Findings.{Findings, Known, Large, Table, Whole, outcome_from}
 use Rattle.access_domain.specs.Flow.{after, both, chosen, flow, joined_next, joined_result, rounds}
-use Rattle.access_domain.specs.Given.{Given, field_at, given_of}
+use Rattle.access_domain.specs.Given.{FlowContext, field_at, given_of}
 use Rattle.access_domain.specs.Operations.{Effects, call_effects, op_effects, passed_from, popped, pushed, read_value}
 use Rattle.access_domain.specs.Operations.{record_of, replaced, slot_of, top}
 use Rattle.access_domain.specs.Records.{first_of_keys, same_key}
@@ -34,7 +34,7 @@ use Rattle.core_code.specs.declared.code.Op.TheVariants.{Push, PushClass, PushPr
 use Rattle.core_code.specs.declared.code.Op.TheVariants.{Set, Prim, Outside, Call, Unread, Ret}
 use Rattle.core_code.specs.Calls.{known_below, method_at, rank_of}
 use Rattle.core_code.specs.Core.{Core, Method}
-use Rattle.core_code.specs.Tree.{Tree, Step, Nothing, Then, Either, Again, Held}
+use Rattle.core_code.specs.Tree.{Tree, Op, Skip, Seq, Choice, Loop, Sync}
 use Rattle.core_code.proofs.Membership.{In, in_append, in_flat_map}
 use Rattle.core_ways.specs.Ways.{record_at, records_held}
 use Rattle.core_ways_laws.specs.Longer.{longer}
@@ -69,7 +69,7 @@ record DoesGood (class_of : FieldId → ClassId) (e : Effects) : Type 0 where
   records : (a : Access) → In e.records a → IsGood class_of a.path
   result : IsKnownResult e.result
 
-module _ (g : Given) where
+module _ (g : FlowContext) where
   -- ---- one access
 
   one-good : (f : FieldId) (p : Path) → Some (some_path (g.class_of f) f) ≡ Some p → IsGood g.class_of p
@@ -331,21 +331,21 @@ module _ (g : Given) where
 
   flow-good : ((m : MethodId) → AreGood g.class_of (g.known_of m)) → (code : Tree) (locked : Bool) (s : State) →
       IsKnownState s → DoesGood g.class_of (flow g code locked s)
-  flow-good good (Step site place op) locked s known = op-good good locked site op s known
-  flow-good good Nothing locked s known = record { next = known; records = λ a h. absurd h; result = tt }
-  flow-good good (Then first rest) locked s known =
+  flow-good good (Op site place op) locked s known = op-good good locked site op s known
+  flow-good good Skip locked s known = record { next = known; records = λ a h. absurd h; result = tt }
+  flow-good good (Seq first rest) locked s known =
       after-good (flow g first locked s) (flow g rest locked) (flow-good good first locked s known)
       (λ t is. flow-good good rest locked t is)
-  flow-good good (Either left right) locked s known =
+  flow-good good (Choice left right) locked s known =
       chosen-good (flow g left locked s) (flow g right locked s) (flow-good good left locked s known)
       (flow-good good right locked s known)
-  flow-good good (Again body) locked s known =
+  flow-good good (Loop body) locked s known =
       let last = rounds-good (flow g body locked) (λ t is. flow-good good body locked t is)
       (length s.vars + length s.stack + 1) s known in
       let inner = flow-good good body locked (rounds (flow g body locked) (length s.vars + length s.stack + 1) s).0
       last in
       record { next = last; records = inner.records; result = inner.result }
-  flow-good good (Held place body) locked s known = flow-good good body true (popped s 1) (known-popped s 1 known)
+  flow-good good (Sync place body) locked s known = flow-good good body true (popped s 1) (known-popped s 1 known)
 
 -- ---- methods, by rank
 
@@ -361,7 +361,7 @@ given-good : (core : Core) (table : Table) → ((m : MethodId) → AreGood (clas
 given-good core table good None found is a h = absurd cc
 given-good core table good (Some method) found is a h =
     let e : Effects = effects_given core table method in
-    let g : Given = given_of core table method.main in
+    let g : FlowContext = given_of core table method.main in
     elim (is_none method.status) as (λ b. cond b (Some (known_from e)) None ≡ Some (Whole found) →
     IsGood (class_in core) a.path) [
       | true ↦ λ k.

@@ -6,13 +6,13 @@ use borrow.Author.Tests.{eqb-true}
 use Rattle.std.proofs.lemmas.Bool.{eq-eqb}
 use Rattle.racer_base.specs.declared.ids.SiteId.{SiteId}
 use Rattle.owner_domain.specs.declared.value.State.{State}
-use Rattle.core_code.specs.Tree.{Tree, Then, Operation, steps_of, op_at}
+use Rattle.core_code.specs.Tree.{Tree, Seq, Operation, steps_of, op_at}
 use Rattle.core_code.specs.Facts.{sites_of, counts_from}
 use Rattle.core_code.proofs.BoolParts.{first_part, last_part}
 use Rattle.core_code.proofs.Membership.{In, in_from_Contains, find_gives, find_has}
 use Rattle.core_code.proofs.Sites.{counts_from-append, sites_of-then}
 use Rattle.access_domain.specs.declared.access.Access.{Access}
-use Rattle.access_domain.specs.Given.{Given}
+use Rattle.access_domain.specs.Given.{FlowContext}
 use Rattle.access_domain.specs.Flow.{flow}
 use Rattle.access_domain.specs.Origins.{IsOwn, IsOfCallee}
 use Rattle.access_domain.proofs.RecordOrigins.{origin}
@@ -28,7 +28,7 @@ stands_there code o site there same =
     ap is_some found.1
 
 -- the site of each record of a flow stands in its code
-pub record-stands : (g : Given) (code : Tree) (locked : Bool) (s : State) (r : Access) →
+pub record-stands : (g : FlowContext) (code : Tree) (locked : Bool) (s : State) (r : Access) →
     Contains (flow g code locked s).records r → has_site code r.site ≡ true
 record-stands g code locked s r there =
     ⊎_elim
@@ -36,7 +36,7 @@ record-stands g code locked s r there =
     (λ (of : IsOfCallee g code r). stands_there code of.operation r.site of.stands of.site)
     (origin g code locked s r there)
 
-pub record-site : (g : Given) (code : Tree) (locked : Bool) (s : State) (r : Access) →
+pub record-site : (g : FlowContext) (code : Tree) (locked : Bool) (s : State) (r : Access) →
     In (flow g code locked s).records r → has_site code r.site ≡ true
 record-site g code locked s r there =
     record-stands g code locked s r (contains_from_in (flow g code locked s).records r there)
@@ -72,7 +72,7 @@ has_in code site has =
           (o, found.0, eqb-true o.site.0 site.0 found.1)
     ] refl has
 
-parts_count : (k : ℕ) (first rest : Tree) → counts_from k (sites_of (Then first rest)) ≡ true →
+parts_count : (k : ℕ) (first rest : Tree) → counts_from k (sites_of (Seq first rest)) ≡ true →
     (counts_from k (sites_of first) ≡ true) × (counts_from (k + length (sites_of first)) (sites_of rest) ≡ true)
 parts_count k first rest counts =
     let a : Bool = counts_from k (sites_of first) in
@@ -83,16 +83,16 @@ parts_count k first rest counts =
     (first_part a b both, last_part a b both)
 
 -- the sites of the parts count where those of the whole do
-pub sites_first : (k : ℕ) (first rest : Tree) → counts_from k (sites_of (Then first rest)) ≡ true →
+pub sites_first : (k : ℕ) (first rest : Tree) → counts_from k (sites_of (Seq first rest)) ≡ true →
     counts_from k (sites_of first) ≡ true
 sites_first k first rest counts = (parts_count k first rest counts).0
 
-pub sites_rest : (k : ℕ) (first rest : Tree) → counts_from k (sites_of (Then first rest)) ≡ true →
+pub sites_rest : (k : ℕ) (first rest : Tree) → counts_from k (sites_of (Seq first rest)) ≡ true →
     counts_from (k + length (sites_of first)) (sites_of rest) ≡ true
 sites_rest k first rest counts = (parts_count k first rest counts).1
 
 -- a site of the second part is none of the first
-pub site-once : (k : ℕ) (first rest : Tree) (site : SiteId) → counts_from k (sites_of (Then first rest)) ≡ true →
+pub site-once : (k : ℕ) (first rest : Tree) (site : SiteId) → counts_from k (sites_of (Seq first rest)) ≡ true →
     has_site rest site ≡ true → has_site first site ≡ false
 site-once k first rest site counts later =
     elim (has_site first site) as (λ b. has_site first site ≡ b → b ≡ false) [

@@ -18,14 +18,15 @@ use Rattle.core_code.specs.Calls.{called_by, is_analysed, known_below, method_at
 use Rattle.core_code.specs.CallFacts.{has_ranks}
 use Rattle.core_code.specs.Core.{Core, Method}
 use Rattle.core_code.specs.Facts.{are_sites_in_order, is_in_order}
-use Rattle.core_code.specs.Tree.{Tree, Step as Operate, Nothing, Then, Either, Again, Held, Operation, op_at}
+use Rattle.core_code.specs.Tree.{Tree, Operation, op_at}
 use Rattle.core_code.specs.Tree.{steps_of}
+use Rattle.core_code.specs.Tree as tree
 use Rattle.core_code.proofs.BoolParts.{first_part, last_part}
 use Rattle.core_code.proofs.ByRank.{known_below-lower}
 use Rattle.core_code.proofs.Membership.{In}
 use Rattle.access_domain.specs.declared.access.Access.{Access}
 use Rattle.access_domain.specs.Findings.{Findings, Known, Large, Table, Whole, outcome_from}
-use Rattle.access_domain.specs.Given.{Given, given_of}
+use Rattle.access_domain.specs.Given.{FlowContext, given_of}
 use Rattle.access_domain.specs.Origins.{touch_of}
 use Rattle.access_domain.specs.Summaries.{known_given, known_of, known_of_callees}
 use Rattle.core_semantics.specs.declared.answer.Holder.{Holder}
@@ -35,7 +36,7 @@ use Rattle.core_semantics.specs.declared.answer.Why.TheVariants.{UnreadCall as U
 use Rattle.core_semantics.specs.declared.object.Object.{Object}
 use Rattle.core_semantics.specs.declared.object.Value.{Value}
 use Rattle.core_semantics.specs.declared.object.Value.TheVariants.{Null}
-use Rattle.core_semantics.specs.State.{Frame, Store, Todo, Operate as DoOp, before}
+use Rattle.core_semantics.specs.State.{Frame, Store, Todo, Op, before}
 use Rattle.core_semantics.specs.Steps.{After, Next, Spot, Sticks, base_of, called_method, entering, monitor_of}
 use Rattle.core_semantics.specs.Steps.{on_base}
 use Rattle.core_semantics.specs.Steps.{on_object, passed_from}
@@ -47,11 +48,11 @@ use Rattle.core_ways.specs.Ways.{towards_record, trip_along, trip_of, way_given,
 use Rattle.core_ways.proofs.Alone.{Leads, one-more}
 use Rattle.core_ways.proofs.AloneMethods.{AreRight, calls-pass, code-there, may_call}
 use Rattle.core_ways.proofs.Callees.{do_pass, lower-calls, lower-site, pass-both}
-use Rattle.core_ways_laws.specs.Values.{Calls, Point, call_of, entry_point, go, on_ok, point_popped, received, top_value}
+use Rattle.core_ways_laws.specs.Values.{Calls, Point, call_of, entry_point, evaluate, on_ok, point_popped, received, top_value}
 use Rattle.core_ways_laws.specs.Values.{values_passed}
-use Rattle.core_ways_laws.specs.Tops.{Top, Tops, behind_first, one_lock_more, to, to_record, top_at, top_given, top_of}
-use Rattle.core_ways_laws.specs.Led.{Arrives, IsOfRecord, IsTop, RecordGoes, at_point}
-use Rattle.core_ways_laws.specs.Sites.{Comes, IsThrough, IsTouch, field_of}
+use Rattle.core_ways_laws.specs.Arrivals.{Arrival, Arrivals, behind_first, one_lock_more, to, to_record, arrival_at, top_given, top_of}
+use Rattle.core_ways_laws.specs.RunValues.{Arrives, IsOfRecord, IsTop, RecordGoes, at_point}
+use Rattle.core_ways_laws.specs.Sites.{IsRecordOf, IsThrough, IsTouch, field_of}
 use Rattle.core_ways_laws.proofs.CalledValues.{each-method, method-goes}
 use Rattle.core_ways_laws.proofs.PassedValues.{spot_at}
 use Rattle.core_ways_laws.proofs.ReachedValues.{OnTop, goes-to, to-has}
@@ -112,7 +113,7 @@ unknown core m i r none at =
 -- where a record of a method comes from
 pub record-comes : (core : Core) → are_sites_in_order core ≡ true → (m : MethodId) (method : Method) (i : ℕ)
     (r : Access) → method_at core m ≡ Some method → record_at core m i ≡ Some r →
-    Comes (given_of core (known_of core) method.main) method.code false r
+    IsRecordOf (given_of core (known_of core) method.main) method.code false r
 record-comes core order m method i r there at =
     let f : FoundAt core m i r = found-at core m i r at in
     comes-from core m method f.found r there (each-method is_in_order core.methods m.0 method order there) f.known
@@ -120,12 +121,12 @@ record-comes core order m method i r there at =
 
 -- ---- what comes next, from what comes next in methods of smaller ranks
 
-module _ (core : Core) (calls : Calls) (f g : Tops) (site : SiteId) (below : Option ℕ) (test : MethodId → Bool)
+module _ (core : Core) (calls : Calls) (f g : Arrivals) (site : SiteId) (below : Option ℕ) (test : MethodId → Bool)
     (same : (m : MethodId) → test m ≡ true → f m ≡ g m) where
   op-same : (o : Option ℕ) (op : CoreOp) → list_all test (called_by op ++ []) ≡ true →
-      ◌≡◌ {A = Point → Option Top} (λ at. top_at core f o op at) (λ at. top_at core g o op at)
+      ◌≡◌ {A = Point → Option Arrival} (λ at. arrival_at core f o op at) (λ at. arrival_at core g o op at)
   op-same None op all = refl
-  op-same (Some j) (Call m n) all = (λ i at. elim (method_at core m) as (λ _. Option Top) [
+  op-same (Some j) (Call m n) all = (λ i at. elim (method_at core m) as (λ _. Option Arrival) [
     | None ↦ None
     | Some method ↦
         received method (values_passed at n)
@@ -134,35 +135,35 @@ module _ (core : Core) (calls : Calls) (f g : Tops) (site : SiteId) (below : Opt
   op-same (Some j) op all = refl
 
   to-same : (code : Tree) → do_pass test (steps_of code) ≡ true →
-      ◌≡◌ {A = Point → Option Top} (λ at. to core calls f site below code at)
+      ◌≡◌ {A = Point → Option Arrival} (λ at. to core calls f site below code at)
       (λ at. to core calls g site below code at)
-  to-same (Operate s place op) all = op-same below op all
-  to-same Nothing all = refl
-  to-same (Then first rest) all =
+  to-same (tree.Op s place op) all = op-same below op all
+  to-same tree.Skip all = refl
+  to-same (tree.Seq first rest) all =
       let both = pass-both test (steps_of first) (steps_of rest) all in
       let early = to-same first (first_part (do_pass test (steps_of first)) (do_pass test (steps_of rest)) both) in
       let late = to-same rest (last_part (do_pass test (steps_of first)) (do_pass test (steps_of rest)) both) in
-      (λ i at. cond (has_site first site) (early i at) (behind_first (go core calls first at) (late i)))
-  to-same (Either left right) all =
+      (λ i at. cond (has_site first site) (early i at) (behind_first (evaluate core calls first at) (late i)))
+  to-same (tree.Choice left right) all =
       let both = pass-both test (steps_of left) (steps_of right) all in
       let l = to-same left (first_part (do_pass test (steps_of left)) (do_pass test (steps_of right)) both) in
       let r = to-same right (last_part (do_pass test (steps_of left)) (do_pass test (steps_of right)) both) in
       (λ i at. cond (has_site left site) (l i at) (r i at))
-  to-same (Again body) all = to-same body all
-  to-same (Held place body) all =
+  to-same (tree.Loop body) all = to-same body all
+  to-same (tree.Sync place body) all =
       let inside = to-same body all in
       (λ i at. on_ok (monitor_of (top_value at)) (option_map one_lock_more (inside i (point_popped at 1))))
 
-abbrev inner_tops : Core → MethodId → Tops
+abbrev inner_tops : Core → MethodId → Arrivals
 inner_tops core m = known_below (λ i values store. None) (top_given core) core (rank_of core m)
 
 -- what comes next on the way to a record is what comes next there on the way to the record's site
 pub top_of-code : (core : Core) → has_ranks core ≡ true → (m : MethodId) (method : Method) (i : ℕ) (r : Access) →
     method_at core m ≡ Some method → is_analysed core m ≡ true → record_at core m i ≡ Some r →
-    ◌≡◌ {A = List Value → Store → Option Top} (top_of core m i)
+    ◌≡◌ {A = List Value → Store → Option Arrival} (top_of core m i)
     (λ values store. to core (call_of core) (top_of core) r.site r.below method.code (entry_point method values store))
 top_of-code core ranks m method i r there analysed at =
-    (λ k values store. elim (there k) as (λ _. Option Top) [
+    (λ k values store. elim (there k) as (λ _. Option Arrival) [
       | None ↦ None
       | Some x ↦ to_record core (inner_tops core m) (at k) x values store
     ])
@@ -196,7 +197,7 @@ parts-at core m i code r o is at there =
 
 module _ (core : Core) (n : MethodId) (j : ℕ) (inner : Access) (has : record_at core n j ≡ Some inner)
     (goes : RecordGoes core n j) where
-  on-receiver : (r : Result Object Why) (top : Option Top) (locks : List Holder) (rest : List Turn)
+  on-receiver : (r : Result Object Why) (top : Option Arrival) (locks : List Holder) (rest : List Turn)
       (f : After → Alone) (next : Next After) → ComesTo (IsTop top locks) rest (onward f next) →
       ComesTo (IsTop (on_ok r top) locks) rest (onward f (on_base r (λ o. next)))
   on-receiver (Ok o) top locks rest f next comes = comes
@@ -205,7 +206,7 @@ module _ (core : Core) (n : MethodId) (j : ℕ) (inner : Access) (has : record_a
   enters : (count : ℕ) (at : Point) (todo : List Todo) (locked : ℕ) (callers : List Frame) (locks : List Holder)
       (rest : List Turn) (o : Option Method) → method_at core n ≡ o →
       let way = way_of core n j in
-      ComesTo (IsTop (elim o as (λ _. Option Top) [
+      ComesTo (IsTop (elim o as (λ _. Option Arrival) [
         | None ↦ None
         | Some method ↦
             received method (values_passed at count) (top_of core n j (values_passed at count) at.store)
@@ -220,7 +221,7 @@ module _ (core : Core) (n : MethodId) (j : ℕ) (inner : Access) (has : record_a
       let way = way_of core n j in
       let s : Spot = spot_at at todo locked callers locks in
       let back : Frame = record { vars = at.vars; stack = drop count at.stack; todo = todo; locked = locked } in
-      let top : Option Top = top_of core n j (values_passed at count) at.store in
+      let top : Option Arrival = top_of core n j (values_passed at count) at.store in
       let f : After → Alone = λ a. alone core way.steps (way.turns ++ rest) a in
       let comes = goes method inner is has (values_passed at count) at.store (back ∷ callers) locks rest in
       elim method.is_static as (λ b. ComesTo (IsTop
@@ -235,16 +236,16 @@ module _ (core : Core) (n : MethodId) (j : ℕ) (inner : Access) (has : record_a
 
   arrives-through : (count : ℕ) →
       Arrives core (trip_of core) (way_parts core) (Some j) (Call n count)
-      (top_at core (top_of core) (Some j) (Call n count))
+      (arrival_at core (top_of core) (Some j) (Call n count))
   arrives-through count place locked at todo callers locks =
       let way = way_of core n j in
       one-more core way.turns way.steps (1 + way.steps)
-      (at_point at (DoOp place (Call n count) ∷ todo) locked callers locks)
-      (IsTop (top_at core (top_of core) (Some j) (Call n count) at) locks) (omega arith)
+      (at_point at (Op place (Call n count) ∷ todo) locked callers locks)
+      (IsTop (arrival_at core (top_of core) (Some j) (Call n count) at) locks) (omega arith)
       (λ rest. enters count at todo locked callers locks rest (method_at core n) refl)
 
 arrives-here : (core : Core) (op : CoreOp) →
-    Arrives core (trip_of core) (way_parts core) None op (top_at core (top_of core) None op)
+    Arrives core (trip_of core) (way_parts core) None op (arrival_at core (top_of core) None op)
 arrives-here core op place locked at todo callers locks = λ rest. (
   refl,
   record { place = place; todo = todo; locked = locked; callers = callers; monitors = []; count = refl; is = refl },
@@ -258,7 +259,7 @@ pub record AreInOrder (core : Core) : Type 0 where
   pub order : are_sites_in_order core ≡ true
 
 abbrev Reach : Core → Option ℕ → CoreOp → Type 0
-Reach core below op = Arrives core (trip_of core) (way_parts core) below op (top_at core (top_of core) below op)
+Reach core below op = Arrives core (trip_of core) (way_parts core) below op (arrival_at core (top_of core) below op)
 
 same-entered : (core : Core) (m n : MethodId) (j : ℕ) → rank_of core n < rank_of core m →
     inner_ways core m n j ≡ way_parts core n j
@@ -268,7 +269,7 @@ same-entered core m n j low =
 
 -- what a record needs of the record that it comes from
 pub record Reaches (core : Core) (m : MethodId) (below : Option ℕ) (op : CoreOp) : Type 0 where
-  pub arrives : Arrives core (trip_of core) (way_parts core) below op (top_at core (top_of core) below op)
+  pub arrives : Arrives core (trip_of core) (way_parts core) below op (arrival_at core (top_of core) below op)
   pub same : entered (inner_ways core m) below op ≡ entered (way_parts core) below op
 
 reaches-here : (core : Core) (m : MethodId) (below : Option ℕ) (op : CoreOp) → below ≡ None → Reaches core m below op
@@ -304,8 +305,8 @@ module _ (core : Core) (facts : AreInOrder core) where
       ∙ ap (λ (ps : List WayPart). reached 0 r.site method.code ++ ps) reaches.same in
       let p : Point = entry_point method values store in
       let a : After = at_point p (before method.code []) 0 callers locks in
-      subst (λ (top : Option Top). Leads core (way_of core m i) a (IsTop top locks))
-      (sym (ap (λ (t : List Value → Store → Option Top). t values store)
+      subst (λ (top : Option Arrival). Leads core (way_of core m i) a (IsTop top locks))
+      (sym (ap (λ (t : List Value → Store → Option Arrival). t values store)
       (top_of-code core facts.right.ranks m method i r there analysed at)))
       (subst (λ (ps : List WayPart). Leads core (trip_along (trip_of core) ps) a
       (IsTop (to core (call_of core) (top_of core) r.site r.below method.code p) locks)) (sym parts)
@@ -320,8 +321,8 @@ module _ (core : Core) (facts : AreInOrder core) where
       let f : FoundAt core m i r = found-at core m i r at in
       let analysed : is_analysed core m ≡ true = known-analysed core m method (Whole f.found) there f.known in
       let code : code_at core m ≡ Some method.code = code-there core m method there analysed in
-      let g : Given = given_of core (known_of core) method.main in
-      let c : Comes g method.code false r = record-comes core facts.order m method i r there at in
+      let g : FlowContext = given_of core (known_of core) method.main in
+      let c : IsRecordOf g method.code false r = record-comes core facts.order m method i r there at in
       let flag : Bool = false || nat_lt 0 (locks_round r.site method.code) in
       by-site m method i r there at c.operation c.at c.ends
       (⊎_elim
@@ -337,7 +338,7 @@ module _ (core : Core) (facts : AreInOrder core) where
 -- ---- what comes next is the record's access, within as many locks as its flag says
 
 -- a flag that counts these locks, and an operation that touches this
-abbrev IsSo : Bool → Touch → Option FieldId → ℕ → Top → Type 0
+abbrev IsSo : Bool → Touch → Option FieldId → ℕ → Arrival → Type 0
 IsSo flag kind field n top =
     (nat_lt 0 top.locks ≡ (flag || nat_lt 0 n)) × (touch_of top.op ≡ Some kind) × (field_of top.op ≡ field)
 
@@ -349,7 +350,8 @@ or-false : (b : Bool) → b ≡ (b || false)
 or-false true = refl
 or-false false = refl
 
-one-deeper : (flag : Bool) (kind : Touch) (field : Option FieldId) (n : ℕ) (top : Top) → IsSo flag kind field n top →
+one-deeper : (flag : Bool) (kind : Touch) (field : Option FieldId) (n : ℕ) (top : Arrival) →
+    IsSo flag kind field n top →
     IsSo flag kind field (suc n) (one_lock_more top)
 one-deeper flag kind field n top so = (
   lt-ltb 0 (suc top.locks) (omega arith)
@@ -359,7 +361,7 @@ one-deeper flag kind field n top so = (
 )
 
 -- what is received has it
-received-so : (P : Top → Type 0) (method : Method) (values : List Value) (o : Option Top) → OnTop P o →
+received-so : (P : Arrival → Type 0) (method : Method) (values : List Value) (o : Option Arrival) → OnTop P o →
     OnTop P (received method values o)
 received-so P method values o has =
     elim method.is_static as (λ b. OnTop P (cond b o (on_ok (base_of (slice_index_or values 0 Null)) o))) [
@@ -368,9 +370,9 @@ received-so P method values o has =
           elim (base_of (slice_index_or values 0 Null)) as (λ r. OnTop P (on_ok r o)) [ Ok x ↦ has | Err e ↦ tt ]
     ]
 
-entered-so : (core : Core) (P : Top → Type 0) (n : MethodId) (j : ℕ) (values : List Value) (store : Store)
+entered-so : (core : Core) (P : Arrival → Type 0) (n : MethodId) (j : ℕ) (values : List Value) (store : Store)
     (o : Option Method) → OnTop P (top_of core n j values store) →
-    OnTop P (elim o as (λ _. Option Top) [
+    OnTop P (elim o as (λ _. Option Arrival) [
       | None ↦ None
       | Some method ↦ received method values (top_of core n j values store)
     ])
@@ -378,14 +380,14 @@ entered-so core P n j values store None has = tt
 entered-so core P n j values store (Some method) has =
     received-so P method values (top_of core n j values store) has
 
-map-on : (P Q : Top → Type 0) (o : Option Top) → ((top : Top) → P top → Q top) → OnTop P o → OnTop Q o
+map-on : (P Q : Arrival → Type 0) (o : Option Arrival) → ((top : Arrival) → P top → Q top) → OnTop P o → OnTop Q o
 map-on P Q None f has = has
 map-on P Q (Some top) f has = f top has
 
 -- from what the operation at the site leads to
 abbrev Leading : Core → Bool → Touch → Option FieldId → Option ℕ → CoreOp → Type 0
 Leading core flag kind field below op =
-    (at : Point) → OnTop (IsSo flag kind field 0) (top_at core (top_of core) below op at)
+    (at : Point) → OnTop (IsSo flag kind field 0) (arrival_at core (top_of core) below op at)
 
 leads-here : (core : Core) (kind : Touch) (field : Option FieldId) (below : Option ℕ) (op : CoreOp) → below ≡ None →
     touch_of op ≡ Some kind → field_of op ≡ field → Leading core false kind field below op
@@ -417,8 +419,8 @@ module _ (core : Core) (facts : AreInOrder core) where
       let analysed : is_analysed core m ≡ true = known-analysed core m method (Whole f.found) there f.known in
       let field : Option FieldId = last_of r.path.fields in
       let n : ℕ = locks_round r.site method.code in
-      subst (λ (top : Option Top). OnTop (IsOfRecord r) top)
-      (sym (ap (λ (t : List Value → Store → Option Top). t values store)
+      subst (λ (top : Option Arrival). OnTop (IsOfRecord r) top)
+      (sym (ap (λ (t : List Value → Store → Option Arrival). t values store)
       (top_of-code core facts.right.ranks m method i r there analysed at)))
       (map-on (IsSo flag r.kind field n) (IsOfRecord r)
       (to core (call_of core) (top_of core) r.site r.below method.code (entry_point method values store))
@@ -442,8 +444,8 @@ module _ (core : Core) (facts : AreInOrder core) where
       let f : FoundAt core m i r = found-at core m i r at in
       let analysed : is_analysed core m ≡ true = known-analysed core m method (Whole f.found) there f.known in
       let code : code_at core m ≡ Some method.code = code-there core m method there analysed in
-      let g : Given = given_of core (known_of core) method.main in
-      let c : Comes g method.code false r = record-comes core facts.order m method i r there at in
+      let g : FlowContext = given_of core (known_of core) method.main in
+      let c : IsRecordOf g method.code false r = record-comes core facts.order m method i r there at in
       let n : ℕ = locks_round r.site method.code in
       ⊎_elim
       (λ (own : IsTouch c.operation.op (false || nat_lt 0 n) r).

@@ -20,7 +20,7 @@ use Rattle.owner_domain.specs.Values.{along}
 use Rattle.access_domain.specs.declared.access.Access.{Access}
 use Rattle.access_domain.specs.Findings.{Findings, Known, Large, Table, Whole, outcome_from}
 use Rattle.access_domain.specs.Flow.{both, after, rounds, flow}
-use Rattle.access_domain.specs.Given.{Given, given_of}
+use Rattle.access_domain.specs.Given.{FlowContext, given_of}
 use Rattle.access_domain.specs.Operations.{Effects, record_of, passed_from, slot_of, top, popped, call_effects}
 use Rattle.access_domain.specs.Operations.{op_effects}
 use Rattle.access_domain.specs.Records.{first_of_keys, same_key}
@@ -33,7 +33,7 @@ use Rattle.core_code.specs.declared.code.Op.TheVariants.{Push, PushClass, PushPr
 use Rattle.core_code.specs.declared.code.Op.TheVariants.{Set, Prim, Outside, Call, Unread, Ret}
 use Rattle.core_code.specs.Calls.{known_below, method_at, rank_of}
 use Rattle.core_code.specs.Core.{Core, Method}
-use Rattle.core_code.specs.Tree.{Tree, Step, Nothing, Then, Either, Again, Held}
+use Rattle.core_code.specs.Tree.{Tree, Op, Skip, Seq, Choice, Loop, Sync}
 use Rattle.core_code.proofs.Membership.{In, in_append, in_flat_map}
 use Rattle.core_ways.specs.Ways.{record_at, records_held}
 use Rattle.core_ways_laws.specs.Longer.{longer}
@@ -48,21 +48,21 @@ abbrev AreShort : Option Known → Type 0
 AreShort o = (found : Findings) → o ≡ Some (Whole found) → (a : Access) → In found.records a → IsShort a.path
 
 -- those of the methods that a flow is given
-abbrev DoesKnow : Given → Type 0
+abbrev DoesKnow : FlowContext → Type 0
 DoesKnow g = (m : MethodId) → AreShort (g.known_of m)
 
 -- ---- one access
 
-abbrev touched_with : Given → FieldId → Option Path → Option Path
+abbrev touched_with : FlowContext → FieldId → Option Path → Option Path
 touched_with g f o = elim o as (λ _. Option Path) [ None ↦ Some (some_path (g.class_of f) f) | Some q ↦ Some q ]
 
-some-short : (g : Given) (f : FieldId) (p : Path) → Some (some_path (g.class_of f) f) ≡ Some p → IsShort p
+some-short : (g : FlowContext) (f : FieldId) (p : Path) → Some (some_path (g.class_of f) f) ≡ Some p → IsShort p
 some-short g f p e =
     let same : some_path (g.class_of f) f ≡ p = cc in
     let one : length (some_path (g.class_of f) f).fields ≤ MAX_PATH_FIELDS = omega arith in
     subst IsShort same (record { limit = one })
 
-touched-short : (g : Given) (v : Value) (f : FieldId) (p : Path) → touched g v f ≡ Some p → IsShort p
+touched-short : (g : FlowContext) (v : Value) (f : FieldId) (p : Path) → touched g v f ≡ Some p → IsShort p
 touched-short g Owned f p e = absurd cc
 touched-short g Unnamed f p e = some-short g f p e
 touched-short g (Named base) f p e =
@@ -78,7 +78,7 @@ touched-short g (Named base) f p e =
           record { limit = omega arith }
     ] refl e
 
-substituted-last : (g : Given) (actuals : Actuals) (p q : Path) (o : Option FieldId) →
+substituted-last : (g : FlowContext) (actuals : Actuals) (p q : Path) (o : Option FieldId) →
     (elim o as (λ _. Option Path) [
       | None ↦ None
       | Some f ↦ touched g (along (root_value actuals p.root) (front_of p.fields)) f
@@ -87,7 +87,8 @@ substituted-last g actuals p q None e = absurd cc
 substituted-last g actuals p q (Some f) e =
     touched-short g (along (root_value actuals p.root) (front_of p.fields)) f q e
 
-substituted-short : (g : Given) (actuals : Actuals) (p q : Path) → IsShort p → substituted_path g actuals p ≡ Some q →
+substituted-short : (g : FlowContext) (actuals : Actuals) (p q : Path) → IsShort p →
+    substituted_path g actuals p ≡ Some q →
     IsShort q
 substituted-short g actuals p q short e =
     elim (is_some_root p.root) as (λ b. is_some_root p.root ≡ b → cond b (Some p) (elim (last_of p.fields) as (λ _.
@@ -101,14 +102,14 @@ substituted-short g actuals p q short e =
 
 -- ---- operations
 
-abbrev records_with : Given → Touch → Bool → SiteId → Option Path → List Access
+abbrev records_with : FlowContext → Touch → Bool → SiteId → Option Path → List Access
 records_with g kind locked site o =
     elim o as (λ _. List Access) [
       | None ↦ []
       | Some p ↦ record { path = p; kind = kind; locked = locked; main = g.main; site = site; below = None } ∷ []
     ]
 
-with-short : (g : Given) (kind : Touch) (locked : Bool) (site : SiteId) (v : Value) (f : FieldId) (a : Access)
+with-short : (g : FlowContext) (kind : Touch) (locked : Bool) (site : SiteId) (v : Value) (f : FieldId) (a : Access)
     (o : Option Path) → touched g v f ≡ o → In (records_with g kind locked site o) a → IsShort a.path
 with-short g kind locked site v f a None e there = absurd there
 with-short g kind locked site v f a (Some p) e there =
@@ -116,7 +117,7 @@ with-short g kind locked site v f a (Some p) e there =
     (λ same. subst (λ (r : Access). IsShort r.path) same (touched-short g v f p e))
     (λ r. absurd r) there
 
-made-short : (g : Given) (kind : Touch) (locked : Bool) (site : SiteId) (v : Value) (f : FieldId) (a : Access) →
+made-short : (g : FlowContext) (kind : Touch) (locked : Bool) (site : SiteId) (v : Value) (f : FieldId) (a : Access) →
     In (record_of g kind locked site v f) a → IsShort a.path
 made-short g kind locked site v f a h =
     elim (g.is_recorded f) as (λ b. In (cond b (records_with g kind locked site (touched g v f)) []) a →
@@ -125,7 +126,7 @@ made-short g kind locked site v f a h =
       | false ↦ λ there. absurd there
     ] h
 
-brought-short : (g : Given) (actuals : Actuals) (locked : Bool) (site : SiteId) (e : ℕ × Access) (a : Access) →
+brought-short : (g : FlowContext) (actuals : Actuals) (locked : Bool) (site : SiteId) (e : ℕ × Access) (a : Access) →
     IsShort e.1.path → In (substituted_record g actuals locked site e) a → IsShort a.path
 brought-short g actuals locked site e a short h =
     elim (substituted_path g actuals e.1.path) as (λ o. substituted_path g actuals e.1.path ≡ o →
@@ -153,7 +154,7 @@ in_numbered k [] e h = absurd h
 in_numbered {X} k (x ∷ xs) e h =
     ⊎_elim (λ same. inl (ap (λ (y : ℕ × X). y.1) same)) (λ r. inr (in_numbered (k + 1) xs e r)) h
 
-found-short : (g : Given) (actuals : Actuals) (found : Findings) (locked : Bool) (site : SiteId) (a : Access) →
+found-short : (g : FlowContext) (actuals : Actuals) (found : Findings) (locked : Bool) (site : SiteId) (a : Access) →
     ((x : Access) → In found.records x → IsShort x.path) →
     In (substituted g actuals found locked site).records a → IsShort a.path
 found-short g actuals found locked site a short h =
@@ -162,14 +163,14 @@ found-short g actuals found locked site a short h =
     (firsts_give same_key all a h) in
     brought-short g actuals locked site one.0 a (short one.0.1 (in_numbered 0 found.records one.0 one.1)) one.2
 
-called-short : (g : Given) (locked : Bool) (site : SiteId) (m : MethodId) (n : ℕ) (s : State) (a : Access)
+called-short : (g : FlowContext) (locked : Bool) (site : SiteId) (m : MethodId) (n : ℕ) (s : State) (a : Access)
     (o : Option Known) → AreShort o → In (call_effects g locked site m n s o).records a → IsShort a.path
 called-short g locked site m n s a None short h = absurd h
 called-short g locked site m n s a (Some Large) short h = absurd h
 called-short g locked site m n s a (Some (Whole found)) short h =
     found-short g (actuals_from (g.is_static m) (passed_from s n)) found locked site a (short found refl) h
 
-op-short : (g : Given) → DoesKnow g → (locked : Bool) (site : SiteId) (op : CoreOp) (s : State) (a : Access) →
+op-short : (g : FlowContext) → DoesKnow g → (locked : Bool) (site : SiteId) (op : CoreOp) (s : State) (a : Access) →
     In (op_effects g locked site op s).records a → IsShort a.path
 op-short g known locked site (Get f) s a h = made-short g Read locked site (top s) f a h
 op-short g known locked site (Put f) s a h = made-short g Write locked site (slot_of s 1) f a h
@@ -199,19 +200,19 @@ after-short first rest a one two h =
       | Some s ↦ λ there. ⊎_elim one (two s) (in_append first.records (rest s).records a there)
     ] h
 
-flow-short : (g : Given) → DoesKnow g → (code : Tree) (locked : Bool) (s : State) (a : Access) →
+flow-short : (g : FlowContext) → DoesKnow g → (code : Tree) (locked : Bool) (s : State) (a : Access) →
     In (flow g code locked s).records a → IsShort a.path
-flow-short g known (Step site place op) locked s a h = op-short g known locked site op s a h
-flow-short g known Nothing locked s a h = absurd h
-flow-short g known (Then first rest) locked s a h =
+flow-short g known (Op site place op) locked s a h = op-short g known locked site op s a h
+flow-short g known Skip locked s a h = absurd h
+flow-short g known (Seq first rest) locked s a h =
     after-short (flow g first locked s) (flow g rest locked) a (flow-short g known first locked s a)
     (λ t. flow-short g known rest locked t a) h
-flow-short g known (Either left right) locked s a h =
+flow-short g known (Choice left right) locked s a h =
     ⊎_elim (flow-short g known left locked s a) (flow-short g known right locked s a)
     (in_append (flow g left locked s).records (flow g right locked s).records a h)
-flow-short g known (Again body) locked s a h =
+flow-short g known (Loop body) locked s a h =
     flow-short g known body locked (rounds (flow g body locked) (length s.vars + length s.stack + 1) s).0 a h
-flow-short g known (Held place body) locked s a h = flow-short g known body true (popped s 1) a h
+flow-short g known (Sync place body) locked s a h = flow-short g known body true (popped s 1) a h
 
 -- ---- methods, by rank
 
@@ -225,7 +226,7 @@ given-short : (core : Core) (table : Table) → ((m : MethodId) → AreShort (ta
 given-short core table short None found is a h = absurd cc
 given-short core table short (Some method) found is a h =
     let e : Effects = effects_given core table method in
-    let g : Given = given_of core table method.main in
+    let g : FlowContext = given_of core table method.main in
     elim (is_none method.status) as (λ b. cond b (Some (known_from e)) None ≡ Some (Whole found) → IsShort a.path) [
       | true ↦ λ k.
           elim (is_large e) as (λ l. Some (cond l Large (Whole (findings_from e))) ≡ Some (Whole found) →

@@ -6,7 +6,7 @@ use Rattle.std.specs.List.{find}
 use borrow.Author.Tests.{eqb-true}
 use Rattle.racer_base.specs.declared.ids.SiteId.{SiteId}
 use Rattle.core_code.specs.Facts.{counts_from, sites_of}
-use Rattle.core_code.specs.Tree.{Tree, Then, Operation, op_at, steps_of}
+use Rattle.core_code.specs.Tree.{Tree, Seq, Operation, op_at, steps_of}
 use Rattle.core_code.proofs.BoolParts.{first_part, last_part}
 use Rattle.core_code.proofs.Sites.{counts_from-append, sites_of-then}
 use Rattle.core_ways.specs.Ways.{has_site}
@@ -36,19 +36,19 @@ length-sites : (ops : List Operation) → length (map (λ (x : Operation). x.sit
 length-sites [] = refl
 length-sites (x ∷ ops) = ap suc (length-sites ops)
 
-pub counts-first : (n : ℕ) (a b : Tree) → counts_from n (sites_of (Then a b)) ≡ true → counts_from n (sites_of a) ≡ true
+pub counts-first : (n : ℕ) (a b : Tree) → counts_from n (sites_of (Seq a b)) ≡ true → counts_from n (sites_of a) ≡ true
 counts-first n a b counts =
     first_part (counts_from n (sites_of a)) (counts_from (n + length (sites_of a)) (sites_of b))
     (sym (ap (counts_from n) (sites_of-then a b) ∙ counts_from-append n (sites_of a) (sites_of b)) ∙ counts)
 
-pub counts-second : (n : ℕ) (a b : Tree) → counts_from n (sites_of (Then a b)) ≡ true →
+pub counts-second : (n : ℕ) (a b : Tree) → counts_from n (sites_of (Seq a b)) ≡ true →
     counts_from (n + length (sites_of a)) (sites_of b) ≡ true
 counts-second n a b counts =
     last_part (counts_from n (sites_of a)) (counts_from (n + length (sites_of a)) (sites_of b))
     (sym (ap (counts_from n) (sites_of-then a b) ∙ counts_from-append n (sites_of a) (sites_of b)) ∙ counts)
 
 -- of two parts whose sites count up, the first lacks the sites of the second
-pub first-lacks : (n : ℕ) (a b : Tree) (site : SiteId) (o : Operation) → counts_from n (sites_of (Then a b)) ≡ true →
+pub first-lacks : (n : ℕ) (a b : Tree) (site : SiteId) (o : Operation) → counts_from n (sites_of (Seq a b)) ≡ true →
     op_at b site ≡ Some o → has_site a site ≡ false
 first-lacks n a b site o counts is =
     let first = counts-first n a b counts in

@@ -11,11 +11,11 @@ use Rattle.owner_domain.specs.declared.value.Value.TheVariants.{Named}
 use Rattle.access_domain.specs.declared.access.Access.{Access}
 use Rattle.core_code.specs.Core.{Core}
 use Rattle.core_ways.specs.Stable.{IsStable, is_lasting_root}
-use Rattle.core_ways_laws.specs.Tops.{Top}
+use Rattle.core_ways_laws.specs.Arrivals.{Arrival}
 use Rattle.core_ways_laws.specs.Meets.{DoesMeet, base_path, base_value}
 use Rattle.core_ways_laws.specs.Names.{entry_naming, name_of}
 use Rattle.core_ways_laws.specs.Places.{start_object}
-use Rattle.core_ways_laws.specs.Quiets.{quietness_of}
+use Rattle.core_ways_laws.specs.QuietEntries.{quietness_of}
 use Rattle.core_ways_laws.proofs.Entries.{entry-named}
 use Rattle.core_ways_laws.proofs.Stables.{split-last, stable-base}
 
@@ -29,7 +29,7 @@ lasting-known (SomeOf c) lasts = absurd cc
 pub stable-known : (core : Core) (m1 m2 : MethodId) (p : Path) → IsStable core m1 m2 p → is_some_root p.root ≡ false
 stable-known core m1 m2 p stable = lasting-known p.root stable.root
 
-pub stable-met : (core : Core) (m1 m2 : MethodId) (r : Access) (t : Top) →
+pub stable-met : (core : Core) (m1 m2 : MethodId) (r : Access) (t : Arrival) →
     DoesMeet core (quietness_of core m1 m2) entry_naming r t → IsStable core m1 m2 r.path →
     length r.path.fields ≤ MAX_PATH_FIELDS → base_value r.kind t.at ≡ start_object (base_path r.path)
 stable-met core m1 m2 r t meets stable short =

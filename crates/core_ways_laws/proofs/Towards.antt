@@ -17,11 +17,11 @@ use Rattle.core_code.specs.Core.{Core, Method}
 use Rattle.core_code.specs.Facts.{counts_from, sites_of}
 use Rattle.core_code.specs.KindCheck.{kinds_after, kinds_after_op}
 use Rattle.core_code.specs.Kinds.{StackKind}
-use Rattle.core_code.specs.Tree.{Tree, Step as Operate, Nothing, Then, Either, Again, Held, steps_of, Operation}
+use Rattle.core_code.specs.Tree.{Tree, Op, Skip, Seq, Choice, Loop, Sync, steps_of, Operation}
 use Rattle.core_code.proofs.Membership.{In, in_append}
 use Rattle.core_ways.specs.Ways.{has_site}
-use Rattle.core_ways_laws.specs.Tops.{Top, Tops, behind_first, one_lock_more, to, top_at}
-use Rattle.core_ways_laws.specs.Values.{Back, Behind, Calls, End, Point, go, on_ok, point_popped}
+use Rattle.core_ways_laws.specs.Arrivals.{Arrival, Arrivals, behind_first, one_lock_more, to, arrival_at}
+use Rattle.core_ways_laws.specs.Values.{Back, Behind, Calls, End, Point, evaluate, on_ok, point_popped}
 use Rattle.core_ways_laws.specs.Kept.{AreMet, IsKept, IsMet}
 use Rattle.core_ways_laws.specs.Names.{Naming}
 use Rattle.core_ways_laws.specs.Places.{AreHushed, IsFrame, IsStore}
@@ -37,25 +37,26 @@ use Rattle.core_ways_laws.proofs.Passing.{AreApart, AreSafe, apart, kept, looped
 use Rattle.core_ways_laws.proofs.RecordSites.{record-site, site-once, sites_first, sites_rest}
 
 -- what an operation of code needs of the methods that are called: the ways to the callee's records meet them
-abbrev pub IsLed : (core : Core) → Quietness core → Table → Tops → CoreOp → Type 0
+abbrev pub IsLed : (core : Core) → Quietness core → Table → Arrivals → CoreOp → Type 0
 IsLed core quiet table tops (Call m count) = AreMet core quiet m (table m) (tops m)
 IsLed core quiet table tops op = Unit {0}
 
-abbrev pub AreLed : (core : Core) → Quietness core → Table → Tops → Tree → Type 0
+abbrev pub AreLed : (core : Core) → Quietness core → Table → Arrivals → Tree → Type 0
 AreLed core quiet table tops code =
     (o : Operation) → In (steps_of code) o → IsLed core quiet table tops o.op
 
 -- ---- parts of code
 
 module _ (core : Core) (quiet : Quietness core) (n : Naming) (method : Method) (r : Access) where
-  abbrev Met : Option Top → Type 0
+  abbrev Met : Option Arrival → Type 0
   Met o = IsMet core quiet n r o
 
   same-state : (s t : State) → Some s ≡ Some t → s ≡ t
   same-state s t e = cc
 
   -- behind a part that keeps the invariant
-  behind-met : (between : List StackKind) (first : Effects) (s : State) (o : Option End) (more : Point → Option Top) →
+  behind-met : (between : List StackKind) (first : Effects) (s : State) (o : Option End)
+      (more : Point → Option Arrival) →
       first.next ≡ Some s → IsKept core quiet n method between first o →
       ((at : Point) → IsFrame core quiet n method between s at → IsStore core quiet at.store → Met (more at)) →
       Met (behind_first o more)
@@ -68,7 +69,7 @@ module _ (core : Core) (quiet : Quietness core) (n : Naming) (method : Method) (
   behind-met between first s (Some (Back store value)) more next kept meets = tt
 
   -- of two parts that are done in turn, a record is one of the first or, where that has a state at its end, of the rest
-  in-turn-met : (o : Option Top) (first : Effects) (rest : State → Effects) →
+  in-turn-met : (o : Option Arrival) (first : Effects) (rest : State → Effects) →
       AreHushed core quiet n (in_turn first rest).wobbly → (in_turn first rest).large ≡ false →
       In (in_turn first rest).records r →
       (AreHushed core quiet n first.wobbly → first.large ≡ false → In first.records r → Met o) →
@@ -95,7 +96,7 @@ module _ (core : Core) (quiet : Quietness core) (n : Naming) (method : Method) (
             (in_append first.records (rest s).records r there)
       ] refl hush small has
 
-  lock-met : (o : Option Top) → Met o → Met (option_map one_lock_more o)
+  lock-met : (o : Option Arrival) → Met o → Met (option_map one_lock_more o)
   lock-met None met = tt
   lock-met (Some top) met = (
     met.0,
@@ -108,17 +109,17 @@ module _ (core : Core) (quiet : Quietness core) (n : Naming) (method : Method) (
     },
   )
 
-  ok-met : {X E : Type 0} (result : Result X E) (o : Option Top) → Met o → Met (on_ok result o)
+  ok-met : {X E : Type 0} (result : Result X E) (o : Option Arrival) → Met o → Met (on_ok result o)
   ok-met (Ok x) o met = met
   ok-met (Err e) o met = tt
 
-  on-side : (b side : Bool) (one two : Option Top) → b ≡ side → Met (cond side one two) → Met (cond b one two)
+  on-side : (b side : Bool) (one two : Option Arrival) → b ≡ side → Met (cond side one two) → Met (cond b one two)
   on-side b side one two is met = subst (λ (x : Bool). Met (cond x one two)) (sym is) met
 
 -- ---- code
 
 module _ (core : Core) (quiet : Quietness core) (n : Naming) (method : Method) (table : Table) (main : Bool)
-    (calls : Calls) (tops : Tops) where
+    (calls : Calls) (tops : Arrivals) where
   abbrev effects : Tree → Bool → State → Effects
   effects code locked s = flow (given_of core table main) code locked s
 
@@ -128,7 +129,7 @@ module _ (core : Core) (quiet : Quietness core) (n : Naming) (method : Method) (
       AreHushed core quiet n (op_effects (given_of core table main) locked site op s).wobbly →
       IsFrame core quiet n method kinds s at → IsStore core quiet at.store →
       In (op_effects (given_of core table main) locked site op s).records r →
-      IsMet core quiet n r (top_at core tops r.below op at)
+      IsMet core quiet n r (arrival_at core tops r.below op at)
   step-met locked site (Call m count) kinds ends s at r right meets fits hush frame stored has =
       call-met core quiet n method table main locked tops site m count kinds ends s at r right meets fits hush frame
       stored has
@@ -141,18 +142,18 @@ module _ (core : Core) (quiet : Quietness core) (n : Naming) (method : Method) (
       kinds_after core method code kinds ≡ Some ends → AreHushed core quiet n (effects code locked s).wobbly →
       (effects code locked s).large ≡ false → IsFrame core quiet n method kinds s at → IsStore core quiet at.store →
       In (effects code locked s).records r → IsMet core quiet n r (to core calls tops r.site r.below code at)
-  towards-met (Operate site place op) right safe meets k counts locked kinds ends s at r fits hush small frame stored
+  towards-met (Op site place op) right safe meets k counts locked kinds ends s at r fits hush small frame stored
       has =
       let o : Operation = record { site = site; place = place; op = op } in
       step-met locked site op kinds ends s at r (right o (inl refl)) (meets o (inl refl)) fits hush frame stored has
-  towards-met Nothing right safe meets k counts locked kinds ends s at r fits hush small frame stored has = absurd has
-  towards-met (Then first rest) right safe meets k counts locked kinds ends s at r fits hush small frame stored has =
+  towards-met Skip right safe meets k counts locked kinds ends s at r fits hush small frame stored has = absurd has
+  towards-met (Seq first rest) right safe meets k counts locked kinds ends s at r fits hush small frame stored has =
       let parts : AreInTurn core method first rest kinds ends = then_kinds core method first rest kinds ends fits in
       let right_first : AreRight core first = λ o there. right o (in_early (steps_of first) (steps_of rest) o there) in
       let safe_first : AreSafe core quiet table calls first =
       λ o there. safe o (in_early (steps_of first) (steps_of rest) o there) in
-      let one : Option Top = to core calls tops r.site r.below first at in
-      let two : Option Top = behind_first (go core calls first at) (to core calls tops r.site r.below rest) in
+      let one : Option Arrival = to core calls tops r.site r.below first at in
+      let two : Option Arrival = behind_first (evaluate core calls first at) (to core calls tops r.site r.below rest) in
       in-turn-met core quiet n method r (cond (has_site first r.site) one two) (effects first locked s)
       (effects rest locked) hush small has
       (λ hushed few there.
@@ -164,7 +165,7 @@ module _ (core : Core) (quiet : Quietness core) (n : Naming) (method : Method) (
       (λ t is hushed few hushed_rest few_rest there.
       on-side core quiet n method r (has_site first r.site) false one two
       (site-once k first rest r.site counts (record-site (given_of core table main) rest locked t r there))
-      (behind-met core quiet n method r parts.between (effects first locked s) t (go core calls first at)
+      (behind-met core quiet n method r parts.between (effects first locked s) t (evaluate core calls first at)
       (to core calls tops r.site r.below rest) is
       (kept core quiet n method table main calls first right_first safe_first locked kinds parts.between s at
       parts.early
@@ -175,12 +176,12 @@ module _ (core : Core) (quiet : Quietness core) (n : Naming) (method : Method) (
       (λ o in_rest. meets o (in_late (steps_of first) (steps_of rest) o in_rest)) (k + length (sites_of first))
       (sites_rest k first rest counts) locked parts.between ends t behind r parts.late hushed_rest few_rest framed
       kept_store there)))
-  towards-met (Either left right) all safe meets k counts locked kinds ends s at r fits hush small frame stored has =
+  towards-met (Choice left right) all safe meets k counts locked kinds ends s at r fits hush small frame stored has =
       let parts : AreBeside core method left right kinds ends = either_kinds core method left right kinds ends fits in
       let each : AreApart core quiet n method table main calls (effects left locked s) (effects right locked s) =
       apart core quiet n method table main calls (effects left locked s) (effects right locked s) hush small in
-      let one : Option Top = to core calls tops r.site r.below left at in
-      let two : Option Top = to core calls tops r.site r.below right at in
+      let one : Option Arrival = to core calls tops r.site r.below left at in
+      let two : Option Arrival = to core calls tops r.site r.below right at in
       ⊎_elim
       (λ there.
       on-side core quiet n method r (has_site left r.site) true one two
@@ -198,16 +199,16 @@ module _ (core : Core) (quiet : Quietness core) (n : Naming) (method : Method) (
       (sites_rest k left right counts) locked kinds parts.after_right s at r parts.on_right each.right_hush
       each.right_small frame stored there))
       (in_append (effects left locked s).records (effects right locked s).records r has)
-  towards-met (Again body) right safe meets k counts locked kinds ends s at r fits hush small frame stored has =
+  towards-met (Loop body) right safe meets k counts locked kinds ends s at r fits hush small frame stored has =
       let last = rounds (effects body locked) (length s.vars + length s.stack + 1) s in
       let loop = loop-kinds core method body kinds ends fits in
       towards-met body right safe meets k counts locked kinds kinds last.0 at r loop.1
       (hush-second core quiet n last.1 (effects body locked last.0).wobbly hush) small
       (looped-frame core quiet n method table main calls body locked kinds ends s at right fits
       (hush-first core quiet n last.1 (effects body locked last.0).wobbly hush) frame) stored has
-  towards-met (Held place body) right safe meets k counts locked [] ends s at r fits hush small frame stored has =
+  towards-met (Sync place body) right safe meets k counts locked [] ends s at r fits hush small frame stored has =
       absurd cc
-  towards-met (Held place body) right safe meets k counts locked (kind ∷ kinds) ends s at r fits hush small frame stored
+  towards-met (Sync place body) right safe meets k counts locked (kind ∷ kinds) ends s at r fits hush small frame stored
       has =
       ok-met core quiet n method r _ (option_map one_lock_more (to core calls tops r.site r.below body (point_popped
       at 1)))

@@ -11,14 +11,14 @@ use Rattle.access_domain.specs.declared.access.Access.{Access}
 use Rattle.core_semantics.specs.declared.answer.Turn.{Turn}
 use Rattle.core_semantics.specs.declared.object.Value.{Value}
 use Rattle.core_semantics.specs.Legs.{Ran, runs}
-use Rattle.core_semantics.specs.State.{Frame, State, Thread, Operate, before, other_of, thread_of, with_thread}
+use Rattle.core_semantics.specs.State.{Frame, State, Thread, Op, before, other_of, thread_of, with_thread}
 use Rattle.core_semantics.specs.Steps.{After, entered}
 use Rattle.core_ways.specs.Alone.{Alone, Came, Stuck, Broken, ComesTo, IsSeen, alone, part_of}
 use Rattle.core_ways.specs.Ways.{record_at, way_of}
 use Rattle.core_ways.proofs.Beside.{beside}
 use Rattle.core_ways_laws.specs.Ends.{EndsAtAccess, IsAtAccess}
-use Rattle.core_ways_laws.specs.Led.{IsAtTop, IsOfRecord, IsTop, at_point}
-use Rattle.core_ways_laws.specs.Tops.{Top, top_of}
+use Rattle.core_ways_laws.specs.RunValues.{IsAtTop, IsOfRecord, IsTop, at_point}
+use Rattle.core_ways_laws.specs.Arrivals.{Arrival, top_of}
 use Rattle.core_ways_laws.specs.Values.{entry_point}
 use Rattle.core_ways_laws.proofs.ReachedValues.{OnTop}
 use Rattle.core_ways_laws.proofs.RecordTops.{AreInOrder, record-goes, record-so}
@@ -57,14 +57,15 @@ other-stays s t a =
     ]
 
 module _ (core : Core) (m : MethodId) (i : ℕ) (r : Access) (values : List Value) (s : State) (t : ℕ) where
-  at-top : (a : After) (top : Top) → top_of core m i values s.store ≡ Some top → IsAtTop top [] a → IsOfRecord r top →
+  at-top : (a : After) (top : Arrival) → top_of core m i values s.store ≡ Some top → IsAtTop top [] a →
+      IsOfRecord r top →
       IsAtAccess core m i r values s t (with_thread s t a.store a.thread)
   at-top a top leads at of =
       let to : State = with_thread s t a.store a.thread in
       let frame : Frame = record {
         vars = top.at.vars;
         stack = top.at.stack;
-        todo = Operate at.place top.op ∷ at.todo;
+        todo = Op at.place top.op ∷ at.todo;
         locked = at.locked;
       } in
       let thread : thread_of to t ≡ record { frames = frame ∷ at.callers; locks = at.monitors ++ [] } =
@@ -87,7 +88,7 @@ module _ (core : Core) (m : MethodId) (i : ℕ) (r : Access) (values : List Valu
         held = of.held;
       }
 
-  came-at : (a : After) (o : Option Top) → top_of core m i values s.store ≡ o → IsTop o [] a →
+  came-at : (a : After) (o : Option Arrival) → top_of core m i values s.store ≡ o → IsTop o [] a →
       OnTop (IsOfRecord r) o → IsAtAccess core m i r values s t (with_thread s t a.store a.thread)
   came-at a None leads at of = absurd at
   came-at a (Some top) leads at of = at-top a top leads at of

@@ -23,14 +23,14 @@ use Rattle.core_code.specs.declared.code.Op.TheVariants.{Set, Prim, Outside, Cal
 use Rattle.core_code.specs.Calls.{method_at, rank_of}
 use Rattle.core_code.specs.Core.{Core, Method}
 use Rattle.core_code.specs.Facts.{counts_from, sites_of}
-use Rattle.core_code.specs.Tree.{Tree, Step, Nothing, Then, Either, Again, Held, Operation, can_end, op_at, steps_of}
+use Rattle.core_code.specs.Tree.{Tree, Op, Skip, Seq, Choice, Loop, Sync, Operation, can_end, op_at, steps_of}
 use Rattle.core_code.proofs.BoolParts.{both}
 use Rattle.core_code.proofs.ByRank.{known_below-some}
 use Rattle.core_code.proofs.Membership.{In, in_append, in_enumerate_from, in_flat_map}
 use Rattle.access_domain.specs.declared.access.Access.{Access}
 use Rattle.access_domain.specs.Findings.{Findings, Known, Large, Table, Whole}
 use Rattle.access_domain.specs.Flow.{after, both as both_effects, flow, joined_next, rounds}
-use Rattle.access_domain.specs.Given.{Given, given_of}
+use Rattle.access_domain.specs.Given.{FlowContext, given_of}
 use Rattle.access_domain.specs.Operations.{Effects, call_effects, op_effects, passed_from, popped, record_of, slot_of}
 use Rattle.access_domain.specs.Operations.{top}
 use Rattle.access_domain.specs.Origins.{touch_of}
@@ -41,7 +41,7 @@ use Rattle.access_domain.specs.Summaries.{effects_given, findings_from, is_large
 use Rattle.access_domain.specs.Summaries.{known_of_callees, start_of}
 use Rattle.core_ways.specs.Alone.{do_end_before, locks_round}
 use Rattle.core_ways.specs.Ways.{has_site}
-use Rattle.core_ways_laws.specs.Sites.{Comes, ComesBy, IsThrough, IsTouch, field_of}
+use Rattle.core_ways_laws.specs.Sites.{IsRecordOf, IsRecordBy, IsThrough, IsTouch, field_of}
 use Rattle.core_ways_laws.proofs.LastFields.{substituted-last, touched-last}
 use Rattle.core_ways_laws.proofs.SiteOrder.{counts-first, counts-second, first-lacks}
 
@@ -55,16 +55,17 @@ or-left : (a b : Bool) → a ≡ true → (a || b) ≡ true
 or-left true b e = refl
 or-left false b e = absurd cc
 
-op-goes-on : (g : Given) (locked : Bool) (site : SiteId) (place : Place) (op : CoreOp) (s t : State) →
-    (op_effects g locked site op s).next ≡ Some t → can_end (Step site place op) ≡ true
+op-goes-on : (g : FlowContext) (locked : Bool) (site : SiteId) (place : Place) (op : CoreOp) (s t : State) →
+    (op_effects g locked site op s).next ≡ Some t → can_end (Op site place op) ≡ true
 op-goes-on g locked site place Ret s t e = absurd cc
 op-goes-on g locked site place op s t e = refl
 
-pub goes-on-ends : (g : Given) (code : Tree) (locked : Bool) (s t : State) → (flow g code locked s).next ≡ Some t →
+pub goes-on-ends : (g : FlowContext) (code : Tree) (locked : Bool) (s t : State) →
+    (flow g code locked s).next ≡ Some t →
     can_end code ≡ true
-goes-on-ends g (Step site place op) locked s t e = op-goes-on g locked site place op s t e
-goes-on-ends g Nothing locked s t e = refl
-goes-on-ends g (Then first rest) locked s t e =
+goes-on-ends g (Op site place op) locked s t e = op-goes-on g locked site place op s t e
+goes-on-ends g Skip locked s t e = refl
+goes-on-ends g (Seq first rest) locked s t e =
     let f : Effects = flow g first locked s in
     elim f.next as (λ o. f.next ≡ o →
     (elim o as (λ _. Effects) [ None ↦ f | Some u ↦ both_effects f (flow g rest locked u) ]).next ≡ Some t →
@@ -73,15 +74,15 @@ goes-on-ends g (Then first rest) locked s t e =
       | Some u ↦ λ is k.
           both (can_end first) (can_end rest) (goes-on-ends g first locked s u is) (goes-on-ends g rest locked u t k)
     ] refl e
-goes-on-ends g (Either left right) locked s t e =
+goes-on-ends g (Choice left right) locked s t e =
     let l = (flow g left locked s).next in
     let r = (flow g right locked s).next in
     elim l as (λ o. l ≡ o → joined_next o r ≡ Some t → (can_end left || can_end right) ≡ true) [
       | None ↦ λ is k. or-right (can_end left) (can_end right) (goes-on-ends g right locked s t k)
       | Some u ↦ λ is k. or-left (can_end left) (can_end right) (goes-on-ends g left locked s u is)
     ] refl e
-goes-on-ends g (Again body) locked s t e = refl
-goes-on-ends g (Held place body) locked s t e = goes-on-ends g body true (popped s 1) t e
+goes-on-ends g (Loop body) locked s t e = refl
+goes-on-ends g (Sync place body) locked s t e = goes-on-ends g body true (popped s 1) t e
 
 -- ---- the records of an operation
 
@@ -99,11 +100,11 @@ in_firsts same (x ∷ xs) y h =
     ⊎_elim (λ e. inl e) (λ r. inr (in_firsts same xs y (in_filter (λ z. not (same x z)) (firsts same xs) y r))) h
 
 -- the record stands at this site and comes so
-record StandsAt (g : Given) (site : SiteId) (op : CoreOp) (locked : Bool) (a : Access) : Type 0 where
+record StandsAt (g : FlowContext) (site : SiteId) (op : CoreOp) (locked : Bool) (a : Access) : Type 0 where
   site_is : site ≡ a.site
-  from : ComesBy g op locked a
+  from : IsRecordBy g op locked a
 
-touch-made : (g : Given) (kind : Touch) (locked : Bool) (site : SiteId) (op : CoreOp) (base : Value) (f : FieldId)
+touch-made : (g : FlowContext) (kind : Touch) (locked : Bool) (site : SiteId) (op : CoreOp) (base : Value) (f : FieldId)
     (o : Option Path) (a : Access) → touch_of op ≡ Some kind → field_of op ≡ Some f → touched g base f ≡ o →
     In (elim o as (λ _. List Access) [
       | None ↦ []
@@ -123,7 +124,8 @@ touch-made g kind locked site op base f (Some p) a touches field is h =
     })
     (λ r. absurd r) h
 
-touch-record : (g : Given) (kind : Touch) (locked : Bool) (site : SiteId) (op : CoreOp) (base : Value) (f : FieldId)
+touch-record : (g : FlowContext) (kind : Touch) (locked : Bool) (site : SiteId) (op : CoreOp) (base : Value)
+    (f : FieldId)
     (a : Access) → touch_of op ≡ Some kind → field_of op ≡ Some f → In (record_of g kind locked site base f) a →
     StandsAt g site op locked a
 touch-record g kind locked site op base f a touches field h =
@@ -137,7 +139,8 @@ touch-record g kind locked site op base f a touches field h =
 
 -- ---- the records of a callee
 
-record Brought (g : Given) (actuals : Actuals) (locked : Bool) (there : SiteId) (e : ℕ × Access) (a : Access) : Type 0
+record Brought (g : FlowContext) (actuals : Actuals) (locked : Bool) (there : SiteId) (e : ℕ × Access)
+    (a : Access) : Type 0
   where
     site : there ≡ a.site
     kind : a.kind ≡ e.1.kind
@@ -145,7 +148,7 @@ record Brought (g : Given) (actuals : Actuals) (locked : Bool) (there : SiteId) 
     field : last_of a.path.fields ≡ last_of e.1.path.fields
     held : a.locked ≡ (e.1.locked || locked)
 
-brought : (g : Given) (actuals : Actuals) (locked : Bool) (site : SiteId) (e : ℕ × Access) (a : Access) →
+brought : (g : FlowContext) (actuals : Actuals) (locked : Bool) (site : SiteId) (e : ℕ × Access) (a : Access) →
     In (substituted_record g actuals locked site e) a → Brought g actuals locked site e a
 brought g actuals locked site e a h =
     elim (substituted_path g actuals e.1.path) as (λ o. substituted_path g actuals e.1.path ≡ o →
@@ -176,7 +179,8 @@ brought g actuals locked site e a h =
           (λ r. absurd r) there
     ] refl h
 
-of-callee : (g : Given) (site : SiteId) (m : MethodId) (n : ℕ) (found : Findings) (actuals : Actuals) (locked : Bool)
+of-callee : (g : FlowContext) (site : SiteId) (m : MethodId) (n : ℕ) (found : Findings) (actuals : Actuals)
+    (locked : Bool)
     (a : Access) → g.known_of m ≡ Some (Whole found) → In (substituted g actuals found locked site).records a →
     StandsAt g site (Call m n) locked a
 of-callee g site m n found actuals locked a known h =
@@ -204,7 +208,7 @@ of-callee g site m n found actuals locked a known h =
       });
     }
 
-called : (g : Given) (locked : Bool) (site : SiteId) (m : MethodId) (n : ℕ) (s : State) (a : Access)
+called : (g : FlowContext) (locked : Bool) (site : SiteId) (m : MethodId) (n : ℕ) (s : State) (a : Access)
     (o : Option Known) → g.known_of m ≡ o → In (call_effects g locked site m n s o).records a →
     StandsAt g site (Call m n) locked a
 called g locked site m n s a None known h = absurd h
@@ -212,7 +216,7 @@ called g locked site m n s a (Some Large) known h = absurd h
 called g locked site m n s a (Some (Whole found)) known h =
     of-callee g site m n found (actuals_from (g.is_static m) (passed_from s n)) locked a known h
 
-op-stands : (g : Given) (locked : Bool) (site : SiteId) (op : CoreOp) (s : State) (a : Access) →
+op-stands : (g : FlowContext) (locked : Bool) (site : SiteId) (op : CoreOp) (s : State) (a : Access) →
     In (op_effects g locked site op s).records a → StandsAt g site op locked a
 op-stands g locked site (Get f) s a h = touch-record g Read locked site (Get f) (top s) f a refl refl h
 op-stands g locked site (Put f) s a h = touch-record g Write locked site (Put f) (slot_of s 1) f a refl refl h
@@ -237,16 +241,16 @@ or-false true = refl
 or-false false = refl
 
 -- code that has the operation of a part at the record's site
-lifted : (g : Given) (part whole : Tree) (inside outer : Bool) (a : Access) (c : Comes g part inside a) →
+lifted : (g : FlowContext) (part whole : Tree) (inside outer : Bool) (a : Access) (c : IsRecordOf g part inside a) →
     op_at whole a.site ≡ Some c.operation → do_end_before a.site whole ≡ true →
     (inside || nat_lt 0 (locks_round a.site part)) ≡ (outer || nat_lt 0 (locks_round a.site whole)) →
-    Comes g whole outer a
+    IsRecordOf g whole outer a
 lifted g part whole inside outer a c at ends flag =
     record {
       operation = c.operation;
       at = at;
       ends = ends;
-      from = subst (λ (b : Bool). ComesBy g c.operation.op b a) flag c.from;
+      from = subst (λ (b : Bool). IsRecordBy g c.operation.op b a) flag c.from;
     }
 
 some-first : (p q : Option Operation) (o : Operation) → p ≡ Some o → option_or p q ≡ Some o
@@ -257,11 +261,11 @@ none-first : (p q : Option Operation) → is_some p ≡ false → option_or p q 
 none-first None q none = refl
 none-first (Some x) q none = absurd cc
 
-at-first : (a b : Tree) (site : SiteId) (o : Operation) → op_at a site ≡ Some o → op_at (Then a b) site ≡ Some o
+at-first : (a b : Tree) (site : SiteId) (o : Operation) → op_at a site ≡ Some o → op_at (Seq a b) site ≡ Some o
 at-first a b site o is = find-append _ (steps_of a) (steps_of b) ∙ some-first (op_at a site) (op_at b site) o is
 
 at-second : (a b : Tree) (site : SiteId) (o : Operation) → has_site a site ≡ false → op_at b site ≡ Some o →
-    op_at (Then a b) site ≡ Some o
+    op_at (Seq a b) site ≡ Some o
 at-second a b site o lacks is =
     find-append _ (steps_of a) (steps_of b) ∙ none-first (op_at a site) (op_at b site) lacks ∙ is
 
@@ -286,9 +290,9 @@ either-part first rest a h =
           (in_append first.records (rest s).records a there)
     ] refl h
 
-module _ (g : Given) where
+module _ (g : FlowContext) where
   by-op : (site : SiteId) (place : Place) (op : CoreOp) (locked : Bool) (a : Access) → StandsAt g site op locked a →
-      Comes g (Step site place op) locked a
+      IsRecordOf g (Op site place op) locked a
   by-op site place op locked a at =
       let o : Operation = record { site = site; place = place; op = op } in
       record {
@@ -296,88 +300,89 @@ module _ (g : Given) where
         at = ap (λ (b : Bool). cond b (Some o) None)
             (ap (λ (s : SiteId). nat_eq s.0 a.site.0) at.site_is ∙ eq-eqb a.site.0 a.site.0 refl);
         ends = refl;
-        from = subst (λ (b : Bool). ComesBy g op b a) (or-false locked) at.from;
+        from = subst (λ (b : Bool). IsRecordBy g op b a) (or-false locked) at.from;
       }
 
-  by-first : (first rest : Tree) (locked : Bool) (a : Access) → Comes g first locked a →
-      Comes g (Then first rest) locked a
+  by-first : (first rest : Tree) (locked : Bool) (a : Access) → IsRecordOf g first locked a →
+      IsRecordOf g (Seq first rest) locked a
   by-first first rest locked a c =
       let here : has_site first a.site ≡ true = has first a.site c.operation c.at in
-      lifted g first (Then first rest) locked locked a c (at-first first rest a.site c.operation c.at)
+      lifted g first (Seq first rest) locked locked a c (at-first first rest a.site c.operation c.at)
       (ap (λ (b : Bool).
       cond b (do_end_before a.site first) (can_end first && do_end_before a.site rest)) here ∙ c.ends)
       (ap (λ (b : Bool).
       locked || nat_lt 0 (cond b (locks_round a.site first) (locks_round a.site rest))) (sym here))
 
-  by-rest : (first rest : Tree) (locked : Bool) (a : Access) → Comes g rest locked a → has_site first a.site ≡ false →
-      can_end first ≡ true → Comes g (Then first rest) locked a
+  by-rest : (first rest : Tree) (locked : Bool) (a : Access) → IsRecordOf g rest locked a →
+      has_site first a.site ≡ false →
+      can_end first ≡ true → IsRecordOf g (Seq first rest) locked a
   by-rest first rest locked a c lacks ends =
-      lifted g rest (Then first rest) locked locked a c (at-second first rest a.site c.operation lacks c.at)
+      lifted g rest (Seq first rest) locked locked a c (at-second first rest a.site c.operation lacks c.at)
       (ap (λ (b : Bool).
       cond b (do_end_before a.site first) (can_end first && do_end_before a.site rest)) lacks
       ∙ both (can_end first) (do_end_before a.site rest) ends c.ends)
       (ap (λ (b : Bool).
       locked || nat_lt 0 (cond b (locks_round a.site first) (locks_round a.site rest))) (sym lacks))
 
-  by-left : (left right : Tree) (locked : Bool) (a : Access) → Comes g left locked a →
-      Comes g (Either left right) locked a
+  by-left : (left right : Tree) (locked : Bool) (a : Access) → IsRecordOf g left locked a →
+      IsRecordOf g (Choice left right) locked a
   by-left left right locked a c =
       let here : has_site left a.site ≡ true = has left a.site c.operation c.at in
-      lifted g left (Either left right) locked locked a c (at-first left right a.site c.operation c.at)
+      lifted g left (Choice left right) locked locked a c (at-first left right a.site c.operation c.at)
       (ap (λ (b : Bool). cond b (do_end_before a.site left) (do_end_before a.site right)) here ∙ c.ends)
       (ap (λ (b : Bool).
       locked || nat_lt 0 (cond b (locks_round a.site left) (locks_round a.site right))) (sym here))
 
-  by-right : (left right : Tree) (locked : Bool) (a : Access) → Comes g right locked a →
-      has_site left a.site ≡ false → Comes g (Either left right) locked a
+  by-right : (left right : Tree) (locked : Bool) (a : Access) → IsRecordOf g right locked a →
+      has_site left a.site ≡ false → IsRecordOf g (Choice left right) locked a
   by-right left right locked a c lacks =
-      lifted g right (Either left right) locked locked a c (at-second left right a.site c.operation lacks c.at)
+      lifted g right (Choice left right) locked locked a c (at-second left right a.site c.operation lacks c.at)
       (ap (λ (b : Bool). cond b (do_end_before a.site left) (do_end_before a.site right)) lacks ∙ c.ends)
       (ap (λ (b : Bool).
       locked || nat_lt 0 (cond b (locks_round a.site left) (locks_round a.site right))) (sym lacks))
 
-  by-lock : (place : Place) (body : Tree) (locked : Bool) (a : Access) → Comes g body true a →
-      Comes g (Held place body) locked a
+  by-lock : (place : Place) (body : Tree) (locked : Bool) (a : Access) → IsRecordOf g body true a →
+      IsRecordOf g (Sync place body) locked a
   by-lock place body locked a c =
-      lifted g body (Held place body) true locked a c c.at c.ends
+      lifted g body (Sync place body) true locked a c c.at c.ends
       (sym (or-right locked (nat_lt 0 (suc (locks_round a.site body)))
       (lt-ltb 0 (suc (locks_round a.site body)) (omega arith))))
 
   pub comes-in : (n : ℕ) (code : Tree) (locked : Bool) (s : State) (a : Access) →
-      counts_from n (sites_of code) ≡ true → In (flow g code locked s).records a → Comes g code locked a
-  comes-in n (Step site place op) locked s a counts h =
+      counts_from n (sites_of code) ≡ true → In (flow g code locked s).records a → IsRecordOf g code locked a
+  comes-in n (Op site place op) locked s a counts h =
       by-op site place op locked a (op-stands g locked site op s a h)
-  comes-in n Nothing locked s a counts h = absurd h
-  comes-in n (Then first rest) locked s a counts h =
+  comes-in n Skip locked s a counts h = absurd h
+  comes-in n (Seq first rest) locked s a counts h =
       ⊎_elim
       (λ l. by-first first rest locked a (comes-in n first locked s a (counts-first n first rest counts) l))
       (λ (r : Later (flow g first locked s) (flow g rest locked) a).
-      let c : Comes g rest locked a =
+      let c : IsRecordOf g rest locked a =
       comes-in (n + length (sites_of first)) rest locked r.from a (counts-second n first rest counts) r.there in
       by-rest first rest locked a c (first-lacks n first rest a.site c.operation counts c.at)
       (goes-on-ends g first locked s r.from r.next))
       (either-part (flow g first locked s) (flow g rest locked) a h)
-  comes-in n (Either left right) locked s a counts h =
+  comes-in n (Choice left right) locked s a counts h =
       ⊎_elim
       (λ l. by-left left right locked a (comes-in n left locked s a (counts-first n left right counts) l))
       (λ r.
-      let c : Comes g right locked a =
+      let c : IsRecordOf g right locked a =
       comes-in (n + length (sites_of left)) right locked s a (counts-second n left right counts) r in
       by-right left right locked a c (first-lacks n left right a.site c.operation counts c.at))
       (in_append (flow g left locked s).records (flow g right locked s).records a h)
-  comes-in n (Again body) locked s a counts h =
-      let c : Comes g body locked a =
+  comes-in n (Loop body) locked s a counts h =
+      let c : IsRecordOf g body locked a =
       comes-in n body locked (rounds (flow g body locked) (length s.vars + length s.stack + 1) s).0 a counts h in
-      lifted g body (Again body) locked locked a c c.at c.ends refl
-  comes-in n (Held place body) locked s a counts h =
+      lifted g body (Loop body) locked locked a c c.at c.ends refl
+  comes-in n (Sync place body) locked s a counts h =
       by-lock place body locked a (comes-in n body true (popped s 1) a counts h)
 
 -- ---- methods
 
 -- from what is known of methods of smaller ranks to what is known of all
 closed : (core : Core) (m : MethodId) (main : Bool) (code : Tree) (a : Access) →
-    Comes (given_of core (known_of_callees core m) main) code false a →
-    Comes (given_of core (known_of core) main) code false a
+    IsRecordOf (given_of core (known_of_callees core m) main) code false a →
+    IsRecordOf (given_of core (known_of core) main) code false a
 closed core m main code a c =
     record {
       operation = c.operation;
@@ -424,7 +429,7 @@ known-there core m method found there known =
 pub comes-from : (core : Core) (m : MethodId) (method : Method) (found : Findings) (a : Access) →
     method_at core m ≡ Some method → counts_from 0 (sites_of method.code) ≡ true →
     known_of core m ≡ Some (Whole found) → In found.records a →
-    Comes (given_of core (known_of core) method.main) method.code false a
+    IsRecordOf (given_of core (known_of core) method.main) method.code false a
 comes-from core m method found a there counts known h =
     let table : Table = known_of_callees core m in
     let e : Effects = effects_given core table method in

@@ -9,11 +9,11 @@ use Rattle.access_domain.specs.Origins.{touch_of}
 use Rattle.core_code.specs.Core.{Core}
 use Rattle.core_semantics.specs.declared.answer.Why.{Why}
 use Rattle.core_semantics.specs.declared.object.Value.{Value}
-use Rattle.core_semantics.specs.Legs.{Ran, Came, Broke, StuckFor}
+use Rattle.core_semantics.specs.Legs.{Ran, Came, Halted, StuckFor}
 use Rattle.core_semantics.specs.Runs.{innermost, next_of}
-use Rattle.core_semantics.specs.State.{Frame, State, Operate, other_of, thread_of}
+use Rattle.core_semantics.specs.State.{Frame, State, Op, other_of, thread_of}
 use Rattle.core_ways_laws.specs.Sites.{field_of}
-use Rattle.core_ways_laws.specs.Tops.{Top, top_of}
+use Rattle.core_ways_laws.specs.Arrivals.{Arrival, top_of}
 
 -- A thread has come just before the access of a record, from a state in which it was at the entry of the record's
 -- method with these values. The next operation touches the last field of the record's path in the way of its kind; the
@@ -22,7 +22,7 @@ use Rattle.core_ways_laws.specs.Tops.{Top, top_of}
 pub record IsAtAccess (core : Core) (m : MethodId) (i : ℕ) (r : Access) (values : List Value) (s : State) (t : ℕ)
     (to : State) : Type 0 where
   pub other : other_of to t ≡ other_of s t
-  pub top : Top
+  pub top : Arrival
   pub leads : top_of core m i values s.store ≡ Some top
   pub store : to.store ≡ top.at.store
   pub frame : Frame
@@ -30,7 +30,7 @@ pub record IsAtAccess (core : Core) (m : MethodId) (i : ℕ) (r : Access) (value
   pub vars : frame.vars ≡ top.at.vars
   pub stack : frame.stack ≡ top.at.stack
   pub place : Place
-  pub next : next_of frame ≡ Some (Operate place top.op)
+  pub next : next_of frame ≡ Some (Op place top.op)
   pub touches : touch_of top.op ≡ Some r.kind
   pub field : field_of top.op ≡ last_of r.path.fields
   pub locks : length (thread_of to t).locks ≡ top.locks
@@ -40,4 +40,4 @@ pub record IsAtAccess (core : Core) (m : MethodId) (i : ℕ) (r : Access) (value
 -- turns
 abbrev pub EndsAtAccess : Core → MethodId → ℕ → Access → List Value → State → ℕ → Ran → Type 0
 EndsAtAccess core m i r values s t (Came to left) = (left ≡ []) × IsAtAccess core m i r values s t to
-EndsAtAccess core m i r values s t (Broke halt at steps) = (why : Why) × (halt ≡ StuckFor why)
+EndsAtAccess core m i r values s t (Halted halt at steps) = (why : Why) × (halt ≡ StuckFor why)

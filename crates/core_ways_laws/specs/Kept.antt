@@ -13,7 +13,7 @@ use Rattle.core_code.specs.KindCheck.{begins_with}
 use Rattle.core_code.specs.Kinds.{StackKind, kind_of}
 use Rattle.core_semantics.specs.declared.object.Value.{Value}
 use Rattle.core_semantics.specs.State.{Store}
-use Rattle.core_ways_laws.specs.Tops.{Top}
+use Rattle.core_ways_laws.specs.Arrivals.{Arrival}
 use Rattle.core_ways_laws.specs.Values.{Point, End, Behind, Back, entry_point}
 use Rattle.core_ways_laws.specs.Meets.{DoesMeet}
 use Rattle.core_ways_laws.specs.Names.{Naming, name_of}
@@ -67,13 +67,13 @@ pub record IsGood (core : Core) (quiet : Quietness core) (m : MethodId) (known :
       IsGiven core quiet n (kind_of method.result) found.result (call values store)
 
 -- where a way to a record leads, if it is not stuck, the access is that of the record
-abbrev pub IsMet : (core : Core) → Quietness core → Naming → Access → Option Top → Type 0
+abbrev pub IsMet : (core : Core) → Quietness core → Naming → Access → Option Arrival → Type 0
 IsMet core quiet n r None = Unit {0}
 IsMet core quiet n r (Some top) = IsStore core quiet top.at.store × DoesMeet core quiet n r top
 
 -- each way to a record of a method, of which this is known, leads to the record's access
 pub record AreMet (core : Core) (quiet : Quietness core) (m : MethodId) (known : Option Known)
-    (tops : ℕ → List Value → Store → Option Top) : Type 0 where
+    (tops : ℕ → List Value → Store → Option Arrival) : Type 0 where
   pub method : Method
   pub there : method_at core m ≡ Some method
   pub begins : begins_with (taken_by method) method.variables ≡ true

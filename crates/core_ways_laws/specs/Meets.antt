@@ -13,7 +13,7 @@ use Rattle.core_code.specs.Core.{Core}
 use Rattle.core_semantics.specs.declared.object.Value.{Value}
 use Rattle.core_semantics.specs.declared.object.Value.TheVariants.{Null}
 use Rattle.core_ways_laws.specs.Values.{Point}
-use Rattle.core_ways_laws.specs.Tops.{Top}
+use Rattle.core_ways_laws.specs.Arrivals.{Arrival}
 use Rattle.core_ways_laws.specs.Names.{Naming, name_of}
 use Rattle.core_ways_laws.specs.Places.{start_object}
 use Rattle.core_ways_laws.specs.Quiet.{Quietness, are_declared}
@@ -37,7 +37,7 @@ base_path p = record { root = p.root; fields = front_of p.fields }
 
 -- what comes next is the access of a record: it touches the record's field, and where the base of the record's path has
 -- a quiet name it touches the object of that name
-pub record DoesMeet (core : Core) (quiet : Quietness core) (n : Naming) (r : Access) (top : Top) : Type 0 where
+pub record DoesMeet (core : Core) (quiet : Quietness core) (n : Naming) (r : Access) (top : Arrival) : Type 0 where
   pub field : FieldId
   pub last : last_of r.path.fields ≡ Some field
   pub op : top.op ≡ touching r.kind field

@@ -9,7 +9,7 @@ use Rattle.core_code.specs.Tree.{Tree, Operation, op_at}
 use Rattle.access_paths.specs.Paths.{last_of}
 use Rattle.access_domain.specs.declared.access.Access.{Access}
 use Rattle.access_domain.specs.Findings.{Findings, Whole}
-use Rattle.access_domain.specs.Given.{Given}
+use Rattle.access_domain.specs.Given.{FlowContext}
 use Rattle.access_domain.specs.Origins.{touch_of}
 use Rattle.core_ways.specs.Alone.{do_end_before, locks_round}
 
@@ -27,7 +27,7 @@ pub record IsTouch (op : CoreOp) (locked : Bool) (a : Access) : Type 0 where
   pub held : a.locked ≡ locked
 
 -- the operation calls a method that has the record
-pub record IsThrough (g : Given) (op : CoreOp) (locked : Bool) (a : Access) : Type 0 where
+pub record IsThrough (g : FlowContext) (op : CoreOp) (locked : Bool) (a : Access) : Type 0 where
   pub callee : MethodId
   pub count : ℕ
   pub calls : op ≡ Call callee count
@@ -41,12 +41,12 @@ pub record IsThrough (g : Given) (op : CoreOp) (locked : Bool) (a : Access) : Ty
   pub field : last_of a.path.fields ≡ last_of inner.path.fields
   pub held : a.locked ≡ (inner.locked || locked)
 
-abbrev pub ComesBy : Given → CoreOp → Bool → Access → Type 0
-ComesBy g op locked a = IsTouch op locked a ⊎ IsThrough g op locked a
+abbrev pub IsRecordBy : FlowContext → CoreOp → Bool → Access → Type 0
+IsRecordBy g op locked a = IsTouch op locked a ⊎ IsThrough g op locked a
 
 -- a record of code that begins within a lock or not
-pub record Comes (g : Given) (code : Tree) (outer : Bool) (a : Access) : Type 0 where
+pub record IsRecordOf (g : FlowContext) (code : Tree) (outer : Bool) (a : Access) : Type 0 where
   pub operation : Operation
   pub at : op_at code a.site ≡ Some operation
   pub ends : do_end_before a.site code ≡ true
-  pub from : ComesBy g operation.op (outer || nat_lt 0 (locks_round a.site code)) a
+  pub from : IsRecordBy g operation.op (outer || nat_lt 0 (locks_round a.site code)) a

@@ -8,7 +8,7 @@ use Rattle.core_code.specs.declared.code.Op.{Op as CoreOp}
 use Rattle.core_code.specs.declared.code.Op.TheVariants.{Call, Ret}
 use Rattle.core_code.specs.Calls.{method_at, closed_by_rank}
 use Rattle.core_code.specs.Core.{Core, Method}
-use Rattle.core_code.specs.Tree.{Tree, Step as Operate, Nothing, Then, Either, Again, Held, can_end}
+use Rattle.core_code.specs.Tree.{Tree, Op, Skip, Seq, Choice, Loop, Sync, can_end}
 use Rattle.core_semantics.specs.declared.object.Value.{Value}
 use Rattle.core_semantics.specs.declared.object.Value.TheVariants.{Null}
 use Rattle.core_semantics.specs.State.{Store}
@@ -78,10 +78,10 @@ call_at core calls m n at =
           received method (values_passed at n) (returned_to at n (calls m (values_passed at n) at.store))
     ]
 
-abbrev pub go_op : Core → Calls → CoreOp → Point → Option End
-go_op core calls (Call m n) at = call_at core calls m n at
-go_op core calls Ret at = Some (Back at.store (top_value at))
-go_op core calls op at = behind (inner_step core (inner_of at) op)
+abbrev pub evaluate_op : Core → Calls → CoreOp → Point → Option End
+evaluate_op core calls (Call m n) at = call_at core calls m n at
+evaluate_op core calls Ret at = Some (Back at.store (top_value at))
+evaluate_op core calls op at = behind (inner_step core (inner_of at) op)
 
 -- what comes behind code, where it does not return
 abbrev pub go_on : Option End → (Point → Option End) → Option End
@@ -90,13 +90,15 @@ go_on (Some (Behind at)) rest = rest at
 go_on (Some (Back store value)) rest = Some (Back store value)
 
 -- where code that is passed along a way leads from a point, or none where it is stuck
-abbrev pub go : Core → Calls → Tree → Point → Option End
-go core calls (Operate site place op) at = go_op core calls op at
-go core calls Nothing at = Some (Behind at)
-go core calls (Then first rest) at = go_on (go core calls first at) (go core calls rest)
-go core calls (Either left right) at = if can_end right then go core calls right at else go core calls left at
-go core calls (Again body) at = Some (Behind at)
-go core calls (Held place body) at = on_ok (monitor_of (top_value at)) (go core calls body (point_popped at 1))
+abbrev pub evaluate : Core → Calls → Tree → Point → Option End
+evaluate core calls (Op site place op) at = evaluate_op core calls op at
+evaluate core calls Skip at = Some (Behind at)
+evaluate core calls (Seq first rest) at = go_on (evaluate core calls first at) (evaluate core calls rest)
+evaluate core calls (Choice left right) at =
+    if can_end right then evaluate core calls right at else evaluate core calls left at
+evaluate core calls (Loop body) at = Some (Behind at)
+evaluate core calls (Sync place body) at =
+    on_ok (monitor_of (top_value at)) (evaluate core calls body (point_popped at 1))
 
 -- a method at its entry with these values: its locals are null
 abbrev pub entry_point : Method → List Value → Store → Point
@@ -116,7 +118,7 @@ abbrev pub call_given : Core → Calls → Calls
 call_given core calls m values store =
     elim (method_at core m) [
       | None ↦ None
-      | Some method ↦ value_back (go core calls method.code (entry_point method values store))
+      | Some method ↦ value_back (evaluate core calls method.code (entry_point method values store))
     ]
 
 abbrev pub call_of : Core → Calls

@@ -10,11 +10,11 @@ ghost use Rattle.core_semantics.specs.Runs.{given_to};
 ghost use Rattle.core_semantics.specs.State.{Store};
 ghost use Rattle.core_ways.specs.Stable.{IsStable};
 ghost use Rattle.core_ways.specs.Ways.{record_at};
-ghost use Rattle.core_ways_laws.specs.Tops.{Top, top_of};
+ghost use Rattle.core_ways_laws.specs.Arrivals.{Arrival, top_of};
 ghost use Rattle.core_ways_laws.specs.Meets.{DoesMeet, base_path, base_value};
 ghost use Rattle.core_ways_laws.specs.Names.{entry_naming};
 ghost use Rattle.core_ways_laws.specs.Places.{IsStore, start_object};
-ghost use Rattle.core_ways_laws.specs.Quiets.{quietness_of};
+ghost use Rattle.core_ways_laws.specs.QuietEntries.{quietness_of};
 ghost use Rattle.core_ways_laws.specs.Shapes.{IsPath};
 
 /// A thread is run along the way to a record of one of two methods, from its entry on, where what is stored is as the
@@ -24,13 +24,13 @@ ghost use Rattle.core_ways_laws.specs.Shapes.{IsPath};
 pub fn legs_meet_records()
     ensures meets { (p : Program) (m1 m2 m : MethodId) (method : Method) (i : ℕ) (r : Access) (t : ℕ) →
         (m ≡ m1) ⊎ (m ≡ m2) → method_at (core p) m ≡ Some method → record_at (core p) m i ≡ Some r →
-        (store : Store) (top : Top) → IsStore (core p) (quietness_of (core p) m1 m2) store →
+        (store : Store) (top : Arrival) → IsStore (core p) (quietness_of (core p) m1 m2) store →
         top_of (core p) m i (given_to t method) store ≡ Some top →
         IsStore (core p) (quietness_of (core p) m1 m2) top.at.store
         × DoesMeet (core p) (quietness_of (core p) m1 m2) entry_naming r top }
     ensures stable { (p : Program) (m1 m2 m : MethodId) (method : Method) (i : ℕ) (r : Access) (t : ℕ) →
         (m ≡ m1) ⊎ (m ≡ m2) → method_at (core p) m ≡ Some method → record_at (core p) m i ≡ Some r →
-        IsStable (core p) m1 m2 r.path → (store : Store) (top : Top) →
+        IsStable (core p) m1 m2 r.path → (store : Store) (top : Arrival) →
         IsStore (core p) (quietness_of (core p) m1 m2) store →
         top_of (core p) m i (given_to t method) store ≡ Some top →
         IsStore (core p) (quietness_of (core p) m1 m2) top.at.store

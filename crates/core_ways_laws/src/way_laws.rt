@@ -14,8 +14,8 @@ ghost use Rattle.core_semantics.specs.State.{State, other_of, thread_of};
 ghost use Rattle.core_semantics.specs.Steps.{entered};
 ghost use Rattle.core_ways.specs.Ways.{record_at, trip_of, way_of};
 ghost use Rattle.core_ways_laws.specs.Ends.{EndsAtAccess};
-ghost use Rattle.core_ways_laws.specs.Led.{MethodGoes};
-ghost use Rattle.core_ways_laws.specs.Sites.{Comes};
+ghost use Rattle.core_ways_laws.specs.RunValues.{MethodGoes};
+ghost use Rattle.core_ways_laws.specs.Sites.{IsRecordOf};
 ghost use Rattle.core_ways_laws.specs.Values.{call_of};
 
 /// A method that is passed, run alone from its entry, comes back, where it is not stuck, with what its call gives: the
@@ -31,7 +31,7 @@ pub fn methods_give_their_values()
 pub fn records_have_sites()
     ensures { (p : Program) (m : MethodId) (method : Method) (i : ℕ) (r : Access) →
         method_at (core p) m ≡ Some method → record_at (core p) m i ≡ Some r →
-        Comes (given_of (core p) (known_of (core p)) method.main) method.code false r }
+        IsRecordOf (given_of (core p) (known_of (core p)) method.main) method.code false r }
 {}
 
 /// The way to a record, run from the entry of its method beside a thread that holds no monitor, ends just before the

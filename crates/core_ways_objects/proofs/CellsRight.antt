@@ -26,7 +26,7 @@ use Rattle.core_semantics.specs.declared.object.Value.TheVariants.{Plain, Opaque
 use Rattle.core_semantics.specs.Legs.{Leg, run}
 use Rattle.core_semantics.specs.Runs.{Access as Touching, access_of, begun, frame_touch, next_touch, op_touch}
 use Rattle.core_semantics.specs.Runs.{todo_touch}
-use Rattle.core_semantics.specs.State.{Frame, State, Todo, Operate, Choose, Repeat, Lock, Unlock, thread_of}
+use Rattle.core_semantics.specs.State.{Frame, State, Todo, Op, Choice, Loop, Sync, Unlock, thread_of}
 use Rattle.core_semantics.specs.Steps.{slot_of, top}
 use Rattle.core_ways_objects.specs.Kinding.{AreFrames, CanDo, IsState}
 use Rattle.core_ways_objects.specs.ObjectKinds.{AreHeld, IsReached, IsValue, object_kinds}
@@ -90,7 +90,7 @@ module _ (core : Core) (roots : Roots) where
 
   op-cells : (frame : Frame) (method : Method) (place : Place) (op : CoreOp) (rest : List Todo) (ks : List StackKind) →
       AreHeld core roots method ks frame.vars frame.stack →
-      CanDo core (object_kinds core roots) method (Operate place op ∷ rest) ks → AreCells (op_touch frame op)
+      CanDo core (object_kinds core roots) method (Op place op ∷ rest) ks → AreCells (op_touch frame op)
   op-cells frame method place (Get f) rest ks held h = λ q x kind e.
       let b : HasBase core roots f (top frame) =
       get-base core roots f (field_at core f) h.from h.after frame.stack refl h.does.kinded
@@ -119,10 +119,10 @@ module _ (core : Core) (roots : Roots) where
       AreHeld core roots method ks frame.vars frame.stack → CanDo core (object_kinds core roots) method todo ks →
       AreCells (option_and_then (todo_touch frame) (slice_get todo 0))
   todo-cells frame method [] ks held h = λ q x kind e. absurd cc
-  todo-cells frame method (Operate place op ∷ rest) ks held h = op-cells frame method place op rest ks held h
-  todo-cells frame method (Choose left right ∷ rest) ks held h = λ q x kind e. absurd cc
-  todo-cells frame method (Repeat body ∷ rest) ks held h = λ q x kind e. absurd cc
-  todo-cells frame method (Lock place body ∷ rest) ks held h = λ q x kind e. absurd cc
+  todo-cells frame method (Op place op ∷ rest) ks held h = op-cells frame method place op rest ks held h
+  todo-cells frame method (Choice left right ∷ rest) ks held h = λ q x kind e. absurd cc
+  todo-cells frame method (Loop body ∷ rest) ks held h = λ q x kind e. absurd cc
+  todo-cells frame method (Sync place body ∷ rest) ks held h = λ q x kind e. absurd cc
   todo-cells frame method (Unlock ∷ rest) ks held h = λ q x kind e. absurd cc
 
   frames-cells : (frames : List Frame) → AreFrames core (object_kinds core roots) frames →

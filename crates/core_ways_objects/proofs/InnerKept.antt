@@ -28,7 +28,7 @@ use Rattle.core_semantics.specs.Objects.{same_object}
 use Rattle.core_semantics.specs.State.{Store, Todo}
 use Rattle.core_semantics.specs.Steps.{Inner, Next, base_of, going, inner_step, kind_of as field_kind, on_base, put}
 use Rattle.core_semantics.specs.Steps.{read, replaced, slot_of, top, written}
-use Rattle.core_ways_objects.specs.Kinding.{Comes, IsInner}
+use Rattle.core_ways_objects.specs.Kinding.{StepKeeps, IsInner}
 use Rattle.core_ways_objects.specs.ObjectKinds.{AreStored, AreValues, IsValue, object_kinds}
 use Rattle.core_ways_objects.specs.Reached.{Roots, TheClass}
 use Rattle.core_ways_objects.proofs.KindValues.{value-fits}
@@ -43,7 +43,7 @@ module _ (core : Core) (roots : Roots) (classes : (c : ClassId) → roots (Start
 
   abbrev InnerNext : List StackKind → List Todo → Next Inner → Type 0
   InnerNext ks todo next =
-      Comes core (object_kinds core roots) (IsInner core (object_kinds core roots) method ks todo) next
+      StepKeeps core (object_kinds core roots) (IsInner core (object_kinds core roots) method ks todo) next
 
   kind-at : (i : ℕ) (kind : Kind) → slice_get method.variables i ≡ Some kind →
       slice_get (map kind_of method.variables) i ≡ Some (kind_of kind)

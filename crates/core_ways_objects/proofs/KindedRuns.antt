@@ -9,11 +9,11 @@ use Rattle.core_code.specs.Core.{Core, Method}
 use Rattle.core_semantics.specs.declared.answer.Turn.{Turn}
 use Rattle.core_semantics.specs.declared.answer.Turn.TheVariants.{Right}
 use Rattle.core_semantics.specs.declared.object.Start.{Start}
-use Rattle.core_semantics.specs.Legs.{Leg, NoTurn, Ran, Came, Broke, later, run, runs, went, whole}
+use Rattle.core_semantics.specs.Legs.{Leg, NoTurn, Ran, Came, Halted, one_step_more, run, runs, went, whole}
 use Rattle.core_semantics.specs.Runs.{begun, given_to, is_in, thread_at, wants_turn}
 use Rattle.core_semantics.specs.State.{State, Store, Thread, other_of, thread_of, with_thread}
 use Rattle.core_semantics.specs.Steps.{After, Next, Goes, Sticks, Waits, Ends, entered, step, thread_step, within}
-use Rattle.core_ways_objects.specs.Kinding.{AreFrames, Comes, IsCode, IsKept, IsState, Keeps, Kinding, RanTo}
+use Rattle.core_ways_objects.specs.Kinding.{AreFrames, StepKeeps, IsCode, IsKept, IsState, Keeps, Kinding, RanTo}
 use Rattle.core_ways_objects.proofs.KindedCode.{before-does}
 use Rattle.core_ways_objects.proofs.KindedSteps.{frames-kept}
 
@@ -63,8 +63,8 @@ module _ {core : Core} (k : Kinding core) where
 -- ---- steps and runs
 
 module _ {core : Core} {k : Kinding core} (keeps : Keeps core k) where
-  with-kept : (s : State) (t : ℕ) (next : Next After) → IsState core k s → Comes core k (IsKept core k) next →
-      Comes core k (IsState core k) (within (λ (a : After). with_thread s t a.store a.thread) next)
+  with-kept : (s : State) (t : ℕ) (next : Next After) → IsState core k s → StepKeeps core k (IsKept core k) next →
+      StepKeeps core k (IsState core k) (within (λ (a : After). with_thread s t a.store a.thread) next)
   with-kept s t (Goes a) is h =
       elim (nat_eq t 0) as (λ b. IsState core k (cond b
       (let x : State = record { store = a.store; first = a.thread; second = s.second } in x)
@@ -77,7 +77,7 @@ module _ {core : Core} {k : Kinding core} (keeps : Keeps core k) where
   with-kept s t Ends is h = tt
 
   pub step-kept : (s : State) (t : ℕ) (turn : Turn) → IsState core k s →
-      Comes core k (IsState core k) (step core s t turn)
+      StepKeeps core k (IsState core k) (step core s t turn)
   step-kept s t turn is =
       with-kept s t (thread_step core turn (other_of s t).locks s.store (thread_of s t)) is
       (frames-kept keeps turn (other_of s t).locks s.store (thread_of s t).frames (thread_of s t).locks is.stored
@@ -86,12 +86,12 @@ module _ {core : Core} {k : Kinding core} (keeps : Keeps core k) where
   abbrev RunKept : ℕ → ℕ → Type 0
   RunKept t n = (turns : List Turn) (s : State) → IsState core k s → RanTo core k (runs core t n turns s)
 
-  later-kept : (r : Ran) → RanTo core k r → RanTo core k (later r)
+  later-kept : (r : Ran) → RanTo core k r → RanTo core k (one_step_more r)
   later-kept (Came to left) h = h
-  later-kept (Broke halt at steps) h = h
+  later-kept (Halted halt at steps) h = h
 
   went-kept : (t n : ℕ) (turns : List Turn) (s : State) (next : Next State) → RunKept t n → IsState core k s →
-      Comes core k (IsState core k) next → RanTo core k (went (runs core t n turns) s next)
+      StepKeeps core k (IsState core k) next → RanTo core k (went (runs core t n turns) s next)
   went-kept t n turns s (Goes x) ih is h = later-kept (runs core t n turns x) (ih turns x h)
   went-kept t n turns s (Sticks why) ih is h = (h, is)
   went-kept t n turns s (Waits monitor) ih is h = (tt, is)
@@ -99,7 +99,7 @@ module _ {core : Core} {k : Kinding core} (keeps : Keeps core k) where
 
   taking-kept : (t n : ℕ) (turns : List Turn) (s : State) → RunKept t n → IsState core k s →
       RanTo core k (elim turns as (λ _. Ran) [
-        | [] ↦ Broke NoTurn s 0
+        | [] ↦ Halted NoTurn s 0
         | ◌∷◌ turn rest ↦ went (runs core t n rest) s (step core s t turn)
       ])
   taking-kept t n [] s ih is = (tt, is)
@@ -110,7 +110,7 @@ module _ {core : Core} {k : Kinding core} (keeps : Keeps core k) where
   run-kept t (suc n) = λ turns s is.
       elim (wants_turn s t) as (λ b. RanTo core k (cond b
       (elim turns as (λ _. Ran) [
-        | [] ↦ Broke NoTurn s 0
+        | [] ↦ Halted NoTurn s 0
         | ◌∷◌ turn rest ↦ went (runs core t n rest) s (step core s t turn)
       ]) (went (runs core t n turns) s (step core s t Right)))) [
         | true ↦ taking-kept t n turns s (run-kept t n) is
@@ -124,7 +124,7 @@ module _ {core : Core} {k : Kinding core} (keeps : Keeps core k) where
       ((x : State) → IsState core k x → run core legs x ≡ Some to → IsState core k to) → IsState core k to
   came-whole legs to (Came x []) h e on = on x h e
   came-whole legs to (Came x (turn ∷ turns)) h e on = absurd cc
-  came-whole legs to (Broke halt at steps) h e on = absurd cc
+  came-whole legs to (Halted halt at steps) h e on = absurd cc
 
   -- the state behind legs that are made whole
   pub legs-kept : (legs : List Leg) (s to : State) → IsState core k s → run core legs s ≡ Some to → IsState core k to

@@ -17,13 +17,13 @@ use Rattle.core_semantics.specs.declared.answer.Why.TheVariants.{UnreadCall}
 use Rattle.core_semantics.specs.declared.object.Object.{Object}
 use Rattle.core_semantics.specs.declared.object.Value.TheVariants.{Null}
 use Rattle.core_semantics.specs.Objects.{same_monitor}
-use Rattle.core_semantics.specs.State.{Frame, Store, Todo, Operate, Choose, Repeat, Lock, Unlock, before}
+use Rattle.core_semantics.specs.State.{Frame, Store, Todo, Op, Choice, Loop, Sync, Unlock, before}
 use Rattle.core_semantics.specs.Steps.{After, Inner, Next, Goes, Sticks, Waits, Ends, Spot, after, base_of}
 use Rattle.core_semantics.specs.Steps.{called_method, chosen, entering, inner, inner_step, lock_with, locking}
 use Rattle.core_semantics.specs.Steps.{monitor_of, on_base}
 use Rattle.core_semantics.specs.Steps.{op_step, operated, passed_from, returned, thread_step, todo_step, top, unlocked}
 use Rattle.core_semantics.specs.Steps.{with_inner, with_lock, with_todo, within}
-use Rattle.core_ways_objects.specs.Kinding.{AreFrames, AreWaiting, CanDo, Comes, HasMonitor, HasObject, IsCalled, IsInner}
+use Rattle.core_ways_objects.specs.Kinding.{AreFrames, AreWaiting, CanDo, StepKeeps, HasMonitor, HasObject, IsCalled, IsInner}
 use Rattle.core_ways_objects.specs.Kinding.{IsKept, IsLocked, Keeps, Kinding, Leads, is_inner}
 use Rattle.core_ways_objects.proofs.KindedCode.{before-does, left-side, loop-left, once-more, right-side, within-lock}
 
@@ -46,8 +46,9 @@ module _ {core : Core} {k : Kinding core} (keeps : Keeps core k) where
   -- ---- operations in one frame
 
   inner-next : (method : Method) (known : k.Known) (s : Spot) (next : Next Inner) →
-      Comes core k (IsInner core k method known s.frame.todo) next → AreWaiting core k method s.callers →
-      CanDo core k method s.frame.todo known → Comes core k (IsKept core k) (within (λ i. after (with_inner s i)) next)
+      StepKeeps core k (IsInner core k method known s.frame.todo) next → AreWaiting core k method s.callers →
+      CanDo core k method s.frame.todo known →
+      StepKeeps core k (IsKept core k) (within (λ i. after (with_inner s i)) next)
   inner-next method known s (Goes i) h waiting todo =
       goes-on method known (with_inner s i) (record { stored = h.stored; so = h.so; waiting = waiting })
       (subst (λ (t : List Todo). CanDo core k method t known) (sym h.todo_stays) todo)
@@ -57,7 +58,7 @@ module _ {core : Core} {k : Kinding core} (keeps : Keeps core k) where
 
   inner-op : (method : Method) (a b : k.Known) (s : Spot) (op : CoreOp) → is_inner op ≡ true → k.IsAfter method op a b →
       IsAt core k method a s → CanDo core k method s.frame.todo b →
-      Comes core k (IsKept core k) (within (λ i. after (with_inner s i)) (inner_step core (inner s) op))
+      StepKeeps core k (IsKept core k) (within (λ i. after (with_inner s i)) (inner_step core (inner s) op))
   inner-op method a b s op is step at todo =
       inner-next method b s (inner_step core (inner s) op)
       (keeps.inner method (inner s) op a b is step at.stored at.so) at.waiting todo
@@ -66,7 +67,7 @@ module _ {core : Core} {k : Kinding core} (keeps : Keeps core k) where
 
   entered-kept : (method : Method) (m : MethodId) (n : ℕ) (a b : k.Known) (s : Spot) → IsAt core k method a s →
       CanDo core k method s.frame.todo b → (c : IsCalled core k method m n b s.frame.vars s.frame.stack) →
-      Comes core k (IsKept core k) (entering s c.callee n)
+      StepKeeps core k (IsKept core k) (entering s c.callee n)
   entered-kept method m n a b s at todo c =
       record {
         stored = at.stored;
@@ -82,16 +83,18 @@ module _ {core : Core} {k : Kinding core} (keeps : Keeps core k) where
       }
 
   received : (s : Spot) (callee : Method) (n : ℕ) (r : Result Object Why) → HasObject core k r →
-      Comes core k (IsKept core k) (entering s callee n) →
-      Comes core k (IsKept core k) (on_base r (λ o. entering s callee n))
+      StepKeeps core k (IsKept core k) (entering s callee n) →
+      StepKeeps core k (IsKept core k) (on_base r (λ o. entering s callee n))
   received s callee n (Ok o) has h = h
   received s callee n (Err why) has h = has
 
   called-kept : (s : Spot) (callee : Method) (n : ℕ) →
       (callee.is_static ≡ false → HasObject core k (base_of (slice_index_or (passed_from s.frame n) 0 Null))) →
-      Comes core k (IsKept core k) (entering s callee n) → Comes core k (IsKept core k) (called_method s callee n)
+      StepKeeps core k (IsKept core k) (entering s callee n) →
+      StepKeeps core k (IsKept core k) (called_method s callee n)
   called-kept s callee n has h =
-      (elim callee.is_static as (λ b. callee.is_static ≡ b → Comes core k (IsKept core k) (cond b (entering s callee n)
+      (elim callee.is_static as (λ b. callee.is_static ≡ b →
+      StepKeeps core k (IsKept core k) (cond b (entering s callee n)
       (on_base (base_of (slice_index_or (passed_from s.frame n) 0 Null)) (λ o. entering s callee n)))) [
         | true ↦ λ e. h
         | false ↦ λ e. received s callee n (base_of (slice_index_or (passed_from s.frame n) 0 Null)) (has e) h
@@ -99,9 +102,9 @@ module _ {core : Core} {k : Kinding core} (keeps : Keeps core k) where
 
   call-kept : (method : Method) (m : MethodId) (n : ℕ) (a b : k.Known) (s : Spot) → IsAt core k method a s →
       CanDo core k method s.frame.todo b → IsCalled core k method m n b s.frame.vars s.frame.stack →
-      Comes core k (IsKept core k) (op_step core s (Call m n))
+      StepKeeps core k (IsKept core k) (op_step core s (Call m n))
   call-kept method m n a b s at todo c =
-      subst (λ (o : Option Method). Comes core k (IsKept core k) (elim o as (λ _. Next After) [
+      subst (λ (o : Option Method). StepKeeps core k (IsKept core k) (elim o as (λ _. Next After) [
         | None ↦ Sticks UnreadCall
         | Some callee ↦ called_method s callee n
       ])) (sym c.there) (called-kept s c.callee n c.receiver (entered-kept method m n a b s at todo c))
@@ -109,7 +112,7 @@ module _ {core : Core} {k : Kinding core} (keeps : Keeps core k) where
   returned-kept : (method : Method) (known : k.Known) (store : Store) (frame : Frame) (callers : List Frame)
       (locks : List Holder) → k.IsResult method (top frame) →
       (let s : Spot = record { store = store; frame = frame; callers = callers; locks = locks } in
-      IsAt core k method known s → Comes core k (IsKept core k) (returned s))
+      IsAt core k method known s → StepKeeps core k (IsKept core k) (returned s))
   returned-kept method known store frame [] locks value at = record { stored = at.stored; frames = tt }
   returned-kept method known store frame (caller ∷ callers) locks value at =
       record {
@@ -126,7 +129,7 @@ module _ {core : Core} {k : Kinding core} (keeps : Keeps core k) where
       }
 
   op-kept : (method : Method) (a b : k.Known) (s : Spot) (op : CoreOp) → k.IsAfter method op a b →
-      IsAt core k method a s → CanDo core k method s.frame.todo b → Comes core k (IsKept core k) (op_step core s op)
+      IsAt core k method a s → CanDo core k method s.frame.todo b → StepKeeps core k (IsKept core k) (op_step core s op)
   op-kept method a b s (Push v) step at todo = inner-op method a b s (Push v) refl step at todo
   op-kept method a b s (PushClass c) step at todo = inner-op method a b s (PushClass c) refl step at todo
   op-kept method a b s PushPrim step at todo = inner-op method a b s PushPrim refl step at todo
@@ -149,10 +152,10 @@ module _ {core : Core} {k : Kinding core} (keeps : Keeps core k) where
   operated-kept : (method : Method) (known a b : k.Known) (s : Spot) (rest : List Todo) (op : CoreOp) →
       k.IsAfter method op a b → IsAt core k method known s → IsAt core k method a s →
       CanDo core k method s.frame.todo known → CanDo core k method rest b →
-      Comes core k (IsKept core k) (operated core s rest op)
+      StepKeeps core k (IsKept core k) (operated core s rest op)
   operated-kept method known a b s rest op step at from_at whole todo =
       elim (is_return op && nat_lt 0 s.frame.locked) as (λ x.
-      Comes core k (IsKept core k) (cond x (Goes (after (unlocked s))) (op_step core (with_todo s rest) op))) [
+      StepKeeps core k (IsKept core k) (cond x (Goes (after (unlocked s))) (op_step core (with_todo s rest) op))) [
         | true ↦
             goes-on method known (unlocked s) (record { stored = at.stored; so = at.so; waiting = at.waiting }) whole
         | false ↦
@@ -163,17 +166,18 @@ module _ {core : Core} {k : Kinding core} (keeps : Keeps core k) where
   -- ---- locks
 
   locking-kept : (others : List Holder) (s : Spot) (body : Tree) (monitor : Holder) →
-      IsKept core k (after (with_lock s body monitor)) → Comes core k (IsKept core k) (locking others s body monitor)
+      IsKept core k (after (with_lock s body monitor)) →
+      StepKeeps core k (IsKept core k) (locking others s body monitor)
   locking-kept others s body monitor h =
       elim (list_any (λ held. same_monitor held monitor) others) as (λ b.
-      Comes core k (IsKept core k) (cond b (Waits monitor) (Goes (after (with_lock s body monitor))))) [
+      StepKeeps core k (IsKept core k) (cond b (Waits monitor) (Goes (after (with_lock s body monitor))))) [
         | true ↦ tt
         | false ↦ h
       ]
 
   lock-kept : (others : List Holder) (s : Spot) (body : Tree) (r : Result Holder Why) → HasMonitor core k r →
       ((monitor : Holder) → IsKept core k (after (with_lock s body monitor))) →
-      Comes core k (IsKept core k) (lock_with others s body r)
+      StepKeeps core k (IsKept core k) (lock_with others s body r)
   lock-kept others s body (Ok monitor) has h = locking-kept others s body monitor (h monitor)
   lock-kept others s body (Err why) has h = has
 
@@ -198,23 +202,23 @@ module _ {core : Core} {k : Kinding core} (keeps : Keeps core k) where
 
   todo-kept : (turn : Turn) (others : List Holder) (method : Method) (known : k.Known) (s : Spot) (todo : List Todo) →
       IsAt core k method known s → CanDo core k method s.frame.todo known → CanDo core k method todo known →
-      Comes core k (IsKept core k) (todo_step core turn others s todo)
+      StepKeeps core k (IsKept core k) (todo_step core turn others s todo)
   todo-kept turn others method known s [] at whole h = tt
-  todo-kept turn others method known s (Operate place op ∷ rest) at whole h =
+  todo-kept turn others method known s (Op place op ∷ rest) at whole h =
       operated-kept method known h.from h.after s rest op h.does at
       (record { stored = at.stored; so = h.weaker.so s.frame.vars s.frame.stack at.so; waiting = at.waiting })
       whole h.on
-  todo-kept turn others method known s (Choose left right ∷ rest) at whole h =
+  todo-kept turn others method known s (Choice left right ∷ rest) at whole h =
       chosen-kept turn method h.from s (before left rest) (before right rest)
       (record { stored = at.stored; so = h.weaker.so s.frame.vars s.frame.stack at.so; waiting = at.waiting })
       (left-side k method left right rest h.from h.after h.does h.on)
       (right-side k method left right rest h.from h.after h.does h.on)
-  todo-kept turn others method known s (Repeat body ∷ rest) at whole h =
-      chosen-kept turn method h.from s (before body (Repeat body ∷ rest)) rest
+  todo-kept turn others method known s (Loop body ∷ rest) at whole h =
+      chosen-kept turn method h.from s (before body (Loop body ∷ rest)) rest
       (record { stored = at.stored; so = h.weaker.so s.frame.vars s.frame.stack at.so; waiting = at.waiting })
       (once-more k method body rest h.from h.after h.does h.on)
       (loop-left k method body rest h.from h.after h.does h.on)
-  todo-kept turn others method known s (Lock place body ∷ rest) at whole h =
+  todo-kept turn others method known s (Sync place body ∷ rest) at whole h =
       let locked : IsLocked core k method h.does.under s.frame.vars s.frame.stack =
       keeps.lock method h.from h.does.under s.frame.vars s.frame.stack h.does.pops
       (h.weaker.so s.frame.vars s.frame.stack at.so) in
@@ -233,7 +237,7 @@ module _ {core : Core} {k : Kinding core} (keeps : Keeps core k) where
 
   pub frames-kept : (turn : Turn) (others : List Holder) (store : Store) (frames : List Frame) (locks : List Holder) →
       k.IsStored store → AreFrames core k frames →
-      Comes core k (IsKept core k) (thread_step core turn others store (record { frames = frames; locks = locks }))
+      StepKeeps core k (IsKept core k) (thread_step core turn others store (record { frames = frames; locks = locks }))
   frames-kept turn others store [] locks stored h = tt
   frames-kept turn others store (frame ∷ callers) locks stored h =
       todo-kept turn others h.0.method h.0.known

@@ -5,7 +5,7 @@ use Rattle.core_code.specs.CallFacts.{is_right_call}
 use Rattle.core_code.specs.Core.{Core, Method}
 use Rattle.core_code.specs.KindCheck.{Kinds, and_then, kinds_after, same_stack, where_true}
 use Rattle.core_code.specs.Kinds.{StackKind, joined_kind, joined_stack, same_kind}
-use Rattle.core_code.specs.Tree.{Tree, Step, Nothing, Then, Either, Again, Held, Operation, steps_of}
+use Rattle.core_code.specs.Tree.{Tree, Op, Skip, Seq, Choice, Loop, Sync, Operation, steps_of}
 use Rattle.core_code.proofs.BoolParts.{first_part, last_part}
 use Rattle.core_code.proofs.Membership.{In}
 use Rattle.core_semantics.specs.declared.object.Value.{Value}
@@ -118,10 +118,10 @@ module _ (core : Core) (roots : Roots) where
 
   pub leads : (method : Method) (code : Tree) (ks ends : List StackKind) → kinds_after core method code ks ≡ Some ends →
       HasRight core code → Leads core (object_kinds core roots) method code ks ends
-  leads method (Step site place op) ks ends h right =
+  leads method (Op site place op) ks ends h right =
       record { kinded = h; right = right (record { site = site; place = place; op = op }) (inl refl) }
-  leads method Nothing ks ends h right = cc
-  leads method (Then first rest) ks ends h right =
+  leads method Skip ks ends h right = cc
+  leads method (Seq first rest) ks ends h right =
       let two = went_on (kinds_after core method first ks) (kinds_after core method rest) ends h in
       record {
         between = two.0;
@@ -131,7 +131,7 @@ module _ (core : Core) (roots : Roots) where
             leads method rest two.0 ends two.2
             (λ o stands. right o (in_right (steps_of first) (steps_of rest) o stands));
       }
-  leads method (Either left other) ks ends h right =
+  leads method (Choice left other) ks ends h right =
       let a = went_on (kinds_after core method left ks)
       (λ x. and_then (kinds_after core method other ks) (λ y. joined_stack x y)) ends h in
       let b = went_on (kinds_after core method other ks) (λ y. joined_stack a.0 y) ends a.2 in
@@ -145,7 +145,7 @@ module _ (core : Core) (roots : Roots) where
             leads method other ks b.0 b.1 (λ o stands. right o (in_right (steps_of left) (steps_of other) o stands));
         from_right = weaker-second method a.0 b.0 ends b.2;
       }
-  leads method (Again body) ks ends h right =
+  leads method (Loop body) ks ends h right =
       let on = went_on (kinds_after core method body ks) (λ after. where_true (same_stack ks after) ks) ends h in
       let t : IsWhere (same_stack ks on.0) ks ends = where-is (same_stack ks on.0) ks ends on.2 in
       let same : ks ≡ on.0 = equal_stacks ks on.0 t.holds in
@@ -157,6 +157,6 @@ module _ (core : Core) (roots : Roots) where
         back = itself method ks;
         out = subst (λ (a : List StackKind). Weaker method ks a) t.same (itself method ks);
       }
-  leads method (Held place body) [] ends h right = absurd cc
-  leads method (Held place body) (k ∷ ks) ends h right =
+  leads method (Sync place body) [] ends h right = absurd cc
+  leads method (Sync place body) (k ∷ ks) ends h right =
       record { under = ks; pops = record { lock = k; is = refl }; body = leads method body ks ends h right }

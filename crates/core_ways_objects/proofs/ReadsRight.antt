@@ -18,12 +18,12 @@ use Rattle.core_semantics.specs.declared.object.Object.TheVariants.{Start as Sta
 use Rattle.core_semantics.specs.declared.object.StartPath.{StartPath}
 use Rattle.core_semantics.specs.declared.object.Value.{Value}
 use Rattle.core_semantics.specs.declared.object.Value.TheVariants.{Plain, Opaque, Null, Object as Ref}
-use Rattle.core_semantics.specs.Legs.{Leg, Ran, Came, Broke, runs}
+use Rattle.core_semantics.specs.Legs.{Leg, Ran, Came, Halted, runs}
 use Rattle.core_semantics.specs.Runs.{Access as Touching, access_of, frame_touch, op_touch, todo_touch, wants_turn}
-use Rattle.core_semantics.specs.State.{Frame, State, Todo, Operate, Choose, Repeat, Lock, Unlock, thread_of}
+use Rattle.core_semantics.specs.State.{Frame, State, Todo, Op, Choice, Loop, Sync, Unlock, thread_of}
 use Rattle.core_semantics.specs.Steps.{Next, Goes, Sticks, Waits, Ends, read, slot_of, step, top}
 use Rattle.core_ways.specs.Marks.{given_by, next_read, paths_in, reads, reads_of_legs, reads_on}
-use Rattle.core_ways_objects.specs.Kinding.{AreFrames, CanDo, Comes, IsState, Keeps, RanTo}
+use Rattle.core_ways_objects.specs.Kinding.{AreFrames, CanDo, StepKeeps, IsState, Keeps, RanTo}
 use Rattle.core_ways_objects.specs.ObjectKinds.{AreHeld, AreStored, IsReached, IsValue, object_kinds}
 use Rattle.core_ways_objects.specs.Reached.{Roots, reached_from}
 use Rattle.core_ways_objects.proofs.Bases.{HasBase, get-base}
@@ -90,7 +90,7 @@ module _ (core : Core) (roots : Roots) where
 
   op-right : (s : State) (frame : Frame) (method : Method) (place : Place) (op : CoreOp) (rest : List Todo)
       (ks : List StackKind) → AreStored core roots s.store → AreHeld core roots method ks frame.vars frame.stack →
-      CanObjectsDo method (Operate place op ∷ rest) ks → AreRightPaths core roots (given core s (op_touch frame op))
+      CanObjectsDo method (Op place op ∷ rest) ks → AreRightPaths core roots (given core s (op_touch frame op))
   op-right s frame method place (Get f) rest ks stored held h =
       let b : HasBase core roots f (top frame) =
       get-base core roots f (field_at core f) h.from h.after frame.stack refl h.does.kinded
@@ -116,11 +116,11 @@ module _ (core : Core) (roots : Roots) where
       CanObjectsDo method todo ks →
       AreRightPaths core roots (given core s (option_and_then (todo_touch frame) (slice_get todo 0)))
   todo-right s frame method [] ks stored held h = tt
-  todo-right s frame method (Operate place op ∷ rest) ks stored held h =
+  todo-right s frame method (Op place op ∷ rest) ks stored held h =
       op-right s frame method place op rest ks stored held h
-  todo-right s frame method (Choose left right ∷ rest) ks stored held h = tt
-  todo-right s frame method (Repeat body ∷ rest) ks stored held h = tt
-  todo-right s frame method (Lock place body ∷ rest) ks stored held h = tt
+  todo-right s frame method (Choice left right ∷ rest) ks stored held h = tt
+  todo-right s frame method (Loop body ∷ rest) ks stored held h = tt
+  todo-right s frame method (Sync place body ∷ rest) ks stored held h = tt
   todo-right s frame method (Unlock ∷ rest) ks stored held h = tt
 
   frames-right : (s : State) (frames : List Frame) → AreStored core roots s.store →
@@ -146,7 +146,7 @@ module _ {core : Core} {roots : Roots} (keeps : Keeps core (object_kinds core ro
       AreRightPaths core roots (reads core t n turns s)
 
   on-right : (t n : ℕ) (turns : List Turn) (next : Next State) → ReadRight t n →
-      Comes core (object_kinds core roots) (IsState core (object_kinds core roots)) next →
+      StepKeeps core (object_kinds core roots) (IsState core (object_kinds core roots)) next →
       AreRightPaths core roots (reads_on (reads core t n turns) next)
   on-right t n turns (Goes s) ih is = ih turns s is
   on-right t n turns (Sticks why) ih is = tt
@@ -181,10 +181,10 @@ module _ {core : Core} {roots : Roots} (keeps : Keeps core (object_kinds core ro
       AreRightPaths core roots (reads_of_legs core legs to)) →
       AreRightPaths core roots (elim r as (λ _. List StartPath) [
         | Came to left ↦ reads_of_legs core legs to
-        | Broke halt at steps ↦ []
+        | Halted halt at steps ↦ []
       ])
   ran-right legs (Came to left) h rest = rest to h
-  ran-right legs (Broke halt at steps) h rest = tt
+  ran-right legs (Halted halt at steps) h rest = tt
 
   pub legs-right : (legs : List Leg) (s : State) → IsState core (object_kinds core roots) s →
       AreRightPaths core roots (reads_of_legs core legs s)

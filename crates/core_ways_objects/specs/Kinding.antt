@@ -8,14 +8,15 @@ use Rattle.core_code.specs.declared.code.Op.{Op as CoreOp}
 use Rattle.core_code.specs.declared.code.Op.TheVariants.{Call, Ret}
 use Rattle.core_code.specs.Calls.{method_at}
 use Rattle.core_code.specs.Core.{Core, Method}
-use Rattle.core_code.specs.Tree.{Tree, Step, Nothing, Then, Either, Again, Held}
+use Rattle.core_code.specs.Tree.{Tree}
+use Rattle.core_code.specs.Tree as tree
 use Rattle.core_semantics.specs.declared.answer.Holder.{Holder}
 use Rattle.core_semantics.specs.declared.answer.Why.{Why}
 use Rattle.core_semantics.specs.declared.object.Object.{Object}
 use Rattle.core_semantics.specs.declared.object.Value.{Value}
 use Rattle.core_semantics.specs.declared.object.Value.TheVariants.{Null}
-use Rattle.core_semantics.specs.Legs.{Halt, NoTurn, StuckFor, HeldBy, HasEnded, Ran, Came, Broke}
-use Rattle.core_semantics.specs.State.{Frame, State, Store, Todo, Operate, Choose, Repeat, Lock, Unlock}
+use Rattle.core_semantics.specs.Legs.{Halt, NoTurn, StuckFor, HeldBy, HasEnded, Ran, Came, Halted}
+use Rattle.core_semantics.specs.State.{Frame, State, Store, Todo, Op, Choice, Loop, Sync, Unlock}
 use Rattle.core_semantics.specs.Steps.{After, Inner, Next, Goes, Sticks, Waits, Ends, base_of, entered}
 use Rattle.core_semantics.specs.Steps.{inner_step, monitor_of}
 
@@ -70,13 +71,13 @@ pub record Locking (core : Core) (k : Kinding core) (method : Method) (Body : k.
 
 -- what is known before code and after it
 abbrev pub Leads : (core : Core) → (k : Kinding core) → Method → Tree → k.Known → k.Known → Type 0
-Leads core k method (Step site place op) a b = k.IsAfter method op a b
-Leads core k method Nothing a b = a ≡ b
-Leads core k method (Then first rest) a b = InTurn (Leads core k method first) (Leads core k method rest) a b
-Leads core k method (Either left right) a b =
+Leads core k method (tree.Op site place op) a b = k.IsAfter method op a b
+Leads core k method tree.Skip a b = a ≡ b
+Leads core k method (tree.Seq first rest) a b = InTurn (Leads core k method first) (Leads core k method rest) a b
+Leads core k method (tree.Choice left right) a b =
     OneOf core k method (Leads core k method left) (Leads core k method right) a b
-Leads core k method (Again body) a b = Looping core k method (Leads core k method body) a b
-Leads core k method (Held place body) a b = Locking core k method (Leads core k method body) a b
+Leads core k method (tree.Loop body) a b = Looping core k method (Leads core k method body) a b
+Leads core k method (tree.Sync place body) a b = Locking core k method (Leads core k method body) a b
 
 -- the code of a method
 pub record IsCode (core : Core) (k : Kinding core) (method : Method) : Type 0 where
@@ -86,10 +87,10 @@ pub record IsCode (core : Core) (k : Kinding core) (method : Method) : Type 0 wh
 -- ---- code still to do
 
 abbrev pub Does : (core : Core) → (k : Kinding core) → Method → Todo → k.Known → k.Known → Type 0
-Does core k method (Operate place op) a b = k.IsAfter method op a b
-Does core k method (Choose left right) a b = Leads core k method (Either left right) a b
-Does core k method (Repeat body) a b = Leads core k method (Again body) a b
-Does core k method (Lock place body) a b = Leads core k method (Held place body) a b
+Does core k method (Op place op) a b = k.IsAfter method op a b
+Does core k method (Choice left right) a b = Leads core k method (tree.Choice left right) a b
+Does core k method (Loop body) a b = Leads core k method (tree.Loop body) a b
+Does core k method (Sync place body) a b = Leads core k method (tree.Sync place body) a b
 Does core k method Unlock a b = a ≡ b
 
 -- A step fits what is known, or less of it, and what comes behind it fits what is known then. Less is known before a
@@ -143,11 +144,11 @@ pub record IsState (core : Core) (k : Kinding core) (s : State) : Type 0 where
   pub second : AreFrames core k s.second.frames
 
 -- what comes of a step
-abbrev pub Comes : {X : Type 0} → (core : Core) → Kinding core → (X → Type 0) → Next X → Type 0
-Comes core k Is (Goes next) = Is next
-Comes core k Is (Sticks why) = k.MayStick
-Comes core k Is (Waits monitor) = Unit {0}
-Comes core k Is Ends = Unit {0}
+abbrev pub StepKeeps : {X : Type 0} → (core : Core) → Kinding core → (X → Type 0) → Next X → Type 0
+StepKeeps core k Is (Goes next) = Is next
+StepKeeps core k Is (Sticks why) = k.MayStick
+StepKeeps core k Is (Waits monitor) = Unit {0}
+StepKeeps core k Is Ends = Unit {0}
 
 abbrev pub MayHalt : (core : Core) → Kinding core → Halt → Type 0
 MayHalt core k NoTurn = Unit {0}
@@ -158,7 +159,7 @@ MayHalt core k HasEnded = Unit {0}
 -- the state behind steps, or before one that cannot be made
 abbrev pub RanTo : (core : Core) → Kinding core → Ran → Type 0
 RanTo core k (Came to left) = IsState core k to
-RanTo core k (Broke halt at steps) = MayHalt core k halt × IsState core k at
+RanTo core k (Halted halt at steps) = MayHalt core k halt × IsState core k at
 
 -- ---- what has to be shown of a kinding
 
@@ -203,7 +204,7 @@ pub record IsLocked (core : Core) (k : Kinding core) (method : Method) (under : 
 pub record Keeps (core : Core) (k : Kinding core) : Type 0 where
   pub inner : (method : Method) (i : Inner) (op : CoreOp) (a b : k.Known) → is_inner op ≡ true →
       k.IsAfter method op a b → k.IsStored i.store → k.IsSo method a i.frame.vars i.frame.stack →
-      Comes core k (IsInner core k method b i.frame.todo) (inner_step core i op)
+      StepKeeps core k (IsInner core k method b i.frame.todo) (inner_step core i op)
   pub call : (method : Method) (m : MethodId) (n : ℕ) (a b : k.Known) (vars stack : List Value) →
       k.IsAfter method (Call m n) a b → k.IsSo method a vars stack → IsCalled core k method m n b vars stack
   pub result : (method : Method) (a b : k.Known) (vars stack : List Value) → k.IsAfter method Ret a b →

@@ -3,4 +3,4 @@ pub mod Reached
 pub mod PlaceValues
 pub mod Kinding
 pub mod ObjectKinds
-pub mod Rows
+pub mod Examples

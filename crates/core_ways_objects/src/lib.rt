@@ -11,5 +11,5 @@
 //! code as one such kinding (`object_kinds`).
 #![tactic(auto)]
 
+pub mod examples;
 pub mod laws;
-pub mod rows;

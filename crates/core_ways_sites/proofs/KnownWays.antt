@@ -46,17 +46,17 @@ each-set P (y ∷ xs) (suc n) x all one zero = all 0
 each-set P (y ∷ xs) (suc n) x all one (suc k) =
     each-set (λ j. P (suc j)) xs n x (λ j. all (suc j)) one k
 
-abbrev Found : Type 0
-Found = Option (BTreeMap ℕ Reached)
+abbrev FoundWays : Type 0
+FoundWays = Option (BTreeMap ℕ Reached)
 
-abbrev right-at : Core → ℕ → Found → Type 0
+abbrev right-at : Core → ℕ → FoundWays → Type 0
 right-at core k o = IfSome o (IsFound core (record { 0 = k }))
 
-pub found-pushed : (core : Core) (xs : List Found) → AreFound core xs → AreFound core (xs ++ None ∷ [])
+pub found-pushed : (core : Core) (xs : List FoundWays) → AreFound core xs → AreFound core (xs ++ None ∷ [])
 found-pushed core xs found =
     λ m. each-pushed (right-at core) xs None (λ k. found (record { 0 = k })) (λ k. tt) m.0
 
-pub found-set : (core : Core) (xs : List Found) (m : MethodId) (one : BTreeMap ℕ Reached) → AreFound core xs →
+pub found-set : (core : Core) (xs : List FoundWays) (m : MethodId) (one : BTreeMap ℕ Reached) → AreFound core xs →
     IsFound core m one → AreFound core (slice_set xs m.0 (Some one))
 found-set core xs m one found is =
     λ n. each-set (right-at core) xs m.0 (Some one) (λ k. found (record { 0 = k })) is n.0

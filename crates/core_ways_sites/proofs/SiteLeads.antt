@@ -11,12 +11,12 @@ use Rattle.racer_base.specs.declared.ids.Place.{Place}
 use Rattle.racer_base.specs.declared.ids.SiteId.{SiteId}
 use Rattle.core_code.specs.declared.code.Op.{Op as CoreOp}
 use Rattle.core_code.specs.Core.{Core}
-use Rattle.core_code.specs.Tree.{Tree, Step as Operate, Nothing, Then, Either, Again, Held, Operation}
+use Rattle.core_code.specs.Tree.{Tree, Op, Skip, Seq, Choice, Loop, Sync, Operation}
 use Rattle.core_semantics.specs.declared.answer.Turn.{Turn}
 use Rattle.core_semantics.specs.declared.answer.Turn.TheVariants.{Left, Right}
 use Rattle.core_ways.specs.declared.count.Count.{Count}
 use Rattle.core_ways.specs.declared.part.WayPart.{WayPart}
-use Rattle.core_ways.specs.declared.part.WayPart.TheVariants.{Step, Turned}
+use Rattle.core_ways.specs.declared.part.WayPart.TheVariants.{Step, Branched}
 use Rattle.core_ways.specs.Paths.{op_there}
 use Rattle.core_ways.specs.Ways.{Trip, has_site, joined, passed, reached, straight, trip_along, trip_of}
 use Rattle.core_ways.proofs.Alone.{along-both}
@@ -36,9 +36,9 @@ either-some : (p q : Option CoreOp) → is_some (option_or p q) ≡ (is_some p |
 either-some None q = refl
 either-some (Some x) q = refl
 
-has-both : (a b : Tree) (s : SiteId) → has_site (Then a b) s ≡ (has_site a s || has_site b s)
+has-both : (a b : Tree) (s : SiteId) → has_site (Seq a b) s ≡ (has_site a s || has_site b s)
 has-both a b s =
-    has-there (Then a b) s
+    has-there (Seq a b) s
     ∙ ap is_some (there-both a b s)
     ∙ either-some (op_there a s) (op_there b s)
     ∙ (λ i. sym (has-there a s) i || sym (has-there b s) i)
@@ -72,27 +72,27 @@ and-true false = refl
 pub and-none : (x y : Bool) → x ≡ false → (x && y) ≡ false
 and-none x y none = ap (λ (b : Bool). b && y) none
 
-same-there : (a b : Tree) (s : SiteId) → has_site a s ≡ true → op_there a s ≡ op_there (Then a b) s
+same-there : (a b : Tree) (s : SiteId) → has_site a s ≡ true → op_there a s ≡ op_there (Seq a b) s
 same-there a b s has = first-there a b s (op_there a s) refl (sym (has-there a s) ∙ has)
 
-rest-there : (a b : Tree) (s : SiteId) → has_site a s ≡ false → op_there b s ≡ op_there (Then a b) s
+rest-there : (a b : Tree) (s : SiteId) → has_site a s ≡ false → op_there b s ≡ op_there (Seq a b) s
 rest-there a b s none = second-there a b s (op_there a s) refl (sym (has-there a s) ∙ none)
 
 -- ---- which sites are left
 
 pub left-step : (a b : Tree) (s : SiteId) (old mid : BTreeSet ℕ) → AreLeft a old mid →
-    (contains nat_cmp mid s.0 && not (has_site b s)) ≡ (contains nat_cmp old s.0 && not (has_site (Then a b) s))
+    (contains nat_cmp mid s.0 && not (has_site b s)) ≡ (contains nat_cmp old s.0 && not (has_site (Seq a b) s))
 left-step a b s old mid first =
     ap (λ (x : Bool). x && not (has_site b s)) (first s)
     ∙ neither (contains nat_cmp old s.0) (has_site a s) (has_site b s)
     ∙ ap (λ (x : Bool). contains nat_cmp old s.0 && not x) (sym (has-both a b s))
 
 pub left-both : (a b : Tree) (old mid new : BTreeSet ℕ) → AreLeft a old mid → AreLeft b mid new →
-    AreLeft (Then a b) old new
+    AreLeft (Seq a b) old new
 left-both a b old mid new first second = λ s. second s ∙ left-step a b s old mid first
 
 op-has : (at : SiteId) (place : Place) (op : CoreOp) (s : SiteId) →
-    has_site (Operate at place op) s ≡ nat_eq at.0 s.0
+    has_site (Op at place op) s ≡ nat_eq at.0 s.0
 op-has at place op s =
     let one : Operation = record { site = at; place = place; op = op } in
     elim (nat_eq at.0 s.0) as (λ b. is_some (cond {A = Option Operation} b (Some one) None) ≡ b) [
@@ -107,7 +107,7 @@ taken-out true false = refl
 taken-out false false = refl
 
 pub left-op : (at : SiteId) (place : Place) (op : CoreOp) (old new : BTreeSet ℕ) →
-    UpdatesBy nat_cmp (nat_cmp at.0) old new false → AreLeft (Operate at place op) old new
+    UpdatesBy nat_cmp (nat_cmp at.0) old new false → AreLeft (Op at place op) old new
 left-op at place op old new updates = λ s.
     updates.0 s.0
     ∙ ap (λ (b : Bool). cond b false (contains nat_cmp old s.0)) (sym (unsigned_ties at.0 s.0))
@@ -125,7 +125,7 @@ none-wanted wanted k none = none-among _ wanted.keys none
 
 module _ (core : Core) (whole : Tree) where
   pub op-led : (locks : ℕ) (at : SiteId) (place : Place) (op : CoreOp) (wanted : BTreeSet ℕ) (count : Count)
-      (turns : List Turn) → AreLed core whole locks (Operate at place op) wanted count turns →
+      (turns : List Turn) → AreLed core whole locks (Op at place op) wanted count turns →
       contains nat_cmp wanted at.0 ≡ true → IsReached core whole at count turns op
   op-led locks at place op wanted count turns led still =
       let here : nat_eq at.0 at.0 ≡ true = eq-eqb at.0 at.0 refl in
@@ -144,7 +144,7 @@ module _ (core : Core) (whole : Tree) where
       }
 
   pub led-again : (locks : ℕ) (body : Tree) (wanted : BTreeSet ℕ) (count now : Count) (turns more : List Turn) →
-      AreLed core whole locks (Again body) wanted count turns → Onward count turns now more (one_turn Left) →
+      AreLed core whole locks (Loop body) wanted count turns → Onward count turns now more (one_turn Left) →
       AreLed core whole locks body wanted now more
   led-again locks body wanted count now turns more led onward = λ s still has.
       let one = led s still has in
@@ -155,7 +155,7 @@ module _ (core : Core) (whole : Tree) where
       }
 
   pub led-held : (locks within : ℕ) (place : Place) (body : Tree) (wanted : BTreeSet ℕ) (count now : Count)
-      (turns : List Turn) → within ≡ suc locks → AreLed core whole locks (Held place body) wanted count turns →
+      (turns : List Turn) → within ≡ suc locks → AreLed core whole locks (Sync place body) wanted count turns →
       Onward count turns now turns (straight 1) → AreLed core whole within body wanted now turns
   led-held locks within place body wanted count now turns deeper led onward = λ s still has.
       let one = led s still has in
@@ -170,17 +170,17 @@ module _ (core : Core) (whole : Tree) where
 
   -- towards the left side, where a site stands there
   towards-left : (locks : ℕ) (left right : Tree) (s : SiteId) → has_site left s ≡ true →
-      reached locks s (Either left right) ≡ Turned Left ∷ reached locks s left
+      reached locks s (Choice left right) ≡ Branched Left ∷ reached locks s left
   towards-left locks left right s has =
-      ap (λ (b : Bool). cond b (Turned Left ∷ reached locks s left) (Turned Right ∷ reached locks s right)) has
+      ap (λ (b : Bool). cond b (Branched Left ∷ reached locks s left) (Branched Right ∷ reached locks s right)) has
 
   towards-right : (locks : ℕ) (left right : Tree) (s : SiteId) → has_site left s ≡ false →
-      reached locks s (Either left right) ≡ Turned Right ∷ reached locks s right
+      reached locks s (Choice left right) ≡ Branched Right ∷ reached locks s right
   towards-right locks left right s none =
-      ap (λ (b : Bool). cond b (Turned Left ∷ reached locks s left) (Turned Right ∷ reached locks s right)) none
+      ap (λ (b : Bool). cond b (Branched Left ∷ reached locks s left) (Branched Right ∷ reached locks s right)) none
 
   pub led-left : (locks : ℕ) (left right : Tree) (wanted : BTreeSet ℕ) (count now : Count) (turns more : List Turn) →
-      AreLed core whole locks (Either left right) wanted count turns →
+      AreLed core whole locks (Choice left right) wanted count turns →
       Onward count turns now more (one_turn Left) → AreLed core whole locks left wanted now more
   led-left locks left right wanted count now turns more led onward = λ s still has.
       let one = led s still (has-both left right s ∙ or-first (has_site left s) (has_site right s) has) in
@@ -194,7 +194,7 @@ module _ (core : Core) (whole : Tree) where
       }
 
   pub led-right : (locks : ℕ) (left right : Tree) (wanted mid : BTreeSet ℕ) (count now : Count)
-      (turns more : List Turn) → AreLed core whole locks (Either left right) wanted count turns →
+      (turns more : List Turn) → AreLed core whole locks (Choice left right) wanted count turns →
       AreLeft left wanted mid → Onward count turns now more (one_turn Right) →
       AreLed core whole locks right mid now more
   led-right locks left right wanted mid count now turns more led out onward = λ s still has.
@@ -212,17 +212,17 @@ module _ (core : Core) (whole : Tree) where
       }
 
   into-first : (locks : ℕ) (first rest : Tree) (s : SiteId) → has_site first s ≡ true →
-      reached locks s (Then first rest) ≡ reached locks s first
+      reached locks s (Seq first rest) ≡ reached locks s first
   into-first locks first rest s has =
       ap (λ (b : Bool). cond b (reached locks s first) (passed locks first ++ reached locks s rest)) has
 
   past-first : (locks : ℕ) (first rest : Tree) (s : SiteId) → has_site first s ≡ false →
-      reached locks s (Then first rest) ≡ passed locks first ++ reached locks s rest
+      reached locks s (Seq first rest) ≡ passed locks first ++ reached locks s rest
   past-first locks first rest s none =
       ap (λ (b : Bool). cond b (reached locks s first) (passed locks first ++ reached locks s rest)) none
 
   pub led-first : (locks : ℕ) (first rest : Tree) (wanted : BTreeSet ℕ) (count : Count) (turns : List Turn) →
-      AreLed core whole locks (Then first rest) wanted count turns → AreLed core whole locks first wanted count turns
+      AreLed core whole locks (Seq first rest) wanted count turns → AreLed core whole locks first wanted count turns
   led-first locks first rest wanted count turns led = λ s still has.
       let one = led s still (has-both first rest s ∙ or-first (has_site first s) (has_site rest s) has) in
       let to : Trip = trip_along (trip_of core) (reached 0 s whole) in
@@ -234,7 +234,7 @@ module _ (core : Core) (whole : Tree) where
       }
 
   pub led-rest : (locks : ℕ) (first rest : Tree) (wanted mid : BTreeSet ℕ) (count now : Count)
-      (turns more : List Turn) → AreLed core whole locks (Then first rest) wanted count turns →
+      (turns more : List Turn) → AreLed core whole locks (Seq first rest) wanted count turns →
       AreLeft first wanted mid →
       Onward count turns now more (trip_along (trip_of core) (passed locks first)) →
       AreLed core whole locks rest mid now more

@@ -2,7 +2,8 @@
 ghost use Rattle.std.specs.Prelude.{◌≡◌, ℕ, suc, map, IfOk, OnOk};
 ghost use Rattle.core_code.specs.Core.{Core};
 ghost use Rattle.core_code.specs.Program.{core};
-ghost use Rattle.core_code.specs.Tree.{Tree, in_sequence, tree_of, Step as Operate};
+ghost use Rattle.core_code.specs.Tree.{Tree, in_sequence, tree_of};
+ghost use Rattle.core_code.specs.Tree as tree;
 ghost use Rattle.core_ways.specs.Passings.{IsTable};
 ghost use Rattle.core_ways.specs.Ways.{Trip, joined, passed, trip_along, trip_of};
 ghost use Rattle.core_semantics.specs.declared.answer.Turn.TheVariants.{Left};
@@ -68,9 +69,9 @@ fn visit_op(
     place: Place,
     op: Op,
 ) -> Result<(), Memory>
-    ensures left { OnOk result (AreLeft (Operate site place op) sites.old.wanted sites.new.wanted) }
+    ensures left { OnOk result (AreLeft (tree.Op site place op) sites.old.wanted sites.new.wanted) }
     ensures found { (c : Core) (whole : Tree) (locks : ℕ) →
-        AreLed c whole locks (Operate site place op) sites.old.wanted count turns.now →
+        AreLed c whole locks (tree.Op site place op) sites.old.wanted count turns.now →
         AreRight c whole sites.old.found → OnOk result (AreRight c whole sites.new.found) }
 {
     if sites.wanted.remove(&site.0) {

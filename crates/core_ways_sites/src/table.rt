@@ -7,7 +7,7 @@ ghost use Rattle.core_code.specs.CallFacts.{has_ranks};
 ghost use Rattle.core_code.specs.Core.{Core};
 ghost use Rattle.core_code.specs.Program.{core};
 ghost use Rattle.core_ways.specs.Answers.{IsWay};
-ghost use Rattle.core_ways.specs.Both.{AreBoth};
+ghost use Rattle.core_ways.specs.WayPairs.{IsWayPair};
 ghost use Rattle.core_ways.specs.Going.{IsEntered};
 ghost use Rattle.core_ways.specs.Ways.{Trip, joined, record_at, way_of};
 ghost use Rattle.core_ways.specs.declared.part.WayPart.{WayPart};
@@ -22,7 +22,7 @@ use access_domain::Outcomes;
 use core_code::{Op, Program};
 use core_semantics::Turn;
 use core_ways::{
-    Both, Count, Passings, Target, WayFault, WayTaken, behind_long, behind_taken, parts_to,
+    Count, Passings, Target, WayFault, WayPair, WayTaken, behind_long, behind_taken, parts_to,
     record_of,
 };
 use racer_base::{Items, MAX_WAY_STEPS, Memory, MethodId, SiteId};
@@ -115,13 +115,13 @@ fn taken(gone: Gone) -> Result<WayTaken, WayFault>
 }
 
 /// Two ways in running order.
-fn both(first: Gone, second: Gone) -> Result<Both, Memory>
+fn both(first: Gone, second: Gone) -> Result<WayPair, Memory>
     ensures { (a b : Trip) → IsGone a first.count first.turns.items → IsGone b second.count second.turns.items →
-        IfOk result (λ both. AreBoth a b both) }
+        IfOk result (λ both. IsWayPair a b both) }
 {
     match taken(first) {
         Ok(first) => behind_taken(first, taken(second)),
-        Err(WayFault::Unread(place)) => Ok(Both::Unread(place)),
+        Err(WayFault::Unread(place)) => Ok(WayPair::Unread(place)),
         Err(WayFault::Long(steps)) => behind_long(steps, taken(second)),
         Err(WayFault::Memory) => Err(Memory),
     }
@@ -277,11 +277,11 @@ impl SiteWays {
         outcomes: &Outcomes,
         first: Target,
         second: Target,
-    ) -> Result<Both, Memory>
+    ) -> Result<WayPair, Memory>
         requires outcomes { AreOutcomes (core program.now) outcomes.now.items }
         requires known { IsKnown (core program.now) self.old }
         ensures known { OnOk result (IsKnown (core program.now) self.new) }
-        ensures both { IfOk result (λ both. AreBoth (way_of (core program.now) first.method first.access)
+        ensures both { IfOk result (λ both. IsWayPair (way_of (core program.now) first.method first.access)
             (way_of (core program.now) second.method second.access) both) }
     {
         let first = self.go(program, outcomes, first)?;

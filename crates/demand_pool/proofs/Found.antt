@@ -14,7 +14,7 @@ use Rattle.core_code.proofs.Analysed.{analysed_in}
 use Rattle.access_domain.specs.Findings.{Known, outcome_from}
 use Rattle.access_domain.specs.Summaries.{outcome_of, known_given, known_of_callees}
 use Rattle.transfer.specs.declared.finished.Finished.{Finished}
-use Rattle.transfer.specs.Callees.{Held}
+use Rattle.transfer.specs.Callees.{SharedFinished}
 use Rattle.summary_store.specs.declared.machine.Event.{Event}
 use Rattle.summary_store.specs.Machine.{IsComplete}
 use Rattle.summary_store.specs.Kept.{IsRight, pieces_of}
@@ -46,22 +46,22 @@ past [] i e low = absurd (omega arith)
 past (x ∷ xs) zero e low = cc
 past (x ∷ xs) (suc i) e low = past xs i e (omega arith)
 
-module _ (p : Program) (w : ℕ) (h : List Event) (table : List (Option Held)) (pieces : List (Option Finished))
+module _ (p : Program) (w : ℕ) (h : List Event) (table : List (Option SharedFinished)) (pieces : List (Option Finished))
     (is : pieces_of arc_value table ≡ pieces)
     (right : IsRight (λ (f : Finished). f.method) (λ (f : Finished). arc_value f.program ≡ p) (setup_of (core p) w) h
     pieces)
     (complete : IsComplete (setup_of (core p) w) h) where
   -- a place of the pieces is that of the table
-  piece_at : (m : ℕ) (o : Option (Option Held)) → slice_get table m ≡ o
+  piece_at : (m : ℕ) (o : Option (Option SharedFinished)) → slice_get table m ≡ o
       → slice_get pieces m ≡ option_map (option_map arc_value) o
   piece_at m o at =
       ap (λ (l : List (Option Finished)). slice_get l m) (sym is)
       ∙ slice_get-map (option_map arc_value) table m ∙ ap (option_map (option_map arc_value)) at
 
   -- the outcome of what stands at the place of a method
-  at_place : (m : MethodId) (o : Option (Option Held)) → slice_get table m.0 ≡ o
+  at_place : (m : MethodId) (o : Option (Option SharedFinished)) → slice_get table m.0 ≡ o
       → option_map (λ (f : Finished). arc_value f.outcome)
-      (option_map arc_value (option_and_then (λ (piece : Option Held). piece) o)) ≡ outcome_of (core p) m
+      (option_map arc_value (option_and_then (λ (piece : Option SharedFinished). piece) o)) ≡ outcome_of (core p) m
   at_place m None at =
       elim (either (is_analysed (core p) m)) [
         | inl there ↦ (

@@ -10,11 +10,11 @@ use Rattle.core_code.specs.Chains.{row_of}
 use Rattle.core_code.specs.Core.{Core}
 use Rattle.core_code.specs.Counting.{IsIn, analysed_methods}
 use Rattle.core_code.specs.Program.{core}
-use Rattle.core_code.specs.Rows.{AreRowsOf, rows_in, rows_of}
+use Rattle.core_code.specs.CalleeRows.{AreRowsOf, rows_in, rows_of}
 use Rattle.core_code.specs.declared.rows.CallRows.{CallRows}
 use Rattle.core_code.proofs.Analysed.{analysed_of}
 use Rattle.core_code.proofs.RowCallees.{is_method, or-right, row_there}
-use Rattle.transfer.specs.Callees.{AreCallees, Held, outcome_in}
+use Rattle.transfer.specs.Callees.{AreCallees, SharedFinished, outcome_in}
 use Rattle.transfer.proofs.Every.{one-fewer, row-done}
 use Rattle.summary_store.specs.declared.machine.Hand.{Hand}
 use Rattle.summary_store.specs.declared.machine.Hand.TheVariants.{Holds}
@@ -47,21 +47,21 @@ at_any P row i a low here d = subst P (same_default row i a d low) here
 -- ---- the pieces that were found
 
 module _ (p : Core) (callees : List MethodId) where
-  pub found_none : (fs : List Held) → fs ≡ [] → AreFound p callees 0 fs
+  pub found_none : (fs : List SharedFinished) → fs ≡ [] → AreFound p callees 0 fs
   found_none fs is =
-      let IsFor : Held → Type 0 = λ f. core (arc_value (arc_value f).program) ≡ p in
+      let IsFor : SharedFinished → Type 0 = λ f. core (arc_value (arc_value f).program) ≡ p in
       record {
         count = ap length is;
-        same_program = subst (λ (l : List Held). All IsFor l) (sym is) (All-nil IsFor);
+        same_program = subst (λ (l : List SharedFinished). All IsFor l) (sym is) (All-nil IsFor);
         there = λ n e. or-right (is_some (outcome_in fs n)) (list_any (is_method n) callees) e;
       }
 
   -- one callee more was found
-  pub found_more : (i : ℕ) (d : MethodId) (now then : List Held) (piece : Held) → i < length callees
+  pub found_more : (i : ℕ) (d : MethodId) (now then : List SharedFinished) (piece : SharedFinished) → i < length callees
       → then ≡ now ++ piece ∷ [] → (arc_value piece).method.0 ≡ (get_or callees i d).0
       → core (arc_value (arc_value piece).program) ≡ p → AreFound p callees i now → AreFound p callees (i + 1) then
   found_more i d now then piece low is named right before =
-      let IsFor : Held → Type 0 = λ f. core (arc_value (arc_value f).program) ≡ p in
+      let IsFor : SharedFinished → Type 0 = λ f. core (arc_value (arc_value f).program) ≡ p in
       let more : AreFound p callees (i + 1) (now ++ piece ∷ []) = record {
         count = omega (arith, length-append now (piece ∷ []), before.count);
         same_program = All-push IsFor now piece before.same_program right;
@@ -69,7 +69,7 @@ module _ (p : Core) (callees : List MethodId) where
             one-fewer now piece callees i (get_or callees i d) n low (read_twice callees i d low)
             (same_number (arc_value piece).method (get_or callees i d) named) (before.there n e);
       } in
-      subst (λ (fs : List Held). AreFound p callees (i + 1) fs) (sym is) more
+      subst (λ (fs : List SharedFinished). AreFound p callees (i + 1) fs) (sym is) more
 
 -- the pass that found one callee more
 pub pass_more : (before after : PassView) (v i : ℕ) (hand : Hand)
@@ -100,7 +100,8 @@ module _ (p : Core) (r : CallRows) (m : MethodId) (are : AreRowsOf p r) where
         subst P (sym holds) ((λ j. slice_get (sym row_is j) (at j)) ∙ read_at row i d low)
 
     -- all callees are found
-    pub all_found : (q : Core) (fs gs : List Held) → q ≡ p → gs ≡ fs → length row ≤ i → IsIn m (analysed_methods p)
+    pub all_found : (q : Core) (fs gs : List SharedFinished) → q ≡ p → gs ≡ fs → length row ≤ i →
+        IsIn m (analysed_methods p)
         → AreFound p row i fs → AreCallees q m gs
     all_found q fs gs same pieces over known found =
         let all : AreCallees p m fs =

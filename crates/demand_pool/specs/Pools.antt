@@ -12,7 +12,7 @@ use Rattle.core_code.specs.Program.{core}
 use Rattle.access_domain.specs.declared.summary.Outcome.{Outcome}
 use Rattle.access_domain.specs.Summaries.{outcome_of}
 use Rattle.transfer.specs.declared.finished.Finished.{Finished}
-use Rattle.transfer.specs.Callees.{Held, outcome_in}
+use Rattle.transfer.specs.Callees.{SharedFinished, outcome_in}
 use Rattle.summary_store.specs.declared.machine.Event.{Event}
 use Rattle.summary_store.specs.Machine.{Setup, replay, HasLeft}
 use Rattle.summary_store.specs.Passes.{PassView, is_gone}
@@ -35,18 +35,18 @@ HaveWorked most passes = (k : ℕ) (d : PassView) → k < length passes → HasW
 
 -- what is found of a row behind its first i callees: as many pieces, finished for this program, and each method of the
 -- row is one of them, or one of the callees from place i on
-pub record AreFound (program : Core) (row : List MethodId) (i : ℕ) (fs : List Held) : Type 0 where
+pub record AreFound (program : Core) (row : List MethodId) (i : ℕ) (fs : List SharedFinished) : Type 0 where
   pub count : length fs ≡ i
-  pub same_program : All (λ (f : Held). core (arc_value (arc_value f).program) ≡ program) fs
+  pub same_program : All (λ (f : SharedFinished). core (arc_value (arc_value f).program) ≡ program) fs
   pub there : (n : MethodId) → list_any (λ (m : MethodId). nat_eq m.0 n.0) row ≡ true
       → (is_some (outcome_in fs n) || list_any (λ (m : MethodId). nat_eq m.0 n.0) (drop i row)) ≡ true
 
 -- the outcome that a table has at a place
-abbrev pub outcome_found : List (Option Held) → ℕ → Option Outcome
+abbrev pub outcome_found : List (Option SharedFinished) → ℕ → Option Outcome
 outcome_found table place =
     option_map (λ (f : Finished). arc_value f.outcome)
-    (option_map arc_value (option_and_then (λ (piece : Option Held). piece) (slice_get table place)))
+    (option_map arc_value (option_and_then (λ (piece : Option SharedFinished). piece) (slice_get table place)))
 
 -- the table has the outcome of each method
-abbrev pub AreAllFound : Core → List (Option Held) → Type 0
+abbrev pub AreAllFound : Core → List (Option SharedFinished) → Type 0
 AreAllFound program table = (m : MethodId) → outcome_found table m.0 ≡ outcome_of program m

@@ -5,7 +5,7 @@ use std::sync::Arc;
 
 /// What all workers of a run are given, and the rest after them.
 #[derive(Drop)]
-pub struct Given<'a, G> {
+pub struct WorkerContext<'a, G> {
     pub alloc: Global,
     pub program: &'a Arc<Program>,
     pub rows: &'a CallRows,

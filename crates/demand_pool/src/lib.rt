@@ -19,5 +19,5 @@ mod pool;
 mod rest;
 mod worker;
 
-pub use given::Given;
+pub use given::WorkerContext;
 pub use pool::{Pooled, run_pool, run_workers};

@@ -3,7 +3,7 @@ ghost use Rattle.std.specs.Prelude.{◌≡◌, ℕ, ◌+◌, ◌<◌, ◌≤◌,
 ghost use Rattle.std.specs.Arc.{arc_value};
 ghost use Rattle.core_code.specs.Counting.{analysed_methods};
 ghost use Rattle.core_code.specs.Program.{core};
-ghost use Rattle.core_code.specs.Rows.{AreRowsOf};
+ghost use Rattle.core_code.specs.CalleeRows.{AreRowsOf};
 ghost use Rattle.access_domain.specs.Outcomes.{AreOutcomes};
 ghost use Rattle.summary_store.specs.declared.machine.Hand.TheVariants.{Free};
 ghost use Rattle.summary_store.specs.Laws.{edges};
@@ -12,7 +12,7 @@ ghost use Rattle.summary_store.specs.Passes.{first_passes};
 ghost use Rattle.summary_store.specs.Setups.{setup_of, state_after};
 ghost use Rattle.demand_pool.specs.Pools.{AreNumbered, HasWorked, HaveWorked};
 
-use crate::given::Given;
+use crate::given::WorkerContext;
 use crate::outcomes::outcomes_of;
 use crate::rest::finish;
 use crate::worker::work;
@@ -76,7 +76,7 @@ fn run<L: StoreRun + Send + Sync, G: Gate + Sync, R: Threads + Wait + Sync>(
 {
     let (book, share) = blank.open::<L>();
     let most = takes_bound(alloc, program, rows)?;
-    let given = Given {
+    let given = WorkerContext {
         alloc,
         program,
         rows,
@@ -98,7 +98,7 @@ fn run<L: StoreRun + Send + Sync, G: Gate + Sync, R: Threads + Wait + Sync>(
 pub fn run_workers<L: StoreRun + Send + Sync, G: Gate + Sync, R: Threads + Wait + Sync>(
     rt: &R,
     store: &Store<Finished, L>,
-    given: &Given<'_, G>,
+    given: &WorkerContext<'_, G>,
     passes: Vec<Pass<L>>,
 ) -> Result<Vec<Pass<L>>, Memory>
     requires program { arc_value given.now.program.now ≡ L.program }
@@ -116,7 +116,7 @@ pub fn run_workers<L: StoreRun + Send + Sync, G: Gate + Sync, R: Threads + Wait 
 fn work_all<L: StoreRun + Send + Sync, G: Gate + Sync, R: Threads + Wait + Sync>(
     rt: &R,
     store: &Store<Finished, L>,
-    given: &Given<'_, G>,
+    given: &WorkerContext<'_, G>,
     passes: Vec<Pass<L>>,
 ) -> Result<Vec<Result<Pass<L>, Memory>>, Memory>
     requires program { arc_value given.now.program.now ≡ L.program }
@@ -138,7 +138,7 @@ fn work_all<L: StoreRun + Send + Sync, G: Gate + Sync, R: Threads + Wait + Sync>
 
 /// The passes, unless one met want of memory.
 fn passes_of<L: StoreRun, G: Gate>(
-    given: &Given<'_, G>,
+    given: &WorkerContext<'_, G>,
     worked: Vec<Result<Pass<L>, Memory>>,
 ) -> Result<Vec<Pass<L>>, Memory>
     requires count { length worked.items ≡ L.parts }
@@ -160,7 +160,7 @@ fn passes_of<L: StoreRun, G: Gate>(
 /// Lets each pass in order meet the value, and go on until it leaves.
 fn finish_all<L: StoreRun, G: Gate>(
     value: &mut Locked<Finished, L>,
-    given: &Given<'_, G>,
+    given: &WorkerContext<'_, G>,
     passes: &mut [Pass<L>],
 ) -> Result<(), Memory>
     requires program { arc_value given.now.program.now ≡ L.program }

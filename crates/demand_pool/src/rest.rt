@@ -3,7 +3,7 @@ ghost use Rattle.std.specs.Prelude.{◌≡◌, ◌+◌, ◌<◌, length, OnOk};
 ghost use Rattle.std.specs.Arc.{arc_value};
 ghost use Rattle.core_code.specs.Counting.{IsIn, analysed_methods};
 ghost use Rattle.core_code.specs.Program.{core};
-ghost use Rattle.core_code.specs.Rows.{AreRowsOf};
+ghost use Rattle.core_code.specs.CalleeRows.{AreRowsOf};
 ghost use Rattle.summary_store.specs.declared.machine.Hand.TheVariants.{Free, Holds};
 ghost use Rattle.summary_store.specs.Laws.{edges, takes};
 ghost use Rattle.summary_store.specs.Machine.{HasLeft};
@@ -11,7 +11,7 @@ ghost use Rattle.summary_store.specs.Passes.{Agrees};
 ghost use Rattle.summary_store.specs.Setups.{setup_of, state_after};
 ghost use Rattle.demand_pool.specs.Pools.{LeftStays};
 
-use crate::given::Given;
+use crate::given::WorkerContext;
 use racer_base::{Gate, Memory, MethodId, Moment};
 use std::sync::Arc;
 use summary_store::laws::{demand_at, publish_at, take_at};
@@ -21,7 +21,7 @@ use transfer::{Finished, analyse};
 /// Lets the pass meet the value, publish or park what it then holds, and go on until it leaves.
 pub(crate) fn finish<L: StoreRun, G: Gate>(
     value: &mut Locked<Finished, L>,
-    given: &Given<'_, G>,
+    given: &WorkerContext<'_, G>,
     pass: &mut Pass<L>,
 ) -> Result<(), Memory>
     requires program { arc_value given.now.program.now ≡ L.program }
@@ -53,7 +53,7 @@ pub(crate) fn finish<L: StoreRun, G: Gate>(
 /// Demands the row of a method that the pass holds; where all of it is found, analyses the method and publishes it.
 fn turn_at<L: StoreRun, G: Gate>(
     value: &mut Locked<Finished, L>,
-    given: &Given<'_, G>,
+    given: &WorkerContext<'_, G>,
     pass: &mut Pass<L>,
     m: MethodId,
 ) -> Result<(), Memory>

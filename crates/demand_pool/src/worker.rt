@@ -3,11 +3,11 @@ ghost use Rattle.std.specs.Prelude.{◌≡◌, ◌+◌, ◌<◌, ◌≤◌, fals
 ghost use Rattle.std.specs.Arc.{arc_value};
 ghost use Rattle.core_code.specs.Counting.{IsIn, analysed_methods};
 ghost use Rattle.core_code.specs.Program.{core};
-ghost use Rattle.core_code.specs.Rows.{AreRowsOf};
+ghost use Rattle.core_code.specs.CalleeRows.{AreRowsOf};
 ghost use Rattle.summary_store.specs.declared.machine.Hand.TheVariants.{Free, Holds};
 ghost use Rattle.demand_pool.specs.Pools.{HasWorked};
 
-use crate::given::Given;
+use crate::given::WorkerContext;
 use racer_base::{Gate, Memory, MethodId, Moment};
 use std::sync::{Arc, Wait};
 use summary_store::{Demand, Pass, Store, StoreRun};
@@ -17,7 +17,7 @@ use transfer::{Finished, analyse};
 pub(crate) fn work<L: StoreRun, R: Wait, G: Gate>(
     rt: &R,
     store: &Store<Finished, L>,
-    given: &Given<'_, G>,
+    given: &WorkerContext<'_, G>,
     mut pass: Pass<L>,
 ) -> Result<Pass<L>, Memory>
     requires program { arc_value given.now.program.now ≡ L.program }
@@ -40,7 +40,7 @@ pub(crate) fn work<L: StoreRun, R: Wait, G: Gate>(
 fn turn<L: StoreRun, R: Wait, G: Gate>(
     rt: &R,
     store: &Store<Finished, L>,
-    given: &Given<'_, G>,
+    given: &WorkerContext<'_, G>,
     pass: &mut Pass<L>,
     m: MethodId,
 ) -> Result<(), Memory>

@@ -1,7 +1,7 @@
 -- One step of the walk to the end of a declaration.
 use Rattle.std.proofs.Common.{◌≡◌, Bool, true, false, List, ◌∷◌, Option, Some, None, refl, ap, sym, ◌∙◌}
 use Rattle.std.proofs.Common.{codes}
-use Rattle.java_parser_grammar.specs.Tokens.{signed}
+use Rattle.java_parser_grammar.specs.Tokens.{begins_sign}
 use Rattle.java_parser_grammar.specs.Pieces.{Item}
 use Rattle.java_parser_grammar.specs.DeclarationWalk.{Seen, seen_with, is_whole}
 use Rattle.java_parser.specs.FirstDeclaration.{First, Misfit, Declared, first_by, first_declared}
@@ -29,7 +29,7 @@ first_step seen more is js i b e n w =
     ∙ ap (λ c. first_by c more i js (first_declared more js)) w
 
 pub declared_there : (seen more : Seen) (is js : List Item) (i : Item) → is ≡ i ∷ js → Some more ≡ seen_with seen i
-    → is_whole more ≡ true → first_declared seen is ≡ Declared (signed (codes "{") i) more js
+    → is_whole more ≡ true → first_declared seen is ≡ Declared (begins_sign (codes "{") i) more js
 declared_there seen more is js i e n w = first_step seen more is js i true e n w
 
 pub not_yet : (seen more : Seen) (is js : List Item) (i : Item) → is ≡ i ∷ js → Some more ≡ seen_with seen i

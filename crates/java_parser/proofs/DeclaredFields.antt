@@ -22,7 +22,7 @@ use Rattle.java_parser_grammar.proofs.FoundTypes.{ty_found}
 use Rattle.java_parser_grammar.proofs.SoundJava.{java_sound}
 use Rattle.java_parser_grammar.proofs.SoundSteps.{GotOne}
 use Rattle.java_parser_grammar.proofs.TypeFronts.{EndsTy}
-use Rattle.java_parser_grammar.specs.Tokens.{is_name, is_sign_token, signed}
+use Rattle.java_parser_grammar.specs.Tokens.{is_name, is_sign_token, begins_sign}
 use Rattle.java_parser_grammar.specs.Brackets.{depth_behind}
 use Rattle.java_parser_grammar.specs.Cuts.{onto_first, with_cut}
 use Rattle.java_parser_grammar.specs.Pieces.{Item, items_from, items_of}
@@ -165,7 +165,7 @@ each_begins (t ∷ ts) vs z =
       first = t;
       others = ts;
       is = refl;
-      named = between_begins t k.front (signed (codes ",") (t ∷ k.front)) (between_commas k.others) vs here;
+      named = between_begins t k.front (begins_sign (codes ",") (t ∷ k.front)) (between_commas k.others) vs here;
     }
 
 pub variables_begin : (ts : List Token) (vs : List FieldVariable) → AreVariables ts vs → BeginsName ts

@@ -7,7 +7,7 @@ use Rattle.std.specs.List.{AllZip}
 use Rattle.java_lexer.specs.declared.token.Token.{Token}
 use Rattle.java_tree.specs.declared.methods.FieldVariable.{FieldVariable}
 use Rattle.java_tree.specs.Formed.{Each}
-use Rattle.java_parser_grammar.specs.Tokens.{signed}
+use Rattle.java_parser_grammar.specs.Tokens.{begins_sign}
 use Rattle.java_parser_grammar.specs.Pieces.{Item, items_of}
 use Rattle.java_parser_grammar.specs.FieldDivisions.{IsVariable, IsRead, IsDivided, AreRead, before_first, between_commas}
 use Rattle.java_parser.specs.Divisions.{HasTree, NoDivision, EndsVariable, IsOnlySize, NoVariable, IsSized, IsCut}
@@ -149,7 +149,7 @@ passes_more ts rest p (Some left) h k = λ none. h (k none)
 
 pub comma_found : (front rest : List Token) (i after : List Token) (total : List (List Token))
     → before_first front (between_commas (items_of rest)) ≡ total → items_of rest ≡ i ∷ items_of after
-    → signed (codes ",") i ≡ true → total ≡ front ∷ left_pieces (Some after)
+    → begins_sign (codes ",") i ≡ true → total ≡ front ∷ left_pieces (Some after)
 comma_found front rest i after total so_far e comma =
     sym so_far ∙ (rw (e, comma) (ap (λ l. l ∷ between_commas (items_of after)) (append-nil front)))
 
@@ -160,10 +160,11 @@ first_joined front i (p ∷ ps) = ap (λ l. l ∷ ps) (append_assoc front i p)
 
 pub comma_later : (front rest : List Token) (i after : List Token) (total : List (List Token))
     → before_first front (between_commas (items_of rest)) ≡ total → items_of rest ≡ i ∷ items_of after
-    → signed (codes ",") i ≡ false → before_first (front ++ i) (between_commas (items_of after)) ≡ total
+    → begins_sign (codes ",") i ≡ false → before_first (front ++ i) (between_commas (items_of after)) ≡ total
 comma_later front rest i after total so_far e other =
     first_joined front i (between_commas (items_of after))
-    ∙ sym (ap (λ (is : List Item). before_first front (between_commas is)) e ∙ by_sign (signed (codes ",") i) other)
+    ∙ sym (ap (λ (is : List Item). before_first front (between_commas is)) e
+    ∙ by_sign (begins_sign (codes ",") i) other)
     ∙ so_far
   where
     by_sign : (b : Bool) → b ≡ false
@@ -191,7 +192,7 @@ comma_start ts = by_pieces (items_of ts) where
 
   by_pieces : (is : List Item) → before_first [] (between_commas is) ≡ between_commas is
   by_pieces [] = refl
-  by_pieces (i ∷ is) = by_sign (signed (codes ",") i) i (between_commas is)
+  by_pieces (i ∷ is) = by_sign (begins_sign (codes ",") i) i (between_commas is)
 
 pub goes_on : (ts rest p : List Token) (ps : List (List Token)) (left : Option (List Token)) → Divides ts ps (Some rest)
     → Each HasTree ps → Passes ts (Some rest) → IsFirst rest p left → DividedSoFar ts (ps ++ p ∷ []) left

@@ -6,7 +6,7 @@ use Rattle.std.proofs.lemmas.List.{append-nil}
 use Rattle.racer_base.specs.declared.ids.Place.{Place}
 use Rattle.java_lexer.specs.declared.token.Token.{Token}
 use Rattle.java_parser_grammar.specs.declared.unit.ParseFault.TheVariants.{NotAUnit}
-use Rattle.java_parser_grammar.specs.Tokens.{signed}
+use Rattle.java_parser_grammar.specs.Tokens.{begins_sign}
 use Rattle.java_parser_grammar.specs.Cuts.{joined, ends}
 use Rattle.java_parser_grammar.specs.Pieces.{Item, items_of}
 use Rattle.java_parser_grammar.specs.DeclarationWalk.{Seen, Whole, is_whole, declarations}
@@ -22,7 +22,7 @@ walked_types is types e = by_walk (declarations (Whole true true) is) refl e whe
       → AreTypes is types
   by_walk (Ok ds) w h =
       let fit = walk_is_file is ds w in
-      let same : map joined (filter (ends (signed (codes "{"))) ds) ≡ types = cc in
+      let same : map joined (filter (ends (begins_sign (codes "{"))) ds) ≡ types = cc in
       record { all = ds; fit = fit; among = ap (map joined) (types_end_with_braces is ds fit) ∙ same }
   by_walk (Err rest) w h = absurd cc
 

@@ -3,7 +3,7 @@ use Rattle.std.proofs.Common.{◌≡◌, ℕ, zero, suc, ◌≤◌, Bool, true, 
 use Rattle.std.proofs.Common.{length, refl, ap, sym, ◌∙◌, codes, take-append-drop, length-append, arith}
 use Rattle.std.specs.Prelude.{if◌then◌else◌}
 use Rattle.java_lexer.specs.declared.token.Token.{Token}
-use Rattle.java_parser_grammar.specs.Tokens.{signed}
+use Rattle.java_parser_grammar.specs.Tokens.{begins_sign}
 use Rattle.java_parser_grammar.specs.Cuts.{onto_first, with_cut, joined}
 use Rattle.java_parser_grammar.specs.Pieces.{Item, items_of}
 use Rattle.java_parser_grammar.specs.Members.{ends_member, cut_members}
@@ -16,12 +16,12 @@ use Rattle.java_parser_grammar.proofs.Joined.{joined_append, joined_items}
 by_end : (b equals : Bool) (i : Item) (is : List Item) →
     ((q : Bool) (j : Item) (js : List Item) → is ≡ j ∷ js → cut_members q is
     ≡ member_front q is ∷ cut_members false (behind_member q is))
-    → with_cut b i (cut_members (not b && (equals || signed (codes "=") i)) is)
-    ≡ (if b then i ∷ [] else i ∷ member_front (equals || signed (codes "=") i) is)
-    ∷ cut_members false (if b then is else behind_member (equals || signed (codes "=") i) is)
+    → with_cut b i (cut_members (not b && (equals || begins_sign (codes "=") i)) is)
+    ≡ (if b then i ∷ [] else i ∷ member_front (equals || begins_sign (codes "=") i) is)
+    ∷ cut_members false (if b then is else behind_member (equals || begins_sign (codes "=") i) is)
 by_end true equals i is others = refl
 by_end false equals i [] others = refl
-by_end false equals i (j ∷ js) others = ap (onto_first i) (others (equals || signed (codes "=") i) j js refl)
+by_end false equals i (j ∷ js) others = ap (onto_first i) (others (equals || begins_sign (codes "=") i) j js refl)
 
 cut_first : (equals : Bool) (i : Item) (is : List Item) → cut_members equals (i ∷ is) ≡ member_front equals (i ∷ is)
     ∷ cut_members false (behind_member equals (i ∷ is))
@@ -36,8 +36,8 @@ split_by false i is front behind e = ap (λ l. i ∷ l) e
 parts : (equals : Bool) (is : List Item) → member_front equals is ++ behind_member equals is ≡ is
 parts equals [] = refl
 parts equals (i ∷ is) =
-    split_by (ends_member equals i) i is (member_front (equals || signed (codes "=") i) is)
-    (behind_member (equals || signed (codes "=") i) is) (parts (equals || signed (codes "=") i) is)
+    split_by (ends_member equals i) i is (member_front (equals || begins_sign (codes "=") i) is)
+    (behind_member (equals || begins_sign (codes "=") i) is) (parts (equals || begins_sign (codes "=") i) is)
 
 -- ---- on tokens
 
@@ -80,7 +80,7 @@ pub ended_behind : (equals : Bool) (is js : List Item) (i : Item) → is ≡ i �
 ended_behind equals is js i e h = rw (e, h) refl
 
 pub passed_behind : (equals : Bool) (is js : List Item) (i : Item) → is ≡ i ∷ js → ends_member equals i ≡ false
-    → behind_member (equals || signed (codes "=") i) js ≡ behind_member equals is
+    → behind_member (equals || begins_sign (codes "=") i) js ≡ behind_member equals is
 passed_behind equals is js i e h = rw (e, h) refl
 
 pub same_behind : (equals : Bool) (is js : List Item) (i : Item) → equals ≡ true → is ≡ i ∷ js
@@ -89,7 +89,7 @@ same_behind true is js i q e h = passed_behind true is js i e h
 same_behind false is js i q e h = absurd cc
 
 pub next_behind : (equals : Bool) (is js : List Item) (i : Item) → equals ≡ false → is ≡ i ∷ js
-    → ends_member equals i ≡ false → behind_member (signed (codes "=") i) js ≡ behind_member equals is
+    → ends_member equals i ≡ false → behind_member (begins_sign (codes "=") i) js ≡ behind_member equals is
 next_behind false is js i q e h = passed_behind false is js i e h
 next_behind true is js i q e h = absurd cc
 
@@ -101,13 +101,13 @@ shorter_by false is behind h = h
 no_longer : (equals : Bool) (is : List Item) → length (behind_member equals is) ≤ length is
 no_longer equals [] = omega arith
 no_longer equals (i ∷ is) =
-    let q = equals || signed (codes "=") i in
+    let q = equals || begins_sign (codes "=") i in
     let h = shorter_by (ends_member equals i) is (behind_member q is) (no_longer q is) in
     omega (arith, h)
 
 shorter : (equals : Bool) (i : Item) (is : List Item) → length (behind_member equals (i ∷ is)) ≤ length is
 shorter equals i is =
-    let q = equals || signed (codes "=") i in
+    let q = equals || begins_sign (codes "=") i in
     shorter_by (ends_member equals i) is (behind_member q is) (no_longer q is)
 
 -- a member has a token

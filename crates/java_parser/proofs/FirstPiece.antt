@@ -9,7 +9,7 @@ use Rattle.java_tree.specs.Words.{identifier, sign}
 use Rattle.java_tree.specs.Brackets.{is_sign}
 use Rattle.java_parser_grammar.proofs.Taken.{sign_is}
 use Rattle.java_parser_grammar.proofs.Ensuring.{name_is}
-use Rattle.java_parser_grammar.specs.Tokens.{plain, is_sign_token, is_name, begins, signed}
+use Rattle.java_parser_grammar.specs.Tokens.{plain, is_sign_token, is_name, begins, begins_sign}
 use Rattle.java_parser_grammar.specs.Cuts.{onto_first, with_cut, joined}
 use Rattle.java_parser_grammar.specs.Brackets.{is_opening, is_closing, depth_behind}
 use Rattle.java_parser_grammar.specs.Pieces.{Item, items_of, more_of_annotation, more_of_piece, cut_pieces, pieces_of}
@@ -41,9 +41,10 @@ more_by false c m n h = one_at_most c (suc n)
 
 few_more : (is : List Item) → more_of_annotation is ≤ length is
 few_more [] = omega arith
-few_more (i ∷ []) = one_at_most (signed (codes "(") i) 0
+few_more (i ∷ []) = one_at_most (begins_sign (codes "(") i) 0
 few_more (i ∷ j ∷ is) =
-    more_by (signed (codes ".") i && begins is_name j) (signed (codes "(") i) (more_of_annotation is) (length is)
+    more_by (begins_sign (codes ".") i && begins is_name j) (begins_sign (codes "(") i) (more_of_annotation is)
+    (length is)
     (few_more is)
 
 -- ---- tokens that are no brackets
@@ -74,7 +75,7 @@ name_alone t ts h = single t ts (flat 0 t (identifier t.text) (name_is (plain t)
 -- ---- by the first token
 
 first_sign : (b : Bool) (k : ℕ) (text : List ℕ) (t : Token) (ts : List Token)
-    → signed text (take (if b then 1 else suc k) (t ∷ ts)) ≡ is_sign_token text t
+    → begins_sign text (take (if b then 1 else suc k) (t ∷ ts)) ≡ is_sign_token text t
 first_sign true k text t ts = refl
 first_sign false k text t ts = refl
 
@@ -84,7 +85,7 @@ first_name true k t ts = refl
 first_name false k t ts = refl
 
 -- the sign that the first item begins with
-sign_of_first : (text : List ℕ) (t : Token) (ts : List Token) → signed text (take (item_size 0 (t ∷ ts)) (t ∷ ts))
+sign_of_first : (text : List ℕ) (t : Token) (ts : List Token) → begins_sign text (take (item_size 0 (t ∷ ts)) (t ∷ ts))
     ≡ is_sign_token text t
 sign_of_first text t ts = first_sign (depth_behind 0 t == 0) (item_size (depth_behind 0 t) ts) text t ts
 
@@ -120,8 +121,9 @@ not_followed text true t ts i is s h e alone =
 
 -- ---- behind a name of an annotation
 
-more_else : (i : Item) (is : List Item) → (signed (codes ".") i && next_named is) ≡ false → more_of_annotation (i ∷ is)
-    ≡ (if signed (codes "(") i then 1 else 0)
+more_else : (i : Item) (is : List Item) → (begins_sign (codes ".") i && next_named is) ≡ false →
+    more_of_annotation (i ∷ is)
+    ≡ (if begins_sign (codes "(") i then 1 else 0)
 more_else i [] h = refl
 more_else i (j ∷ is) h = rw h refl
 
@@ -142,7 +144,7 @@ ends_there p ts h =
     let i = take size all in
     let is = items_of (drop size all) in
     let e : items_of all ≡ i ∷ is = first_item 0 p ts in
-    let apart : (signed (codes ".") i && next_named is) ≡ false = ap (λ b. b && next_named is) (sign_of_first
+    let apart : (begins_sign (codes ".") i && next_named is) ≡ false = ap (λ b. b && next_named is) (sign_of_first
     (codes ".") p ts)
     ∙ not_followed (codes ".") (is_sign_token (codes ".") p) p ts i is refl h e (λ s. sign_alone (codes ".") p ts s refl
     refl) in
@@ -187,7 +189,8 @@ piece_from ts i is m k e few more d =
     ap (map joined) cut ∙ ap (λ l. l ∷ map joined (cut_pieces 0 (drop m is))) front
     ∙ ap (λ l. take k ts ∷ map joined (cut_pieces 0 l)) d
 
-none_more : (i : Item) (is : List Item) → (signed (codes "@") i && next_named is) ≡ false → more_of_piece (i ∷ is) ≡ 0
+none_more : (i : Item) (is : List Item) → (begins_sign (codes "@") i && next_named is) ≡ false →
+    more_of_piece (i ∷ is) ≡ 0
 none_more i [] h = refl
 none_more i (j ∷ is) h = rw h refl
 
@@ -199,7 +202,7 @@ alone t ts h =
     let i = take size all in
     let is = items_of (drop size all) in
     let e : items_of all ≡ i ∷ is = first_item 0 t ts in
-    let apart : (signed (codes "@") i && next_named is) ≡ false = ap (λ b. b && next_named is) (sign_of_first
+    let apart : (begins_sign (codes "@") i && next_named is) ≡ false = ap (λ b. b && next_named is) (sign_of_first
     (codes "@") t ts)
     ∙ not_followed (codes "@") (is_sign_token (codes "@") t) t ts i is refl h e (λ s. sign_alone (codes "@") t ts s refl
     refl) in

@@ -4,7 +4,7 @@ use Rattle.std.proofs.Common.{refl, ap, sym, ◌∙◌, codes, take-append-drop,
 use Rattle.std.proofs.lemmas.List.{append_assoc, append-nil}
 use Rattle.std.specs.Prelude.{option_map, if◌then◌else◌}
 use Rattle.java_lexer.specs.declared.token.Token.{Token}
-use Rattle.java_parser_grammar.specs.Tokens.{is_name, signed}
+use Rattle.java_parser_grammar.specs.Tokens.{is_name, begins_sign}
 use Rattle.java_parser_grammar.specs.Cuts.{ends}
 use Rattle.java_parser_grammar.specs.Pieces.{Piece}
 use Rattle.java_parser_grammar.specs.Members.{before_parentheses, name_at_end}
@@ -22,16 +22,16 @@ pub no_front : (o : Option (List Token × Piece)) → behind_front [] o ≡ o
 no_front None = refl
 no_front (Some h) = refl
 
-pub head_found : (front : List Token) (ps qs : List Piece) (p : Piece) → ps ≡ p ∷ qs → signed (codes "(") p ≡ true
+pub head_found : (front : List Token) (ps qs : List Piece) (p : Piece) → ps ≡ p ∷ qs → begins_sign (codes "(") p ≡ true
     → behind_front front (before_parentheses ps) ≡ Some (front, p)
 head_found front ps qs p e h = rw (e, h) (ap (λ l. Some (l, p)) (append-nil front))
 
-pub head_lacks : (front : List Token) (ps qs : List Piece) (p : Piece) → ps ≡ p ∷ qs → signed (codes "(") p ≡ false
-    → signed (codes "=") p ≡ true → behind_front front (before_parentheses ps) ≡ None
+pub head_lacks : (front : List Token) (ps qs : List Piece) (p : Piece) → ps ≡ p ∷ qs → begins_sign (codes "(") p ≡ false
+    → begins_sign (codes "=") p ≡ true → behind_front front (before_parentheses ps) ≡ None
 head_lacks front ps qs p e h k = rw (e, h, k) refl
 
-pub head_more : (front : List Token) (ps qs : List Piece) (p : Piece) → ps ≡ p ∷ qs → signed (codes "(") p ≡ false
-    → signed (codes "=") p ≡ false → behind_front (front ++ p) (before_parentheses qs) ≡ behind_front front
+pub head_more : (front : List Token) (ps qs : List Piece) (p : Piece) → ps ≡ p ∷ qs → begins_sign (codes "(") p ≡ false
+    → begins_sign (codes "=") p ≡ false → behind_front (front ++ p) (before_parentheses qs) ≡ behind_front front
     (before_parentheses ps)
 head_more front ps qs p e h k = front_step front p (before_parentheses qs) ∙ (rw (e, h, k) refl)
 

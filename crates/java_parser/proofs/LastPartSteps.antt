@@ -19,8 +19,8 @@ use Rattle.racer_base.specs.declared.limits.TheConstants.{MAX_NESTING}
 use Rattle.java_parser_grammar.proofs.Appended.{part_append}
 use Rattle.java_parser.specs.declared.last_parts.Behind.{Behind}
 use Rattle.java_parser.specs.declared.last_parts.Behind.TheVariants.{Brackets, Closing, Angles, Arguments as All}
-use Rattle.java_parser.specs.declared.last_parts.Found.{Found}
-use Rattle.java_parser.specs.declared.last_parts.Found.TheVariants.{More, Part as Here, Nothing}
+use Rattle.java_parser.specs.declared.last_parts.Scanned.{Scanned}
+use Rattle.java_parser.specs.declared.last_parts.Scanned.TheVariants.{More, Part as Here, Nothing}
 use Rattle.java_parser_types.specs.Tokens.{spelled}
 use Rattle.java_parser.proofs.SameEnds.{plain_append}
 use Rattle.java_parser.specs.LastParts.{open_of, is_angle, found_with, Scan, Going, Ended, Lost, scan_by}
@@ -181,7 +181,7 @@ result_ended front (TypeResult t) f n some = type_ended front t f n
 
 -- ---- what is found is the end of the tokens
 
-by_found : (f : Found) (ts part : List Spelled) → scan_by f ts ≡ Ended part → ts ≡ part
+by_found : (f : Scanned) (ts part : List Spelled) → scan_by f ts ≡ Ended part → ts ≡ part
 by_found (More b) ts part e = absurd cc
 by_found Here ts part e = cc
 by_found Nothing ts part e = absurd cc
@@ -240,7 +240,7 @@ part_found ts before t b o e =
     let n = length before in
     let part = map spelled (drop n ts) in
     ap scanned (whole ts n)
-    ∙ ended_stays (map spelled (take n ts)) part part (o.scan ∙ ap (λ (f : Found). scan_by f part) (sym e))
+    ∙ ended_stays (map spelled (take n ts)) part part (o.scan ∙ ap (λ (f : Scanned). scan_by f part) (sym e))
 
 pub nothing_found : (ts before : List Token) (t : Token) (b : Behind) → OneMore ts before t b
     → Nothing ≡ found_with b (spelled t) → (part : List Spelled) → scanned (map spelled ts) ≡ Ended part → ⊥
@@ -248,13 +248,13 @@ nothing_found ts before t b o e part found =
     let n = length before in
     let lost : scanned (map spelled ts) ≡ Lost = ap scanned (whole ts n)
     ∙ lost_stays (map spelled (take n ts)) (map spelled (drop n ts))
-    (o.scan ∙ ap (λ (f : Found). scan_by f (map spelled (drop n ts))) (sym e)) in
+    (o.scan ∙ ap (λ (f : Scanned). scan_by f (map spelled (drop n ts))) (sym e)) in
     absurd cc
 
 pub more_found : (ts before : List Token) (t : Token) (b next : Behind) → OneMore ts before t b
     → More next ≡ found_with b (spelled t) → scanned (map spelled (drop (length before) ts)) ≡ Going next
 more_found ts before t b next o e =
-    o.scan ∙ ap (λ (f : Found). scan_by f (map spelled (drop (length before) ts))) (sym e)
+    o.scan ∙ ap (λ (f : Scanned). scan_by f (map spelled (drop (length before) ts))) (sym e)
 
 pub nothing_left : (ts rest : List Token) (b : Behind) → length rest ≡ 0
     → scanned (map spelled (drop (length rest) ts)) ≡ Going b → (part : List Spelled)
@@ -262,7 +262,7 @@ pub nothing_left : (ts rest : List Token) (b : Behind) → length rest ≡ 0
 nothing_left ts [] b none scan part found = absurd cc
 nothing_left ts (t ∷ rest) b none scan part found = absurd (omega (arith, none))
 
-by_choice : (x : Bool) (f g : Found) (next : Behind) (n : ℕ) → More next ≡ (if x then f else g)
+by_choice : (x : Bool) (f g : Scanned) (next : Behind) (n : ℕ) → More next ≡ (if x then f else g)
     → (More next ≡ f → open_of next ≤ n) → (More next ≡ g → open_of next ≤ n) → open_of next ≤ n
 by_choice true f g next n e a b = a e
 by_choice false f g next n e a b = b e

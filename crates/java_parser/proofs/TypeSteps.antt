@@ -6,7 +6,7 @@ use Rattle.std.proofs.lemmas.List.{append_assoc}
 use Rattle.racer_base.specs.declared.ids.Place.{Place}
 use Rattle.java_lexer.specs.declared.token.Token.{Token}
 use Rattle.java_tree.specs.Formed.{has_some}
-use Rattle.java_parser_grammar.specs.Tokens.{signed}
+use Rattle.java_parser_grammar.specs.Tokens.{begins_sign}
 use Rattle.java_parser_grammar.specs.Cuts.{joined, ends}
 use Rattle.java_parser_grammar.specs.Pieces.{Item, items_of}
 use Rattle.java_parser_grammar.specs.DeclarationWalk.{Seen, seen_with, is_whole, and_before, declarations}
@@ -28,10 +28,10 @@ record Split (seen : Seen) (is : List Item) (braces : Bool) (more : Seen) (behin
   pub some : IsTrue (has_some front)
   pub whole : declarations seen is ≡ and_whole front (declarations more behind)
   pub parts : front ++ behind ≡ is
-  pub ended : ends (signed (codes "{")) front ≡ braces
+  pub ended : ends (begins_sign (codes "{")) front ≡ braces
 
-same_end : (i : Item) (d : List Item) → IsTrue (has_some d) → ends (signed (codes "{")) (i ∷ d)
-    ≡ ends (signed (codes "{")) d
+same_end : (i : Item) (d : List Item) → IsTrue (has_some d) → ends (begins_sign (codes "{")) (i ∷ d)
+    ≡ ends (begins_sign (codes "{")) d
 same_end i [] h = absurd cc
 same_end i (j ∷ js) h = refl
 
@@ -48,14 +48,14 @@ abbrev Front : (whole : Bool) → (m : Seen) (i : Item) (is : List Item) → (br
     Item) → Type 0
 Front whole m i is braces more behind = (front : List Item) × IsTrue (has_some front)
     × (and_before whole i (declarations m is) ≡ and_whole front (declarations more behind))
-    × (front ++ behind ≡ i ∷ is) × (ends (signed (codes "{")) front ≡ braces)
+    × (front ++ behind ≡ i ∷ is) × (ends (begins_sign (codes "{")) front ≡ braces)
 
 by_whole : (whole : Bool) (m : Seen) (i : Item) (is : List Item) (braces : Bool) (more : Seen) (behind : List Item)
     → first_by whole m i is (first_declared m is) ≡ Declared braces more behind
     → (first_declared m is ≡ Declared braces more behind → Split m is braces more behind)
     → Front whole m i is braces more behind
 by_whole true m i is braces more behind e others =
-    let k = declared_parts (signed (codes "{") i) braces m more is behind e in (
+    let k = declared_parts (begins_sign (codes "{") i) braces m more is behind e in (
       i ∷ [],
       refl,
       alone i (declarations m is) ∙ ap (λ s. and_whole (i ∷ []) (declarations s is)) k.seen
@@ -95,7 +95,7 @@ split_first seen (i ∷ is) braces more behind e =
 
 -- ---- types
 
-add_type : (b : Bool) (d : List Item) (r : Declarations) → ends (signed (codes "{")) d ≡ b
+add_type : (b : Bool) (d : List Item) (r : Declarations) → ends (begins_sign (codes "{")) d ≡ b
     → typed (and_whole d r) ≡ with_types (type_if b (joined d)) (typed r)
 add_type true d (Ok ds) e = rw e refl
 add_type true d (Err rest) e = refl

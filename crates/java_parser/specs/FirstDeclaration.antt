@@ -2,7 +2,7 @@
 use Rattle.std.specs.Prelude.{◌≡◌, Bool, true, false, List, [], ◌∷◌, Result, Ok, Err, codes, drop, Some, None}
 use Rattle.racer_base.specs.declared.ids.Place.{Place}
 use Rattle.java_lexer.specs.declared.token.Token.{Token}
-use Rattle.java_parser_grammar.specs.Tokens.{signed, first_place}
+use Rattle.java_parser_grammar.specs.Tokens.{begins_sign, first_place}
 use Rattle.java_parser_grammar.specs.Cuts.{joined}
 use Rattle.java_parser_grammar.specs.Pieces.{Item, items_of}
 use Rattle.java_parser_grammar.specs.DeclarationWalk.{Seen, Whole, Modifiers, AtSign, AnnotationName, AnnotationPoint, TypeWord}
@@ -28,7 +28,7 @@ pub data First : Type 0 where
   Declared : (braces : Bool) → Seen → List Item → First
 
 abbrev pub first_by : (whole : Bool) → Seen → Item → List Item → First → First
-first_by true seen i is others = Declared (signed (codes "{") i) seen is
+first_by true seen i is others = Declared (begins_sign (codes "{") i) seen is
 first_by false seen i is others = others
 
 abbrev pub first_declared : Seen → List Item → First

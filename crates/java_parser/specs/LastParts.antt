@@ -4,8 +4,8 @@ use Rattle.java_tree.specs.declared.words.Spelled.{Spelled}
 use Rattle.java_tree.specs.Brackets.{is_sign, is_sign_kind}
 use Rattle.java_parser.specs.declared.last_parts.Behind.{Behind}
 use Rattle.java_parser.specs.declared.last_parts.Behind.TheVariants.{Brackets, Closing, Angles, Arguments}
-use Rattle.java_parser.specs.declared.last_parts.Found.{Found}
-use Rattle.java_parser.specs.declared.last_parts.Found.TheVariants.{More, Part, Nothing}
+use Rattle.java_parser.specs.declared.last_parts.Scanned.{Scanned}
+use Rattle.java_parser.specs.declared.last_parts.Scanned.TheVariants.{More, Part, Nothing}
 use Rattle.std.specs.Prelude.{bytes_eq, ◌&&◌}
 
 -- how many angle brackets are open
@@ -18,7 +18,7 @@ abbrev pub is_angle : Spelled → Bool
 is_angle t = is_sign_kind t.kind && bytes_eq t.text (codes ">")
 
 -- what is found with one more token before what was looked at
-abbrev pub found_with : Behind → Spelled → Found
+abbrev pub found_with : Behind → Spelled → Scanned
 found_with Brackets t =
     if is_sign (codes "]") t then More Closing else (if is_angle t then More (Angles 1) else Part)
 found_with Closing t = if is_sign (codes "[") t then More Brackets else Nothing
@@ -34,7 +34,7 @@ pub data Scan : Type 0 where
   Ended : (part : List Spelled) → Scan
   Lost : Scan
 
-abbrev pub scan_by : Found → List Spelled → Scan
+abbrev pub scan_by : Scanned → List Spelled → Scan
 scan_by (More behind) ts = Going behind
 scan_by Part ts = Ended ts
 scan_by Nothing ts = Lost

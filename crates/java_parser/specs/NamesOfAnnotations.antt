@@ -8,7 +8,7 @@ use Rattle.java_tree.specs.Formed.{has_some}
 use Rattle.java_tree.specs.Spelling.{names_onto}
 use Rattle.java_tree.specs.View.{annotation_of}
 use Rattle.java_parser_grammar.specs.Lookahead.{begins_with}
-use Rattle.java_parser_grammar.specs.Tokens.{plain_all, is_sign_token, is_name, signed}
+use Rattle.java_parser_grammar.specs.Tokens.{plain_all, is_sign_token, is_name, begins_sign}
 
 abbrev pub after_point : List Token → Option (Token × List Token)
 after_point [] = None
@@ -22,7 +22,7 @@ pub record AreNames (first : Token) (ts : List Token) (names : List (List ℕ)) 
 
 abbrev pub fits_names : List Token → Bool
 fits_names [] = true
-fits_names (t ∷ ts) = signed (codes "(") (t ∷ ts)
+fits_names (t ∷ ts) = begins_sign (codes "(") (t ∷ ts)
 
 -- the tokens behind the points and names in front
 abbrev pub behind_names : List Token → List Token

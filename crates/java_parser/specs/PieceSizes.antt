@@ -1,12 +1,12 @@
 -- No public contract rests on this: how many tokens the first piece has.
 use Rattle.std.specs.Prelude.{ℕ, suc, ◌&&◌, List, [], ◌∷◌, Option, Some, None, codes, if◌then◌else◌}
 use Rattle.java_lexer.specs.declared.token.Token.{Token}
-use Rattle.java_parser_grammar.specs.Tokens.{is_sign_token, is_name, signed}
+use Rattle.java_parser_grammar.specs.Tokens.{is_sign_token, is_name, begins_sign}
 use Rattle.java_parser.specs.Sizes.{item_size}
 
 -- how many tokens the parentheses in front have
 abbrev pub parentheses_size : List Token → ℕ
-parentheses_size ts = if signed (codes "(") ts then item_size 0 ts else 0
+parentheses_size ts = if begins_sign (codes "(") ts then item_size 0 ts else 0
 
 -- how many tokens go on with an annotation behind one of its names
 abbrev pub annotation_size : List Token → ℕ

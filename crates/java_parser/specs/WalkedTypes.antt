@@ -2,14 +2,14 @@
 use Rattle.std.specs.Prelude.{◌≡◌, Bool, true, false, List, [], ◌∷◌, ◌++◌, Result, Ok, Err, map, filter, codes}
 use Rattle.racer_base.specs.declared.ids.Place.{Place}
 use Rattle.java_lexer.specs.declared.token.Token.{Token}
-use Rattle.java_parser_grammar.specs.Tokens.{signed, first_place}
+use Rattle.java_parser_grammar.specs.Tokens.{begins_sign, first_place}
 use Rattle.java_parser_grammar.specs.Cuts.{joined, ends}
 use Rattle.java_parser_grammar.specs.Pieces.{Item}
 use Rattle.java_parser_grammar.specs.DeclarationWalk.{Seen, declarations}
 
 -- the tokens of each declaration that ends with braces
 abbrev pub typed : Result (List (List Item)) (List Item) → Result (List (List Token)) (List Item)
-typed (Ok ds) = Ok (map joined (filter (ends (signed (codes "{"))) ds))
+typed (Ok ds) = Ok (map joined (filter (ends (begins_sign (codes "{"))) ds))
 typed (Err rest) = Err rest
 
 -- the tokens of each type, or the items from the first on that does not fit

@@ -6,7 +6,7 @@ ghost use Rattle.java_parser_grammar.specs.Units.{body_among};
 ghost use Rattle.java_parser.specs.Members.{behind_member, cut_of};
 
 use super::items::{inside, next_item};
-use super::tests_of_tokens::signed;
+use super::tests_of_tokens::begins_sign;
 use java_lexer::Token;
 use java_parser_types::look::is_sign;
 
@@ -14,7 +14,7 @@ use java_parser_types::look::is_sign;
 fn ends_member(equals: bool, item: &[Token]) -> bool
     ensures { result ≡ ends_member equals item.now }
 {
-    signed(item, ";") || signed(item, "{") && !equals
+    begins_sign(item, ";") || begins_sign(item, "{") && !equals
 }
 
 /// How many tokens the first member has, its `;` or its braces included.
@@ -30,7 +30,7 @@ fn member_size(tokens: &[Token]) -> usize
         if ends_member(equals, item) {
             return size;
         }
-        equals = equals || signed(item, "=");
+        equals = equals || begins_sign(item, "=");
         rest = after;
     }
     size
@@ -57,7 +57,7 @@ pub fn is_endless(tokens: &[Token]) -> bool
         if ends_member(equals, item) {
             return false;
         }
-        equals = equals || signed(item, "=");
+        equals = equals || begins_sign(item, "=");
         rest = after;
     }
     true

@@ -1,6 +1,6 @@
 //! Classes that are read (JLS 8.1).
 ghost use Rattle.std.specs.Prelude.{◌≡◌, ◌&&◌, ◌||◌, Some, None, codes, IfOk, MatchOption};
-ghost use Rattle.java_parser_grammar.specs.Tokens.{signed, worded};
+ghost use Rattle.java_parser_grammar.specs.Tokens.{begins_sign, begins_word};
 ghost use Rattle.java_parser_grammar.specs.Pieces.{pieces_of};
 ghost use Rattle.java_parser_grammar.specs.Units.{name_in, read_name, IsClass};
 ghost use Rattle.java_parser.specs.ClassNames.{named_between};
@@ -11,7 +11,7 @@ use crate::declarations::TYPE_MODIFIERS;
 use crate::forms::behind_words;
 use crate::members::members;
 use crate::pieces::next_piece;
-use crate::tests_of_tokens::{signed, worded};
+use crate::tests_of_tokens::{begins_sign, begins_word};
 use java_lexer::Token;
 use java_parser_grammar::ClassTree;
 use racer_base::{Memory, Text};
@@ -19,14 +19,14 @@ use std::alloc::Global;
 
 /// Whether the name of a class that is read stands between these.
 fn is_read_between(word: &[Token], next: &[Token]) -> bool
-    ensures { result ≡ (worded (codes "class") word.now
-        && (signed (codes "{") next.now || worded (codes "implements") next.now)) }
+    ensures { result ≡ (begins_word (codes "class") word.now
+        && (begins_sign (codes "{") next.now || begins_word (codes "implements") next.now)) }
 {
-    worded(word, "class") && (signed(next, "{") || worded(next, "implements"))
+    begins_word(word, "class") && (begins_sign(next, "{") || begins_word(next, "implements"))
 }
 
 /// The first token of a name, where the class is read.
-fn named<'a>(word: &[Token], name: &'a [Token], next: &[Token]) -> Option<&'a Token>
+fn first_of_name<'a>(word: &[Token], name: &'a [Token], next: &[Token]) -> Option<&'a Token>
     ensures { MatchOption result (named_between word.now name.now next.now ≡ None) (λ t. named_between word.now name.now
         next.now ≡ Some t.now) }
 {
@@ -44,7 +44,7 @@ fn name_in(tokens: &[Token]) -> Option<&Token>
     let (word, rest) = next_piece(tokens)?;
     let (name, rest) = next_piece(rest)?;
     let (next, _) = next_piece(rest)?;
-    named(word, name, next)
+    first_of_name(word, name, next)
 }
 
 /// The name of a class that is read: behind it stand its braces, or `implements`.

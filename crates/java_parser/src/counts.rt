@@ -5,7 +5,7 @@ ghost use Rattle.java_parser_grammar.specs.Pieces.{items_of};
 ghost use Rattle.java_parser_grammar.specs.Heads.{commas_among, parameters_among, has_static, has_synchronized};
 
 use super::items::next_item;
-use super::tests_of_tokens::{begins_angle, signed, worded};
+use super::tests_of_tokens::{begins_angle, begins_sign, begins_word};
 use java_lexer::Token;
 use java_parser_types::look::is_keyword;
 
@@ -19,11 +19,11 @@ fn commas(tokens: &[Token]) -> u32
     let mut count: u32 = 0;
     let mut rest = tokens;
     while let Some((item, after)) = next_item(rest) {
-        if signed(item, "<") {
+        if begins_sign(item, "<") {
             angles += 1;
         } else if begins_angle(item) {
             angles = angles.saturating_sub(1);
-        } else if signed(item, ",") && angles == 0 {
+        } else if begins_sign(item, ",") && angles == 0 {
             count += 1;
         }
         rest = after;
@@ -48,7 +48,7 @@ pub fn has_static(front: &[Token]) -> bool
 {
     let mut rest = front;
     while let Some((item, after)) = next_item(rest) {
-        if worded(item, "static") {
+        if begins_word(item, "static") {
             return true;
         }
         rest = after;

@@ -6,7 +6,7 @@ ghost use Rattle.java_parser_grammar.specs.DeclarationWalk.{modified, seen_with,
 ghost use Rattle.java_parser.specs.FirstDeclaration.{seen_of, first_declared, IsFirst};
 
 use super::items::next_item;
-use super::tests_of_tokens::{named, signed, worded, worded_among};
+use super::tests_of_tokens::{begins_name, begins_sign, begins_word, worded_among};
 use java_lexer::Token;
 use racer_base::Place;
 
@@ -49,9 +49,9 @@ fn modified(early: bool, item: &[Token]) -> Option<Seen>
         Some(Seen::Modifiers(false))
     } else if worded_among(item, &TYPE_WORDS) {
         Some(Seen::TypeWord)
-    } else if signed(item, "@") {
+    } else if begins_sign(item, "@") {
         Some(Seen::AtSign(early))
-    } else if early && worded(item, "package") {
+    } else if early && begins_word(item, "package") {
         Some(Seen::Directive)
     } else {
         None
@@ -61,9 +61,9 @@ fn modified(early: bool, item: &[Token]) -> Option<Seen>
 fn begun(early: bool, imports: bool, item: &[Token]) -> Option<Seen>
     ensures { option_map seen_of result ≡ seen_with (Whole early imports) item.now }
 {
-    if signed(item, ";") {
+    if begins_sign(item, ";") {
         Some(Seen::Whole(early, imports))
-    } else if imports && worded(item, "import") {
+    } else if imports && begins_word(item, "import") {
         Some(Seen::Directive)
     } else {
         modified(early, item)
@@ -73,9 +73,9 @@ fn begun(early: bool, imports: bool, item: &[Token]) -> Option<Seen>
 fn annotated(early: bool, item: &[Token]) -> Option<Seen>
     ensures { option_map seen_of result ≡ seen_with (AnnotationName early) item.now }
 {
-    if signed(item, ".") {
+    if begins_sign(item, ".") {
         Some(Seen::AnnotationPoint(early))
-    } else if signed(item, "(") {
+    } else if begins_sign(item, "(") {
         Some(Seen::Modifiers(early))
     } else {
         modified(early, item)
@@ -86,9 +86,9 @@ fn annotated(early: bool, item: &[Token]) -> Option<Seen>
 fn marked(early: bool, item: &[Token]) -> Option<Seen>
     ensures { option_map seen_of result ≡ seen_with (AtSign early) item.now }
 {
-    if named(item) {
+    if begins_name(item) {
         Some(Seen::AnnotationName(early))
-    } else if worded(item, "interface") {
+    } else if begins_word(item, "interface") {
         Some(Seen::TypeWord)
     } else {
         None
@@ -105,28 +105,28 @@ fn seen_with(seen: Seen, item: &[Token]) -> Option<Seen>
         Seen::AtSign(early) => marked(early, item),
         Seen::AnnotationName(early) => annotated(early, item),
         Seen::AnnotationPoint(early) => {
-            if named(item) {
+            if begins_name(item) {
                 Some(Seen::AnnotationName(early))
             } else {
                 None
             }
         }
         Seen::TypeWord => {
-            if named(item) {
+            if begins_name(item) {
                 Some(Seen::TypeName)
             } else {
                 None
             }
         }
         Seen::TypeName => {
-            if signed(item, "{") {
+            if begins_sign(item, "{") {
                 Some(Seen::Whole(false, false))
             } else {
                 Some(Seen::TypeName)
             }
         }
         Seen::Directive => {
-            if signed(item, ";") {
+            if begins_sign(item, ";") {
                 Some(Seen::Whole(false, true))
             } else {
                 Some(Seen::Directive)
@@ -180,7 +180,7 @@ pub(crate) fn first_declaration(
         size += item.len();
         rest = after;
         if is_whole(more) {
-            let braces = signed(item, "{");
+            let braces = begins_sign(item, "{");
             return Ok(Declaration { size, braces, seen });
         }
     }

@@ -12,7 +12,7 @@ ghost use Rattle.java_parser.specs.Divisions.{IsSized, IsFirst};
 ghost use Rattle.java_parser.specs.Divisions.{IsCut, left_size, left_pieces, ArePieces};
 
 use crate::items::next_item;
-use crate::tests_of_tokens::signed;
+use crate::tests_of_tokens::begins_sign;
 use java_lexer::Token;
 use java_parser_expressions::initialisers::read_initialiser;
 use java_parser_types::ReadError;
@@ -119,7 +119,7 @@ fn until_comma(tokens: &[Token]) -> (&[Token], Option<&[Token]>)
     let mut size = 0;
     let mut rest = tokens;
     while let Some((item, after)) = next_item(rest) {
-        if signed(item, ",") {
+        if begins_sign(item, ",") {
             let (piece, _) = tokens.split_at(size);
             return (piece, Some(after));
         }

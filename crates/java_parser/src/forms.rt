@@ -12,7 +12,7 @@ use super::bodies::is_endless;
 use super::declarations::TYPE_WORDS;
 use super::items::next_item;
 use super::pieces::{is_annotation, next_piece};
-use super::tests_of_tokens::{signed, worded, worded_among};
+use super::tests_of_tokens::{begins_sign, begins_word, worded_among};
 use java_lexer::Token;
 use java_parser_types::look::{is_name, is_sign};
 
@@ -49,11 +49,11 @@ fn is_block(member: &[Token]) -> bool
         return false;
     };
     let Some((second, rest)) = next_item(rest) else {
-        return signed(first, "{");
+        return begins_sign(first, "{");
     };
     match next_item(rest) {
         Some(_) => false,
-        None => worded(first, "static") && signed(second, "{"),
+        None => begins_word(first, "static") && begins_sign(second, "{"),
     }
 }
 
@@ -81,7 +81,8 @@ fn begins_type(tokens: &[Token]) -> bool
     };
     match next_piece(rest) {
         Some((second, _)) => {
-            worded_among(first, &TYPE_WORDS) || signed(first, "@") && worded(second, "interface")
+            worded_among(first, &TYPE_WORDS)
+                || begins_sign(first, "@") && begins_word(second, "interface")
         }
         None => worded_among(first, &TYPE_WORDS),
     }
@@ -104,11 +105,11 @@ fn head(member: &[Token]) -> Option<(&[Token], &[Token])>
     let mut size = 0;
     let mut rest = member;
     while let Some((piece, after)) = next_piece(rest) {
-        if signed(piece, "(") {
+        if begins_sign(piece, "(") {
             let (front, _) = member.split_at(size);
             return Some((front, piece));
         }
-        if signed(piece, "=") {
+        if begins_sign(piece, "=") {
             return None;
         }
         size += piece.len();

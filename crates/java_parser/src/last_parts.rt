@@ -23,51 +23,51 @@ enum Behind {
 }
 
 #[derive(Clone, Copy)]
-enum Found {
+enum Scanned {
     More(Behind),
     Part,
     Nothing,
 }
 
 /// What is found in angle brackets, of which so many are open.
-fn found_in_angles(depth: usize, token: &Token) -> Found
+fn found_in_angles(depth: usize, token: &Token) -> Scanned
     requires { suc depth < 2 ^ 64 }
     ensures { result ≡ found_with (Angles depth) (spelled token.now) }
 {
     if is_angle(token) {
-        Found::More(Behind::Angles(depth + 1))
+        Scanned::More(Behind::Angles(depth + 1))
     } else if !is_sign(token, "<") {
-        Found::More(Behind::Angles(depth))
+        Scanned::More(Behind::Angles(depth))
     } else if depth == 1 {
-        Found::More(Behind::Arguments)
+        Scanned::More(Behind::Arguments)
     } else {
-        Found::More(Behind::Angles(depth.saturating_sub(1)))
+        Scanned::More(Behind::Angles(depth.saturating_sub(1)))
     }
 }
 
-fn found_with(behind: Behind, token: &Token) -> Found
+fn found_with(behind: Behind, token: &Token) -> Scanned
     requires { suc (open_of behind) < 2 ^ 64 }
     ensures { result ≡ found_with behind (spelled token.now) }
 {
     match behind {
         Behind::Brackets => {
             if is_sign(token, "]") {
-                Found::More(Behind::Closing)
+                Scanned::More(Behind::Closing)
             } else if is_angle(token) {
-                Found::More(Behind::Angles(1))
+                Scanned::More(Behind::Angles(1))
             } else {
-                Found::Part
+                Scanned::Part
             }
         }
         Behind::Closing => {
             if is_sign(token, "[") {
-                Found::More(Behind::Brackets)
+                Scanned::More(Behind::Brackets)
             } else {
-                Found::Nothing
+                Scanned::Nothing
             }
         }
         Behind::Angles(depth) => found_in_angles(depth, token),
-        Behind::Arguments => Found::Part,
+        Behind::Arguments => Scanned::Part,
     }
 }
 
@@ -80,12 +80,12 @@ pub fn last_part(tokens: &[Token]) -> Option<&[Token]>
     let mut rest = tokens;
     while let Some((token, before)) = rest.split_last() {
         match found_with(behind, token) {
-            Found::More(next) => behind = next,
-            Found::Part => {
+            Scanned::More(next) => behind = next,
+            Scanned::Part => {
                 let (_, part) = tokens.split_at(before.len());
                 return Some(part);
             }
-            Found::Nothing => return None,
+            Scanned::Nothing => return None,
         }
         rest = before;
     }

@@ -4,7 +4,7 @@ ghost use Rattle.java_parser_grammar.specs.Pieces.{pieces_of, is_annotation};
 ghost use Rattle.java_parser.specs.PieceSizes.{parentheses_size, annotation_size, behind_name, behind_at, piece_size};
 
 use super::items::item_size;
-use super::tests_of_tokens::signed;
+use super::tests_of_tokens::begins_sign;
 use java_lexer::Token;
 use java_parser_types::look::{is_name, is_sign};
 
@@ -13,7 +13,7 @@ fn parentheses_size(tokens: &[Token]) -> usize
     ensures size { result ≡ parentheses_size tokens.now }
     ensures within { result ≤ length tokens.now }
 {
-    if signed(tokens, "(") {
+    if begins_sign(tokens, "(") {
         item_size(tokens)
     } else {
         0
@@ -85,7 +85,7 @@ pub fn is_annotation(piece: &[Token]) -> bool
     ensures { result ≡ is_annotation piece.now }
 {
     match piece {
-        [_, _, ..] => signed(piece, "@"),
+        [_, _, ..] => begins_sign(piece, "@"),
         _ => false,
     }
 }

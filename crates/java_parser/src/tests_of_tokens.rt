@@ -1,7 +1,7 @@
 //! Tests of tokens by the first of them, and its place.
 ghost use Rattle.std.specs.Prelude.{◌≡◌, IsTrue, map};
 ghost use Rattle.java_tree.specs.Formed.{has_some};
-ghost use Rattle.java_parser_grammar.specs.Tokens.{is_name, is_angle, is_keyword_of, begins, signed, worded};
+ghost use Rattle.java_parser_grammar.specs.Tokens.{is_name, is_angle, is_keyword_of, begins, begins_sign, begins_word};
 ghost use Rattle.java_parser_grammar.specs.Units.{BeginsAt};
 
 use java_lexer::{Token, TokenKind};
@@ -20,8 +20,8 @@ pub fn first_place(tokens: &[Token]) -> Place
 }
 
 /// Whether the first token is this sign.
-pub fn signed(tokens: &[Token], text: &str) -> bool
-    ensures { result ≡ signed text.now tokens.now }
+pub fn begins_sign(tokens: &[Token], text: &str) -> bool
+    ensures { result ≡ begins_sign text.now tokens.now }
 {
     match tokens {
         [token, ..] => is_sign(token, text),
@@ -30,8 +30,8 @@ pub fn signed(tokens: &[Token], text: &str) -> bool
 }
 
 /// Whether the first token is this keyword.
-pub fn worded(tokens: &[Token], text: &str) -> bool
-    ensures { result ≡ worded text.now tokens.now }
+pub fn begins_word(tokens: &[Token], text: &str) -> bool
+    ensures { result ≡ begins_word text.now tokens.now }
 {
     match tokens {
         [token, ..] => is_keyword(token, text),
@@ -40,7 +40,7 @@ pub fn worded(tokens: &[Token], text: &str) -> bool
 }
 
 /// Whether the first token is a name.
-pub fn named(tokens: &[Token]) -> bool
+pub fn begins_name(tokens: &[Token]) -> bool
     ensures { result ≡ begins is_name tokens.now }
 {
     match tokens {

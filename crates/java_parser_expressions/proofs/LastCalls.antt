@@ -10,8 +10,8 @@ use Rattle.java_tree.specs.Trees.{Expr}
 use Rattle.java_parser_grammar.specs.ExpressionReading.{Stop, Next, grown}
 use Rattle.java_parser_types.specs.declared.error.ReadError.{ReadError}
 use Rattle.java_parser_types.specs.ReadAnswer.{Gives}
-use Rattle.java_parser_expressions.specs.declared.turned.Turned.{Turned}
-use Rattle.java_parser_expressions.specs.declared.turned.Turned.TheVariants as turned
+use Rattle.java_parser_expressions.specs.declared.progress.Progress.{Progress}
+use Rattle.java_parser_expressions.specs.declared.progress.Progress.TheVariants as turned
 use Rattle.java_parser_expressions.specs.TurnView.{turn_of, places_put, IsWithin}
 
 -- what is at most m is at most n
@@ -25,7 +25,7 @@ pub exactly : {A : Type 0} (count : A → ℕ) (r : Result A ReadError) (m n : �
 exactly count (Ok x) m n h le = omega arith
 exactly count (Err e) m n h le = tt
 
-pub within : (r : Result Turned ReadError) (m n : ℕ) → IfOk r (λ x. IsWithin x m) → m ≤ n → IfOk r (λ x. IsWithin x n)
+pub within : (r : Result Progress ReadError) (m n : ℕ) → IfOk r (λ x. IsWithin x m) → m ≤ n → IfOk r (λ x. IsWithin x n)
 within (Ok (turned.Stop a)) m n h le = tt
 within (Ok (turned.Next a rest)) m n h le = omega arith
 within (Err e) m n h le = tt
@@ -35,7 +35,7 @@ no_stop true e a ts h = cc
 no_stop false e a ts h = cc
 
 -- the tokens behind a larger expression are its own
-pub grown_places : (r : Result Turned ReadError) (n : ℕ) (e : Expr) (ts : List Spelled) (here there whole : Places)
+pub grown_places : (r : Result Progress ReadError) (n : ℕ) (e : Expr) (ts : List Spelled) (here there whole : Places)
     → Gives turn_of r (grown n e ts) → IfOk r (λ x. places_put x here ≡ whole)
     → IfOk r (λ x. places_put x there ≡ whole)
 grown_places (Ok (turned.Next a rest)) n e ts here there whole given p = p

@@ -8,7 +8,7 @@ use Rattle.java_parser_grammar.specs.ExpressionReading.{read_at}
 use Rattle.java_parser_types.specs.declared.error.ReadError.{ReadError}
 use Rattle.java_parser_types.specs.ReadAnswer.{Gives}
 use Rattle.java_parser_types.proofs.ReadLoops.{ends_give}
-use Rattle.java_parser_expressions.specs.declared.turned.Turned.{Turned}
+use Rattle.java_parser_expressions.specs.declared.progress.Progress.{Progress}
 use Rattle.java_parser_expressions.specs.GoingOn.{goes_on}
 use Rattle.java_parser_expressions.specs.TurnView.{turn_of}
 
@@ -56,7 +56,7 @@ module _ (read : ℕ → Reading Expr) (n l : ℕ) (a : Expr) where
   turn_stops k here same e = rw (← same) (stops k e)
 
 -- what the code gives of the turn that goes on
-pub turn_given : (r : Result Turned ReadError) (n l : ℕ) (a : Expr) (k here : Lead) → k ≡ here
+pub turn_given : (r : Result Progress ReadError) (n l : ℕ) (a : Expr) (k here : Lead) → k ≡ here
     → goes_on l a k ≡ true → Gives turn_of r (turned (read_at n) n a k)
     → Gives turn_of r (turn_with (read_at n) n l a here)
 turn_given r n l a k here same e given =

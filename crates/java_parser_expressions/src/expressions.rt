@@ -14,7 +14,7 @@ use super::first_operand::operand;
 use super::leads::{Lead, lead_at};
 use super::levels::{binary_level, goes_on};
 use super::nested::NestedExpression;
-use super::turned::Turned;
+use super::progress::Progress;
 use super::turns::{assigned, called, chosen, indexed, joined, selected, stepped, tested};
 use java_lexer::Token;
 use java_parser_types::error::ReadError;
@@ -70,8 +70,8 @@ fn climb(
     let mut rest = tokens;
     for _ in 0..limit + 1 {
         match turn(alloc, limit, level, tree, rest)? {
-            Turned::Stop(whole) => return Ok((whole, rest)),
-            Turned::Next(larger, after) => {
+            Progress::Stop(whole) => return Ok((whole, rest)),
+            Progress::Next(larger, after) => {
                 tree = larger;
                 rest = after;
             }
@@ -89,7 +89,7 @@ fn turn<'a>(
     level: u32,
     left: NestedExpression,
     tokens: &'a [Token],
-) -> Result<Turned<'a>, ReadError>
+) -> Result<Progress<'a>, ReadError>
     requires few { length tokens.now < 2 ^ 32 }
     requires room { suc (suc limit) < 2 ^ 32 }
     requires left { left.nesting ≤ suc limit }
@@ -101,7 +101,7 @@ fn turn<'a>(
 {
     let lead = lead_at(tokens);
     if !goes_on(level, &left.tree, &lead) {
-        return Ok(Turned::Stop(left));
+        return Ok(Progress::Stop(left));
     }
     match lead {
         Lead::Assigns(operator, rest) => assign(alloc, limit, left, operator, rest),
@@ -111,7 +111,7 @@ fn turn<'a>(
         Lead::Steps(operator, rest) => stepped(alloc, limit, left, operator, rest),
         Lead::Selects(rest) => select(alloc, limit, left, rest),
         Lead::Indexes(rest) => index(alloc, limit, left, rest),
-        Lead::Opens | Lead::Ends => Ok(Turned::Stop(left)),
+        Lead::Opens | Lead::Ends => Ok(Progress::Stop(left)),
     }
 }
 
@@ -124,7 +124,7 @@ fn assign<'a>(
     left: NestedExpression,
     operator: &str,
     tokens: &'a [Token],
-) -> Result<Turned<'a>, ReadError>
+) -> Result<Progress<'a>, ReadError>
     requires few { length tokens.now < 2 ^ 32 }
     requires room { suc (suc limit) < 2 ^ 32 }
     requires left { left.nesting ≤ suc limit }
@@ -146,7 +146,7 @@ fn conditional<'a>(
     limit: u32,
     left: NestedExpression,
     tokens: &'a [Token],
-) -> Result<Turned<'a>, ReadError>
+) -> Result<Progress<'a>, ReadError>
     requires few { length tokens.now < 2 ^ 32 }
     requires room { suc (suc limit) < 2 ^ 32 }
     requires left { left.nesting ≤ suc limit }
@@ -171,7 +171,7 @@ fn binary<'a>(
     left: NestedExpression,
     operator: &str,
     tokens: &'a [Token],
-) -> Result<Turned<'a>, ReadError>
+) -> Result<Progress<'a>, ReadError>
     requires few { length tokens.now < 2 ^ 32 }
     requires room { suc (suc limit) < 2 ^ 32 }
     requires left { left.nesting ≤ suc limit }
@@ -193,7 +193,7 @@ fn select<'a>(
     limit: u32,
     left: NestedExpression,
     tokens: &'a [Token],
-) -> Result<Turned<'a>, ReadError>
+) -> Result<Progress<'a>, ReadError>
     requires few { length tokens.now < 2 ^ 32 }
     requires room { suc (suc limit) < 2 ^ 32 }
     requires left { left.nesting ≤ suc limit }
@@ -219,7 +219,7 @@ fn index<'a>(
     limit: u32,
     left: NestedExpression,
     tokens: &'a [Token],
-) -> Result<Turned<'a>, ReadError>
+) -> Result<Progress<'a>, ReadError>
     requires few { length tokens.now < 2 ^ 32 }
     requires room { suc (suc limit) < 2 ^ 32 }
     requires left { left.nesting ≤ suc limit }

@@ -46,8 +46,8 @@ pub fn operand(
     }
     match token.kind {
         TokenKind::Keyword => word(alloc, limit, token, rest),
-        TokenKind::Name => named(alloc, limit, token, rest),
-        TokenKind::Sign => signed(alloc, limit, token, rest),
+        TokenKind::Name => name_operand(alloc, limit, token, rest),
+        TokenKind::Sign => sign_operand(alloc, limit, token, rest),
         TokenKind::Fixed | TokenKind::Number | TokenKind::Character | TokenKind::Text => {
             literal(alloc, token, rest)
         }
@@ -85,7 +85,7 @@ fn word<'a>(
 /// What begins with this name: a class, a call or the name (JLS 15.8.2, 15.12, 15.14.1).
 #[cycle(expressions)]
 #[tactic(auto, unfolding(java_parser_grammar::specs::ExpressionReading::name_with))]
-fn named<'a>(
+fn name_operand<'a>(
     alloc: Global,
     limit: u32,
     token: &Token,
@@ -111,7 +111,7 @@ fn named<'a>(
 
 /// What begins with this sign (JLS 15.15, 15.16, 15.8.5).
 #[cycle(expressions)]
-fn signed<'a>(
+fn sign_operand<'a>(
     alloc: Global,
     limit: u32,
     token: &Token,

@@ -13,7 +13,7 @@ mod levels;
 mod lists;
 pub mod nested;
 mod operands;
-mod turned;
+mod progress;
 mod turns;
 mod whole;
 

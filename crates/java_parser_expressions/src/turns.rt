@@ -11,7 +11,7 @@ ghost use Rattle.java_parser_expressions.specs.TurnView.{turn_of, places_put, Is
 ghost use Rattle.java_parser_types.specs.ReadAnswer.{Gives};
 
 use super::nested::{NestedExpression, NestedExpressions};
-use super::turned::Turned;
+use super::progress::Progress;
 use java_lexer::Token;
 use java_parser_types::error::ReadError;
 use java_parser_types::look::sign;
@@ -35,7 +35,7 @@ fn grown<'a>(
     tree: Expression,
     nesting: u32,
     tokens: &'a [Token],
-) -> Result<Turned<'a>, ReadError>
+) -> Result<Progress<'a>, ReadError>
     requires room { suc (suc limit) < 2 ^ 32 }
     requires measured { nesting ≡ expr_nesting (expr_of tree) }
     ensures gives { Gives turn_of result (grown limit (expr_of tree) (map spelled tokens.now)) }
@@ -45,7 +45,7 @@ fn grown<'a>(
 {
     let larger = NestedExpression::new(alloc, tree, nesting)?;
     if is_within(limit, larger.nesting) {
-        Ok(Turned::Next(larger, tokens))
+        Ok(Progress::Next(larger, tokens))
     } else {
         Err(ReadError::Unformed)
     }
@@ -59,7 +59,7 @@ pub fn assigned<'a>(
     operator: &str,
     right: NestedExpression,
     tokens: &'a [Token],
-) -> Result<Turned<'a>, ReadError>
+) -> Result<Progress<'a>, ReadError>
     requires room { suc (suc limit) < 2 ^ 32 }
     requires left { left.nesting ≤ suc limit }
     requires right { right.nesting ≤ limit }
@@ -86,7 +86,7 @@ pub fn chosen<'a>(
     then: NestedExpression,
     other: NestedExpression,
     tokens: &'a [Token],
-) -> Result<Turned<'a>, ReadError>
+) -> Result<Progress<'a>, ReadError>
     requires room { suc (suc limit) < 2 ^ 32 }
     requires condition { condition.nesting ≤ suc limit }
     requires then { then.nesting ≤ limit }
@@ -112,7 +112,7 @@ pub fn joined<'a>(
     operator: &str,
     right: NestedExpression,
     tokens: &'a [Token],
-) -> Result<Turned<'a>, ReadError>
+) -> Result<Progress<'a>, ReadError>
     requires room { suc (suc limit) < 2 ^ 32 }
     requires left { left.nesting ≤ suc limit }
     requires right { right.nesting ≤ limit }
@@ -138,7 +138,7 @@ pub fn tested<'a>(
     limit: u32,
     left: NestedExpression,
     tokens: &'a [Token],
-) -> Result<Turned<'a>, ReadError>
+) -> Result<Progress<'a>, ReadError>
     requires few { length tokens.now < 2 ^ 32 }
     requires room { suc (suc limit) < 2 ^ 32 }
     requires left { left.nesting ≤ suc limit }
@@ -160,7 +160,7 @@ pub fn stepped<'a>(
     left: NestedExpression,
     operator: &str,
     tokens: &'a [Token],
-) -> Result<Turned<'a>, ReadError>
+) -> Result<Progress<'a>, ReadError>
     requires room { suc (suc limit) < 2 ^ 32 }
     requires left { left.nesting ≤ suc limit }
     ensures gives { Gives turn_of result (grown limit (Postfix (expr_of left.tree.value) operator.now)
@@ -182,7 +182,7 @@ pub fn selected<'a>(
     left: NestedExpression,
     name: Ident,
     tokens: &'a [Token],
-) -> Result<Turned<'a>, ReadError>
+) -> Result<Progress<'a>, ReadError>
     requires room { suc (suc limit) < 2 ^ 32 }
     requires left { left.nesting ≤ suc limit }
     ensures gives { Gives turn_of result (grown limit (Field (expr_of left.tree.value) name.text)
@@ -205,7 +205,7 @@ pub fn called<'a>(
     name: Ident,
     all: NestedExpressions,
     tokens: &'a [Token],
-) -> Result<Turned<'a>, ReadError>
+) -> Result<Progress<'a>, ReadError>
     requires room { suc (suc limit) < 2 ^ 32 }
     requires left { left.nesting ≤ suc limit }
     requires all { all.nesting ≤ limit }
@@ -228,7 +228,7 @@ pub fn indexed<'a>(
     left: NestedExpression,
     index: NestedExpression,
     tokens: &'a [Token],
-) -> Result<Turned<'a>, ReadError>
+) -> Result<Progress<'a>, ReadError>
     requires room { suc (suc limit) < 2 ^ 32 }
     requires left { left.nesting ≤ suc limit }
     requires index { index.nesting ≤ limit }

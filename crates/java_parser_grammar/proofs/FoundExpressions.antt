@@ -13,7 +13,7 @@ use Rattle.java_parser_grammar.specs.Leads.{pull}
 use Rattle.java_parser_grammar.specs.ExpressionReading.{read_at, array_at, init_at}
 use Rattle.java_parser_grammar.proofs.Taken.{pull_nothing}
 use Rattle.java_parser_grammar.proofs.Meetings.{Met, alone}
-use Rattle.java_parser_grammar.proofs.MetLists.{Given, GivenMore, given_none, given_some, more_none, more_some, Measured}
+use Rattle.java_parser_grammar.proofs.MetLists.{MetArguments, GivenMore, given_none, given_some, more_none, more_some, Measured}
 use Rattle.java_parser_grammar.proofs.MetLists.{measured_none, measured_some, Filled, filled_none, filled_some, Begun}
 use Rattle.java_parser_grammar.proofs.MetLists.{begun_value, begun_items, FilledMore, filled_more_none, filled_more_some}
 use Rattle.java_parser_grammar.proofs.MetForms.{assign_met, conditional_met, binary_met, instance_met, prefix_met}
@@ -44,7 +44,7 @@ mutual
   met (NewArray t (expr_then e es) m) f = array_met t e es m f (met e f.1.0) (measured es f.1.1)
   met (NewItems t m items) f = items_met t m items f (filled items f.2)
 
-  given : (all : Exprs) → FormedExprs all → Given all
+  given : (all : Exprs) → FormedExprs all → MetArguments all
   given no_expr f = given_none
   given (expr_then e es) f = given_some e es f (met e f.0) (more_given es f.1)
 

@@ -3,7 +3,7 @@ use Rattle.std.proofs.Common.{◌≡◌, ℕ, suc, Bool, true, false, ◌&&◌, 
 use Rattle.std.proofs.Common.{codes, arith}
 use Rattle.std.specs.Prelude.{◌==◌, if◌then◌else◌}
 use Rattle.java_lexer.specs.declared.token.Token.{Token}
-use Rattle.java_parser_grammar.specs.Tokens.{is_name, begins, signed}
+use Rattle.java_parser_grammar.specs.Tokens.{is_name, begins, begins_sign}
 use Rattle.java_parser_grammar.specs.Cuts.{onto_first, with_cut}
 use Rattle.java_parser_grammar.specs.Pieces.{Item, more_of_annotation, cut_pieces}
 use Rattle.java_parser_grammar.specs.Declarations.{leads, behind_front}
@@ -29,7 +29,7 @@ nonzero m = grind arith
 
 -- ---- outside annotations
 
-alone : (i : Item) (is : List Item) → (signed (codes "@") i && leads (begins is_name) is) ≡ false
+alone : (i : Item) (is : List Item) → (begins_sign (codes "@") i && leads (begins is_name) is) ≡ false
     → cut_pieces 0 (i ∷ is) ≡ (i ∷ []) ∷ cut_pieces 0 is
 alone i [] e = refl
 alone i (j ∷ js) e =
@@ -37,7 +37,7 @@ alone i (j ∷ js) e =
     (cut_pieces (if b then suc (more_of_annotation js) else 0) (j ∷ js))) e
 
 pub front_alone : (is_word : Token → Bool) (i : Item) (is : List Item)
-    → (signed (codes "@") i && leads (begins is_name) is) ≡ false
+    → (begins_sign (codes "@") i && leads (begins is_name) is) ≡ false
     → front is_word (i ∷ is) ≡ (if begins is_word i then front is_word is else i ∷ is)
 front_alone is_word i is e =
     ap (behind_front is_word) (alone i is e)
@@ -51,7 +51,7 @@ skip is_word i j true ps = refl
 skip is_word i j false [] = refl
 skip is_word i j false (p ∷ ps) = refl
 
-begun : (i j : Item) (js : List Item) → (signed (codes "@") i && begins is_name j) ≡ true
+begun : (i j : Item) (js : List Item) → (begins_sign (codes "@") i && begins is_name j) ≡ true
     → cut_pieces 0 (i ∷ j ∷ js)
     ≡ onto_first i (with_cut (more_of_annotation js == 0) j (cut_pieces (more_of_annotation js) js))
 begun i j js e =
@@ -60,28 +60,28 @@ begun i j js e =
     ∙ ap (λ b. with_cut b i (cut_pieces (suc (more_of_annotation js)) (j ∷ js))) (nonzero (more_of_annotation js))
 
 pub front_noted : (is_word : Token → Bool) (i j : Item) (js : List Item)
-    → (signed (codes "@") i && begins is_name j) ≡ true → front is_word (i ∷ j ∷ js) ≡ noted is_word js
+    → (begins_sign (codes "@") i && begins is_name j) ≡ true → front is_word (i ∷ j ∷ js) ≡ noted is_word js
 front_noted is_word i j js e =
     ap (behind_front is_word) (begun i j js e)
     ∙ skip is_word i j (more_of_annotation js == 0) (cut_pieces (more_of_annotation js) js)
 
 -- ---- behind the name of an annotation
 
-more_alone : (i : Item) (is : List Item) → (signed (codes ".") i && leads (begins is_name) is) ≡ false
-    → more_of_annotation (i ∷ is) ≡ (if signed (codes "(") i then 1 else 0)
+more_alone : (i : Item) (is : List Item) → (begins_sign (codes ".") i && leads (begins is_name) is) ≡ false
+    → more_of_annotation (i ∷ is) ≡ (if begins_sign (codes "(") i then 1 else 0)
 more_alone i [] e = refl
 more_alone i (j ∷ js) e =
-    ap (λ b. if b then suc (suc (more_of_annotation js)) else (if signed (codes "(") i then 1 else 0)) e
+    ap (λ b. if b then suc (suc (more_of_annotation js)) else (if begins_sign (codes "(") i then 1 else 0)) e
 
 pub noted_bracketed : (is_word : Token → Bool) (i : Item) (is : List Item)
-    → (signed (codes ".") i && leads (begins is_name) is) ≡ false → signed (codes "(") i ≡ true
+    → (begins_sign (codes ".") i && leads (begins is_name) is) ≡ false → begins_sign (codes "(") i ≡ true
     → noted is_word (i ∷ is) ≡ front is_word is
 noted_bracketed is_word i is e p =
     ap (λ n. behind_front is_word (left_of n (i ∷ is)))
     (more_alone i is e ∙ ap (λ b. if b then 1 else 0) p)
 
 pub noted_ended : (is_word : Token → Bool) (i : Item) (is : List Item)
-    → (signed (codes ".") i && leads (begins is_name) is) ≡ false → signed (codes "(") i ≡ false
+    → (begins_sign (codes ".") i && leads (begins is_name) is) ≡ false → begins_sign (codes "(") i ≡ false
     → noted is_word (i ∷ is) ≡ front is_word (i ∷ is)
 noted_ended is_word i is e p =
     ap (λ n. behind_front is_word (left_of n (i ∷ is)))
@@ -100,8 +100,9 @@ two_more n i j js =
     ∙ skip_two i j (n == 0) (cut_pieces n js)
 
 pub noted_pointed : (is_word : Token → Bool) (i j : Item) (js : List Item)
-    → (signed (codes ".") i && begins is_name j) ≡ true → noted is_word (i ∷ j ∷ js) ≡ noted is_word js
+    → (begins_sign (codes ".") i && begins is_name j) ≡ true → noted is_word (i ∷ j ∷ js) ≡ noted is_word js
 noted_pointed is_word i j js e =
-    ap (λ b. behind_front is_word (left_of (if b then suc (suc (more_of_annotation js)) else (if signed (codes "(") i
+    ap (λ b. behind_front is_word (left_of (if b then suc (suc (more_of_annotation js)) else
+    (if begins_sign (codes "(") i
     then 1 else 0)) (i ∷ j ∷ js))) e
     ∙ ap (behind_front is_word) (two_more (more_of_annotation js) i j js)

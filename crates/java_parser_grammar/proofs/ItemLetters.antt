@@ -13,7 +13,7 @@ use Rattle.java_tree.specs.Brackets.{is_sign}
 use Rattle.java_parser_grammar.specs.Taking.{is_keyword_kind, is_keyword}
 use Rattle.java_parser_grammar.specs.Lookahead.{is_word_name}
 use Rattle.java_parser_grammar.proofs.Taken.{sign_is}
-use Rattle.java_parser_grammar.specs.Tokens.{plain, is_name, begins, signed, worded}
+use Rattle.java_parser_grammar.specs.Tokens.{plain, is_name, begins, begins_sign, begins_word}
 use Rattle.java_parser_grammar.specs.Pieces.{Item}
 use Rattle.java_parser_grammar.specs.Declarations.{is_type_modifier, is_type_word}
 
@@ -76,14 +76,14 @@ at_name _ = false
 
 -- the item is read as this
 pub record Reads (i : Item) (l : Letter) : Type 0 where
-  pub semicolon : signed (codes ";") i ≡ at_semicolon l
-  pub braces : signed (codes "{") i ≡ at_braces l
-  pub parentheses : signed (codes "(") i ≡ at_parentheses l
-  pub point : signed (codes ".") i ≡ at_point l
-  pub mark : signed (codes "@") i ≡ at_mark l
-  pub package_word : worded (codes "package") i ≡ at_package l
-  pub import_word : worded (codes "import") i ≡ at_import l
-  pub interface_word : worded (codes "interface") i ≡ at_interface l
+  pub semicolon : begins_sign (codes ";") i ≡ at_semicolon l
+  pub braces : begins_sign (codes "{") i ≡ at_braces l
+  pub parentheses : begins_sign (codes "(") i ≡ at_parentheses l
+  pub point : begins_sign (codes ".") i ≡ at_point l
+  pub mark : begins_sign (codes "@") i ≡ at_mark l
+  pub package_word : begins_word (codes "package") i ≡ at_package l
+  pub import_word : begins_word (codes "import") i ≡ at_import l
+  pub interface_word : begins_word (codes "interface") i ≡ at_interface l
   pub modifier : begins is_type_modifier i ≡ at_modifier l
   pub word : begins is_type_word i ≡ at_word l
   pub name : begins is_name i ≡ at_name l
@@ -239,8 +239,8 @@ reads (t ∷ ts) = from_spelled t ts (read_spelled (plain t))
 
 -- a name is neither `;` nor braces
 pub record IsApart (i : Item) : Type 0 where
-  pub semicolon : signed (codes ";") i ≡ false
-  pub braces : signed (codes "{") i ≡ false
+  pub semicolon : begins_sign (codes ";") i ≡ false
+  pub braces : begins_sign (codes "{") i ≡ false
 
 pub name_apart : (i : Item) (l : Letter) → Reads i l → begins is_name i ≡ true → IsApart i
 name_apart i (Other modifier word name) k n = record { semicolon = k.semicolon; braces = k.braces }

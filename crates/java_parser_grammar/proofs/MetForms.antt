@@ -30,7 +30,7 @@ use Rattle.java_parser_grammar.proofs.Operands.{object_operand, array_operand, i
 use Rattle.java_parser_grammar.proofs.Lengths.{lengths_longer}
 use Rattle.java_parser_grammar.proofs.Casts.{parens_no_cast, signed_cast}
 use Rattle.java_parser_grammar.proofs.Meetings.{Met, alone, from_operand, from_turn, pull_operator}
-use Rattle.java_parser_grammar.proofs.MetLists.{unpack_exprs, packed_exprs, Given, Measured, Filled}
+use Rattle.java_parser_grammar.proofs.MetLists.{unpack_exprs, packed_exprs, MetArguments, Measured, Filled}
 
 -- ---- form by form
 
@@ -171,7 +171,7 @@ index_met a i f m m' = record {
       (omega arith)));
 }
 
-pub call_met : (x : List ℕ) (all : Exprs) → Given all → Met (Call x all)
+pub call_met : (x : List ℕ) (all : Exprs) → MetArguments all → Met (Call x all)
 call_met x all g = record {
   by = λ n l rest k fits low quiet unclassed eq.
       from_operand n l k (Call x all) _ rest
@@ -180,7 +180,7 @@ call_met x all g = record {
       (omega arith);
 }
 
-pub call_on_met : (a : Expr) (x : List ℕ) (all : Exprs) → 14 ≤ level a → Met a → Given all → Met (CallOn a x all)
+pub call_on_met : (a : Expr) (x : List ℕ) (all : Exprs) → 14 ≤ level a → Met a → MetArguments all → Met (CallOn a x all)
 unfolding class_at lead
 call_on_met a x all high m g = record {
   by = λ n l rest k fits low quiet unclassed eq.
@@ -191,7 +191,7 @@ call_on_met a x all high m g = record {
       (g.by n rest (omega arith)));
 }
 
-pub new_met : (t : Ty) (all : Exprs) → FormedExpr (New t all) → Given all → Met (New t all)
+pub new_met : (t : Ty) (all : Exprs) → FormedExpr (New t all) → MetArguments all → Met (New t all)
 new_met t all f g = record {
   by = λ n l rest k fits low quiet unclassed eq.
       let s = exprs_onto all (sign (codes ")") ∷ rest) in

@@ -44,7 +44,7 @@ packed_inits (init_then i is) = ap (init_then i) (packed_inits is)
 -- ---- arguments and lengths
 
 -- arguments are read behind their `(`
-pub record Given (all : Exprs) : Type 0 where
+pub record MetArguments (all : Exprs) : Type 0 where
   pub by : (n : ℕ) (rest : List Spelled) → exprs_nesting all ≤ n → call_arguments_with (read_at n)
       (exprs_onto all (sign (codes ")") ∷ rest)) ≡ Some (unpack_exprs all, rest)
 
@@ -58,11 +58,12 @@ pub record GivenMore (es : Exprs) : Type 0 where
   pub by : (n k : ℕ) (rest : List Spelled) → exprs_nesting es ≤ n → count_exprs es < k → commas (read_at n 0) k
       (more_exprs_onto es (sign (codes ")") ∷ rest)) ≡ Some (unpack_exprs es, sign (codes ")") ∷ rest)
 
-pub given_none : Given no_expr
+pub given_none : MetArguments no_expr
 unfolding unpack_exprs
 given_none = record { by = λ n rest fits. no_arguments (read_at n) rest }
 
-pub given_some : (e : Expr) (es : Exprs) → FormedExprs (expr_then e es) → Met e → GivenMore es → Given (expr_then e es)
+pub given_some : (e : Expr) (es : Exprs) → FormedExprs (expr_then e es) → Met e → GivenMore es →
+    MetArguments (expr_then e es)
 unfolding unpack_exprs
 given_some e es f m more = record {
   by = λ n rest fits.

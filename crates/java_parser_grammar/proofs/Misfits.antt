@@ -20,14 +20,14 @@ start = Whole true true
 
 -- ---- what is seen behind items
 
-abbrev Comes : Seen → List Item → Seen → Type 0
-Comes s [] m = s ≡ m
-Comes s (i ∷ is) m = (n : Seen) × (seen_with s i ≡ Some n) × Comes n is m
+abbrev Sees : Seen → List Item → Seen → Type 0
+Sees s [] m = s ≡ m
+Sees s (i ∷ is) m = (n : Seen) × (seen_with s i ≡ Some n) × Sees n is m
 
-comes_more : (before : List Item) (s m n : Seen) (i : Item) → Comes s before m → seen_with m i ≡ Some n
-    → Comes s (before ++ i ∷ []) n
-comes_more [] s m n i h e = (n, ap (λ s. seen_with s i) h ∙ e, refl)
-comes_more (j ∷ js) s m n i h e = (h.0, h.1, comes_more js h.0 m n i h.2 e)
+sees_more : (before : List Item) (s m n : Seen) (i : Item) → Sees s before m → seen_with m i ≡ Some n
+    → Sees s (before ++ i ∷ []) n
+sees_more [] s m n i h e = (n, ap (λ s. seen_with s i) h ∙ e, refl)
+sees_more (j ∷ js) s m n i h e = (h.0, h.1, sees_more js h.0 m n i h.2 e)
 
 one_more : (s n : Seen) (i : Item) (is : List Item) → seen_with s i ≡ Some n → declarations s (i ∷ is)
     ≡ and_before (is_whole n) i (declarations n is)
@@ -36,7 +36,7 @@ one_more s n i is e = declarations_are s i is ∙ ap (λ o. from o i is) e
 abbrev IsCut : Seen → List Item → Type 0
 IsCut s is = (ds : List (List Item)) × (declarations s is ≡ Ok ds)
 
-comes_cut : (before : List Item) (s m : Seen) (rest : List Item) → Comes s before m → IsCut m rest
+comes_cut : (before : List Item) (s m : Seen) (rest : List Item) → Sees s before m → IsCut m rest
     → IsCut s (before ++ rest)
 comes_cut [] s m rest h c = (c.0, ap (λ s. declarations s rest) h ∙ c.1)
 comes_cut (i ∷ is) s m rest h c =
@@ -46,7 +46,7 @@ comes_cut (i ∷ is) s m rest h c =
           → IsCut s (i ∷ is ++ rest)
       cut_before b ds e = (_, e)
 
-comes_stop : (before : List Item) (s m : Seen) (rest left : List Item) → Comes s before m
+comes_stop : (before : List Item) (s m : Seen) (rest left : List Item) → Sees s before m
     → declarations m rest ≡ Err left → declarations s (before ++ rest) ≡ Err left
 comes_stop [] s m rest left h e = ap (λ s. declarations s rest) h ∙ e
 comes_stop (i ∷ is) s m rest left h e =
@@ -59,7 +59,7 @@ cut_behind b i (Ok es) ds e = (es, refl)
 cut_behind b i (Err rest) ds e = absurd cc
 
 abbrev Leads : Seen → List Item → Type 0
-Leads s before = (m : Seen) × Comes s before m
+Leads s before = (m : Seen) × Sees s before m
 
 cut_comes_by : (o : Option Seen) (s : Seen) (i : Item) (is rest : List Item) (ds : List (List Item))
     → seen_with s i ≡ o → from o i (is ++ rest) ≡ Ok ds
@@ -100,7 +100,7 @@ completed TypeWord = (ended_type, (_, refl))
 completed TypeName = (one (sign (codes "{")) ∷ [], (_, refl))
 completed Directive = (one (sign (codes ";")) ∷ [], (_, refl))
 
-can_begin : (before : List Item) (m : Seen) → Comes start before m → CanBegin before
+can_begin : (before : List Item) (m : Seen) → Sees start before m → CanBegin before
 can_begin before m h =
     let c = completed m in
     let k = comes_cut before start m c.0 h c.1 in (c.0, k.0, walk_is_file (before ++ c.0) k.0 k.1)
@@ -115,7 +115,7 @@ record Stops (s : Seen) (is rest : List Item) : Type 0 where
   pub before : List Item
   pub parts : before ++ rest ≡ is
   pub last : Seen
-  pub comes : Comes s before last
+  pub comes : Sees s before last
   pub stopped : StopsAt last rest
 
 abbrev when_whole : Bool → Declared
@@ -158,7 +158,7 @@ stop_at : (m : Seen) (rest : List Item) → StopsAt m rest → declarations m re
 stop_at m [] h = ap when_whole h
 stop_at m (i ∷ is) h = declarations_are m i is ∙ ap (λ o. from o i is) h
 
-does_not_go_on : (before rest : List Item) (m : Seen) → Comes start before m → StopsAt m rest → GoesOn before rest → ⊥
+does_not_go_on : (before rest : List Item) (m : Seen) → Sees start before m → StopsAt m rest → GoesOn before rest → ⊥
 does_not_go_on before [] m h s g =
     ok_not_err (declarations start before) g.0 [] (file_is_walk before g.0 g.1)
     (ap (declarations start) (sym (append-nil before)) ∙ comes_stop before start m [] [] h (stop_at m [] s))
@@ -181,7 +181,7 @@ stop_is_misfit is rest e =
 
 -- ---- and it stops at what does not fit
 
-stop_of_none : (before : List Item) (m : Seen) (b : Bool) → is_whole m ≡ b → Comes start before m
+stop_of_none : (before : List Item) (m : Seen) (b : Bool) → is_whole m ≡ b → Sees start before m
     → (GoesOn before [] → ⊥) → declarations start (before ++ []) ≡ Err []
 stop_of_none before m true w h unfit =
     let c = comes_cut before start m [] h ([], ap when_whole w) in
@@ -189,12 +189,12 @@ stop_of_none before m true w h unfit =
 stop_of_none before m false w h unfit = comes_stop before start m [] [] h (ap when_whole w)
 
 stop_of_some : (before : List Item) (m : Seen) (i : Item) (is : List Item) (o : Option Seen) → seen_with m i ≡ o
-    → Comes start before m → (GoesOn before (i ∷ is) → ⊥) → declarations start (before ++ i ∷ is) ≡ Err (i ∷ is)
+    → Sees start before m → (GoesOn before (i ∷ is) → ⊥) → declarations start (before ++ i ∷ is) ≡ Err (i ∷ is)
 stop_of_some before m i is None n h unfit = comes_stop before start m (i ∷ is) (i ∷ is) h (stop_at m (i ∷ is) n)
 stop_of_some before m i is (Some s) n h unfit =
-    absurd (unfit (can_begin (before ++ i ∷ []) s (comes_more before start m s i h n)))
+    absurd (unfit (can_begin (before ++ i ∷ []) s (sees_more before start m s i h n)))
 
-stop_of : (before rest : List Item) (m : Seen) → Comes start before m → (GoesOn before rest → ⊥)
+stop_of : (before rest : List Item) (m : Seen) → Sees start before m → (GoesOn before rest → ⊥)
     → declarations start (before ++ rest) ≡ Err rest
 stop_of before [] m h unfit = stop_of_none before m (is_whole m) refl h unfit
 stop_of before (i ∷ is) m h unfit = stop_of_some before m i is (seen_with m i) refl h unfit

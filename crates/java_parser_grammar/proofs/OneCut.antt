@@ -6,7 +6,7 @@ use Rattle.std.specs.Prelude.{IsTrue, if◌then◌else◌}
 use Rattle.std.proofs.lemmas.Bool.{and_parts}
 use Rattle.java_tree.specs.Formed.{has_some}
 use Rattle.java_parser_grammar.specs.Pieces.{Item}
-use Rattle.java_parser_grammar.specs.Tokens.{signed}
+use Rattle.java_parser_grammar.specs.Tokens.{begins_sign}
 use Rattle.java_parser_grammar.specs.Cuts.{onto_first, with_cut, joined}
 use Rattle.java_parser_grammar.specs.DeclarationWalk.{Seen, seen_with, is_whole, and_before, declarations}
 use Rattle.java_parser_grammar.specs.Members.{ends_member, cut_members, is_endless}
@@ -18,18 +18,18 @@ use Rattle.java_parser_grammar.proofs.Joined.{joined_one}
 pub joined_cut : (equals : Bool) (is : List Item) → joined (cut_members equals is) ≡ is
 joined_cut equals [] = refl
 joined_cut equals (i ∷ is) =
-    let behind = not (ends_member equals i) && (equals || signed (codes "=") i) in
+    let behind = not (ends_member equals i) && (equals || begins_sign (codes "=") i) in
     joined_one (ends_member equals i) i (cut_members behind is) ∙ ap (λ js. i ∷ js) (joined_cut behind is)
 
 -- ---- one cut
 
 ending : (equals : Bool) (i : Item) (is : List Item) → ends_member equals i ≡ true
     → cut_members equals (i ∷ is) ≡ (i ∷ []) ∷ cut_members false is
-ending equals i is e = ap (λ b. with_cut b i (cut_members (not b && (equals || signed (codes "=") i)) is)) e
+ending equals i is e = ap (λ b. with_cut b i (cut_members (not b && (equals || begins_sign (codes "=") i)) is)) e
 
 going_on : (equals : Bool) (i : Item) (is : List Item) → ends_member equals i ≡ false
-    → cut_members equals (i ∷ is) ≡ onto_first i (cut_members (equals || signed (codes "=") i) is)
-going_on equals i is e = ap (λ b. with_cut b i (cut_members (not b && (equals || signed (codes "=") i)) is)) e
+    → cut_members equals (i ∷ is) ≡ onto_first i (cut_members (equals || begins_sign (codes "=") i) is)
+going_on equals i is e = ap (λ b. with_cut b i (cut_members (not b && (equals || begins_sign (codes "=") i)) is)) e
 
 not_so : (b : Bool) → not b ≡ true → b ≡ false
 not_so true h = absurd cc
@@ -44,7 +44,7 @@ first_piece : (equals : Bool) (p rest : List Item) → is_ended equals p ≡ tru
 first_piece equals [] rest h = absurd cc
 first_piece equals (i ∷ []) rest h = ending equals i rest h
 first_piece equals (i ∷ j ∷ is) rest h =
-    let behind = equals || signed (codes "=") i in
+    let behind = equals || begins_sign (codes "=") i in
     let parts = and_parts (not (ends_member equals i)) (is_ended behind (j ∷ is)) h in
     going_on equals i (j ∷ is ++ rest) (not_so (ends_member equals i) parts.0) ∙ ap (onto_first i) (first_piece behind
     (j ∷ is) rest parts.1)
@@ -55,7 +55,7 @@ last_piece equals i [] h = going_on equals i [] (not_so (ends_member equals i) (
     (ends_member equals i)) true
     h).0)
 last_piece equals i (j ∷ is) h =
-    let behind = equals || signed (codes "=") i in
+    let behind = equals || begins_sign (codes "=") i in
     let parts = and_parts (not (ends_member equals i)) (is_endless behind (j ∷ is)) h in
     going_on equals i (j ∷ is) (not_so (ends_member equals i) parts.0) ∙ ap (onto_first i) (last_piece behind j is
     parts.1)
@@ -90,34 +90,34 @@ and_ended equals i [] e h = inl e
 and_ended equals i (q ∷ ps) e h = (e, h)
 
 longer_ended : (equals : Bool) (i : Item) (p : List Item) → ends_member equals i ≡ false
-    → is_ended (equals || signed (codes "=") i) p ≡ true → is_ended equals (i ∷ p) ≡ true
+    → is_ended (equals || begins_sign (codes "=") i) p ≡ true → is_ended equals (i ∷ p) ≡ true
 longer_ended equals i [] e h = absurd cc
 longer_ended equals i (j ∷ p) e h = rw e h
 
 longer_endless : (equals : Bool) (i : Item) (p : List Item) → ends_member equals i ≡ false
-    → is_endless (equals || signed (codes "=") i) p ≡ true → is_endless equals (i ∷ p) ≡ true
+    → is_endless (equals || begins_sign (codes "=") i) p ≡ true → is_endless equals (i ∷ p) ≡ true
 longer_endless equals i p e h = rw e h
 
 longer_one : (equals : Bool) (i : Item) (p : List Item) → ends_member equals i ≡ false
-    → (IsTrue (is_ended (equals || signed (codes "=") i) p)) ⊎ (IsTrue (has_some p)
-    × IsTrue (is_endless (equals || signed (codes "=") i) p))
+    → (IsTrue (is_ended (equals || begins_sign (codes "=") i) p)) ⊎ (IsTrue (has_some p)
+    × IsTrue (is_endless (equals || begins_sign (codes "=") i) p))
     → (IsTrue (is_ended equals (i ∷ p))) ⊎ (IsTrue (has_some (i ∷ p)) × IsTrue (is_endless equals (i ∷ p)))
 longer_one equals i p e (inl h) = inl (longer_ended equals i p e h)
 longer_one equals i p e (inr h) = inr (refl, longer_endless equals i p e h.1)
 
 longer : (equals : Bool) (i : Item) (ps : List (List Item)) → ends_member equals i ≡ false
-    → IsCutFrom (equals || signed (codes "=") i) ps → IsCutFrom equals (onto_first i ps)
+    → IsCutFrom (equals || begins_sign (codes "=") i) ps → IsCutFrom equals (onto_first i ps)
 longer equals i [] e h = inr (refl, longer_endless equals i [] e refl)
 longer equals i (p ∷ []) e h = longer_one equals i p e h
 longer equals i (p ∷ q ∷ ps) e h = (longer_ended equals i p e h.0, h.1)
 
 by_end : (equals : Bool) (i : Item) (is : List Item) (b : Bool) → ends_member equals i ≡ b
     → ((q : Bool) → IsCutFrom q (cut_members q is))
-    → IsCutFrom equals (with_cut b i (cut_members (not b && (equals || signed (codes "=") i)) is))
+    → IsCutFrom equals (with_cut b i (cut_members (not b && (equals || begins_sign (codes "=") i)) is))
 by_end equals i is true e all = and_ended equals i (cut_members false is) e
     (from_nothing (cut_members false is) (all false))
 by_end equals i is false e all =
-    longer equals i (cut_members (equals || signed (codes "=") i) is) e (all (equals || signed (codes "=") i))
+    longer equals i (cut_members (equals || begins_sign (codes "=") i) is) e (all (equals || begins_sign (codes "=") i))
 
 pub is_cut_from : (equals : Bool) (is : List Item) → IsCutFrom equals (cut_members equals is)
 is_cut_from equals [] = tt

@@ -4,7 +4,7 @@ use Rattle.std.proofs.Common.{sym, ◌∙◌, codes}
 use Rattle.std.specs.Prelude.{if◌then◌else◌}
 use Rattle.std.proofs.lemmas.Bool.{true≢false}
 use Rattle.java_lexer.specs.declared.token.Token.{Token}
-use Rattle.java_parser_grammar.specs.Tokens.{is_name, begins, signed, worded}
+use Rattle.java_parser_grammar.specs.Tokens.{is_name, begins, begins_sign, begins_word}
 use Rattle.java_parser_grammar.specs.Pieces.{Item}
 use Rattle.java_parser_grammar.specs.Declarations.{is_type_modifier, leads, ends_first, names_type, is_semicolon, is_import}
 use Rattle.java_parser_grammar.specs.DeclarationWalk.{Seen, Whole, Modifiers, AtSign, AnnotationName, AnnotationPoint, TypeWord}
@@ -13,7 +13,7 @@ use Rattle.java_parser_grammar.proofs.ItemLetters.{Letter, Semicolon, Braces, Pa
 use Rattle.java_parser_grammar.proofs.ItemLetters.{InterfaceWord, Other, at_semicolon, at_braces, at_point}
 use Rattle.java_parser_grammar.proofs.ItemLetters.{at_mark, at_package, at_import, at_interface, at_modifier, at_word, at_name}
 use Rattle.java_parser_grammar.proofs.ItemLetters.{Reads, reads, IsApart, name_apart}
-use Rattle.java_parser_grammar.proofs.SeenLetters.{run, go, run_is, modified_at, seen_at, modified_by, same_two, same_four, seen_is}
+use Rattle.java_parser_grammar.proofs.SeenLetters.{run, run_from, run_is, modified_at, seen_at, modified_by, same_two, same_four, seen_is}
 use Rattle.java_parser_grammar.proofs.Fronts.{front, noted, front_alone, front_noted, noted_bracketed, noted_ended, noted_pointed}
 
 -- ---- what the tests say of the items behind what was seen
@@ -27,14 +27,14 @@ verdict early is_package is_type =
     if early && is_package then Some (Whole false true) else (if is_type then Some (Whole false false) else None)
 
 abbrev lines_end : List Item → Bool
-lines_end is = ends_first (signed (codes ";")) is
+lines_end is = ends_first (begins_sign (codes ";")) is
 
 abbrev braces_end : List Item → Bool
-braces_end is = ends_first (signed (codes "{")) is
+braces_end is = ends_first (begins_sign (codes "{")) is
 
 abbrev of_fronts : (early : Bool) → (notes words is : List Item) → Option Seen
 of_fronts early notes words is =
-    verdict early (leads (worded (codes "package")) notes && lines_end is) (names_type words && braces_end is)
+    verdict early (leads (begins_word (codes "package")) notes && lines_end is) (names_type words && braces_end is)
 
 abbrev pub tested_modifiers : (early : Bool) → List Item → Option Seen
 tested_modifiers early is = of_fronts early (front none is) (front is_type_modifier is) is
@@ -49,7 +49,7 @@ abbrev tested_mark : (early : Bool) → List Item → Option Seen
 tested_mark early [] = None
 tested_mark early (j ∷ js) =
     if begins is_name j then tested_noted early js
-    else (if worded (codes "interface") j then tested_word js else None)
+    else (if begins_word (codes "interface") j then tested_word js else None)
 
 abbrev tested_point : (early : Bool) → List Item → Option Seen
 tested_point early [] = None
@@ -80,7 +80,7 @@ no_front (t ∷ ts) = refl
 
 abbrev marked_type : Item → List Item → Bool
 marked_type i [] = false
-marked_type i (j ∷ js) = worded (codes "interface") j && leads (begins is_name) js
+marked_type i (j ∷ js) = begins_word (codes "interface") j && leads (begins is_name) js
 
 type_named : (i : Item) (is : List Item) (l : Letter) → Reads i l → names_type (i ∷ is)
     ≡ ((at_word l && leads (begins is_name) is) || (at_mark l && marked_type i is))
@@ -91,7 +91,7 @@ type_named i [] l k = none_so (at_word l) (at_mark l) where
   none_so false true = refl
   none_so false false = refl
 type_named i (j ∷ js) l k =
-    ap (λ b. (b && begins is_name j) || (signed (codes "@") i && marked_type i (j ∷ js))) k.word
+    ap (λ b. (b && begins is_name j) || (begins_sign (codes "@") i && marked_type i (j ∷ js))) k.word
     ∙ ap (λ b. (at_word l && begins is_name j) || (b && marked_type i (j ∷ js))) k.mark
 
 -- an item that begins no annotation and is no word of a type
@@ -113,7 +113,7 @@ inner_parts Braces h = absurd cc
 inner_parts l h = (refl, refl)
 
 plain_front : (early : Bool) (i : Item) (is : List Item) (l : Letter) → Reads i l
-    → (signed (codes "@") i && leads (begins is_name) is) ≡ false → at_modifier l ≡ false →
+    → (begins_sign (codes "@") i && leads (begins is_name) is) ≡ false → at_modifier l ≡ false →
     tested_modifiers early (i ∷ is)
     ≡ of_fronts early (i ∷ is) (i ∷ is) (i ∷ is)
 plain_front early i is l k a m =
@@ -124,24 +124,24 @@ plain_front early i is l k a m =
     ∙ ap (λ b. if b then front is_type_modifier is else i ∷ is) (k.modifier ∙ m))
 
 plain : (early : Bool) (i : Item) (is : List Item) (l : Letter) → Reads i l
-    → (signed (codes "@") i && leads (begins is_name) is) ≡ false → at_modifier l ≡ false → is_inner l ≡ true
+    → (begins_sign (codes "@") i && leads (begins is_name) is) ≡ false → at_modifier l ≡ false → is_inner l ≡ true
     → tested_modifiers early (i ∷ is) ≡ plain_at early l i is
 plain early i is l k a m n =
     let apart = inner_parts l n in
     plain_front early i is l k a m
     ∙ ap (λ b. verdict early (b && lines_end (i ∷ is)) (names_type (i ∷ is) && braces_end (i ∷ is))) k.package_word
     ∙ ap (λ b. verdict early (at_package l && b) (names_type (i ∷ is) && braces_end (i ∷ is)))
-    (not_last (signed (codes ";")) i is (k.semicolon ∙ apart.0))
+    (not_last (begins_sign (codes ";")) i is (k.semicolon ∙ apart.0))
     ∙ ap (λ b. verdict early (at_package l && lines_end is) (b && braces_end (i ∷ is))) (type_named i is l k)
     ∙ ap (λ b. verdict early (at_package l && lines_end is) (((at_word l && leads (begins is_name) is) || (at_mark l
-    && marked_type i is)) && b)) (not_last (signed (codes "{")) i is (k.braces ∙ apart.1))
+    && marked_type i is)) && b)) (not_last (begins_sign (codes "{")) i is (k.braces ∙ apart.1))
 
 never : (early : Bool) → verdict early false false ≡ None
 never true = refl
 never false = refl
 
 unmarked : (i : Item) (is : List Item) (l : Letter) → Reads i l → at_mark l ≡ false
-    → (signed (codes "@") i && leads (begins is_name) is) ≡ false
+    → (begins_sign (codes "@") i && leads (begins is_name) is) ≡ false
 unmarked i is l k m = ap (λ b. b && leads (begins is_name) is) (k.mark ∙ m)
 
 -- an item that begins nothing
@@ -163,9 +163,9 @@ none_early false = refl
 
 unfit_step : (early : Bool) (i : Item) (is : List Item) (l : Letter) → Reads i l → at_modifier l ≡ false
     → at_word l ≡ false → at_mark l ≡ false → at_package l ≡ false
-    → go (modified_at early l) is ≡ tested_modifiers early (i ∷ is)
+    → run_from (modified_at early l) is ≡ tested_modifiers early (i ∷ is)
 unfit_step early i is l k m w a p =
-    ap (λ o. go o is) (same_four (modified_by early) m w a p ∙ none_early early)
+    ap (λ o. run_from o is) (same_four (modified_by early) m w a p ∙ none_early early)
     ∙ sym (unfit early i is l k m w a p)
 
 type_alone : (early : Bool) (n b : Bool) → (if n && b then Some (Whole false false) else None)
@@ -187,7 +187,7 @@ worded_step early i is l k m p a n =
     let apart = inner_parts l n in
     late early (names_type (front is_type_modifier is) && braces_end is)
     ∙ ap (λ b. verdict early false (names_type (front is_type_modifier is) && b))
-    (sym (not_last (signed (codes "{")) i is (k.braces ∙ apart.1)))
+    (sym (not_last (begins_sign (codes "{")) i is (k.braces ∙ apart.1)))
     ∙ ap (λ f. verdict early false (names_type f && braces_end (i ∷ is)))
     (sym (front_alone is_type_modifier i is (unmarked i is l k a)
     ∙ ap (λ b. if b then front is_type_modifier is else i ∷ is) (k.modifier ∙ m)))
@@ -199,19 +199,19 @@ worded_step early i is l k m p a n =
 
 -- ---- behind an `@`
 
-interface_apart : (i : Item) (l : Letter) → Reads i l → worded (codes "interface") i ≡ true
-    → signed (codes "{") i ≡ false
+interface_apart : (i : Item) (l : Letter) → Reads i l → begins_word (codes "interface") i ≡ true
+    → begins_sign (codes "{") i ≡ false
 interface_apart i InterfaceWord k n = k.braces
 interface_apart i l k n = absurd (true≢false (sym n ∙ k.interface_word))
 
 marked_interface : (early : Bool) (j : Item) (js : List Item) (l : Letter) (b : Bool) → Reads j l
-    → worded (codes "interface") j ≡ b
+    → begins_word (codes "interface") j ≡ b
     → (if b then tested_word js else None)
     ≡ verdict early false ((b && leads (begins is_name) js) && braces_end (j ∷ js))
 marked_interface early j js l true k e =
     late early (leads (begins is_name) js && braces_end js)
     ∙ ap (λ b. verdict early false (leads (begins is_name) js && b))
-    (sym (not_last (signed (codes "{")) j js (interface_apart j l k e)))
+    (sym (not_last (begins_sign (codes "{")) j js (interface_apart j l k e)))
 marked_interface early j js l false k e = sym (never early)
 
 and_nothing : (b : Bool) → (b && false) ≡ false
@@ -222,39 +222,41 @@ and_nothing false = refl
 behind_two : (early : Bool) (notes words : List Item) (i j : Item) (js : List Item) → IsApart i → IsApart j
     → of_fronts early notes words js ≡ of_fronts early notes words (i ∷ j ∷ js)
 behind_two early notes words i j js a b =
-    ap (λ x. verdict early (leads (worded (codes "package")) notes && x) (names_type words && braces_end js))
-    (sym (not_last (signed (codes ";")) i (j ∷ js) a.semicolon ∙ not_last (signed (codes ";")) j js b.semicolon))
-    ∙ ap (λ x. verdict early (leads (worded (codes "package")) notes && lines_end (i ∷ j ∷ js))
+    ap (λ x. verdict early (leads (begins_word (codes "package")) notes && x) (names_type words && braces_end js))
+    (sym (not_last (begins_sign (codes ";")) i (j ∷ js) a.semicolon
+    ∙ not_last (begins_sign (codes ";")) j js b.semicolon))
+    ∙ ap (λ x. verdict early (leads (begins_word (codes "package")) notes && lines_end (i ∷ j ∷ js))
     (names_type words && x))
-    (sym (not_last (signed (codes "{")) i (j ∷ js) a.braces ∙ not_last (signed (codes "{")) j js b.braces))
+    (sym (not_last (begins_sign (codes "{")) i (j ∷ js) a.braces ∙ not_last (begins_sign (codes "{")) j js b.braces))
 
 marked_by : (early : Bool) (i j : Item) (js : List Item) (l : Letter) (b : Bool) → Reads i AtMark → Reads j l
     → begins is_name j ≡ b
-    → (if b then tested_noted early js else (if worded (codes "interface") j then tested_word js else None))
+    → (if b then tested_noted early js else (if begins_word (codes "interface") j then tested_word js else None))
     ≡ tested_modifiers early (i ∷ j ∷ js)
 marked_by early i j js l true k h n =
     let apart : IsApart i = record { semicolon = k.semicolon; braces = k.braces } in
-    let marked : (signed (codes "@") i && begins is_name j) ≡ true = ap (λ b. b && begins is_name j) k.mark ∙ n in
+    let marked : (begins_sign (codes "@") i && begins is_name j) ≡ true = ap (λ b. b && begins is_name j) k.mark ∙ n in
     behind_two early (noted none js) (noted is_type_modifier js) i j js apart (name_apart j l h n)
     ∙ ap (λ f. of_fronts early f (noted is_type_modifier js) (i ∷ j ∷ js)) (sym (front_noted none i j js marked))
     ∙ ap (λ f. of_fronts early (front none (i ∷ j ∷ js)) f (i ∷ j ∷ js))
     (sym (front_noted is_type_modifier i j js marked))
 marked_by early i j js l false k h n =
-    let unnamed : (signed (codes "@") i && begins is_name j) ≡ false = ap (λ b. b && begins is_name j) k.mark ∙ n in
-    marked_interface early j js l (worded (codes "interface") j) h refl
+    let unnamed : (begins_sign (codes "@") i && begins is_name j) ≡ false =
+    ap (λ b. b && begins is_name j) k.mark ∙ n in
+    marked_interface early j js l (begins_word (codes "interface") j) h refl
     ∙ sym (plain early i (j ∷ js) AtMark k unnamed refl refl)
 
 mark_step : (early : Bool) (i : Item) (is : List Item) → Reads i AtMark
     → tested_mark early is ≡ tested_modifiers early (i ∷ is)
 mark_step early i [] k =
-    sym (plain early i [] AtMark k (and_nothing (signed (codes "@") i)) refl refl ∙ never early)
+    sym (plain early i [] AtMark k (and_nothing (begins_sign (codes "@") i)) refl refl ∙ never early)
 mark_step early i (j ∷ js) k =
     let l = reads j in marked_by early i j js l.0 (begins is_name j) k l.1 refl
 
 -- ---- behind annotations and words
 
 modified_step : (early : Bool) (i : Item) (is : List Item) (l : Letter) → Reads i l
-    → ((s : Seen) → run s is ≡ tested s is) → go (modified_at early l) is ≡ tested_modifiers early (i ∷ is)
+    → ((s : Seen) → run s is ≡ tested s is) → run_from (modified_at early l) is ≡ tested_modifiers early (i ∷ is)
 modified_step early i is Semicolon k others = unfit_step early i is Semicolon k refl refl refl refl
 modified_step early i is Braces k others = unfit_step early i is Braces k refl refl refl refl
 modified_step early i is Parentheses k others = unfit_step early i is Parentheses k refl refl refl refl
@@ -279,33 +281,35 @@ modified_step early i is (Other true w n) k others =
 -- ---- behind a name of an annotation
 
 noted_is_modified : (early : Bool) (i : Item) (is : List Item)
-    → (signed (codes ".") i && leads (begins is_name) is) ≡ false → signed (codes "(") i ≡ false
+    → (begins_sign (codes ".") i && leads (begins is_name) is) ≡ false → begins_sign (codes "(") i ≡ false
     → tested_noted early (i ∷ is) ≡ tested_modifiers early (i ∷ is)
 noted_is_modified early i is e p =
     ap (λ f. of_fronts early f (noted is_type_modifier (i ∷ is)) (i ∷ is)) (noted_ended none i is e p)
     ∙ ap (λ f. of_fronts early (front none (i ∷ is)) f (i ∷ is)) (noted_ended is_type_modifier i is e p)
 
 unpointed : (i : Item) (is : List Item) (l : Letter) → Reads i l → at_point l ≡ false
-    → (signed (codes ".") i && leads (begins is_name) is) ≡ false
+    → (begins_sign (codes ".") i && leads (begins is_name) is) ≡ false
 unpointed i is l k m = ap (λ b. b && leads (begins is_name) is) (k.point ∙ m)
 
 pointed_by : (early : Bool) (i j : Item) (js : List Item) (l : Letter) (b : Bool) → Reads i Point → Reads j l
     → begins is_name j ≡ b → (if b then tested_noted early js else None) ≡ tested_noted early (i ∷ j ∷ js)
 pointed_by early i j js l true k h n =
     let apart : IsApart i = record { semicolon = k.semicolon; braces = k.braces } in
-    let pointed : (signed (codes ".") i && begins is_name j) ≡ true = ap (λ b. b && begins is_name j) k.point ∙ n in
+    let pointed : (begins_sign (codes ".") i && begins is_name j) ≡ true =
+    ap (λ b. b && begins is_name j) k.point ∙ n in
     behind_two early (noted none js) (noted is_type_modifier js) i j js apart (name_apart j l h n)
     ∙ ap (λ f. of_fronts early f (noted is_type_modifier js) (i ∷ j ∷ js)) (sym (noted_pointed none i j js pointed))
     ∙ ap (λ f. of_fronts early (noted none (i ∷ j ∷ js)) f (i ∷ j ∷ js))
     (sym (noted_pointed is_type_modifier i j js pointed))
 pointed_by early i j js l false k h n =
-    let unnamed : (signed (codes ".") i && begins is_name j) ≡ false = ap (λ b. b && begins is_name j) k.point ∙ n in
+    let unnamed : (begins_sign (codes ".") i && begins is_name j) ≡ false =
+    ap (λ b. b && begins is_name j) k.point ∙ n in
     sym (noted_is_modified early i (j ∷ js) unnamed k.parentheses ∙ unfit early i (j ∷ js) Point k refl refl refl refl)
 
 point_step : (early : Bool) (i : Item) (is : List Item) → Reads i Point
     → tested_point early is ≡ tested_noted early (i ∷ is)
 point_step early i [] k =
-    sym (noted_is_modified early i [] (and_nothing (signed (codes ".") i)) k.parentheses
+    sym (noted_is_modified early i [] (and_nothing (begins_sign (codes ".") i)) k.parentheses
     ∙ unfit early i [] Point k refl refl refl refl)
 point_step early i (j ∷ js) k =
     let l = reads j in pointed_by early i j js l.0 (begins is_name j) k l.1 refl
@@ -314,16 +318,18 @@ bracketed_step : (early : Bool) (i : Item) (is : List Item) → Reads i Parenthe
     → tested_modifiers early is ≡ tested_noted early (i ∷ is)
 bracketed_step early i is k =
     let e = unpointed i is Parentheses k refl in
-    ap (λ x. verdict early (leads (worded (codes "package")) (front none is) && x)
-    (names_type (front is_type_modifier is) && braces_end is)) (sym (not_last (signed (codes ";")) i is k.semicolon))
-    ∙ ap (λ x. verdict early (leads (worded (codes "package")) (front none is) && lines_end (i ∷ is))
-    (names_type (front is_type_modifier is) && x)) (sym (not_last (signed (codes "{")) i is k.braces))
+    ap (λ x. verdict early (leads (begins_word (codes "package")) (front none is) && x)
+    (names_type (front is_type_modifier is) && braces_end is))
+    (sym (not_last (begins_sign (codes ";")) i is k.semicolon))
+    ∙ ap (λ x. verdict early (leads (begins_word (codes "package")) (front none is) && lines_end (i ∷ is))
+    (names_type (front is_type_modifier is) && x)) (sym (not_last (begins_sign (codes "{")) i is k.braces))
     ∙ ap (λ f. of_fronts early f (front is_type_modifier is) (i ∷ is)) (sym (noted_bracketed none i is e k.parentheses))
     ∙ ap (λ f. of_fronts early (noted none (i ∷ is)) f (i ∷ is))
     (sym (noted_bracketed is_type_modifier i is e k.parentheses))
 
 noted_step : (early : Bool) (i : Item) (is : List Item) (l : Letter) → Reads i l
-    → ((s : Seen) → run s is ≡ tested s is) → go (seen_at (AnnotationName early) l) is ≡ tested_noted early (i ∷ is)
+    → ((s : Seen) → run s is ≡ tested s is) →
+    run_from (seen_at (AnnotationName early) l) is ≡ tested_noted early (i ∷ is)
 noted_step early i is Point k others = others (AnnotationPoint early) ∙ point_step early i is k
 noted_step early i is Parentheses k others = others (Modifiers early) ∙ bracketed_step early i is k
 noted_step early i is l k others =
@@ -332,7 +338,7 @@ noted_step early i is l k others =
 -- ---- at the start, and to the end
 
 one_alone : (early imports : Bool) (i : Item) (is : List Item) → Reads i Semicolon
-    → go (Some (Whole early imports)) is ≡ tested (Whole early imports) (i ∷ is)
+    → run_from (Some (Whole early imports)) is ≡ tested (Whole early imports) (i ∷ is)
 one_alone early imports i [] k =
     ap (λ b. if b then Some (Whole early imports)
     else (if imports && is_import (i ∷ []) then Some (Whole false true) else tested_modifiers early (i ∷ [])))
@@ -343,7 +349,7 @@ one_alone early imports i (j ∷ js) k =
     ∙ ap (λ b. if b then Some (Whole false true) else tested_modifiers early (i ∷ j ∷ js)) (and_nothing imports)
     ∙ unfit early i (j ∷ js) Semicolon k refl refl refl refl)
 
-not_alone : (i : Item) (is : List Item) → signed (codes ";") i ≡ false → is_semicolon (i ∷ is) ≡ false
+not_alone : (i : Item) (is : List Item) → begins_sign (codes ";") i ≡ false → is_semicolon (i ∷ is) ≡ false
 not_alone i [] e = e
 not_alone i (j ∷ js) e = refl
 
@@ -357,15 +363,15 @@ not_empty early imports i is l k e =
     ∙ ap (λ b. if imports && (b && lines_end (i ∷ is)) then Some (Whole false true)
     else tested_modifiers early (i ∷ is)) k.import_word
     ∙ ap (λ b. if imports && (at_import l && b) then Some (Whole false true) else tested_modifiers early (i ∷ is))
-    (not_last (signed (codes ";")) i is (k.semicolon ∙ e))
+    (not_last (begins_sign (codes ";")) i is (k.semicolon ∙ e))
 
 no_import : (early imports : Bool) (i : Item) (is : List Item) (l : Letter) → Reads i l → at_semicolon l ≡ false
     → at_import l ≡ false → ((s : Seen) → run s is ≡ tested s is)
-    → go (if imports && at_import l then Some Directive else modified_at early l) is
+    → run_from (if imports && at_import l then Some Directive else modified_at early l) is
     ≡ tested (Whole early imports) (i ∷ is)
 no_import early imports i is l k e m others =
-    ap (λ b. go (if imports && b then Some Directive else modified_at early l) is) m
-    ∙ ap (λ b. go (if b then Some Directive else modified_at early l) is) (and_nothing imports)
+    ap (λ b. run_from (if imports && b then Some Directive else modified_at early l) is) m
+    ∙ ap (λ b. run_from (if b then Some Directive else modified_at early l) is) (and_nothing imports)
     ∙ modified_step early i is l k others
     ∙ ap (λ b. if b then Some (Whole false true) else tested_modifiers early (i ∷ is)) (sym (and_nothing imports))
     ∙ ap (λ b. if imports && (b && lines_end is) then Some (Whole false true) else tested_modifiers early (i ∷ is))
@@ -382,7 +388,7 @@ import_step early i is k others =
 
 whole_step : (early imports : Bool) (i : Item) (is : List Item) (l : Letter) → Reads i l
     → ((s : Seen) → run s is ≡ tested s is)
-    → go (seen_at (Whole early imports) l) is ≡ tested (Whole early imports) (i ∷ is)
+    → run_from (seen_at (Whole early imports) l) is ≡ tested (Whole early imports) (i ∷ is)
 whole_step early imports i is Semicolon k others = one_alone early imports i is k
 whole_step early true i is ImportWord k others = import_step early i is k others
 whole_step early false i is ImportWord k others =
@@ -391,7 +397,7 @@ whole_step early imports i is l k others = no_import early imports i is l k refl
 
 at_end : (imports : Bool) (test : Item → Bool) (i : Item) (is : List Item) (b : Bool) (r : Option Seen) → test i ≡ b
     → r ≡ (if ends_first test is then Some (Whole false imports) else None)
-    → (if b then go (Some (Whole false imports)) is else r)
+    → (if b then run_from (Some (Whole false imports)) is else r)
     ≡ (if ends_first test (i ∷ is) then Some (Whole false imports) else None)
 at_end imports test i [] true r e h = ap (λ b. if b then Some (Whole false imports) else None) (sym e)
 at_end imports test i (j ∷ js) true r e h =
@@ -400,19 +406,19 @@ at_end imports test i is false r e h =
     h ∙ ap (λ b. if b then Some (Whole false imports) else None) (sym (not_last test i is e))
 
 mark_goes_on : (early : Bool) (is : List Item) (n c : Bool) → ((s : Seen) → run s is ≡ tested s is)
-    → go (if n then Some (AnnotationName early) else (if c then Some TypeWord else None)) is
+    → run_from (if n then Some (AnnotationName early) else (if c then Some TypeWord else None)) is
     ≡ (if n then tested_noted early is else (if c then tested_word is else None))
 mark_goes_on early is true c others = others (AnnotationName early)
 mark_goes_on early is false true others = others TypeWord
 mark_goes_on early is false false others = refl
 
 point_goes_on : (early : Bool) (is : List Item) (n : Bool) → ((s : Seen) → run s is ≡ tested s is)
-    → go (if n then Some (AnnotationName early) else None) is ≡ (if n then tested_noted early is else None)
+    → run_from (if n then Some (AnnotationName early) else None) is ≡ (if n then tested_noted early is else None)
 point_goes_on early is true others = others (AnnotationName early)
 point_goes_on early is false others = refl
 
 step : (s : Seen) (i : Item) (is : List Item) (l : Letter) → Reads i l → ((s : Seen) → run s is ≡ tested s is)
-    → go (seen_at s l) is ≡ tested s (i ∷ is)
+    → run_from (seen_at s l) is ≡ tested s (i ∷ is)
 step (Whole early imports) i is l k others = whole_step early imports i is l k others
 step (Modifiers early) i is l k others = modified_step early i is l k others
 step (AtSign early) i is l k others =
@@ -424,18 +430,18 @@ step (AnnotationPoint early) i is l k others =
     point_goes_on early is (at_name l) others ∙ ap (λ a. if a then tested_noted early is else None) (sym k.name)
 step TypeWord i is (Other m w true) k others =
     others TypeName
-    ∙ ap (λ b. if b then Some (Whole false false) else None) (sym (not_last (signed (codes "{")) i is k.braces))
+    ∙ ap (λ b. if b then Some (Whole false false) else None) (sym (not_last (begins_sign (codes "{")) i is k.braces))
     ∙ ap (λ n. if n && braces_end (i ∷ is) then Some (Whole false false) else None) (sym k.name)
 step TypeWord i is l k others =
     ap (λ n. if n && braces_end (i ∷ is) then Some (Whole false false) else None) (sym k.name)
 step TypeName i is Braces k others =
-    at_end false (signed (codes "{")) i is true (run TypeName is) k.braces (others TypeName)
+    at_end false (begins_sign (codes "{")) i is true (run TypeName is) k.braces (others TypeName)
 step TypeName i is l k others =
-    at_end false (signed (codes "{")) i is false (run TypeName is) k.braces (others TypeName)
+    at_end false (begins_sign (codes "{")) i is false (run TypeName is) k.braces (others TypeName)
 step Directive i is Semicolon k others =
-    at_end true (signed (codes ";")) i is true (run Directive is) k.semicolon (others Directive)
+    at_end true (begins_sign (codes ";")) i is true (run Directive is) k.semicolon (others Directive)
 step Directive i is l k others =
-    at_end true (signed (codes ";")) i is false (run Directive is) k.semicolon (others Directive)
+    at_end true (begins_sign (codes ";")) i is false (run Directive is) k.semicolon (others Directive)
 
 run_of_none : (s : Seen) → run s [] ≡ tested s []
 run_of_none (Whole true true) = refl
@@ -454,4 +460,4 @@ pub run_is_tested : (is : List Item) (s : Seen) → run s is ≡ tested s is
 run_is_tested [] s = run_of_none s
 run_is_tested (i ∷ is) s =
     let l = reads i in
-    run_is s i is ∙ ap (λ o. go o is) (seen_is s i l.0 l.1) ∙ step s i is l.0 l.1 (run_is_tested is)
+    run_is s i is ∙ ap (λ o. run_from o is) (seen_is s i l.0 l.1) ∙ step s i is l.0 l.1 (run_is_tested is)

@@ -19,16 +19,16 @@ abbrev pub run : Seen → List Item → Option Seen
 run s [] = None
 run s (i ∷ is) = elim (seen_with s i) [ None ↦ None | (Some m) ↦ ended (is_whole m) m is (run m is) ]
 
-abbrev pub go : Option Seen → List Item → Option Seen
-go None is = None
-go (Some m) is = ended (is_whole m) m is (run m is)
+abbrev pub run_from : Option Seen → List Item → Option Seen
+run_from None is = None
+run_from (Some m) is = ended (is_whole m) m is (run m is)
 
-pub run_is : (s : Seen) (i : Item) (is : List Item) → run s (i ∷ is) ≡ go (seen_with s i) is
+pub run_is : (s : Seen) (i : Item) (is : List Item) → run s (i ∷ is) ≡ run_from (seen_with s i) is
 run_is s i is = by_next (seen_with s i) where
   by_next : (o : Option Seen) → (elim o as (λ _. Option Seen) [
     | None ↦ None
     | (Some m) ↦ ended (is_whole m) m is (run m is)
-  ]) ≡ go o is
+  ]) ≡ run_from o is
   by_next None = refl
   by_next (Some m) = refl
 

@@ -4,7 +4,7 @@ use Rattle.std.proofs.Common.{Result, Ok, Err, filter, refl, ap, sym, subst, ◌
 use Rattle.std.specs.Prelude.{if◌then◌else◌, option_map}
 use Rattle.std.specs.List.{list_all}
 use Rattle.std.proofs.lemmas.Bool.{true≢false, and_parts}
-use Rattle.java_parser_grammar.specs.Tokens.{signed, worded}
+use Rattle.java_parser_grammar.specs.Tokens.{begins_sign, begins_word}
 use Rattle.java_parser_grammar.specs.Cuts.{onto_first, joined, ends}
 use Rattle.java_parser_grammar.specs.Pieces.{Item, cut_pieces}
 use Rattle.java_parser_grammar.specs.Declarations.{is_type_modifier, leads, ends_first, behind_front, names_type, is_semicolon}
@@ -13,7 +13,7 @@ use Rattle.java_parser_grammar.specs.Declarations.{AreDeclarations}
 use Rattle.java_parser_grammar.specs.DeclarationWalk.{Seen, Whole, seen_with, is_whole, and_before, declarations}
 use Rattle.java_parser_grammar.proofs.ItemLetters.{Letter, Semicolon, Reads, reads}
 use Rattle.java_parser_grammar.proofs.OneCut.{joined_declarations}
-use Rattle.java_parser_grammar.proofs.SeenLetters.{ended, run, go, run_is}
+use Rattle.java_parser_grammar.proofs.SeenLetters.{ended, run, run_from, run_is}
 use Rattle.java_parser_grammar.proofs.OneDeclaration.{run_is_tested}
 
 abbrev Declared : Type 0
@@ -62,7 +62,7 @@ first_by true m i [] rest more w e others =
 first_by true m i (j ∷ js) rest more w e others = absurd cc
 first_by false m i d rest more w e others = ap (and_before false i) (others e) ∙ longer i d (declarations more rest)
 
-first_next : (o : Option Seen) (i : Item) (d rest : List Item) (more : Seen) → go o d ≡ Some more
+first_next : (o : Option Seen) (i : Item) (d rest : List Item) (more : Seen) → run_from o d ≡ Some more
     → ((m : Seen) → run m d ≡ Some more → declarations m (d ++ rest) ≡ and_whole d (declarations more rest))
     → from o i (d ++ rest) ≡ and_whole (i ∷ d) (declarations more rest)
 first_next None i d rest more e others = absurd cc
@@ -85,7 +85,7 @@ runs_cut (d ∷ ds) s h = first_cut d s (joined ds) h.0 h.1 ∙ ap (and_whole d)
 
 run_with : (s m : Seen) (i : Item) (d : List Item) → seen_with s i ≡ Some m → run s (i ∷ d)
     ≡ ended (is_whole m) m d (run m d)
-run_with s m i d n = run_is s i d ∙ ap (λ o. go o d) n
+run_with s m i d n = run_is s i d ∙ ap (λ o. run_from o d) n
 
 runs_alone : (s m : Seen) (i : Item) (ds : List (List Item)) → seen_with s i ≡ Some m → is_whole m ≡ true
     → Runs m ds → Runs s ((i ∷ []) ∷ ds)
@@ -271,10 +271,10 @@ file_is_walk is ds h =
 -- ---- in a file the types are what ends with braces
 
 abbrev braces : Item → Bool
-braces i = signed (codes "{") i
+braces i = begins_sign (codes "{") i
 
 abbrev line_end : Item → Bool
-line_end i = signed (codes ";") i
+line_end i = begins_sign (codes ";") i
 
 last_of : (test : Item → Bool) (d : List Item) → ends_first test d ≡ true → ends test d ≡ true
 last_of test [] e = e
@@ -296,11 +296,11 @@ lone_ends (i ∷ []) e = e
 lone_ends (i ∷ j ∷ is) e = absurd cc
 
 import_ends : (d : List Item) → is_import d ≡ true → ends line_end d ≡ true
-import_ends d e = last_of line_end d (and_parts (leads (worded (codes "import")) d) (ends_first line_end d) e).1
+import_ends d e = last_of line_end d (and_parts (leads (begins_word (codes "import")) d) (ends_first line_end d) e).1
 
 package_ends : (d : List Item) → is_package d ≡ true → ends line_end d ≡ true
 package_ends d e =
-    last_of line_end d (and_parts (leads (worded (codes "package")) (behind_front (λ t. false) (cut_pieces 0 d)))
+    last_of line_end d (and_parts (leads (begins_word (codes "package")) (behind_front (λ t. false) (cut_pieces 0 d)))
     (ends_first line_end d) e).1
 
 type_ends : (d : List Item) → is_type d ≡ true → ends braces d ≡ true
@@ -334,5 +334,5 @@ types_end (d ∷ ds) s h =
     types_by_ends s d ds (stage_behind s d) refl (sym (fits_next s d ds) ∙ h) (λ t k. types_end ds t k)
 
 pub types_end_with_braces : (is : List Item) (ds : List (List Item)) → AreDeclarations is ds
-    → filter is_type ds ≡ filter (λ d. ends (signed (codes "{")) d) ds
+    → filter is_type ds ≡ filter (λ d. ends (begins_sign (codes "{")) d) ds
 types_end_with_braces is ds h = types_end ds First h.file

@@ -3,7 +3,7 @@
 -- (proofs/WalkedFiles.antt, proofs/Misfits.antt).
 use Rattle.std.specs.Prelude.{Bool, true, false, ◌&&◌, List, [], ◌∷◌, Option, Some, None, Result, Ok, Err}
 use Rattle.std.specs.Prelude.{codes, if◌then◌else◌}
-use Rattle.java_parser_grammar.specs.Tokens.{is_name, begins, signed, worded}
+use Rattle.java_parser_grammar.specs.Tokens.{is_name, begins, begins_sign, begins_word}
 use Rattle.java_parser_grammar.specs.Cuts.{with_cut}
 use Rattle.java_parser_grammar.specs.Pieces.{Item}
 use Rattle.java_parser_grammar.specs.Declarations.{is_type_modifier, is_type_word}
@@ -29,25 +29,25 @@ abbrev pub modified : (early : Bool) → Item → Option Seen
 modified early i =
     if begins is_type_modifier i then Some (Modifiers false)
     else (if begins is_type_word i then Some TypeWord
-    else (if signed (codes "@") i then Some (AtSign early)
-    else (if early && worded (codes "package") i then Some Directive else None)))
+    else (if begins_sign (codes "@") i then Some (AtSign early)
+    else (if early && begins_word (codes "package") i then Some Directive else None)))
 
 -- what is seen with one more item, where it fits
 abbrev pub seen_with : Seen → Item → Option Seen
 seen_with (Whole early imports) i =
-    if signed (codes ";") i then Some (Whole early imports)
-    else (if imports && worded (codes "import") i then Some Directive else modified early i)
+    if begins_sign (codes ";") i then Some (Whole early imports)
+    else (if imports && begins_word (codes "import") i then Some Directive else modified early i)
 seen_with (Modifiers early) i = modified early i
 seen_with (AtSign early) i =
     if begins is_name i then Some (AnnotationName early)
-    else (if worded (codes "interface") i then Some TypeWord else None)
+    else (if begins_word (codes "interface") i then Some TypeWord else None)
 seen_with (AnnotationName early) i =
-    if signed (codes ".") i then Some (AnnotationPoint early)
-    else (if signed (codes "(") i then Some (Modifiers early) else modified early i)
+    if begins_sign (codes ".") i then Some (AnnotationPoint early)
+    else (if begins_sign (codes "(") i then Some (Modifiers early) else modified early i)
 seen_with (AnnotationPoint early) i = if begins is_name i then Some (AnnotationName early) else None
 seen_with TypeWord i = if begins is_name i then Some TypeName else None
-seen_with TypeName i = if signed (codes "{") i then Some (Whole false false) else Some TypeName
-seen_with Directive i = if signed (codes ";") i then Some (Whole false true) else Some Directive
+seen_with TypeName i = if begins_sign (codes "{") i then Some (Whole false false) else Some TypeName
+seen_with Directive i = if begins_sign (codes ";") i then Some (Whole false true) else Some Directive
 
 abbrev pub is_whole : Seen → Bool
 is_whole (Whole early imports) = true

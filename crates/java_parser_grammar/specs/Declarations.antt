@@ -4,7 +4,7 @@ use Rattle.std.specs.Prelude.{◌≡◌, Bool, false, not, ◌&&◌, ◌||◌, L
 use Rattle.std.specs.Prelude.{filter, map, if◌then◌else◌}
 use Rattle.std.specs.List.{list_all}
 use Rattle.java_lexer.specs.declared.token.Token.{Token}
-use Rattle.java_parser_grammar.specs.Tokens.{is_keyword_of, is_name, begins, signed, worded}
+use Rattle.java_parser_grammar.specs.Tokens.{is_keyword_of, is_name, begins, begins_sign, begins_word}
 use Rattle.java_parser_grammar.specs.Cuts.{joined}
 use Rattle.java_parser_grammar.specs.Pieces.{Item, cut_pieces}
 
@@ -45,26 +45,27 @@ behind_front is_word (p ∷ ps) = behind_front is_word ps
 abbrev pub names_type : List Item → Bool
 names_type (i ∷ j ∷ is) =
     (begins is_type_word i && begins is_name j)
-    || (signed (codes "@") i && (worded (codes "interface") j && leads (begins is_name) is))
+    || (begins_sign (codes "@") i && (begins_word (codes "interface") j && leads (begins is_name) is))
 names_type _ = false
 
 -- `;` alone
 abbrev pub is_semicolon : List Item → Bool
-is_semicolon (i ∷ []) = signed (codes ";") i
+is_semicolon (i ∷ []) = begins_sign (codes ";") i
 is_semicolon _ = false
 
 -- annotations, `package` and what follows, up to the first `;`
 abbrev pub is_package : List Item → Bool
 is_package d =
-    leads (worded (codes "package")) (behind_front (λ t. false) (cut_pieces 0 d)) && ends_first (signed (codes ";")) d
+    leads (begins_word (codes "package")) (behind_front (λ t. false) (cut_pieces 0 d)) && ends_first
+    (begins_sign (codes ";")) d
 
 -- `import` and what follows, up to the first `;`
 abbrev pub is_import : List Item → Bool
-is_import d = leads (worded (codes "import")) d && ends_first (signed (codes ";")) d
+is_import d = leads (begins_word (codes "import")) d && ends_first (begins_sign (codes ";")) d
 
 -- annotations and words, the word and the name of a type and what follows, up to the first braces
 abbrev pub is_type : List Item → Bool
-is_type d = names_type (behind_front is_type_modifier (cut_pieces 0 d)) && ends_first (signed (codes "{")) d
+is_type d = names_type (behind_front is_type_modifier (cut_pieces 0 d)) && ends_first (begins_sign (codes "{")) d
 
 -- ---- a file
 

@@ -14,7 +14,7 @@ use Rattle.java_tree.specs.Formed.{Each, has_some, FormedTy, FormedInit, FormedA
 use Rattle.java_tree.specs.Nesting.{ty_nesting, init_nesting}
 use Rattle.java_tree.specs.KeptPlaces.{kept, ty_places, init_places}
 use Rattle.java_tree.specs.View.{ty_of, init_of, modifier_of}
-use Rattle.java_parser_grammar.specs.Tokens.{plain_all, is_sign_token, is_name, signed, AreLast}
+use Rattle.java_parser_grammar.specs.Tokens.{plain_all, is_sign_token, is_name, begins_sign, AreLast}
 use Rattle.java_parser_grammar.specs.Pieces.{Item, items_of}
 
 -- ---- one variable
@@ -69,7 +69,7 @@ before_first i (p ∷ ps) = (i ++ p) ∷ ps
 abbrev pub between_commas : List Item → List (List Token)
 between_commas [] = [] ∷ []
 between_commas (i ∷ is) =
-    if signed (codes ",") i then [] ∷ between_commas is else before_first i (between_commas is)
+    if begins_sign (codes ",") i then [] ∷ between_commas is else before_first i (between_commas is)
 
 -- divided at each comma, where no division leaves a tree for each initialiser
 pub record AreDividedAtEach (ts : List Token) (vs : List FieldVariable) : Type 0 where

@@ -15,7 +15,7 @@ use Rattle.java_tree.specs.View.{ty_of}
 use Rattle.java_parser_grammar.specs.declared.unit.HeadResult.{HeadResult}
 use Rattle.java_parser_grammar.specs.declared.unit.HeadResult.TheVariants.{Void, Formed, Constructor, Unknown}
 use Rattle.java_parser_grammar.specs.declared.unit.OutsideHead.{OutsideHead}
-use Rattle.java_parser_grammar.specs.Tokens.{plain_all, is_word_token, is_angle, signed, worded, begins, AreLast}
+use Rattle.java_parser_grammar.specs.Tokens.{plain_all, is_word_token, is_angle, begins_sign, begins_word, begins, AreLast}
 use Rattle.java_parser_grammar.specs.Cuts.{joined}
 use Rattle.java_parser_grammar.specs.Pieces.{Item, items_of, inside, pieces_of, is_annotation}
 
@@ -70,9 +70,9 @@ IsResult class name front r = (IsConstructor class name front → ⊥) × HeadSa
 abbrev pub commas_among : (open_angles : ℕ) → List Item → ℕ
 commas_among n [] = 0
 commas_among n (i ∷ is) =
-    if signed (codes "<") i then commas_among (suc n) is
+    if begins_sign (codes "<") i then commas_among (suc n) is
     else (if begins is_angle i then commas_among (n - 1) is
-    else (if signed (codes ",") i && n == 0 then suc (commas_among n is) else commas_among n is))
+    else (if begins_sign (codes ",") i && n == 0 then suc (commas_among n is) else commas_among n is))
 
 -- none between empty parentheses, and else one more than the commas
 abbrev pub parameters_among : List Item → ℕ
@@ -83,7 +83,7 @@ parameters_among (i ∷ is) = suc (commas_among 0 (i ∷ is))
 
 -- whether `static` stands before the name, outside brackets
 abbrev pub has_static : List Token → Bool
-has_static front = list_any (worded (codes "static")) (items_of front)
+has_static front = list_any (begins_word (codes "static")) (items_of front)
 
 -- whether `synchronized` stands anywhere in it
 abbrev pub has_synchronized : List Token → Bool

@@ -1,7 +1,7 @@
 -- A contract of a public call rests on this: what a cut of a class body into members is (JLS 8.1.6).
 use Rattle.std.specs.Prelude.{Bool, false, not, ◌&&◌, ◌||◌, ◌⊎◌, List, [], ◌∷◌, IsTrue, codes}
 use Rattle.java_tree.specs.Formed.{has_some}
-use Rattle.java_parser_grammar.specs.Tokens.{signed}
+use Rattle.java_parser_grammar.specs.Tokens.{begins_sign}
 use Rattle.java_parser_grammar.specs.Pieces.{Item}
 use Rattle.java_parser_grammar.specs.Members.{ends_member, is_endless}
 
@@ -9,7 +9,7 @@ use Rattle.java_parser_grammar.specs.Members.{ends_member, is_endless}
 abbrev pub is_ended : (equals : Bool) → List Item → Bool
 is_ended equals [] = false
 is_ended equals (i ∷ []) = ends_member equals i
-is_ended equals (i ∷ j ∷ is) = not (ends_member equals i) && is_ended (equals || signed (codes "=") i) (j ∷ is)
+is_ended equals (i ∷ j ∷ is) = not (ends_member equals i) && is_ended (equals || begins_sign (codes "=") i) (j ∷ is)
 
 -- each piece ends where a member first does; the last may be without an end
 abbrev pub IsCut : List (List Item) → Type 0

@@ -2,7 +2,7 @@
 use Rattle.std.specs.Prelude.{Bool, true, false, not, ◌&&◌, ◌||◌, List, [], ◌∷◌, ◌++◌, Option, Some, None, codes, filter}
 use Rattle.std.specs.Prelude.{map, option_map, if◌then◌else◌}
 use Rattle.java_lexer.specs.declared.token.Token.{Token}
-use Rattle.java_parser_grammar.specs.Tokens.{is_sign_token, is_keyword_of, is_name, begins, signed, worded}
+use Rattle.java_parser_grammar.specs.Tokens.{is_sign_token, is_keyword_of, is_name, begins, begins_sign, begins_word}
 use Rattle.java_parser_grammar.specs.Cuts.{with_cut, joined, ends}
 use Rattle.java_parser_grammar.specs.Pieces.{Item, items_of, Piece, pieces_of, is_annotation}
 use Rattle.java_parser_grammar.specs.Declarations.{is_type_word}
@@ -11,19 +11,19 @@ use Rattle.java_parser_grammar.specs.Declarations.{is_type_word}
 
 -- whether a member ends with the item, where an `=` outside brackets stood before it or none
 abbrev pub ends_member : (equals : Bool) → Item → Bool
-ends_member equals i = signed (codes ";") i || (signed (codes "{") i && not equals)
+ends_member equals i = begins_sign (codes ";") i || (begins_sign (codes "{") i && not equals)
 
 -- the cut behind each end
 abbrev pub cut_members : (equals : Bool) → List Item → List (List Item)
 cut_members equals [] = []
 cut_members equals (i ∷ is) =
     let ended = ends_member equals i in
-    with_cut ended i (cut_members (not ended && (equals || signed (codes "=") i)) is)
+    with_cut ended i (cut_members (not ended && (equals || begins_sign (codes "=") i)) is)
 
 -- whether none of the items ends a member
 abbrev pub is_endless : (equals : Bool) → List Item → Bool
 is_endless equals [] = true
-is_endless equals (i ∷ is) = not (ends_member equals i) && is_endless (equals || signed (codes "=") i) is
+is_endless equals (i ∷ is) = not (ends_member equals i) && is_endless (equals || begins_sign (codes "=") i) is
 
 abbrev pub is_lone : List Token → Bool
 is_lone (t ∷ []) = is_sign_token (codes ";") t
@@ -37,8 +37,8 @@ members_of body = filter (λ m. not (is_lone m)) (map joined (cut_members false 
 
 -- `{ .. }` or `static { .. }` (JLS 8.6, 8.7)
 abbrev pub is_block : List Item → Bool
-is_block (i ∷ []) = signed (codes "{") i
-is_block (i ∷ j ∷ []) = worded (codes "static") i && signed (codes "{") j
+is_block (i ∷ []) = begins_sign (codes "{") i
+is_block (i ∷ j ∷ []) = begins_word (codes "static") i && begins_sign (codes "{") j
 is_block _ = false
 
 -- all words that stand before a declaration (JLS 8.1.1, 8.3.1, 8.4.3, 9.4)
@@ -60,15 +60,15 @@ behind_words is_word (p ∷ ps) =
 abbrev pub begins_type : List Piece → Bool
 begins_type [] = false
 begins_type (p ∷ []) = begins is_type_word p
-begins_type (p ∷ q ∷ ps) = begins is_type_word p || (signed (codes "@") p && worded (codes "interface") q)
+begins_type (p ∷ q ∷ ps) = begins is_type_word p || (begins_sign (codes "@") p && begins_word (codes "interface") q)
 
 -- what stands before the first parentheses outside annotations and brackets, and these, where no `=` stands before
 -- them
 abbrev pub before_parentheses : List Piece → Option (List Token × Piece)
 before_parentheses [] = None
 before_parentheses (p ∷ ps) =
-    if signed (codes "(") p then Some ([], p)
-    else (if signed (codes "=") p then None else option_map (λ h. (p ++ h.0, h.1)) (before_parentheses ps))
+    if begins_sign (codes "(") p then Some ([], p)
+    else (if begins_sign (codes "=") p then None else option_map (λ h. (p ++ h.0, h.1)) (before_parentheses ps))
 
 -- the tokens before the last, and the last where it is a name
 abbrev pub name_at_end : List Token → Option (List Token × Token)

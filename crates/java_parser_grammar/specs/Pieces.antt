@@ -2,7 +2,7 @@
 use Rattle.std.specs.Prelude.{ℕ, zero, suc, ◌-◌, ◌==◌, ◌&&◌, Bool, false, List, [], ◌∷◌, map, length, take, codes}
 use Rattle.std.specs.Prelude.{if◌then◌else◌}
 use Rattle.java_lexer.specs.declared.token.Token.{Token}
-use Rattle.java_parser_grammar.specs.Tokens.{is_name, begins, signed}
+use Rattle.java_parser_grammar.specs.Tokens.{is_name, begins, begins_sign}
 use Rattle.java_parser_grammar.specs.Cuts.{with_cut, joined}
 use Rattle.java_parser_grammar.specs.Brackets.{depth_behind}
 
@@ -28,14 +28,14 @@ inside (t ∷ ts) = take (length ts - 1) ts
 -- how many items go on with an annotation behind one of its names: points with names, and then parentheses
 abbrev pub more_of_annotation : List Item → ℕ
 more_of_annotation [] = 0
-more_of_annotation (i ∷ []) = if signed (codes "(") i then 1 else 0
+more_of_annotation (i ∷ []) = if begins_sign (codes "(") i then 1 else 0
 more_of_annotation (i ∷ j ∷ is) =
-    if signed (codes ".") i && begins is_name j then suc (suc (more_of_annotation is))
-    else (if signed (codes "(") i then 1 else 0)
+    if begins_sign (codes ".") i && begins is_name j then suc (suc (more_of_annotation is))
+    else (if begins_sign (codes "(") i then 1 else 0)
 
 -- how many items go on with what the first begins: an annotation begins with `@` and a name
 abbrev pub more_of_piece : List Item → ℕ
-more_of_piece (i ∷ j ∷ is) = if signed (codes "@") i && begins is_name j then suc (more_of_annotation is) else 0
+more_of_piece (i ∷ j ∷ is) = if begins_sign (codes "@") i && begins is_name j then suc (more_of_annotation is) else 0
 more_of_piece _ = 0
 
 -- how many items of its piece stand behind the first of these: it begins a piece, or is one of so many that were left
@@ -59,5 +59,5 @@ pieces_of ts = map joined (cut_pieces 0 (items_of ts))
 
 -- an `@` alone is none
 abbrev pub is_annotation : Piece → Bool
-is_annotation (t ∷ u ∷ ts) = signed (codes "@") (t ∷ u ∷ ts)
+is_annotation (t ∷ u ∷ ts) = begins_sign (codes "@") (t ∷ u ∷ ts)
 is_annotation _ = false

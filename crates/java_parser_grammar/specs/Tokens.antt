@@ -43,12 +43,12 @@ begins test [] = false
 begins test (t ∷ ts) = test t
 
 -- with this sign
-abbrev pub signed : List ℕ → List Token → Bool
-signed text ts = begins (is_sign_token text) ts
+abbrev pub begins_sign : List ℕ → List Token → Bool
+begins_sign text ts = begins (is_sign_token text) ts
 
 -- with this keyword
-abbrev pub worded : List ℕ → List Token → Bool
-worded text ts = begins (is_word_token text) ts
+abbrev pub begins_word : List ℕ → List Token → Bool
+begins_word text ts = begins (is_word_token text) ts
 
 -- the place of the first token, or else this place
 abbrev pub first_place : Place → List Token → Place

@@ -20,7 +20,7 @@ use Rattle.java_parser_grammar.specs.declared.unit.ClassTree.{ClassTree}
 use Rattle.java_parser_grammar.specs.declared.unit.Unit as unit
 use Rattle.java_parser_grammar.specs.declared.unit.ParseFault.{ParseFault}
 use Rattle.java_parser_grammar.specs.declared.unit.ParseFault.TheVariants.{Unbalanced, TooDeep, NotAUnit, Memory}
-use Rattle.java_parser_grammar.specs.Tokens.{plain_all, begins, signed, worded, first_place}
+use Rattle.java_parser_grammar.specs.Tokens.{plain_all, begins, begins_sign, begins_word, first_place}
 use Rattle.java_parser_grammar.specs.Cuts.{joined}
 use Rattle.java_parser_grammar.specs.Brackets.{unbalanced, too_deep}
 use Rattle.java_parser_grammar.specs.Pieces.{Item, items_of, Piece, pieces_of, is_annotation, inside}
@@ -55,7 +55,8 @@ IsMember class m tree = HasForm class m (form_of m) tree
 -- the name of a class that is read: behind it stand its braces, or `implements` (JLS 8.1.5)
 abbrev pub name_in : List Piece → Option Token
 name_in (word ∷ (t ∷ ts) ∷ next ∷ ps) =
-    if worded (codes "class") word && (signed (codes "{") next || worded (codes "implements") next) then Some t
+    if begins_word (codes "class") word && (begins_sign (codes "{") next || begins_word (codes "implements") next)
+    then Some t
     else None
 name_in _ = None
 

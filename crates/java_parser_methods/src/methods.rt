@@ -89,7 +89,7 @@ fn method(
 
 /// The method that these tokens are from its name on, behind these modifiers and what it gives.
 #[tactic(auto, unfolding(crate::specs::SignatureReading::whole_named_at))]
-fn named(
+fn method_from_name(
     alloc: Global,
     limit: u32,
     modifiers: Items<ModifierTree>,
@@ -118,5 +118,5 @@ pub fn read_method(alloc: Global, limit: u32, tokens: &[Token]) -> Result<Method
 {
     let (modifiers, rest) = modifiers(alloc, tokens)?;
     let (given, rest) = result_tree(alloc, limit, rest)?;
-    named(alloc, limit, Items::from(modifiers), given, rest)
+    method_from_name(alloc, limit, Items::from(modifiers), given, rest)
 }

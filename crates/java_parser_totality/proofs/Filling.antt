@@ -4,7 +4,7 @@ use Rattle.std.proofs.Common.{◌∷◌, ◌++◌, map}
 use Rattle.std.proofs.Common.{filter, length, take, length-append, refl, sym, ap, ◌∙◌, subst, arith, codes}
 use Rattle.std.specs.Prelude.{◌==◌}
 use Rattle.java_lexer.specs.declared.token.Token.{Token}
-use Rattle.java_parser_grammar.specs.Tokens.{signed}
+use Rattle.java_parser_grammar.specs.Tokens.{begins_sign}
 use Rattle.java_parser_grammar.specs.Cuts.{with_cut, joined}
 use Rattle.java_parser_grammar.specs.Brackets.{depth_behind}
 use Rattle.java_parser_grammar.specs.Pieces.{Item, items_from, items_of, inside}
@@ -36,9 +36,9 @@ items-filled n (t ∷ ts) =
 members-filled : (equals : Bool) (is : List Item) → EachFilled (cut_members equals is)
 members-filled equals [] = tt
 members-filled equals (i ∷ is) =
-    let behind = not (ends_member equals i) && (equals || signed (codes "=") i) in
+    let behind = not (ends_member equals i) && (equals || begins_sign (codes "=") i) in
     cut-filled (ends_member equals i) i (cut_members behind is)
-    (members-filled (not (ends_member equals i) && (equals || signed (codes "=") i)) is)
+    (members-filled (not (ends_member equals i) && (equals || begins_sign (codes "=") i)) is)
 
 -- filled, and short
 abbrev pub Good : ℕ → List Token → Type 0
@@ -101,12 +101,12 @@ members-good n body few =
 
 -- ---- types
 
-ends-filled : (d : List Item) → ends_first (signed (codes "{")) d ≡ true → Filled (joined d)
+ends-filled : (d : List Item) → ends_first (begins_sign (codes "{")) d ≡ true → Filled (joined d)
 ends-filled [] e = absurd cc
 ends-filled ([] ∷ []) e = absurd cc
 ends-filled ((t ∷ i) ∷ []) e = tt
 ends-filled (i ∷ j ∷ is) e =
-    append-filled-last i (joined (j ∷ is)) (ends-filled (j ∷ is) (and_last (not (signed (codes "{") i)) _ e))
+    append-filled-last i (joined (j ∷ is)) (ends-filled (j ∷ is) (and_last (not (begins_sign (codes "{") i)) _ e))
 
 pub types-good : (n : ℕ) (ds : List (List Item)) → length (joined (joined ds)) < n → EachGood n (types_among ds)
 types-good n [] few = tt

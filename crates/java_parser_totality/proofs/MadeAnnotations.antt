@@ -14,7 +14,7 @@ use Rattle.java_tree.specs.Brackets.{is_sign}
 use Rattle.java_tree.specs.Spelling.{behind_points}
 use Rattle.java_tree.specs.Formed.{has_some}
 use Rattle.java_parser_grammar.specs.Lookahead.{begins_with}
-use Rattle.java_parser_grammar.specs.Tokens.{plain, plain_all, is_name, begins, signed}
+use Rattle.java_parser_grammar.specs.Tokens.{plain, plain_all, is_name, begins, begins_sign}
 use Rattle.java_parser_grammar.specs.Cuts.{onto_first, with_cut, joined}
 use Rattle.java_parser_grammar.specs.Brackets.{is_opening, is_closing, depth_behind}
 use Rattle.java_parser_grammar.specs.Pieces.{Item, items_from, items_of, more_of_annotation}
@@ -109,12 +109,12 @@ record GoesOn (n : ℕ) (is : List Item) : Type 0 where
 goes-nowhere : (is : List Item) → GoesOn 0 is
 goes-nowhere is = record { names = []; arguments = []; spelled = refl; bracketed = refl; fits = omega arith }
 
-opened-args : (i : Item) (is : List Item) → signed (codes "(") i ≡ true → GoesOn 1 (i ∷ is)
+opened-args : (i : Item) (is : List Item) → begins_sign (codes "(") i ≡ true → GoesOn 1 (i ∷ is)
 opened-args [] is e = absurd cc
 opened-args (t ∷ ts) is e =
     record { names = []; arguments = plain_all ((t ∷ ts) ++ []); spelled = refl; bracketed = e; fits = omega arith }
 
-in-parentheses : (b : Bool) (i : Item) (is : List Item) → signed (codes "(") i ≡ b → GoesOn (cond b 1 0) (i ∷ is)
+in-parentheses : (b : Bool) (i : Item) (is : List Item) → begins_sign (codes "(") i ≡ b → GoesOn (cond b 1 0) (i ∷ is)
 in-parentheses true i is e = opened-args i is e
 in-parentheses false i is e = goes-nowhere (i ∷ is)
 
@@ -127,7 +127,7 @@ record TwoWords (text : List ℕ) (i j : Item) : Type 0 where
   pub signed_so : plain first ≡ sign text
   pub named_so : plain second ≡ identifier second.text
 
-two-words : (text : List ℕ) → opens (sign text) ≡ false → (i j : Item) → IsOne i → IsOne j → signed text i ≡ true
+two-words : (text : List ℕ) → opens (sign text) ≡ false → (i j : Item) → IsOne i → IsOne j → begins_sign text i ≡ true
     → begins is_name j ≡ true → TwoWords text i j
 two-words text closed [] j a b e f = absurd cc
 two-words text closed (t ∷ ts) [] a b e f = absurd cc
@@ -165,15 +165,15 @@ pointed n i j is w g =
 
 goes-on : (is : List Item) → EachOne is → GoesOn (more_of_annotation is) is
 goes-on [] h = goes-nowhere []
-goes-on (i ∷ []) h = in-parentheses (signed (codes "(") i) i [] refl
-goes-on (i ∷ j ∷ is) h = by (signed (codes ".") i && begins is_name j) refl (goes-on is h.1.1) where
-  by : (b : Bool) → (signed (codes ".") i && begins is_name j) ≡ b → GoesOn (more_of_annotation is) is
-      → GoesOn (cond b (suc (suc (more_of_annotation is))) (cond (signed (codes "(") i) 1 0)) (i ∷ j ∷ is)
+goes-on (i ∷ []) h = in-parentheses (begins_sign (codes "(") i) i [] refl
+goes-on (i ∷ j ∷ is) h = by (begins_sign (codes ".") i && begins is_name j) refl (goes-on is h.1.1) where
+  by : (b : Bool) → (begins_sign (codes ".") i && begins is_name j) ≡ b → GoesOn (more_of_annotation is) is
+      → GoesOn (cond b (suc (suc (more_of_annotation is))) (cond (begins_sign (codes "(") i) 1 0)) (i ∷ j ∷ is)
   by true e g =
       pointed (more_of_annotation is) i j is
-      (two-words (codes ".") refl i j h.0 h.1.0 (and_first (signed (codes ".") i) (begins is_name j) e)
-      (and_last (signed (codes ".") i) (begins is_name j) e)) g
-  by false e g = in-parentheses (signed (codes "(") i) i (j ∷ is) refl
+      (two-words (codes ".") refl i j h.0 h.1.0 (and_first (begins_sign (codes ".") i) (begins is_name j) e)
+      (and_last (begins_sign (codes ".") i) (begins is_name j) e)) g
+  by false e g = in-parentheses (begins_sign (codes "(") i) i (j ∷ is) refl
 
 -- ---- pieces
 
@@ -239,10 +239,11 @@ shaped-within (suc k) (i ∷ j ∷ is) few h =
     let fewer : length (j ∷ is) ≤ k = omega (arith, few) in
     let behind : length (drop (more_of_annotation is) is) ≤ k =
     omega (arith, few, drop-short (more_of_annotation is) is) in
-    by (signed (codes "@") i && begins is_name j) refl (shaped-within k (j ∷ is) fewer h.1)
+    by (begins_sign (codes "@") i && begins is_name j) refl (shaped-within k (j ∷ is) fewer h.1)
     (shaped-within k (drop (more_of_annotation is) is) behind (drop-ones (more_of_annotation is) is h.1.1))
     (goes-on is h.1.1) where
-      by : (b : Bool) → (signed (codes "@") i && begins is_name j) ≡ b → EachShaped (map joined (cut_pieces 0 (j ∷ is)))
+      by : (b : Bool) → (begins_sign (codes "@") i && begins is_name j) ≡ b →
+          EachShaped (map joined (cut_pieces 0 (j ∷ is)))
           → EachShaped (map joined (cut_pieces 0 (drop (more_of_annotation is) is)))
           → GoesOn (more_of_annotation is) is
           → EachShaped (map joined (with_cut (cond b (suc (more_of_annotation is)) 0 == 0) i
@@ -250,8 +251,8 @@ shaped-within (suc k) (i ∷ j ∷ is) few h =
       by true e one many g =
           subst (λ ps. EachShaped (map joined ps)) (sym (first-many (more_of_annotation is) i j is g.fits)) (
             many-shaped (more_of_annotation is) i j is
-                (two-words (codes "@") refl i j h.0 h.1.0 (and_first (signed (codes "@") i) (begins is_name j) e)
-                (and_last (signed (codes "@") i) (begins is_name j) e)) g,
+                (two-words (codes "@") refl i j h.0 h.1.0 (and_first (begins_sign (codes "@") i) (begins is_name j) e)
+                (and_last (begins_sign (codes "@") i) (begins is_name j) e)) g,
             many,
           )
       by false e one many g = (single-shaped i h.0, one)

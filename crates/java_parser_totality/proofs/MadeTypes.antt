@@ -206,20 +206,20 @@ class-last (part_then p (part_then q ps)) f = (last-part p f.0, class-last (part
 
 -- ---- forms
 
-abbrev named : TypePart × List TypePart → BaseType
-named x = roll-BaseType (type.Named (vector (x.0 ∷ x.1)))
+abbrev named_base : TypePart × List TypePart → BaseType
+named_base x = roll-BaseType (type.Named (vector (x.0 ∷ x.1)))
 
-named-is : (p : TypePart) (ps : List TypePart) → length (p ∷ ps) < most
-    → base_of (named (p, ps)) ≡ Named (part_then (part_of p) (pack_parts (map part_of ps)))
-named-is p ps s =
-    let seen : base_of (named (p, ps)) ≡ Named (pack_parts (map part_of (vector (p ∷ ps)).items)) =
+named_base-is : (p : TypePart) (ps : List TypePart) → length (p ∷ ps) < most
+    → base_of (named_base (p, ps)) ≡ Named (part_then (part_of p) (pack_parts (map part_of ps)))
+named_base-is p ps s =
+    let seen : base_of (named_base (p, ps)) ≡ Named (pack_parts (map part_of (vector (p ∷ ps)).items)) =
     search (rules, the_lemmas) in
     seen ∙ ap (λ l. Named (pack_parts (map part_of l))) (vector-items (p ∷ ps) s)
 
 named-at : (p : TypePart) (ps : List TypePart) → length (p ∷ ps) < most
-    → base_places (named (p, ps)) ≡ part_places p ++ all_places (map part_places ps)
+    → base_places (named_base (p, ps)) ≡ part_places p ++ all_places (map part_places ps)
 named-at p ps s =
-    let at : base_places (named (p, ps)) ≡ all_places (map part_places (vector (p ∷ ps)).items) =
+    let at : base_places (named_base (p, ps)) ≡ all_places (map part_places (vector (p ∷ ps)).items) =
     search (rules, the_lemmas) in
     at ∙ ap (λ l. all_places (map part_places l)) (vector-items (p ∷ ps) s)
 
@@ -327,8 +327,8 @@ mutual
   base-made (Named (part_then p ps)) f =
       as-made Same (and Same (maker Same (part_part p) (part-made p f.0.0)) (maker Same (parts_part
       (more_parts_onto ps) ps) (more-parts-made ps f.0.1))) (base_part (Named (part_then p ps)))
-      named (record {
-        ok = λ x s h. named-is x.0 x.1 (omega (arith, s))
+      named_base (record {
+        ok = λ x s h. named_base-is x.0 x.1 (omega (arith, s))
             ∙ ap Named (ap (λ q. part_then q (pack_parts (map part_of x.1))) h.0
             ∙ ap (part_then p) h.1);
         put = λ x s ps. ap (λ l. l ++ ps) (named-at x.0 x.1 (omega (arith, s))) ∙ append_assoc (part_places x.0) _ ps;

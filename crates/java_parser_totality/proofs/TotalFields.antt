@@ -19,7 +19,7 @@ use Rattle.java_tree.specs.KeptPlaces.{kept, ty_places, init_places}
 use Rattle.java_tree.specs.View.{ty_of, init_of, modifier_of}
 use Rattle.racer_base.specs.declared.limits.TheConstants.{MAX_NESTING}
 use Rattle.java_tree.specs.Nesting.{ty_nesting}
-use Rattle.java_parser_grammar.specs.Tokens.{plain_all, is_sign_token, is_name, signed}
+use Rattle.java_parser_grammar.specs.Tokens.{plain_all, is_sign_token, is_name, begins_sign}
 use Rattle.java_parser_grammar.specs.Cuts.{joined}
 use Rattle.java_parser_grammar.specs.Pieces.{Item, items_of}
 use Rattle.java_parser_grammar.specs.FieldDivisions.{IsInit, BeginsWith, IsVariable, IsRead, IsDivided, AreRead, before_first}
@@ -277,7 +277,7 @@ first-joined i (p ∷ ps) =
 
 between-shorter : (is : List Item) → length (joined (between_commas is)) ≤ length (joined is)
 between-shorter [] = omega arith
-between-shorter (i ∷ is) = by (signed (codes ",") i) (between-shorter is) where
+between-shorter (i ∷ is) = by (begins_sign (codes ",") i) (between-shorter is) where
   by : (b : Bool) → length (joined (between_commas is)) ≤ length (joined is)
       → length (joined (cond b ([] ∷ between_commas is) (before_first i (between_commas is))))
       ≤ length (joined (i ∷ is))

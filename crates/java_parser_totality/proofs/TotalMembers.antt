@@ -15,7 +15,7 @@ use Rattle.java_parser_grammar.specs.JavaReaders.{method_readers}
 use Rattle.java_parser_grammar.specs.MethodReading.{method_at}
 use Rattle.java_parser_grammar.specs.declared.unit.Member.{Member}
 use Rattle.java_parser_grammar.specs.declared.unit.Member.TheVariants as member
-use Rattle.java_parser_grammar.specs.Tokens.{plain_all, is_sign_token, is_name, signed}
+use Rattle.java_parser_grammar.specs.Tokens.{plain_all, is_sign_token, is_name, begins_sign}
 use Rattle.java_parser_grammar.specs.Cuts.{joined, ends}
 use Rattle.java_parser_grammar.specs.Pieces.{Piece, items_of, pieces_of}
 use Rattle.java_parser_grammar.specs.Members.{is_endless, is_block, is_modifier, behind_words, begins_type, before_parentheses}
@@ -66,7 +66,8 @@ parentheses-short : (ps : List Piece) (x : List Token × Piece) → before_paren
     → length x.0 ≤ length (joined ps)
 parentheses-short [] x e = absurd cc
 parentheses-short (p ∷ ps) x e =
-    by (signed (codes "(") p) (signed (codes "=") p) (before_parentheses ps) refl e (parentheses-short ps) where
+    by (begins_sign (codes "(") p) (begins_sign (codes "=") p) (before_parentheses ps) refl e
+    (parentheses-short ps) where
       by : (b c : Bool) (o : Front) → before_parentheses ps ≡ o
           → cond b (Some ([], p)) (cond c None (option_map (λ h. (p ++ h.0, h.1)) o)) ≡ Some x
           → ((y : List Token × Piece) → before_parentheses ps ≡ Some y → length y.0 ≤ length (joined ps))

@@ -17,7 +17,7 @@ ghost use Rattle.java_parser_types.specs.ReadAnswer.{Gives};
 use super::error::ReadError;
 use super::look::{after_angle, after_plain, after_sign, name};
 use super::nested::{NestedBase, NestedPart, NestedType};
-use super::types::{angled, arrayed, named, plain};
+use super::types::{angled, arrayed, named_base, plain};
 use java_lexer::Token;
 use java_tree::{BaseType, Ident, TypeArguments, TypePart};
 use std::alloc::Global;
@@ -66,13 +66,13 @@ fn bare_parts(
     let mut rest = tokens;
     for _ in 0..tokens.len() {
         let Some(after) = after_sign(rest, ".") else {
-            return Ok(named(parts, 0, rest));
+            return Ok(named_base(parts, 0, rest));
         };
         let (next, after) = bare_part(alloc, after)?;
         parts.push(next.tree)?;
         rest = after;
     }
-    Ok(named(parts, 0, rest))
+    Ok(named_base(parts, 0, rest))
 }
 
 #[tactic(auto, unfolding(java_parser_grammar::specs::TypeReading::base_with))]
@@ -219,7 +219,7 @@ fn made_parts(
         let point = point_behind(&next.tree, behind);
         parts.push(next.tree)?;
         let Some(after) = point else {
-            return Ok(named(parts, nesting, behind));
+            return Ok(named_base(parts, nesting, behind));
         };
         rest = after;
     }

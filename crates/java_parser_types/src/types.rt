@@ -53,7 +53,7 @@ pub fn arrayed(base: NestedBase, tokens: &[Token]) -> (NestedType, &[Token])
 }
 
 /// The type of these parts (JLS 4.3).
-pub fn named(parts: Vec<TypePart>, nesting: u32, tokens: &[Token]) -> (NestedBase, &[Token])
+pub fn named_base(parts: Vec<TypePart>, nesting: u32, tokens: &[Token]) -> (NestedBase, &[Token])
     requires measured { nesting ≡ parts_nesting (pack_parts (map part_of parts.items)) }
     ensures gives { Some (base_of result.0.tree, map spelled result.1.now) ≡ named_end (
       map part_of parts.items,
@@ -149,14 +149,14 @@ fn parts(
     let mut rest = tokens;
     for _ in 0..tokens.len() {
         let Some(after) = after_sign(rest, ".") else {
-            return Ok(named(parts, nesting, rest));
+            return Ok(named_base(parts, nesting, rest));
         };
         let (next, after) = part(alloc, limit, after)?;
         nesting = nesting.max(next.nesting);
         parts.push(next.tree)?;
         rest = after;
     }
-    Ok(named(parts, nesting, rest))
+    Ok(named_base(parts, nesting, rest))
 }
 
 /// A name with or without type arguments.

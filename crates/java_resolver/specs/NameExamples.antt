@@ -35,8 +35,8 @@ class n = record { 0 = n }
 
 -- ---- types
 
-abbrev pub named : Part → Ty
-named part = Typed (Named (part_then part no_part)) 0
+abbrev pub named_type : Part → Ty
+named_type part = Typed (Named (part_then part no_part)) 0
 
 -- ---- trees
 

@@ -3,7 +3,7 @@ ghost use Rattle.std.specs.Prelude.{◌≡◌, IfOk};
 ghost use Rattle.owner_domain.specs.declared.value.Value.TheVariants.{Named as NamedBy};
 ghost use Rattle.owner_domain.specs.Values.{along};
 
-use access_paths::Path;
+use access_paths::{Path, PathFields};
 use racer_base::{FieldId, Items, MAX_PATH_FIELDS, Memory};
 use std::alloc::Global;
 use std::hash::{Hash, Hasher};
@@ -65,7 +65,7 @@ fn along_path(alloc: Global, path: &Path, fields: &[FieldId]) -> Result<Value, M
     longer.extend_from_slice(fields)?;
     Ok(Value::Named(Path {
         root: path.root,
-        fields: Items::from(longer),
+        fields: PathFields::from_vec(longer),
     }))
 }
 

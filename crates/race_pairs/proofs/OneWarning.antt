@@ -11,7 +11,7 @@ use Rattle.core_code.specs.Core.{Core, Method}
 use Rattle.core_code.specs.declared.parts.ClassCore.{ClassCore}
 use Rattle.access_domain.specs.declared.access.Access.{Access}
 use Rattle.race_pairs.specs.declared.warning.Warning.{Warning}
-use Rattle.race_pairs.specs.Warnings.{MethodRecord, conflicts, records_of, record_at, numbered_records, is_entry_of}
+use Rattle.race_pairs.specs.Warnings.{MethodRecord, conflicts, records_of, numbered_record, numbered_records, is_entry_of}
 use Rattle.race_pairs.specs.Warnings.{entry_records, records_in, warning_of, warning_among, warnings_among}
 use Rattle.race_pairs.specs.Warnings.{class_warnings, warnings}
 use Rattle.race_pairs.specs.Pairs.{IsCheckedClass, IsRecord, IsPair, is_warning_of}
@@ -131,7 +131,7 @@ entry_test core c m i a r =
 
 -- a record of an entry is listed
 record_listed : (core : Core) (c : ClassId) (m : MethodId) (i : ℕ) (a : Access) → IsRecord core c m i a →
-    In (records_in core c) (record_at m (i, a))
+    In (records_in core c) (numbered_record m (i, a))
 record_listed core c m i a r =
     let there : In (enumerate_from 0 core.methods) (m.0, r.method) =
     subst (λ (n : ℕ). In (enumerate_from 0 core.methods) (n, r.method)) (zero-add m.0)
@@ -139,14 +139,14 @@ record_listed core c m i a r =
     let index : In (enumerate_from 0 (records_of core m)) (i, a) =
     subst (λ (n : ℕ). In (enumerate_from 0 (records_of core m)) (n, a)) (zero-add i)
     (enumerate_from_has 0 (records_of core m) i a r.has) in
-    let added : In (numbered_records m (records_of core m)) (record_at m (i, a)) =
-    map_has (record_at m) (enumerate_from 0 (records_of core m)) (i, a) index in
-    let listed : In (entry_records core c (m.0, r.method)) (record_at m (i, a)) =
-    subst (λ (b : Bool). In (cond b (numbered_records m (records_of core m)) []) (record_at m (i, a)))
+    let added : In (numbered_records m (records_of core m)) (numbered_record m (i, a)) =
+    map_has (numbered_record m) (enumerate_from 0 (records_of core m)) (i, a) index in
+    let listed : In (entry_records core c (m.0, r.method)) (numbered_record m (i, a)) =
+    subst (λ (b : Bool). In (cond b (numbered_records m (records_of core m)) []) (numbered_record m (i, a)))
     (sym (entry_test core c m i a r)) added
     in
     flat_map_has (entry_records core c) (enumerate_from 0 core.methods) (m.0, r.method)
-    (record_at m (i, a)) there listed
+    (numbered_record m (i, a)) there listed
 
 -- the warning that a record has is its own
 own_warning : (c : ClassId) (records : List MethodRecord) (m : MethodId) (i : ℕ) (r : MethodRecord) (w : Warning) →
@@ -165,7 +165,7 @@ of_its_method core c e p =
     let number : MethodId = record { 0 = e.0 } in
     elim (is_entry_of c e.1) as (λ b. In (cond b (numbered_records number (records_of core number)) []) p →
     p.method.0 ≡ e.0) [
-      | true ↦ λ h. let from = in_map (record_at number) (enumerate_from 0 (records_of core number)) p h in
+      | true ↦ λ h. let from = in_map (numbered_record number) (enumerate_from 0 (records_of core number)) p h in
           ap (λ (q : MethodRecord). q.method.0) (sym from.2)
       | false ↦ λ h. absurd h
     ]
@@ -188,22 +188,23 @@ of_its_class core e w =
 
 -- one of the records of a method counts
 one_of_method : (core : Core) (c : ClassId) (m : MethodId) (i : ℕ) (a : Access) (has : MethodRecord → Bool) →
-    IsRecord core c m i a → has (record_at m (i, a)) ≡ true →
+    IsRecord core c m i a → has (numbered_record m (i, a)) ≡ true →
     ((p : MethodRecord) → is_record m i p ≡ false → has p ≡ false) →
     count_by has (numbered_records m (records_of core m)) ≡ 1
 one_of_method core c m i a has r there others =
-    ap (count_by has) (map_as_lists (record_at m) (enumerate_from 0 (records_of core m)))
-    ∙ only_there has (λ e. record_at m e ∷ []) 0 (records_of core m) i a r.has
+    ap (count_by has) (map_as_lists (numbered_record m) (enumerate_from 0 (records_of core m)))
+    ∙ only_there has (λ e. numbered_record m e ∷ []) 0 (records_of core m) i a r.has
     (λ e h other.
     let index : nat_eq e.0 i ≡ false = nat_eq-other e.0 i (λ is. other (is ∙ sym (zero-add i))) in
-    let no : is_record m i (record_at m e) ≡ false = (λ k. nat_eq m.0 m.0 && index k) ∙ and_false (nat_eq m.0 m.0) in
-    count_one has (record_at m e) false (others (record_at m e) no))
-    ∙ ap (λ (n : ℕ). count_by has (record_at m (n, a) ∷ [])) (zero-add i)
-    ∙ count_one has (record_at m (i, a)) true there
+    let no : is_record m i (numbered_record m e) ≡ false =
+    (λ k. nat_eq m.0 m.0 && index k) ∙ and_false (nat_eq m.0 m.0) in
+    count_one has (numbered_record m e) false (others (numbered_record m e) no))
+    ∙ ap (λ (n : ℕ). count_by has (numbered_record m (n, a) ∷ [])) (zero-add i)
+    ∙ count_one has (numbered_record m (i, a)) true there
 
 -- one of the records of a class counts
 one_of_class : (core : Core) (c : ClassId) (m : MethodId) (i : ℕ) (a : Access) (has : MethodRecord → Bool) →
-    IsRecord core c m i a → has (record_at m (i, a)) ≡ true →
+    IsRecord core c m i a → has (numbered_record m (i, a)) ≡ true →
     ((p : MethodRecord) → is_record m i p ≡ false → has p ≡ false) → count_by has (records_in core c) ≡ 1
 one_of_class core c m i a has r there others =
     only_there has (entry_records core c) 0 core.methods m.0 r.method r.is
@@ -218,11 +219,11 @@ one_of_class core c m i a has r there others =
     ∙ one_of_method core c m i a has r there others
 
 has_warning : (core : Core) (c : ClassId) (m n : MethodId) (i j : ℕ) (a b : Access) → IsRecord core c n j b →
-    conflicts a b ≡ true → is_some (warning_among c (records_in core c) (record_at m (i, a))) ≡ true
+    conflicts a b ≡ true → is_some (warning_among c (records_in core c) (numbered_record m (i, a))) ≡ true
 has_warning core c m n i j a b r conflict =
     let found = find_has (λ (partner : MethodRecord). conflicts a partner.access) (records_in core c)
-    (record_at n (j, b)) (record_listed core c n j b r) conflict in
-    ap (λ o. is_some (option_map (warning_of c (record_at m (i, a))) o)) found.1
+    (numbered_record n (j, b)) (record_listed core c n j b r) conflict in
+    ap (λ o. is_some (option_map (warning_of c (numbered_record m (i, a))) o)) found.1
 
 one_warning_in_class : (core : Core) (c : ClassId) (m n : MethodId) (i j : ℕ) (a b : Access) →
     IsRecord core c m i a → IsRecord core c n j b → conflicts a b ≡ true →

@@ -8,7 +8,7 @@ use Rattle.racer_base.specs.declared.ids.MethodId.{MethodId}
 use Rattle.core_code.specs.Core.{Core, Method}
 use Rattle.core_code.specs.declared.parts.ClassCore.{ClassCore}
 use Rattle.race_pairs.specs.declared.warning.Warning.{Warning}
-use Rattle.race_pairs.specs.Warnings.{MethodRecord, conflicts, records_of, record_at, numbered_records, is_entry_of}
+use Rattle.race_pairs.specs.Warnings.{MethodRecord, conflicts, records_of, numbered_record, numbered_records, is_entry_of}
 use Rattle.race_pairs.specs.Warnings.{entry_records, records_in, warning_of, warning_among, warnings_among}
 use Rattle.race_pairs.specs.Warnings.{class_warnings, warnings}
 use Rattle.race_pairs.specs.Pairs.{IsRecord, IsPair}
@@ -37,7 +37,7 @@ listed_record core c p h =
     IsRecord core c p.method p.index p.access) [
       | true ↦ λ test listed.
           let tests = both_pass e.1.entry (nat_eq e.1.class.0 c.0) test in
-          let from = in_map (record_at number) (enumerate_from 0 (records_of core number)) p listed in
+          let from = in_map (numbered_record number) (enumerate_from 0 (records_of core number)) p listed in
           let index = in_enumerate_from 0 (records_of core number) from.0 from.1 in
           let index_is : index.0 ≡ from.0.0 = let is : from.0.0 ≡ 0 + index.0 = index.1 in omega arith in
           let made : IsRecord core c number from.0.0 from.0.1 = record {

@@ -35,11 +35,11 @@ records_held (Some outcome) = accesses_of outcome
 abbrev pub records_of : Core → MethodId → List Access
 records_of core m = records_held (outcome_of core m)
 
-abbrev pub record_at : MethodId → ℕ × Access → MethodRecord
-record_at m e = record { method = m; index = e.0; access = e.1 }
+abbrev pub numbered_record : MethodId → ℕ × Access → MethodRecord
+numbered_record m e = record { method = m; index = e.0; access = e.1 }
 
 abbrev pub numbered_records : MethodId → List Access → List MethodRecord
-numbered_records m accesses = map (record_at m) (enumerate_from 0 accesses)
+numbered_records m accesses = map (numbered_record m) (enumerate_from 0 accesses)
 
 abbrev pub is_entry_of : ClassId → Method → Bool
 is_entry_of c method = method.entry && nat_eq method.class.0 c.0

@@ -8,7 +8,7 @@ use Rattle.core_code.specs.declared.code.Op.{Op as CoreOp}
 use Rattle.core_code.specs.declared.code.Op.TheVariants.{Call}
 use Rattle.core_code.specs.Core.{Core}
 use Rattle.core_code.specs.Tree.{Operation}
-use Rattle.race_report_parts.specs.Places.{Held, callee_of, operation_at, record_at}
+use Rattle.race_report_parts.specs.Places.{OwnedRecord, callee_of, operation_at, owned_record_at}
 use Rattle.race_report_parts.specs.Reaching.{DoesReach, IsAccessAt, IsCallAt}
 
 same-some : {X : Type 0} (a b : X) (o : Option X) → o ≡ Some a → o ≡ Some b → a ≡ b
@@ -23,7 +23,8 @@ touch-calls : (op : CoreOp) (kind : Touch) (m : MethodId) (n : ℕ) → touch_of
 touch-calls op kind m n touches calls =
     let none : ◌≡◌ {A = Option Touch} None (Some kind) = sym (ap touch_of calls) ∙ touches in cc
 
-not-both : (core : Core) (held : Held) (at other : Place) (Rest : Held → Type 0) → IsAccessAt core held at →
+not-both : (core : Core) (held : OwnedRecord) (at other : Place) (Rest : OwnedRecord → Type 0) →
+    IsAccessAt core held at →
     IsCallAt core held other Rest → ⊥
 not-both core held at other Rest access call =
     let same : access.operation ≡ call.operation =
@@ -31,9 +32,11 @@ not-both core held at other Rest access call =
     touch-calls access.operation.op held.access.kind call.callee call.count access.touches
     (ap (λ (q : Operation). q.op) same ∙ call.calls)
 
-same-lower : (core : Core) (held : Held) (at other : Place) (P Q : Held → Type 0) (a : IsCallAt core held at P)
+same-lower : (core : Core) (held : OwnedRecord) (at other : Place) (P Q : OwnedRecord → Type 0)
+    (a : IsCallAt core held at P)
     (b : IsCallAt core held other Q) →
-    ◌≡◌ {A = Held} (record { method = b.callee; access = b.lower }) (record { method = a.callee; access = a.lower })
+    ◌≡◌ {A = OwnedRecord} (record { method = b.callee; access = b.lower })
+    (record { method = a.callee; access = a.lower })
 same-lower core held at other P Q a b =
     let same : a.operation ≡ b.operation =
     same-some a.operation b.operation (operation_at core held.method held.access.site) a.is b.is in
@@ -42,9 +45,10 @@ same-lower core held at other P Q a b =
     (ap (λ (q : Operation). callee_of q.op) same ∙ ap callee_of b.calls) in
     let index : a.index ≡ b.index = same-some a.index b.index held.access.below a.below b.below in
     same-some (record { method = b.callee; access = b.lower }) (record { method = a.callee; access = a.lower })
-    (record_at core b.callee b.index) b.has ((λ i. record_at core (sym callee i) (sym index i)) ∙ a.has)
+    (owned_record_at core b.callee b.index) b.has ((λ i. owned_record_at core (sym callee i) (sym index i)) ∙ a.has)
 
-pub only-places : (core : Core) (held : Held) (xs ys : List Place) → DoesReach core held xs → DoesReach core held ys →
+pub only-places : (core : Core) (held : OwnedRecord) (xs ys : List Place) → DoesReach core held xs →
+    DoesReach core held ys →
     xs ≡ ys
 only-places core held [] ys one other = absurd one
 only-places core held (x ∷ []) [] one other = absurd other
@@ -57,8 +61,8 @@ only-places core held (x ∷ []) (y ∷ next ∷ more) one other =
 only-places core held (x ∷ next ∷ more) (y ∷ []) one other =
     absurd (not-both core held y x (λ lower. DoesReach core lower (next ∷ more)) other one)
 only-places core held (x ∷ next ∷ more) (y ∷ after ∷ others) one other =
-    let P : Held → Type 0 = λ lower. DoesReach core lower (next ∷ more) in
-    let Q : Held → Type 0 = λ lower. DoesReach core lower (after ∷ others) in
+    let P : OwnedRecord → Type 0 = λ lower. DoesReach core lower (next ∷ more) in
+    let Q : OwnedRecord → Type 0 = λ lower. DoesReach core lower (after ∷ others) in
     let rest : next ∷ more ≡ after ∷ others =
     only-places core (record { method = one.callee; access = one.lower }) (next ∷ more) (after ∷ others) one.rest
     (subst Q (same-lower core held x y P Q one other) other.rest) in

@@ -18,22 +18,22 @@ use Rattle.core_code.specs.Tree.{Operation, op_at, steps_of}
 use Rattle.core_code.proofs.Membership.{In, find_gives}
 use Rattle.access_domain.specs.declared.access.Access.{Access}
 use Rattle.access_domain.specs.Findings.{Known, Whole, outcome_from}
-use Rattle.access_domain.specs.Given.{Given, given_of}
+use Rattle.access_domain.specs.Given.{FlowContext, given_of}
 use Rattle.access_domain.specs.Summaries.{known_of}
 use Rattle.core_ways.specs.Alone.{locks_round}
 use Rattle.race_pairs.specs.declared.warning.Warning.{Warning}
 use Rattle.race_pairs.specs.Warnings.{records_held, records_of}
 use Rattle.witness_build_laws.proofs.ConfirmedRun.{record-of}
-use Rattle.core_ways_laws.specs.Sites.{Comes, IsThrough, IsTouch}
+use Rattle.core_ways_laws.specs.Sites.{IsRecordOf, IsThrough, IsTouch}
 use Rattle.core_ways_laws.proofs.ProgramFacts.{IsRight, IsRightCall, is_right, known_is_analysed, lower_call, right_call}
 use Rattle.core_ways_laws.proofs.RankedTops.{IsOf, record-of as findings-of}
 use Rattle.access_paths.specs.Paths.{last_of}
 use Rattle.core_ways_laws.proofs.RecordTops.{record-comes}
-use Rattle.race_report_parts.specs.Places.{Held, callee_of, operation_at, places_of, places_within, record_at, record_below}
+use Rattle.race_report_parts.specs.Places.{OwnedRecord, callee_of, operation_at, places_of, places_within, owned_record_at, record_below}
 use Rattle.race_report_parts.specs.Reaching.{DoesReach}
 use Rattle.race_report_parts.specs.Told.{Side, Sides, side_from, side_of, sides_from, sides_of}
 
-abbrev held_by : MethodId → Access → Held
+abbrev held_by : MethodId → Access → OwnedRecord
 held_by m a = record { method = m; access = a }
 
 -- ---- ranks
@@ -62,25 +62,25 @@ rank-some core m method there =
 
 -- ---- one place, and those below
 
-abbrev places_at : Core → Held → ℕ → Option Operation → List Place
+abbrev places_at : Core → OwnedRecord → ℕ → Option Operation → List Place
 places_at core held n o =
     elim o [
       | None ↦ []
       | Some x ↦ x.place ∷ places_within core (record_below core (callee_of x.op) held.access.below) n
     ]
 
-one-place : (core : Core) (held : Held) (o : Operation) (n : ℕ) (left : Option Held) →
+one-place : (core : Core) (held : OwnedRecord) (o : Operation) (n : ℕ) (left : Option OwnedRecord) →
     operation_at core held.method held.access.site ≡ Some o →
     record_below core (callee_of o.op) held.access.below ≡ left →
     places_within core (Some held) (suc n) ≡ o.place ∷ places_within core left n
 one-place core held o n left is below =
-    ap (places_at core held n) is ∙ ap (λ (l : Option Held). o.place ∷ places_within core l n) below
+    ap (places_at core held n) is ∙ ap (λ (l : Option OwnedRecord). o.place ∷ places_within core l n) below
 
 nothing-below : (core : Core) (callee : Option MethodId) → record_below core callee None ≡ None
 nothing-below core None = refl
 nothing-below core (Some m) = refl
 
-touch-reaches : (core : Core) (held : Held) (o : Operation) (locked : Bool) (n : ℕ) →
+touch-reaches : (core : Core) (held : OwnedRecord) (o : Operation) (locked : Bool) (n : ℕ) →
     operation_at core held.method held.access.site ≡ Some o → IsTouch o.op locked held.access →
     DoesReach core held (places_within core (Some held) (suc n))
 touch-reaches core held o locked n is touch =
@@ -95,9 +95,9 @@ touch-reaches core held o locked n is touch =
     })
 
 -- a call at a place, and then the places of the record below
-longer-reach : (core : Core) (held : Held) (o : Operation) (callee : MethodId) (count index : ℕ) (lower : Access)
+longer-reach : (core : Core) (held : OwnedRecord) (o : Operation) (callee : MethodId) (count index : ℕ) (lower : Access)
     (rest : List Place) → operation_at core held.method held.access.site ≡ Some o → o.op ≡ Call callee count →
-    held.access.below ≡ Some index → record_at core callee index ≡ Some (held_by callee lower) →
+    held.access.below ≡ Some index → owned_record_at core callee index ≡ Some (held_by callee lower) →
     held.access.kind ≡ lower.kind → last_of held.access.path.fields ≡ last_of lower.path.fields →
     DoesReach core (held_by callee lower) rest → DoesReach core held (o.place ∷ rest)
 longer-reach core held o callee count index lower [] is calls below has kind field reaches = absurd reaches
@@ -118,21 +118,21 @@ longer-reach core held o callee count index lower (next ∷ more) is calls below
       rest = reaches;
     }
 
-held-there : (core : Core) (g : Given) (op : CoreOp) (locked : Bool) (a : Access) (of : IsThrough g op locked a) →
+held-there : (core : Core) (g : FlowContext) (op : CoreOp) (locked : Bool) (a : Access) (of : IsThrough g op locked a) →
     known_of core of.callee ≡ Some (Whole of.found) →
-    record_at core of.callee of.index ≡ Some (held_by of.callee of.inner)
+    owned_record_at core of.callee of.index ≡ Some (held_by of.callee of.inner)
 held-there core g op locked a of known =
     ap (λ (o : Option Known). option_map (held_by of.callee)
     (slice_get (records_held (option_map outcome_from o)) of.index)) known
     ∙ ap (option_map (held_by of.callee)) of.has
 
-call-reaches : (core : Core) (g : Given) (held : Held) (o : Operation) (locked : Bool) (n : ℕ) →
+call-reaches : (core : Core) (g : FlowContext) (held : OwnedRecord) (o : Operation) (locked : Bool) (n : ℕ) →
     operation_at core held.method held.access.site ≡ Some o → (of : IsThrough g o.op locked held.access) →
     known_of core of.callee ≡ Some (Whole of.found) →
     DoesReach core (held_by of.callee of.inner) (places_within core (Some (held_by of.callee of.inner)) n) →
     DoesReach core held (places_within core (Some held) (suc n))
 call-reaches core g held o locked n is of known reaches =
-    let has : record_at core of.callee of.index ≡ Some (held_by of.callee of.inner) =
+    let has : owned_record_at core of.callee of.index ≡ Some (held_by of.callee of.inner) =
     held-there core g o.op locked held.access of known in
     let below : record_below core (callee_of o.op) held.access.below ≡ Some (held_by of.callee of.inner) =
     (λ i. record_below core (callee_of (of.calls i)) (of.below i)) ∙ has in
@@ -154,8 +154,8 @@ reaches p zero m method index a there at low =
 reaches p (suc n) m method index a there at low =
     let core : Core = core_of p in
     let has = record-of core m index a at in
-    let g : Given = given_of core (known_of core) method.main in
-    let comes : Comes g method.code false a = record-comes core p.sites_in_order m method index a there has in
+    let g : FlowContext = given_of core (known_of core) method.main in
+    let comes : IsRecordOf g method.code false a = record-comes core p.sites_in_order m method index a there has in
     let o : Operation = comes.operation in
     let is : operation_at core m a.site ≡ Some o =
     ap (option_and_then (λ (x : Method). op_at x.code a.site)) there ∙ comes.at in

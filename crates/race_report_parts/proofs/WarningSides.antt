@@ -7,7 +7,7 @@ use Rattle.race_pairs.specs.declared.warning.Warning.{Warning}
 use Rattle.race_pairs.specs.Pairs.{IsPair}
 use Rattle.race_pairs.specs.Warnings.{records_of, warnings}
 use Rattle.race_pairs.proofs.WarningPairs.{warning_is_pair}
-use Rattle.race_report_parts.specs.Places.{Held, places_of}
+use Rattle.race_report_parts.specs.Places.{OwnedRecord, places_of}
 use Rattle.race_report_parts.specs.Told.{Side, side_from, side_of, Sides, sides_from, sides_of}
 
 -- the record of this index is there, where the method is and has so many
@@ -15,9 +15,10 @@ side_there : (core : Core) (m : MethodId) (index : ℕ) (method : Method) (acces
     slice_get core.methods m.0 ≡ Some method → slice_get (records_of core m) index ≡ Some access →
     (side : Side) × (side_of core m index ≡ Some side)
 side_there core m index method access is has =
-    let held : Held = record { method = m; access = access } in (
+    let held : OwnedRecord = record { method = m; access = access } in (
       record { method = method; access = access; places = places_of core held },
-      λ i. side_from core (is i) (option_map (λ (a : Access). let one : Held = record { method = m; access = a } in one)
+      λ i. side_from core (is i) (option_map (λ (a : Access). let one : OwnedRecord =
+          record { method = m; access = a } in one)
           (has i)),
     )
 

@@ -22,23 +22,23 @@ callee_of (Call m n) = Some m
 callee_of _ = None
 
 -- a record and the method that has it
-pub record Held : Type 0 where
+pub record OwnedRecord : Type 0 where
   pub method : MethodId
   pub access : Access
 
 -- the record of a method that has this index
-abbrev pub record_at : Core → MethodId → ℕ → Option Held
-record_at core m index =
+abbrev pub owned_record_at : Core → MethodId → ℕ → Option OwnedRecord
+owned_record_at core m index =
     option_map (λ a. record { method = m; access = a }) (slice_get (records_of core m) index)
 
 -- the record of the called method that a record is made of: it has this index there
-abbrev pub record_below : Core → Option MethodId → Option ℕ → Option Held
+abbrev pub record_below : Core → Option MethodId → Option ℕ → Option OwnedRecord
 record_below core None index = None
 record_below core (Some m) None = None
-record_below core (Some m) (Some index) = record_at core m index
+record_below core (Some m) (Some index) = owned_record_at core m index
 
 -- the place of a record's site, and where that is a call, the places of the callee's record; over so many methods
-abbrev pub places_within : Core → Option Held → ℕ → List Place
+abbrev pub places_within : Core → Option OwnedRecord → ℕ → List Place
 places_within core None n = []
 places_within core (Some held) zero = []
 places_within core (Some held) (suc n) =
@@ -48,5 +48,5 @@ places_within core (Some held) (suc n) =
     ]
 
 -- no chain of calls has more methods than there are
-abbrev pub places_of : Core → Held → List Place
+abbrev pub places_of : Core → OwnedRecord → List Place
 places_of core held = places_within core (Some held) (length core.methods)

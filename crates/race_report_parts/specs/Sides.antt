@@ -1,12 +1,12 @@
 -- A contract of a public call rests on this: the records of warnings as the code holds them.
-use Rattle.race_report_parts.specs.declared.sides.Held as held
+use Rattle.race_report_parts.specs.declared.sides.OwnedRecord as held
 use Rattle.race_report_parts.specs.declared.sides.Side as side
 use Rattle.race_report_parts.specs.declared.sides.Sides as sides
 use Rattle.core_code.specs.Core.{method_of}
-use Rattle.race_report_parts.specs.Places.{Held}
+use Rattle.race_report_parts.specs.Places.{OwnedRecord}
 use Rattle.race_report_parts.specs.Told.{Side, Sides}
 
-abbrev pub held_of : held.Held → Held
+abbrev pub held_of : held.OwnedRecord → OwnedRecord
 held_of h = record { method = h.method; access = h.access.now }
 
 abbrev pub side_told : side.Side → Side

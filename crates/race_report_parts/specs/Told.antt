@@ -12,7 +12,7 @@ use Rattle.access_domain.specs.Findings.{Findings, Known, Large as TooLarge, Who
 use Rattle.access_domain.specs.Summaries.{known_of, outcome_of}
 use Rattle.race_pairs.specs.declared.warning.Warning.{Warning}
 use Rattle.race_report_parts.specs.ByteOrder.{in_byte_order}
-use Rattle.race_report_parts.specs.Places.{Held, operation_at, record_at, places_of}
+use Rattle.race_report_parts.specs.Places.{OwnedRecord, operation_at, owned_record_at, places_of}
 use Rattle.race_report_parts.specs.Texts.{record_text, line_text, path_text, reason_text}
 
 -- why a method has no summary; none where it has one
@@ -54,14 +54,14 @@ pub record Side : Type 0 where
   pub access : Access
   pub places : List Place
 
-abbrev pub side_from : Core → Option Method → Option Held → Option Side
+abbrev pub side_from : Core → Option Method → Option OwnedRecord → Option Side
 side_from core None held = None
 side_from core (Some method) None = None
 side_from core (Some method) (Some held) =
     Some (record { method = method; access = held.access; places = places_of core held })
 
 abbrev pub side_of : Core → MethodId → ℕ → Option Side
-side_of core m index = side_from core (method_at core m) (record_at core m index)
+side_of core m index = side_from core (method_at core m) (owned_record_at core m index)
 
 -- the two records of a warning, that of its entry first
 pub record Sides : Type 0 where

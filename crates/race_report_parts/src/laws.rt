@@ -6,7 +6,7 @@ ghost use Rattle.core_code.specs.Core.{Core};
 ghost use Rattle.core_code.specs.Program.{core};
 ghost use Rattle.race_pairs.specs.declared.warning.Warning.{Warning};
 ghost use Rattle.race_pairs.specs.Warnings.{warnings};
-ghost use Rattle.race_report_parts.specs.Places.{Held};
+ghost use Rattle.race_report_parts.specs.Places.{OwnedRecord};
 ghost use Rattle.race_report_parts.specs.Reaching.{DoesReach};
 ghost use Rattle.race_report_parts.specs.Told.{Sides, sides_of};
 
@@ -22,6 +22,6 @@ pub fn places_reach_their_access()
     ensures reach { (p : Program) (w : Warning) (sides : Sides) → sides_of (core p) w ≡ Some sides →
         DoesReach (core p) (record { method = w.entry; access = sides.first.access }) sides.first.places
         × DoesReach (core p) (record { method = w.partner; access = sides.partner.access }) sides.partner.places }
-    ensures only { (core : Core) (held : Held) (places others : List Place) → DoesReach core held places →
+    ensures only { (core : Core) (held : OwnedRecord) (places others : List Place) → DoesReach core held places →
         DoesReach core held others → places ≡ others }
 {}

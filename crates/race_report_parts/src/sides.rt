@@ -21,7 +21,7 @@ use std::sync::Arc;
 
 /// A record and the method that has it.
 #[derive(Clone, Copy)]
-struct Held<'a> {
+struct OwnedRecord<'a> {
     method: MethodId,
     access: &'a Access,
 }
@@ -42,18 +42,18 @@ pub struct Sides<'a> {
 }
 
 /// The record of a method that has this index.
-fn record_at<'a>(
+fn owned_record_at<'a>(
     program: &Program,
     outcomes: &'a [Option<Arc<Outcome>>],
     method: MethodId,
     index: u32,
-) -> Option<Held<'a>>
+) -> Option<OwnedRecord<'a>>
     requires { AreOutcomes (core program.now) outcomes.now }
-    ensures { option_map held_of result ≡ places.record_at (core program.now) method index }
+    ensures { option_map held_of result ≡ places.owned_record_at (core program.now) method index }
 {
     match records_of(program, outcomes, method).get(index as usize) {
         None => None,
-        Some(access) => Some(Held { method, access }),
+        Some(access) => Some(OwnedRecord { method, access }),
     }
 }
 
@@ -63,12 +63,12 @@ fn record_below<'a>(
     outcomes: &'a [Option<Arc<Outcome>>],
     callee: Option<MethodId>,
     index: Option<u32>,
-) -> Option<Held<'a>>
+) -> Option<OwnedRecord<'a>>
     requires { AreOutcomes (core program.now) outcomes.now }
     ensures { option_map held_of result ≡ places.record_below (core program.now) callee index }
 {
     match (callee, index) {
-        (Some(method), Some(index)) => record_at(program, outcomes, method, index),
+        (Some(method), Some(index)) => owned_record_at(program, outcomes, method, index),
         _ => None,
     }
 }
@@ -79,7 +79,7 @@ fn places_of(
     program: &Program,
     outcomes: &[Option<Arc<Outcome>>],
     sites: &[Vec<Site>],
-    held: Held<'_>,
+    held: OwnedRecord<'_>,
 ) -> Result<Vec<Place>, Memory>
     requires outcomes { AreOutcomes (core program.now) outcomes.now }
     requires sites { AreSites (core program.now) sites.now }
@@ -123,7 +123,7 @@ fn side_of<'a>(
     let Some(method) = method_at(program, number) else {
         return Ok(None);
     };
-    let Some(held) = record_at(program, outcomes, number, index) else {
+    let Some(held) = owned_record_at(program, outcomes, number, index) else {
         return Ok(None);
     };
     let places = places_of(alloc, program, outcomes, sites, held)?;

@@ -1,5 +1,5 @@
 //! Tests of paths by their numbers and of values over them: with ample memory each call answers.
-use access_paths::{Path, PathTable, Root};
+use access_paths::{Path, PathFields, PathTable, Root};
 use owner_domain::{NumberedState, NumberedValue, join_numbered};
 use racer_base::{FieldId, Items, Memory};
 use std::alloc::Global;
@@ -21,7 +21,7 @@ fn numbers_are_given(alloc: Global) -> Result<bool, Memory> {
 
 /// Whether a path of sixteen fields has a number, and no longer one.
 fn paths_end_at_sixteen_fields(alloc: Global) -> Result<bool, Memory> {
-    let fields = Items::from(Vec::from_slice(alloc, &[FieldId(0); 16])?);
+    let fields = PathFields::from_vec(Vec::from_slice(alloc, &[FieldId(0); 16])?);
     let long = Path {
         root: Root::This,
         fields,

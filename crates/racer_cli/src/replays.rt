@@ -1,6 +1,6 @@
 //! Tests of replays and made folders, each a row of words, files and failing calls with what is to come of it.
 use super::*;
-use crate::tests::{FAULT, PLAIN, REFUSED, Row, held};
+use crate::tests::{Case, FAULT, PLAIN, REFUSED, held};
 use std::test::Fail;
 
 const GATE: &[u8] = b"@ThreadSafe class Gate { int c; int k; \
@@ -13,7 +13,7 @@ const WITNESS: &[u8] = b"{\"class\":\"Gate\",\"entries\":[\"b/0\",\"a/0\"],\"leg
 const REPLAY: &[&str] = &["src", "--replay", "w.json"];
 
 /// A replay whose threads race.
-const RACES: Row = Row {
+const RACES: Case = Case {
     words: REPLAY,
     files: &[("Gate.java", GATE), ("w.json", WITNESS)],
     text: b"races\n",
@@ -21,7 +21,7 @@ const RACES: Row = Row {
 };
 
 /// A file that is no witness.
-const NO_WITNESS: Row = Row {
+const NO_WITNESS: Case = Case {
     words: REPLAY,
     status: Status::NotAWitness,
     text: b"not a witness: version\n",
@@ -29,47 +29,47 @@ const NO_WITNESS: Row = Row {
 };
 
 /// A made folder; the folder that is handed in would fail.
-const MADE: Row = Row {
+const MADE: Case = Case {
     folder_fails: &[0],
     status: Status::Warned,
     ..PLAIN
 };
 
 /// Replays: what the folder's calls and the order of refusals come to. What each file is answered is data of the stored run.
-const REPLAYS: &[Row] = &[
+const REPLAYS: &[Case] = &[
     RACES,
-    Row {
+    Case {
         files: &[("Gate.java", GATE), ("w.json", b"{}")],
         ..NO_WITNESS
     },
-    Row {
+    Case {
         words: REPLAY,
         files: &[("Gate.java", GATE)],
         ..FAULT
     },
-    Row {
+    Case {
         words: REPLAY,
         files: &[("A.java", b"int x;")],
         text: b"refused A.java:1:1 not a unit\n",
         ..REFUSED
     },
-    Row {
+    Case {
         folder_fails: &[2],
         status: Status::FolderFault,
         text: b"folder fault\n",
         ..RACES
     },
-    Row {
+    Case {
         folder_fails: &[3],
         status: Status::FolderFault,
         text: b"folder fault\n",
         ..RACES
     },
-    Row {
+    Case {
         folder_fails: &[4],
         ..RACES
     },
-    Row {
+    Case {
         most: 1,
         sink_fails: &[3],
         status: Status::SinkFault,
@@ -79,23 +79,23 @@ const REPLAYS: &[Row] = &[
 ];
 
 /// Made folders.
-const FOLDERS: &[Row] = &[
-    Row {
+const FOLDERS: &[Case] = &[
+    Case {
         words: &["--made", "1"],
         text: b"made 1\nfiles 1 classes 1 methods 4\nwarnings 3 confirmed 3\n",
         ..MADE
     },
-    Row {
+    Case {
         words: &["--made", "100"],
         text: b"made 100\nfiles 100 classes 100 methods 490\nwarnings 580 confirmed 480\n",
         ..MADE
     },
-    Row {
+    Case {
         words: &["--made", "100", "--workers", "1"],
         text: b"made 100\nfiles 100 classes 100 methods 490\nwarnings 580 confirmed 480\n",
         ..MADE
     },
-    Row {
+    Case {
         words: &["--made", "100", "--workers", "64"],
         text: b"made 100\nfiles 100 classes 100 methods 490\nwarnings 580 confirmed 480\n",
         ..MADE

@@ -2,13 +2,13 @@
 ghost use Rattle.std.specs.Prelude.{◌≡◌, ◌<◌, ◌≤◌};
 ghost use Rattle.std.specs.Arc.{arc_value};
 ghost use Rattle.core_code.specs.Program.{core};
-ghost use Rattle.core_code.specs.Rows.{AreRowsOf};
+ghost use Rattle.core_code.specs.CalleeRows.{AreRowsOf};
 
 use super::*;
-use crate::tests::{PLAIN, Row, folder};
+use crate::tests::{Case, PLAIN, folder};
 use access_domain::{Access, Outcome, Summary};
 use core_code::{CallRows, Program, call_rows};
-use demand_pool::{Given, run_workers};
+use demand_pool::{WorkerContext, run_workers};
 use owner_domain::Value;
 use racer_base::Memory;
 use racer_sources::{FoundProgram, folder_program};
@@ -22,7 +22,7 @@ use summary_store::{Closed, Store, StoreRun, takes_bound};
 use transfer::{Finished, outcomes};
 
 /// Ten methods, of which several call the same ones, and some are on the way to each other.
-const TEN: Row = Row {
+const TEN: Case = Case {
     files: &[(
         "Ten.java",
         b"class P { P f; int v; }\n\
@@ -65,7 +65,7 @@ fn shared<L: StoreRun + Send + Sync, R: Threads + Wait + Sync>(
     requires blank { (blank.name ≡ L.name) × (blank.parts ≡ L.parts) }
 {
     let (book, share) = blank.open::<L>();
-    let given = Given {
+    let given = WorkerContext {
         alloc,
         program,
         rows,

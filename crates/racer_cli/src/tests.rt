@@ -13,7 +13,7 @@ use std::thread::Threads;
 
 /// One call of `run` on a folder of the name `src`, and what it answers and writes.
 #[derive(Clone, Copy)]
-pub(crate) struct Row<'a> {
+pub(crate) struct Case<'a> {
     pub words: &'a [&'a str],
     pub files: &'a [(&'a str, &'a [u8])],
     /// The calls on the folder that fail, by their numbers from 0.
@@ -32,7 +32,7 @@ const USAGE: &[u8] =
     b"usage: racer (FOLDER | --made N) [--workers N] [--json] [--summaries] [--history] [--replay NAME]\n";
 
 /// A report on an empty folder, into a sink that takes all at once.
-pub(crate) const PLAIN: Row = Row {
+pub(crate) const PLAIN: Case = Case {
     words: &["src"],
     files: &[],
     folder_fails: &[],
@@ -43,7 +43,7 @@ pub(crate) const PLAIN: Row = Row {
 };
 
 /// Words that ask for nothing.
-const WRONG: Row = Row {
+const WRONG: Case = Case {
     words: &[],
     status: Status::Usage,
     text: USAGE,
@@ -51,14 +51,14 @@ const WRONG: Row = Row {
 };
 
 /// A folder that fails.
-pub(crate) const FAULT: Row = Row {
+pub(crate) const FAULT: Case = Case {
     status: Status::FolderFault,
     text: b"folder fault\n",
     ..PLAIN
 };
 
 /// Sources that are refused.
-pub(crate) const REFUSED: Row = Row {
+pub(crate) const REFUSED: Case = Case {
     status: Status::Refused,
     ..PLAIN
 };
@@ -67,69 +67,69 @@ pub(crate) const REFUSED: Row = Row {
 const TWO: &[(&str, &[u8])] = &[("A.java", b"class A { }"), ("B.java", b"class B { }")];
 
 /// Words, folders, and calls that fail.
-const CALLS: &[Row] = &[
+const CALLS: &[Case] = &[
     WRONG,
-    Row {
+    Case {
         words: &["src", "--workers", "0"],
         ..WRONG
     },
-    Row {
+    Case {
         words: &["src", "--workers", "65"],
         ..WRONG
     },
-    Row {
+    Case {
         words: &["src", "--workers", "08"],
         ..WRONG
     },
-    Row {
+    Case {
         words: &["src", "--made", "3"],
         ..WRONG
     },
-    Row {
+    Case {
         words: &["--made", "801"],
         ..WRONG
     },
-    Row {
+    Case {
         words: &["--replay", "w.json"],
         ..WRONG
     },
-    Row {
+    Case {
         words: &["src", "--replay", "w.json", "--json"],
         ..WRONG
     },
-    Row {
+    Case {
         words: &["src", "--replay", "w.json", "--workers", "4"],
         ..WRONG
     },
-    Row {
+    Case {
         words: &["--made", "1", "--history"],
         folder_fails: &[0],
         ..WRONG
     },
-    Row {
+    Case {
         words: &["src", "--what"],
         ..WRONG
     },
-    Row {
+    Case {
         words: &["src", "lib"],
         ..WRONG
     },
     PLAIN,
-    Row {
+    Case {
         words: &["src", "--workers", "64"],
         ..PLAIN
     },
-    Row {
+    Case {
         words: &["src", "--json"],
         text: b"{\"classes\":0,\"files\":0,\"methods\":0,\"not_analysed\":[],\"profile\":1,\"skipped\":[],\"warnings\":[]}\n",
         ..PLAIN
     },
-    Row {
+    Case {
         words: &["src", "--workers", "1", "--history"],
         text: b"racer report 1\nfiles 0 classes 0 methods 0\nwarnings 0 confirmed 0\nleave 0\n",
         ..PLAIN
     },
-    Row {
+    Case {
         words: &["src", "--json", "--workers", "1", "--history"],
         text: b"{\"classes\":0,\"files\":0,\"methods\":0,\"not_analysed\":[],\"profile\":1,\"skipped\":[],\"warnings\":[]}\n\
           leave 0\n",
@@ -275,7 +275,7 @@ fn files(alloc: Global, files: &[(&str, &[u8])]) -> Result<Vec<(String, Vec<u8>)
 }
 
 /// The folder of a row.
-pub(crate) fn folder(alloc: Global, row: &Row) -> Result<MemoryFolder, Fail>
+pub(crate) fn folder(alloc: Global, row: &Case) -> Result<MemoryFolder, Fail>
     ensures { IfOk result (λ folder. faults_of folder ≡ 0) }
 {
     let failing = row.folder_fails.to_vec(alloc)?;
@@ -288,7 +288,7 @@ pub(crate) fn folder(alloc: Global, row: &Row) -> Result<MemoryFolder, Fail>
 }
 
 /// The sink of a row.
-fn sink(alloc: Global, row: &Row) -> Result<MemorySink, Fail>
+fn sink(alloc: Global, row: &Case) -> Result<MemorySink, Fail>
     ensures { IfOk result (λ sink. sinks.faults_of sink ≡ 0) }
 {
     if row.most == 0 {
@@ -305,7 +305,7 @@ fn sink(alloc: Global, row: &Row) -> Result<MemorySink, Fail>
 pub(crate) fn called<R: Threads + Wait + Sync, G: Gate + Sync>(
     rt: &R,
     alloc: Global,
-    row: &Row,
+    row: &Case,
     gate: &G,
 ) -> Result<(Status, MemorySink), Fail> {
     let words = strings(alloc, row.words)?;
@@ -316,7 +316,7 @@ pub(crate) fn called<R: Threads + Wait + Sync, G: Gate + Sync>(
 }
 
 /// Whether a call of `run` answers and writes what the row says.
-fn holds<R: Threads + Wait + Sync>(rt: &R, alloc: Global, row: &Row) -> Result<bool, Fail> {
+fn holds<R: Threads + Wait + Sync>(rt: &R, alloc: Global, row: &Case) -> Result<bool, Fail> {
     let (status, sink) = called(rt, alloc, row, &OpenGate)?;
     Ok(status == row.status && sink.taken() == row.text)
 }
@@ -325,7 +325,7 @@ fn holds<R: Threads + Wait + Sync>(rt: &R, alloc: Global, row: &Row) -> Result<b
 pub(crate) fn held<R: Threads + Wait + Sync>(
     rt: &R,
     alloc: Global,
-    rows: &[Row],
+    rows: &[Case],
 ) -> Result<usize, Fail> {
     for (i, row) in rows.iter().enumerate() {
         if !holds(rt, alloc, row)? {
@@ -355,7 +355,7 @@ fn failing_writes_that_hold<R: Threads + Wait + Sync>(
 ) -> Result<usize, Fail> {
     for at in 0..EMPTY.len() {
         let failing = [at as u32];
-        let row = Row {
+        let row = Case {
             most: 1,
             sink_fails: &failing,
             status: Status::SinkFault,

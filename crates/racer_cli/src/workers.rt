@@ -2,7 +2,7 @@
 //! report depends on its workers.
 use super::*;
 use crate::gates::{Meeting, Watching};
-use crate::tests::{PLAIN, Row, called, held};
+use crate::tests::{Case, PLAIN, called, held};
 use racer_memory::MemorySink;
 use std::alloc::Global;
 use std::str;
@@ -11,14 +11,14 @@ use std::test::Fail;
 use std::thread::Threads;
 
 /// A class with two methods that call nothing.
-const TWO_METHODS: Row = Row {
+const TWO_METHODS: Case = Case {
     words: &["src", "--workers", "2", "--history"],
     files: &[("A.java", b"class A { void f() { } }")],
     ..PLAIN
 };
 
 /// A class whose method makes another race.
-const DINNER: Row = Row {
+const DINNER: Case = Case {
     files: &[(
         "Dinner.java",
         b"@ThreadSafe\npublic class Dinner {\n  private int mTemperature;\n  public void makeDinner() {\n\
@@ -263,28 +263,28 @@ fn history_of_one(rt: HostRuntime) -> Result<(), Fail> {
 }
 
 /// The dinner and the realistic class with several numbers of workers.
-const RUNS: &[Row] = &[
-    Row {
+const RUNS: &[Case] = &[
+    Case {
         words: &["src", "--workers", "1"],
         ..DINNER
     },
-    Row {
+    Case {
         words: &["src", "--workers", "2"],
         ..DINNER
     },
-    Row {
+    Case {
         words: &["src", "--workers", "64"],
         ..DINNER
     },
-    Row {
+    Case {
         words: &["src", "--workers", "1"],
         ..STOCK
     },
-    Row {
+    Case {
         words: &["src", "--workers", "2"],
         ..STOCK
     },
-    Row {
+    Case {
         words: &["src", "--workers", "64"],
         ..STOCK
     },

@@ -10,21 +10,21 @@ use Rattle.witness_text.specs.Replaying.{DoWitnessesReplay, IsRacing}
 use Rattle.racer_sources.specs.OneReading.{OneSource}
 use Rattle.racer_sources.specs.Sources.{contents, source_names}
 use Rattle.racer_sources.specs.Programs.{Source, Accepted, IsProgram}
-use Rattle.racer_run.specs.declared.said.Said.{Said}
+use Rattle.racer_run.specs.declared.said.RunOutput.{RunOutput}
 use Rattle.racer_run.specs.declared.status.Status.{Status}
 use Rattle.racer_run.specs.declared.status.Status.TheVariants.{Clean}
 use Rattle.racer_run.specs.Words.{WantedReport, WantedReplay, Request, ReportOn, ReplayOf}
 use Rattle.racer_run.specs.Said.{HasReplays, SaysReport}
 use Rattle.racer_run.specs.Replays.{IsReplaySaid, SaysReplay, file_said, json_of, json_said, not_a_witness, replay_said}
 use Rattle.racer_run.specs.Replays.{verdict_said}
-use Rattle.racer_run.specs.Causes.{Asked, Wrote, IsWhole, IsWholeAnswer}
+use Rattle.racer_run.specs.Causes.{Invocation, Wrote, IsWhole, IsWholeAnswer}
 use Rattle.racer_run.specs.Witnesses.{IsCall, IsCutOut}
 use Rattle.racer_run.proofs.OneStatus.{ending_of, whole_answer}
 use Rattle.racer_run.proofs.OneReport.{at_folder, whole_of}
 use Rattle.racer_run.proofs.JsonBytes.{json-of, not-long}
 
 -- what a call says, whole
-answer : (request : Request) (told : Told) (s : Status) (a : Asked) (v : Wrote) → IsCall request told s a v
+answer : (request : Request) (told : Told) (s : Status) (a : Invocation) (v : Wrote) → IsCall request told s a v
     → IsWholeAnswer request (Some told) s v
 answer request told s a v call =
     let x = whole_of s a v call.sink_holds (ending_of s a v call.has_memory call.cause) in
@@ -37,7 +37,7 @@ OneProgram =
     (a b : Files) (program : Core) → source_names a ≡ source_names b → contents a ≡ contents b → IsProgram a program
     → IsProgram b program
 
-abbrev races : Said
+abbrev races : RunOutput
 races = record { status = Clean; text = codes "races\n" }
 
 -- bytes that are not too many, and in JSON a witness file that races
@@ -50,7 +50,7 @@ racing-said program bytes d short json racing =
     ∙ ap (file_said program) racing.1
     ∙ ap verdict_said racing.2
 
-replay-races : (wanted : WantedReplay) (from to : Files) (source : Source) (said : Said)
+replay-races : (wanted : WantedReplay) (from to : Files) (source : Source) (said : RunOutput)
     (cut : IsCutOut from to wanted.witness) → source ≡ Accepted cut.program → DoWitnessesReplay cut.program
     → IsReplaySaid wanted to source said → said ≡ races
 replay-races wanted from to source said cut same replays says =
@@ -63,7 +63,7 @@ replay-races wanted from to source said cut same replays says =
     (replays w.warning w.sides w.value w.listed w.has_sides w.is_member)
 
 pub cut-replays : OneSource → OneProgram →
-    (s t : Status) (a b : Asked) (v w : Wrote) (from to : Told) (report : WantedReport)
+    (s t : Status) (a b : Invocation) (v w : Wrote) (from to : Told) (report : WantedReport)
     (replay : WantedReplay) → IsCall (ReportOn report) from s a v → IsCall (ReplayOf replay) to t b w
     → IsCutOut from.files to.files replay.witness → (t ≡ Clean) × IsWhole w (codes "races\n")
 cut-replays one other s t a b v w from to report replay first second cut =
@@ -78,6 +78,6 @@ cut-replays one other s t a b v w from to report replay first second cut =
     (other from.files to.files cut.program (sym cut.same_names) (sym cut.same_contents) cut.accepted) in
     let is : y.said ≡ races =
     replay-races replay from.files to.files said_y.source y.said cut same replays said_y.said_so in (
-      y.gives ∙ ap (λ (said : Said). said.status) is,
-      subst (IsWhole w) (ap (λ (said : Said). said.text) is) y.whole,
+      y.gives ∙ ap (λ (said : RunOutput). said.status) is,
+      subst (IsWhole w) (ap (λ (said : RunOutput). said.text) is) y.whole,
     )

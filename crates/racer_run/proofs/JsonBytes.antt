@@ -14,7 +14,7 @@ use Rattle.witness_text_files.specs.Files.{File, file_of}
 use Rattle.witness_text_files.specs.declared.fault.Field.{Field}
 use Rattle.witness_text.specs.Lines.{field_name}
 use Rattle.witness_text.specs.Verdicts.{verdict}
-use Rattle.racer_run.specs.declared.said.Said.{Said}
+use Rattle.racer_run.specs.declared.said.RunOutput.{RunOutput}
 use Rattle.std.specs.FinMap.{get}
 use Rattle.std.specs.Option.{IfSome}
 use Rattle.racer_base.specs.Outside.{Told}
@@ -112,7 +112,7 @@ pub json-status : (program : Core) (o : Option Data) → is_replay_status (json_
 json-status program None = refl
 json-status program (Some d) = file-status program (file_of d)
 
-pub replay-says : (tells : Option Told) (wanted : WantedReplay) (program : Core) (said : Said) (read : List ℕ)
+pub replay-says : (tells : Option Told) (wanted : WantedReplay) (program : Core) (said : RunOutput) (read : List ℕ)
     → IfSome tells (λ told. IsSource told.files (Accepted program))
     → IfSome tells (λ told. option_map (take (MAX_FILE_BYTES + 1)) (get told.files wanted.witness) ≡ Some read)
     → said ≡ replay_said program read → IfSome tells (λ told. SaysReplay wanted told.files said)

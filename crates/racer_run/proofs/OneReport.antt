@@ -4,12 +4,12 @@ use Rattle.std.proofs.Common.{◌≡◌, ◌≢◌, ℕ, Bool, false, List, [], 
 use Rattle.racer_base.specs.Outside.{Told, Files, taken_and}
 use Rattle.racer_sources.specs.OneReading.{OneSource}
 use Rattle.racer_sources.specs.Programs.{Source, Refusal, Accepted}
-use Rattle.racer_run.specs.declared.said.Said.{Said}
+use Rattle.racer_run.specs.declared.said.RunOutput.{RunOutput}
 use Rattle.racer_run.specs.declared.status.Status.{Status}
 use Rattle.racer_run.specs.declared.status.Status.TheVariants.{Memory}
 use Rattle.racer_run.specs.Words.{WantedReport, Request, ReportOn, ReplayOf, MadeOf, request_of}
 use Rattle.racer_run.specs.Said.{IsBehind, IsTail, SaysReport, said_from}
-use Rattle.racer_run.specs.Causes.{Asked, Wrote, IsAnswer, IsCause, IsWhole, IsWholeAnswer}
+use Rattle.racer_run.specs.Causes.{Invocation, Wrote, IsAnswer, IsCause, IsWhole, IsWholeAnswer}
 use Rattle.racer_run.specs.Reports.{AsksNoHistory, WroteOneReport}
 use Rattle.racer_run.proofs.OneStatus.{Due, by_usage, by_fault, by_said, due_of, usage_due}
 use Rattle.racer_run.proofs.OneStatus.{whole_answer, report_only, report_status, replay_only, made_only}
@@ -38,24 +38,25 @@ both_written one told first second s t v w mode f g =
         wrote_first = record {
           tail = a.tail;
           is_behind = a.is_behind;
-          taken = f.whole.taken ∙ ap (λ (said : Said). taken_and v.taken_before said.text) a.said_so;
+          taken = f.whole.taken ∙ ap (λ (said : RunOutput). taken_and v.taken_before said.text) a.said_so;
         };
         wrote_second = record {
           tail = b.tail;
           is_behind = subst (λ (source : Source). IsBehind second source b.tail) (sym sources) b.is_behind;
           taken = g.whole.taken
-              ∙ ap (λ (said : Said). taken_and w.taken_before said.text) b.said_so
-              ∙ ap (λ (said : Said). taken_and w.taken_before (said.text ++ b.tail)) (sym same);
+              ∙ ap (λ (said : RunOutput). taken_and w.taken_before said.text) b.said_so
+              ∙ ap (λ (said : RunOutput). taken_and w.taken_before (said.text ++ b.tail)) (sym same);
         };
       },
     )
 
-pub whole_of : (s : Status) (asked : Asked) (wrote : Wrote) → wrote.after ≡ wrote.before → Ending s asked wrote
+pub whole_of : (s : Status) (asked : Invocation) (wrote : Wrote) → wrote.after ≡ wrote.before → Ending s asked wrote
     → IsAnswer s asked wrote
 whole_of s asked wrote kept (whole f) = f
 whole_of s asked wrote kept (cut e g) = absurd (rose _ _ g.front.fault kept)
 
-pub same_report : OneSource → (s t : Status) (a b : Asked) (v w : Wrote) (told : Told) (first second : WantedReport)
+pub same_report : OneSource → (s t : Status) (a b : Invocation) (v w : Wrote) (told : Told)
+    (first second : WantedReport)
     → request_of a.words ≡ Some (ReportOn first) → request_of b.words ≡ Some (ReportOn second)
     → first.folder ≡ second.folder → first.mode ≡ second.mode
     → a.told ≡ Some told → b.told ≡ Some told → a.after ≡ a.before → b.after ≡ b.before
@@ -98,8 +99,8 @@ one_answer : (request : Request) (tells : Option Told) (s t : Status) (v w : Wro
     → v.taken_before ≡ w.taken_before → (f : IsWholeAnswer request tells s v) (g : IsWholeAnswer request tells t w)
     → f.said ≡ g.said → (s ≡ t) × (v.taken_after ≡ w.taken_after)
 one_answer request tells s t v w before f g same = (
-  f.gives ∙ ap (λ (said : Said). said.status) same ∙ sym g.gives,
-  text_bytes v w f.said.text g.said.text before f.whole g.whole (ap (λ (said : Said). said.text) same),
+  f.gives ∙ ap (λ (said : RunOutput). said.status) same ∙ sym g.gives,
+  text_bytes v w f.said.text g.said.text before f.whole g.whole (ap (λ (said : RunOutput). said.text) same),
 )
 
 -- whole answers to one request that asks for no history
@@ -119,7 +120,7 @@ request_bytes one (MadeOf wanted) told s t v w before f g =
     (made_only one wanted f.said g.said f.says g.says) in
     (both.0, (λ none. both.1))
 
-answers_bytes : OneSource → (s t : Status) (a b : Asked) (v w : Wrote) (told : Told) → a.words ≡ b.words
+answers_bytes : OneSource → (s t : Status) (a b : Invocation) (v w : Wrote) (told : Told) → a.words ≡ b.words
     → a.told ≡ Some told → b.told ≡ Some told → a.after ≡ a.before → b.after ≡ b.before
     → v.taken_before ≡ w.taken_before → (f : IsAnswer s a v) (g : IsAnswer t b w) → Due s a f.text
     → (s ≡ t) × (AsksNoHistory a.words → v.taken_after ≡ w.taken_after)
@@ -135,7 +136,7 @@ answers_bytes one s t a b v w told words tells_a tells_b quiet_a quiet_b before 
     (whole_answer t b w g.text g.due g.whole u.request (ap request_of (sym words) ∙ u.asks) quiet_b)) in
     (both.0, (λ none. both.1 (λ wanted is. none wanted (u.asks ∙ ap Some is))))
 
-pub same_bytes : OneSource → (s t : Status) (a b : Asked) (v w : Wrote) (told : Told) → a.words ≡ b.words
+pub same_bytes : OneSource → (s t : Status) (a b : Invocation) (v w : Wrote) (told : Told) → a.words ≡ b.words
     → a.told ≡ Some told → b.told ≡ Some told → a.after ≡ a.before → b.after ≡ b.before
     → v.taken_before ≡ w.taken_before → v.after ≡ v.before → w.after ≡ w.before → s ≢ Memory → t ≢ Memory
     → IsCause s a v → IsCause t b w

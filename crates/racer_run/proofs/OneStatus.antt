@@ -7,7 +7,7 @@ use Rattle.racer_base.specs.Outside.{Told, Files}
 use Rattle.race_report.specs.declared.mode.Mode.{Mode}
 use Rattle.racer_sources.specs.OneReading.{OneSource}
 use Rattle.racer_sources.specs.Programs.{Source, Refusal, Accepted}
-use Rattle.racer_run.specs.declared.said.Said.{Said}
+use Rattle.racer_run.specs.declared.said.RunOutput.{RunOutput}
 use Rattle.racer_run.specs.declared.status.Status.{Status}
 use Rattle.racer_run.specs.declared.status.Status.TheVariants.{Clean, Warned, Usage, FolderFault, SinkFault, Refused}
 use Rattle.racer_run.specs.declared.status.Status.TheVariants.{Memory, NoRace, NotAWitness}
@@ -15,7 +15,7 @@ use Rattle.racer_run.specs.Words.{WantedReport, WantedReplay, WantedMade, Reques
 use Rattle.racer_run.specs.Said.{SaysReport, said_from, usage_text}
 use Rattle.racer_run.specs.Replays.{IsReplaySaid, SaysReplay, replay_said}
 use Rattle.racer_run.specs.Made.{SaysMade, made_files, made_said}
-use Rattle.racer_run.specs.Causes.{Asked, Wrote, IsUsage, IsFault, IsSaid, IsDue, IsAnswer, IsCut, IsCause, Says}
+use Rattle.racer_run.specs.Causes.{Invocation, Wrote, IsUsage, IsFault, IsSaid, IsDue, IsAnswer, IsCut, IsCause, Says}
 use Rattle.racer_run.specs.Causes.{is_said_to, IsWhole, IsWholeAnswer}
 
 -- ---- what is said to a request is due
@@ -40,7 +40,7 @@ no_memory (ReportOn wanted) e = let bad : ◌≡◌ {A = Bool} false true = e in
 no_memory (ReplayOf wanted) e = let bad : ◌≡◌ {A = Bool} false true = e in cc
 no_memory (MadeOf wanted) e = let bad : ◌≡◌ {A = Bool} false true = e in cc
 
-pub said_due : (s : Status) (asked : Asked) (text : List ℕ) → IsSaid s asked text → IsDue s asked text
+pub said_due : (s : Status) (asked : Invocation) (text : List ℕ) → IsSaid s asked text → IsDue s asked text
 said_due Clean asked text h = h
 said_due Warned asked text h = h
 said_due Refused asked text h = h
@@ -52,12 +52,12 @@ said_due SinkFault asked text h = absurd (no_sink h.request h.fits)
 said_due Memory asked text h = absurd (no_memory h.request h.fits)
 
 -- a text that is due is the usage line, the line of a fault, or what is said to a request
-pub data Due (s : Status) (asked : Asked) (text : List ℕ) : Type 0 where
+pub data Due (s : Status) (asked : Invocation) (text : List ℕ) : Type 0 where
   by_usage : s ≡ Usage → IsUsage asked text → Due s asked text
   by_fault : s ≡ FolderFault → IsFault asked text → Due s asked text
   by_said : IsSaid s asked text → Due s asked text
 
-pub due_of : (s : Status) (asked : Asked) (text : List ℕ) → IsDue s asked text → Due s asked text
+pub due_of : (s : Status) (asked : Invocation) (text : List ℕ) → IsDue s asked text → Due s asked text
 due_of Clean asked text h = by_said h
 due_of Warned asked text h = by_said h
 due_of Usage asked text h = by_usage refl h
@@ -82,29 +82,29 @@ rose a b h e = omega arith
 
 -- ---- what is due, by what the words ask for
 
-pub usage_due : (s : Status) (asked : Asked) (text : List ℕ) → request_of asked.words ≡ None → Due s asked text
+pub usage_due : (s : Status) (asked : Invocation) (text : List ℕ) → request_of asked.words ≡ None → Due s asked text
     → (s ≡ Usage) × (text ≡ usage_text)
 usage_due s asked text none (by_usage e u) = (e, u.line)
 usage_due s asked text none (by_fault e u) = absurd (asks_nothing _ _ none u.asks)
 usage_due s asked text none (by_said u) = absurd (asks_nothing _ _ none u.asks)
 
-fault_due : (s : Status) (asked : Asked) (text : List ℕ) → asked.before < asked.after → Due s asked text
+fault_due : (s : Status) (asked : Invocation) (text : List ℕ) → asked.before < asked.after → Due s asked text
     → s ≡ FolderFault
 fault_due s asked text fault (by_usage e u) = absurd (rose _ _ fault u.no_fault)
 fault_due s asked text fault (by_fault e u) = e
 fault_due s asked text fault (by_said u) = absurd (rose _ _ fault u.no_fault)
 
-says_due : (s : Status) (asked : Asked) (text : List ℕ) (request : Request) → request_of asked.words ≡ Some request
+says_due : (s : Status) (asked : Invocation) (text : List ℕ) (request : Request) → request_of asked.words ≡ Some request
     → asked.after ≡ asked.before → Due s asked text
     → Says request asked.told (record { status = s; text = text })
 says_due s asked text request asks quiet (by_usage e u) = absurd (asks_nothing _ _ u.nothing asks)
 says_due s asked text request asks quiet (by_fault e u) = absurd (rose _ _ u.fault quiet)
 says_due s asked text request asks quiet (by_said u) =
-    let said : Said = record { status = s; text = text } in
+    let said : RunOutput = record { status = s; text = text } in
     subst (λ (r : Request). Says r asked.told said) (same_request u.request request (sym u.asks ∙ asks)) u.said
 
 -- where the words make a request and the folder did not fail, what was written whole is what is said to it
-pub whole_answer : (s : Status) (asked : Asked) (wrote : Wrote) (text : List ℕ) → IsDue s asked text
+pub whole_answer : (s : Status) (asked : Invocation) (wrote : Wrote) (text : List ℕ) → IsDue s asked text
     → IsWhole wrote text → (request : Request) → request_of asked.words ≡ Some request → asked.after ≡ asked.before
     → IsWholeAnswer request asked.told s wrote
 whole_answer s asked wrote text due is_whole request asks quiet =
@@ -116,7 +116,7 @@ whole_answer s asked wrote text due is_whole request asks quiet =
     }
 
 -- a text that is due and was written whole is the cause of its status
-pub whole_cause : (s : Status) (asked : Asked) (wrote : Wrote) (text : List ℕ) → IsDue s asked text
+pub whole_cause : (s : Status) (asked : Invocation) (wrote : Wrote) (text : List ℕ) → IsDue s asked text
     → IsWhole wrote text → IsCause s asked wrote
 whole_cause Clean asked wrote text due is_whole = record { text = text; due = due; whole = is_whole }
 whole_cause Warned asked wrote text due is_whole = record { text = text; due = due; whole = is_whole }
@@ -130,30 +130,30 @@ whole_cause Memory asked wrote text due is_whole = absurd due
 
 -- ---- what is said of one folder in one mode is one, but for the history
 
-pub report_only : OneSource → (files : Files) (first second : WantedReport) (a b : Said) → first.mode ≡ second.mode
+pub report_only : OneSource → (files : Files) (first second : WantedReport) (a b : RunOutput) → first.mode ≡ second.mode
     → (f : SaysReport first files a) (g : SaysReport second files b)
     → said_from first.mode f.source ≡ said_from second.mode g.source
 report_only one files first second a b mode f g =
     ap (λ (m : Mode). said_from m f.source) mode
     ∙ ap (said_from second.mode) (one files f.source g.source f.is g.is)
 
-pub report_status : OneSource → (files : Files) (first second : WantedReport) (a b : Said)
+pub report_status : OneSource → (files : Files) (first second : WantedReport) (a b : RunOutput)
     → first.mode ≡ second.mode → SaysReport first files a → SaysReport second files b → a.status ≡ b.status
 report_status one files first second a b mode f g =
-    ap (λ (said : Said). said.status) f.said_so
-    ∙ ap (λ (said : Said). said.status) (report_only one files first second a b mode f g)
-    ∙ sym (ap (λ (said : Said). said.status) g.said_so)
+    ap (λ (said : RunOutput). said.status) f.said_so
+    ∙ ap (λ (said : RunOutput). said.status) (report_only one files first second a b mode f g)
+    ∙ sym (ap (λ (said : RunOutput). said.status) g.said_so)
 
 -- ---- what is said of one witness, and of one made folder, is one
 
-same_replay : (wanted : WantedReplay) (files : Files) (source : Source) (a b : Said)
+same_replay : (wanted : WantedReplay) (files : Files) (source : Source) (a b : RunOutput)
     → IsReplaySaid wanted files source a → IsReplaySaid wanted files source b → a ≡ b
 same_replay wanted files (Refusal line) a b f g = f ∙ sym g
 same_replay wanted files (Accepted program) a b f g =
     let bytes : f.0 ≡ g.0 = let e : Some f.0 ≡ Some g.0 = sym f.1 ∙ g.1 in cc in
     f.2 ∙ ap (replay_said program) bytes ∙ sym g.2
 
-pub replay_only : OneSource → (files : Files) (wanted : WantedReplay) (a b : Said) → SaysReplay wanted files a
+pub replay_only : OneSource → (files : Files) (wanted : WantedReplay) (a b : RunOutput) → SaysReplay wanted files a
     → SaysReplay wanted files b → a ≡ b
 replay_only one files wanted a b f g =
     same_replay wanted files g.source a b
@@ -163,38 +163,39 @@ replay_only one files wanted a b f g =
 same_program : (p q : Core) → Accepted p ≡ Accepted q → p ≡ q
 same_program p q e = cc
 
-pub made_only : OneSource → (wanted : WantedMade) (a b : Said) → SaysMade wanted a → SaysMade wanted b → a ≡ b
+pub made_only : OneSource → (wanted : WantedMade) (a b : RunOutput) → SaysMade wanted a → SaysMade wanted b → a ≡ b
 made_only one wanted a b f g =
     f.said_so
     ∙ ap (made_said wanted.number) (same_program f.program g.program
     (one (made_files wanted.number) (Accepted f.program) (Accepted g.program) f.is g.is))
     ∙ sym g.said_so
 
-status_only : OneSource → (request : Request) (told : Told) (a b : Said) → Says request (Some told) a
+status_only : OneSource → (request : Request) (told : Told) (a b : RunOutput) → Says request (Some told) a
     → Says request (Some told) b → a.status ≡ b.status
 status_only one (ReportOn wanted) told a b f g = report_status one told.files wanted wanted a b refl f g
 status_only one (ReplayOf wanted) told a b f g =
-    ap (λ (said : Said). said.status) (replay_only one told.files wanted a b f g)
-status_only one (MadeOf wanted) told a b f g = ap (λ (said : Said). said.status) (made_only one wanted a b f g)
+    ap (λ (said : RunOutput). said.status) (replay_only one told.files wanted a b f g)
+status_only one (MadeOf wanted) told a b f g = ap (λ (said : RunOutput). said.status) (made_only one wanted a b f g)
 
-due_status : OneSource → (s t : Status) (asked : Asked) (told : Told) (x y : List ℕ) → asked.told ≡ Some told
+due_status : OneSource → (s t : Status) (asked : Invocation) (told : Told) (x y : List ℕ) → asked.told ≡ Some told
     → Due s asked x → Due t asked y → s ≡ t
 due_status one s t asked told x y tells (by_usage e u) g = e ∙ sym (usage_due t asked y u.nothing g).0
 due_status one s t asked told x y tells (by_fault e u) g = e ∙ sym (fault_due t asked y u.fault g)
 due_status one s t asked told x y tells (by_said u) g =
-    let first : Said = record { status = s; text = x } in
-    let second : Said = record { status = t; text = y } in
+    let first : RunOutput = record { status = s; text = x } in
+    let second : RunOutput = record { status = t; text = y } in
     status_only one u.request told first second
     (subst (λ (o : Option Told). Says u.request o first) tells u.said)
     (subst (λ (o : Option Told). Says u.request o second) tells (says_due t asked y u.request u.asks u.no_fault g))
 
 -- ---- the end of a call: its whole answer, or a fault of the sink
 
-pub data Ending (s : Status) (asked : Asked) (wrote : Wrote) : Type 0 where
+pub data Ending (s : Status) (asked : Invocation) (wrote : Wrote) : Type 0 where
   whole : IsAnswer s asked wrote → Ending s asked wrote
   cut : s ≡ SinkFault → IsCut asked wrote → Ending s asked wrote
 
-pub ending_of : (s : Status) (asked : Asked) (wrote : Wrote) → s ≢ Memory → IsCause s asked wrote → Ending s asked wrote
+pub ending_of : (s : Status) (asked : Invocation) (wrote : Wrote) → s ≢ Memory → IsCause s asked wrote →
+    Ending s asked wrote
 ending_of Clean asked wrote n h = whole h
 ending_of Warned asked wrote n h = whole h
 ending_of Usage asked wrote n h = whole h
@@ -205,7 +206,7 @@ ending_of Memory asked wrote n h = absurd (n refl)
 ending_of NoRace asked wrote n h = whole h
 ending_of NotAWitness asked wrote n h = whole h
 
-ending_only : OneSource → (s t : Status) (asked : Asked) (wrote : Wrote) (told : Told) → asked.told ≡ Some told
+ending_only : OneSource → (s t : Status) (asked : Invocation) (wrote : Wrote) (told : Told) → asked.told ≡ Some told
     → Ending s asked wrote → Ending t asked wrote → s ≡ t
 ending_only one s t asked wrote told e (whole f) (whole g) =
     due_status one s t asked told f.text g.text e (due_of s asked f.text f.due) (due_of t asked g.text g.due)
@@ -213,7 +214,7 @@ ending_only one s t asked wrote told e (whole f) (cut g h) = absurd (rose _ _ h.
 ending_only one s t asked wrote told e (cut f h) (whole g) = absurd (rose _ _ h.front.fault g.whole.no_fault)
 ending_only one s t asked wrote told e (cut f h) (cut g k) = f ∙ sym g
 
-pub one_status : OneSource → (s t : Status) (asked : Asked) (wrote : Wrote) (told : Told) (bytes : List ℕ)
+pub one_status : OneSource → (s t : Status) (asked : Invocation) (wrote : Wrote) (told : Told) (bytes : List ℕ)
     → asked.told ≡ Some told → wrote.taken_before ≡ Some bytes → s ≢ Memory → t ≢ Memory → IsCause s asked wrote
     → IsCause t asked wrote → s ≡ t
 one_status one s t asked wrote told bytes e taken m n f g =

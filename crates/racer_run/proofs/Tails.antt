@@ -8,19 +8,20 @@ use Rattle.summary_store.specs.declared.machine.Event.{Event}
 use Rattle.summary_store.specs.Machine.{Legal, IsComplete}
 use Rattle.summary_store.specs.Setups.{setup_of}
 use Rattle.racer_run_history.specs.History.{history_text}
-use Rattle.racer_run.specs.declared.said.Said.{Said}
+use Rattle.racer_run.specs.declared.said.RunOutput.{RunOutput}
 use Rattle.racer_run.specs.Said.{said_from, with_tail, IsTail}
 use Rattle.racer_run.specs.Requests.{lines_of, IsSaidWith}
 use Rattle.racer_run.specs.Words.{WantedReport}
 
 -- nothing stands behind
-pub no_tail : (said : Said) → said ≡ with_tail said []
+pub no_tail : (said : RunOutput) → said ≡ with_tail said []
 no_tail said = λ i. record { status = said.status; text = sym (append-nil said.text) i }
 
 -- the lines of a history stand behind
-pub behind : (asked : Bool) (said : Said) (program : Core) (history : List Event) (text : List ℕ) → asked ≡ true
+pub behind : (asked : Bool) (said : RunOutput) (program : Core) (history : List Event) (text : List ℕ) → asked ≡ true
     → text ≡ said.text ++ history_text program history
-    → ◌≡◌ {A = Said} (record { status = said.status; text = text }) (with_tail said (lines_of asked program history))
+    → ◌≡◌ {A = RunOutput} (record { status = said.status; text = text })
+    (with_tail said (lines_of asked program history))
 behind true said program history text e is = λ i. record { status = said.status; text = is i }
 behind false said program history text e is = cc
 
@@ -35,7 +36,7 @@ pub if_ok : {A E : Type 0} (r : Result A E) (x : A) (P : A → Type 0) → P x �
 if_ok (Ok y) x P h e = subst P (sym e) h
 if_ok (Err e) x P h tt = tt
 
-pub with_lines : {E : Type 0} (r : Result Said E) (program : Core) (wanted : WantedReport) (said : Said)
+pub with_lines : {E : Type 0} (r : Result RunOutput E) (program : Core) (wanted : WantedReport) (said : RunOutput)
     (history : List Event) → said ≡ said_from wanted.mode (Accepted program)
     → Legal (setup_of program wanted.workers) history
     → IsComplete (setup_of program wanted.workers) history

@@ -4,7 +4,7 @@ use Rattle.std.specs.Prelude.{List, Option, None, Some, String, length, map, tak
 use Rattle.std.specs.FinMap.{contains_key}
 use Rattle.std.specs.Global.{Global}
 use Rattle.racer_base.specs.Outside.{Told, taken_and}
-use Rattle.racer_run.specs.declared.said.Said.{Said}
+use Rattle.racer_run.specs.declared.said.RunOutput.{RunOutput}
 use Rattle.racer_run.specs.declared.status.Status.{Status}
 use Rattle.racer_run.specs.declared.status.Status.TheVariants.{Clean, Warned, Usage, FolderFault, SinkFault, Refused}
 use Rattle.racer_run.specs.declared.status.Status.TheVariants.{Memory, NoRace, NotAWitness}
@@ -15,14 +15,14 @@ use Rattle.racer_run.specs.Made.{SaysMade}
 use Rattle.racer_run.specs.Statuses.{is_report_status, is_replay_status, is_made_status}
 
 -- What can be seen of a call's words and folder: the words, what the folder tells, and its counts of faults.
-pub record Asked : Type 0 where
+pub record Invocation : Type 0 where
   pub words : List (List ℕ)
   pub told : Option Told
   pub before : ℕ
   pub after : ℕ
 
 -- the words, and a folder before and after the call, as folders of its kind tell and count
-abbrev pub asked_of : {F : Type 0} → (F → Option Told) → (F → ℕ) → List (String Global) → F → F → Asked
+abbrev pub asked_of : {F : Type 0} → (F → Option Told) → (F → ℕ) → List (String Global) → F → F → Invocation
 asked_of told faults words old new =
     record { words = map string_bytes words; told = told old; before = faults old; after = faults new }
 
@@ -68,13 +68,13 @@ pub record IsNothing (wrote : Wrote) : Type 0 where
   pub no_fault : wrote.after ≡ wrote.before
 
 -- the words ask for nothing, and the folder was left alone
-pub record IsUsage (asked : Asked) (text : List ℕ) : Type 0 where
+pub record IsUsage (asked : Invocation) (text : List ℕ) : Type 0 where
   pub nothing : request_of asked.words ≡ None
   pub line : text ≡ usage_text
   pub no_fault : asked.after ≡ asked.before
 
 -- the words ask for something on a folder, and its count of faults rose
-pub record IsFault (asked : Asked) (text : List ℕ) : Type 0 where
+pub record IsFault (asked : Invocation) (text : List ℕ) : Type 0 where
   pub request : Request
   pub asks : request_of asked.words ≡ Some request
   pub on_folder : is_on_folder request ≡ true
@@ -88,7 +88,7 @@ IsEntered (ReplayOf wanted) told = wanted.folder ≡ told.name
 IsEntered (MadeOf wanted) told = Unit {0}
 
 -- this is what is said to a request, by what the folder tells
-abbrev pub Says : Request → Option Told → Said → Type 0
+abbrev pub Says : Request → Option Told → RunOutput → Type 0
 Says (ReportOn wanted) tells said = IfSome tells (λ told. SaysReport wanted told.files said)
 Says (ReplayOf wanted) tells said = IfSome tells (λ told. SaysReplay wanted told.files said)
 Says (MadeOf wanted) tells said = SaysMade wanted said
@@ -100,7 +100,7 @@ is_said_to (ReplayOf wanted) = is_replay_status
 is_said_to (MadeOf wanted) = is_made_status
 
 -- the words make this request, the folder did not fail, and this is what is said
-pub record IsSaid (status : Status) (asked : Asked) (text : List ℕ) : Type 0 where
+pub record IsSaid (status : Status) (asked : Invocation) (text : List ℕ) : Type 0 where
   pub request : Request
   pub asks : request_of asked.words ≡ Some request
   pub entered : IfSome asked.told (IsEntered request)
@@ -109,7 +109,7 @@ pub record IsSaid (status : Status) (asked : Asked) (text : List ℕ) : Type 0 w
   pub no_fault : asked.after ≡ asked.before
 
 -- what each status comes from, but for those of the sink and of memory, and the text that is due then
-abbrev pub IsDue : Status → Asked → List ℕ → Type 0
+abbrev pub IsDue : Status → Invocation → List ℕ → Type 0
 IsDue Clean asked text = IsSaid Clean asked text
 IsDue Warned asked text = IsSaid Warned asked text
 IsDue Usage asked text = IsUsage asked text
@@ -121,24 +121,24 @@ IsDue NoRace asked text = IsSaid NoRace asked text
 IsDue NotAWitness asked text = IsSaid NotAWitness asked text
 
 -- each text that may be due is at most so long
-abbrev pub IsRoomFor : ℕ → Asked → Type 0
+abbrev pub IsRoomFor : ℕ → Invocation → Type 0
 IsRoomFor room asked = (status : Status) (text : List ℕ) → IsDue status asked text → length text ≤ room
 
 -- the text that is due was written whole
-pub record IsAnswer (status : Status) (asked : Asked) (wrote : Wrote) : Type 0 where
+pub record IsAnswer (status : Status) (asked : Invocation) (wrote : Wrote) : Type 0 where
   pub text : List ℕ
   pub due : IsDue status asked text
   pub whole : IsWhole wrote text
 
 -- the sink failed before the text that was due was written whole
-pub record IsCut (asked : Asked) (wrote : Wrote) : Type 0 where
+pub record IsCut (asked : Invocation) (wrote : Wrote) : Type 0 where
   pub status : Status
   pub text : List ℕ
   pub due : IsDue status asked text
   pub front : IsFront wrote text
 
 -- why a run ends with this status
-abbrev pub IsCause : Status → Asked → Wrote → Type 0
+abbrev pub IsCause : Status → Invocation → Wrote → Type 0
 IsCause Clean asked wrote = IsAnswer Clean asked wrote
 IsCause Warned asked wrote = IsAnswer Warned asked wrote
 IsCause Usage asked wrote = IsAnswer Usage asked wrote
@@ -151,7 +151,7 @@ IsCause NotAWitness asked wrote = IsAnswer NotAWitness asked wrote
 
 -- what is said to the request was written whole, and gives the status
 pub record IsWholeAnswer (request : Request) (tells : Option Told) (status : Status) (wrote : Wrote) : Type 0 where
-  pub said : Said
+  pub said : RunOutput
   pub says : Says request tells said
   pub gives : status ≡ said.status
   pub whole : IsWhole wrote said.text
@@ -163,7 +163,7 @@ CanAnswer (ReplayOf wanted) tells = IsSomeAnd tells (IsFor (ReplayOf wanted))
 CanAnswer (MadeOf wanted) tells = Unit {0}
 
 -- where the words make such a request, and no count rose, the answer is whole, or memory was refused
-abbrev pub IsComplete : Status → Asked → Wrote → Type 0
+abbrev pub IsComplete : Status → Invocation → Wrote → Type 0
 IsComplete status asked wrote =
     (request : Request) → request_of asked.words ≡ Some request → CanAnswer request asked.told
     → asked.after ≡ asked.before → wrote.after ≡ wrote.before

@@ -7,7 +7,7 @@ use Rattle.race_pairs.specs.Warnings.{warnings}
 use Rattle.race_report.specs.Modes.{made_report}
 use Rattle.folder_maker.specs.Folders as maker
 use Rattle.racer_sources.specs.Programs.{IsProgram}
-use Rattle.racer_run.specs.declared.said.Said.{Said}
+use Rattle.racer_run.specs.declared.said.RunOutput.{RunOutput}
 use Rattle.racer_run.specs.Said.{report_status}
 use Rattle.racer_run.specs.Words.{WantedMade}
 
@@ -15,12 +15,12 @@ use Rattle.racer_run.specs.Words.{WantedMade}
 abbrev pub made_files : ℕ → Files
 made_files number = from_entries (maker.made_files number)
 
-abbrev pub made_said : ℕ → Core → Said
+abbrev pub made_said : ℕ → Core → RunOutput
 made_said number program =
     record { status = report_status (warnings program); text = made_report number program }
 
 -- this is what is said to one who wants a made folder
-pub record SaysMade (wanted : WantedMade) (said : Said) : Type 0 where
+pub record SaysMade (wanted : WantedMade) (said : RunOutput) : Type 0 where
   pub program : Core
   pub is : IsProgram (made_files wanted.number) program
   pub said_so : said ≡ made_said wanted.number program

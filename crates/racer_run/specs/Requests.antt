@@ -7,7 +7,7 @@ use Rattle.summary_store.specs.declared.machine.Event.{Event}
 use Rattle.racer_run_history.specs.History.{history_text}
 use Rattle.racer_run.specs.declared.request.Request.{Request}
 use Rattle.racer_run.specs.declared.request.Request.TheVariants as request
-use Rattle.racer_run.specs.declared.said.Said.{Said}
+use Rattle.racer_run.specs.declared.said.RunOutput.{RunOutput}
 use Rattle.racer_run.specs.declared.wanted.WantedReport.{WantedReport}
 use Rattle.racer_run.specs.declared.wanted.WantedReplay.{WantedReplay}
 use Rattle.racer_run.specs.declared.wanted.WantedMade.{WantedMade}
@@ -43,7 +43,7 @@ lines_of false program history = []
 lines_of true program history = history_text program history
 
 -- this is what is said of a source, with lines behind it that may stand there
-pub record IsSaidWith (wanted : words.WantedReport) (source : Source) (said : Said) : Type 0 where
+pub record IsSaidWith (wanted : words.WantedReport) (source : Source) (said : RunOutput) : Type 0 where
   pub tail : List ℕ
   pub is_behind : IsBehind wanted source tail
   pub said_so : said ≡ with_tail (said_from wanted.mode source) tail

@@ -13,7 +13,7 @@ use Rattle.summary_store.specs.declared.machine.Event.{Event}
 use Rattle.summary_store.specs.Machine.{Legal, IsComplete}
 use Rattle.summary_store.specs.Setups.{setup_of}
 use Rattle.racer_run_history.specs.History.{history_text}
-use Rattle.racer_run.specs.declared.said.Said.{Said}
+use Rattle.racer_run.specs.declared.said.RunOutput.{RunOutput}
 use Rattle.racer_run.specs.declared.status.Status.{Status}
 use Rattle.racer_run.specs.declared.status.Status.TheVariants.{Clean, Warned, Refused}
 use Rattle.racer_run.specs.Words.{WantedReport}
@@ -32,7 +32,7 @@ report_status [] = Clean
 report_status (w ∷ ws) = Warned
 
 -- the line of a refusal, or the report on a program
-abbrev pub said_from : Mode → Source → Said
+abbrev pub said_from : Mode → Source → RunOutput
 said_from mode (Refusal line) = record { status = Refused; text = line }
 said_from mode (Accepted program) = record { status = report_status (warnings program); text = report mode program }
 
@@ -64,11 +64,11 @@ IsBehind wanted (Refusal line) tail = tail ≡ []
 IsBehind wanted (Accepted program) tail = IsTail wanted.history wanted.workers program tail
 
 -- the same with this behind its text
-abbrev pub with_tail : Said → List ℕ → Said
+abbrev pub with_tail : RunOutput → List ℕ → RunOutput
 with_tail said tail = record { status = said.status; text = said.text ++ tail }
 
 -- this is what is said to one who wants a report on a folder with these files
-pub record SaysReport (wanted : WantedReport) (files : Files) (said : Said) : Type 0 where
+pub record SaysReport (wanted : WantedReport) (files : Files) (said : RunOutput) : Type 0 where
   pub source : Source
   pub is : IsSource files source
   pub tail : List ℕ

@@ -19,10 +19,11 @@ use Rattle.racer_sources.specs.Programs.{Accepted, IsSource}
 use Rattle.racer_run.specs.declared.status.Status.{Status}
 use Rattle.racer_run.specs.declared.status.Status.TheVariants.{Memory}
 use Rattle.racer_run.specs.Words.{Request, request_of}
-use Rattle.racer_run.specs.Causes.{Asked, Wrote, IsCause, IsFor}
+use Rattle.racer_run.specs.Causes.{Invocation, Wrote, IsCause, IsFor}
 
 -- a call that makes this request of a folder that tells this; nothing failed, and memory was not refused
-pub record IsCall (request : Request) (told : Told) (status : Status) (asked : Asked) (wrote : Wrote) : Type 0 where
+pub record IsCall (request : Request) (told : Told) (status : Status) (asked : Invocation)
+    (wrote : Wrote) : Type 0 where
   pub asks : request_of asked.words ≡ Some request
   pub tells : asked.told ≡ Some told
   pub can : IsFor request told

@@ -10,7 +10,7 @@ use crate::made::reported_on_made;
 use crate::replays::replayed_on;
 use crate::reports::reported_on;
 use crate::request::{Request, requested};
-use crate::said::{Said, line};
+use crate::said::{RunOutput, line};
 use crate::status::Status;
 use racer_base::{Folder, FolderFault, Gate, Memory};
 use std::alloc::Global;
@@ -28,7 +28,7 @@ fn answered<R: Threads + Wait + Sync, F: Folder, G: Gate + Sync>(
     folder: &mut F,
     request: &Request,
     gate: &G,
-) -> Result<Said, FolderFault>
+) -> Result<RunOutput, FolderFault>
     ensures fits { IfOk result (λ said. is_said_to (seen request.now) said.status ≡ true) }
     ensures count { CountsFaults result (F.faults folder.old) (F.faults folder.new) }
     ensures entered { OnOk result (IfSome (F.told folder.old) (IsEntered (seen request.now))) }
@@ -52,7 +52,7 @@ pub fn what_to_say<R: Threads + Wait + Sync, F: Folder, G: Gate + Sync>(
     words: &[String],
     folder: &mut F,
     gate: &G,
-) -> Result<Said, Memory>
+) -> Result<RunOutput, Memory>
     requires { F.faults folder.old < last_count }
     ensures due { IfOk result (λ said.
         IsDue said.status (asked_of F.told F.faults words.now folder.old folder.new) said.text) }

@@ -5,7 +5,7 @@ ghost use Rattle.racer_run.specs.declared.status.Status.{Status};
 ghost use Rattle.racer_run.specs.declared.status.Status.TheVariants.{Clean, Memory};
 ghost use Rattle.racer_run.specs.Words.{WantedReport, WantedReplay, ReportOn, ReplayOf, request_of};
 ghost use Rattle.racer_run.specs.Witnesses.{IsCall, IsCutOut};
-ghost use Rattle.racer_run.specs.Causes.{Asked, Wrote, IsCause, IsWhole};
+ghost use Rattle.racer_run.specs.Causes.{Invocation, Wrote, IsCause, IsWhole};
 ghost use Rattle.racer_run.specs.Reports.{AsksNoHistory, WroteOneReport};
 
 use racer_sources::laws::{one_source, other_files_are_not_seen};
@@ -13,7 +13,7 @@ use racer_sources::laws::{one_source, other_files_are_not_seen};
 /// Where folder and sink tell their meanings, no two statuses other than
 /// want of memory have their cause in one call.
 pub fn one_status()
-    ensures { (s t : Status) (asked : Asked) (wrote : Wrote) (told : Told) (bytes : List ℕ) →
+    ensures { (s t : Status) (asked : Invocation) (wrote : Wrote) (told : Told) (bytes : List ℕ) →
         asked.told ≡ Some told → wrote.taken_before ≡ Some bytes → s ≢ Memory → t ≢ Memory →
         IsCause s asked wrote → IsCause t asked wrote → s ≡ t }
 {
@@ -24,7 +24,7 @@ pub fn one_status()
 /// was refused. Where the words ask for no history, they write the same bytes; where they ask for a report, with or
 /// without a history, they write one report, and each its history behind it.
 pub fn same_bytes()
-    ensures { (s t : Status) (a b : Asked) (v w : Wrote) (told : Told) → a.words ≡ b.words →
+    ensures { (s t : Status) (a b : Invocation) (v w : Wrote) (told : Told) → a.words ≡ b.words →
         a.told ≡ Some told → b.told ≡ Some told → a.after ≡ a.before → b.after ≡ b.before →
         v.taken_before ≡ w.taken_before → v.after ≡ v.before → w.after ≡ w.before → s ≢ Memory → t ≢ Memory →
         IsCause s a v → IsCause t b w →
@@ -39,7 +39,7 @@ pub fn same_bytes()
 /// same folder in the same mode, on folders that tell the same and without a fault, end with one status and write one
 /// report, unless memory was refused. Behind it stands the history, in a run whose words ask for it, and else nothing.
 pub fn same_report()
-    ensures { (s t : Status) (a b : Asked) (v w : Wrote) (told : Told) (first second : WantedReport) →
+    ensures { (s t : Status) (a b : Invocation) (v w : Wrote) (told : Told) (first second : WantedReport) →
         request_of a.words ≡ Some (ReportOn first) → request_of b.words ≡ Some (ReportOn second) →
         first.folder ≡ second.folder → first.mode ≡ second.mode →
         a.told ≡ Some told → b.told ≡ Some told → a.after ≡ a.before → b.after ≡ b.before →
@@ -53,7 +53,7 @@ pub fn same_report()
 /// replays: a call that asks for it there ends clean, and writes that the threads race. The member `witness` that is cut
 /// out is that of the report on the program that the sources of a first call are, in whichever mode that call wrote it.
 pub fn cut_witnesses_replay()
-    ensures { (s t : Status) (a b : Asked) (v w : Wrote) (from to : Told) (report : WantedReport) (replay : WantedReplay) →
+    ensures { (s t : Status) (a b : Invocation) (v w : Wrote) (from to : Told) (report : WantedReport) (replay : WantedReplay) →
         IsCall (ReportOn report) from s a v → IsCall (ReplayOf replay) to t b w →
         IsCutOut from.files to.files replay.witness → (t ≡ Clean) × IsWhole w (codes "races\n") }
 {

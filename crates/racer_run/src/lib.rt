@@ -15,6 +15,6 @@ mod writing;
 
 pub use replays::replayed;
 pub use reports::said_of;
-pub use said::Said;
+pub use said::RunOutput;
 pub use status::Status;
 pub use whole_run::run;

@@ -9,7 +9,7 @@ ghost use Rattle.racer_run.specs.Requests.{made_of};
 ghost use Rattle.racer_run.specs.Statuses.{is_made_status};
 
 use crate::reports::{pooled, status_of};
-use crate::said::Said;
+use crate::said::RunOutput;
 use crate::wanted::WantedMade;
 use access_domain::Outcomes;
 use core_code::Program;
@@ -46,7 +46,7 @@ fn said_of_made(
     number: u32,
     program: &Program,
     outcomes: &Outcomes,
-) -> Result<Said, Memory>
+) -> Result<RunOutput, Memory>
     requires { AreOutcomes (core program.now) outcomes.now.items }
     ensures status { IfOk result (λ said. is_made_status said.status ≡ true) }
     ensures said { IfOk result (λ said. said ≡ made_said number (core program.now)) }
@@ -54,7 +54,7 @@ fn said_of_made(
     let found = warnings(alloc, program, outcomes)?;
     let marks = marks_of(alloc, program, outcomes, found.as_slice())?;
     let text = made_text(alloc, number, program, found.as_slice(), marks.as_slice())?;
-    Ok(Said {
+    Ok(RunOutput {
         status: status_of(found.as_slice()),
         text: Text::from(text),
     })
@@ -67,7 +67,7 @@ fn counted<R: Threads + Wait + Sync, G: Gate + Sync>(
     wanted: &WantedMade,
     program: &Arc<Program>,
     gate: &G,
-) -> Result<Said, Memory>
+) -> Result<RunOutput, Memory>
     ensures status { IfOk result (λ said. is_made_status said.status ≡ true) }
     ensures said { IfOk result (λ said. said ≡ made_said wanted.now.number (core (arc_value program.now))) }
 {
@@ -81,7 +81,7 @@ pub fn reported_on_made<R: Threads + Wait + Sync, G: Gate + Sync>(
     alloc: Global,
     wanted: &WantedMade,
     gate: &G,
-) -> Result<Said, Memory>
+) -> Result<RunOutput, Memory>
     ensures status { IfOk result (λ said. is_made_status said.status ≡ true) }
     ensures said { IfOk result (SaysMade (made_of wanted.now)) }
 {

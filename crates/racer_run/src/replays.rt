@@ -12,7 +12,7 @@ ghost use Rattle.racer_run.specs.Statuses.{is_replay_status};
 ghost use Rattle.witness_text_files.specs.Answers.{seen};
 ghost use Rattle.witness_text.specs.Verdicts.{verdict};
 
-use crate::said::{Said, line};
+use crate::said::{RunOutput, line};
 use crate::status::Status;
 use crate::wanted::WantedReplay;
 use core_code::Program;
@@ -23,13 +23,13 @@ use witness_text::{Verdict, field_name, replay, verdict_line};
 use witness_text_files::{WitnessFault, WitnessFile, read};
 
 /// The line that says why a file is no witness.
-fn not_a_witness(alloc: Global, why: &str) -> Result<Said, Memory>
+fn not_a_witness(alloc: Global, why: &str) -> Result<RunOutput, Memory>
     ensures { IfOk result (λ said. said ≡ not_a_witness why.now) }
 {
     let mut text = String::from_str(alloc, "not a witness: ")?;
     text.push_str(why)?;
     text.push_str("\n")?;
-    Ok(Said {
+    Ok(RunOutput {
         status: Status::NotAWitness,
         text: Text::from(text),
     })
@@ -46,18 +46,18 @@ fn verdict_status(verdict: Verdict) -> Status
 }
 
 /// The verdict on a file, with its line.
-fn judged(alloc: Global, program: &Program, file: &WitnessFile) -> Result<Said, Memory>
+fn judged(alloc: Global, program: &Program, file: &WitnessFile) -> Result<RunOutput, Memory>
     ensures { IfOk result (λ said. said ≡ verdict_said (verdict (core program.now) (seen file.now))) }
 {
     let verdict = replay(alloc, program, file)?;
-    Ok(Said {
+    Ok(RunOutput {
         status: verdict_status(verdict),
         text: Text::from(verdict_line(alloc, verdict)?),
     })
 }
 
 /// What is said of a file with these bytes, which are not too many.
-fn read_and_judged(alloc: Global, program: &Program, bytes: &[u8]) -> Result<Said, Memory>
+fn read_and_judged(alloc: Global, program: &Program, bytes: &[u8]) -> Result<RunOutput, Memory>
     ensures { IfOk result (λ said. said ≡ json_said (core program.now) (json_of bytes.now)) }
 {
     match read(alloc, bytes) {
@@ -69,7 +69,7 @@ fn read_and_judged(alloc: Global, program: &Program, bytes: &[u8]) -> Result<Sai
 }
 
 /// What is said of a file that begins with these bytes: all of it, or one byte more than a file may have.
-pub fn replayed(alloc: Global, program: &Program, bytes: &[u8]) -> Result<Said, Memory>
+pub fn replayed(alloc: Global, program: &Program, bytes: &[u8]) -> Result<RunOutput, Memory>
     ensures status { IfOk result (λ said. is_replay_status said.status ≡ true) }
     ensures said { IfOk result (λ said. said ≡ replay_said (core program.now) bytes.now) }
 {
@@ -84,7 +84,7 @@ pub fn replayed_on<F: Folder>(
     alloc: Global,
     folder: &mut F,
     wanted: &WantedReplay,
-) -> Result<Said, FolderFault>
+) -> Result<RunOutput, FolderFault>
     ensures status { IfOk result (λ said. is_replay_status said.status ≡ true) }
     ensures count { CountsFaults result (F.faults folder.old) (F.faults folder.new) }
     ensures entered { OnOk result (IfSome (F.told folder.old) (λ told. wanted.now.folder ≡ told.name)) }
@@ -98,7 +98,7 @@ pub fn replayed_on<F: Folder>(
             let bytes = folder.read(alloc, wanted.witness.as_str(), MAX_FILE_BYTES + 1)?;
             Ok(replayed(alloc, &program, bytes.as_slice())?)
         }
-        FoundProgram::Refused(text) => Ok(Said {
+        FoundProgram::Refused(text) => Ok(RunOutput {
             status: Status::Refused,
             text,
         }),

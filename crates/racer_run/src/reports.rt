@@ -12,7 +12,7 @@ ghost use Rattle.racer_run.specs.Said.{HasReplays, SaysReport};
 ghost use Rattle.racer_run.specs.Requests.{lines_of, wanted_of, IsSaidWith};
 ghost use Rattle.racer_run.specs.Statuses.{is_made_status, is_report_status};
 
-use crate::said::Said;
+use crate::said::RunOutput;
 use crate::status::Status;
 use crate::wanted::WantedReport;
 use access_domain::Outcomes;
@@ -51,7 +51,7 @@ pub fn said_of(
     mode: Mode,
     program: &Program,
     outcomes: &Outcomes,
-) -> Result<Said, Memory>
+) -> Result<RunOutput, Memory>
     requires { AreOutcomes (core program.now) outcomes.now.items }
     ensures status { IfOk result (λ said. is_report_status said.status ≡ true) }
     ensures said { IfOk result (λ said. said ≡ said_from mode (Accepted (core program.now))) }
@@ -66,7 +66,7 @@ pub fn said_of(
         found.as_slice(),
         marks.as_slice(),
     )?;
-    Ok(Said {
+    Ok(RunOutput {
         status: status_of(found.as_slice()),
         text: Text::from(text),
     })
@@ -97,7 +97,7 @@ fn reported<R: Threads + Wait + Sync, G: Gate + Sync>(
     wanted: &WantedReport,
     program: &Arc<Program>,
     gate: &G,
-) -> Result<Said, Memory>
+) -> Result<RunOutput, Memory>
     ensures status { IfOk result (λ said. is_report_status said.status ≡ true) }
     ensures said { IfOk result (λ said.
         IsSaidWith (wanted_of wanted.now) (Accepted (core (arc_value program.now))) said) }
@@ -111,10 +111,10 @@ fn reported<R: Threads + Wait + Sync, G: Gate + Sync>(
 fn with_history(
     alloc: Global,
     asked: bool,
-    said: Said,
+    said: RunOutput,
     program: &Program,
     history: &[Event],
-) -> Result<Said, Memory>
+) -> Result<RunOutput, Memory>
     ensures { IfOk result (λ new. new ≡ with_tail said (lines_of asked (core program.now) history.now)) }
 {
     if !asked {
@@ -123,7 +123,7 @@ fn with_history(
     let mut text = Written::new(alloc);
     push_text(&mut text, said.text.as_str());
     push_history(&mut text, program, history);
-    Ok(Said {
+    Ok(RunOutput {
         status: said.status,
         text: Text::from(text.finished()?),
     })
@@ -136,7 +136,7 @@ fn said_of_found<R: Threads + Wait + Sync, G: Gate + Sync>(
     wanted: &WantedReport,
     found: FoundProgram,
     gate: &G,
-) -> Result<Said, Memory>
+) -> Result<RunOutput, Memory>
     ensures status { IfOk result (λ said. is_report_status said.status ≡ true) }
     ensures said { IfOk result (λ said. IsSaidWith (wanted_of wanted.now) (source_of found) said) }
     ensures headline { HasHeadline (source_of found) }
@@ -149,7 +149,7 @@ fn said_of_found<R: Threads + Wait + Sync, G: Gate + Sync>(
             let program = Arc::new(alloc, program)?;
             reported(rt, alloc, wanted, &program, gate)
         }
-        FoundProgram::Refused(text) => Ok(Said {
+        FoundProgram::Refused(text) => Ok(RunOutput {
             status: Status::Refused,
             text,
         }),
@@ -163,7 +163,7 @@ pub fn reported_on<R: Threads + Wait + Sync, F: Folder, G: Gate + Sync>(
     folder: &mut F,
     wanted: &WantedReport,
     gate: &G,
-) -> Result<Said, FolderFault>
+) -> Result<RunOutput, FolderFault>
     ensures status { IfOk result (λ said. is_report_status said.status ≡ true) }
     ensures count { CountsFaults result (F.faults folder.old) (F.faults folder.new) }
     ensures entered { OnOk result (IfSome (F.told folder.old) (λ told. wanted.now.folder ≡ told.name)) }

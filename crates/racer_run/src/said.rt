@@ -7,16 +7,16 @@ use std::alloc::Global;
 
 /// The text that a run writes, and the status that it has once the text is written.
 #[derive(Drop)]
-pub struct Said {
+pub struct RunOutput {
     pub status: Status,
     pub text: Text,
 }
 
 /// A line with its status.
-pub fn line(alloc: Global, status: Status, text: &str) -> Result<Said, Memory>
+pub fn line(alloc: Global, status: Status, text: &str) -> Result<RunOutput, Memory>
     ensures { IfOk result (λ said. said ≡ record { status = status; text = text.now }) }
 {
-    Ok(Said {
+    Ok(RunOutput {
         status,
         text: Text::from_str(alloc, text)?,
     })

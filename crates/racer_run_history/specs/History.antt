@@ -15,14 +15,15 @@ text_of core None = []
 text_of core (Some method) = method_text core method
 
 -- a space, and the text of the method of this number
-abbrev pub named : Core → MethodId → List ℕ
-named core m = codes " " ++ text_of core (method_at core m)
+abbrev pub method_word : Core → MethodId → List ℕ
+method_word core m = codes " " ++ text_of core (method_at core m)
 
 -- the line of an event: its word, the worker's number, and the methods; of a park first the parked one
 abbrev pub event_line : Core → Event → List ℕ
-event_line core (Take w m) = codes "take " ++ decimal w ++ named core m ++ codes "\n"
-event_line core (Park w m callee) = codes "park " ++ decimal w ++ named core m ++ named core callee ++ codes "\n"
-event_line core (Publish w m) = codes "publish " ++ decimal w ++ named core m ++ codes "\n"
+event_line core (Take w m) = codes "take " ++ decimal w ++ method_word core m ++ codes "\n"
+event_line core (Park w m callee) = codes "park " ++ decimal w ++ method_word core m ++ method_word core callee
+    ++ codes "\n"
+event_line core (Publish w m) = codes "publish " ++ decimal w ++ method_word core m ++ codes "\n"
 event_line core (Leave w) = codes "leave " ++ decimal w ++ codes "\n"
 
 -- the lines of the events, in their order

@@ -16,7 +16,7 @@ use summary_store::Event;
 /// Puts a space and `CLASS.NAME/PARAMETERS` of the method of a number behind a text.
 fn push_named(text: &mut Written, program: &Program, m: MethodId)
     ensures lasts { Lasts text.old text.new }
-    ensures puts { Puts (wanted.named (core program.now) m) text.old text.new }
+    ensures puts { Puts (wanted.method_word (core program.now) m) text.old text.new }
 {
     push_space(text);
     match program.methods().get(m.0 as usize) {

@@ -39,9 +39,9 @@ placed law names us t known =
 abbrev pub HaveNames : Type 0
 HaveNames = (units : List unit.Unit) → AreFromTokens 0 units → IsTrue (are_named units)
 
-pub named : HaveNames → (names : List (List ℕ)) (us : List unit.Unit) (t : Table) → AreKnown names us t
+pub names_known : HaveNames → (names : List (List ℕ)) (us : List unit.Unit) (t : Table) → AreKnown names us t
     → IsTrue (are_named us)
-named law names us t known = law us (from_tokens 0 us known.read)
+names_known law names us t known = law us (from_tokens 0 us known.read)
 
 -- what accepted sources are lowered to is what the sources are
 lowered_source : (files : Files) (s : AcceptedSources) (f : FoundProgram) → AreAccepted (contents files) s.units.items

@@ -10,7 +10,7 @@ use Rattle.racer_base.specs.declared.outside.FolderFault.TheVariants as folder
 use Rattle.racer_sources.specs.declared.refusal.Refusal.{Refusal}
 use Rattle.racer_sources.specs.declared.fault.SourceFault.{SourceFault}
 use Rattle.racer_sources.specs.declared.fault.SourceFault.TheVariants.{Refused, Failed, Memory}
-use Rattle.racer_sources.specs.declared.found.Found.{Found}
+use Rattle.racer_sources.specs.declared.found.FolderSources.{FolderSources}
 use Rattle.racer_sources.specs.Reading.{as_source_fault, MovesCount, IfRefused, IsFileFault, Counts, NeverFails}
 use Rattle.racer_sources.specs.Declaring.{IsRefusedOr}
 use Rattle.racer_sources.specs.Finding.{FailsByMemory, IsKnown}
@@ -73,26 +73,28 @@ anyhow P Q (Some t) p = λ _. p
 
 -- ---- where sources are refused
 
-pub answers_by_memory : (names : List (List ℕ)) (fault : SourceFault) (r : Result Found FolderFault)
+pub answers_by_memory : (names : List (List ℕ)) (fault : SourceFault) (r : Result FolderSources FolderFault)
     → IsRefusedOr names fault r → (fault ≡ Failed → ⊥) → FailsByMemory r
 answers_by_memory names (Refused x) (Ok answer) is never = tt
 answers_by_memory names (Refused x) (Err f) is never = is
 answers_by_memory names Failed r is never = absurd (never refl)
-answers_by_memory names Memory r is never = subst (λ (x : Result Found FolderFault). FailsByMemory x) (sym is) refl
+answers_by_memory names Memory r is never =
+    subst (λ (x : Result FolderSources FolderFault). FailsByMemory x) (sym is) refl
 
-pub steady_answer : (names : List (List ℕ)) (fault : SourceFault) (r : Result Found FolderFault) (Q : Told → Type 0)
+pub steady_answer : (names : List (List ℕ)) (fault : SourceFault) (r : Result FolderSources FolderFault)
+    (Q : Told → Type 0)
     (o : Option Told) → IsRefusedOr names fault r → IfSome o (λ t. fault ≡ Failed → ⊥) →
     IfSome o (λ t. Q t → FailsByMemory r)
 steady_answer names fault r Q None is never = tt
 steady_answer names fault r Q (Some t) is never = λ _. answers_by_memory names fault r is never
 
 -- what is refused has nothing that is to be known of it
-pub refused_known : (names : List (List ℕ)) (fault : SourceFault) (r : Result Found FolderFault)
+pub refused_known : (names : List (List ℕ)) (fault : SourceFault) (r : Result FolderSources FolderFault)
     → IsRefusedOr names fault r → IfOk r IsKnown
-refused_known names (Refused x) (Ok answer) is = subst (λ (found : Found). IsKnown found) (sym is) tt
+refused_known names (Refused x) (Ok answer) is = subst (λ (found : FolderSources). IsKnown found) (sym is) tt
 refused_known names (Refused x) (Err f) is = tt
-refused_known names Failed r is = subst (λ (x : Result Found FolderFault). IfOk x IsKnown) (sym is) tt
-refused_known names Memory r is = subst (λ (x : Result Found FolderFault). IfOk x IsKnown) (sym is) tt
+refused_known names Failed r is = subst (λ (x : Result FolderSources FolderFault). IfOk x IsKnown) (sym is) tt
+refused_known names Memory r is = subst (λ (x : Result FolderSources FolderFault). IfOk x IsKnown) (sym is) tt
 
 pub on_ok_anyhow : {T E : Type 0} (P : Type 0) (r : Result T E) → P → OnOk r P
 on_ok_anyhow P (Ok x) p = p

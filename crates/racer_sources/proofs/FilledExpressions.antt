@@ -21,7 +21,7 @@ use Rattle.core_lowering_rules.specs.TreesOf.{access_of, assignment, binary, pre
 use Rattle.core_lowering_rules.specs.Trees as tree
 use Rattle.core_lowering_rules.specs.TreesOf as lowered
 use Rattle.racer_sources.proofs.FilledTrees.{Filled, filled, skip, skip-is, one-is, two-is, three-is}
-use Rattle.racer_sources.proofs.FilledTrees.{passing-is, named, then_name, called, expr, exprs, array, inits, init}
+use Rattle.racer_sources.proofs.FilledTrees.{passing-is, filled_names, then_name, called, expr, exprs, array, inits, init}
 
 abbrev pub HasExpr : Expression → Type 0
 HasExpr e = (rest : Places) → expr (viewed.expr_of e) (expr_places e rest) ≡ filled (expr_of e) rest
@@ -46,7 +46,7 @@ pub behind-type : {A : Type 0} (t : TypeTree) (h : Places → Filled A) (ps : Pl
 behind-type t h ps e = ap h (skip-is (ty_places t) ps (ty_count (ty_of t)) (ty_counts t)) ∙ e
 
 names-filled : (xs : List Ident) (rest : Places)
-    → named (map name_of xs) (each_puts (map name_places xs) rest) ≡ filled xs rest
+    → filled_names (map name_of xs) (each_puts (map name_places xs) rest) ≡ filled xs rest
 names-filled [] rest = refl
 names-filled (x ∷ xs) rest = one-is (λ (l : List Ident). x ∷ l) (names-filled xs rest)
 

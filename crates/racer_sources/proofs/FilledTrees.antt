@@ -89,9 +89,9 @@ passing-is n {a = a} xs rest long e = ap (passing n) e ∙ ap (filled a) (skip-i
 
 -- ---- expressions
 
-abbrev pub named : List (List ℕ) → Places → Filled (List Ident)
-named [] ps = filled [] ps
-named (x ∷ xs) ps = one (λ (l : List Ident). ident x ps ∷ l) (named xs (behind ps))
+abbrev pub filled_names : List (List ℕ) → Places → Filled (List Ident)
+filled_names [] ps = filled [] ps
+filled_names (x ∷ xs) ps = one (λ (l : List Ident). ident x ps ∷ l) (filled_names xs (behind ps))
 
 -- a name behind a tree
 abbrev pub then_name : {A B : Type 0} → (A → Ident → B) → List ℕ → Filled A → Filled B
@@ -118,7 +118,7 @@ abbrev mutual
   expr (view.Index a i) ps = two (λ x y. Read (Element x y)) (expr a ps) (expr i)
   expr (view.Call x all) ps = one (Call (ident x ps)) (exprs all (behind ps))
   expr (view.CallOn a x all) ps = called (expr a ps) x (exprs all)
-  expr (view.ClassOf xs) ps = one ClassOf (named xs ps)
+  expr (view.ClassOf xs) ps = one ClassOf (filled_names xs ps)
   expr (view.New t all) ps = one (New (first ps) t) (exprs all (skip (ty_count t) (behind ps)))
   expr (view.NewArray t lengths n) ps = one (NewArray (first ps)) (exprs lengths (skip (ty_count t) (behind ps)))
   expr (view.NewItems t n items) ps = one (NewItems (first ps)) (array items (skip (ty_count t) (behind ps)))

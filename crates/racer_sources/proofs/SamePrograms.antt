@@ -25,7 +25,7 @@ use Rattle.core_code.specs.declared.code.Reason.TheVariants.{Overload, Outside, 
 use Rattle.core_code.specs.Core.{Core, Method}
 use Rattle.core_code.specs.Recursion.{all_rows}
 use Rattle.core_code.specs.Tree.{in_sequence}
-use Rattle.core_lowering_rules.specs.Around.{Folder, Code}
+use Rattle.core_lowering_rules.specs.Context.{Folder, Code}
 use Rattle.core_lowering_rules.specs.Methods.{Source, this_kinds}
 use Rattle.core_lowering_rules.specs.Sites.{numbered}
 use Rattle.core_lowering_rules.specs.Programs.{class_sources, sources_of, status_of, declared_in, statuses_from, folder_of}

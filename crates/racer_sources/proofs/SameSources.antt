@@ -25,8 +25,8 @@ use Rattle.java_resolver.specs.Declarations.{default_constructor}
 use Rattle.java_resolver.specs.Declarations.{member_is_constructor}
 use Rattle.java_resolver.specs.Words.{has_word}
 use Rattle.core_lowering_rules.specs.Trees as lowered
-use Rattle.core_lowering_rules.specs.Around.{Folder, Around, Result, Itself, Nothing, Value, Code, op, type_kind}
-use Rattle.core_lowering_rules.specs.Assignments.{named, assigned}
+use Rattle.core_lowering_rules.specs.Context.{Folder, Context, Result, Itself, Nothing, Value, Code, op, type_kind}
+use Rattle.core_lowering_rules.specs.Assignments.{of_name, assigned}
 use Rattle.core_lowering_rules.specs.Expressions.{init_kind, init_code}
 use Rattle.core_lowering_rules.specs.Scopes.{declared, after_all}
 use Rattle.core_lowering_rules.specs.Methods.{Body, Default, Spelled, Unspelled, Source, this_kinds, entered}
@@ -81,12 +81,12 @@ module _ (names : List (List ℕ)) (c : ClassId) (a b : ClassTree) (same : SameC
 
 -- ---- what fields begin with
 
-module _ (around : Around) where
+module _ (context : Context) where
   abbrev begun : Ident → lowered.Init → Code
-  begun x i = assigned around (named around x) (init_kind around i) (init_code around i) ++ op around Drop
+  begun x i = assigned context (of_name context x) (init_kind context i) (init_code context i) ++ op context Drop
 
   begun-alike : (x : Ident) (i j : FieldInitialiser) → SameInitialiser i j
-      → field_begun around x i ≡ field_begun around x j
+      → field_begun context x i ≡ field_begun context x j
   begun-alike x field.Absent field.Absent h = refl
   begun-alike x field.Absent (field.Formed j) h = absurd h
   begun-alike x field.Absent field.Unread h = absurd h
@@ -98,89 +98,90 @@ module _ (around : Around) where
   begun-alike x field.Unread field.Unread h = refl
 
   abbrev variable_begun : FieldVariable → Code
-  variable_begun v = field_begun around v.name v.initialiser
+  variable_begun v = field_begun context v.name v.initialiser
 
   variable-alike : (v w : FieldVariable) → SameVariable v w → variable_begun v ≡ variable_begun w
   variable-alike v w h =
-      ap₂ (λ x p. field_begun around (record { text = x; place = p }) v.initialiser) h.0 h.1
+      ap₂ (λ x p. field_begun context (record { text = x; place = p }) v.initialiser) h.0 h.1
       ∙ begun-alike w.name v.initialiser w.initialiser h.2
 
   field-alike : (f g : FieldTree) → SameField f g
-      → member_begun around (member.Field f) ≡ member_begun around (member.Field g)
+      → member_begun context (member.Field f) ≡ member_begun context (member.Field g)
   field-alike f g h =
       ap₂ (λ ms code. cond (has_word (codes "static") ms) [] code)
       (same_modifiers f.modifiers g.modifiers h.modifiers)
       (zip-flat SameVariable variable_begun variable_begun variable-alike f.variables g.variables h.variables)
 
-  member-alike : (x y : Member) → SameMember x y → member_begun around x ≡ member_begun around y
+  member-alike : (x y : Member) → SameMember x y → member_begun context x ≡ member_begun context y
   member-alike =
-      by-form (λ x y. member_begun around x ≡ member_begun around y) field-alike (λ m n h. refl) (λ a b h. refl)
+      by-form (λ x y. member_begun context x ≡ member_begun context y) field-alike (λ m n h. refl) (λ a b h. refl)
       (λ p q e. refl)
 
-fields-alike : (around : Around) (xs ys : List Member) → AllZip SameMember xs ys
-    → fields_begun around xs ≡ fields_begun around ys
-fields-alike around xs ys h =
-    let inside = record around { scope = record around.scope { variables = [] } } in
+fields-alike : (context : Context) (xs ys : List Member) → AllZip SameMember xs ys
+    → fields_begun context xs ≡ fields_begun context ys
+fields-alike context xs ys h =
+    let inside = record context { scope = record context.scope { variables = [] } } in
     zip-flat SameMember (member_begun inside) (member_begun inside) (member-alike inside) xs ys h
 
 -- ---- methods
 
-abbrev declared_all : Around → List SeenParameter → Around
-declared_all around [] = around
-declared_all around (p ∷ ps) = declared_all (declared around (type_kind around p.kind) p.name) ps
+abbrev declared_all : Context → List SeenParameter → Context
+declared_all context [] = context
+declared_all context (p ∷ ps) = declared_all (declared context (type_kind context p.kind) p.name) ps
 
-declared-all : (around : Around) (ps : List ParameterTree)
-    → parameters_declared around ps ≡ declared_all around (map seen_parameter ps)
-declared-all around [] = refl
-declared-all around (p ∷ ps) = declared-all (declared around (type_kind around (ty_of p.kind)) p.name) ps
+declared-all : (context : Context) (ps : List ParameterTree)
+    → parameters_declared context ps ≡ declared_all context (map seen_parameter ps)
+declared-all context [] = refl
+declared-all context (p ∷ ps) = declared-all (declared context (type_kind context (ty_of p.kind)) p.name) ps
 
-parameters-alike : (around : Around) (m n : MethodTree) → seen m ≡ seen n
-    → parameters_declared around m.parameters ≡ parameters_declared around n.parameters
-parameters-alike around m n e =
-    declared-all around m.parameters ∙ ap (λ (s : Seen). declared_all around s.parameters) e
-    ∙ sym (declared-all around n.parameters)
+parameters-alike : (context : Context) (m n : MethodTree) → seen m ≡ seen n
+    → parameters_declared context m.parameters ≡ parameters_declared context n.parameters
+parameters-alike context m n e =
+    declared-all context m.parameters ∙ ap (λ (s : Seen). declared_all context s.parameters) e
+    ∙ sym (declared-all context n.parameters)
 
-abbrev spelled : Bool → Code → List ModifierTree → lowered.Stmts → Around → Code
-spelled constructs fields ms ss around =
-    let body = locked around (has_word (codes "synchronized") ms) (block around ss) in
+abbrev spelled : Bool → Code → List ModifierTree → lowered.Stmts → Context → Code
+spelled constructs fields ms ss context =
+    let body = locked context (has_word (codes "synchronized") ms) (block context ss) in
     cond constructs (fields ++ body) body
 
-spelled-alike : (around : Around) (xs ys : List Member) → AllZip SameMember xs ys → (m n : MethodTree)
-    → SameMethod m n → spelled_code around xs m ≡ spelled_code around ys n
-spelled-alike around xs ys h m n same =
-    same_4 (λ constructs fields ms ss. spelled constructs fields ms ss around) (constructor-alike m n same.0)
-    (fields-alike around xs ys h) (modifiers-alike m n same.0)
+spelled-alike : (context : Context) (xs ys : List Member) → AllZip SameMember xs ys → (m n : MethodTree)
+    → SameMethod m n → spelled_code context xs m ≡ spelled_code context ys n
+spelled-alike context xs ys h m n same =
+    same_4 (λ constructs fields ms ss. spelled constructs fields ms ss context) (constructor-alike m n same.0)
+    (fields-alike context xs ys h) (modifiers-alike m n same.0)
     (ap (λ (s : Seen). s.body) (same_seen m n same.0 same.1))
 
-code-alike : (around : Around) (s t : Source) → AllZip SameMember s.members t.members → (x y : Body) → SameBody x y
-    → code_in around s x ≡ code_in around t y
-code-alike around s t h Default Default k = ap (ended around) (fields-alike around s.members t.members h)
-code-alike around s t h Default (Spelled n) k = absurd k
-code-alike around s t h Default Unspelled k = absurd k
-code-alike around s t h (Spelled m) Default k = absurd k
-code-alike around s t h (Spelled m) (Spelled n) k =
-    ap (λ inside. ended around (spelled_code inside s.members m)) (parameters-alike around m n (same_seen m n k.0 k.1))
-    ∙ ap (ended around)
-    (spelled-alike (parameters_declared around n.parameters) s.members t.members h m n k)
-code-alike around s t h (Spelled m) Unspelled k = absurd k
-code-alike around s t h Unspelled Default k = absurd k
-code-alike around s t h Unspelled (Spelled n) k = absurd k
-code-alike around s t h Unspelled Unspelled k = refl
+code-alike : (context : Context) (s t : Source) → AllZip SameMember s.members t.members → (x y : Body) → SameBody x y
+    → code_in context s x ≡ code_in context t y
+code-alike context s t h Default Default k = ap (ended context) (fields-alike context s.members t.members h)
+code-alike context s t h Default (Spelled n) k = absurd k
+code-alike context s t h Default Unspelled k = absurd k
+code-alike context s t h (Spelled m) Default k = absurd k
+code-alike context s t h (Spelled m) (Spelled n) k =
+    ap (λ inside. ended context (spelled_code inside s.members m))
+    (parameters-alike context m n (same_seen m n k.0 k.1))
+    ∙ ap (ended context)
+    (spelled-alike (parameters_declared context n.parameters) s.members t.members h m n k)
+code-alike context s t h (Spelled m) Unspelled k = absurd k
+code-alike context s t h Unspelled Default k = absurd k
+code-alike context s t h Unspelled (Spelled n) k = absurd k
+code-alike context s t h Unspelled Unspelled k = refl
 
-kinds-alike : (around : Around) (s t : Source) → s.info ≡ t.info → (x y : Body) → SameBody x y
-    → kinds_in around s x ≡ kinds_in around t y
-kinds-alike around s t e Default Default k = refl
-kinds-alike around s t e Default (Spelled n) k = absurd k
-kinds-alike around s t e Default Unspelled k = absurd k
-kinds-alike around s t e (Spelled m) Default k = absurd k
-kinds-alike around s t e (Spelled m) (Spelled n) k =
+kinds-alike : (context : Context) (s t : Source) → s.info ≡ t.info → (x y : Body) → SameBody x y
+    → kinds_in context s x ≡ kinds_in context t y
+kinds-alike context s t e Default Default k = refl
+kinds-alike context s t e Default (Spelled n) k = absurd k
+kinds-alike context s t e Default Unspelled k = absurd k
+kinds-alike context s t e (Spelled m) Default k = absurd k
+kinds-alike context s t e (Spelled m) (Spelled n) k =
     let same = same_seen m n k.0 k.1 in
-    ap₂ (λ inside ss. (after_all inside ss).kinds) (parameters-alike around m n same)
+    ap₂ (λ inside ss. (after_all inside ss).kinds) (parameters-alike context m n same)
     (ap (λ (x : Seen). x.body) same)
-kinds-alike around s t e (Spelled m) Unspelled k = absurd k
-kinds-alike around s t e Unspelled Default k = absurd k
-kinds-alike around s t e Unspelled (Spelled n) k = absurd k
-kinds-alike around s t e Unspelled Unspelled k = ap (λ (i : MethodInfo). around.kinds ++ i.parameters) e
+kinds-alike context s t e (Spelled m) Unspelled k = absurd k
+kinds-alike context s t e Unspelled Default k = absurd k
+kinds-alike context s t e Unspelled (Spelled n) k = absurd k
+kinds-alike context s t e Unspelled Unspelled k = ap (λ (i : MethodInfo). context.kinds ++ i.parameters) e
 
 -- ---- where the code begins
 
@@ -206,7 +207,7 @@ results-alike kind Unspelled Default k = absurd k
 results-alike kind Unspelled (Spelled n) k = absurd k
 results-alike kind Unspelled Unspelled k = refl
 
-abbrev entered_by : Folder → MethodInfo → Result → Around
+abbrev entered_by : Folder → MethodInfo → Result → Context
 entered_by folder i r =
     record {
       folder = folder;
@@ -224,13 +225,13 @@ entered-alike folder s t same =
 pub method_code-alike : (folder : Folder) (s t : Source) → SameSource s t
     → method_code folder s ≡ method_code folder t
 method_code-alike folder s t same =
-    ap (λ around. code_in around s s.body) (entered-alike folder s t same)
+    ap (λ context. code_in context s s.body) (entered-alike folder s t same)
     ∙ code-alike (entered folder t) s t same.members s.body t.body same.body
 
 pub method_kinds-alike : (folder : Folder) (s t : Source) → SameSource s t
     → method_kinds folder s ≡ method_kinds folder t
 method_kinds-alike folder s t same =
-    ap (λ around. kinds_in around s s.body) (entered-alike folder s t same)
+    ap (λ context. kinds_in context s s.body) (entered-alike folder s t same)
     ∙ kinds-alike (entered folder t) s t same.info s.body t.body same.body
 
 pub unspelled-alike : (x y : Body) → SameBody x y → is_unspelled x ≡ is_unspelled y

@@ -10,8 +10,8 @@ use Rattle.racer_sources.specs.declared.refusal.Refusal.{Refusal}
 use Rattle.racer_sources.specs.declared.refusal.Refusal.TheVariants as refusals
 use Rattle.racer_sources.specs.declared.fault.SourceFault.{SourceFault}
 use Rattle.racer_sources.specs.declared.fault.SourceFault.TheVariants.{Refused, Failed, Memory}
-use Rattle.racer_sources.specs.declared.found.Found.{Found}
-use Rattle.racer_sources.specs.declared.found.Found.TheVariants as found
+use Rattle.racer_sources.specs.declared.found.FolderSources.{FolderSources}
+use Rattle.racer_sources.specs.declared.found.FolderSources.TheVariants as found
 use Rattle.racer_sources.specs.Lines.{refusal_line}
 
 abbrev pub as_declared_fault : ResolveFault → SourceFault
@@ -36,7 +36,7 @@ IsDeclaredFault units Failed = ⊥
 IsDeclaredFault units Memory = Unit {0}
 
 -- where sources are refused, the line; else the folder's fault
-abbrev pub IsRefusedOr : List (List ℕ) → SourceFault → Result Found FolderFault → Type 0
+abbrev pub IsRefusedOr : List (List ℕ) → SourceFault → Result FolderSources FolderFault → Type 0
 IsRefusedOr names (Refused r) (Ok answer) = answer ≡ found.Refused (refusal_line names r)
 IsRefusedOr names (Refused r) (Err fault) = fault ≡ folder.Memory
 IsRefusedOr names Failed result = result ≡ Err folder.Failed

@@ -11,8 +11,8 @@ use Rattle.java_resolver.specs.Declarations.{classes_of, fields_of, methods_of}
 use Rattle.java_resolver.specs.Refusals.{refusal}
 use Rattle.java_resolver.specs.Table as table
 use Rattle.racer_sources.specs.declared.refusal.Refusal.{Refusal}
-use Rattle.racer_sources.specs.declared.found.Found.{Found}
-use Rattle.racer_sources.specs.declared.found.Found.TheVariants.{Accepted, Refused}
+use Rattle.racer_sources.specs.declared.found.FolderSources.{FolderSources}
+use Rattle.racer_sources.specs.declared.found.FolderSources.TheVariants.{Accepted, Refused}
 use Rattle.racer_sources.specs.Sources.{source_names, contents, IsRead, AreAccepted, AreRefused}
 use Rattle.racer_sources.specs.Lines.{refusal_line}
 
@@ -43,14 +43,14 @@ pub record AreKnown (names : List (List ℕ)) (units : List unit.Unit) (t : Tabl
   pub none : refusal units ≡ None
   pub read : AreReadSomehow 0 units
 
-abbrev pub IsKnown : Found → Type 0
+abbrev pub IsKnown : FolderSources → Type 0
 IsKnown (Accepted s) = AreKnown (map string_bytes s.names.items) s.units.items s.table
 IsKnown (Refused line) = Unit {0}
 
 -- ---- what is found where it tells them
 
 -- the units of its sources with their names, or the line of their refusal
-abbrev pub IsFound : Files → Found → Type 0
+abbrev pub IsFound : Files → FolderSources → Type 0
 IsFound files (Accepted s) =
     AreAccepted (contents files) s.units.items × (map string_bytes s.names.items ≡ source_names files)
 IsFound files (Refused line) =

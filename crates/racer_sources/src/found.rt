@@ -32,7 +32,7 @@ pub fn let_go(sources: AcceptedSources) {
 
 /// What is found in a folder.
 #[derive(Drop)]
-pub enum Found {
+pub enum FolderSources {
     Accepted(AcceptedSources),
     /// The line of the refusal.
     Refused(Text),
@@ -129,13 +129,17 @@ fn declared<F: Folder>(
 }
 
 /// The line of sources that are refused, or the folder's fault.
-fn refused(alloc: Global, names: &[String], fault: SourceFault) -> Result<Found, FolderFault>
+fn refused(
+    alloc: Global,
+    names: &[String],
+    fault: SourceFault,
+) -> Result<FolderSources, FolderFault>
     ensures { declaring.IsRefusedOr (map string_bytes names.now) fault result }
 {
     match fault {
         SourceFault::Refused(refusal) => {
             let line = refusal_line(alloc, names, refusal)?;
-            Ok(Found::Refused(Text::from(line)))
+            Ok(FolderSources::Refused(Text::from(line)))
         }
         SourceFault::Failed => Err(FolderFault::Failed),
         SourceFault::Memory => Err(FolderFault::Memory),
@@ -145,7 +149,11 @@ fn refused(alloc: Global, names: &[String], fault: SourceFault) -> Result<Found,
 /// Enters the folder of this name, and reads its sources: the files whose names end in `.java`, in byte order.
 ///
 /// Of each file the tokens are let go before the next one is read.
-pub fn sources<F: Folder>(alloc: Global, folder: &mut F, name: &str) -> Result<Found, FolderFault>
+pub fn sources<F: Folder>(
+    alloc: Global,
+    folder: &mut F,
+    name: &str,
+) -> Result<FolderSources, FolderFault>
     ensures count { finding.CountsFaults result (F.faults folder.old) (F.faults folder.new) }
     ensures told { F.told folder.new ≡ F.told folder.old }
     ensures stays { F.steady folder.old → F.steady folder.new }
@@ -157,7 +165,7 @@ pub fn sources<F: Folder>(alloc: Global, folder: &mut F, name: &str) -> Result<F
 {
     let names = source_names(alloc, folder, name)?;
     match declared(alloc, folder, names.as_slice()) {
-        Ok(declared) => Ok(Found::Accepted(AcceptedSources {
+        Ok(declared) => Ok(FolderSources::Accepted(AcceptedSources {
             names,
             units: declared.units,
             table: declared.table,

@@ -16,7 +16,7 @@ mod programs;
 mod refusal;
 mod units;
 
-pub use found::{AcceptedSources, Found, let_go, sources};
+pub use found::{AcceptedSources, FolderSources, let_go, sources};
 pub use line::refusal_line;
 pub use programs::{FoundProgram, folder_program};
 pub use refusal::Refusal;

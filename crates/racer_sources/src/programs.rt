@@ -4,7 +4,7 @@ ghost use Rattle.racer_sources.specs.Finding as finding;
 ghost use Rattle.racer_sources.specs.Programs as programs;
 ghost use Rattle.racer_sources.specs.Lowering as lowering;
 
-use crate::{AcceptedSources, Found, Refusal, let_go, refusal_line, sources};
+use crate::{AcceptedSources, FolderSources, Refusal, let_go, refusal_line, sources};
 use core_code::Program;
 use core_lowering::{LowerFault, lower};
 use core_lowering_conditions::laws::{read_units_are_named, read_units_are_placed};
@@ -53,11 +53,11 @@ pub fn folder_program<F: Folder>(
         programs.IsSource told.files (programs.source_of found))) }
 {
     match sources(alloc, folder, name)? {
-        Found::Accepted(found) => {
+        FolderSources::Accepted(found) => {
             let lowered = lowered(alloc, &found);
             let_go(found);
             Ok(lowered?)
         }
-        Found::Refused(line) => Ok(FoundProgram::Refused(line)),
+        FolderSources::Refused(line) => Ok(FoundProgram::Refused(line)),
     }
 }

@@ -31,10 +31,11 @@ rules-push [] x rule h = ap (λ (r : Rule). (r, x.global) ∷ []) h.0 ∙ ap (λ
 rules-push (y ∷ ys) x rule h = ap (λ rs. (rule_of y, y.global) ∷ rs) (rules-push ys x rule h)
 
 -- an argument that got a name and then an action
-pub named_is : (new named whole : Arg) (name : Bor Word) (action : ArgAction) → rule_of new ≡ new_rule name.now →
-    new.global ≡ false → named ≡ record new { long = Some name } → whole ≡ record named { action = Some action } →
+pub named_is : (new with_long whole : Arg) (name : Bor Word) (action : ArgAction) → rule_of new ≡ new_rule name.now →
+    new.global ≡ false → with_long ≡ record new { long = Some name } →
+    whole ≡ record with_long { action = Some action } →
     (rule_of whole ≡ named_rule name.now action) × (whole.global ≡ false)
-named_is new named whole name action rule alone is_named is_whole = (
+named_is new with_long whole name action rule alone is_named is_whole = (
   ap rule_of is_whole
       ∙ ap (λ (a : Arg). record (rule_of a) { action = Some action }) is_named
       ∙ ap (λ (r : Rule). record r { long = Some name.now; action = Some action }) rule,
@@ -42,20 +43,20 @@ named_is new named whole name action rule alone is_named is_whole = (
 )
 
 -- the rules of options or flags of these names
-abbrev pub named : ArgAction → List (Bor Word) → List (Rule × Bool)
-named action names = map (λ (name : Bor Word). local (named_rule name.now action)) names
+abbrev pub named_rules : ArgAction → List (Bor Word) → List (Rule × Bool)
+named_rules action names = map (λ (name : Bor Word). local (named_rule name.now action)) names
 
 -- one more of them is put
 pub named_turn : (action : ArgAction) (names : List (Bor Word)) (i : ℕ) (d : Bor Word) (made more : List Arg)
     (x : Arg) → i < length names →
     (rule_of x ≡ named_rule (get_or names i d).now action) × (x.global ≡ false) → more ≡ made ++ x ∷ [] →
-    rules_of more ++ named action (drop (i + 1) names) ≡ rules_of made ++ named action (drop i names)
+    rules_of more ++ named_rules action (drop (i + 1) names) ≡ rules_of made ++ named_rules action (drop i names)
 named_turn action names i d made more x within is gives =
     let rule = named_rule (get_or names i d).now action in
-    let rest = named action (drop (i + 1) names) in
+    let rest = named_rules action (drop (i + 1) names) in
     ap (λ rules. rules ++ rest) (ap rules_of gives ∙ rules-push made x rule is)
     ∙ append_assoc (rules_of made) (local rule ∷ []) rest
-    ∙ sym (at_drop_more (λ left. rules_of made ++ named action left) names i d within)
+    ∙ sym (at_drop_more (λ left. rules_of made ++ named_rules action left) names i d within)
 
 -- three at once, twice, are one after another
 pub one_by_one : {A : Type 0} (rules : List A) (a b c x y z : A) →

@@ -6,7 +6,7 @@ use Rattle.std.proofs.lemmas.Bool.{eqb-true}
 use Rattle.clap.specs.Lexer.{long_of, short_of}
 use Rattle.clap.specs.Walk.{Rule, arg_by_long, has_long}
 use Rattle.racer_words.specs.Uses.{Word, Label, Folder, Workers, Replay, Made, Json, Summaries, History, name_of}
-use Rattle.racer_words.specs.Uses.{label_of, named, is_plain}
+use Rattle.racer_words.specs.Uses.{label_of, long_name, is_plain}
 use Rattle.racer_words.specs.Readings.{IsText}
 use Rattle.racer_words.proofs.BuiltRules.{built_rule, all}
 
@@ -17,13 +17,13 @@ pub record IsEnd (word : Word) : Type 0 where
 pub record IsLong (word : Word) (p : Word × Option Word) : Type 0 where
   pub open_ended : bytes_eq word (codes "--") ≡ false
   pub long : long_of word ≡ Some p
-  pub name : named word ≡ Some p
+  pub name : long_name word ≡ Some p
   pub plain : is_plain word ≡ false
 
 pub record IsShort (word flag : Word) : Type 0 where
   pub open_ended : bytes_eq word (codes "--") ≡ false
   pub long : long_of word ≡ None
-  pub name : named word ≡ None
+  pub name : long_name word ≡ None
   pub short : short_of word ≡ Some flag
   pub plain : is_plain word ≡ false
   pub some : is_some (slice_get (chars flag) 0) ≡ true
@@ -31,7 +31,7 @@ pub record IsShort (word flag : Word) : Type 0 where
 pub record IsPlainWord (word : Word) : Type 0 where
   pub open_ended : bytes_eq word (codes "--") ≡ false
   pub long : long_of word ≡ None
-  pub name : named word ≡ None
+  pub name : long_name word ≡ None
   pub short : short_of word ≡ None
   pub plain : is_plain word ≡ true
 

@@ -62,14 +62,14 @@ behind_minus [] = None
 behind_minus (b ∷ bs) = if b == 45 then Some bs else None
 
 -- the name behind two minus signs, and the value behind its first `=`, where one stands
-abbrev pub named_part : Word → Word × Option Word
-named_part text = (
+abbrev pub long_part : Word → Word × Option Word
+long_part text = (
   before_first (λ b. b == 61) text,
   if list_any (λ b. b == 61) text then Some (after_first (λ b. b == 61) text) else None,
 )
 
-abbrev pub named : Word → Option (Word × Option Word)
-named word = option_map named_part (option_and_then behind_minus (behind_minus word))
+abbrev pub long_name : Word → Option (Word × Option Word)
+long_name word = option_map long_part (option_and_then behind_minus (behind_minus word))
 
 -- one use before others, where these are uses
 abbrev pub put : Label → Word → Option (List Use) → Option (List Use)
@@ -90,7 +90,8 @@ begun word None rest = if is_plain word then put Folder word (rest None) else No
 unfoldable pub uses : Option Label → List Word → Option (List Use)
 uses None [] = Some []
 uses None (word ∷ words) =
-    if bytes_eq word (codes "--") then Some (map (one Folder) words) else begun word (named word) (λ w. uses w words)
+    if bytes_eq word (codes "--") then Some (map (one Folder) words) else begun word (long_name word)
+    (λ w. uses w words)
 uses (Some l) [] = None
 uses (Some l) (word ∷ words) = if is_plain word then put l word (uses None words) else None
 

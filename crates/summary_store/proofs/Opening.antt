@@ -12,7 +12,7 @@ use Rattle.core_code.specs.Core.{Core, Method}
 use Rattle.core_code.specs.Calls.{calls_in}
 use Rattle.core_code.specs.CallFacts.{are_calls_right}
 use Rattle.core_code.specs.Chains.{row_of}
-use Rattle.core_code.specs.Rows.{rows_of, rows_in, ranks_in, AreRowsOf, different}
+use Rattle.core_code.specs.CalleeRows.{rows_of, rows_in, ranks_in, AreRowsOf, different}
 use Rattle.core_code.proofs.RowCallees.{is_method}
 use Rattle.core_code.proofs.RowCallees.{row_analysed, read_any}
 use Rattle.core_code.proofs.Analysed.{contains_in, analysed_of, analysed_in}

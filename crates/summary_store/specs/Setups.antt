@@ -4,7 +4,7 @@ use Rattle.core_code.specs.declared.program.Program.{Program}
 use Rattle.core_code.specs.Core.{Core}
 use Rattle.core_code.specs.Counting.{analysed_methods}
 use Rattle.core_code.specs.Program.{core}
-use Rattle.core_code.specs.Rows.{rows_of}
+use Rattle.core_code.specs.CalleeRows.{rows_of}
 use Rattle.summary_store.specs.declared.machine.Event.{Event}
 use Rattle.summary_store.specs.Machine.{Setup, Machine, replay}
 

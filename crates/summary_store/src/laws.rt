@@ -6,7 +6,7 @@ ghost use Rattle.std.specs.Arc.{arc_value};
 ghost use Rattle.racer_base.specs.declared.ids.MethodId.{MethodId as Id};
 ghost use Rattle.core_code.specs.Counting.{IsIn, analysed_methods, times};
 ghost use Rattle.core_code.specs.Program.{core};
-ghost use Rattle.core_code.specs.Rows.{rows_of};
+ghost use Rattle.core_code.specs.CalleeRows.{rows_of};
 ghost use Rattle.summary_store.specs.declared.machine.Event.{Event as Step};
 ghost use Rattle.summary_store.specs.declared.machine.Event.TheVariants.{Take, Park, Publish, Leave};
 ghost use Rattle.summary_store.specs.declared.machine.Hand.TheVariants.{Free, Holds, Gone};

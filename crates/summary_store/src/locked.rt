@@ -6,7 +6,7 @@ ghost use Rattle.std.specs.List.{list_all};
 ghost use Rattle.core_code.specs.Chains.{row_of};
 ghost use Rattle.core_code.specs.Counting.{times, weigh};
 ghost use Rattle.core_code.specs.Program.{core};
-ghost use Rattle.core_code.specs.Rows.{rows_of, rows_in, AreRowsOf};
+ghost use Rattle.core_code.specs.CalleeRows.{rows_of, rows_in, AreRowsOf};
 ghost use Rattle.summary_store.specs.declared.machine.Event.TheVariants.{Park};
 ghost use Rattle.summary_store.specs.declared.machine.Hand.TheVariants.{Free};
 ghost use Rattle.summary_store.specs.Machine.{IsDone};
@@ -41,7 +41,7 @@ impl<P: Piece, L: StoreRun> Model for Locked<P, L> {
     ghost use Rattle.std.specs.Prelude.{List, Option, ◌≡◌, vec_capacity};
     ghost use Rattle.std.specs.Arc.{arc_value};
     ghost use Rattle.core_code.specs.Program.{core};
-    ghost use Rattle.core_code.specs.Rows.{AreRowsOf};
+    ghost use Rattle.core_code.specs.CalleeRows.{AreRowsOf};
     ghost use Rattle.summary_store.specs.declared.machine.Event.{Event};
     ghost use Rattle.summary_store.specs.Setups.{setup_of};
     ghost use Rattle.summary_store.specs.Kept.{Kept, HasRoom, IsPieceOf, pieces_of};

@@ -6,7 +6,7 @@ ghost use Rattle.std.specs.Prelude.{slice_index_or};
 ghost use Rattle.core_code.specs.Counting.{weigh, flags_of, analysed_methods};
 ghost use Rattle.core_code.specs.Chains.{row_of};
 ghost use Rattle.core_code.specs.Program.{core};
-ghost use Rattle.core_code.specs.Rows.{rows_in, AreRowsOf};
+ghost use Rattle.core_code.specs.CalleeRows.{rows_in, AreRowsOf};
 ghost use Rattle.summary_store.specs.declared.machine.Hand.TheVariants.{Free};
 ghost use Rattle.summary_store.specs.Kept.{pieces_of};
 ghost use Rattle.summary_store.specs.Laws.{edges};

@@ -3,7 +3,7 @@ ghost use Rattle.std.specs.Prelude.{◌≡◌, ◌+◌, ◌<◌, length, IfSome,
 ghost use Rattle.std.specs.Arc.{arc_value};
 ghost use Rattle.core_code.specs.Counting.{IsIn, analysed_methods};
 ghost use Rattle.core_code.specs.Program.{core};
-ghost use Rattle.core_code.specs.Rows.{rows_of, AreRowsOf};
+ghost use Rattle.core_code.specs.CalleeRows.{rows_of, AreRowsOf};
 ghost use Rattle.summary_store.specs.declared.machine.Hand.TheVariants.{Free, Holds, Gone};
 ghost use Rattle.summary_store.specs.Demands.{IfFound, IfParked, IfMemory};
 ghost use Rattle.summary_store.specs.Kept.{pieces_of, IsPieceOf, IsRight};

@@ -19,13 +19,13 @@ use Rattle.core_code.specs.declared.code.Reason.{Reason}
 use Rattle.core_code.specs.Calls.{calls_of, method_at, is_analysed}
 use Rattle.core_code.specs.Core.{Core, Method, method_of}
 use Rattle.core_code.specs.Program.{core}
-use Rattle.core_code.specs.Rows.{rows_of}
+use Rattle.core_code.specs.CalleeRows.{rows_of}
 use Rattle.access_domain.specs.declared.summary.Outcome.{Outcome}
 use Rattle.access_domain.specs.Findings.{Known, outcome_from}
 use Rattle.access_domain.specs.Summaries.{outcome_of, outcomes_from, known_given, known_of_callees}
 use Rattle.core_code.proofs.RowCallees.{is_method, or-left, or-right, nat_eq-same, analysed_at, in_row_called}
 use Rattle.transfer.specs.declared.finished.Finished.{Finished}
-use Rattle.transfer.specs.Callees.{Held, AreCallees, outcome_in}
+use Rattle.transfer.specs.Callees.{SharedFinished, AreCallees, outcome_in}
 use Rattle.transfer.specs.Tables.{IsFinished, IsTable, finished_at}
 use Rattle.transfer.proofs.Handed.{found_at}
 
@@ -40,17 +40,19 @@ set_get (y ∷ xs) (suc i) zero x = inl refl
 set_get (y ∷ xs) (suc i) (suc j) x =
     elim (set_get xs i j x) [ inl e ↦ inl e | inr p ↦ inr (ap suc p.0, p.1) ]
 
-abbrev place_of : Option (Option Held) → Option Finished
-place_of o = option_map arc_value (option_and_then (λ (place : Option Held). place) o)
+abbrev place_of : Option (Option SharedFinished) → Option Finished
+place_of o = option_map arc_value (option_and_then (λ (place : Option SharedFinished). place) o)
 
-pub kept-table : (program : Core) (table : List (Option Held)) (m : MethodId) (f : Held) → IsTable program table →
+pub kept-table : (program : Core) (table : List (Option SharedFinished)) (m : MethodId) (f : SharedFinished) →
+    IsTable program table →
     IsFinished program m (arc_value f) → IsTable program (slice_set table m.0 (Some f))
 kept-table program table m f at is n =
     elim (set_get table m.0 n.0 (Some f)) [
-      | inl e ↦ subst (λ (o : Option (Option Held)). IfSome (place_of o) (λ g. IsFinished program n g)) (sym e) (at n)
+      | inl e ↦ subst (λ (o : Option (Option SharedFinished)). IfSome (place_of o) (λ g. IsFinished program n g))
+          (sym e) (at n)
       | inr p ↦
           let same : m ≡ n = ap (λ (k : ℕ). record { 0 = k }) (sym p.0) in
-          subst (λ (o : Option (Option Held)). IfSome (place_of o) (λ g. IsFinished program n g)) (sym p.1)
+          subst (λ (o : Option (Option SharedFinished)). IfSome (place_of o) (λ g. IsFinished program n g)) (sym p.1)
           (subst (λ (k : MethodId). IsFinished program k (arc_value f)) same is)
     ]
 
@@ -65,24 +67,28 @@ empty-table program n m =
 
 -- ---- looking a method up
 
-at_place : (table : List (Option Held)) (i : ℕ) (place : Option Held) → true ≡ ltb i (length table) →
+at_place : (table : List (Option SharedFinished)) (i : ℕ) (place : Option SharedFinished) →
+    true ≡ ltb i (length table) →
     place ≡ get_or table i place → slice_get table i ≡ Some place
 at_place table i place within at = slice_get_read table (length table) i place refl
     (ltb-true i (length table) (sym within)) at
 
-pub held-none : (table : List (Option Held)) (m : MethodId) (place : Option Held) → true ≡ ltb m.0 (length table) →
+pub held-none : (table : List (Option SharedFinished)) (m : MethodId) (place : Option SharedFinished) →
+    true ≡ ltb m.0 (length table) →
     place ≡ get_or table m.0 place → place ≡ None → None ≡ finished_at table m
 held-none table m place within at none =
-    sym (ap place_of (at_place table m.0 place within at ∙ ap (λ (p : Option Held). Some p) none))
+    sym (ap place_of (at_place table m.0 place within at ∙ ap (λ (p : Option SharedFinished). Some p) none))
 
-pub held-some : (table : List (Option Held)) (m : MethodId) (place : Option Held) (g f : Held) →
+pub held-some : (table : List (Option SharedFinished)) (m : MethodId) (place : Option SharedFinished)
+    (g f : SharedFinished) →
     true ≡ ltb m.0 (length table) → place ≡ get_or table m.0 place → place ≡ Some f → arc_value g ≡ arc_value f →
     Some (arc_value g) ≡ finished_at table m
 held-some table m place g f within at is same =
     ap (λ (x : Finished). Some x) same
-    ∙ sym (ap place_of (at_place table m.0 place within at ∙ ap (λ (p : Option Held). Some p) is))
+    ∙ sym (ap place_of (at_place table m.0 place within at ∙ ap (λ (p : Option SharedFinished). Some p) is))
 
-pub past-end : (table : List (Option Held)) (m : MethodId) → false ≡ ltb m.0 (length table) → None ≡ finished_at table m
+pub past-end : (table : List (Option SharedFinished)) (m : MethodId) → false ≡ ltb m.0 (length table) →
+    None ≡ finished_at table m
 past-end table m past =
     sym (ap place_of (slice_get_past table m.0 (ltb-false m.0 (length table) (sym past))))
 
@@ -108,7 +114,7 @@ more_some true x o p h e = refl
 more_some false x o p h e = h e
 
 -- what is among some is among more
-still_in : (fs : List Held) (f : Held) (n : MethodId) → is_some (outcome_in fs n) ≡ true →
+still_in : (fs : List SharedFinished) (f : SharedFinished) (n : MethodId) → is_some (outcome_in fs n) ≡ true →
     is_some (outcome_in (fs ++ f ∷ []) n) ≡ true
 still_in [] f n e = absurd cc
 still_in (g ∷ fs) f n e =
@@ -119,7 +125,7 @@ some_either : (b : Bool) (x : Outcome) (p : Option Outcome) → is_some p ≡ tr
 some_either true x p e = refl
 some_either false x p e = e
 
-last_in : (fs : List Held) (f : Held) (n : MethodId) → (arc_value f).method ≡ n →
+last_in : (fs : List SharedFinished) (f : SharedFinished) (n : MethodId) → (arc_value f).method ≡ n →
     is_some (outcome_in (fs ++ f ∷ []) n) ≡ true
 last_in [] f n is =
     ap (λ (b : Bool). is_some (cond b (Some (arc_value (arc_value f).outcome)) None))
@@ -134,7 +140,8 @@ either_true true b c d f g e = ap (λ (x : Bool). x || c) (f refl)
 either_true false true c d f g e = ap (λ (x : Bool). x || c) (g refl)
 either_true false false c d f g e = or-right d c e
 
-pub one-fewer : (fs : List Held) (f : Held) (row : List MethodId) (i : ℕ) (x n : MethodId) → i < length row →
+pub one-fewer : (fs : List SharedFinished) (f : SharedFinished) (row : List MethodId) (i : ℕ) (x n : MethodId) →
+    i < length row →
     x ≡ get_or row i x → (arc_value f).method ≡ x →
     (is_some (outcome_in fs n) || list_any (is_method n) (drop i row)) ≡ true →
     (is_some (outcome_in (fs ++ f ∷ []) n) || list_any (is_method n) (drop (i + 1) row)) ≡ true
@@ -159,9 +166,9 @@ or_none true b e h = refl
 or_none false b e h = sym e ∙ h
 
 -- all callees are finished
-pub row-done : (program : Core) (m : MethodId) (fs : List Held) (row : List MethodId) (i : ℕ) →
+pub row-done : (program : Core) (m : MethodId) (fs : List SharedFinished) (row : List MethodId) (i : ℕ) →
     is_analysed program m ≡ true → row ≡ row_of (rows_of program) m → length row ≤ i →
-    All (λ (f : Held). core (arc_value (arc_value f).program) ≡ program) fs →
+    All (λ (f : SharedFinished). core (arc_value (arc_value f).program) ≡ program) fs →
     ((n : MethodId) → list_any (is_method n) row ≡ true →
     (is_some (outcome_in fs n) || list_any (is_method n) (drop i row)) ≡ true) → AreCallees program m fs
 row-done program m fs row i analysed is over same there =

@@ -18,13 +18,13 @@ use Rattle.core_code.specs.declared.code.Op.TheVariants.{Push, PushClass, PushPr
 use Rattle.core_code.specs.declared.code.Op.TheVariants.{Set, Prim, Outside, Call, Unread, Ret}
 use Rattle.core_code.specs.Program.{core}
 use Rattle.access_domain.specs.declared.access.Access.{Access}
-use Rattle.access_domain.specs.Given.{Given, field_at}
+use Rattle.access_domain.specs.Given.{FlowContext, field_at}
 use Rattle.access_domain.specs.Operations.{Effects, goes_on, op_effects, record_of, top, popped, slot_of}
 use Rattle.access_domain.specs.Flow.{both, after, chosen, rounds, looped, joined_next, lost_next}
 use Rattle.access_domain.proofs.ReachedPaths.{touched-reached}
 use Rattle.transfer.specs.declared.found.Found.{Found}
 use Rattle.transfer.specs.declared.found.Stop.{Stop}
-use Rattle.transfer.specs.declared.operations.Frame.{Frame}
+use Rattle.transfer.specs.declared.operations.MethodContext.{MethodContext}
 use Rattle.transfer.specs.Frames.{given, record_reached}
 use Rattle.transfer.specs.Known.{table_of}
 use Rattle.transfer.specs.Marks.{marks, IsNoted, IsStopped, IsMarked, LeadsTo}
@@ -140,7 +140,7 @@ marked-flow e here old new (Err stop) m = m
 
 -- ---- operations
 
-pub quiet-effects : (g : Given) (locked : Bool) (site : SiteId) (op : CoreOp) (s : State) → is_quiet op ≡ true →
+pub quiet-effects : (g : FlowContext) (locked : Bool) (site : SiteId) (op : CoreOp) (s : State) → is_quiet op ≡ true →
     op_effects g locked site op s ≡ goes_on (moved op s)
 quiet-effects g locked site (Push v) s e = refl
 quiet-effects g locked site (PushClass c) s e = refl
@@ -159,14 +159,15 @@ quiet-effects g locked site (Unread m n) s e = refl
 quiet-effects g locked site Ret s e = absurd cc
 
 -- an operation that finds nothing
-pub flow-quiet : (g : Given) (locked : Bool) (site : SiteId) (op : CoreOp) (s here : State) (found : Found) →
+pub flow-quiet : (g : FlowContext) (locked : Bool) (site : SiteId) (op : CoreOp) (s here : State) (found : Found) →
     is_quiet op ≡ true → here ≡ moved op s → IsFlow (op_effects g locked site op s) here found found (Ok true)
 flow-quiet g locked site op s here found quiet e =
     subst (λ (x : Effects). IsFlow x here found found (Ok true)) (sym (quiet-effects g locked site op s quiet))
     (ap Some (sym e), noted-nothing found (moved op s))
 
 -- the record of an access, by the value of the field
-pub record-reached : (frame : Frame) (kind : Touch) (locked : Bool) (site : SiteId) (base : Value) (f : FieldId) →
+pub record-reached : (frame : MethodContext) (kind : Touch) (locked : Bool) (site : SiteId) (base : Value)
+    (f : FieldId) →
     record_reached frame kind locked site (field_value base f) f ≡ record_of (given frame) kind locked site base f
 record-reached frame kind locked site base f =
     let program = core frame.program.now in

@@ -23,8 +23,8 @@ use Rattle.access_domain.specs.declared.summary.Outcome.TheVariants as code
 use Rattle.access_domain.specs.Findings.{outcome_from}
 use Rattle.access_domain.specs.Summaries.{outcome_of, known_of_callees, known_at, known_given}
 use Rattle.transfer.specs.declared.calls.Callee.{Callee}
-use Rattle.transfer.specs.Callees.{Held, AreCallees, outcome_in}
-use Rattle.transfer.specs.Known.{known_in, outcome_among, table_of}
+use Rattle.transfer.specs.Callees.{SharedFinished, AreCallees, outcome_in}
+use Rattle.transfer.specs.Known.{known_in, callee_outcome, table_of}
 use Rattle.transfer.proofs.Callees.{held}
 use Rattle.core_code.proofs.RowCallees.{is_method, nat_eq-same, analysed_at}
 use Rattle.transfer.proofs.Tables.{outcome-agree}
@@ -40,11 +40,11 @@ step_or true o p q = refl
 step_or false o p q = refl
 
 pub among-push : (cs : List Callee) (c : Callee) (m : MethodId) →
-    outcome_among (cs ++ c ∷ []) m ≡ option_or (outcome_among cs m) (outcome_among (c ∷ []) m)
+    callee_outcome (cs ++ c ∷ []) m ≡ option_or (callee_outcome cs m) (callee_outcome (c ∷ []) m)
 among-push [] c m = refl
 among-push (x ∷ cs) c m =
     ap (λ (o : Option Outcome). cond (nat_eq x.method.0 m.0) (Some (arc_value x.outcome)) o) (among-push cs c m)
-    ∙ step_or (nat_eq x.method.0 m.0) (arc_value x.outcome) (outcome_among cs m) (outcome_among (c ∷ []) m)
+    ∙ step_or (nat_eq x.method.0 m.0) (arc_value x.outcome) (callee_outcome cs m) (callee_outcome (c ∷ []) m)
 
 or-assoc : (p q r : Option Outcome) → option_or (option_or p q) r ≡ option_or p (option_or q r)
 or-assoc None q r = refl
@@ -59,14 +59,14 @@ first_or true x o = refl
 first_or false x o = refl
 
 -- one more method is known, and one fewer is left
-pub one-more : (cs : List Callee) (c : Callee) (f : Held) (left : List Held) (m : MethodId) →
+pub one-more : (cs : List Callee) (c : Callee) (f : SharedFinished) (left : List SharedFinished) (m : MethodId) →
     c.method ≡ (arc_value f).method → arc_value c.outcome ≡ arc_value (arc_value f).outcome →
-    option_or (outcome_among (cs ++ c ∷ []) m) (outcome_in left m) ≡
-    option_or (outcome_among cs m) (outcome_in (f ∷ left) m)
+    option_or (callee_outcome (cs ++ c ∷ []) m) (outcome_in left m) ≡
+    option_or (callee_outcome cs m) (outcome_in (f ∷ left) m)
 one-more cs c f left m method outcome =
     ap (λ (o : Option Outcome). option_or o (outcome_in left m)) (among-push cs c m)
-    ∙ or-assoc (outcome_among cs m) (outcome_among (c ∷ []) m) (outcome_in left m)
-    ∙ ap (option_or (outcome_among cs m))
+    ∙ or-assoc (callee_outcome cs m) (callee_outcome (c ∷ []) m) (outcome_in left m)
+    ∙ ap (option_or (callee_outcome cs m))
     (first_or (nat_eq c.method.0 m.0) (arc_value c.outcome) (outcome_in left m)
     ∙ (λ i. cond (nat_eq (method i).0 m.0) (Some (outcome i)) (outcome_in left m)))
 
@@ -81,16 +81,16 @@ known-held_option None = refl
 known-held_option (Some o) = ap Some (known-held o)
 
 pub table-outcome : (callees : List Callee) (n : MethodId) →
-    option_map outcome_from (table_of callees n) ≡ outcome_among callees n
-table-outcome callees n = known-held_option (outcome_among callees n)
+    option_map outcome_from (table_of callees n) ≡ callee_outcome callees n
+table-outcome callees n = known-held_option (callee_outcome callees n)
 
 -- the outcome of a finished method is that of its number
-pub outcome-right : (program : Core) (finished : List Held) (n : MethodId) →
-    All (λ (f : Held). core (arc_value (arc_value f).program) ≡ program) finished →
+pub outcome-right : (program : Core) (finished : List SharedFinished) (n : MethodId) →
+    All (λ (f : SharedFinished). core (arc_value (arc_value f).program) ≡ program) finished →
     is_some (outcome_in finished n) ≡ true → outcome_in finished n ≡ outcome_of program n
 outcome-right program [] n same there = absurd cc
 outcome-right program (f ∷ fs) n same there =
-    let IsFor : Held → Type 0 = λ g. core (arc_value (arc_value g).program) ≡ program in
+    let IsFor : SharedFinished → Type 0 = λ g. core (arc_value (arc_value g).program) ≡ program in
     elim (nat_eq (arc_value f).method.0 n.0) as (λ b. nat_eq (arc_value f).method.0 n.0 ≡ b →
     is_some (cond b (Some (arc_value (arc_value f).outcome)) (outcome_in fs n)) ≡ true →
     cond b (Some (arc_value (arc_value f).outcome)) (outcome_in fs n) ≡ outcome_of program n) [
@@ -143,9 +143,10 @@ callee_below program m n method ranks is analysed there =
     (no_status method.status (list_all test (calls_in method.code)) analysed above)
     there)
 
-pub outcome-known : (program : Core) (m : MethodId) (method : Method) (callees : List Callee) (finished : List Held) →
+pub outcome-known : (program : Core) (m : MethodId) (method : Method) (callees : List Callee)
+    (finished : List SharedFinished) →
     has_ranks program ≡ true → method_at program m ≡ Some method → is_none method.status ≡ true →
-    ((n : MethodId) → outcome_among callees n ≡ outcome_in finished n) → AreCallees program m finished →
+    ((n : MethodId) → callee_outcome callees n ≡ outcome_in finished n) → AreCallees program m finished →
     Some (outcome_from (known_given program (table_of callees) method)) ≡ outcome_of program m
 outcome-known program m method callees finished ranks is analysed same are =
     let code : calls_of program m ≡ calls_in method.code =

@@ -2,11 +2,11 @@
 use Rattle.std.proofs.Common.{◌≡◌, ℕ, zero, suc, ◌+◌, ◌-◌, ◌≤◌, Bool, true, false, not, ◌&&◌, slice_get, List, [], ◌∷◌, ◌++◌, Option, None, Some, length, is_some, replicate, refl, sym, ap, subst, ◌∙◌, arith}
 use Rattle.racer_base.specs.declared.ids.Place.{Place}
 use Rattle.owner_domain.specs.declared.value.State.{State}
-use Rattle.core_code.specs.Tree.{Tree, Then, Either, Again, Held}
+use Rattle.core_code.specs.Tree.{Tree, Seq, Choice, Loop, Sync}
 use Rattle.std.specs.List.{list_all}
 use Rattle.core_code.specs.Core.{Method}
 use Rattle.core_code.specs.Facts.{height_after, is_stack_enough}
-use Rattle.access_domain.specs.Given.{Given}
+use Rattle.access_domain.specs.Given.{FlowContext}
 use Rattle.access_domain.specs.Operations.{popped}
 use Rattle.access_domain.specs.Flow.{flow, rounds}
 use Rattle.transfer_loops.specs.Resuming.{Heads, resumed, loops, IsSound}
@@ -31,69 +31,69 @@ is_high code s m e = ap is_some e
 sized : (s : State) → IsSized (length s.vars) (length s.stack) s
 sized s = record { vars = refl; stack = refl }
 
-pub high_first : (first rest : Tree) (s : State) → IsHighEnough (Then first rest) s → IsHighEnough first s
-high_first first rest s e = let m = some_of (height_after (Then first rest) (length s.stack)) e in
+pub high_first : (first rest : Tree) (s : State) → IsHighEnough (Seq first rest) s → IsHighEnough first s
+high_first first rest s e = let m = some_of (height_after (Seq first rest) (length s.stack)) e in
     let at = then_heights first rest (length s.stack) m.0 m.1 in is_high first s at.0 at.1
 
-pub high_rest : (g : Given) (first rest : Tree) (locked : Bool) (s t : State) → IsHighEnough (Then first rest) s →
+pub high_rest : (g : FlowContext) (first rest : Tree) (locked : Bool) (s t : State) → IsHighEnough (Seq first rest) s →
     (flow g first locked s).next ≡ Some t → IsHighEnough rest t
-high_rest g first rest locked s t e is = let m = some_of (height_after (Then first rest) (length s.stack)) e in
+high_rest g first rest locked s t e is = let m = some_of (height_after (Seq first rest) (length s.stack)) e in
     let at = then_heights first rest (length s.stack) m.0 m.1 in
     let size = flow-sized g first locked (length s.vars) (length s.stack) at.0 s t at.1 (sized s) is in
     is_high rest t m.0 (ap (height_after rest) size.stack ∙ at.2)
 
-pub high_left : (left right : Tree) (s : State) → IsHighEnough (Either left right) s → IsHighEnough left s
-high_left left right s e = let m = some_of (height_after (Either left right) (length s.stack)) e in
+pub high_left : (left right : Tree) (s : State) → IsHighEnough (Choice left right) s → IsHighEnough left s
+high_left left right s e = let m = some_of (height_after (Choice left right) (length s.stack)) e in
     is_high left s m.0 (either_heights left right (length s.stack) m.0 m.1).0
 
-pub high_right : (left right : Tree) (s : State) → IsHighEnough (Either left right) s → IsHighEnough right s
-high_right left right s e = let m = some_of (height_after (Either left right) (length s.stack)) e in
+pub high_right : (left right : Tree) (s : State) → IsHighEnough (Choice left right) s → IsHighEnough right s
+high_right left right s e = let m = some_of (height_after (Choice left right) (length s.stack)) e in
     is_high right s m.0 (either_heights left right (length s.stack) m.0 m.1).1
 
-pub high_held : (place : Place) (body : Tree) (s : State) → IsHighEnough (Held place body) s →
+pub high_held : (place : Place) (body : Tree) (s : State) → IsHighEnough (Sync place body) s →
     IsHighEnough body (popped s 1)
-high_held place body s e = let m = some_of (height_after (Held place body) (length s.stack)) e in
+high_held place body s e = let m = some_of (height_after (Sync place body) (length s.stack)) e in
     let less = sized_pop (length s.vars) (length s.stack) (length s.stack - 1) 1 s (popped s 1) (sized s) refl refl in
     is_high body (popped s 1) m.0 (ap (height_after body) less.stack
     ∙ held_heights place body (length s.stack) m.0 m.1)
 
-pub high_body : (body : Tree) (s : State) → IsHighEnough (Again body) s → IsHighEnough body s
-high_body body s e = let m = some_of (height_after (Again body) (length s.stack)) e in
+pub high_body : (body : Tree) (s : State) → IsHighEnough (Loop body) s → IsHighEnough body s
+high_body body s e = let m = some_of (height_after (Loop body) (length s.stack)) e in
     is_high body s (length s.stack) (loop_heights body (length s.stack) m.0 m.1).1
 
 -- a state behind a round is as high as before
-pub high_round : (g : Given) (body : Tree) (locked : Bool) (s : State) → IsHighEnough (Again body) s →
-    IsHighEnough (Again body) (round_next s (flow g body locked s).next)
-high_round g body locked s e = let n = length s.stack in let m = some_of (height_after (Again body) n) e in
+pub high_round : (g : FlowContext) (body : Tree) (locked : Bool) (s : State) → IsHighEnough (Loop body) s →
+    IsHighEnough (Loop body) (round_next s (flow g body locked s).next)
+high_round g body locked s e = let n = length s.stack in let m = some_of (height_after (Loop body) n) e in
     let at = loop_heights body n m.0 m.1 in let o = (flow g body locked s).next in
     let size : IsSized (length s.vars) n (round_next s o) =
     sized_round (length s.vars) n s o (sized s)
     (λ t is. flow-sized g body locked (length s.vars) n n s t at.1 (sized s) is) in
-    is_high (Again body) (round_next s o) m.0 (ap (height_after (Again body)) size.stack ∙ m.1)
+    is_high (Loop body) (round_next s o) m.0 (ap (height_after (Loop body)) size.stack ∙ m.1)
 
 -- a state behind all rounds is as high as before
-pub high_rounds : (g : Given) (body : Tree) (locked : Bool) (s t : State) → IsHighEnough (Again body) s →
-    t ≡ (rounds (flow g body locked) (rounds_of s) s).0 → IsHighEnough (Again body) t
+pub high_rounds : (g : FlowContext) (body : Tree) (locked : Bool) (s t : State) → IsHighEnough (Loop body) s →
+    t ≡ (rounds (flow g body locked) (rounds_of s) s).0 → IsHighEnough (Loop body) t
 high_rounds g body locked s t e is =
     let n = length s.stack in
     let v = length s.vars in
-    let m = some_of (height_after (Again body) n) e in
+    let m = some_of (height_after (Loop body) n) e in
     let at = loop_heights body n m.0 m.1 in
     let f : State → Option State = λ x. (flow g body locked x).next in
     let size : IsSized v n (rounded f (rounds_of s) s) =
     sized_rounds f v n (λ x y p i. flow-sized g body locked v n n x y at.1 p i) (rounds_of s) s (sized s) in
     let same : t ≡ rounded f (rounds_of s) s = is ∙ rounds-state (flow g body locked) (rounds_of s) s in
-    is_high (Again body) t m.0
-    (ap (height_after (Again body)) (ap (λ (x : State). length x.stack) same ∙ size.stack) ∙ m.1)
+    is_high (Loop body) t m.0
+    (ap (height_after (Loop body)) (ap (λ (x : State). length x.stack) same ∙ size.stack) ∙ m.1)
 
 -- what is resumed ends as the flow does, and the heads are sound for the state behind the round
-pub resumed_flow : (g : Given) (body : Tree) (locked : Bool) (old new : List (Option State)) (s : State) →
-    IsHighEnough (Again body) s → AreSound g body locked old s →
+pub resumed_flow : (g : FlowContext) (body : Tree) (locked : Bool) (old new : List (Option State)) (s : State) →
+    IsHighEnough (Loop body) s → AreSound g body locked old s →
     AreLeft old new (resumed g body locked 0 (heads_in old) s).1 →
     ((resumed g body locked 0 (heads_in old) s).0 ≡ (flow g body locked s).next)
     × AreSound g body locked new (round_next s (flow g body locked s).next)
 resumed_flow g body locked old new s e sound left = let n = length s.stack in
-    let m = some_of (height_after (Again body) n) e in let at = loop_heights body n m.0 m.1 in
+    let m = some_of (height_after (Loop body) n) e in let at = loop_heights body n m.0 m.1 in
     let o = (flow g body locked s).next in let exact =
     resumed-exact g body locked 0 n (heads_in old) s at.1 sound.0 in
     let here : IsSound g body locked 0 (heads_in new) s =
@@ -112,7 +112,7 @@ none_long : (n : ℕ) → length (replicate n (let o : Option State = None in o)
 none_long zero = refl
 none_long (suc n) = ap (λ k. suc k) (none_long n)
 
-pub first_heads : (g : Given) (body : Tree) (locked : Bool) (heads : List (Option State)) (s : State) →
+pub first_heads : (g : FlowContext) (body : Tree) (locked : Bool) (heads : List (Option State)) (s : State) →
     heads ≡ replicate (loops body) None → AreSound g body locked heads s
 first_heads g body locked heads s e = (
   subst (λ (h : Heads). IsSound g body locked 0 h s) (sym (ap heads_in e ∙ (λ j i. all_none (loops body) i j)))
@@ -121,8 +121,8 @@ first_heads g body locked heads s e = (
 )
 
 -- what the resuming of a loop's body says of a round
-pub round_resumed : (g : Given) (body : Tree) (locked : Bool) (s x end : State) (old new : List (Option State))
-    (passed : Passed) → x ≡ s → IsResumed g body locked 0 x end old new (Ok passed) → IsHighEnough (Again body) s →
+pub round_resumed : (g : FlowContext) (body : Tree) (locked : Bool) (s x end : State) (old new : List (Option State))
+    (passed : Passed) → x ≡ s → IsResumed g body locked 0 x end old new (Ok passed) → IsHighEnough (Loop body) s →
     AreSound g body locked old s →
     ((flow g body locked s).next ≡ next_of passed.goes_on end)
     × AreSound g body locked new (round_next s (flow g body locked s).next)

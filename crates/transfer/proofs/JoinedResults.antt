@@ -48,14 +48,14 @@ joined-assoc a b c =
 
 -- ---- lost names, one test of them at a time
 
-abbrev named : (Path → Bool) → Value → Bool
-named test v = list_any test (names_of v)
+abbrev has_name : (Path → Bool) → Value → Bool
+has_name test v = list_any test (names_of v)
 
 abbrev loses : (Path → Bool) → Value → Value → Bool
 loses test a b = list_any test (lost a b)
 
 loses-different : (test : Path → Bool) (a b : Value) → same_value a b ≡ false →
-    loses test a b ≡ (named test a || named test b)
+    loses test a b ≡ (has_name test a || has_name test b)
 loses-different test a b e =
     ap (λ (t : Bool). list_any test (cond t [] (names_of a ++ names_of b))) e
     ∙ any-append test (names_of a) (names_of b)
@@ -63,12 +63,12 @@ loses-different test a b e =
 loses-same : (test : Path → Bool) (a b : Value) → same_value a b ≡ true → loses test a b ≡ false
 loses-same test a b e = ap (λ (t : Bool). list_any test (cond t [] (names_of a ++ names_of b))) e
 
-loses-unnamed : (test : Path → Bool) (a : Value) → loses test a Unnamed ≡ named test a
+loses-unnamed : (test : Path → Bool) (a : Value) → loses test a Unnamed ≡ has_name test a
 loses-unnamed test Owned = refl
 loses-unnamed test Unnamed = refl
 loses-unnamed test (Named p) = refl
 
-unnamed-loses : (test : Path → Bool) (a : Value) → loses test Unnamed a ≡ named test a
+unnamed-loses : (test : Path → Bool) (a : Value) → loses test Unnamed a ≡ has_name test a
 unnamed-loses test Owned = refl
 unnamed-loses test Unnamed = refl
 unnamed-loses test (Named p) = refl
@@ -113,30 +113,30 @@ loses-again test b c =
           ∙ sym (loses-itself test b c e ∙ loses-same test b c e)
           ∙ ap (λ (t : Bool). t || loses test b (joined b c)) (sym (loses-same test b c e))
       | false ↦ λ e.
-          let here : loses test b c ≡ (named test b || named test c) = loses-different test b c e in
-          let later : loses test b (joined b c) ≡ named test b =
+          let here : loses test b c ≡ (has_name test b || has_name test c) = loses-different test b c e in
+          let later : loses test b (joined b c) ≡ has_name test b =
           ap (loses test b) (joined-different b c e) ∙ loses-unnamed test b in
-          here ∙ or-back (named test b) (named test c) ∙ (λ i. sym here i || sym later i)
+          here ∙ or-back (has_name test b) (has_name test c) ∙ (λ i. sym here i || sym later i)
     ] refl
 
 -- where they differ
 loses-other : (test : Path → Bool) (a b c : Value) → same_value a b ≡ false →
-    ((named test a || named test b) || named test c) ≡ (loses test b c || loses test a (joined b c))
+    ((has_name test a || has_name test b) || has_name test c) ≡ (loses test b c || loses test a (joined b c))
 loses-other test a b c other =
     elim (same_value b c) as (λ t. same_value b c ≡ t →
-    ((named test a || named test b) || named test c) ≡ (loses test b c || loses test a (joined b c))) [
+    ((has_name test a || has_name test b) || has_name test c) ≡ (loses test b c || loses test a (joined b c))) [
       | true ↦ λ e.
           let same : c ≡ b = sym (equal_of_same_value b c e) in
           let first : loses test b c ≡ false = loses-same test b c e in
-          let then : loses test a (joined b c) ≡ (named test a || named test b) =
+          let then : loses test a (joined b c) ≡ (has_name test a || has_name test b) =
           ap (loses test a) (joined-same b c e) ∙ loses-different test a b other in
-          or-twice (named test a) (named test b) (named test c) (ap (named test) same)
+          or-twice (has_name test a) (has_name test b) (has_name test c) (ap (has_name test) same)
           ∙ (λ i. sym first i || sym then i)
       | false ↦ λ e.
-          let first : loses test b c ≡ (named test b || named test c) = loses-different test b c e in
-          let then : loses test a (joined b c) ≡ named test a =
+          let first : loses test b c ≡ (has_name test b || has_name test c) = loses-different test b c e in
+          let then : loses test a (joined b c) ≡ has_name test a =
           ap (loses test a) (joined-different b c e) ∙ loses-unnamed test a in
-          or-turn (named test a) (named test b) (named test c) ∙ (λ i. sym first i || sym then i)
+          or-turn (has_name test a) (has_name test b) (has_name test c) ∙ (λ i. sym first i || sym then i)
     ] refl
 
 pub lost-assoc : (test : Path → Bool) (a b c : Value) →
@@ -151,8 +151,8 @@ lost-assoc test a b c =
           ∙ loses-again test b c
           ∙ ap (λ (v : Value). loses test b c || loses test v (joined b c)) (sym same)
       | false ↦ λ e.
-          let here : loses test a b ≡ (named test a || named test b) = loses-different test a b e in
-          let later : loses test (joined a b) c ≡ named test c =
+          let here : loses test a b ≡ (has_name test a || has_name test b) = loses-different test a b e in
+          let later : loses test (joined a b) c ≡ has_name test c =
           ap (λ (v : Value). loses test v c) (joined-different a b e) ∙ unnamed-loses test c in
           (λ i. here i || later i) ∙ loses-other test a b c e
     ] refl

@@ -4,8 +4,8 @@ use Rattle.std.specs.Prelude.{Ok, slice_set, slice_index_or}
 use Rattle.std.proofs.lemmas.Bool.{eqb-true, eq-eqb}
 use Rattle.std.proofs.lemmas.List.{length-set}
 use Rattle.owner_domain.specs.declared.value.State.{State}
-use Rattle.core_code.specs.Tree.{Tree, Again}
-use Rattle.access_domain.specs.Given.{Given}
+use Rattle.core_code.specs.Tree.{Tree, Loop}
+use Rattle.access_domain.specs.Given.{FlowContext}
 use Rattle.transfer_loops.specs.Rounds.{round_next, same_state}
 use Rattle.transfer_loops.specs.Resuming.{Heads, resumed, loops, is_settled, iterated, put_head, kept_head, entered}
 use Rattle.transfer_loops.proofs.Settled.{same_state-equal}
@@ -19,7 +19,8 @@ abbrev Go : Type 0
 Go = Heads → State → Option State × Heads
 
 -- a body that does not go on leaves the state as it was
-pub ended_round : (g : Given) (body : Tree) (locked : Bool) (k : ℕ) (s x end : State) (old new : List (Option State))
+pub ended_round : (g : FlowContext) (body : Tree) (locked : Bool) (k : ℕ) (s x end : State)
+    (old new : List (Option State))
     (passed : Passed) → passed.goes_on ≡ false → x ≡ s → IsResumed g body locked k x end old new (Ok passed) →
     IsRound g body locked k s s old new (Ok (passed.next, false))
 ended_round g body locked k s x end old new passed ends same m =
@@ -29,7 +30,7 @@ ended_round g body locked k s x end old new passed ends same m =
     (sym (ap (round_next s) none), sym (ap not (same-itself s)), at.1, at.2)
 
 -- one that goes on is joined with it
-pub joined_round : (g : Given) (body : Tree) (locked : Bool) (k : ℕ) (s x end here : State)
+pub joined_round : (g : FlowContext) (body : Tree) (locked : Bool) (k : ℕ) (s x end here : State)
     (old new : List (Option State))
     (passed : Passed) (changed : Bool) → passed.goes_on ≡ true → x ≡ s →
     IsResumed g body locked k x end old new (Ok passed) → here ≡ joined_state s end →
@@ -117,10 +118,10 @@ pub heads-set : (list : List (Option State)) (k : ℕ) (x : State) → k < lengt
 heads-set list k x low = λ j i. set-head list k i x low j
 
 -- a loop whose first round changed nothing keeps the head that there is
-pub loop_kept : (g : Given) (body : Tree) (locked : Bool) (k next rounds : ℕ) (s start here : State)
+pub loop_kept : (g : FlowContext) (body : Tree) (locked : Bool) (k next rounds : ℕ) (s start here : State)
     (old now : List (Option State)) (changed : Bool) → rounds ≡ length s.vars + length s.stack + 1 →
     start ≡ entered (heads_in old k) s → IsRound g body locked (k + 1) start here old now (Ok (next, changed)) →
-    changed ≡ false → IsResumed g (Again body) locked k s here old now (Ok (record { next = next; goes_on = true }))
+    changed ≡ false → IsResumed g (Loop body) locked k s here old now (Ok (record { next = next; goes_on = true }))
 loop_kept g body locked k next rounds s start here old now changed all begun m same =
     let go : Go = resumed g body locked (suc k) in
     let h : Heads = heads_in old in
@@ -135,7 +136,7 @@ loop_kept g body locked k next rounds s start here old now changed all begun m s
     let settled : is_settled go h x ≡ true = settled_by go h x here changed at.0 at.1 same in
     let behind : next ≡ suc k + loops body = at.2 in (
       ap Some (sym ends.0),
-      (let count : loops (Again body) ≡ suc (loops body) = refl in omega arith),
+      (let count : loops (Loop body) ≡ suc (loops body) = refl in omega arith),
       (
         ends.1 ∙ sym (ap (λ (b : Bool). kept_head b (iterated go (left + 1) h x).1 k (iterated go (left + 1) h x).0)
             settled),
@@ -144,13 +145,13 @@ loop_kept g body locked k next rounds s start here old now changed all begun m s
     )
 
 -- a loop that was resumed, with its head put down
-pub loop_left : (g : Given) (body : Tree) (locked : Bool) (k next rounds : ℕ) (s start first here : State)
+pub loop_left : (g : FlowContext) (body : Tree) (locked : Bool) (k next rounds : ℕ) (s start first here : State)
     (old mid now new : List (Option State)) (changed : Bool) → rounds ≡ length s.vars + length s.stack + 1 →
     k < length old → start ≡ entered (heads_in old k) s →
     IsRound g body locked (k + 1) start first old mid (Ok (next, changed)) → changed ≡ true →
     AreResumedRounds g body locked (k + 1) (rounds - 1) first here mid now (Ok (tt {0})) →
     new ≡ slice_set now k (Some here) →
-    IsResumed g (Again body) locked k s here old new (Ok (record { next = next; goes_on = true }))
+    IsResumed g (Loop body) locked k s here old new (Ok (record { next = next; goes_on = true }))
 loop_left g body locked k next rounds s start first here old mid now new changed all low begun m moved rest put =
     let go : Go = resumed g body locked (suc k) in
     let h : Heads = heads_in old in
@@ -174,7 +175,7 @@ loop_left g body locked k next rounds s start first here old mid now new changed
     let inside : k < length now = omega arith in
     let behind : next ≡ suc k + loops body = at.2 in (
       ap Some (sym end),
-      (let count : loops (Again body) ≡ suc (loops body) = refl in omega arith),
+      (let count : loops (Loop body) ≡ suc (loops body) = refl in omega arith),
       (
         ap heads_in put ∙ heads-set now k here inside ∙ (λ i. put_head (heads i) k (end i))
             ∙ sym (ap (λ (b : Bool). kept_head b (iterated go (left + 1) h x).1 k (iterated go (left + 1) h x).0)

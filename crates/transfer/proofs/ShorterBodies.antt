@@ -3,9 +3,9 @@ use Rattle.std.proofs.Common.{◌≡◌, ℕ, Bool, true, List, [], Some, length
 use Rattle.std.specs.Prelude.{Result, OnOk}
 use Rattle.access_paths.specs.declared.path.Path.{Path}
 use Rattle.owner_domain.specs.declared.value.State.{State}
-use Rattle.core_code.specs.Tree.{Tree, Again}
+use Rattle.core_code.specs.Tree.{Tree, Loop}
 use Rattle.core_code.specs.Facts.{height_after}
-use Rattle.access_domain.specs.Given.{Given}
+use Rattle.access_domain.specs.Given.{FlowContext}
 use Rattle.access_domain.specs.Flow.{flow, rounds}
 use Rattle.transfer_loops.specs.Rounds.{rounds_of}
 use Rattle.transfer_loops.proofs.Heights.{loop_heights}
@@ -20,17 +20,17 @@ use Rattle.transfer.proofs.HighEnough.{some_of, on_ok_then, high_rounds}
 
 -- what is said of a shortened body, where the stack has this height
 pub record IsBody (from : ℕ) (short body : Tree) : Type 0 where
-  pub next : (g : Given) (locked : Bool) (s : State) → length s.stack ≡ from →
+  pub next : (g : FlowContext) (locked : Bool) (s : State) → length s.stack ≡ from →
       is_some (height_after body from) ≡ true → (flow g short locked s).next ≡ (flow g body locked s).next
   pub height : is_some (height_after body from) ≡ true → height_after short from ≡ height_after body from
 
-body_height : (body : Tree) (n : ℕ) → is_some (height_after (Again body) n) ≡ true → height_after body n ≡ Some n
+body_height : (body : Tree) (n : ℕ) → is_some (height_after (Loop body) n) ≡ true → height_after body n ≡ Some n
 body_height body n e =
-    let m = some_of (height_after (Again body) n) e in
+    let m = some_of (height_after (Loop body) n) e in
     (loop_heights body n m.0 m.1).1
 
-pub rounds_whole : (g : Given) (locked : Bool) (height : ℕ) (short body : Tree) (s here : State) (old new : Found)
-    (r : Result (Unit {0}) Stop) → height ≡ length s.stack → IsBody height short body → IsHighEnough (Again body) s →
+pub rounds_whole : (g : FlowContext) (locked : Bool) (height : ℕ) (short body : Tree) (s here : State) (old new : Found)
+    (r : Result (Unit {0}) Stop) → height ≡ length s.stack → IsBody height short body → IsHighEnough (Loop body) s →
     AreRoundsDone (flow g short locked) s here old new r → AreRoundsDone (flow g body locked) s here old new r
 rounds_whole g locked height short body s here old new r is b high done =
     let n = length s.stack in
@@ -42,9 +42,9 @@ rounds_whole g locked height short body s here old new r is b high done =
     subst (λ (p : State × List Path). OnOk r (here ≡ p.0) × IsMarked old (marks [] p.1) new r)
     (same_rounds g locked n short body shorter (rounds_of s) s refl) done
 
-pub high_behind : (g : Given) (locked : Bool) (body : Tree) (s here : State) (old new : Found)
-    (r : Result (Unit {0}) Stop) → IsHighEnough (Again body) s →
-    AreRoundsDone (flow g body locked) s here old new r → OnOk r (IsHighEnough (Again body) here)
+pub high_behind : (g : FlowContext) (locked : Bool) (body : Tree) (s here : State) (old new : Found)
+    (r : Result (Unit {0}) Stop) → IsHighEnough (Loop body) s →
+    AreRoundsDone (flow g body locked) s here old new r → OnOk r (IsHighEnough (Loop body) here)
 high_behind g locked body s here old new r high done =
-    on_ok_then r (here ≡ (rounds (flow g body locked) (rounds_of s) s).0) (IsHighEnough (Again body) here) done.0
+    on_ok_then r (here ≡ (rounds (flow g body locked) (rounds_of s) s).0) (IsHighEnough (Loop body) here) done.0
     (high_rounds g body locked s here high)

@@ -19,7 +19,7 @@ use Rattle.core_code.specs.declared.code.Op.TheVariants.{Push, PushClass, PushPr
 use Rattle.core_code.specs.declared.code.Op.TheVariants.{Set, Prim, Outside, Call, Unread, Ret}
 use Rattle.core_code.specs.Calls.{called_by, calls_in}
 use Rattle.core_code.specs.Core.{Core, Method}
-use Rattle.core_code.specs.Tree.{Tree, Step, Nothing, Then, Either, Again, Held, Operation, steps_of}
+use Rattle.core_code.specs.Tree.{Tree, Op, Skip, Seq, Choice, Loop, Sync, Operation, steps_of}
 use Rattle.core_code.proofs.RowCallees.{is_method, or-left, or-right}
 use Rattle.access_domain.specs.declared.summary.Summary.{Summary}
 use Rattle.access_domain.specs.declared.summary.Outcome.TheVariants as code
@@ -246,18 +246,18 @@ any-alone p (m ∷ ms) = ap (λ b. p m || b) (any-alone p ms)
 pub flow-agree : (core : Core) (t u : Table) (main : Bool) (code : Tree) (locked : Bool) (s : State) →
     AreSame t u (steps_of code) →
     Agree (flow (given_of core t main) code locked s) (flow (given_of core u main) code locked s)
-flow-agree core t u main (Step site place op) locked s h =
+flow-agree core t u main (Op site place op) locked s h =
     op-agree core t u main locked site op s (λ n e. h n (any-alone (is_method n) (called_by op) ∙ e))
-flow-agree core t u main Nothing locked s h = agree-itself _
-flow-agree core t u main (Then first rest) locked s h =
+flow-agree core t u main Skip locked s h = agree-itself _
+flow-agree core t u main (Seq first rest) locked s h =
     after-agree _ _ _ _ (flow-agree core t u main first locked s (same-first t u (steps_of first) (steps_of rest) h))
     (λ end. flow-agree core t u main rest locked end (same-rest t u (steps_of first) (steps_of rest) h))
-flow-agree core t u main (Either left right) locked s h =
+flow-agree core t u main (Choice left right) locked s h =
     chosen-agree _ _ _ _ (flow-agree core t u main left locked s (same-first t u (steps_of left) (steps_of right) h))
     (flow-agree core t u main right locked s (same-rest t u (steps_of left) (steps_of right) h))
-flow-agree core t u main (Again body) locked s h =
+flow-agree core t u main (Loop body) locked s h =
     looped-agree _ _ s (λ here. flow-agree core t u main body locked here h)
-flow-agree core t u main (Held place body) locked s h = flow-agree core t u main body true (popped s 1) h
+flow-agree core t u main (Sync place body) locked s h = flow-agree core t u main body true (popped s 1) h
 
 -- ---- outcomes
 

@@ -11,16 +11,16 @@ use Rattle.core_code.specs.Program.{core}
 use Rattle.access_domain.specs.declared.summary.Outcome.{Outcome}
 use Rattle.transfer.specs.declared.finished.Finished.{Finished}
 
-abbrev pub Held : Type 0
-Held = Arc Finished Global
+abbrev pub SharedFinished : Type 0
+SharedFinished = Arc Finished Global
 
 -- the outcome of a method, the first of several
-abbrev pub outcome_in : List Held → MethodId → Option Outcome
+abbrev pub outcome_in : List SharedFinished → MethodId → Option Outcome
 outcome_in [] m = None
 outcome_in (f ∷ fs) m =
     if nat_eq (arc_value f).method.0 m.0 then Some (arc_value (arc_value f).outcome) else outcome_in fs m
 
 -- each method that the code of m calls is among these, and all are finished for this program
-pub record AreCallees (program : Core) (m : MethodId) (finished : List Held) : Type 0 where
-  pub same_program : All (λ (f : Held). core (arc_value (arc_value f).program) ≡ program) finished
+pub record AreCallees (program : Core) (m : MethodId) (finished : List SharedFinished) : Type 0 where
+  pub same_program : All (λ (f : SharedFinished). core (arc_value (arc_value f).program) ≡ program) finished
   pub are_there : list_all (λ (n : MethodId). is_some (outcome_in finished n)) (calls_of program m) ≡ true

@@ -6,16 +6,16 @@ use Rattle.racer_base.specs.declared.ids.Touch.{Touch}
 use Rattle.owner_domain.specs.declared.value.Value.{Value}
 use Rattle.core_code.specs.Program.{core}
 use Rattle.access_domain.specs.declared.access.Access.{Access}
-use Rattle.access_domain.specs.Given.{Given, given_of, field_at}
+use Rattle.access_domain.specs.Given.{FlowContext, given_of, field_at}
 use Rattle.access_domain.specs.Reached.{reached_path}
-use Rattle.transfer.specs.declared.operations.Frame.{Frame}
+use Rattle.transfer.specs.declared.operations.MethodContext.{MethodContext}
 use Rattle.transfer.specs.Known.{table_of}
 
-abbrev pub given : Frame → Given
+abbrev pub given : MethodContext → FlowContext
 given frame = given_of (core frame.program.now) (table_of frame.callees.now) frame.main
 
 -- the record of an access of a field that has this value
-abbrev pub record_reached : Frame → Touch → Bool → SiteId → Value → FieldId → List Access
+abbrev pub record_reached : MethodContext → Touch → Bool → SiteId → Value → FieldId → List Access
 record_reached frame kind locked site value f =
     if (field_at (core frame.program.now) f).recorded
     then (elim (reached_path (core frame.program.now) value f) [

@@ -18,9 +18,9 @@ known_in code.Large = Large
 known_in (code.Summary s) = Whole (findings_in s)
 
 -- the outcome that is handed in for a method, the first of several
-abbrev pub outcome_among : List Callee → MethodId → Option Outcome
-outcome_among [] m = None
-outcome_among (c ∷ cs) m = if nat_eq c.method.0 m.0 then Some (arc_value c.outcome) else outcome_among cs m
+abbrev pub callee_outcome : List Callee → MethodId → Option Outcome
+callee_outcome [] m = None
+callee_outcome (c ∷ cs) m = if nat_eq c.method.0 m.0 then Some (arc_value c.outcome) else callee_outcome cs m
 
 abbrev pub table_of : List Callee → Table
-table_of callees m = option_map known_in (outcome_among callees m)
+table_of callees m = option_map known_in (callee_outcome callees m)

@@ -13,7 +13,7 @@ use Rattle.owner_domain.specs.SameValue.{equal_of_same_value, same_value-itself,
 use Rattle.access_domain.specs.declared.access.Access.{Access}
 use Rattle.access_domain.specs.Additions.{paths_added}
 use Rattle.access_domain.specs.Findings.{Findings, Whole}
-use Rattle.access_domain.specs.Given.{Given}
+use Rattle.access_domain.specs.Given.{FlowContext}
 use Rattle.access_domain.specs.Records.{same_flag, same_key}
 use Rattle.access_domain.specs.Substitution.{Actuals, actuals_from, substituted_record, value_named}
 use Rattle.transfer.specs.declared.found.Found.{Found}
@@ -94,14 +94,14 @@ call_input-respects a b same = ap call_input (equal_of_same_call a b same)
 
 -- ---- what is noted of them
 
-abbrev pub passed_by : Given → NotedCall → Actuals
+abbrev pub passed_by : FlowContext → NotedCall → Actuals
 passed_by g c = actuals_from (g.is_static c.callee) c.actuals
 
 -- the records of a callee with these findings at such a call at this site, and the wobbly paths
-abbrev pub call_records : Given → NotedCall → Findings → SiteId → List Access
+abbrev pub call_records : FlowContext → NotedCall → Findings → SiteId → List Access
 call_records g c f site = flat_map (substituted_record g (passed_by g c) c.locked site) (enumerate_from 0 f.records)
 
-abbrev pub call_names : Given → NotedCall → List Path → List Path
+abbrev pub call_names : FlowContext → NotedCall → List Path → List Path
 call_names g c paths = flat_map (λ p. names_of (value_named (passed_by g c) p)) paths
 
 -- each of the second records has the key of one of the first
@@ -110,11 +110,11 @@ ArePresent kept [] = Unit {0}
 ArePresent kept (x ∷ xs) = (list_any (λ r. same_key r x) kept ≡ true) × ArePresent kept xs
 
 -- what such a call finds was found before, whatever its site
-abbrev pub IsFound : Given → NotedCall → Found → Type 0
+abbrev pub IsFound : FlowContext → NotedCall → Found → Type 0
 IsFound g c found = (f : Findings) → g.known_of c.callee ≡ Some (Whole f) →
     ((site : SiteId) → ArePresent found.records (call_records g c f site))
     × (paths_added found.wobbly (call_names g c f.wobbly) ≡ found.wobbly)
 
-abbrev pub AreFound : Given → List NotedCall → Found → Type 0
+abbrev pub AreFound : FlowContext → List NotedCall → Found → Type 0
 AreFound g [] found = Unit {0}
 AreFound g (c ∷ calls) found = IsFound g c found × AreFound g calls found

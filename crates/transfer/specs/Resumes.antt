@@ -3,7 +3,7 @@ use Rattle.std.specs.Prelude.{◌≡◌, ℕ, ◌+◌, Bool, not, List, Option, 
 use Rattle.racer_base.specs.declared.out_of_memory.Memory.{Memory}
 use Rattle.owner_domain.specs.declared.value.State.{State}
 use Rattle.core_code.specs.Tree.{Tree}
-use Rattle.access_domain.specs.Given.{Given}
+use Rattle.access_domain.specs.Given.{FlowContext}
 use Rattle.transfer.specs.declared.resuming.Passed.{Passed}
 use Rattle.transfer.specs.Walks.{next_of}
 use Rattle.transfer_loops.specs.Rounds.{round_next, same_state}
@@ -17,7 +17,7 @@ abbrev pub AreLeft : List (Option State) → List (Option State) → Heads → T
 AreLeft old new heads = (heads_in new ≡ heads) × (length new ≡ length old)
 
 -- the end is that of resuming, and the number behind the code's loops is told
-abbrev pub IsResumed : Given → Tree → Bool → ℕ → State → State → List (Option State) → List (Option State) →
+abbrev pub IsResumed : FlowContext → Tree → Bool → ℕ → State → State → List (Option State) → List (Option State) →
     Result Passed Memory → Type 0
 IsResumed g code locked k s here old new (Ok passed) =
     ((resumed g code locked k (heads_in old) s).0 ≡ next_of passed.goes_on here)
@@ -25,7 +25,7 @@ IsResumed g code locked k s here old new (Ok passed) =
 IsResumed g code locked k s here old new (Err e) = Unit {0}
 
 -- one round of a loop whose body's loops have numbers from k on, and whether it changed the state
-abbrev pub IsRound : Given → Tree → Bool → ℕ → State → State → List (Option State) → List (Option State) →
+abbrev pub IsRound : FlowContext → Tree → Bool → ℕ → State → State → List (Option State) → List (Option State) →
     Result (ℕ × Bool) Memory → Type 0
 IsRound g body locked k s here old new (Ok behind) =
     (here ≡ round_next s (resumed g body locked k (heads_in old) s).0)
@@ -34,7 +34,7 @@ IsRound g body locked k s here old new (Ok behind) =
 IsRound g body locked k s here old new (Err e) = Unit {0}
 
 -- so many rounds at most
-abbrev pub AreResumedRounds : Given → Tree → Bool → ℕ → ℕ → State → State → List (Option State) →
+abbrev pub AreResumedRounds : FlowContext → Tree → Bool → ℕ → ℕ → State → State → List (Option State) →
     List (Option State) → Result (Unit {0}) Memory → Type 0
 AreResumedRounds g body locked k n s here old new (Ok done) =
     (here ≡ (iterated (resumed g body locked k) n (heads_in old) s).0)

@@ -12,7 +12,7 @@ use Rattle.core_code.specs.declared.code.Op.{Op as CoreOp}
 use Rattle.core_code.specs.declared.code.Op.TheVariants.{Push, PushClass, PushPrim, PushNull, New, Dup, Drop, Get, Put}
 use Rattle.core_code.specs.declared.code.Op.TheVariants.{Set, Prim, Outside, Call, Unread, Ret}
 use Rattle.access_domain.specs.Findings.{Findings}
-use Rattle.access_domain.specs.Given.{Given}
+use Rattle.access_domain.specs.Given.{FlowContext}
 use Rattle.access_domain.specs.Substitution.{substituted}
 use Rattle.access_domain.specs.Flow.{rounds}
 use Rattle.access_domain.specs.Operations.{Effects, goes_on, top, pushed, popped, replaced}
@@ -66,7 +66,7 @@ is_call (Call m n) = true
 is_call _ = false
 
 -- what is found of a callee at such a call, in the caller's values
-abbrev pub call_marks : Given → NotedCall → Findings → SiteId → Effects
+abbrev pub call_marks : FlowContext → NotedCall → Findings → SiteId → Effects
 call_marks g c f site =
     marks (substituted g (passed_by g c) f c.locked site).records (substituted g (passed_by g c) f c.locked site).wobbly
 

@@ -4,7 +4,7 @@ ghost use Rattle.std.specs.Arc.{arc_value};
 ghost use Rattle.racer_base.specs.declared.ids.MethodId.{MethodId as Id};
 ghost use Rattle.core_code.specs.Calls.{is_analysed};
 ghost use Rattle.core_code.specs.Program.{core};
-ghost use Rattle.transfer.specs.Known.{outcome_among};
+ghost use Rattle.transfer.specs.Known.{callee_outcome};
 ghost use Rattle.transfer.specs.Callees.{AreCallees, outcome_in};
 
 use crate::Finished;
@@ -17,7 +17,7 @@ use std::sync::Arc;
 
 /// What is known of the methods that are finished.
 fn known(alloc: Global, finished: &[Arc<Finished>]) -> Result<Vec<Callee>, Memory>
-    ensures { IfOk result (λ callees. (m : Id) → outcome_among callees.items m ≡ outcome_in finished.now m) }
+    ensures { IfOk result (λ callees. (m : Id) → callee_outcome callees.items m ≡ outcome_in finished.now m) }
 {
     let mut callees = Vec::new(alloc);
     for one in finished {

@@ -8,18 +8,18 @@ ghost use Rattle.access_domain.specs.Operations.{op_effects, passed_from, replac
 ghost use Rattle.access_domain.specs.Substitution.{actuals_from, substituted_value};
 ghost use Rattle.call_subst.specs.Calls.{records_at, paths_at};
 ghost use Rattle.transfer.specs.Frames.{given};
-ghost use Rattle.transfer.specs.Known.{findings_in, outcome_among};
+ghost use Rattle.transfer.specs.Known.{findings_in, callee_outcome};
 ghost use Rattle.transfer.specs.Marks.{IsMarked, marks};
 ghost use Rattle.transfer.specs.NotedCalls.{AreFound};
 ghost use Rattle.transfer.specs.Walks.{IsFlow, call_marks};
 
+use crate::flow_state::FlowState;
 use crate::found::{Found, Stop};
-use crate::here::Here;
 use crate::noted_calls::NotedCall;
-use crate::operations::Frame;
+use crate::operations::MethodContext;
 use access_domain::{Accesses, Outcome, Summary};
 use access_paths::Path;
-use call_subst::{Call, is_static, named, record_there, substitute_value};
+use call_subst::{Call, is_static, record_there, substitute_value, value_named};
 use indexmap::IndexSet;
 use owner_domain::Value;
 use racer_base::{Items, Memory, MethodId, SiteId};
@@ -34,8 +34,8 @@ pub struct Callee {
 }
 
 /// The outcome of a method, where it is among these.
-fn outcome_among<'a>(callees: &'a [Callee], method: MethodId) -> Option<&'a Outcome>
-    ensures { option_copied result ≡ outcome_among callees.now method }
+fn callee_outcome<'a>(callees: &'a [Callee], method: MethodId) -> Option<&'a Outcome>
+    ensures { option_copied result ≡ callee_outcome callees.now method }
 {
     for callee in callees {
         if callee.method == method {
@@ -48,12 +48,12 @@ fn outcome_among<'a>(callees: &'a [Callee], method: MethodId) -> Option<&'a Outc
 /// Calls a method with so many values.
 pub fn call(
     alloc: Global,
-    frame: &Frame,
+    frame: &MethodContext,
     locked: bool,
     site: SiteId,
     method: MethodId,
     count: u32,
-    here: &mut Here,
+    here: &mut FlowState,
     calls: &mut IndexSet<NotedCall>,
     found: &mut Found,
 ) -> Result<bool, Stop>
@@ -62,7 +62,7 @@ pub fn call(
         found.new result }
     ensures calls { OnOk result (AreFound (given frame.now) calls.new.keys found.new) }
 {
-    match outcome_among(frame.callees, method) {
+    match callee_outcome(frame.callees, method) {
         None => {
             let Ok(()) = here.replace(count, Value::Unnamed) else {
                 return Err(Stop::Memory);
@@ -85,12 +85,12 @@ pub fn call(
 /// Takes the values that a call passes, and pushes what it returns.
 fn pass(
     alloc: Global,
-    frame: &Frame,
+    frame: &MethodContext,
     locked: bool,
     method: MethodId,
     count: u32,
     summary: &Summary,
-    here: &mut Here,
+    here: &mut FlowState,
 ) -> Result<NotedCall, Memory>
     ensures call { IfOk result (λ made. made ≡ record {
       callee = method;
@@ -119,7 +119,7 @@ fn pass(
 /// Notes what a call of a method with this summary finds, unless one like it was noted before.
 fn note_call(
     alloc: Global,
-    frame: &Frame,
+    frame: &MethodContext,
     made: NotedCall,
     site: SiteId,
     summary: &Summary,
@@ -148,7 +148,7 @@ fn note_call(
 /// Notes the records and the wobbly paths of a callee, in the caller's values.
 fn note_callee(
     alloc: Global,
-    frame: &Frame,
+    frame: &MethodContext,
     made: &NotedCall,
     site: SiteId,
     summary: &Summary,
@@ -201,7 +201,7 @@ fn note_names(alloc: Global, call: &Call, paths: &[Path], found: &mut Found) -> 
     ensures { IsMarked found.old (marks [] (paths_at call.now paths.now)) found.new result }
 {
     for path in paths {
-        let Ok(value) = named(alloc, call, path) else {
+        let Ok(value) = value_named(alloc, call, path) else {
             return Err(Stop::Memory);
         };
         match found.note_name(value) {
@@ -215,15 +215,15 @@ fn note_names(alloc: Global, call: &Call, paths: &[Path], found: &mut Found) -> 
 /// Takes the values that a call passes, and pushes what it returns.
 pub fn move_call(
     alloc: Global,
-    frame: &Frame,
+    frame: &MethodContext,
     method: MethodId,
     count: u32,
-    here: &mut Here,
+    here: &mut FlowState,
 ) -> Result<(), Memory>
     ensures { OnOk result ((locked : Bool) (site : Site) →
         (op_effects (given frame.now) locked site (CallOf method count) here.old).next ≡ Some here.new) }
 {
-    match outcome_among(frame.callees, method) {
+    match callee_outcome(frame.callees, method) {
         Some(Outcome::Summary(summary)) => {
             let actuals = here.take(count)?;
             let value = substitute_value(

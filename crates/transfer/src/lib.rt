@@ -8,8 +8,8 @@
 mod analysis;
 mod calls;
 mod finished;
+mod flow_state;
 mod found;
-mod here;
 pub mod laws;
 mod meeting;
 mod method_outcomes;

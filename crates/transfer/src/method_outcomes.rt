@@ -12,10 +12,10 @@ ghost use Rattle.transfer.specs.Known.{table_of};
 ghost use Rattle.transfer.specs.Marks.{IsMarked, nothing, summary_held};
 
 use crate::calls::Callee;
+use crate::flow_state::FlowState;
 use crate::found::{Found, Stop};
-use crate::here::Here;
-use crate::operations::Frame;
-use crate::walk::go;
+use crate::operations::MethodContext;
+use crate::walk::walk_code;
 use access_domain::{Outcome, Summary};
 use access_paths::{Path, Root};
 use core_code::{MethodCore, Program};
@@ -110,7 +110,7 @@ pub fn outcome(
     ensures { IfOk result (λ found.
         found ≡ outcome_from (known_given (core program.now) (table_of callees.now) (method_of method.now))) }
 {
-    let frame = Frame {
+    let frame = MethodContext {
         program,
         main: method.main,
         callees,
@@ -118,10 +118,10 @@ pub fn outcome(
     let Ok(values) = start(alloc, method) else {
         return Err(Memory);
     };
-    let mut here = Here::new(alloc, values);
+    let mut here = FlowState::new(alloc, values);
     let mut found = Found::nothing(alloc);
     let mut calls = IndexSet::new(alloc);
-    let walked = go(
+    let walked = walk_code(
         alloc,
         &frame,
         false,

@@ -12,8 +12,8 @@ ghost use Rattle.transfer.specs.NotedCalls.{AreFound};
 ghost use Rattle.transfer.specs.Walks.{IsFlow, is_call, is_quiet, moved, next_of, set_effects};
 
 use crate::calls::{Callee, call, move_call};
+use crate::flow_state::FlowState;
 use crate::found::{Found, Stop};
-use crate::here::Here;
 use crate::noted_calls::NotedCall;
 use access_domain::{Access, path_reached, touched_field};
 use access_paths::{Path, Root};
@@ -26,7 +26,7 @@ use std::mem;
 
 /// What stays the same while the code of a method is gone through.
 #[derive(Drop)]
-pub struct Frame<'a> {
+pub struct MethodContext<'a> {
     pub program: &'a Program,
     /// Whether the method runs on the main thread.
     pub main: bool,
@@ -44,7 +44,7 @@ fn is_quiet(op: Op) -> bool
 }
 
 /// Does an operation that finds nothing and goes on.
-fn move_on(alloc: Global, op: Op, here: &mut Here) -> Result<(), Memory>
+fn move_on(alloc: Global, op: Op, here: &mut FlowState) -> Result<(), Memory>
     ensures { OnOk result (here.new ≡ moved op here.old) }
 {
     match op {
@@ -67,7 +67,7 @@ fn move_on(alloc: Global, op: Op, here: &mut Here) -> Result<(), Memory>
 /// Notes the access of a field that has this value.
 fn note_access(
     alloc: Global,
-    frame: &Frame,
+    frame: &MethodContext,
     kind: Touch,
     locked: bool,
     site: SiteId,
@@ -107,7 +107,7 @@ fn value_read(plain: bool, value: Value) -> Value
 }
 
 /// Takes the top, and gives the value of its field.
-fn pop_field(alloc: Global, here: &mut Here, f: FieldId) -> Result<Value, Memory>
+fn pop_field(alloc: Global, here: &mut FlowState, f: FieldId) -> Result<Value, Memory>
     ensures value { IfOk result (λ value. value ≡ field_value (top here.old) f) }
     ensures rest { here.new ≡ popped here.old 1 }
 {
@@ -117,11 +117,11 @@ fn pop_field(alloc: Global, here: &mut Here, f: FieldId) -> Result<Value, Memory
 /// Reads a field of the top.
 fn get(
     alloc: Global,
-    frame: &Frame,
+    frame: &MethodContext,
     locked: bool,
     site: SiteId,
     f: FieldId,
-    here: &mut Here,
+    here: &mut FlowState,
     found: &mut Found,
 ) -> Result<bool, Stop>
     ensures { IsFlow (op_effects (given frame.now) locked site (Get f) here.old) here.new found.old found.new result }
@@ -157,11 +157,11 @@ fn note_store(alloc: Global, field: Value, value: &Value, found: &mut Found) -> 
 /// Stores the top in a field of the object below it, and leaves it on the stack.
 fn put(
     alloc: Global,
-    frame: &Frame,
+    frame: &MethodContext,
     locked: bool,
     site: SiteId,
     f: FieldId,
-    here: &mut Here,
+    here: &mut FlowState,
     found: &mut Found,
 ) -> Result<bool, Stop>
     ensures { IsFlow (op_effects (given frame.now) locked site (Put f) here.old) here.new found.old found.new result }
@@ -185,7 +185,12 @@ fn put(
 }
 
 /// Stores the top in a variable, and leaves it on the stack.
-fn set(alloc: Global, variable: VarId, here: &mut Here, found: &mut Found) -> Result<bool, Stop>
+fn set(
+    alloc: Global,
+    variable: VarId,
+    here: &mut FlowState,
+    found: &mut Found,
+) -> Result<bool, Stop>
     ensures { IsFlow (set_effects variable here.old) here.new found.old found.new result }
 {
     let Ok(name) = here.top(alloc) else {
@@ -203,7 +208,7 @@ fn set(alloc: Global, variable: VarId, here: &mut Here, found: &mut Found) -> Re
 }
 
 /// Returns the top.
-fn give_back(alloc: Global, here: &mut Here, found: &mut Found) -> Result<bool, Stop>
+fn give_back(alloc: Global, here: &mut FlowState, found: &mut Found) -> Result<bool, Stop>
     ensures { IsFlow (returns_of (top here.old)) here.new found.old found.new result }
 {
     let value = here.pop();
@@ -216,11 +221,11 @@ fn give_back(alloc: Global, here: &mut Here, found: &mut Found) -> Result<bool, 
 /// Does an operation that finds something, or returns.
 fn find_out(
     alloc: Global,
-    frame: &Frame,
+    frame: &MethodContext,
     locked: bool,
     site: SiteId,
     op: Op,
-    here: &mut Here,
+    here: &mut FlowState,
     found: &mut Found,
 ) -> Result<bool, Stop>
     requires quiet { is_quiet op ≡ false }
@@ -239,11 +244,11 @@ fn find_out(
 /// Does one operation that is no call; whether the code goes on behind it.
 fn step(
     alloc: Global,
-    frame: &Frame,
+    frame: &MethodContext,
     locked: bool,
     site: SiteId,
     op: Op,
-    here: &mut Here,
+    here: &mut FlowState,
     found: &mut Found,
 ) -> Result<bool, Stop>
     requires { is_call op ≡ false }
@@ -261,11 +266,11 @@ fn step(
 /// Does one operation; whether the code goes on behind it.
 pub fn operate(
     alloc: Global,
-    frame: &Frame,
+    frame: &MethodContext,
     locked: bool,
     site: SiteId,
     op: Op,
-    here: &mut Here,
+    here: &mut FlowState,
     calls: &mut IndexSet<NotedCall>,
     found: &mut Found,
 ) -> Result<bool, Stop>
@@ -284,7 +289,12 @@ pub fn operate(
 }
 
 /// Does one operation for the state behind it alone; whether the code goes on behind it.
-pub fn move_any(alloc: Global, frame: &Frame, op: Op, here: &mut Here) -> Result<bool, Memory>
+pub fn move_any(
+    alloc: Global,
+    frame: &MethodContext,
+    op: Op,
+    here: &mut FlowState,
+) -> Result<bool, Memory>
     ensures { IfOk result (λ goes_on. (locked : Bool) (site : Site) →
         (op_effects (given frame.now) locked site op here.old).next ≡ next_of goes_on here.new) }
 {

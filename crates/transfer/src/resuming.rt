@@ -1,7 +1,7 @@
 //! Code gone through for the state at its end alone, with the states in which its loops were left.
 ghost use Rattle.std.specs.Prelude.{◌≡◌, ◌+◌, ◌≤◌, Bool, false, map, length, IfOk, OnOk};
 ghost use Rattle.racer_base.specs.declared.ids.SiteId.{SiteId as Site};
-ghost use Rattle.core_code.specs.Tree.{tree_of, in_sequence, Again};
+ghost use Rattle.core_code.specs.Tree.{tree_of, in_sequence, Loop};
 ghost use Rattle.access_domain.specs.Flow.{joined_next};
 ghost use Rattle.access_domain.specs.Operations.{op_effects};
 ghost use Rattle.transfer_loops.specs.Rounds.{same_state};
@@ -10,8 +10,8 @@ ghost use Rattle.transfer.specs.Resumes.{heads_in, IsResumed, IsRound, AreResume
 ghost use Rattle.transfer.specs.Frames.{given};
 ghost use Rattle.transfer.specs.Walks.{next_of};
 
-use crate::here::Here;
-use crate::operations::{Frame, move_any};
+use crate::flow_state::FlowState;
+use crate::operations::{MethodContext, move_any};
 use core_code::Code;
 use racer_base::Memory;
 use std::alloc::Global;
@@ -83,12 +83,12 @@ fn sum(a: usize, b: usize) -> Result<usize, Memory>
 #[cycle(resumes)]
 pub fn resume(
     alloc: Global,
-    frame: &Frame,
+    frame: &MethodContext,
     locked: bool,
     code: &Code,
     first: usize,
-    here: &mut Here,
-    heads: &mut Vec<Option<Here>>,
+    here: &mut FlowState,
+    heads: &mut Vec<Option<FlowState>>,
 ) -> Result<Passed, Memory>
     requires { first + loops (tree_of code.now) ≤ length heads.old.items }
     ensures { IsResumed (given frame.now) (tree_of code.now) locked first here.old here.new heads.old.items
@@ -132,12 +132,12 @@ pub fn resume(
 #[cycle(resumes)]
 fn resume_through(
     alloc: Global,
-    frame: &Frame,
+    frame: &MethodContext,
     locked: bool,
     parts: &[Code],
     first: usize,
-    here: &mut Here,
-    heads: &mut Vec<Option<Here>>,
+    here: &mut FlowState,
+    heads: &mut Vec<Option<FlowState>>,
 ) -> Result<Passed, Memory>
     requires { first + loops (in_sequence (map tree_of parts.now)) ≤ length heads.old.items }
     ensures { IsResumed (given frame.now) (in_sequence (map tree_of parts.now)) locked first here.old here.new
@@ -181,15 +181,15 @@ fn pass_over(first: usize, parts: &[Code]) -> Result<Passed, Memory>
 #[cycle(resumes)]
 fn resume_loop(
     alloc: Global,
-    frame: &Frame,
+    frame: &MethodContext,
     locked: bool,
     body: &Code,
     first: usize,
-    here: &mut Here,
-    heads: &mut Vec<Option<Here>>,
+    here: &mut FlowState,
+    heads: &mut Vec<Option<FlowState>>,
 ) -> Result<Passed, Memory>
-    requires { first + loops (Again (tree_of body.now)) ≤ length heads.old.items }
-    ensures { IsResumed (given frame.now) (Again (tree_of body.now)) locked first here.old here.new heads.old.items
+    requires { first + loops (Loop (tree_of body.now)) ≤ length heads.old.items }
+    ensures { IsResumed (given frame.now) (Loop (tree_of body.now)) locked first here.old here.new heads.old.items
         heads.new.items result }
 {
     let rounds = here.rounds();
@@ -232,13 +232,13 @@ fn resume_loop(
 #[cycle(resumes)]
 fn resume_rounds(
     alloc: Global,
-    frame: &Frame,
+    frame: &MethodContext,
     locked: bool,
     body: &Code,
     first: usize,
     rounds: usize,
-    here: &mut Here,
-    heads: &mut Vec<Option<Here>>,
+    here: &mut FlowState,
+    heads: &mut Vec<Option<FlowState>>,
 ) -> Result<(), Memory>
     requires { first + loops (tree_of body.now) ≤ length heads.old.items }
     ensures { AreResumedRounds (given frame.now) (tree_of body.now) locked first rounds here.old here.new
@@ -259,12 +259,12 @@ fn resume_rounds(
 #[cycle(resumes)]
 fn resume_round(
     alloc: Global,
-    frame: &Frame,
+    frame: &MethodContext,
     locked: bool,
     body: &Code,
     first: usize,
-    here: &mut Here,
-    heads: &mut Vec<Option<Here>>,
+    here: &mut FlowState,
+    heads: &mut Vec<Option<FlowState>>,
 ) -> Result<(usize, bool), Memory>
     requires { first + loops (tree_of body.now) ≤ length heads.old.items }
     ensures { IsRound (given frame.now) (tree_of body.now) locked first here.old here.new heads.old.items
@@ -284,7 +284,12 @@ fn resume_round(
 }
 
 /// The state where two ways meet that each go on or not; whether there is one.
-fn meet_ends(left_goes_on: bool, right_goes_on: bool, here: &mut Here, other: Here) -> bool
+fn meet_ends(
+    left_goes_on: bool,
+    right_goes_on: bool,
+    here: &mut FlowState,
+    other: FlowState,
+) -> bool
     ensures { next_of result here.new ≡ joined_next (next_of left_goes_on here.old) (next_of right_goes_on other) }
 {
     if !right_goes_on {
@@ -299,7 +304,7 @@ fn meet_ends(left_goes_on: bool, right_goes_on: bool, here: &mut Here, other: He
 }
 
 /// Joins the state in which a loop was left, if it was, with the values here.
-fn go_on(alloc: Global, left: &Option<Here>, here: &mut Here) -> Result<(), Memory>
+fn go_on(alloc: Global, left: &Option<FlowState>, here: &mut FlowState) -> Result<(), Memory>
     ensures { OnOk result (here.new ≡ entered left.now here.old) }
 {
     if let Some(left) = left {

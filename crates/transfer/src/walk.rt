@@ -1,7 +1,7 @@
 //! Code, from its beginning to its end.
 ghost use Rattle.std.specs.Prelude.{◌≡◌, map, replicate, IfOk, OnOk, [], None, true, false};
 ghost use Rattle.owner_domain.specs.Values.{joined_state, lost_state};
-ghost use Rattle.core_code.specs.Tree.{tree_of, in_sequence, Again};
+ghost use Rattle.core_code.specs.Tree.{tree_of, in_sequence, Loop};
 ghost use Rattle.access_domain.specs.Flow.{flow, joined_next, lost_next};
 ghost use Rattle.transfer.specs.Frames.{given};
 ghost use Rattle.transfer.specs.Marks.{IsMarked, marks};
@@ -10,10 +10,10 @@ ghost use Rattle.transfer.specs.NotedCalls.{AreFound};
 ghost use Rattle.transfer.specs.Walks.{IsFlow, AreRoundsDone, next_of};
 ghost use Rattle.transfer.specs.Heights.{IsHighEnough, AreSound};
 
+use crate::flow_state::FlowState;
 use crate::found::{Found, Stop};
-use crate::here::Here;
 use crate::noted_calls::NotedCall;
-use crate::operations::{Frame, operate};
+use crate::operations::{MethodContext, operate};
 use crate::resuming::{count_loops, resume};
 use core_code::Code;
 use indexmap::IndexSet;
@@ -24,12 +24,12 @@ use transfer_bodies::shortened;
 
 /// Goes through a piece of code; whether it goes on behind it.
 #[cycle(codes)]
-pub fn go(
+pub fn walk_code(
     alloc: Global,
-    frame: &Frame,
+    frame: &MethodContext,
     locked: bool,
     code: &Code,
-    here: &mut Here,
+    here: &mut FlowState,
     calls: &mut IndexSet<NotedCall>,
     found: &mut Found,
 ) -> Result<bool, Stop>
@@ -45,20 +45,22 @@ pub fn go(
             let Ok(mut other) = here.copied(alloc) else {
                 return Err(Stop::Memory);
             };
-            let left_goes_on = match go(alloc, frame, locked, left, here, calls, found) {
+            let left_goes_on = match walk_code(alloc, frame, locked, left, here, calls, found) {
                 Ok(goes_on) => goes_on,
                 Err(stop) => return Err(stop),
             };
-            let right_goes_on = match go(alloc, frame, locked, right, &mut other, calls, found) {
+            let right_goes_on = match walk_code(
+                alloc, frame, locked, right, &mut other, calls, found,
+            ) {
                 Ok(goes_on) => goes_on,
                 Err(stop) => return Err(stop),
             };
-            settle(alloc, left_goes_on, right_goes_on, here, other, found)
+            join_ends(alloc, left_goes_on, right_goes_on, here, other, found)
         }
         Code::Loop(body) => repeat(alloc, frame, locked, body, here, calls, found),
         Code::Sync(_, body) => {
             mem::drop(here.pop());
-            go(alloc, frame, true, body, here, calls, found)
+            walk_code(alloc, frame, true, body, here, calls, found)
         }
     }
 }
@@ -67,10 +69,10 @@ pub fn go(
 #[cycle(codes)]
 fn go_through(
     alloc: Global,
-    frame: &Frame,
+    frame: &MethodContext,
     locked: bool,
     parts: &[Code],
-    here: &mut Here,
+    here: &mut FlowState,
     calls: &mut IndexSet<NotedCall>,
     found: &mut Found,
 ) -> Result<bool, Stop>
@@ -81,7 +83,7 @@ fn go_through(
     ensures calls { OnOk result (AreFound (given frame.now) calls.new.keys found.new) }
 {
     for part in parts {
-        match go(alloc, frame, locked, part, here, calls, found) {
+        match walk_code(alloc, frame, locked, part, here, calls, found) {
             Ok(true) => {}
             Ok(false) => return Ok(false),
             Err(stop) => return Err(stop),
@@ -94,16 +96,16 @@ fn go_through(
 #[cycle(codes)]
 fn repeat(
     alloc: Global,
-    frame: &Frame,
+    frame: &MethodContext,
     locked: bool,
     body: &Code,
-    here: &mut Here,
+    here: &mut FlowState,
     calls: &mut IndexSet<NotedCall>,
     found: &mut Found,
 ) -> Result<bool, Stop>
-    requires high { IsHighEnough (Again (tree_of body.now)) here.old }
+    requires high { IsHighEnough (Loop (tree_of body.now)) here.old }
     requires calls { AreFound (given frame.now) calls.old.keys found.old }
-    ensures flow { IsFlow (flow (given frame.now) (Again (tree_of body.now)) locked here.old) here.new found.old found.new
+    ensures flow { IsFlow (flow (given frame.now) (Loop (tree_of body.now)) locked here.old) here.new found.old found.new
         result }
     ensures calls { OnOk result (AreFound (given frame.now) calls.new.keys found.new) }
 {
@@ -114,7 +116,7 @@ fn repeat(
     let Ok(mut end) = here.copied(alloc) else {
         return Err(Stop::Memory);
     };
-    let ended = go(alloc, frame, locked, body, &mut end, calls, found);
+    let ended = walk_code(alloc, frame, locked, body, &mut end, calls, found);
     mem::drop(end);
     match ended {
         Ok(_) => Ok(true),
@@ -125,16 +127,16 @@ fn repeat(
 /// The rounds of a loop, without the parts of its body that leave the values as they were.
 fn go_rounds(
     alloc: Global,
-    frame: &Frame,
+    frame: &MethodContext,
     locked: bool,
     body: &Code,
-    here: &mut Here,
+    here: &mut FlowState,
     found: &mut Found,
 ) -> Result<(), Stop>
-    requires high { IsHighEnough (Again (tree_of body.now)) here.old }
+    requires high { IsHighEnough (Loop (tree_of body.now)) here.old }
     ensures rounds { AreRoundsDone (flow (given frame.now) (tree_of body.now) locked) here.old here.new found.old
         found.new result }
-    ensures high { OnOk result (IsHighEnough (Again (tree_of body.now)) here.new) }
+    ensures high { OnOk result (IsHighEnough (Loop (tree_of body.now)) here.new) }
 {
     let Ok(short) = shortened(alloc, body, here.height()) else {
         return Err(Stop::Memory);
@@ -147,13 +149,13 @@ fn go_rounds(
 /// The rounds of a loop with this body, up to the first that leaves the values as they were.
 fn go_through_rounds(
     alloc: Global,
-    frame: &Frame,
+    frame: &MethodContext,
     locked: bool,
     body: &Code,
-    here: &mut Here,
+    here: &mut FlowState,
     found: &mut Found,
 ) -> Result<(), Stop>
-    requires high { IsHighEnough (Again (tree_of body.now)) here.old }
+    requires high { IsHighEnough (Loop (tree_of body.now)) here.old }
     ensures { AreRoundsDone (flow (given frame.now) (tree_of body.now) locked) here.old here.new found.old
         found.new result }
 {
@@ -174,7 +176,7 @@ fn go_through_rounds(
 }
 
 /// So many loops that were not come to yet.
-fn no_heads(alloc: Global, count: usize) -> Result<Vec<Option<Here>>, Memory>
+fn no_heads(alloc: Global, count: usize) -> Result<Vec<Option<FlowState>>, Memory>
     ensures { IfOk result (λ heads. heads.items ≡ replicate count None) }
 {
     let mut heads = Vec::new(alloc);
@@ -189,14 +191,14 @@ fn no_heads(alloc: Global, count: usize) -> Result<Vec<Option<Here>>, Memory>
 /// One round of a loop, of which the lost paths alone are noted; whether it changed the values.
 fn go_round(
     alloc: Global,
-    frame: &Frame,
+    frame: &MethodContext,
     locked: bool,
     body: &Code,
-    here: &mut Here,
-    heads: &mut Vec<Option<Here>>,
+    here: &mut FlowState,
+    heads: &mut Vec<Option<FlowState>>,
     found: &mut Found,
 ) -> Result<bool, Stop>
-    requires high { IsHighEnough (Again (tree_of body.now)) here.old }
+    requires high { IsHighEnough (Loop (tree_of body.now)) here.old }
     requires sound { AreSound (given frame.now) (tree_of body.now) locked heads.old.items here.old }
     ensures state { OnOk result (here.new
         ≡ round_next here.old (flow (given frame.now) (tree_of body.now) locked here.old).next) }
@@ -205,7 +207,7 @@ fn go_round(
         (marks [] (round_lost here.old (flow (given frame.now) (tree_of body.now) locked here.old).next)) found.new
         result }
     ensures sound { OnOk result (AreSound (given frame.now) (tree_of body.now) locked heads.new.items here.new) }
-    ensures high { OnOk result (IsHighEnough (Again (tree_of body.now)) here.new) }
+    ensures high { OnOk result (IsHighEnough (Loop (tree_of body.now)) here.new) }
 {
     let Ok(mut end) = here.copied(alloc) else {
         return Err(Stop::Memory);
@@ -220,12 +222,12 @@ fn go_round(
 }
 
 /// Goes on from the ends of two ways, those that have one; whether there is one.
-fn settle(
+fn join_ends(
     alloc: Global,
     left_goes_on: bool,
     right_goes_on: bool,
-    here: &mut Here,
-    other: Here,
+    here: &mut FlowState,
+    other: FlowState,
     found: &mut Found,
 ) -> Result<bool, Stop>
     ensures state { IfOk result (λ goes_on. next_of goes_on here.new
@@ -247,7 +249,12 @@ fn settle(
 }
 
 /// Joins the values here with others, and notes the paths that are lost; whether that changed the values.
-fn meet(alloc: Global, here: &mut Here, other: Here, found: &mut Found) -> Result<bool, Stop>
+fn meet(
+    alloc: Global,
+    here: &mut FlowState,
+    other: FlowState,
+    found: &mut Found,
+) -> Result<bool, Stop>
     ensures state { OnOk result (here.new ≡ joined_state here.old other) }
     ensures unchanged { IfOk result (λ changed. changed ≡ false → here.new ≡ here.old) }
     ensures found { IsMarked found.old (marks [] (lost_state here.old other)) found.new result }

@@ -3,7 +3,7 @@ ghost use Rattle.std.specs.Prelude.{◌≡◌, ◌<◌, IfOk, IsTrue, OnOk, opti
 ghost use Rattle.std.specs.Arc.{arc_value};
 ghost use Rattle.core_code.specs.Calls.{is_analysed};
 ghost use Rattle.core_code.specs.Program.{core, methods};
-ghost use Rattle.core_code.specs.Rows.{AreRowsOf};
+ghost use Rattle.core_code.specs.CalleeRows.{AreRowsOf};
 ghost use Rattle.access_domain.specs.Outcomes.{AreOutcomes};
 ghost use Rattle.access_domain.specs.Summaries.{outcome_of};
 ghost use Rattle.transfer.specs.Callees.{AreCallees};

@@ -7,9 +7,9 @@ use Rattle.racer_base.specs.declared.ids.Place.{Place}
 use Rattle.access_paths.specs.declared.path.Path.{Path}
 use Rattle.owner_domain.specs.declared.value.State.{State}
 use Rattle.owner_domain.specs.Values.{joined_state, lost_state}
-use Rattle.core_code.specs.Tree.{Tree, Nothing, Then, Either, Again, Held, in_sequence}
+use Rattle.core_code.specs.Tree.{Tree, Skip, Seq, Choice, Loop, Sync, in_sequence}
 use Rattle.core_code.specs.Facts.{same_height, height_after}
-use Rattle.access_domain.specs.Given.{Given}
+use Rattle.access_domain.specs.Given.{FlowContext}
 use Rattle.access_domain.specs.Operations.{Effects, popped}
 use Rattle.access_domain.specs.Flow.{flow, rounds, joined_next}
 use Rattle.transfer_loops.specs.Rounds.{round_next, round_lost, rounds_of}
@@ -35,17 +35,17 @@ same_rest (Some t) f f' same = same t refl
 abbrev height_then : Option ℕ → Tree → Option ℕ
 height_then o rest = elim o as (λ _. Option ℕ) [ None ↦ None | Some k ↦ height_after rest k ]
 
-next_then : (g : Given) (a b : Tree) (locked : Bool) (s : State) →
-    (flow g (Then a b) locked s).next ≡ after_next (flow g a locked s).next (λ t. (flow g b locked t).next)
+next_then : (g : FlowContext) (a b : Tree) (locked : Bool) (s : State) →
+    (flow g (Seq a b) locked s).next ≡ after_next (flow g a locked s).next (λ t. (flow g b locked t).next)
 next_then g a b locked s = next-after (flow g a locked s) (flow g b locked) (flow g a locked s).next refl
 
-high : (g : Given) (a : Tree) (locked : Bool) (h k : ℕ) (s t : State) → height_after a h ≡ Some k →
+high : (g : FlowContext) (a : Tree) (locked : Bool) (h k : ℕ) (s t : State) → height_after a h ≡ Some k →
     length s.stack ≡ h → (flow g a locked s).next ≡ Some t → length t.stack ≡ k
 high g a locked h k s t e long is =
     (flow-sized g a locked (length s.vars) h k s t e (record { vars = refl; stack = long }) is).stack
 
 pub shorter-then : (h k m : ℕ) (a b c d : Tree) → IsShorter h k a c → IsShorter k m b d →
-    IsShorter h m (Then a b) (Then c d)
+    IsShorter h m (Seq a b) (Seq c d)
 shorter-then h k m a b c d p q =
     record {
       height = ap (λ o. height_then o b) p.height ∙ q.height;
@@ -62,7 +62,7 @@ same_itself : (k : ℕ) → same_height (Some k) (Some k) ≡ Some k
 same_itself k = ap (λ b. cond b (Some k) None) (eq-eqb k k refl)
 
 pub shorter-either : (h k : ℕ) (a b c d : Tree) → IsShorter h k a c → IsShorter h k b d →
-    IsShorter h k (Either a b) (Either c d)
+    IsShorter h k (Choice a b) (Choice c d)
 shorter-either h k a b c d p q =
     record {
       height = (λ i. same_height (p.height i) (q.height i)) ∙ same_itself k;
@@ -70,7 +70,7 @@ shorter-either h k a b c d p q =
     }
 
 pub shorter-held : (h k : ℕ) (place : Place) (a c : Tree) → nat_le 1 h ≡ true → IsShorter (h - 1) k a c →
-    IsShorter h k (Held place a) (Held place c)
+    IsShorter h k (Sync place a) (Sync place c)
 shorter-held h k place a c e p =
     record {
       height = ap (λ b. cond b (height_after a (h - 1)) None) e ∙ p.height;
@@ -94,7 +94,7 @@ rounds_turn body n s = turn (body s).next
     turn (Some end) = refl
 
 -- rounds over a shorter body are those over the body
-pub same_rounds : (g : Given) (locked : Bool) (h : ℕ) (a c : Tree) → IsShorter h h a c → (n : ℕ) (s : State) →
+pub same_rounds : (g : FlowContext) (locked : Bool) (h : ℕ) (a c : Tree) → IsShorter h h a c → (n : ℕ) (s : State) →
     length s.stack ≡ h → rounds (flow g a locked) n s ≡ rounds (flow g c locked) n s
 same_rounds g locked h a c p zero s long = refl
 same_rounds g locked h a c p (suc n) s long =
@@ -113,7 +113,7 @@ same_rounds g locked h a c p (suc n) s long =
     (p.next g locked s long)
     ∙ sym (rounds_turn whole n s)
 
-pub shorter-again : (h : ℕ) (a c : Tree) → IsShorter h h a c → IsShorter h h (Again a) (Again c)
+pub shorter-again : (h : ℕ) (a c : Tree) → IsShorter h h a c → IsShorter h h (Loop a) (Loop c)
 shorter-again h a c p =
     record {
       height = ap (same_height (Some h)) p.height ∙ same_itself h;
@@ -139,7 +139,7 @@ after_twice : (o : Option State) (f f' rest : State → Option State) →
 after_twice None f f' rest each = refl
 after_twice (Some t) f f' rest each = each t
 
-next_apart : (g : Given) (xs ys : List Tree) (locked : Bool) (s : State) →
+next_apart : (g : FlowContext) (xs ys : List Tree) (locked : Bool) (s : State) →
     (flow g (in_sequence (xs ++ ys)) locked s).next
     ≡ after_next (flow g (in_sequence xs) locked s).next (λ t. (flow g (in_sequence ys) locked t).next)
 next_apart g [] ys locked s = refl
@@ -168,7 +168,7 @@ shorter-apart h k m xs ys us vs p q =
 
 shorter-alone : (k m : ℕ) (a c : Tree) → IsShorter k m a c →
     IsShorter k m (in_sequence (a ∷ [])) (in_sequence (c ∷ []))
-shorter-alone k m a c p = shorter-then k m m a Nothing c Nothing p (shorter-itself m m Nothing refl)
+shorter-alone k m a c p = shorter-then k m m a Skip c Skip p (shorter-itself m m Skip refl)
 
 -- one part more
 pub shorter-more : (h k m : ℕ) (xs us : List Tree) (a c : Tree) → IsShorter h k (in_sequence xs) (in_sequence us) →

@@ -8,12 +8,12 @@ use Rattle.owner_domain.specs.declared.value.Value.TheVariants.{Unnamed}
 use Rattle.owner_domain.specs.declared.value.State.{State}
 use Rattle.owner_domain.specs.Values.{joined_values}
 use Rattle.owner_domain.specs.SameValue.{same_value-itself}
-use Rattle.core_code.specs.Tree.{Tree, Step, Nothing, Then, Either, Again, Held}
+use Rattle.core_code.specs.Tree.{Tree, Op, Skip, Seq, Choice, Loop, Sync}
 use Rattle.core_code.specs.Facts.{height_after}
 use Rattle.core_code.specs.declared.code.Op.{Op as CoreOp}
 use Rattle.core_code.specs.declared.code.Op.TheVariants.{Push, PushClass, PushPrim, PushNull, New, Dup, Drop, Get, Put}
 use Rattle.core_code.specs.declared.code.Op.TheVariants.{Set, Prim as PrimOp, Outside, Call, Unread, Ret}
-use Rattle.access_domain.specs.Given.{Given}
+use Rattle.access_domain.specs.Given.{FlowContext}
 use Rattle.access_domain.specs.Findings.{Known, Large, Whole}
 use Rattle.access_domain.specs.Operations.{op_effects, call_effects, popped}
 use Rattle.access_domain.specs.Flow.{flow, joined_next}
@@ -28,13 +28,13 @@ abbrev EndsWith : List Value → Option State → Type 0
 EndsWith vars None = ⊥
 EndsWith vars (Some t) = t.vars ≡ vars
 
-still-call : (g : Given) (locked : Bool) (site : SiteId) (m : MethodId) (n : ℕ) (o : Option Known) (s : State) →
+still-call : (g : FlowContext) (locked : Bool) (site : SiteId) (m : MethodId) (n : ℕ) (o : Option Known) (s : State) →
     EndsWith s.vars (call_effects g locked site m n s o).next
 still-call g locked site m n None s = refl
 still-call g locked site m n (Some Large) s = refl
 still-call g locked site m n (Some (Whole found)) s = refl
 
-still-op : (g : Given) (locked : Bool) (site : SiteId) (op : CoreOp) (s : State) → is_still_op op ≡ true →
+still-op : (g : FlowContext) (locked : Bool) (site : SiteId) (op : CoreOp) (s : State) → is_still_op op ≡ true →
     EndsWith s.vars (op_effects g locked site op s).next
 still-op g locked site (Push v) s e = refl
 still-op g locked site (PushClass c) s e = refl
@@ -84,26 +84,26 @@ both_hold true true e = (refl, refl)
 both_hold true false e = cc
 both_hold false b e = cc
 
-still-flow : (g : Given) (code : Tree) (locked : Bool) (vars : List Value) (s : State) → is_still code ≡ true →
+still-flow : (g : FlowContext) (code : Tree) (locked : Bool) (vars : List Value) (s : State) → is_still code ≡ true →
     s.vars ≡ vars → EndsWith vars (flow g code locked s).next
-still-flow g (Step site place op) locked vars s e same =
+still-flow g (Op site place op) locked vars s e same =
     subst (λ (vs : List Value). EndsWith vs (op_effects g locked site op s).next) same (still-op g locked site op s e)
-still-flow g Nothing locked vars s e same = same
-still-flow g (Then first rest) locked vars s e same =
+still-flow g Skip locked vars s e same = same
+still-flow g (Seq first rest) locked vars s e same =
     let both = both_hold (is_still first) (is_still rest) e in
     let o = (flow g first locked s).next in
     subst (EndsWith vars) (sym (next-after (flow g first locked s) (flow g rest locked) o refl))
     (still-then vars o (λ t. (flow g rest locked t).next) (still-flow g first locked vars s both.0 same)
     (λ t is. still-flow g rest locked vars t both.1 is))
-still-flow g (Either left right) locked vars s e same =
+still-flow g (Choice left right) locked vars s e same =
     let both = both_hold (is_still left) (is_still right) e in
     still-joined vars (flow g left locked s).next (flow g right locked s).next
     (still-flow g left locked vars s both.0 same) (still-flow g right locked vars s both.1 same)
-still-flow g (Again body) locked vars s e same =
+still-flow g (Loop body) locked vars s e same =
     let f : State → Option State = λ t. (flow g body locked t).next in
     ap (λ (t : State). t.vars) (rounds-state (flow g body locked) (rounds_of s) s)
     ∙ still-rounds vars f (λ t is. still-flow g body locked vars t e is) (rounds_of s) s same
-still-flow g (Held place body) locked vars s e same = still-flow g body true vars (popped s 1) e same
+still-flow g (Sync place body) locked vars s e same = still-flow g body true vars (popped s 1) e same
 
 no_values : (vs : List Value) → length vs ≡ 0 → vs ≡ []
 no_values [] e = refl
@@ -114,7 +114,7 @@ same_ends s t vars none no_more =
     (λ i. record { vars = vars i; stack = (no_values t.stack no_more ∙ sym (no_values s.stack none)) i })
 
 -- still code from an empty stack to an empty one
-pub still-end : (g : Given) (code : Tree) (locked : Bool) (s : State) → is_still code ≡ true →
+pub still-end : (g : FlowContext) (code : Tree) (locked : Bool) (s : State) → is_still code ≡ true →
     height_after code 0 ≡ Some 0 → length s.stack ≡ 0 → (flow g code locked s).next ≡ Some s
 still-end g code locked s e height none =
     elim (flow g code locked s).next as (λ o. (flow g code locked s).next ≡ o → EndsWith s.vars o → o ≡ Some s) [

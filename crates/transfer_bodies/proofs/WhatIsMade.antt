@@ -8,9 +8,9 @@ use Rattle.racer_base.specs.declared.ids.Place.{Place}
 use Rattle.racer_base.specs.declared.Memory.{Memory}
 use Rattle.owner_domain.specs.declared.value.State.{State}
 use Rattle.core_code.specs.declared.code.Code.{Code}
-use Rattle.core_code.specs.Tree.{Tree, Nothing, Then, Either, Again, Held, tree_of, in_sequence}
+use Rattle.core_code.specs.Tree.{Tree, Skip, Seq, Choice, Loop, Sync, tree_of, in_sequence}
 use Rattle.core_code.specs.Facts.{height_after}
-use Rattle.access_domain.specs.Given.{Given}
+use Rattle.access_domain.specs.Given.{FlowContext}
 use Rattle.access_domain.specs.Flow.{flow}
 use Rattle.transfer_loops.proofs.Heights.{then_heights, either_heights, loop_heights, held_heights}
 use Rattle.transfer_bodies.specs.declared.kept.Kept.{Kept}
@@ -34,15 +34,15 @@ short-made from to code made height still short is high same e p keep =
 
 pub shortened-choice : (from : ℕ) (left right : Tree) (a b : Short) (r : Result Short Memory) →
     IsShortened from left a → IsShortened from right b →
-    IfOk r (λ short. tree_of short.code ≡ Either (tree_of a.code) (tree_of b.code)) →
+    IfOk r (λ short. tree_of short.code ≡ Choice (tree_of a.code) (tree_of b.code)) →
     IfOk r (λ short. short.height ≡ a.height) → IfOk r (λ short. short.is_still ≡ (a.is_still && b.is_still)) →
-    IfOk r (λ short. IsShortened from (Either left right) short)
+    IfOk r (λ short. IsShortened from (Choice left right) short)
 shortened-choice from left right a b (Err error) p q is high same = tt
 shortened-choice from left right a b (Ok short) p q is high same = λ to e.
     let parts = either_heights left right from to e in
     let one = p to parts.0 in
     let two = q to parts.1 in
-    short-made from to (Either left right) (Either (tree_of a.code) (tree_of b.code)) a.height
+    short-made from to (Choice left right) (Choice (tree_of a.code) (tree_of b.code)) a.height
     (a.is_still && b.is_still) short is high same one.height
     (shorter-either from to (tree_of a.code) (tree_of b.code) left right one.shorter two.shorter)
     (λ f.
@@ -50,17 +50,17 @@ shortened-choice from left right a b (Ok short) p q is high same = λ to e.
     both_are (is_still (tree_of a.code)) (is_still (tree_of b.code)) (one.still both.0) (two.still both.1))
 
 pub shortened-loop : (from : ℕ) (body : Tree) (a : Short) (r : Result Short Memory) → IsShortened from body a →
-    IfOk r (λ short. tree_of short.code ≡ Again (tree_of a.code)) → IfOk r (λ short. short.height ≡ a.height) →
-    IfOk r (λ short. short.is_still ≡ a.is_still) → IfOk r (λ short. IsShortened from (Again body) short)
+    IfOk r (λ short. tree_of short.code ≡ Loop (tree_of a.code)) → IfOk r (λ short. short.height ≡ a.height) →
+    IfOk r (λ short. short.is_still ≡ a.is_still) → IfOk r (λ short. IsShortened from (Loop body) short)
 shortened-loop from body a (Err error) p is high same = tt
 shortened-loop from body a (Ok short) p is high same = λ to e.
     let parts = loop_heights body from to e in
     let one = p from parts.1 in
-    subst (λ (n : ℕ). IsShort from n (Again body) short) parts.0
-    (short-made from from (Again body) (Again (tree_of a.code)) a.height a.is_still short is high same one.height
+    subst (λ (n : ℕ). IsShort from n (Loop body) short) parts.0
+    (short-made from from (Loop body) (Loop (tree_of a.code)) a.height a.is_still short is high same one.height
     (shorter-again from (tree_of a.code) body one.shorter) one.still)
 
-held_some : (place : Place) (body : Tree) (h k : ℕ) → height_after (Held place body) h ≡ Some k → nat_le 1 h ≡ true
+held_some : (place : Place) (body : Tree) (h k : ℕ) → height_after (Sync place body) h ≡ Some k → nat_le 1 h ≡ true
 held_some place body h k e =
     elim (nat_le 1 h) as (λ b. cond b (height_after body (h - 1)) None ≡ Some k → b ≡ true) [
       | true ↦ λ f. refl
@@ -68,13 +68,13 @@ held_some place body h k e =
     ] e
 
 pub shortened-held : (from : ℕ) (place : Place) (body : Tree) (a : Short) (r : Result Short Memory) →
-    IsShortened (from - 1) body a → IfOk r (λ short. tree_of short.code ≡ Held place (tree_of a.code)) →
+    IsShortened (from - 1) body a → IfOk r (λ short. tree_of short.code ≡ Sync place (tree_of a.code)) →
     IfOk r (λ short. short.height ≡ a.height) → IfOk r (λ short. short.is_still ≡ a.is_still) →
-    IfOk r (λ short. IsShortened from (Held place body) short)
+    IfOk r (λ short. IsShortened from (Sync place body) short)
 shortened-held from place body a (Err error) p is high same = tt
 shortened-held from place body a (Ok short) p is high same = λ to e.
     let one = p to (held_heights place body from to e) in
-    short-made from to (Held place body) (Held place (tree_of a.code)) a.height a.is_still short is high same one.height
+    short-made from to (Sync place body) (Sync place (tree_of a.code)) a.height a.is_still short is high same one.height
     (shorter-held from to place (tree_of a.code) body (held_some place body from to e) one.shorter) one.still
 
 -- ---- the parts of a sequence in turn
@@ -107,9 +107,9 @@ pub walks-on : (from : ℕ) (parts : List Code) (i : ℕ) (part : Code) (old new
 walks-on from parts i part old new short within is w p keep high to e =
     let at = w to e in
     let rest = in_sequence (map tree_of (drop (i + 1) parts)) in
-    let turn : in_sequence (map tree_of (drop i parts)) ≡ Then (tree_of part) rest =
+    let turn : in_sequence (map tree_of (drop i parts)) ≡ Seq (tree_of part) rest =
     at_drop_more (λ ps. in_sequence (map tree_of ps)) parts i part within
-    ∙ ap (λ (c : Code). Then (tree_of c) rest) (sym is) in
+    ∙ ap (λ (c : Code). Seq (tree_of c) rest) (sym is) in
     let heights = then_heights (tree_of part) rest old.height to
     (ap (λ (t : Tree). height_after t old.height) (sym turn) ∙ at.left) in
     let one = p heights.0 heights.1 in
@@ -128,7 +128,7 @@ pub walks-all : (from : ℕ) (parts : List Code) (i : ℕ) (kept : Kept) (short 
     IsShort begin end (in_sequence done) short) → IsShortened from (in_sequence (map tree_of parts)) short
 walks-all from parts i kept short all w join to e =
     let at = w to e in
-    let none : in_sequence (map tree_of (drop i parts)) ≡ Nothing =
+    let none : in_sequence (map tree_of (drop i parts)) ≡ Skip =
     at_drop_all (λ ps. in_sequence (map tree_of ps)) parts i all in
     let end : kept.height ≡ to =
     some_same kept.height to (ap (λ (t : Tree). height_after t kept.height) (sym none) ∙ at.left) in
@@ -146,7 +146,7 @@ shortened-height from code short p e =
     let m = some_of (height_after code from) e in
     (p m.0 m.1).shorter.height ∙ sym m.1
 
-pub shortened-next : (from : ℕ) (code : Tree) (short : Short) → IsShortened from code short → (g : Given)
+pub shortened-next : (from : ℕ) (code : Tree) (short : Short) → IsShortened from code short → (g : FlowContext)
     (locked : Bool) (s : State) → length s.stack ≡ from → is_some (height_after code from) ≡ true →
     (flow g (tree_of short.code) locked s).next ≡ (flow g code locked s).next
 shortened-next from code short p g locked s long e =

@@ -3,7 +3,7 @@ use Rattle.std.specs.Prelude.{◌≡◌, ℕ, Bool, true, List, ◌++◌, Option
 use Rattle.owner_domain.specs.declared.value.State.{State}
 use Rattle.core_code.specs.Tree.{Tree, tree_of, in_sequence}
 use Rattle.core_code.specs.Facts.{height_after}
-use Rattle.access_domain.specs.Given.{Given}
+use Rattle.access_domain.specs.Given.{FlowContext}
 use Rattle.access_domain.specs.Flow.{flow}
 use Rattle.transfer_bodies.specs.declared.kept.Kept.{Kept}
 use Rattle.transfer_bodies.specs.declared.kept.Short.{Short}
@@ -12,7 +12,7 @@ use Rattle.transfer_bodies.specs.Still.{is_still}
 -- from a stack of the first height the short code ends in the same state as the code, and at the second height
 pub record IsShorter (from to : ℕ) (short code : Tree) : Type 0 where
   pub height : height_after short from ≡ Some to
-  pub next : (g : Given) (locked : Bool) (s : State) → length s.stack ≡ from →
+  pub next : (g : FlowContext) (locked : Bool) (s : State) → length s.stack ≡ from →
       (flow g short locked s).next ≡ (flow g code locked s).next
 
 -- what is made of code that begins at one height and ends at another

@@ -1,9 +1,10 @@
 //! Code made shorter, for those who ask for the state at its end alone.
 ghost use Rattle.std.specs.Prelude.{◌≡◌, ◌&&◌, Bool, true, map, length, is_some, IfOk};
 ghost use Rattle.owner_domain.specs.declared.value.State.{State};
-ghost use Rattle.core_code.specs.Tree.{tree_of, in_sequence, Step, Either, Again, Held};
+ghost use Rattle.core_code.specs.Tree.{tree_of, in_sequence};
+ghost use Rattle.core_code.specs.Tree as tree;
 ghost use Rattle.core_code.specs.Facts as heights;
-ghost use Rattle.access_domain.specs.Given.{Given};
+ghost use Rattle.access_domain.specs.Given.{FlowContext};
 ghost use Rattle.access_domain.specs.Flow.{flow};
 ghost use Rattle.transfer_bodies.specs.Shortening.{IsShortened};
 ghost use Rattle.transfer_bodies.specs.Still.{is_still_op};
@@ -45,7 +46,7 @@ fn is_still(op: Op) -> bool
 
 /// One operation, where the stack has this height.
 fn operation(site: SiteId, place: Place, op: Op, height: usize) -> Result<Short, Memory>
-    ensures { IfOk result (λ short. IsShortened height (Step site place op) short) }
+    ensures { IfOk result (λ short. IsShortened height (tree.Op site place op) short) }
 {
     let Some(behind) = height.saturating_sub(pops(op)).checked_add(pushes(op)) else {
         return Err(Memory);
@@ -59,7 +60,7 @@ fn operation(site: SiteId, place: Place, op: Op, height: usize) -> Result<Short,
 
 /// One of two that begin at one height.
 fn choice(alloc: Global, left: Short, right: Short) -> Result<Short, Memory>
-    ensures code { IfOk result (λ short. tree_of short.code ≡ Either (tree_of left.code) (tree_of right.code)) }
+    ensures code { IfOk result (λ short. tree_of short.code ≡ tree.Choice (tree_of left.code) (tree_of right.code)) }
     ensures height { IfOk result (λ short. short.height ≡ left.height) }
     ensures still { IfOk result (λ short. short.is_still ≡ (left.is_still && right.is_still)) }
 {
@@ -80,7 +81,7 @@ fn choice(alloc: Global, left: Short, right: Short) -> Result<Short, Memory>
 
 /// A loop with this body.
 fn repeated(alloc: Global, body: Short) -> Result<Short, Memory>
-    ensures code { IfOk result (λ short. tree_of short.code ≡ Again (tree_of body.code)) }
+    ensures code { IfOk result (λ short. tree_of short.code ≡ tree.Loop (tree_of body.code)) }
     ensures height { IfOk result (λ short. short.height ≡ body.height) }
     ensures still { IfOk result (λ short. short.is_still ≡ body.is_still) }
 {
@@ -96,7 +97,7 @@ fn repeated(alloc: Global, body: Short) -> Result<Short, Memory>
 
 /// This body under a lock.
 fn locked(alloc: Global, place: Place, body: Short) -> Result<Short, Memory>
-    ensures code { IfOk result (λ short. tree_of short.code ≡ Held place (tree_of body.code)) }
+    ensures code { IfOk result (λ short. tree_of short.code ≡ tree.Sync place (tree_of body.code)) }
     ensures height { IfOk result (λ short. short.height ≡ body.height) }
     ensures still { IfOk result (λ short. short.is_still ≡ body.is_still) }
 {
@@ -162,7 +163,7 @@ fn shorten_all(alloc: Global, parts: &[Code], height: usize) -> Result<Short, Me
 /// The parts of code that can change the state, where it begins with a stack of this height. Statements that set no
 /// variable and do not return are left out.
 pub fn shortened(alloc: Global, code: &Code, height: usize) -> Result<Code, Memory>
-    ensures next { IfOk result (λ short. (g : Given) (locked : Bool) (s : State) → length s.stack ≡ height →
+    ensures next { IfOk result (λ short. (g : FlowContext) (locked : Bool) (s : State) → length s.stack ≡ height →
         is_some (heights.height_after (tree_of code.now) height) ≡ true →
         (flow g (tree_of short) locked s).next ≡ (flow g (tree_of code.now) locked s).next) }
     ensures height { IfOk result (λ short. is_some (heights.height_after (tree_of code.now) height) ≡ true →

@@ -8,12 +8,12 @@ use Rattle.racer_base.specs.declared.ids.MethodId.{MethodId}
 use Rattle.owner_domain.specs.declared.value.Value.{Value}
 use Rattle.owner_domain.specs.declared.value.State.{State}
 use Rattle.owner_domain.specs.Values.{joined_values, joined_state}
-use Rattle.core_code.specs.Tree.{Tree, Step, Nothing, Then, Either, Again, Held}
+use Rattle.core_code.specs.Tree.{Tree, Op, Skip, Seq, Choice, Loop, Sync}
 use Rattle.core_code.specs.Facts.{pops, pushes, same_height, height_after}
 use Rattle.core_code.specs.declared.code.Op.{Op as CoreOp}
 use Rattle.core_code.specs.declared.code.Op.TheVariants.{Push, PushClass, PushPrim, PushNull, New, Dup, Drop, Get, Put}
 use Rattle.core_code.specs.declared.code.Op.TheVariants.{Set, Prim as PrimOp, Outside, Call, Unread, Ret}
-use Rattle.access_domain.specs.Given.{Given}
+use Rattle.access_domain.specs.Given.{FlowContext}
 use Rattle.access_domain.specs.Findings.{Known, Large, Whole}
 use Rattle.access_domain.specs.Operations.{pushed, popped, replaced, op_effects, call_effects}
 use Rattle.access_domain.specs.Flow.{flow, rounds, joined_next}
@@ -49,7 +49,7 @@ sized_replace : (v h k n : ℕ) (s t : State) (a : Value) → IsSized v h s → 
 sized_replace v h k n s t a p e is = let less : IsSized v (h - n) (popped s n) =
     sized_pop v h (h - n) n s (popped s n) p refl refl in sized_push v (h - n) k (popped s n) t a less e is
 
-sized_call : (g : Given) (locked : Bool) (site : SiteId) (m : MethodId) (n : ℕ) (o : Option Known) (v h k : ℕ)
+sized_call : (g : FlowContext) (locked : Bool) (site : SiteId) (m : MethodId) (n : ℕ) (o : Option Known) (v h k : ℕ)
     (s t : State) → IsSized v h s → h - n + 1 ≡ k → (call_effects g locked site m n s o).next ≡ Some t → IsSized v k t
 sized_call g locked site m n None v h k s t p e is = sized_replace v h k n s t _ p e is
 sized_call g locked site m n (Some Large) v h k s t p e is = sized_replace v h k n s t _ p e is
@@ -60,7 +60,7 @@ sized_set : (v h k : ℕ) (s t : State) (vars : List Value) → length vars ≡ 
 sized_set v h k s t vars long p e is = let same : (let made : State = record { vars = vars; stack = s.stack } in
     made) ≡ t = cc in subst (IsSized v k) same (record { vars = long ∙ p.vars; stack = p.stack ∙ e })
 
-sized_op : (g : Given) (locked : Bool) (site : SiteId) (op : CoreOp) (v h k : ℕ) (s t : State) → IsSized v h s →
+sized_op : (g : FlowContext) (locked : Bool) (site : SiteId) (op : CoreOp) (v h k : ℕ) (s t : State) → IsSized v h s →
     cond (nat_le (pops op) h) (Some (h - pops op + pushes op)) None ≡ Some k →
     (op_effects g locked site op s).next ≡ Some t → IsSized v k t
 sized_op g locked site (Push x) v h k s t p e is = let r = if_some (nat_le 0 h) (h - 0 + 1) k e in
@@ -95,7 +95,7 @@ sized_op g locked site (Unread m n) v h k s t p e is =
 sized_op g locked site Ret v h k s t p e is = cc
 
 -- ---- heights of parts
-pub then_heights : (first rest : Tree) (h k : ℕ) → height_after (Then first rest) h ≡ Some k → (m : ℕ)
+pub then_heights : (first rest : Tree) (h k : ℕ) → height_after (Seq first rest) h ≡ Some k → (m : ℕ)
     × (height_after first h ≡ Some m) × (height_after rest m ≡ Some k)
 then_heights first rest h k e = elim (height_after first h)
     as (λ o. height_after first h ≡ o → (elim o as (λ _. Option ℕ) [ None ↦ None | Some m ↦ height_after rest m ])
@@ -108,19 +108,19 @@ same_heights (Some a) None k e = cc
 same_heights (Some a) (Some b) k e = let r = if_some (nat_eq a b) a k e in
     (ap Some r.1, ap Some (sym (eqb-true a b r.0) ∙ r.1))
 
-pub either_heights : (left right : Tree) (h k : ℕ) → height_after (Either left right) h ≡ Some k →
+pub either_heights : (left right : Tree) (h k : ℕ) → height_after (Choice left right) h ≡ Some k →
     (height_after left h ≡ Some k) × (height_after right h ≡ Some k)
 either_heights left right h k e = same_heights (height_after left h) (height_after right h) k e
 
 some_same : (a b : ℕ) → Some a ≡ Some b → a ≡ b
 some_same a b e = cc
 
-pub loop_heights : (body : Tree) (h k : ℕ) → height_after (Again body) h ≡ Some k → (h ≡ k)
+pub loop_heights : (body : Tree) (h k : ℕ) → height_after (Loop body) h ≡ Some k → (h ≡ k)
     × (height_after body h ≡ Some h)
 loop_heights body h k e = let r = same_heights (Some h) (height_after body h) k e in
     let same : h ≡ k = some_same h k r.0 in (same, r.1 ∙ ap Some (sym same))
 
-pub held_heights : (place : Place) (body : Tree) (h k : ℕ) → height_after (Held place body) h ≡ Some k →
+pub held_heights : (place : Place) (body : Tree) (h k : ℕ) → height_after (Sync place body) h ≡ Some k →
     height_after body (h - 1) ≡ Some k
 held_heights place body h k e = elim (nat_le 1 h)
     as (λ b. cond b (height_after body (h - 1)) None ≡ Some k → height_after body (h - 1) ≡ Some k)
@@ -166,25 +166,25 @@ sized_then : (v k : ℕ) (o : Option State) (f : State → Option State) (t : St
 sized_then v k None f t P first rest is = cc
 sized_then v k (Some u) f t P first rest is = rest u (first u refl) is
 
-pub flow-sized : (g : Given) (code : Tree) (locked : Bool) (v h k : ℕ) (s t : State) →
+pub flow-sized : (g : FlowContext) (code : Tree) (locked : Bool) (v h k : ℕ) (s t : State) →
     height_after code h ≡ Some k → IsSized v h s → (flow g code locked s).next ≡ Some t → IsSized v k t
-flow-sized g (Step site place op) locked v h k s t e p is = sized_op g locked site op v h k s t p e is
-flow-sized g Nothing locked v h k s t e p is = let same : s ≡ t = cc in let high : h ≡ k = some_same h k e in
+flow-sized g (Op site place op) locked v h k s t e p is = sized_op g locked site op v h k s t p e is
+flow-sized g Skip locked v h k s t e p is = let same : s ≡ t = cc in let high : h ≡ k = some_same h k e in
     subst (IsSized v k) same (subst (λ (n : ℕ). IsSized v n s) high p)
-flow-sized g (Then first rest) locked v h k s t e p is = let m = then_heights first rest h k e in
+flow-sized g (Seq first rest) locked v h k s t e p is = let m = then_heights first rest h k e in
     sized_then v k (flow g first locked s).next (λ x. (flow g rest locked x).next) t (IsSized v m.0)
     (λ u f. flow-sized g first locked v h m.0 s u m.1 p f) (λ u q f. flow-sized g rest locked v m.0 k u t m.2 q f)
     (sym (next-after (flow g first locked s) (flow g rest locked) (flow g first locked s).next refl) ∙ is)
-flow-sized g (Either left right) locked v h k s t e p is = let m = either_heights left right h k e in
+flow-sized g (Choice left right) locked v h k s t e p is = let m = either_heights left right h k e in
     sized_beside v k (flow g left locked s).next (flow g right locked s).next t
     (λ a f. flow-sized g left locked v h k s a m.0 p f) (λ b f. flow-sized g right locked v h k s b m.1 p f) is
-flow-sized g (Again body) locked v h k s t e p is = let m = loop_heights body h k e in
+flow-sized g (Loop body) locked v h k s t e p is = let m = loop_heights body h k e in
     let f : State → Option State = λ x. (flow g body locked x).next in
     let all : IsSized v h (rounded f (rounds_of s) s) =
     sized_rounds f v h (λ x y q i. flow-sized g body locked v h h x y m.1 q i) (rounds_of s) s p in
     let same : (rounds (flow g body locked) (rounds_of s) s).0 ≡ t = cc in
     subst (IsSized v k) (sym (rounds-state (flow g body locked) (rounds_of s) s) ∙ same)
     (subst (λ (n : ℕ). IsSized v n (rounded f (rounds_of s) s)) m.0 all)
-flow-sized g (Held place body) locked v h k s t e p is =
+flow-sized g (Sync place body) locked v h k s t e p is =
     flow-sized g body true v (h - 1) k (popped s 1) t (held_heights place body h k e)
     (sized_pop v h (h - 1) 1 s (popped s 1) p refl refl) is

@@ -13,11 +13,11 @@ use Rattle.owner_domain.specs.declared.value.Value.TheVariants.{Owned, Named, Un
 use Rattle.owner_domain.specs.declared.value.State.{State}
 use Rattle.owner_domain.specs.Values.{joined, joined_values, joined_state, lost_state, same_value, field_value, along}
 use Rattle.owner_domain.specs.SameValue.{equal_of_same_value, same_value-itself}
-use Rattle.core_code.specs.Tree.{Tree, Step, Nothing, Then, Either, Again, Held}
+use Rattle.core_code.specs.Tree.{Tree, Op, Skip, Seq, Choice, Loop, Sync}
 use Rattle.core_code.specs.declared.code.Op.{Op as CoreOp}
 use Rattle.core_code.specs.declared.code.Op.TheVariants.{Push, PushClass, PushPrim, PushNull, New, Dup, Drop, Get, Put}
 use Rattle.core_code.specs.declared.code.Op.TheVariants.{Set, Prim as PrimOp, Outside, Call, Unread, Ret}
-use Rattle.access_domain.specs.Given.{Given}
+use Rattle.access_domain.specs.Given.{FlowContext}
 use Rattle.access_domain.specs.Findings.{Known, Large, Whole}
 use Rattle.access_domain.specs.Substitution.{root_value, substituted_value, actuals_from}
 use Rattle.access_domain.specs.Operations.{Effects, top, pushed, popped, replaced, read_value, op_effects, call_effects, passed_from}
@@ -195,7 +195,7 @@ result-keeps is_static xs ys (Named p) h =
     keeps (λ v. along v p.fields) (along-unnamed p.fields) (root_value (actuals_from is_static xs) p.root)
     (root_value (actuals_from is_static ys) p.root) (root-keeps is_static xs ys p.root h)
 
-call-keeps : (g : Given) (locked : Bool) (site : SiteId) (m : MethodId) (n : ℕ) (k : Option Known) (s t : State) →
+call-keeps : (g : FlowContext) (locked : Bool) (site : SiteId) (m : MethodId) (n : ℕ) (k : Option Known) (s t : State) →
     BelowState s t → BelowNext (call_effects g locked site m n s k).next (call_effects g locked site m n t k).next
 call-keeps g locked site m n None s t h = replace-keeps s t n Unnamed Unnamed h (inl refl)
 call-keeps g locked site m n (Some Large) s t h = replace-keeps s t n Unnamed Unnamed h (inl refl)
@@ -210,7 +210,7 @@ read-keeps : (plain : Bool) (a b : Value) (f : FieldId) → Below a b →
 read-keeps true a b f h = inl refl
 read-keeps false a b f h = keeps (λ v. field_value v f) refl a b h
 
-op-keeps : (g : Given) (locked : Bool) (site : SiteId) (op : CoreOp) (s t : State) → BelowState s t →
+op-keeps : (g : FlowContext) (locked : Bool) (site : SiteId) (op : CoreOp) (s t : State) → BelowState s t →
     BelowNext (op_effects g locked site op s).next (op_effects g locked site op t).next
 op-keeps g locked site (Push v) s t h = push-keeps s t (slice_index_or s.vars v.0 Unnamed)
     (slice_index_or t.vars v.0 Unnamed) h (all-get s.vars t.vars v.0 h.0)
@@ -291,22 +291,22 @@ then-keeps (Some a) None f up h = absurd h
 then-keeps (Some a) (Some b) f up h = up a b h
 
 -- the end of code from a state that says less says less
-pub flow-monotone : (g : Given) (code : Tree) (locked : Bool) → IsMonotone (λ s. (flow g code locked s).next)
-flow-monotone g (Step site place op) locked s t h = op-keeps g locked site op s t h
-flow-monotone g Nothing locked s t h = h
-flow-monotone g (Then first rest) locked s t h = let one = flow-monotone g first locked s t h in
+pub flow-monotone : (g : FlowContext) (code : Tree) (locked : Bool) → IsMonotone (λ s. (flow g code locked s).next)
+flow-monotone g (Op site place op) locked s t h = op-keeps g locked site op s t h
+flow-monotone g Skip locked s t h = h
+flow-monotone g (Seq first rest) locked s t h = let one = flow-monotone g first locked s t h in
     let two : IsMonotone (λ s. (flow g rest locked s).next) = flow-monotone g rest locked in
     let is_s = next-after (flow g first locked s) (flow g rest locked) (flow g first locked s).next refl in
     let is_t = next-after (flow g first locked t) (flow g rest locked) (flow g first locked t).next refl in
-    subst (λ (o : Option State). BelowNext o (flow g (Then first rest) locked t).next) (sym is_s)
+    subst (λ (o : Option State). BelowNext o (flow g (Seq first rest) locked t).next) (sym is_s)
     (subst (λ (o : Option State). BelowNext
     (after_next (flow g first locked s).next (λ s. (flow g rest locked s).next)) o) (sym is_t)
     (then-keeps (flow g first locked s).next (flow g first locked t).next
     (λ s. (flow g rest locked s).next) two one))
-flow-monotone g (Either left right) locked s t h =
+flow-monotone g (Choice left right) locked s t h =
     next-joined (flow g left locked s).next (flow g right locked s).next (flow g left locked t).next
     (flow g right locked t).next (flow-monotone g left locked s t h) (flow-monotone g right locked s t h)
-flow-monotone g (Again body) locked s t h = let f : State → Option State = λ s. (flow g body locked s).next in
+flow-monotone g (Loop body) locked s t h = let f : State → Option State = λ s. (flow g body locked s).next in
     let up : IsMonotone f = flow-monotone g body locked in
     let below : BelowState (rounded f (rounds_of s) s) (rounded f (rounds_of s) t) =
     rounded-keeps f up (rounds_of s) s t h in
@@ -316,4 +316,4 @@ flow-monotone g (Again body) locked s t h = let f : State → Option State = λ 
     rounds-state (flow g body locked) (rounds_of t) t ∙ ap (λ n. rounded f n t) (sym (rounds_of-same s t h)) in
     subst (λ (u : State). BelowState u (rounds (flow g body locked) (rounds_of t) t).0) (sym is_s)
     (subst (λ (u : State). BelowState (rounded f (rounds_of s) s) u) (sym is_t) below)
-flow-monotone g (Held place body) locked s t h = flow-monotone g body true (popped s 1) (popped t 1) (pop-keeps s t 1 h)
+flow-monotone g (Sync place body) locked s t h = flow-monotone g body true (popped s 1) (popped t 1) (pop-keeps s t 1 h)

@@ -6,9 +6,9 @@ use Rattle.owner_domain.specs.declared.value.Value.TheVariants.{Owned, Named, Un
 use Rattle.owner_domain.specs.declared.value.State.{State}
 use Rattle.owner_domain.specs.Values.{joined, joined_values, joined_state, same_value}
 use Rattle.owner_domain.specs.SameValue.{same_value-itself}
-use Rattle.core_code.specs.Tree.{Tree, Step, Nothing, Then, Either, Again, Held}
+use Rattle.core_code.specs.Tree.{Tree, Op, Skip, Seq, Choice, Loop, Sync}
 use Rattle.core_code.specs.Facts.{height_after}
-use Rattle.access_domain.specs.Given.{Given}
+use Rattle.access_domain.specs.Given.{FlowContext}
 use Rattle.access_domain.specs.Operations.{popped}
 use Rattle.access_domain.specs.Flow.{flow, rounds}
 use Rattle.transfer_loops.specs.Rounds.{round_next, same_values, same_state, rounds_of}
@@ -247,31 +247,31 @@ next-on : (o : Option State) (P Q : State → Type 0) → ((t : State) → P t �
 next-on None P Q f p = tt
 next-on (Some t) P Q f p = f t p
 
-sound-same : (g : Given) (code : Tree) (locked : Bool) (k : ℕ) (h j : Heads) (s : State) → SameFor code k h j →
+sound-same : (g : FlowContext) (code : Tree) (locked : Bool) (k : ℕ) (h j : Heads) (s : State) → SameFor code k h j →
     IsSound g code locked k h s → IsSound g code locked k j s
-sound-same g (Step site place op) locked k h j s same p = tt
-sound-same g Nothing locked k h j s same p = tt
-sound-same g (Then first rest) locked k h j s same p = (
+sound-same g (Op site place op) locked k h j s same p = tt
+sound-same g Skip locked k h j s same p = tt
+sound-same g (Seq first rest) locked k h j s same p = (
   sound-same g first locked k h j s (λ i low high. same i low (omega arith)) p.0,
   next-on (flow g first locked s).next _ _
       (λ t q. sound-same g rest locked (k + loops first) h j t (λ i low high. same i (omega arith) (omega arith)) q)
       p.1,
 )
-sound-same g (Either left right) locked k h j s same p = (
+sound-same g (Choice left right) locked k h j s same p = (
   sound-same g left locked k h j s (λ i low high. same i low (omega arith)) p.0,
   sound-same g right locked (k + loops left) h j s (λ i low high. same i (omega arith) (omega arith)) p.1,
 )
-sound-same g (Again body) locked k h j s same p = (
+sound-same g (Loop body) locked k h j s same p = (
   subst (λ (o : Option State). OnNext o (λ x. BelowState x (rounds (flow g body locked) (rounds_of s) s).0))
       (same k (omega arith) (omega arith)) p.0,
   sound-same g body locked (suc k) h j (rounds (flow g body locked) (rounds_of s) s).0
       (λ i low high. same i (omega arith) (omega arith)) p.1,
 )
-sound-same g (Held place body) locked k h j s same p = sound-same g body true k h j (popped s 1) same p
+sound-same g (Sync place body) locked k h j s same p = sound-same g body true k h j (popped s 1) same p
 
-loop-below : (g : Given) (body : Tree) (locked : Bool) (s t : State) → BelowState s t →
+loop-below : (g : FlowContext) (body : Tree) (locked : Bool) (s t : State) → BelowState s t →
     BelowState (rounds (flow g body locked) (rounds_of s) s).0 (rounds (flow g body locked) (rounds_of t) t).0
-loop-below g body locked s t h = flow-monotone g (Again body) locked s t h
+loop-below g body locked s t h = flow-monotone g (Loop body) locked s t h
 
 on-above : (o p : Option State) (P Q : State → Type 0) → BelowNext o p →
     ((s t : State) → BelowState s t → P s → Q t) → OnNext o P → OnNext p Q
@@ -280,48 +280,50 @@ on-above None (Some t) P Q b f h = absurd b
 on-above (Some s) None P Q b f h = absurd b
 on-above (Some s) (Some t) P Q b f h = f s t b h
 
-pub sound-above : (g : Given) (code : Tree) (locked : Bool) (k : ℕ) (h : Heads) (s t : State) → BelowState s t →
+pub sound-above : (g : FlowContext) (code : Tree) (locked : Bool) (k : ℕ) (h : Heads) (s t : State) → BelowState s t →
     IsSound g code locked k h s → IsSound g code locked k h t
-sound-above g (Step site place op) locked k h s t b p = tt
-sound-above g Nothing locked k h s t b p = tt
-sound-above g (Then first rest) locked k h s t b p = (
+sound-above g (Op site place op) locked k h s t b p = tt
+sound-above g Skip locked k h s t b p = tt
+sound-above g (Seq first rest) locked k h s t b p = (
   sound-above g first locked k h s t b p.0,
   on-above (flow g first locked s).next (flow g first locked t).next _ _ (flow-monotone g first locked s t b)
       (λ u v c q. sound-above g rest locked (k + loops first) h u v c q) p.1,
 )
-sound-above g (Either left right) locked k h s t b p = (
+sound-above g (Choice left right) locked k h s t b p = (
   sound-above g left locked k h s t b p.0,
   sound-above g right locked (k + loops left) h s t b p.1,
 )
-sound-above g (Again body) locked k h s t b p = (
+sound-above g (Loop body) locked k h s t b p = (
   next-on (h k) _ _ (λ x q. state-trans x (rounds (flow g body locked) (rounds_of s) s).0
       (rounds (flow g body locked) (rounds_of t) t).0 q (loop-below g body locked s t b)) p.0,
   sound-above g body locked (suc k) h (rounds (flow g body locked) (rounds_of s) s).0
       (rounds (flow g body locked) (rounds_of t) t).0 (loop-below g body locked s t b) p.1,
 )
-sound-above g (Held place body) locked k h s t b p =
+sound-above g (Sync place body) locked k h s t b p =
     sound-above g body true k h (popped s 1) (popped t 1) (pop-keeps s t 1 b) p
 
 on-any : (o : Option State) (P : State → Type 0) → ((t : State) → P t) → OnNext o P
 on-any None P f = tt
 on-any (Some t) P f = f t
 
-pub sound-first : (g : Given) (code : Tree) (locked : Bool) (k : ℕ) (s : State) → IsSound g code locked k no_heads s
-sound-first g (Step site place op) locked k s = tt
-sound-first g Nothing locked k s = tt
-sound-first g (Then first rest) locked k s = (
+pub sound-first : (g : FlowContext) (code : Tree) (locked : Bool) (k : ℕ) (s : State) →
+    IsSound g code locked k no_heads s
+sound-first g (Op site place op) locked k s = tt
+sound-first g Skip locked k s = tt
+sound-first g (Seq first rest) locked k s = (
   sound-first g first locked k s,
   on-any (flow g first locked s).next _ (λ t. sound-first g rest locked (k + loops first) t),
 )
-sound-first g (Either left right) locked k s =
+sound-first g (Choice left right) locked k s =
     (sound-first g left locked k s, sound-first g right locked (k + loops left) s)
-sound-first g (Again body) locked k s = (tt, sound-first g body locked (suc k) _)
-sound-first g (Held place body) locked k s = sound-first g body true k (popped s 1)
+sound-first g (Loop body) locked k s = (tt, sound-first g body locked (suc k) _)
+sound-first g (Sync place body) locked k s = sound-first g body true k (popped s 1)
 
 -- ---- climbing
 -- What is said of the end and the heads behind code that begins in s, where this state is not above the one in which it
 -- begins in the end
-pub record Resumes (g : Given) (code : Tree) (locked : Bool) (k : ℕ) (h : Heads) (s top : State) (o : Option State)
+pub record Resumes (g : FlowContext) (code : Tree) (locked : Bool) (k : ℕ) (h : Heads) (s top : State)
+    (o : Option State)
     (j : Heads) : Type 0 where
   pub low : BelowNext (flow g code locked s).next o
   pub high : BelowNext o (flow g code locked top).next
@@ -332,7 +334,7 @@ abbrev Go : Type 0
 Go = Heads → State → Option State × Heads
 
 -- what rounds of a loop give whose body does this
-record Iterates (g : Given) (body : Tree) (locked : Bool) (k : ℕ) (h : Heads) (s top x : State)
+record Iterates (g : FlowContext) (body : Tree) (locked : Bool) (k : ℕ) (h : Heads) (s top x : State)
     (j : Heads) : Type 0 where
   closed : IsClosed (λ u. (flow g body locked u).next) x
   low : BelowState s x
@@ -356,7 +358,7 @@ next-sized v h (Some x) None b keep t e = absurd b
 next-sized v h (Some x) (Some y) b keep t e = let same : y ≡ t = cc in
     subst (IsSized v h) same (sized-above v h x y (keep x refl) b)
 
-iterates : (g : Given) (body : Tree) (locked : Bool) (k : ℕ) (v n : ℕ) (s top : State) →
+iterates : (g : FlowContext) (body : Tree) (locked : Bool) (k : ℕ) (v n : ℕ) (s top : State) →
     height_after body n ≡ Some n → IsClosed (λ u. (flow g body locked u).next) top →
     ((h : Heads) (x : State) → IsSized v n x → BelowState x top → IsSound g body locked k h top →
     Resumes g body locked k h x top (resumed g body locked k h x).0 (resumed g body locked k h x).1) →
@@ -424,11 +426,11 @@ entered-sized : (v n : ℕ) (o : Option State) (s top : State) → IsSized v n s
     OnNext o (λ x. BelowState x top) → IsSized v n (entered o s)
 entered-sized v n o s top p b q = sized-above v n s (entered o s) p (entered-low v n o s top p b q)
 
-record ThenClimbs (g : Given) (first rest : Tree) (locked : Bool) (k : ℕ) (h : Heads) (s top : State)
+record ThenClimbs (g : FlowContext) (first rest : Tree) (locked : Bool) (k : ℕ) (h : Heads) (s top : State)
     (o : Option State) (j : Heads) : Type 0 where
   low : BelowNext (after_next (flow g first locked s).next (λ x. (flow g rest locked x).next)) o
   high : BelowNext o (after_next (flow g first locked top).next (λ x. (flow g rest locked x).next))
-  sound : IsSound g (Then first rest) locked k j top
+  sound : IsSound g (Seq first rest) locked k j top
   others : (i : ℕ) → (i < k) ⊎ (k + (loops first + loops rest) ≤ i) → j i ≡ h i
 
 nearer : (k a b i : ℕ) → (i < k) ⊎ (k + (a + b) ≤ i) → (i < k) ⊎ (k + a ≤ i)
@@ -440,7 +442,7 @@ further k a b i (inl e) = inl (omega arith)
 further k a b i (inr e) = inr (omega arith)
 
 -- the ends of the first part agree whether there is one
-then_climbs : (g : Given) (first rest : Tree) (locked : Bool) (k v n m : ℕ) (h : Heads) (s top : State)
+then_climbs : (g : FlowContext) (first rest : Tree) (locked : Bool) (k v n m : ℕ) (h : Heads) (s top : State)
     (o : Option State) (j : Heads) (a d : Option State) → (flow g first locked s).next ≡ a →
     (flow g first locked top).next ≡ d → BelowNext a o → BelowNext o d →
     ((t : State) → (flow g first locked s).next ≡ Some t → IsSized v n t) →
@@ -500,20 +502,20 @@ then_climbs g first rest locked k v n m h s top (Some t) j (Some w)
           ∙ others i (nearer k (loops first) (loops rest) i away);
     }
 
-pub resumes : (g : Given) (code : Tree) (locked : Bool) (k v n m : ℕ) (h : Heads) (s top : State) →
+pub resumes : (g : FlowContext) (code : Tree) (locked : Bool) (k v n m : ℕ) (h : Heads) (s top : State) →
     height_after code n ≡ Some m → IsSized v n s → BelowState s top → IsSound g code locked k h top →
     Resumes g code locked k h s top (resumed g code locked k h s).0 (resumed g code locked k h s).1
-resumes g (Step site place op) locked k v n m h s top even p below sound =
+resumes g (Op site place op) locked k v n m h s top even p below sound =
     record {
       low = next-itself _;
-      high = flow-monotone g (Step site place op) locked s top below;
+      high = flow-monotone g (Op site place op) locked s top below;
       sound = tt;
       others =
           λ i away. refl;
     }
-resumes g Nothing locked k v n m h s top even p below sound =
+resumes g Skip locked k v n m h s top even p below sound =
     record { low = state-itself s; high = below; sound = tt; others = λ i away. refl }
-resumes g (Then first rest) locked k v n m h s top even p below sound = let at = then_heights first rest n m even in
+resumes g (Seq first rest) locked k v n m h s top even p below sound = let at = then_heights first rest n m even in
     let one = resumes g first locked k v n at.0 h s top at.1 p below sound.0 in
     let r = resumed g first locked k h s in let all : ThenClimbs g first rest locked k h s top
     (elim r.0 as (λ _. Option State × Heads)
@@ -524,15 +526,15 @@ resumes g (Then first rest) locked k v n m h s top even p below sound = let at =
     (flow g first locked top).next refl refl one.low one.high
     (λ t e. flow-sized g first locked v n at.0 s t at.1 p e) one.sound one.others
     (λ j t u q c d. resumes g rest locked (k + loops first) v at.0 m j t u at.2 q c d) sound.1 in record {
-      low = subst (λ (o : Option State). BelowNext o (resumed g (Then first rest) locked k h s).0)
+      low = subst (λ (o : Option State). BelowNext o (resumed g (Seq first rest) locked k h s).0)
           (sym (next-after (flow g first locked s) (flow g rest locked) (flow g first locked s).next refl)) all.low;
-      high = subst (BelowNext (resumed g (Then first rest) locked k h s).0)
+      high = subst (BelowNext (resumed g (Seq first rest) locked k h s).0)
           (sym (next-after (flow g first locked top) (flow g rest locked) (flow g first locked top).next refl))
           all.high;
       sound = all.sound;
       others = all.others;
     }
-resumes g (Either left right) locked k v n m h s top even p below sound = let at =
+resumes g (Choice left right) locked k v n m h s top even p below sound = let at =
     either_heights left right n m even in let one = resumes g left locked k v n m h s top at.0 p below sound.0 in
     let r = resumed g left locked k h s in let before : IsSound g right locked (k + loops left) r.1 top =
     sound-same g right locked (k + loops left) h r.1 top (λ i low high. sym (one.others i (inr low))) sound.1 in
@@ -555,7 +557,7 @@ resumes g (Either left right) locked k v n m h s top even p below sound = let at
     beyond_left : (i : ℕ) → (i < k) ⊎ (k + (loops left + loops right) ≤ i) → (i < k) ⊎ (k + loops left ≤ i)
     beyond_left i (inl e) = inl e
     beyond_left i (inr e) = inr (omega arith)
-resumes g (Again body) locked k v n m h s top even p below sound = let at = loop_heights body n m even in
+resumes g (Loop body) locked k v n m h s top even p below sound = let at = loop_heights body n m even in
     let f : State → Option State = λ u. (flow g body locked u).next in
     let up : IsMonotone f = flow-monotone g body locked in
     let keep : Keeps f v n = λ a b q e. flow-sized g body locked v n n a b at.1 q e in
@@ -602,13 +604,13 @@ resumes g (Again body) locked k v n m h s top even p below sound = let at = loop
     beyond : (i : ℕ) → (i < k) ⊎ (k + suc (loops body) ≤ i) → (i < suc k) ⊎ (suc k + loops body ≤ i)
     beyond i (inl e) = inl (omega arith)
     beyond i (inr e) = inr (omega arith)
-resumes g (Held place body) locked k v n m h s top even p below sound = let one =
+resumes g (Sync place body) locked k v n m h s top even p below sound = let one =
     resumes g body true k v (n - 1) m h (popped s 1) (popped top 1) (held_heights place body n m even)
     (sized_pop v n (n - 1) 1 s (popped s 1) p refl refl) (pop-keeps s top 1 below) sound in
     record { low = one.low; high = one.high; sound = one.sound; others = one.others }
 
 -- from heads that are sound for this state the end is exact
-pub resumed-exact : (g : Given) (code : Tree) (locked : Bool) (k m : ℕ) (h : Heads) (s : State) →
+pub resumed-exact : (g : FlowContext) (code : Tree) (locked : Bool) (k m : ℕ) (h : Heads) (s : State) →
     height_after code (length s.stack) ≡ Some m → IsSound g code locked k h s →
     ((resumed g code locked k h s).0 ≡ (flow g code locked s).next)
     × IsSound g code locked k (resumed g code locked k h s).1 s

@@ -5,14 +5,14 @@ use Rattle.racer_base.specs.declared.ids.MethodId.{MethodId}
 use Rattle.core_code.specs.Calls.{known_below, rank_of}
 use Rattle.core_code.specs.Core.{Core}
 use Rattle.core_ways.specs.declared.part.WayPart.{WayPart}
-use Rattle.core_ways.specs.declared.part.WayPart.TheVariants.{Step, Turned, Passed, Unread}
+use Rattle.core_ways.specs.declared.part.WayPart.TheVariants.{Step, Branched, Passed, Unread}
 use Rattle.core_ways.specs.declared.taken.WayTaken.{WayTaken}
 use Rattle.core_ways.specs.Answers.{IsTaken}
 use Rattle.core_ways.specs.Ways.{Trip, joined, parts_of, straight, trip_along, trip_given, trip_of, trip_of_part}
 use Rattle.core_ways.specs.Ways.{way_of, way_parts}
-use Rattle.core_ways.specs.declared.both.Both.{Both}
-use Rattle.core_ways.specs.declared.both.Both.TheVariants.{Taken, Unread as BothUnread, Long as BothLong}
-use Rattle.core_ways.specs.Both.{AreBoth, AreShort, IsShort}
+use Rattle.core_ways.specs.declared.way_pair.WayPair.{WayPair}
+use Rattle.core_ways.specs.declared.way_pair.WayPair.TheVariants.{Taken, Unread as BothUnread, Long as BothLong}
+use Rattle.core_ways.specs.WayPairs.{IsWayPair, AreShort, IsShort}
 
 abbrev Few : Trip → Type 0
 Few trip = length trip.turns ≤ trip.steps
@@ -22,7 +22,7 @@ few-joined a b x y = let both = length-append a.turns b.turns in omega (arith, b
 
 few-part : (trips : MethodId → Trip) (part : WayPart) → ((m : MethodId) → Few (trips m)) → Few (trip_of_part trips part)
 few-part trips Step few = omega arith
-few-part trips (Turned turn) few = omega arith
+few-part trips (Branched turn) few = omega arith
 few-part trips (Passed m) few = few-joined (straight 1) (trips m) (omega arith) (few m)
 few-part trips (Unread place) few = omega arith
 
@@ -58,8 +58,8 @@ taken-short core m i taken is =
     let turns = ap length is.turns in
     record { turns = omega (arith, few, turns, is.short); steps = omega (arith, is.steps, is.short) }
 
-pub both-short : (core : Core) (m n : MethodId) (i j : ℕ) (both : Both) →
-    AreBoth (way_of core m i) (way_of core n j) both →
+pub both-short : (core : Core) (m n : MethodId) (i j : ℕ) (both : WayPair) →
+    IsWayPair (way_of core m i) (way_of core n j) both →
     AreShort both
 both-short core m n i j (Taken x y) are = (taken-short core m i x are.0, taken-short core n j y are.1)
 both-short core m n i j (BothUnread place) are = tt

@@ -12,8 +12,8 @@ use Rattle.core_ways.specs.Answers.{IsLong, counted}
 use Rattle.core_ways.specs.Marks.{Pair, Said, Unread, Long, first_long, first_unread, is_locked, leg_along}
 use Rattle.core_ways.specs.Marks.{mark_by_calls, mark_by_run}
 use Rattle.core_ways.specs.Ways.{Trip, way_of}
-use Rattle.core_ways.specs.declared.both.Both.TheVariants as code
-use Rattle.core_ways.specs.Both.{AreBoth, said_by_length, said_of}
+use Rattle.core_ways.specs.declared.way_pair.WayPair.TheVariants as code
+use Rattle.core_ways.specs.WayPairs.{IsWayPair, said_by_length, said_of}
 
 -- ---- the first call that is not read, and the first way that is long
 
@@ -67,11 +67,11 @@ none-long a b x y =
 
 -- ---- by what both ways are
 
-pub both-long-first : (a b : Trip) (steps : ℕ) → IsLong a steps → b.unread ≡ [] → AreBoth a b (code.Long steps)
+pub both-long-first : (a b : Trip) (steps : ℕ) → IsLong a steps → b.unread ≡ [] → IsWayPair a b (code.Long steps)
 both-long-first a b steps is read = (none-unread a b is.read read, long-first a b steps is.long is.count)
 
 pub both-long-second : (a b : Trip) (steps : ℕ) → a.unread ≡ [] → a.steps ≤ MAX_WAY_STEPS → IsLong b steps →
-    AreBoth a b (code.Long steps)
+    IsWayPair a b (code.Long steps)
 both-long-second a b steps read short is =
     (none-unread a b read is.read, long-second a b steps short is.long is.count)
 

@@ -8,7 +8,7 @@ ghost use Rattle.core_semantics.specs.Runs.{begun};
 ghost use Rattle.core_semantics.specs.View.{state_of};
 ghost use Rattle.core_ways.specs.Marks.{blocked_at, is_locked, leg_of, mark_by_calls, mark_by_run, said_by};
 ghost use Rattle.core_ways.specs.Ways.{Trip, way_of};
-ghost use Rattle.core_ways.specs.Both.{AreBoth, AreShort, IsShort, said_of};
+ghost use Rattle.core_ways.specs.WayPairs.{IsWayPair, AreShort, IsShort, said_of};
 ghost use Rattle.witness_build_apart.specs.RunLegs.{IsSaid};
 ghost use Rattle.witness_build_walks.specs.Told.{AreWalks};
 ghost use Rattle.core_ways_sites.specs.Known.{IsKnown};
@@ -20,7 +20,9 @@ use crate::prefixes::unstable_prefix;
 use access_domain::Outcomes;
 use core_code::Program;
 use core_semantics::{Machine, Start, begin};
-use core_ways::{Both, Leg, Mark, Objects, Target, WayTaken, Witness, let_go, record_of, run_leg};
+use core_ways::{
+    Leg, Mark, Objects, Target, WayPair, WayTaken, Witness, let_go, record_of, run_leg,
+};
 use core_ways_sites::{SiteWays, let_go as let_ways_go};
 use race_pairs::Warning;
 use racer_base::{Items, Memory, Place};
@@ -171,17 +173,17 @@ fn mark_along<'a>(
     warning: &Warning,
     first: u32,
     second: u32,
-    both: Both,
+    both: WayPair,
 ) -> Result<Mark, Memory>
     requires walks { AreWalks (core program.now) walks.old }
     requires threads { first + second ≡ 1 }
     requires short { AreShort both }
     ensures walks { OnOk result (AreWalks (core program.now) walks.new) }
-    ensures mark { (a b : Trip) → AreBoth a b both → IfOk result (λ mark.
+    ensures mark { (a b : Trip) → IsWayPair a b both → IfOk result (λ mark.
         said_by mark ≡ said_of (core program.now) (pair_of warning.now) first second a b) }
 {
     match both {
-        Both::Taken(one, other) => {
+        WayPair::Taken(one, other) => {
             mark_by_run(
                 alloc,
                 program,
@@ -191,8 +193,8 @@ fn mark_along<'a>(
                 leg(second, other),
             )
         }
-        Both::Unread(place) => Ok(Mark::Unread(place)),
-        Both::Long(steps) => Ok(Mark::Long(steps)),
+        WayPair::Unread(place) => Ok(Mark::Unread(place)),
+        WayPair::Long(steps) => Ok(Mark::Long(steps)),
     }
 }
 

@@ -8,10 +8,10 @@ ghost use Rattle.core_ways.specs.Stable.{unstable_prefix};
 ghost use Rattle.witness_build.specs.Found.{IsLeast, holds_front, least};
 
 use access_domain::Outcomes;
-use access_paths::Path;
+use access_paths::{Path, PathFields};
 use core_code::Program;
 use core_ways::wobbly_of;
-use racer_base::{Items, Memory, MethodId};
+use racer_base::{Memory, MethodId};
 use std::alloc::Global;
 use wobbly_paths::Wobbly;
 
@@ -33,10 +33,10 @@ fn front(alloc: Global, path: &Path, fields: usize) -> Result<Path, Memory>
     ensures { IfOk result (λ made. made ≡ front fields path.now) }
 {
     let all = path.fields.as_slice();
-    let count = fields.min(all.len());
+    let count = fields.min(path.fields.len());
     Ok(Path {
         root: path.root,
-        fields: Items::from(Vec::from_slice(alloc, &all[..count])?),
+        fields: PathFields::from_vec(Vec::from_slice(alloc, &all[..count])?),
     })
 }
 

@@ -5,7 +5,7 @@ use Rattle.core_code.specs.Core.{Core}
 use Rattle.core_semantics.specs.declared.answer.Turn.{Turn}
 use Rattle.core_semantics.specs.declared.answer.Turn.TheVariants.{Right}
 use Rattle.core_semantics.specs.declared.object.StartPath.{StartPath}
-use Rattle.core_semantics.specs.Legs.{Ran, Came, Broke, NoTurn, later, runs, went}
+use Rattle.core_semantics.specs.Legs.{Ran, Came, Halted, NoTurn, one_step_more, runs, went}
 use Rattle.core_semantics.specs.Runs.{Access as Touching, next_touch, wants_turn}
 use Rattle.core_semantics.specs.State.{State}
 use Rattle.core_semantics.specs.Steps.{Next, Goes, Sticks, Waits, Ends, step}
@@ -19,9 +19,9 @@ use Rattle.racer_base.specs.declared.ids.FieldId.{FieldId}
 use Rattle.core_ways.specs.Ends.{Going, end_behind, ended, leg_end, leg_reads, made_of}
 use Rattle.core_ways.specs.Ends.{one_step, reads_behind, step_reads, straight, turned, with_turns}
 
-ended-later : (r : Ran) → ended (later r) ≡ ended r
+ended-later : (r : Ran) → ended (one_step_more r) ≡ ended r
 ended-later (Came to left) = refl
-ended-later (Broke halt at steps) = refl
+ended-later (Halted halt at steps) = refl
 
 went-ends : (core : Core) (t n : ℕ) (rest : List Turn) (s : State) (next : Next State) →
     ((x : State) → ended (runs core t n rest x) ≡ leg_end core t n rest x) →
@@ -37,14 +37,14 @@ run-ends core t zero turns s = refl
 run-ends core t (suc n) turns s =
     elim (wants_turn s t) as (λ b. ended (cond b
     (elim turns as (λ _. Ran) [
-      | [] ↦ Broke NoTurn s 0
+      | [] ↦ Halted NoTurn s 0
       | ◌∷◌ turn rest ↦ went (runs core t n rest) s (step core s t turn)
     ])
     (went (runs core t n turns) s (step core s t Right))) ≡
     end_behind s (leg_end core t n) (cond b (turned core t turns s) (straight core t turns s))) [
       | true ↦ elim turns as (λ ts. ended
           (elim ts as (λ _. Ran) [
-            | [] ↦ Broke NoTurn s 0
+            | [] ↦ Halted NoTurn s 0
             | ◌∷◌ turn rest ↦ went (runs core t n rest) s (step core s t turn)
           ]) ≡ end_behind s (leg_end core t n) (turned core t ts s)) [
             | [] ↦ refl

@@ -13,7 +13,7 @@ use Rattle.core_semantics.specs.declared.object.Value.{Value}
 use Rattle.core_semantics.specs.declared.object.Value.TheVariants.{Null, Plain, Opaque, Object as Ref}
 use Rattle.core_semantics.specs.Objects.{same_object}
 use Rattle.core_semantics.specs.Runs.{next_of}
-use Rattle.core_semantics.specs.State.{Frame, State, Todo, Operate, Choose, Repeat, Lock, Unlock, thread_of}
+use Rattle.core_semantics.specs.State.{Frame, State, Todo, Op, Choice, Loop, Sync, Unlock, thread_of}
 use Rattle.core_semantics.specs.Steps.{kind_of, slot_of, top}
 use Rattle.core_ways.specs.Ends.{Going, one_step}
 use Rattle.core_semantics.specs.Changes.{Change, Loud, Quiet, Spot, Stores, frame_change, is_plain, is_plain_kind}
@@ -51,10 +51,10 @@ op-other core f _ = tt
 todo-other : (core : Core) (f : Frame) (todo : Option Todo) →
     IsOther core (elim todo as (λ _. Change) [ None ↦ Quiet | Some x ↦ todo_change core f x ])
 todo-other core f None = tt
-todo-other core f (Some (Operate place op)) = op-other core f op
-todo-other core f (Some (Choose left right)) = tt
-todo-other core f (Some (Repeat body)) = tt
-todo-other core f (Some (Lock place body)) = tt
+todo-other core f (Some (Op place op)) = op-other core f op
+todo-other core f (Some (Choice left right)) = tt
+todo-other core f (Some (Loop body)) = tt
+todo-other core f (Some (Sync place body)) = tt
 todo-other core f (Some Unlock) = tt
 
 frame-other : (core : Core) (frame : Option Frame) → IsOther core (frame_change core frame)

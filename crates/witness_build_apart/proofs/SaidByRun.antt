@@ -8,7 +8,7 @@ use Rattle.access_domain.specs.Records.{firsts}
 use Rattle.core_code.specs.Core.{Core}
 use Rattle.core_semantics.specs.declared.answer.Turn.{Turn}
 use Rattle.core_semantics.specs.declared.object.StartPath.{StartPath}
-use Rattle.core_semantics.specs.Legs.{Leg, Ran, Came, Broke, runs}
+use Rattle.core_semantics.specs.Legs.{Leg, Ran, Came, Halted, runs}
 use Rattle.core_semantics.specs.Objects.{same_start_path}
 use Rattle.core_semantics.specs.Runs.{place}
 use Rattle.core_semantics.specs.State.{State}
@@ -25,18 +25,18 @@ abbrev reads_of : Core → Leg → State → List StartPath
 reads_of core leg s = leg_reads core leg.thread leg.steps leg.turns s
 
 abbrev halt_in : Core → ℕ → List Leg → Ran → Option (ℕ × Option Place)
-halt_in core t legs r = elim r [ Came to left ↦ first_halt core legs to | Broke halt at steps ↦ Some (t, place at t) ]
+halt_in core t legs r = elim r [ Came to left ↦ first_halt core legs to | Halted halt at steps ↦ Some (t, place at t) ]
 
 halt-stopped : (core : Core) (t : ℕ) (legs : List Leg) (at : State) (r : Ran) → ended r ≡ Stopped at →
     halt_in core t legs r ≡ Some (t, place at t)
 halt-stopped core t legs at (Came to left) e = absurd cc
-halt-stopped core t legs at (Broke halt s steps) e =
+halt-stopped core t legs at (Halted halt s steps) e =
     let same : s ≡ at = cc in ap (λ (x : State). let o : Option (ℕ × Option Place) = Some (t, place x t) in o) same
 
 halt-past : (core : Core) (t : ℕ) (legs : List Leg) (to : State) (r : Ran) → ended r ≡ Past to →
     halt_in core t legs r ≡ first_halt core legs to
 halt-past core t legs to (Came s left) e = let same : s ≡ to = cc in ap (first_halt core legs) same
-halt-past core t legs to (Broke halt s steps) e = absurd cc
+halt-past core t legs to (Halted halt s steps) e = absurd cc
 
 first-stopped : (core : Core) (leg : Leg) (legs : List Leg) (s at : State) → end_of core leg s ≡ Stopped at →
     first_halt core (leg ∷ legs) s ≡ Some (leg.thread, place at leg.thread)
@@ -51,12 +51,12 @@ first-past core leg legs s to e =
     (run-ends core leg.thread leg.steps leg.turns s ∙ e)
 
 abbrev reads_in : Core → List Leg → Ran → List StartPath
-reads_in core legs r = elim r [ Came to left ↦ reads_of_legs core legs to | Broke halt at steps ↦ [] ]
+reads_in core legs r = elim r [ Came to left ↦ reads_of_legs core legs to | Halted halt at steps ↦ [] ]
 
 reads-in-past : (core : Core) (legs : List Leg) (to : State) (r : Ran) → ended r ≡ Past to →
     reads_in core legs r ≡ reads_of_legs core legs to
 reads-in-past core legs to (Came s left) e = let same : s ≡ to = cc in ap (reads_of_legs core legs) same
-reads-in-past core legs to (Broke halt s steps) e = absurd cc
+reads-in-past core legs to (Halted halt s steps) e = absurd cc
 
 reads-past : (core : Core) (leg : Leg) (legs : List Leg) (s to : State) → end_of core leg s ≡ Past to →
     reads_of_legs core (leg ∷ legs) s ≡ reads_of core leg s ++ reads_of_legs core legs to

@@ -24,7 +24,7 @@ use Rattle.core_semantics.specs.declared.object.Value.{Value}
 use Rattle.core_semantics.specs.declared.object.Value.TheVariants.{Null, Plain, Opaque, Object as Ref}
 use Rattle.core_semantics.specs.Objects.{same_monitor, same_object}
 use Rattle.core_semantics.specs.Runs.{Access, access_of, frame_touch, op_touch, todo_touch}
-use Rattle.core_semantics.specs.State.{Frame, Store, Thread, Todo, Operate, Choose, Repeat, Lock, Unlock}
+use Rattle.core_semantics.specs.State.{Frame, Store, Thread, Todo, Op, Choice, Loop, Sync, Unlock}
 use Rattle.core_semantics.specs.Steps.{After, Inner, Next, Spot, Goes, Sticks, Waits, Ends, after, base_of, called}
 use Rattle.core_semantics.specs.Steps.{called_method, entering, inner_step, kind_of}
 use Rattle.core_semantics.specs.Steps.{lock_with, monitor_of, on_base, op_step, operated, passed_from, put}
@@ -252,11 +252,11 @@ todo-alike : (core : Core) (but : Spots) (turn : Turn) (a b : Store) (f : Frame)
     AfterAlike core but (todo_step core turn others (spot a f callers locks) todo)
     (todo_step core turn others (spot b f callers locks) todo)
 todo-alike core but turn a b f callers locks others [] alike avoided = tt
-todo-alike core but turn a b f callers locks others (Operate place op ∷ rest) alike avoided =
+todo-alike core but turn a b f callers locks others (Op place op ∷ rest) alike avoided =
     operated-alike core but a b f callers locks rest op alike avoided
-todo-alike core but turn a b f callers locks others (Choose left right ∷ rest) alike avoided = (refl, alike)
-todo-alike core but turn a b f callers locks others (Repeat body ∷ rest) alike avoided = (refl, alike)
-todo-alike core but turn a b f callers locks others (Lock place body ∷ rest) alike avoided =
+todo-alike core but turn a b f callers locks others (Choice left right ∷ rest) alike avoided = (refl, alike)
+todo-alike core but turn a b f callers locks others (Loop body ∷ rest) alike avoided = (refl, alike)
+todo-alike core but turn a b f callers locks others (Sync place body ∷ rest) alike avoided =
     lock-alike core but a b (with_steps f rest) callers locks others body (monitor_of (top f)) alike
 todo-alike core but turn a b f callers locks others (Unlock ∷ rest) alike avoided = (refl, alike)
 

@@ -20,7 +20,7 @@ use Rattle.core_semantics.specs.declared.object.Object.{Object}
 use Rattle.core_semantics.specs.declared.object.Value.{Value}
 use Rattle.core_semantics.specs.declared.object.Value.TheVariants.{Null, Plain, Opaque, Object as Ref}
 use Rattle.core_semantics.specs.Objects.{same_monitor, same_object}
-use Rattle.core_semantics.specs.State.{Frame, Store, Todo, Operate, Choose, Repeat, Lock, Unlock}
+use Rattle.core_semantics.specs.State.{Frame, Store, Todo, Op, Choice, Loop, Sync, Unlock}
 use Rattle.core_semantics.specs.Steps.{After, Inner, Next, Goes, Sticks, Waits, Ends, after, base_of, called}
 use Rattle.core_semantics.specs.Steps.{called_method, entering, inner_step, kind_of, lock_with, monitor_of, on_base, op_step}
 use Rattle.core_semantics.specs.Steps.{operated, passed_from, put, read, replaced, returned, slot_of, thread_step, todo_step}
@@ -264,11 +264,11 @@ todo-changed : (core : Core) (turn : Turn) (a : Store) (f : Frame) (callers : Li
     AfterChanged core a (elim (slice_get todo 0) as (λ _. Change) [ None ↦ Quiet | Some x ↦ todo_change core f x ])
     (todo_step core turn others (spot a f callers locks) todo)
 todo-changed core turn a f callers locks others [] plain = tt
-todo-changed core turn a f callers locks others (Operate place op ∷ rest) plain =
+todo-changed core turn a f callers locks others (Op place op ∷ rest) plain =
     operated-changed core a f callers locks rest op plain
-todo-changed core turn a f callers locks others (Choose left right ∷ rest) plain = same-store core a plain
-todo-changed core turn a f callers locks others (Repeat body ∷ rest) plain = same-store core a plain
-todo-changed core turn a f callers locks others (Lock place body ∷ rest) plain =
+todo-changed core turn a f callers locks others (Choice left right ∷ rest) plain = same-store core a plain
+todo-changed core turn a f callers locks others (Loop body ∷ rest) plain = same-store core a plain
+todo-changed core turn a f callers locks others (Sync place body ∷ rest) plain =
     lock-changed core a (with_steps f rest) callers locks others body (monitor_of (top f)) plain
 todo-changed core turn a f callers locks others (Unlock ∷ rest) plain = same-store core a plain
 

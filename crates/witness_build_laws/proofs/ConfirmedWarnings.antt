@@ -16,7 +16,7 @@ use Rattle.race_pairs.specs.declared.warning.Warning.{Warning}
 use Rattle.race_pairs.specs.Warnings.{warnings}
 use Rattle.core_ways_laws.proofs.WayEnds.{way-ends}
 use Rattle.core_ways_laws.specs.Places.{IsStore}
-use Rattle.core_ways_laws.specs.Quiets.{quietness_of}
+use Rattle.core_ways_laws.specs.QuietEntries.{quietness_of}
 use Rattle.core_ways_laws.proofs.Entries.{empty-store}
 use Rattle.core_ways_laws.proofs.Legs.{leg-leads}
 use Rattle.witness_build_laws.specs.Warned.{warning_mark}

@@ -27,7 +27,7 @@ use Rattle.core_semantics.specs.Runs.{op_touch, todo_touch}
 use Rattle.core_semantics.specs.State.{Frame, State, Store, Thread, Todo, other_of, thread_of}
 use Rattle.core_ways_laws.specs.Ends.{IsAtAccess}
 use Rattle.core_ways_laws.specs.Sites.{field_of}
-use Rattle.core_ways_laws.specs.Tops.{Top, top_of}
+use Rattle.core_ways_laws.specs.Arrivals.{Arrival, top_of}
 use Rattle.core_ways_laws.specs.Meets.{base_path, base_slot, base_value}
 use Rattle.core_ways_laws.specs.Places.{start_object}
 use Rattle.core_ways_laws.specs.Quiet.{start_path}
@@ -103,7 +103,7 @@ at-access core m i r values s t to at base =
 -- where the way to a record of a method leads from a store that is as it should be, the store is so, and the base of
 -- the access is the start object of the base of the record's path
 abbrev pub LegLeads : Core → (Store → Type 0) → MethodId → ℕ → Access → Method → ℕ → Type 0
-LegLeads core Good m i r method t = (store : Store) (top : Top) → Good store →
+LegLeads core Good m i r method t = (store : Store) (top : Arrival) → Good store →
     top_of core m i (given_to t method) store ≡ Some top →
     Good top.at.store × (base_value r.kind top.at ≡ start_object (base_path r.path))
 

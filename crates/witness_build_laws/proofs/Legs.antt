@@ -11,7 +11,7 @@ use Rattle.core_semantics.specs.declared.answer.Turn.{Turn}
 use Rattle.core_semantics.specs.declared.object.Object.TheVariants.{Start as StartOf}
 use Rattle.core_semantics.specs.declared.object.Start.TheVariants.{All, Only}
 use Rattle.core_semantics.specs.declared.object.StartPath.{StartPath}
-use Rattle.core_semantics.specs.Legs.{Leg, Ran, Came, Broke, run, runs, whole}
+use Rattle.core_semantics.specs.Legs.{Leg, Ran, Came, Halted, run, runs, whole}
 use Rattle.core_semantics.specs.Objects.{same_start_path}
 use Rattle.core_semantics.specs.Runs.{begun, is_in}
 use Rattle.core_semantics.specs.Same.{equal_of_same, same_object-itself}
@@ -59,7 +59,7 @@ abbrev on_whole : Core → List Leg → Ran → Option State
 on_whole core legs r = option_and_then (run core legs) (whole r)
 
 abbrev reads_from : Core → List Leg → Ran → List StartPath
-reads_from core legs r = elim r [ Came to left ↦ reads_of_legs core legs to | Broke halt at steps ↦ [] ]
+reads_from core legs r = elim r [ Came to left ↦ reads_of_legs core legs to | Halted halt at steps ↦ [] ]
 
 -- legs from each state in which all start paths are objects
 abbrev LegsSame : Core → Heap → List Leg → Type 0
@@ -73,7 +73,7 @@ whole-same : (core : Core) (heap : Heap) (legs : List Leg) (r : Ran) → LegsSam
     on_whole core legs (ran_in heap r) ≡ option_map (state_in heap) (on_whole core legs r)
 whole-same core heap legs (Came to []) same full all = same to (full to [] refl) all
 whole-same core heap legs (Came to (turn ∷ left)) same full all = refl
-whole-same core heap legs (Broke halt at steps) same full all = refl
+whole-same core heap legs (Halted halt at steps) same full all = refl
 
 pub legs-same : (core : Core) (heap : Heap) (legs : List Leg) → LegsSame core heap legs
 legs-same core heap [] = λ s there all. refl

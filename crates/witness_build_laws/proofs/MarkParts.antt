@@ -7,7 +7,7 @@ use Rattle.core_code.specs.Core.{Core}
 use Rattle.core_semantics.specs.declared.answer.Turn.{Turn}
 use Rattle.core_semantics.specs.declared.object.Start.TheVariants.{All}
 use Rattle.core_semantics.specs.declared.object.StartPath.{StartPath}
-use Rattle.core_semantics.specs.Legs.{Leg, Ran, Came, Broke, runs}
+use Rattle.core_semantics.specs.Legs.{Leg, Ran, Came, Halted, runs}
 use Rattle.core_semantics.specs.Runs.{begun, place}
 use Rattle.core_semantics.specs.State.{State}
 use Rattle.core_ways.specs.Marks.{Pair, Said, Unnamed, Unstable, Unread, Long, Confirmed, blocked_at, first_halt}
@@ -98,7 +98,7 @@ mark-parts core w p given objects is =
 -- ---- legs that are made
 
 abbrev pub halt_in : Core → ℕ → List Leg → Ran → Option (ℕ × Option Place)
-halt_in core t legs r = elim r [ Came to left ↦ first_halt core legs to | Broke halt at steps ↦ Some (t, place at t) ]
+halt_in core t legs r = elim r [ Came to left ↦ first_halt core legs to | Halted halt at steps ↦ Some (t, place at t) ]
 
 -- where no leg is stopped, the first comes to a state, and no later one is stopped from there
 pub first-made : (core : Core) (leg : Leg) (legs : List Leg) (s : State) → first_halt core (leg ∷ legs) s ≡ None →
@@ -110,4 +110,4 @@ first-made core leg legs s none = made (runs core leg.thread leg.steps leg.turns
         (to : State) × (left : List Turn) × (runs core leg.thread leg.steps leg.turns s ≡ Came to left)
         × (first_halt core legs to ≡ None)
     made (Came to left) e n = (to, left, e, n)
-    made (Broke halt at steps) e n = absurd cc
+    made (Halted halt at steps) e n = absurd cc

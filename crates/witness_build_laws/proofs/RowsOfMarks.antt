@@ -10,7 +10,7 @@ use Rattle.access_domain.specs.declared.access.Access.{Access}
 use Rattle.core_code.specs.declared.program.Program.{Program}
 use Rattle.core_code.specs.Core.{Core}
 use Rattle.core_code.specs.Program.{core as core_of}
-use Rattle.core_semantics.specs.Legs.{Halt, Leg, Ran, Came, Broke, StuckFor, run, runs, whole}
+use Rattle.core_semantics.specs.Legs.{Halt, Leg, Ran, Came, Halted, StuckFor, run, runs, whole}
 use Rattle.core_semantics.specs.Runs.{place}
 use Rattle.core_semantics.specs.State.{State}
 use Rattle.core_ways.specs.Marks.{Said, Unnamed, Unstable, Unread, Long, Blocked, Confirmed, first_halt}
@@ -112,11 +112,11 @@ after-first : (core : Core) (one : Leg) (before rest : List Leg) (start from : S
 after-first core one before rest start from o next (Came to []) is comes =
     ap (halt_in core one.thread rest) is ∙ next to comes
 after-first core one before rest start from o next (Came to (turn ∷ turns)) is comes = absurd cc
-after-first core one before rest start from o next (Broke other at n) is comes = absurd cc
+after-first core one before rest start from o next (Halted other at n) is comes = absurd cc
 
 -- a leg that is stuck behind legs that are made is where the first halt is
 halts : (core : Core) (leg : Leg) (behind : List Leg) (from stop : State) (why_halt : Halt) (steps : ℕ) →
-    runs core leg.thread leg.steps leg.turns from ≡ Broke why_halt stop steps → (before : List Leg) (start : State) →
+    runs core leg.thread leg.steps leg.turns from ≡ Halted why_halt stop steps → (before : List Leg) (start : State) →
     run core before start ≡ Some from →
     first_halt core (before ++ leg ∷ behind) start ≡ halt leg.thread (place stop leg.thread)
 halts core leg behind from stop why_halt steps breaks [] start comes =

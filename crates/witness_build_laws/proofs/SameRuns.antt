@@ -17,11 +17,11 @@ use Rattle.core_semantics.specs.declared.object.Object.TheVariants.{Start as Sta
 use Rattle.core_semantics.specs.declared.object.StartPath.{StartPath}
 use Rattle.core_semantics.specs.declared.object.Value.{Value}
 use Rattle.core_semantics.specs.declared.object.Value.TheVariants.{Plain, Opaque, Null, Object as Ref}
-use Rattle.core_semantics.specs.Legs.{Ran, Came, Broke, NoTurn, later, runs, went}
+use Rattle.core_semantics.specs.Legs.{Ran, Came, Halted, NoTurn, one_step_more, runs, went}
 use Rattle.core_semantics.specs.Objects.{lengthened}
 use Rattle.core_semantics.specs.Runs.{Access as Touching, access_of, frame_touch, is_turn, next_of}
 use Rattle.core_semantics.specs.Runs.{op_touch, todo_touch, wants_turn}
-use Rattle.core_semantics.specs.State.{Frame, State, Store, Todo, Operate, Choose, Repeat, Lock, Unlock, thread_of}
+use Rattle.core_semantics.specs.State.{Frame, State, Store, Todo, Op, Choice, Loop, Sync, Unlock, thread_of}
 use Rattle.core_semantics.specs.Steps.{Next, Goes, Sticks, Waits, Ends, base_of, kind_of, read, step, top, unstored, within}
 use Rattle.core_ways.specs.Marks.{given_by, next_read, paths_in, reads, reads_on}
 use Rattle.witness_build_laws.specs.Heaps.{HasAll, Heap, ran_in, state_in, store_in}
@@ -106,11 +106,11 @@ next-same : (core : Core) (heap : Heap) (s : State) (frame : Frame) (todo : List
     frame.todo ≡ todo → HasAll heap (given core s (frame_touch frame)) →
     NextReadsSame core heap s.store frame todo
 next-same core heap s frame [] there is all = tt
-next-same core heap s frame (Choose left right ∷ rest) there is all = tt
-next-same core heap s frame (Repeat body ∷ rest) there is all = tt
-next-same core heap s frame (Lock place body ∷ rest) there is all = tt
+next-same core heap s frame (Choice left right ∷ rest) there is all = tt
+next-same core heap s frame (Loop body ∷ rest) there is all = tt
+next-same core heap s frame (Sync place body ∷ rest) there is all = tt
 next-same core heap s frame (Unlock ∷ rest) there is all = tt
-next-same core heap s frame (Operate place op ∷ rest) there is all =
+next-same core heap s frame (Op place op ∷ rest) there is all =
     get-same core heap s frame op there (λ f o get base.
     subst (λ (a : Option Touching). HasAll heap (given core s a))
     (ap (λ (ts : List Todo). option_and_then (todo_touch frame) (slice_get ts 0)) is
@@ -135,11 +135,11 @@ step-in core heap s t turn there all =
 own-reads : (core : Core) (store : Store) (frame : Frame) (todo : List Todo) →
     NextReadsSame core store.heap store frame todo
 own-reads core store frame [] = tt
-own-reads core store frame (Choose left right ∷ rest) = tt
-own-reads core store frame (Repeat body ∷ rest) = tt
-own-reads core store frame (Lock place body ∷ rest) = tt
+own-reads core store frame (Choice left right ∷ rest) = tt
+own-reads core store frame (Loop body ∷ rest) = tt
+own-reads core store frame (Sync place body ∷ rest) = tt
 own-reads core store frame (Unlock ∷ rest) = tt
-own-reads core store frame (Operate place op ∷ rest) = λ f o is base. refl
+own-reads core store frame (Op place op ∷ rest) = λ f o is base. refl
 
 own-frames : (core : Core) (store : Store) (frames : List Frame) → ThreadReadsSame core store.heap store frames
 own-frames core store [] = tt
@@ -162,9 +162,9 @@ heap-stays core s next t turn goes =
 
 -- ---- so many steps
 
-ran-later : (heap : Heap) (r : Ran) → later (ran_in heap r) ≡ ran_in heap (later r)
+ran-later : (heap : Heap) (r : Ran) → one_step_more (ran_in heap r) ≡ ran_in heap (one_step_more r)
 ran-later heap (Came to left) = refl
-ran-later heap (Broke halt at steps) = refl
+ran-later heap (Halted halt at steps) = refl
 
 -- steps that are made from each next state go on the same way
 abbrev GoSame : Core → Heap → ℕ → ℕ → Type 0
@@ -177,7 +177,7 @@ went-same : (core : Core) (heap : Heap) (t n : ℕ) (turns : List Turn) (s : Sta
     went (runs core t n turns) (state_in heap s) (within (state_in heap) next)
     ≡ ran_in heap (went (runs core t n turns) s next)
 went-same core heap t n turns s (Goes x) full ih all =
-    ap later (ih turns x (full x refl) all) ∙ ran-later heap (runs core t n turns x)
+    ap one_step_more (ih turns x (full x refl) all) ∙ ran-later heap (runs core t n turns x)
 went-same core heap t n turns s (Sticks why) full ih all = refl
 went-same core heap t n turns s (Waits monitor) full ih all = refl
 went-same core heap t n turns s Ends full ih all = refl
@@ -203,10 +203,10 @@ touch_first frame todo = option_and_then (todo_touch frame) (slice_get todo 0)
 none-at-turn : (core : Core) (s : State) (frame : Frame) (todo : List Todo) → at_turn (slice_get todo 0) ≡ true →
     given core s (touch_first frame todo) ≡ []
 none-at-turn core s frame [] e = absurd cc
-none-at-turn core s frame (Operate place op ∷ rest) e = absurd cc
-none-at-turn core s frame (Choose left right ∷ rest) e = refl
-none-at-turn core s frame (Repeat body ∷ rest) e = refl
-none-at-turn core s frame (Lock place body ∷ rest) e = absurd cc
+none-at-turn core s frame (Op place op ∷ rest) e = absurd cc
+none-at-turn core s frame (Choice left right ∷ rest) e = refl
+none-at-turn core s frame (Loop body ∷ rest) e = refl
+none-at-turn core s frame (Sync place body ∷ rest) e = absurd cc
 none-at-turn core s frame (Unlock ∷ rest) e = absurd cc
 
 none-in-frames : (core : Core) (s : State) (frames : List Frame) →
@@ -222,7 +222,7 @@ turn-reads-none core s t e = none-in-frames core s (thread_of s t).frames e
 
 abbrev run_taking : Core → Heap → ℕ → ℕ → State → List Turn → Ran
 run_taking core heap t n s turns =
-    elim turns [ [] ↦ Broke NoTurn s 0 | ◌∷◌ turn rest ↦ went (runs core t n rest) s (step core s t turn) ]
+    elim turns [ [] ↦ Halted NoTurn s 0 | ◌∷◌ turn rest ↦ went (runs core t n rest) s (step core s t turn) ]
 
 abbrev reads_taking : Core → ℕ → ℕ → State → List Turn → List StartPath
 reads_taking core t n s turns =
@@ -253,9 +253,9 @@ runs-same core heap t (suc n) = λ turns s there all.
 
 -- ---- the heap stays along a run
 
-later-heap : (heap : Heap) (r : Ran) (to : State) (left : List Turn) → later r ≡ Came to left → r ≡ Came to left
+later-heap : (heap : Heap) (r : Ran) (to : State) (left : List Turn) → one_step_more r ≡ Came to left → r ≡ Came to left
 later-heap heap (Came x left) to rest e = e
-later-heap heap (Broke halt at steps) to rest e = absurd cc
+later-heap heap (Halted halt at steps) to rest e = absurd cc
 
 went-heap : (core : Core) (t n : ℕ) (turns : List Turn) (s to : State) (left : List Turn) (next : Next State) →
     ((x : State) → next ≡ Goes x → x.store.heap ≡ s.store.heap) →
@@ -273,12 +273,12 @@ run-heap core t zero turns s to left e = let same : s ≡ to = cc in ap (λ (x :
 run-heap core t (suc n) turns s to left e =
     (elim (wants_turn s t) as (λ b. cond b
     (elim turns as (λ _. Ran) [
-      | [] ↦ Broke NoTurn s 0
+      | [] ↦ Halted NoTurn s 0
       | ◌∷◌ turn rest ↦ went (runs core t n rest) s (step core s t turn)
     ]) (went (runs core t n turns) s (step core s t Right)) ≡ Came to left → to.store.heap ≡ s.store.heap) [
       | true ↦ elim turns as (λ ts.
           (elim ts as (λ _. Ran) [
-            | [] ↦ Broke NoTurn s 0
+            | [] ↦ Halted NoTurn s 0
             | ◌∷◌ turn rest ↦ went (runs core t n rest) s (step core s t turn)
           ]) ≡ Came to left → to.store.heap ≡ s.store.heap) [
             | [] ↦ λ e. absurd cc

@@ -17,7 +17,7 @@ use Rattle.core_semantics.specs.declared.answer.Why.TheVariants.{UnreadCall as U
 use Rattle.core_semantics.specs.declared.object.Object.{Object}
 use Rattle.core_semantics.specs.declared.object.Value.TheVariants.{Null}
 use Rattle.core_semantics.specs.Objects.{same_monitor}
-use Rattle.core_semantics.specs.State.{Frame, State, Store, Thread, Todo, Operate, Choose, Repeat, Lock, Unlock}
+use Rattle.core_semantics.specs.State.{Frame, State, Store, Thread, Todo, Op, Choice, Loop, Sync, Unlock}
 use Rattle.core_semantics.specs.State.{thread_of, other_of, with_thread}
 use Rattle.core_semantics.specs.Steps.{After, Inner, Next, Goes, Sticks, Waits, Ends, Spot, base_of, called_method}
 use Rattle.core_semantics.specs.Steps.{entering, going, inner, inner_step, lock_with, locking, monitor_of}
@@ -167,20 +167,20 @@ lock-same heap others s body (Err why) = refl
 -- what the next step of a frame reads is the same in the other heap
 abbrev pub NextReadsSame : Core → Heap → Store → Frame → List Todo → Type 0
 NextReadsSame core heap store frame [] = Unit {0}
-NextReadsSame core heap store frame (Operate place op ∷ rest) = ReadsSame core heap store frame op
-NextReadsSame core heap store frame (Choose left right ∷ rest) = Unit {0}
-NextReadsSame core heap store frame (Repeat body ∷ rest) = Unit {0}
-NextReadsSame core heap store frame (Lock place body ∷ rest) = Unit {0}
+NextReadsSame core heap store frame (Op place op ∷ rest) = ReadsSame core heap store frame op
+NextReadsSame core heap store frame (Choice left right ∷ rest) = Unit {0}
+NextReadsSame core heap store frame (Loop body ∷ rest) = Unit {0}
+NextReadsSame core heap store frame (Sync place body ∷ rest) = Unit {0}
 NextReadsSame core heap store frame (Unlock ∷ rest) = Unit {0}
 
 todo-same : (core : Core) (heap : Heap) (turn : Turn) (others : List Holder) (s : Spot) (todo : List Todo) →
     NextReadsSame core heap s.store s.frame todo →
     todo_step core turn others (spot_in heap s) todo ≡ within (after_in heap) (todo_step core turn others s todo)
 todo-same core heap turn others s [] same = refl
-todo-same core heap turn others s (Operate place op ∷ rest) same = operated-same core heap s rest op same
-todo-same core heap turn others s (Choose left right ∷ rest) same = refl
-todo-same core heap turn others s (Repeat body ∷ rest) same = refl
-todo-same core heap turn others s (Lock place body ∷ rest) same =
+todo-same core heap turn others s (Op place op ∷ rest) same = operated-same core heap s rest op same
+todo-same core heap turn others s (Choice left right ∷ rest) same = refl
+todo-same core heap turn others s (Loop body ∷ rest) same = refl
+todo-same core heap turn others s (Sync place body ∷ rest) same =
     lock-same heap others (with_todo s rest) body (monitor_of (top s.frame))
 todo-same core heap turn others s (Unlock ∷ rest) same = refl
 

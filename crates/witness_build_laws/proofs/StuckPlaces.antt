@@ -8,9 +8,9 @@ use Rattle.core_semantics.specs.declared.answer.Holder.{Holder}
 use Rattle.core_semantics.specs.declared.answer.Turn.{Turn}
 use Rattle.core_semantics.specs.declared.answer.Turn.TheVariants.{Right}
 use Rattle.core_semantics.specs.declared.answer.Why.{Why}
-use Rattle.core_semantics.specs.Legs.{Ran, Came, Broke, NoTurn, StuckFor, later, runs, went}
+use Rattle.core_semantics.specs.Legs.{Ran, Came, Halted, NoTurn, StuckFor, one_step_more, runs, went}
 use Rattle.core_semantics.specs.Runs.{next_of, place, place_of, wants_turn}
-use Rattle.core_semantics.specs.State.{Frame, State, Store, Thread, Todo, Operate, Choose, Repeat, Lock, Unlock}
+use Rattle.core_semantics.specs.State.{Frame, State, Store, Thread, Todo, Op, Choice, Loop, Sync, Unlock}
 use Rattle.core_semantics.specs.State.{other_of, thread_of, with_thread}
 use Rattle.core_semantics.specs.Steps.{After, Next, Goes, Sticks, Waits, Ends, Spot, frame_step, lock_step, operated}
 use Rattle.core_semantics.specs.Steps.{step, thread_step, todo_step, top, with_todo, within}
@@ -34,10 +34,10 @@ first_place todo = option_and_then place_of (slice_get todo 0)
 todo-placed : (core : Core) (turn : Turn) (others : List Holder) (s : Spot) (todo : List Todo) →
     Placed (first_place todo) (todo_step core turn others s todo)
 todo-placed core turn others s [] = tt
-todo-placed core turn others s (Operate at op ∷ rest) = there at (operated core s rest op)
-todo-placed core turn others s (Choose left right ∷ rest) = tt
-todo-placed core turn others s (Repeat body ∷ rest) = tt
-todo-placed core turn others s (Lock at body ∷ rest) =
+todo-placed core turn others s (Op at op ∷ rest) = there at (operated core s rest op)
+todo-placed core turn others s (Choice left right ∷ rest) = tt
+todo-placed core turn others s (Loop body ∷ rest) = tt
+todo-placed core turn others s (Sync at body ∷ rest) =
     there at (lock_step others (with_todo s rest) body (top s.frame))
 todo-placed core turn others s (Unlock ∷ rest) = tt
 
@@ -75,11 +75,11 @@ step-placed core s t turn =
 
 abbrev PlacedIn : ℕ → Ran → Type 0
 PlacedIn t (Came to left) = Unit {0}
-PlacedIn t (Broke halt at steps) = (why : Why) → halt ≡ StuckFor why → (p : Place) × (place at t ≡ Some p)
+PlacedIn t (Halted halt at steps) = (why : Why) → halt ≡ StuckFor why → (p : Place) × (place at t ≡ Some p)
 
-later-placed : (t : ℕ) (r : Ran) → PlacedIn t r → PlacedIn t (later r)
+later-placed : (t : ℕ) (r : Ran) → PlacedIn t r → PlacedIn t (one_step_more r)
 later-placed t (Came to left) placed = tt
-later-placed t (Broke halt at steps) placed = placed
+later-placed t (Halted halt at steps) placed = placed
 
 went-placed : (t : ℕ) (rest : State → Ran) (s : State) (n : Next State) → Placed (place s t) n →
     ((next : State) → PlacedIn t (rest next)) → PlacedIn t (went rest s n)
@@ -93,11 +93,11 @@ runs-placed core t zero turns s = tt
 runs-placed core t (suc n) turns s =
     elim (wants_turn s t) as (λ b. PlacedIn t (cond b
     (elim turns as (λ _. Ran) [
-      | [] ↦ Broke NoTurn s 0
+      | [] ↦ Halted NoTurn s 0
       | ◌∷◌ turn rest ↦ went (runs core t n rest) s (step core s t turn)
     ]) (went (runs core t n turns) s (step core s t Right)))) [
       | true ↦ elim turns as (λ ts. PlacedIn t (elim ts as (λ _. Ran) [
-        | [] ↦ Broke NoTurn s 0
+        | [] ↦ Halted NoTurn s 0
         | ◌∷◌ turn rest ↦ went (runs core t n rest) s (step core s t turn)
       ])) [
         | [] ↦ λ why same. absurd cc
@@ -112,5 +112,5 @@ runs-placed core t (suc n) turns s =
 
 -- where a run is stuck, its thread is at a place
 pub stuck-place : (core : Core) (t n : ℕ) (turns : List Turn) (s : State) (why : Why) (at : State) (steps : ℕ) →
-    runs core t n turns s ≡ Broke (StuckFor why) at steps → (p : Place) × (place at t ≡ Some p)
+    runs core t n turns s ≡ Halted (StuckFor why) at steps → (p : Place) × (place at t ≡ Some p)
 stuck-place core t n turns s why at steps is = (subst (PlacedIn t) is (runs-placed core t n turns s)) why refl

@@ -15,7 +15,7 @@ use Rattle.core_code.specs.Core.{Core, Method}
 use Rattle.core_code.specs.Program.{core as core_of}
 use Rattle.core_semantics.specs.declared.answer.Turn.{Turn}
 use Rattle.core_semantics.specs.declared.object.StartPath.{StartPath}
-use Rattle.core_semantics.specs.Legs.{Halt, Leg, Ran, Came, Broke, run, runs, whole}
+use Rattle.core_semantics.specs.Legs.{Halt, Leg, Ran, Came, Halted, run, runs, whole}
 use Rattle.core_semantics.specs.Runs.{given_to}
 use Rattle.core_semantics.specs.State.{State, Thread}
 use Rattle.core_ways.specs.Marks.{IsWhole, Pair, Said, Unnamed, Unstable, Unread, Long, Blocked, Confirmed}
@@ -70,10 +70,10 @@ module _ (core : Core) (t u : ℕ) (m n : MethodId) (i j : ℕ) (a b : Access) (
   legs = two_legs core t u m n i j
 
   first-breaks : (why_halt : Halt) (at : State) (steps : ℕ) →
-      runs core t first.steps first.turns s ≡ Broke why_halt at steps →
-      EndsAtAccess core m i a (given_to t f) s t (Broke why_halt at steps) → Ends core legs s
+      runs core t first.steps first.turns s ≡ Halted why_halt at steps →
+      EndsAtAccess core m i a (given_to t f) s t (Halted why_halt at steps) → Ends core legs s
   first-breaks why_halt at steps is (why, same) =
-      let breaks = is ∙ ap (λ (h : Halt). Broke h at steps) same in
+      let breaks = is ∙ ap (λ (h : Halt). Halted h at steps) same in
       let placed = stuck-place core t first.steps first.turns s why at steps breaks in
       inr (record {
         t = t;
@@ -96,10 +96,10 @@ module _ (core : Core) (t u : ℕ) (m n : MethodId) (i j : ℕ) (a b : Access) (
     comes = ap (λ (r : Ran). option_and_then (run core []) (whole r)) came
 
     second-breaks : (why_halt : Halt) (at : State) (steps : ℕ) →
-        runs core u second.steps second.turns to ≡ Broke why_halt at steps →
-        EndsAtAccess core n j b (given_to u g) to u (Broke why_halt at steps) → Ends core legs s
+        runs core u second.steps second.turns to ≡ Halted why_halt at steps →
+        EndsAtAccess core n j b (given_to u g) to u (Halted why_halt at steps) → Ends core legs s
     second-breaks why_halt at steps is (why, same) =
-        let breaks = is ∙ ap (λ (h : Halt). Broke h at steps) same in
+        let breaks = is ∙ ap (λ (h : Halt). Halted h at steps) same in
         let placed = stuck-place core u second.steps second.turns to why at steps breaks in
         inr (record {
           t = u;
@@ -134,13 +134,13 @@ module _ (core : Core) (t u : ℕ) (m n : MethodId) (i j : ℕ) (a b : Access) (
     second-ends : (r : Ran) → runs core u second.steps second.turns to ≡ r →
         EndsAtAccess core n j b (given_to u g) to u r → Ends core legs s
     second-ends (Came end left) is ends = second-comes end left is ends.0
-    second-ends (Broke why_halt at steps) is ends = second-breaks why_halt at steps is ends
+    second-ends (Halted why_halt at steps) is ends = second-breaks why_halt at steps is ends
 
   both-end : EndsFrom core t m i a f s →
       ((to : State) → IsAtAccess core m i a (given_to t f) s t to → EndsFrom core u n j b g to) →
       (r : Ran) → runs core t first.steps first.turns s ≡ r → EndsAtAccess core m i a (given_to t f) s t r →
       Ends core legs s
-  both-end one other (Broke why_halt at steps) is ends = first-breaks why_halt at steps is ends
+  both-end one other (Halted why_halt at steps) is ends = first-breaks why_halt at steps is ends
   both-end one other (Came to left) is ends =
       second-ends to (is ∙ ap (λ (ts : List Turn). Came to ts) ends.0)
       (runs core u second.steps second.turns to) refl (other to ends.1)

@@ -11,7 +11,7 @@ use Rattle.access_paths.specs.declared.path.Root.TheVariants.{This, Class, Forma
 use Rattle.access_paths.specs.Paths.{is_some_root}
 use Rattle.core_code.specs.Core.{Core}
 use Rattle.core_semantics.specs.declared.object.Start.TheVariants.{All}
-use Rattle.core_semantics.specs.Legs.{Leg, Ran, Came, Broke, run, runs, whole}
+use Rattle.core_semantics.specs.Legs.{Leg, Ran, Came, Halted, run, runs, whole}
 use Rattle.core_semantics.specs.Runs.{begun, place}
 use Rattle.core_semantics.specs.State.{State}
 use Rattle.access_domain.specs.declared.access.Access.{Access}
@@ -49,11 +49,11 @@ none_after : (core : Core) (leg : Leg) (legs : List Leg) (r : Ran) →
     IsSome (option_and_then (run core legs) (whole r)) →
     ◌≡◌ {A = Option (ℕ × Option Place)} (elim r [
       | Came to left ↦ first_halt core legs to
-      | Broke halt at steps ↦ Some (leg.thread, place at leg.thread)
+      | Halted halt at steps ↦ Some (leg.thread, place at leg.thread)
     ]) None
 none_after core leg legs (Came to []) rest comes = rest to comes
 none_after core leg legs (Came to (turn ∷ turns)) rest comes = absurd (false≢true comes)
-none_after core leg legs (Broke halt at steps) rest comes = absurd (false≢true comes)
+none_after core leg legs (Halted halt at steps) rest comes = absurd (false≢true comes)
 
 none_halts : (core : Core) (legs : List Leg) (s : State) → IsSome (run core legs s) → first_halt core legs s ≡ None
 none_halts core [] s comes = refl

@@ -15,7 +15,7 @@ use Rattle.core_semantics.specs.declared.answer.Turn.{Turn}
 use Rattle.core_semantics.specs.declared.object.Object.{Object}
 use Rattle.core_semantics.specs.declared.object.Start.TheVariants.{All, Only}
 use Rattle.core_semantics.specs.declared.object.StartPath.{StartPath}
-use Rattle.core_semantics.specs.Legs.{Leg, Ran, Came, Broke, run, run_leg, runs, whole}
+use Rattle.core_semantics.specs.Legs.{Leg, Ran, Came, Halted, run, run_leg, runs, whole}
 use Rattle.core_semantics.specs.Objects.{same_object}
 use Rattle.core_semantics.specs.Runs.{begun, do_meet, given_to, is_in, races, writes}
 use Rattle.core_semantics.specs.Same.{same_object-itself}
@@ -125,4 +125,4 @@ legs-come-in core m1 m2 t u m n i j a b f g objects is come =
   where
     reads_behind_first : Core → ℕ → Trip → Ran → List StartPath
     reads_behind_first core u other r =
-        elim r [ Came to left ↦ reads_of_legs core (leg_along u other ∷ []) to | Broke halt at steps ↦ [] ]
+        elim r [ Came to left ↦ reads_of_legs core (leg_along u other ∷ []) to | Halted halt at steps ↦ [] ]

@@ -1,7 +1,7 @@
 -- A contract of a public call rests on this: states and runs that are the same but for the start heap.
 use Rattle.std.specs.Prelude.{◌≡◌, Bool, true, List, [], ◌∷◌}
 use Rattle.core_semantics.specs.declared.object.StartPath.{StartPath}
-use Rattle.core_semantics.specs.Legs.{Ran, Came, Broke}
+use Rattle.core_semantics.specs.Legs.{Ran, Came, Halted}
 use Rattle.core_semantics.specs.State.{State, Store}
 use Rattle.core_semantics.specs.Steps.{After}
 
@@ -21,7 +21,7 @@ state_in heap s = record { store = store_in heap s.store; first = s.first; secon
 
 abbrev pub ran_in : Heap → Ran → Ran
 ran_in heap (Came to left) = Came (state_in heap to) left
-ran_in heap (Broke halt at steps) = Broke halt (state_in heap at) steps
+ran_in heap (Halted halt at steps) = Halted halt (state_in heap at) steps
 
 -- all of these paths are objects
 abbrev pub HasAll : Heap → List StartPath → Type 0

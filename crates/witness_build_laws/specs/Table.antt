@@ -7,7 +7,7 @@ use Rattle.access_paths.specs.Paths.{is_some_root}
 use Rattle.core_code.specs.Core.{Core}
 use Rattle.core_semantics.specs.declared.answer.Why.{Why}
 use Rattle.core_semantics.specs.declared.object.Start.TheVariants.{All}
-use Rattle.core_semantics.specs.Legs.{Leg, Broke, StuckFor, run, runs}
+use Rattle.core_semantics.specs.Legs.{Leg, Halted, StuckFor, run, runs}
 use Rattle.core_semantics.specs.Runs.{begun, place}
 use Rattle.core_semantics.specs.State.{State}
 use Rattle.core_ways.specs.Marks.{IsWhole, Said, Unnamed, Unstable, Unread, Long, Blocked, Confirmed, first_long}
@@ -23,7 +23,7 @@ pub record IsStuckAt (core : Core) (leg : Leg) (from : State) (at : Place) : Typ
   pub why : Why
   pub stop : State
   pub steps : ℕ
-  pub breaks : runs core leg.thread leg.steps leg.turns from ≡ Broke (StuckFor why) stop steps
+  pub breaks : runs core leg.thread leg.steps leg.turns from ≡ Halted (StuckFor why) stop steps
   pub place : place stop leg.thread ≡ Some at
 
 -- one of these legs is stuck so, and those before it are made, with all of their turns

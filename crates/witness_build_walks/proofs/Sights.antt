@@ -16,7 +16,7 @@ use Rattle.core_semantics.specs.Changes.{todo_change, todo_sight}
 use Rattle.core_semantics.specs.Changes.{touch_looks}
 use Rattle.core_semantics.specs.Runs.{Access, access_of, frame_touch, innermost, is_turn, next_of, next_value, op_touch}
 use Rattle.core_semantics.specs.Runs.{todo_touch, value_read, wants_turn}
-use Rattle.core_semantics.specs.State.{Frame, State, Store, Todo, Operate, Choose, Repeat, Lock, Unlock}
+use Rattle.core_semantics.specs.State.{Frame, State, Store, Todo, Op, Choice, Loop, Sync, Unlock}
 use Rattle.core_semantics.specs.Steps.{kind_of, slot_of, top}
 use Rattle.witness_build_walks.specs.Walks.{fields_of, listed}
 
@@ -90,10 +90,10 @@ sight_at core f o = elim o as (λ _. Sight) [ None ↦ quiet_sight false | Some 
 doing : (core : Core) (store : Store) (f : Frame) (o : Option Todo) →
     Tells core store (turns_at o) (option_and_then (todo_touch f) o) (change_at core f o) (sight_at core f o)
 doing core store f None = quietly core store false
-doing core store f (Some (Operate place op)) = operating core store f op
-doing core store f (Some (Choose left right)) = quietly core store true
-doing core store f (Some (Repeat body)) = quietly core store true
-doing core store f (Some (Lock place body)) = quietly core store false
+doing core store f (Some (Op place op)) = operating core store f op
+doing core store f (Some (Choice left right)) = quietly core store true
+doing core store f (Some (Loop body)) = quietly core store true
+doing core store f (Some (Sync place body)) = quietly core store false
 doing core store f (Some Unlock) = quietly core store false
 
 abbrev sight_in : Core → Option Frame → Sight

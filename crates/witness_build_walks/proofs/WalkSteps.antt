@@ -15,7 +15,7 @@ use Rattle.core_semantics.specs.declared.object.Value.{Value}
 use Rattle.core_semantics.specs.Changes.{Change, Spot, field_change, step_change, step_looks}
 use Rattle.core_semantics.specs.Runs.{Access, begun, frame_touch, innermost, is_turn, next_of, next_touch, next_value}
 use Rattle.core_semantics.specs.Runs.{todo_touch, value_read, wants_turn}
-use Rattle.core_semantics.specs.State.{Frame, State, Todo, Operate, Choose, Repeat, Lock, Unlock}
+use Rattle.core_semantics.specs.State.{Frame, State, Todo, Op, Choice, Loop, Sync, Unlock}
 use Rattle.core_semantics.specs.View.{state_of}
 use Rattle.core_ways.specs.Ends.{Going, leg_reads, one_step, reads_behind, step_reads}
 use Rattle.core_ways.specs.Gathered.{gathered, paths_of}
@@ -37,10 +37,10 @@ turns_at o = elim o as (λ _. Bool) [ None ↦ false | Some todo ↦ is_turn tod
 
 todo-touches : (f : Frame) (o : Option Todo) → turns_at o ≡ true → option_and_then (todo_touch f) o ≡ None
 todo-touches f None e = refl
-todo-touches f (Some (Operate place op)) e = absurd cc
-todo-touches f (Some (Choose left right)) e = refl
-todo-touches f (Some (Repeat body)) e = refl
-todo-touches f (Some (Lock place body)) e = absurd cc
+todo-touches f (Some (Op place op)) e = absurd cc
+todo-touches f (Some (Choice left right)) e = refl
+todo-touches f (Some (Loop body)) e = refl
+todo-touches f (Some (Sync place body)) e = absurd cc
 todo-touches f (Some Unlock) e = absurd cc
 
 -- a choice or a loop touches nothing

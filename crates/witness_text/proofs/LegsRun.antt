@@ -6,17 +6,17 @@ use Rattle.std.specs.Borrow.{Bor}
 use Rattle.core_code.specs.Core.{Core}
 use Rattle.core_semantics.specs.declared.answer.Turn.{Turn}
 use Rattle.core_semantics.specs.declared.answer.Turn.TheVariants.{Right}
-use Rattle.core_semantics.specs.Legs.{Ran, Came, Broke, NoTurn, later, runs, went}
+use Rattle.core_semantics.specs.Legs.{Ran, Came, Halted, NoTurn, one_step_more, runs, went}
 use Rattle.core_semantics.specs.Runs.{wants_turn}
 use Rattle.core_semantics.specs.State.{State}
 use Rattle.core_semantics.specs.Steps.{Next, Goes, Sticks, Waits, Ends, step}
 use Rattle.core_ways.specs.Ends.{Going, IsAdvance, made_of, one_step, turned, with_turns}
 use Rattle.witness_text.specs.Replays.{Replayed, Stops, Through, replayed}
 
-replayed-later : (made most : ℕ) (r : Ran) → replayed made most (later r) ≡ replayed (suc made) most r
+replayed-later : (made most : ℕ) (r : Ran) → replayed made most (one_step_more r) ≡ replayed (suc made) most r
 replayed-later made most (Came to []) = refl
 replayed-later made most (Came to (turn ∷ turns)) = refl
-replayed-later made most (Broke halt at n) =
+replayed-later made most (Halted halt at n) =
     let e : made + suc n ≡ suc made + n = omega arith in
     ap Stops e
 
@@ -39,7 +39,7 @@ went-behind core t n made most turns s Ends = stops-here made
 
 turned-behind : (core : Core) (t n made most : ℕ) (turns : List Turn) (s : State) →
     replayed made most
-    (elim turns [ [] ↦ Broke NoTurn s 0 | ◌∷◌ turn rest ↦ went (runs core t n rest) s (step core s t turn) ])
+    (elim turns [ [] ↦ Halted NoTurn s 0 | ◌∷◌ turn rest ↦ went (runs core t n rest) s (step core s t turn) ])
     ≡ behind core t n made most (turned core t turns s)
 turned-behind core t n made most [] s = stops-here made
 turned-behind core t n made most (turn ∷ rest) s = went-behind core t n made most rest s (step core s t turn)

@@ -4,7 +4,7 @@ use Rattle.std.proofs.Common.{map}
 use Rattle.std.specs.Option.{option_and_then}
 use Rattle.core_code.specs.Core.{Core, Method}
 use Rattle.core_semantics.specs.declared.object.StartPath.{StartPath}
-use Rattle.core_semantics.specs.Legs.{Leg, Ran, Came, Broke, run, runs, whole}
+use Rattle.core_semantics.specs.Legs.{Leg, Ran, Came, Halted, run, runs, whole}
 use Rattle.core_semantics.specs.Runs.{races}
 use Rattle.core_semantics.specs.State.{State}
 use Rattle.race_report_parts.specs.Marks.{start_text}
@@ -23,7 +23,7 @@ behind_ran core ends i leg legs r =
         | [] ↦ legs_verdict core ends (suc i) legs to
         | ◌∷◌ turn turns ↦ StopsAt i leg.steps
       ]
-      | Broke halt at steps ↦ StopsAt i steps
+      | Halted halt at steps ↦ StopsAt i steps
     ]
 
 came : (core : Core) (ends : State → Verdict) (i : ℕ) (leg : Leg) (legs : List Leg) (end : State) (v : Verdict)
@@ -33,7 +33,7 @@ came : (core : Core) (ends : State → Verdict) (i : ℕ) (leg : Leg) (legs : Li
     behind_ran core ends i leg legs r ≡ v
 came core ends i leg legs end v (Came to []) e later = later to e
 came core ends i leg legs end v (Came to (turn ∷ turns)) e later = absurd cc
-came core ends i leg legs end v (Broke halt at steps) e later = absurd cc
+came core ends i leg legs end v (Halted halt at steps) e later = absurd cc
 
 -- the verdict of legs that can all be run is that of the state behind them
 pub legs-end : (core : Core) (ends : State → Verdict) (i : ℕ) (legs : List Leg) (s end : State) →
@@ -49,7 +49,7 @@ pub through : (core : Core) (ends : State → Verdict) (i : ℕ) (leg : Leg) (le
     behind_ran core ends i leg legs r ≡ legs_verdict core ends (suc i) legs to
 through core ends i leg legs (Came end []) to is = ap (legs_verdict core ends (suc i) legs) is
 through core ends i leg legs (Came end (turn ∷ turns)) to is = absurd is
-through core ends i leg legs (Broke halt at steps) to is = absurd is
+through core ends i leg legs (Halted halt at steps) to is = absurd is
 
 pub race-is : (end : State) → races end ≡ true → race_verdict end ≡ Races
 race-is end e = ap (λ (b : Bool). cond b Races NoConflict) e

@@ -14,7 +14,7 @@ use Rattle.race_pairs.specs.declared.warning.Warning.{Warning}
 use Rattle.witness_build_laws.specs.Warned.{warning_mark}
 use Rattle.race_report_parts.specs.Json.{mark_value}
 use Rattle.race_report_parts.specs.Marks.{start_text}
-use Rattle.race_report_parts.specs.Places.{Held}
+use Rattle.race_report_parts.specs.Places.{OwnedRecord}
 use Rattle.race_report_parts.specs.Told.{Side, Sides, side_from, side_of, sides_from, sides_of}
 use Rattle.race_report_parts.specs.WitnessFiles.{file_named, file_of_run}
 use Rattle.witness_text_files.specs.Files.{File, file_of}
@@ -32,7 +32,8 @@ use Rattle.witness_text.proofs.WithinLimits.{witness-within}
 abbrev method_in : Option Side → Option Method
 method_in o = option_map (λ (s : Side). s.method) o
 
-side-method : (core : Core) (o : Option Method) (held : Option Held) (side : Side) → side_from core o held ≡ Some side →
+side-method : (core : Core) (o : Option Method) (held : Option OwnedRecord) (side : Side) →
+    side_from core o held ≡ Some side →
     o ≡ Some side.method
 side-method core None held side is = absurd cc
 side-method core (Some m) None side is = absurd cc

@@ -12,7 +12,7 @@ use Rattle.access_paths.specs.Paths.{is_some_root}
 use Rattle.core_code.specs.Core.{Core, Method}
 use Rattle.core_semantics.specs.declared.object.Start.TheVariants.{All}
 use Rattle.core_semantics.specs.declared.object.StartPath.{StartPath}
-use Rattle.core_semantics.specs.Legs.{Leg, Ran, Came, Broke, runs}
+use Rattle.core_semantics.specs.Legs.{Leg, Ran, Came, Halted, runs}
 use Rattle.core_semantics.specs.Objects.{same_start_path}
 use Rattle.core_semantics.specs.Runs.{begun}
 use Rattle.core_semantics.specs.State.{State}
@@ -149,10 +149,10 @@ behind-few : (core : Core) (legs : List Leg) (n : ℕ) (r : Ran) →
     ((s : State) → length (reads_of_legs core legs s) ≤ n) →
     length (elim r as (λ _. List StartPath) [
       | Came to left ↦ reads_of_legs core legs to
-      | Broke halt at steps ↦ []
+      | Halted halt at steps ↦ []
     ]) ≤ n
 behind-few core legs n (Came to left) few = few to
-behind-few core legs n (Broke halt at steps) few = omega arith
+behind-few core legs n (Halted halt at steps) few = omega arith
 
 one-few : (core : Core) (leg : Leg) (legs : List Leg) (n : ℕ) (s : State) →
     ((to : State) → length (reads_of_legs core legs to) ≤ n) →
@@ -163,7 +163,7 @@ one-few core leg legs n s few =
     let both = length-append (reads core leg.thread leg.steps leg.turns s)
     (elim (runs core leg.thread leg.steps leg.turns s) as (λ _. List StartPath) [
       | Came to left ↦ reads_of_legs core legs to
-      | Broke halt at steps ↦ []
+      | Halted halt at steps ↦ []
     ]) in
     omega (arith, first, rest, both)
 

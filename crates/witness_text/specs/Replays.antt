@@ -1,6 +1,6 @@
 -- No public contract rests on this: a leg that is run, as far as it comes.
 use Rattle.std.specs.Prelude.{◌≡◌, ℕ, ◌+◌, [], ◌∷◌, Option, None, Some}
-use Rattle.core_semantics.specs.Legs.{Ran, Came, Broke}
+use Rattle.core_semantics.specs.Legs.{Ran, Came, Halted}
 use Rattle.core_semantics.specs.State.{State}
 
 -- all steps were made and no turn is left, or after how many the leg stops
@@ -12,7 +12,7 @@ pub data Replayed : Type 0 where
 abbrev pub replayed : ℕ → ℕ → Ran → Replayed
 replayed made most (Came to []) = Through to
 replayed made most (Came to (turn ∷ turns)) = Stops most
-replayed made most (Broke halt at steps) = Stops (made + steps)
+replayed made most (Halted halt at steps) = Stops (made + steps)
 
 -- what is told of it, and the state behind it
 abbrev pub IsReplayed : Replayed → Option ℕ → State → Type 0

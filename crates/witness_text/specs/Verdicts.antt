@@ -4,13 +4,13 @@ use Rattle.std.specs.Prelude.{ℕ, suc, List, [], ◌∷◌, Option, Some, if◌
 use Rattle.racer_base.specs.declared.ids.MethodId.{MethodId}
 use Rattle.core_code.specs.Core.{Core}
 use Rattle.core_semantics.specs.declared.object.Start.TheVariants.{Only}
-use Rattle.core_semantics.specs.Legs.{Leg, Came, Broke, runs}
+use Rattle.core_semantics.specs.Legs.{Leg, Came, Halted, runs}
 use Rattle.core_semantics.specs.Runs.{begun, races}
 use Rattle.core_semantics.specs.State.{State}
 use Rattle.witness_text_files.specs.Files.{File}
 use Rattle.witness_text_names.specs.declared.objects.Named.{Named}
 use Rattle.witness_text_names.specs.declared.objects.Named.TheVariants.{All, NoneAt}
-use Rattle.witness_text_names.specs.Names.{Found, entry_named}
+use Rattle.witness_text_names.specs.Names.{NumberedMethod, entry_named}
 use Rattle.witness_text_names.specs.Objects.{objects_named}
 use Rattle.witness_text.specs.declared.verdict.Verdict.{Verdict}
 use Rattle.witness_text.specs.declared.verdict.Verdict.TheVariants.{NoConflict, NoSuchEntry, NoSuchObject, Races}
@@ -26,7 +26,7 @@ legs_verdict core ends i (leg ∷ legs) s =
         | [] ↦ legs_verdict core ends (suc i) legs to
         | ◌∷◌ turn turns ↦ StopsAt i leg.steps
       ]
-      | Broke halt at steps ↦ StopsAt i steps
+      | Halted halt at steps ↦ StopsAt i steps
     ]
 
 abbrev pub race_verdict : State → Verdict
@@ -38,7 +38,7 @@ run_verdict core file m1 m2 (NoneAt i) = NoSuchObject i
 run_verdict core file m1 m2 (All objects) =
     legs_verdict core race_verdict 0 (file.first ∷ file.second ∷ []) (begun core m1 m2 (Only objects))
 
-abbrev pub entries_verdict : Core → File → Option Found → Option Found → Verdict
+abbrev pub entries_verdict : Core → File → Option NumberedMethod → Option NumberedMethod → Verdict
 entries_verdict core file (Some a) (Some b) =
     run_verdict core file (record { 0 = a.0 }) (record { 0 = b.0 }) (objects_named core a.1 b.1 file.objects)
 entries_verdict core file _ _ = NoSuchEntry

@@ -11,13 +11,13 @@ ghost use Rattle.witness_text.specs.Verdicts.{legs_verdict, race_verdict};
 
 use crate::Verdict;
 use core_code::Program;
-use core_semantics::{Machine, StepAnswer, Turn};
+use core_semantics::{Look, Machine, StepAnswer, Turn};
 use core_ways::Leg;
 use racer_base::Memory;
 use witness_text_files::WitnessFile;
 
 /// One step of a thread; these turns, which are left then, where it was made.
-fn go<'a, 't>(
+fn take_step<'a, 't>(
     program: &'a Program,
     machine: &mut Machine<'a>,
     thread: u32,
@@ -49,7 +49,7 @@ fn take_turn<'a, 't>(
 {
     match turns {
         [] => Ok(None),
-        [turn, rest @ ..] => go(program, machine, thread, *turn, rest),
+        [turn, rest @ ..] => take_step(program, machine, thread, *turn, rest),
     }
 }
 
@@ -63,10 +63,14 @@ fn advance<'a, 't>(
     ensures { IfOk result (λ rest. IsAdvance (one_step (core program.now) thread turns.now (state_of machine.old))
         (state_of machine.old) (state_of machine.new) rest) }
 {
-    if machine.wants_turn(thread) {
-        return take_turn(program, machine, thread, turns);
+    let Ok(look) = machine.look(thread) else {
+        return Err(Memory);
+    };
+    match look {
+        Look::Turn => take_turn(program, machine, thread, turns),
+        Look::Read => take_step(program, machine, thread, Turn::Right, turns),
+        Look::Other => take_step(program, machine, thread, Turn::Right, turns),
     }
-    go(program, machine, thread, Turn::Right, turns)
 }
 
 /// Runs a leg; after how many steps it stops, where it does.

@@ -2,4 +2,4 @@
 pub mod Files
 pub mod Answers
 pub mod Written
-pub mod Rows
+pub mod Examples

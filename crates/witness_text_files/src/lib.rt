@@ -3,7 +3,7 @@
 //! - `specs/Files.antt`: the file that a value in JSON is, or the first of its members that is missing or otherwise.
 //! - `specs/Written.antt`: the value in JSON that a file is written as.
 //! - `specs/Answers.antt`: what contracts see of a `WitnessFile`, and what is answered of bytes.
-//! - `specs/Rows.antt`: files as texts, on which `laws` tries these definitions.
+//! - `specs/Examples.antt`: files as texts, on which `laws` tries these definitions.
 //!
 //! JSON is what `serde_json` takes: a text by RFC 8259 that nests at most 127 deep, where of a key that comes twice the
 //! last value stays, and a number too large for a float or half of a surrogate pair makes the text no JSON.

@@ -5,11 +5,11 @@ use Rattle.std.proofs.lemmas.List.{at_drop_all, at_drop_more}
 use Rattle.std.specs.List.{enumerate_from, find}
 use Rattle.core_code.specs.declared.parts.MethodCore.{MethodCore}
 use Rattle.core_code.specs.Core.{Core, method_of}
-use Rattle.witness_text_names.specs.Names.{Found, is_named}
+use Rattle.witness_text_names.specs.Names.{NumberedMethod, is_named}
 
 module _ (core : Core) (class text : List ℕ) where
   -- the first entry among numbered methods
-  abbrev pub entry_from : ℕ → List MethodCore → Option Found
+  abbrev pub entry_from : ℕ → List MethodCore → Option NumberedMethod
   entry_from n ms = find (λ e. is_named core class text e.1) (enumerate_from n (map method_of ms))
 
   at_next : (ms : List MethodCore) (i : ℕ) (x : MethodCore) → i < length ms → x ≡ get_or ms i x →

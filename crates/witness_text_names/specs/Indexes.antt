@@ -19,10 +19,10 @@ use Rattle.core_ways_objects.specs.Reached.{behind}
 use Rattle.witness_text_names.specs.declared.entries.Entry.{Entry}
 use Rattle.witness_text_names.specs.declared.reached.Reached.{Reached}
 use Rattle.witness_text_names.specs.declared.reached.Reached.TheVariants as code
-use Rattle.witness_text_names.specs.Names.{Found, field_named, is_field_named}
+use Rattle.witness_text_names.specs.Names.{NumberedMethod, field_named, is_field_named}
 
 -- what is seen of an entry, and of what a start path leads to
-abbrev pub found_by : Entry → Found
+abbrev pub found_by : Entry → NumberedMethod
 found_by e = (e.number.0, method_of e.method.now)
 
 abbrev pub reached_of : Reached → right.Reached

@@ -20,15 +20,15 @@ use Rattle.race_report_parts.specs.WitnessFiles.{entry_text}
 -- ---- entries
 
 -- a method with its number
-abbrev pub Found : Type 0
-Found = ℕ × Method
+abbrev pub NumberedMethod : Type 0
+NumberedMethod = ℕ × Method
 
 -- the entry of this text of the class of this name; entries are methods of checked classes
 abbrev pub is_named : Core → List ℕ → List ℕ → Method → Bool
 is_named core class text m =
     m.entry && same_text (name_at (class_names core) m.class.0) class && same_text (entry_text m) text
 
-abbrev pub entry_named : Core → List ℕ → List ℕ → Option Found
+abbrev pub entry_named : Core → List ℕ → List ℕ → Option NumberedMethod
 entry_named core class text = find (λ e. is_named core class text e.1) (enumerate_from 0 core.methods)
 
 -- ---- start paths

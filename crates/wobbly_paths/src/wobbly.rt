@@ -2,7 +2,7 @@
 ghost use Rattle.std.specs.Prelude.{◌≡◌, ◌≤◌, ◌&&◌, IfOk, MatchOption, length, nat_eq, vec_len};
 ghost use Rattle.std.specs.List.{list_any};
 ghost use Rattle.std.specs.FinSet as set;
-ghost use Rattle.racer_base.specs.declared.limits.TheConstants.{MAX_PATH_FIELDS, MAX_SUMMARY_KEYS};
+ghost use Rattle.racer_base.specs.declared.limits.TheConstants.{MAX_SUMMARY_KEYS};
 ghost use Rattle.access_paths.specs.Paths.{front, is_prefix};
 ghost use Rattle.wobbly_paths.specs.Sets.{IsAnswer, HasNoPrefix, IsShortestPrefix};
 
@@ -89,7 +89,6 @@ impl Wobbly {
 
     /// The number of fields of the shortest proper prefix of a path, the root alone included, that is in the set.
     pub fn unstable_prefix(&self, path: &Path) -> Option<u32>
-        requires { length path.now.fields ≤ MAX_PATH_FIELDS }
         ensures { MatchOption result (HasNoPrefix self.now path.now (length path.now.fields))
             (IsShortestPrefix self.now path.now) }
     {

@@ -9,13 +9,13 @@ use Rattle.core_lowering_methods.proofs.+lower_expressions.Given as goal
 
 abbrev pub invariant-invocations::lower_arguments-loop-index : goal.invariant-invocations::lower_arguments-loop-index
 invariant-invocations::lower_arguments-loop-index l =
-    code_of l.draft ++ passed l.around (drop l.index l.kinds) (pack_exprs (map expr_of (drop l.index l.arguments)))
-    ≡ code_of l.initial.draft ++ passed l.around l.kinds (pack_exprs (map expr_of l.arguments))
+    code_of l.draft ++ passed l.context (drop l.index l.kinds) (pack_exprs (map expr_of (drop l.index l.arguments)))
+    ≡ code_of l.initial.draft ++ passed l.context l.kinds (pack_exprs (map expr_of l.arguments))
 
 abbrev pub invariant-expressions::lower_array-loop-item : goal.invariant-expressions::lower_array-loop-item
 invariant-expressions::lower_array-loop-item l =
-    code_of l.draft ++ items_code l.around (pack_inits (map init_of (drop l.item-index l.items)))
-    ≡ code_of l.initial.draft ++ items_code l.around (pack_inits (map init_of l.items))
+    code_of l.draft ++ items_code l.context (pack_inits (map init_of (drop l.item-index l.items)))
+    ≡ code_of l.initial.draft ++ items_code l.context (pack_inits (map init_of l.items))
 
 -- the deepest part comes first, and of functions on one part the outer one
 abbrev pub decreases-expressions::lower_storage : goal.decreases-expressions::lower_storage

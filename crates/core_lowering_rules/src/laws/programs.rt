@@ -18,7 +18,7 @@ ghost use Rattle.core_code.specs.CallFacts.{do_end_by_return, are_calls_right, h
 ghost use Rattle.core_code.specs.Recursion.{all_rows, TellRecursion};
 ghost use Rattle.core_code.specs.KindCheck.{are_kinded};
 ghost use Rattle.core_code.specs.Names.{are_identifiers, do_classes_differ, do_fields_differ, do_methods_differ};
-ghost use Rattle.core_code.specs.Tree.{Nothing, Then, Either, Again, Held, in_sequence};
+ghost use Rattle.core_code.specs.Tree.{Skip, Seq, Choice, Loop, Sync, in_sequence};
 ghost use Rattle.core_code.specs.Pair.{at, step, pair, method_put, method_both};
 ghost use Rattle.core_lowering_rules.specs.Sites.{numbered};
 ghost use Rattle.core_lowering_rules.specs.Programs.{program_of, draft_of, in_order, call_edges};
@@ -51,18 +51,18 @@ pub fn entries_of_programs()
 pub fn codes_of_programs()
     ensures locks { codes_of (checked_class (empty_method (codes "synchronized" ∷ []) Constructor (codes "A") 0
         ∷ empty_method (codes "static" ∷ codes "synchronized" ∷ []) Void (codes "f") 0 ∷ []))
-        ≡ in_sequence (step 0 (at 1 9) (Push (record { 0 = 0 })) ∷ Held (at 1 9) Nothing
+        ≡ in_sequence (step 0 (at 1 9) (Push (record { 0 = 0 })) ∷ Sync (at 1 9) Skip
         ∷ step 1 (at 1 9) (Push (record { 0 = 0 })) ∷ step 2 (at 1 9) Ret ∷ [])
-        ∷ in_sequence (step 0 (at 1 9) (PushClass (record { 0 = 0 })) ∷ Held (at 1 9) Nothing
+        ∷ in_sequence (step 0 (at 1 9) (PushClass (record { 0 = 0 })) ∷ Sync (at 1 9) Skip
         ∷ step 1 (at 1 9) PushPrim ∷ step 2 (at 1 9) Ret ∷ []) ∷ [] }
 {}
 
 /// Operations are numbered in reading order.
 pub fn sites()
-    ensures { numbered 5 (Then (Either (step 0 (at 1 1) Ret) (Held (at 1 2) (step 0 (at 1 3) Drop)))
-        (Then (Again (step 0 (at 1 4) Drop)) (step 0 (at 1 5) Ret)))
-        ≡ Then (Either (step 5 (at 1 1) Ret) (Held (at 1 2) (step 6 (at 1 3) Drop)))
-        (Then (Again (step 7 (at 1 4) Drop)) (step 8 (at 1 5) Ret)) }
+    ensures { numbered 5 (Seq (Choice (step 0 (at 1 1) Ret) (Sync (at 1 2) (step 0 (at 1 3) Drop)))
+        (Seq (Loop (step 0 (at 1 4) Drop)) (step 0 (at 1 5) Ret)))
+        ≡ Seq (Choice (step 5 (at 1 1) Ret) (Sync (at 1 2) (step 6 (at 1 3) Drop)))
+        (Seq (Loop (step 7 (at 1 4) Drop)) (step 8 (at 1 5) Ret)) }
 {}
 
 /// Places go by file, line and column.

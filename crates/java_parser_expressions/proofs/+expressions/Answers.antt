@@ -11,8 +11,9 @@ use Rattle.java_parser_expressions.proofs.+expressions.Answers.Rows as rows
 pub expressions::climb-loop-preserved : goal.expressions::climb-loop-preserved
 expressions::climb-loop-preserved = loops.expressions::climb-loop-preserved
 
-pub first_operand::signed-returns-in-None-clause-gives : goal.first_operand::signed-returns-in-None-clause-gives
-first_operand::signed-returns-in-None-clause-gives = rows.first_operand::signed-returns-in-None-clause-gives
+pub first_operand::sign_operand-returns-in-None-clause-gives :
+    goal.first_operand::sign_operand-returns-in-None-clause-gives
+first_operand::sign_operand-returns-in-None-clause-gives = rows.first_operand::sign_operand-returns-in-None-clause-gives
 
 pub arguments::arguments-returns-in_err-next-clause-gives : goal.arguments::arguments-returns-in_err-next-clause-gives
 arguments::arguments-returns-in_err-next-clause-gives = loops.arguments::arguments-returns-in_err-next-clause-gives
@@ -182,19 +183,23 @@ pub expressions::turn-returns-then-not-goes_on-clause-gives :
     goal.expressions::turn-returns-then-not-goes_on-clause-gives
 expressions::turn-returns-then-not-goes_on-clause-gives = rows.expressions::turn-returns-then-not-goes_on-clause-gives
 
-pub first_operand::named-returns-then-class_follows-clause-gives :
-    goal.first_operand::named-returns-then-class_follows-clause-gives
-first_operand::named-returns-then-class_follows-clause-gives =
-    rows.first_operand::named-returns-then-class_follows-clause-gives
+pub first_operand::name_operand-returns-then-class_follows-clause-gives :
+    goal.first_operand::name_operand-returns-then-class_follows-clause-gives
+first_operand::name_operand-returns-then-class_follows-clause-gives =
+    rows.first_operand::name_operand-returns-then-class_follows-clause-gives
 
-pub first_operand::named-returns-in_default-clause-gives : goal.first_operand::named-returns-in_default-clause-gives
-first_operand::named-returns-in_default-clause-gives = rows.first_operand::named-returns-in_default-clause-gives
+pub first_operand::name_operand-returns-in_default-clause-gives :
+    goal.first_operand::name_operand-returns-in_default-clause-gives
+first_operand::name_operand-returns-in_default-clause-gives =
+    rows.first_operand::name_operand-returns-in_default-clause-gives
 
-pub first_operand::named-returns-in_err-all-clause-gives : goal.first_operand::named-returns-in_err-all-clause-gives
-first_operand::named-returns-in_err-all-clause-gives = rows.first_operand::named-returns-in_err-all-clause-gives
+pub first_operand::name_operand-returns-in_err-all-clause-gives :
+    goal.first_operand::name_operand-returns-in_err-all-clause-gives
+first_operand::name_operand-returns-in_err-all-clause-gives =
+    rows.first_operand::name_operand-returns-in_err-all-clause-gives
 
-pub first_operand::named-returns-clause-gives : goal.first_operand::named-returns-clause-gives
-first_operand::named-returns-clause-gives = rows.first_operand::named-returns-clause-gives
+pub first_operand::name_operand-returns-clause-gives : goal.first_operand::name_operand-returns-clause-gives
+first_operand::name_operand-returns-clause-gives = rows.first_operand::name_operand-returns-clause-gives
 
 pub expressions::assign-returns-clause-places : goal.expressions::assign-returns-clause-places
 expressions::assign-returns-clause-places = ends.expressions::assign-returns-clause-places
@@ -271,14 +276,14 @@ first_operand::cast-returns-clause-shorter = ends.first_operand::cast-returns-cl
 pub first_operand::cast-returns-clause-small : goal.first_operand::cast-returns-clause-small
 first_operand::cast-returns-clause-small = ends.first_operand::cast-returns-clause-small
 
-pub first_operand::named-returns-clause-places : goal.first_operand::named-returns-clause-places
-first_operand::named-returns-clause-places = ends.first_operand::named-returns-clause-places
+pub first_operand::name_operand-returns-clause-places : goal.first_operand::name_operand-returns-clause-places
+first_operand::name_operand-returns-clause-places = ends.first_operand::name_operand-returns-clause-places
 
-pub first_operand::named-returns-clause-shorter : goal.first_operand::named-returns-clause-shorter
-first_operand::named-returns-clause-shorter = ends.first_operand::named-returns-clause-shorter
+pub first_operand::name_operand-returns-clause-shorter : goal.first_operand::name_operand-returns-clause-shorter
+first_operand::name_operand-returns-clause-shorter = ends.first_operand::name_operand-returns-clause-shorter
 
-pub first_operand::named-returns-clause-small : goal.first_operand::named-returns-clause-small
-first_operand::named-returns-clause-small = ends.first_operand::named-returns-clause-small
+pub first_operand::name_operand-returns-clause-small : goal.first_operand::name_operand-returns-clause-small
+first_operand::name_operand-returns-clause-small = ends.first_operand::name_operand-returns-clause-small
 
 pub initialisers::read_initialiser-returns-clause-places : goal.initialisers::read_initialiser-returns-clause-places
 initialisers::read_initialiser-returns-clause-places = ends.initialisers::read_initialiser-returns-clause-places
@@ -406,19 +411,20 @@ expressions::climb-returns-clause-gives = loops.expressions::climb-returns-claus
 pub expressions::climb-loop-init : goal.expressions::climb-loop-init
 expressions::climb-loop-init = loops.expressions::climb-loop-init
 
-pub first_operand::signed-returns-in-Some-true-clause-gives :
-    goal.first_operand::signed-returns-in-Some-true-clause-gives
-first_operand::signed-returns-in-Some-true-clause-gives = rows.first_operand::signed-returns-in-Some-true-clause-gives
+pub first_operand::sign_operand-returns-in-Some-true-clause-gives :
+    goal.first_operand::sign_operand-returns-in-Some-true-clause-gives
+first_operand::sign_operand-returns-in-Some-true-clause-gives =
+    rows.first_operand::sign_operand-returns-in-Some-true-clause-gives
 
-pub first_operand::signed-returns-in-Some-false-clause-gives :
-    goal.first_operand::signed-returns-in-Some-false-clause-gives
-first_operand::signed-returns-in-Some-false-clause-gives =
-    rows.first_operand::signed-returns-in-Some-false-clause-gives
+pub first_operand::sign_operand-returns-in-Some-false-clause-gives :
+    goal.first_operand::sign_operand-returns-in-Some-false-clause-gives
+first_operand::sign_operand-returns-in-Some-false-clause-gives =
+    rows.first_operand::sign_operand-returns-in-Some-false-clause-gives
 
-pub first_operand::signed-returns-then-not-is_text-clause-gives :
-    goal.first_operand::signed-returns-then-not-is_text-clause-gives
-first_operand::signed-returns-then-not-is_text-clause-gives =
-    rows.first_operand::signed-returns-then-not-is_text-clause-gives
+pub first_operand::sign_operand-returns-then-not-is_text-clause-gives :
+    goal.first_operand::sign_operand-returns-then-not-is_text-clause-gives
+first_operand::sign_operand-returns-then-not-is_text-clause-gives =
+    rows.first_operand::sign_operand-returns-then-not-is_text-clause-gives
 
 pub creations::creation-returns-in-Some-after_brackets-clause-places :
     goal.creations::creation-returns-in-Some-after_brackets-clause-places

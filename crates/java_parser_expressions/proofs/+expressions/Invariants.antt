@@ -86,11 +86,11 @@ decreases-first_operand::operand l = 16 * l.limit + 15
 abbrev pub decreases-first_operand::word : goal.decreases-first_operand::word
 decreases-first_operand::word l = 16 * l.limit + 14
 
-abbrev pub decreases-first_operand::named : goal.decreases-first_operand::named
-decreases-first_operand::named l = 16 * l.limit + 14
+abbrev pub decreases-first_operand::name_operand : goal.decreases-first_operand::name_operand
+decreases-first_operand::name_operand l = 16 * l.limit + 14
 
-abbrev pub decreases-first_operand::signed : goal.decreases-first_operand::signed
-decreases-first_operand::signed l = 16 * l.limit + 14
+abbrev pub decreases-first_operand::sign_operand : goal.decreases-first_operand::sign_operand
+decreases-first_operand::sign_operand l = 16 * l.limit + 14
 
 abbrev pub decreases-first_operand::prefix : goal.decreases-first_operand::prefix
 decreases-first_operand::prefix l = 16 * l.limit + 1

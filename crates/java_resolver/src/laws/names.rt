@@ -5,17 +5,17 @@ ghost use Rattle.java_tree.specs.Trees.{Typed, Plain, Named, no_part, part_then,
 ghost use Rattle.java_resolver.specs.declared.scope.Meaning.TheVariants.{Variable, Field, Class, Opaque};
 ghost use Rattle.java_resolver.specs.TypeKinds.{kind_of};
 ghost use Rattle.java_resolver.specs.Meanings.{meaning, found};
-ghost use Rattle.java_resolver.specs.NameExamples.{class, named, info, field, method, variable, scope};
+ghost use Rattle.java_resolver.specs.NameExamples.{class, named_type, info, field, method, variable, scope};
 
 /// A type is primitive, a class of the folder by one name alone, or another.
 pub fn kinds_of_types()
     ensures plain { kind_of (codes "A" ∷ []) (Typed (Plain (codes "int")) 0) ≡ kind.Plain }
     ensures plains { kind_of (codes "A" ∷ []) (Typed (Plain (codes "int")) 1) ≡ kind.Other }
-    ensures first { kind_of (codes "A" ∷ codes "B" ∷ []) (named (Bare (codes "A"))) ≡ kind.Declared (class 0) }
-    ensures second { kind_of (codes "A" ∷ codes "B" ∷ []) (named (Bare (codes "B"))) ≡ kind.Declared (class 1) }
-    ensures elsewhere { kind_of (codes "A" ∷ []) (named (Bare (codes "C"))) ≡ kind.Other }
+    ensures first { kind_of (codes "A" ∷ codes "B" ∷ []) (named_type (Bare (codes "A"))) ≡ kind.Declared (class 0) }
+    ensures second { kind_of (codes "A" ∷ codes "B" ∷ []) (named_type (Bare (codes "B"))) ≡ kind.Declared (class 1) }
+    ensures elsewhere { kind_of (codes "A" ∷ []) (named_type (Bare (codes "C"))) ≡ kind.Other }
     ensures array { kind_of (codes "A" ∷ []) (Typed (Named (part_then (Bare (codes "A")) no_part)) 1) ≡ kind.Other }
-    ensures generic { kind_of (codes "A" ∷ []) (named (Generic (codes "A") (Angled no_argument false))) ≡ kind.Other }
+    ensures generic { kind_of (codes "A" ∷ []) (named_type (Generic (codes "A") (Angled no_argument false))) ≡ kind.Other }
     ensures qualified { kind_of (codes "A" ∷ []) (Typed (Named (part_then (Bare (codes "p"))
         (part_then (Bare (codes "A")) no_part))) 0) ≡ kind.Other }
 {}

@@ -9,7 +9,7 @@ pub returns-in-Take-clause-puts : goal.returns-in-Take-clause-puts
 returns-in-Take-clause-puts c =
     let program = core c.args.program.now in
     let worker = decimal c.in-Take.worker in
-    let method = wanted.named program c.in-Take.m in
+    let method = wanted.method_word program c.in-Take.m in
     same_piece (codes "take " ++ worker ++ method ++ codes "\n") (wanted.event_line program c.args.event)
     c.args.text.now c.push_end.new.text
     (four (codes "take ") worker method (codes "\n") c.args.text.now c.push_text.new.text c.push_number.new.text
@@ -22,8 +22,8 @@ pub returns-in-Park-clause-puts : goal.returns-in-Park-clause-puts
 returns-in-Park-clause-puts c =
     let program = core c.args.program.now in
     let worker = decimal c.in-Park.worker in
-    let method = wanted.named program c.in-Park.m in
-    let callee = wanted.named program c.in-Park.callee in
+    let method = wanted.method_word program c.in-Park.m in
+    let callee = wanted.method_word program c.in-Park.callee in
     let start = c.push_text-in-Park in
     let number = c.push_number-in-Park in
     let first = c.push_named-in-Park in

@@ -14,7 +14,7 @@ returns-in-Some-clause-puts c =
     let look_up = c.in-Some.ensures.lookup in
     let found = there program c.methods.result.now c.args.m c.methods.ensures x look_up.0 look_up.1 in
     let piece = codes " " ++ method_text program (method_of x) in
-    same_piece piece (wanted.named program c.args.m) c.args.text.now c.push_method.new.text
+    same_piece piece (wanted.method_word program c.args.m) c.args.text.now c.push_method.new.text
     (two (codes " ") (method_text program (method_of x)) c.args.text.now c.push_space.new.text c.push_method.new.text
     c.push_space.ensures.puts c.push_method.ensures.lasts c.push_method.ensures.puts)
     (ap (λ (o : Option Method). codes " " ++ wanted.text_of program o) (sym found))
@@ -23,6 +23,6 @@ pub returns-in-None-clause-puts : goal.returns-in-None-clause-puts
 returns-in-None-clause-puts c =
     let program = core c.args.program.now in
     let none = past program c.methods.result.now c.args.m c.methods.ensures c.in-None.ensures.lookup.0 in
-    same_piece (codes " ") (wanted.named program c.args.m) c.args.text.now c.push_space.new.text
+    same_piece (codes " ") (wanted.method_word program c.args.m) c.args.text.now c.push_space.new.text
     c.push_space.ensures.puts
     (ap (λ (o : Option Method). codes " " ++ wanted.text_of program o) (sym none))

@@ -2,7 +2,7 @@ use Rattle.std.proofs.Common.{◌≡◌, List, ◌++◌, map, refl, sym, ap, ◌
 use Rattle.racer_base.specs.declared.ids.MethodId.{MethodId}
 use Rattle.core_code.specs.declared.code.Code.{Code}
 use Rattle.core_code.specs.declared.code.Code.TheFolds.{the_lemmas}
-use Rattle.core_code.specs.Tree.{Tree, Either, tree_of, in_sequence}
+use Rattle.core_code.specs.Tree.{Tree, Choice, tree_of, in_sequence}
 use Rattle.core_code.specs.Gathered.{callees_of}
 use Rattle.core_code.proofs.Loops.{one_turn, at_end}
 use Rattle.core_code.proofs.calls.+calls.Goals as goal
@@ -29,7 +29,7 @@ push_callees-returns-in_ok-push_callees-in-Choice n c =
     let before = c.args.callees.now.items in
     let left = tree_of c.deref.result.now in
     let right = tree_of c.deref-in-Choice.result.now in
-    let sides : tree_of c.args.code.now ≡ Either left right = search (rules, the_lemmas) in
+    let sides : tree_of c.args.code.now ≡ Choice left right = search (rules, the_lemmas) in
     subst (λ (code : Tree). OnOk c.push_callees-in-Choice.result
     (c.push_callees-in-Choice.new.callees.items ≡ before ++ callees_of all code)) (sym sides)
     (subst (λ (made : List MethodId). OnOk c.push_callees-in-Choice.result

@@ -5,7 +5,7 @@ use Rattle.core_code.specs.Falling.{DoFall}
 use Rattle.core_code.specs.Core.{Method}
 use Rattle.core_code.specs.Program.{core}
 use Rattle.core_code.specs.Calls.{calls_in}
-use Rattle.core_code.specs.Rows.{different, rows_of}
+use Rattle.core_code.specs.CalleeRows.{different, rows_of}
 use Rattle.core_code.specs.Gathered.{callee_rows}
 use Rattle.core_code.proofs.Gathering.{rows_are}
 use Rattle.core_code.proofs.row_making.call_rows.Goals as goal

@@ -1,5 +1,5 @@
 use Rattle.std.proofs.Common.{◌≡◌, ◌++◌, drop}
-use Rattle.core_code.specs.Rows.{different}
+use Rattle.core_code.specs.CalleeRows.{different}
 use Rattle.core_code.specs.Stamps.{Tell, others}
 use Rattle.core_code.proofs.row_making.different.Given as goal
 

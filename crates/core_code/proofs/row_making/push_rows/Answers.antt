@@ -2,7 +2,7 @@ use Rattle.std.proofs.Common.{◌≡◌, ℕ, List, [], ◌∷◌, ◌++◌, len
 use Rattle.racer_base.specs.declared.ids.MethodId.{MethodId}
 use Rattle.core_code.specs.declared.parts.MethodCore.{MethodCore}
 use Rattle.core_code.specs.Tree.{tree_of}
-use Rattle.core_code.specs.Rows.{different}
+use Rattle.core_code.specs.CalleeRows.{different}
 use Rattle.core_code.specs.Stamps.{AreBelow}
 use Rattle.core_code.specs.Gathered.{callees_of, callee_rows}
 use Rattle.core_code.proofs.FirstStamps.{none_yet, written}

@@ -1,5 +1,5 @@
 use Rattle.std.proofs.Common.{◌≡◌, ◌+◌, ◌++◌, map, drop, false}
-use Rattle.core_code.specs.Rows.{different}
+use Rattle.core_code.specs.CalleeRows.{different}
 use Rattle.core_code.specs.Gathered.{callee_rows}
 use Rattle.core_code.specs.Stamps.{AreBelow}
 use Rattle.core_code.proofs.row_making.push_rows.Given as goal

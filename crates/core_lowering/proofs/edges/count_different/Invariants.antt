@@ -1,5 +1,5 @@
 use Rattle.std.proofs.Common.{drop}
-use Rattle.core_code.specs.Rows.{different}
+use Rattle.core_code.specs.CalleeRows.{different}
 use Rattle.core_lowering.proofs.Counting.{Counted}
 use Rattle.core_lowering.proofs.edges.count_different.Given as goal
 

@@ -6,23 +6,23 @@ use Rattle.java_tree.specs.declared.statements.Statement.{Statement}
 use Rattle.java_resolver.specs.Words.{has_word}
 use Rattle.core_lowering_rules.specs.Trees.{pack_stmts}
 use Rattle.core_lowering_rules.specs.TreesOf.{stmt_of}
-use Rattle.core_lowering_rules.specs.Around.{held, push_owner}
+use Rattle.core_lowering_rules.specs.Context.{held, push_owner}
 use Rattle.core_lowering_rules.specs.Methods.{block, body_of, locked}
 use Rattle.core_lowering_methods.specs.Drafts.{code_of}
 use Rattle.core_lowering_methods.specs.Steps.{block_end}
 use Rattle.core_lowering_methods.proofs.Pieces.{gathered}
 use Rattle.core_lowering_methods.proofs.bodies.lower_body.Goals as goal
 
-pub returns-then-not-has_word-clause-around : goal.returns-then-not-has_word-clause-around
-returns-then-not-has_word-clause-around c =
+pub returns-then-not-has_word-clause-context : goal.returns-then-not-has_word-clause-context
+returns-then-not-has_word-clause-context c =
     on_ok_weaker c.lower_block.result
-    (λ made. made ∙ ap (λ (ss : List Statement). block_end c.args.around.now (pack_stmts (map stmt_of ss)))
+    (λ made. made ∙ ap (λ (ss : List Statement). block_end c.args.context.now (pack_stmts (map stmt_of ss)))
     c.as_slice-then-not-has_word.ensures)
-    c.lower_block.ensures.around
+    c.lower_block.ensures.context
 
 pub returns-then-not-has_word-clause-code : goal.returns-then-not-has_word-clause-code
 returns-then-not-has_word-clause-code c =
-    let a = c.args.around.now in
+    let a = c.args.context.now in
     let old = code_of c.args.draft.now in
     let word = codes "synchronized" in
     let test : has_word word c.args.m.now.modifiers ≡ false =
@@ -33,16 +33,16 @@ returns-then-not-has_word-clause-code c =
     ∙ ap (λ (b : Bool). old ++ locked a b (block a (body_of c.args.m.now))) (sym test))
     c.lower_block.ensures.code
 
-pub returns-clause-around : goal.returns-clause-around
-returns-clause-around c =
+pub returns-clause-context : goal.returns-clause-context
+returns-clause-context c =
     on_ok_weaker c.hold.result
-    (λ made. c.in_ok-lower_block.ensures.around
-    ∙ ap (λ (ss : List Statement). block_end c.args.around.now (pack_stmts (map stmt_of ss))) c.as_slice-2.ensures)
+    (λ made. c.in_ok-lower_block.ensures.context
+    ∙ ap (λ (ss : List Statement). block_end c.args.context.now (pack_stmts (map stmt_of ss))) c.as_slice-2.ensures)
     c.hold.ensures
 
 pub returns-clause-code : goal.returns-clause-code
 returns-clause-code c =
-    let a = c.args.around.now in
+    let a = c.args.context.now in
     let old = code_of c.args.draft.now in
     let one = code_of c.push_owner.new.draft in
     let second = code_of c.lower_block-2.new.draft in

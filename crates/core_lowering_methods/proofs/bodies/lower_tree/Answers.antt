@@ -11,15 +11,15 @@ use Rattle.core_lowering_methods.proofs.bodies.lower_tree.Goals as goal
 
 pub returns-clause-code : goal.returns-clause-code
 returns-clause-code c =
-    let around = c.args.around.now in
+    let context = c.args.context.now in
     let source = source_of c.args.source.now in
     let m = c.args.m.now in
     let bare = left_at 0 (parameters_declared (entered (folder_of c.args.table.now c.args.statuses.now) source)
     m.parameters) in
-    tree-code c.end.result around c.lower_body.new.around bare (code_of c.args.draft.now)
+    tree-code c.end.result context c.lower_body.new.context bare (code_of c.args.draft.now)
     (code_of c.lower_body.new.draft) (code_of c.end.new.draft) source.members m
-    (ap (left_at 0) (sym c.requires.entered)) c.requires.start c.in_ok-lower_body.ensures.around
+    (ap (left_at 0) (sym c.requires.entered)) c.requires.start c.in_ok-lower_body.ensures.context
     (two_pieces (code_of c.args.draft.now) (code_of c.begin_object.new.draft) (code_of c.lower_body.new.draft)
-    (fields_first bare source.members m) (body_code around m) c.in_ok-begin_object.ensures
+    (fields_first bare source.members m) (body_code context m) c.in_ok-begin_object.ensures
     c.in_ok-lower_body.ensures.code)
     c.end.ensures

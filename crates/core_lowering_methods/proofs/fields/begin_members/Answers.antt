@@ -7,11 +7,11 @@ use Rattle.core_lowering_methods.proofs.fields.begin_members.Goals as goal
 
 pub loop-member-preserved : goal.loop-member-preserved
 loop-member-preserved c =
-    let one = member_begun c.args.around.now in
+    let one = member_begun c.args.context.now in
     turn (flat_map one) one c.args.members.now c.loop-member.member-index _ (code_of c.loop-member.draft) _ _
     (λ m ms. refl) c.loop-member-test.true c.member-item.is c.in_ok-begin_member.ensures c.loop-member.invariant
 
 pub returns : goal.returns
 returns c =
-    ended (flat_map (member_begun c.args.around.now)) c.args.members.now c.loop-member.member-index
+    ended (flat_map (member_begun c.args.context.now)) c.args.members.now c.loop-member.member-index
     (code_of c.loop-member.draft) _ refl c.loop-member-test.false c.loop-member.invariant

@@ -7,5 +7,5 @@ use Rattle.core_lowering_methods.proofs.fields.begin_members.Given as goal
 -- what was made, and then the members that are left
 abbrev pub invariant-loop-member : goal.invariant-loop-member
 invariant-loop-member l =
-    code_of l.draft ++ flat_map (member_begun l.around) (drop l.member-index l.members)
-    ≡ code_of l.initial.draft ++ flat_map (member_begun l.around) l.members
+    code_of l.draft ++ flat_map (member_begun l.context) (drop l.member-index l.members)
+    ≡ code_of l.initial.draft ++ flat_map (member_begun l.context) l.members

@@ -8,6 +8,6 @@ use Rattle.core_lowering_methods.proofs.fields.begin_variables.Given as goal
 -- what was made, and then the fields that are left
 abbrev pub invariant-loop-field : goal.invariant-loop-field
 invariant-loop-field l =
-    code_of l.draft ++ flat_map (λ (v : FieldVariable). field_begun l.around v.name v.initialiser)
+    code_of l.draft ++ flat_map (λ (v : FieldVariable). field_begun l.context v.name v.initialiser)
     (drop l.field-index l.fields)
-    ≡ code_of l.initial.draft ++ flat_map (λ (v : FieldVariable). field_begun l.around v.name v.initialiser) l.fields
+    ≡ code_of l.initial.draft ++ flat_map (λ (v : FieldVariable). field_begun l.context v.name v.initialiser) l.fields

@@ -10,7 +10,8 @@ abbrev pub invariant-loop-variable : goal.invariant-loop-variable
 invariant-loop-variable l =
     let left = map variable_of (drop l.variable-index l.variables) in
     record {
-      around : all_declared l.around l.kind left ≡ all_declared l.initial.around l.kind (map variable_of l.variables);
-      code : code_of l.draft ++ begun_all l.around l.kind left
-          ≡ code_of l.initial.draft ++ begun_all l.initial.around l.kind (map variable_of l.variables);
+      context : all_declared l.context l.kind left ≡ all_declared l.initial.context l.kind
+          (map variable_of l.variables);
+      code : code_of l.draft ++ begun_all l.context l.kind left
+          ≡ code_of l.initial.draft ++ begun_all l.initial.context l.kind (map variable_of l.variables);
     }

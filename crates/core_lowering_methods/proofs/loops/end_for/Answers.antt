@@ -11,10 +11,10 @@ use Rattle.core_lowering_methods.proofs.loops.end_for.Goals as goal
 
 pub returns : goal.returns
 returns c =
-    let around = c.args.around.now in
+    let context = c.args.context.now in
     on_ok_weaker c.repeat.result
     (λ made. made ∙ ap (repeated_from c.args.body) (two_pieces (code_of c.args.draft.now)
     (code_of c.lower_run_all.new.draft) (code_of c.lower_run_some.new.draft)
-    (run_all around (pack_exprs (map expr_of c.args.updates.now))) (run_some around (option_map expr_of c.args.e.now))
+    (run_all context (pack_exprs (map expr_of c.args.updates.now))) (run_some context (option_map expr_of c.args.e.now))
     c.in_ok-lower_run_all.ensures c.in_ok-lower_run_some.ensures))
     c.repeat.ensures

@@ -7,4 +7,4 @@ use Rattle.core_lowering_methods.proofs.names.class_before.Goals as goal
 pub returns-in_default : goal.returns-in_default
 returns-in_default c =
     let other : is_name (view.expr_of c.args.e.now) ≡ false = search (rules, the_lemmas) in
-    no-class c.args.around.now c.args.e.now other
+    no-class c.args.context.now c.args.e.now other

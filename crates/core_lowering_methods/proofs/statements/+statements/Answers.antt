@@ -9,7 +9,7 @@ use Rattle.java_tree.specs.View.{ty_of}
 use Rattle.core_lowering_rules.specs.Trees.{Stmt, pack_exprs, pack_stmts}
 use Rattle.core_lowering_rules.specs.Trees as tree
 use Rattle.core_lowering_rules.specs.TreesOf.{expr_of, start_of, stmt_of}
-use Rattle.core_lowering_rules.specs.Around.{Around, Code, held, repeated}
+use Rattle.core_lowering_rules.specs.Context.{Context, Code, held, repeated}
 use Rattle.core_lowering_rules.specs.Expressions.{code}
 use Rattle.core_lowering_rules.specs.Scopes.{declared, after, after_all}
 use Rattle.core_lowering_rules.specs.Statements.{run, stmt, stmts}
@@ -18,45 +18,45 @@ use Rattle.core_lowering_methods.specs.Steps.{repeated_from}
 use Rattle.core_lowering_methods.proofs.Forms.{is_block, is_local, is_run, is_while, is_for, is_each, is_sync, is_return}
 use Rattle.core_lowering_methods.proofs.Forms.{is_empty}
 use Rattle.core_lowering_methods.proofs.Choices.{choice-made, half-made}
-use Rattle.core_lowering_methods.proofs.Composed.{left-then, closed-then, for-around, for-code, each-around, each-code}
+use Rattle.core_lowering_methods.proofs.Composed.{left-then, closed-then, for-context, for-code, each-context, each-code}
 use Rattle.core_lowering_methods.proofs.Inside.{inside-after_all}
 use Rattle.core_lowering_methods.proofs.Pieces.{two_pieces, gathered}
 use Rattle.core_lowering_methods.proofs.statements.+statements.Goals as goal
 
 -- ---- one statement, by its form
 
-pub lower_statement-returns-in-Block-clause-around : goal.lower_statement-returns-in-Block-clause-around
-lower_statement-returns-in-Block-clause-around t c =
+pub lower_statement-returns-in-Block-clause-context : goal.lower_statement-returns-in-Block-clause-context
+lower_statement-returns-in-Block-clause-context t c =
     let is = is_block c.args.statement.now c.in-Block.all c.deref.result.now c.in-Block.is c.deref.ensures.value in
-    subst (λ (s : Stmt). OnOk c.lower_block.result (c.lower_block.new.around ≡ after c.args.around.now s)) (sym is)
-    c.lower_block.ensures.around
+    subst (λ (s : Stmt). OnOk c.lower_block.result (c.lower_block.new.context ≡ after c.args.context.now s)) (sym is)
+    c.lower_block.ensures.context
 
 pub lower_statement-returns-in-Block-clause-code : goal.lower_statement-returns-in-Block-clause-code
 lower_statement-returns-in-Block-clause-code t c =
     let is = is_block c.args.statement.now c.in-Block.all c.deref.result.now c.in-Block.is c.deref.ensures.value in
     subst (λ (s : Stmt).
     OnOk c.lower_block.result (code_of c.lower_block.new.draft ≡ code_of c.args.draft.now
-    ++ stmt c.args.around.now s)) (sym is)
+    ++ stmt c.args.context.now s)) (sym is)
     c.lower_block.ensures.code
 
-pub lower_statement-returns-in-Local-clause-around : goal.lower_statement-returns-in-Local-clause-around
-lower_statement-returns-in-Local-clause-around t c =
+pub lower_statement-returns-in-Local-clause-context : goal.lower_statement-returns-in-Local-clause-context
+lower_statement-returns-in-Local-clause-context t c =
     let is = is_local c.args.statement.now c.in-Local.locals c.in-Local.is in
-    subst (λ (s : Stmt). OnOk c.lower_locals.result (c.lower_locals.new.around ≡ after c.args.around.now s)) (sym is)
-    c.lower_locals.ensures.around
+    subst (λ (s : Stmt). OnOk c.lower_locals.result (c.lower_locals.new.context ≡ after c.args.context.now s)) (sym is)
+    c.lower_locals.ensures.context
 
 pub lower_statement-returns-in-Local-clause-code : goal.lower_statement-returns-in-Local-clause-code
 lower_statement-returns-in-Local-clause-code t c =
     let is = is_local c.args.statement.now c.in-Local.locals c.in-Local.is in
     subst (λ (s : Stmt).
     OnOk c.lower_locals.result (code_of c.lower_locals.new.draft ≡ code_of c.args.draft.now
-    ++ stmt c.args.around.now s)) (sym is)
+    ++ stmt c.args.context.now s)) (sym is)
     c.lower_locals.ensures.code
 
-pub lower_statement-returns-in-Expr-clause-around : goal.lower_statement-returns-in-Expr-clause-around
-lower_statement-returns-in-Expr-clause-around t c =
+pub lower_statement-returns-in-Expr-clause-context : goal.lower_statement-returns-in-Expr-clause-context
+lower_statement-returns-in-Expr-clause-context t c =
     let is = is_run c.args.statement.now c.in-Expr.e c.in-Expr.is in
-    subst (λ (s : Stmt). OnOk c.lower_run.result (c.args.around.now ≡ after c.args.around.now s)) (sym is)
+    subst (λ (s : Stmt). OnOk c.lower_run.result (c.args.context.now ≡ after c.args.context.now s)) (sym is)
     (on_ok_weaker c.lower_run.result (λ made. refl) c.lower_run.ensures)
 
 pub lower_statement-returns-in-Expr-clause-code : goal.lower_statement-returns-in-Expr-clause-code
@@ -64,15 +64,15 @@ lower_statement-returns-in-Expr-clause-code t c =
     let is = is_run c.args.statement.now c.in-Expr.e c.in-Expr.is in
     subst (λ (s : Stmt).
     OnOk c.lower_run.result (code_of c.lower_run.new.draft ≡ code_of c.args.draft.now
-    ++ stmt c.args.around.now s)) (sym is)
+    ++ stmt c.args.context.now s)) (sym is)
     c.lower_run.ensures
 
-pub lower_statement-returns-in-While-clause-around : goal.lower_statement-returns-in-While-clause-around
-lower_statement-returns-in-While-clause-around t c =
+pub lower_statement-returns-in-While-clause-context : goal.lower_statement-returns-in-While-clause-context
+lower_statement-returns-in-While-clause-context t c =
     let is = is_while c.args.statement.now c.in-While.e c.in-While.s c.deref-in-While.result.now c.in-While.is
     c.deref-in-While.ensures in
-    subst (λ (s : Stmt). OnOk c.lower_while.result (c.lower_while.new.around ≡ after c.args.around.now s)) (sym is)
-    c.lower_while.ensures.around
+    subst (λ (s : Stmt). OnOk c.lower_while.result (c.lower_while.new.context ≡ after c.args.context.now s)) (sym is)
+    c.lower_while.ensures.context
 
 pub lower_statement-returns-in-While-clause-code : goal.lower_statement-returns-in-While-clause-code
 lower_statement-returns-in-While-clause-code t c =
@@ -80,16 +80,16 @@ lower_statement-returns-in-While-clause-code t c =
     c.deref-in-While.ensures in
     subst (λ (s : Stmt).
     OnOk c.lower_while.result (code_of c.lower_while.new.draft ≡ code_of c.args.draft.now
-    ++ stmt c.args.around.now s)) (sym is)
+    ++ stmt c.args.context.now s)) (sym is)
     c.lower_while.ensures.code
 
-pub lower_statement-returns-in-For-clause-around : goal.lower_statement-returns-in-For-clause-around
-lower_statement-returns-in-For-clause-around t c =
+pub lower_statement-returns-in-For-clause-context : goal.lower_statement-returns-in-For-clause-context
+lower_statement-returns-in-For-clause-context t c =
     let is = is_for c.args.statement.now c.in-For.start c.in-For.e c.in-For.updates c.in-For.s
     c.deref-in-For-2.result.now
     c.deref-in-For.result.now c.in-For.is c.deref-in-For-2.ensures.value c.deref-in-For.ensures in
-    subst (λ (s : Stmt). OnOk c.lower_for.result (c.lower_for.new.around ≡ after c.args.around.now s)) (sym is)
-    c.lower_for.ensures.around
+    subst (λ (s : Stmt). OnOk c.lower_for.result (c.lower_for.new.context ≡ after c.args.context.now s)) (sym is)
+    c.lower_for.ensures.context
 
 pub lower_statement-returns-in-For-clause-code : goal.lower_statement-returns-in-For-clause-code
 lower_statement-returns-in-For-clause-code t c =
@@ -98,16 +98,16 @@ lower_statement-returns-in-For-clause-code t c =
     c.deref-in-For.result.now c.in-For.is c.deref-in-For-2.ensures.value c.deref-in-For.ensures in
     subst (λ (s : Stmt).
     OnOk c.lower_for.result (code_of c.lower_for.new.draft ≡ code_of c.args.draft.now
-    ++ stmt c.args.around.now s)) (sym is)
+    ++ stmt c.args.context.now s)) (sym is)
     c.lower_for.ensures.code
 
-pub lower_statement-returns-in-ForEach-clause-around : goal.lower_statement-returns-in-ForEach-clause-around
-lower_statement-returns-in-ForEach-clause-around t c =
+pub lower_statement-returns-in-ForEach-clause-context : goal.lower_statement-returns-in-ForEach-clause-context
+lower_statement-returns-in-ForEach-clause-context t c =
     let is = is_each c.args.statement.now _ c.in-ForEach.t c.in-ForEach.x c.in-ForEach.e c.in-ForEach.s
     c.deref-in-ForEach.result.now c.in-ForEach.is c.deref-in-ForEach.ensures in
-    subst (λ (s : Stmt). OnOk c.lower_for_each.result (c.lower_for_each.new.around ≡ after c.args.around.now s))
+    subst (λ (s : Stmt). OnOk c.lower_for_each.result (c.lower_for_each.new.context ≡ after c.args.context.now s))
     (sym is)
-    c.lower_for_each.ensures.around
+    c.lower_for_each.ensures.context
 
 pub lower_statement-returns-in-ForEach-clause-code : goal.lower_statement-returns-in-ForEach-clause-code
 lower_statement-returns-in-ForEach-clause-code t c =
@@ -115,16 +115,16 @@ lower_statement-returns-in-ForEach-clause-code t c =
     c.deref-in-ForEach.result.now c.in-ForEach.is c.deref-in-ForEach.ensures in
     subst (λ (s : Stmt).
     OnOk c.lower_for_each.result (code_of c.lower_for_each.new.draft ≡ code_of c.args.draft.now ++ stmt
-    c.args.around.now s)) (sym is)
+    c.args.context.now s)) (sym is)
     c.lower_for_each.ensures.code
 
-pub lower_statement-returns-in-Sync-clause-around : goal.lower_statement-returns-in-Sync-clause-around
-lower_statement-returns-in-Sync-clause-around t c =
+pub lower_statement-returns-in-Sync-clause-context : goal.lower_statement-returns-in-Sync-clause-context
+lower_statement-returns-in-Sync-clause-context t c =
     let is = is_sync c.args.statement.now c.in-Sync.place c.in-Sync.e c.in-Sync.all c.deref-in-Sync.result.now
     c.in-Sync.is
     c.deref-in-Sync.ensures.value in
-    subst (λ (s : Stmt). OnOk c.lower_sync.result (c.lower_sync.new.around ≡ after c.args.around.now s)) (sym is)
-    c.lower_sync.ensures.around
+    subst (λ (s : Stmt). OnOk c.lower_sync.result (c.lower_sync.new.context ≡ after c.args.context.now s)) (sym is)
+    c.lower_sync.ensures.context
 
 pub lower_statement-returns-in-Sync-clause-code : goal.lower_statement-returns-in-Sync-clause-code
 lower_statement-returns-in-Sync-clause-code t c =
@@ -133,13 +133,13 @@ lower_statement-returns-in-Sync-clause-code t c =
     c.deref-in-Sync.ensures.value in
     subst (λ (s : Stmt).
     OnOk c.lower_sync.result (code_of c.lower_sync.new.draft ≡ code_of c.args.draft.now
-    ++ stmt c.args.around.now s)) (sym is)
+    ++ stmt c.args.context.now s)) (sym is)
     c.lower_sync.ensures.code
 
-pub lower_statement-returns-in-Return-clause-around : goal.lower_statement-returns-in-Return-clause-around
-lower_statement-returns-in-Return-clause-around t c =
+pub lower_statement-returns-in-Return-clause-context : goal.lower_statement-returns-in-Return-clause-context
+lower_statement-returns-in-Return-clause-context t c =
     let is = is_return c.args.statement.now c.in-Return.e c.in-Return.is in
-    subst (λ (s : Stmt). OnOk c.lower_return.result (c.args.around.now ≡ after c.args.around.now s)) (sym is)
+    subst (λ (s : Stmt). OnOk c.lower_return.result (c.args.context.now ≡ after c.args.context.now s)) (sym is)
     (on_ok_weaker c.lower_return.result (λ made. refl) c.lower_return.ensures)
 
 pub lower_statement-returns-in-Return-clause-code : goal.lower_statement-returns-in-Return-clause-code
@@ -147,16 +147,16 @@ lower_statement-returns-in-Return-clause-code t c =
     let is = is_return c.args.statement.now c.in-Return.e c.in-Return.is in
     subst (λ (s : Stmt).
     OnOk c.lower_return.result (code_of c.lower_return.new.draft ≡ code_of c.args.draft.now
-    ++ stmt c.args.around.now s)) (sym is)
+    ++ stmt c.args.context.now s)) (sym is)
     c.lower_return.ensures
 
-pub lower_statement-returns-in-If-default-default-None-clause-around :
-    goal.lower_statement-returns-in-If-default-default-None-clause-around
-lower_statement-returns-in-If-default-default-None-clause-around t c =
+pub lower_statement-returns-in-If-default-default-None-clause-context :
+    goal.lower_statement-returns-in-If-default-default-None-clause-context
+lower_statement-returns-in-If-default-default-None-clause-context t c =
     let is : stmt_of c.args.statement.now ≡ tree.If (expr_of c.in-If-default-default-None.e)
     (stmt_of c.deref-in-If-default-default-None.result.now) = search (rules, the_lemmas) in
-    subst (λ (s : Stmt). OnOk c.lower_if.result (c.lower_if.new.around ≡ after c.args.around.now s)) (sym is)
-    c.lower_if.ensures.around
+    subst (λ (s : Stmt). OnOk c.lower_if.result (c.lower_if.new.context ≡ after c.args.context.now s)) (sym is)
+    c.lower_if.ensures.context
 
 pub lower_statement-returns-in-If-default-default-None-clause-code :
     goal.lower_statement-returns-in-If-default-default-None-clause-code
@@ -165,17 +165,18 @@ lower_statement-returns-in-If-default-default-None-clause-code t c =
     (stmt_of c.deref-in-If-default-default-None.result.now) = search (rules, the_lemmas) in
     subst (λ (s : Stmt).
     OnOk c.lower_if.result (code_of c.lower_if.new.draft ≡ code_of c.args.draft.now
-    ++ stmt c.args.around.now s)) (sym is)
+    ++ stmt c.args.context.now s)) (sym is)
     c.lower_if.ensures.code
 
-pub lower_statement-returns-in-If-default-default-Some-clause-around :
-    goal.lower_statement-returns-in-If-default-default-Some-clause-around
-lower_statement-returns-in-If-default-default-Some-clause-around t c =
+pub lower_statement-returns-in-If-default-default-Some-clause-context :
+    goal.lower_statement-returns-in-If-default-default-Some-clause-context
+lower_statement-returns-in-If-default-default-Some-clause-context t c =
     let is : stmt_of c.args.statement.now ≡ tree.IfElse (expr_of c.in-If-default-default-Some.e)
     (stmt_of c.deref-in-If-default-default-Some.result.now)
     (stmt_of c.deref-in-If-default-default-Some-2.result.now) = search (rules, the_lemmas) in
-    subst (λ (s : Stmt). OnOk c.lower_if_else.result (c.lower_if_else.new.around ≡ after c.args.around.now s)) (sym is)
-    c.lower_if_else.ensures.around
+    subst (λ (s : Stmt). OnOk c.lower_if_else.result (c.lower_if_else.new.context ≡ after c.args.context.now s))
+    (sym is)
+    c.lower_if_else.ensures.context
 
 pub lower_statement-returns-in-If-default-default-Some-clause-code :
     goal.lower_statement-returns-in-If-default-default-Some-clause-code
@@ -185,42 +186,42 @@ lower_statement-returns-in-If-default-default-Some-clause-code t c =
     (stmt_of c.deref-in-If-default-default-Some-2.result.now) = search (rules, the_lemmas) in
     subst (λ (s : Stmt).
     OnOk c.lower_if_else.result (code_of c.lower_if_else.new.draft ≡ code_of c.args.draft.now ++ stmt
-    c.args.around.now s)) (sym is)
+    c.args.context.now s)) (sym is)
     c.lower_if_else.ensures.code
 
-pub lower_statement-returns-in-Empty-clause-around : goal.lower_statement-returns-in-Empty-clause-around
-lower_statement-returns-in-Empty-clause-around t c =
+pub lower_statement-returns-in-Empty-clause-context : goal.lower_statement-returns-in-Empty-clause-context
+lower_statement-returns-in-Empty-clause-context t c =
     let is = is_empty c.args.statement.now c.in-Empty.is in
-    ap (after c.args.around.now) (sym is)
+    ap (after c.args.context.now) (sym is)
 
 pub lower_statement-returns-in-Empty-clause-code : goal.lower_statement-returns-in-Empty-clause-code
 lower_statement-returns-in-Empty-clause-code t c =
     let old = code_of c.args.draft.now in
     let is = is_empty c.args.statement.now c.in-Empty.is in
-    sym (append-nil old) ∙ ap (λ (s : Stmt). old ++ stmt c.args.around.now s) (sym is)
+    sym (append-nil old) ∙ ap (λ (s : Stmt). old ++ stmt c.args.context.now s) (sym is)
 
 -- ---- statements, one after another
 
 pub lower_statements-loop-statement-preserved : goal.lower_statements-loop-statement-preserved
 lower_statements-loop-statement-preserved t c =
-    let old : Around = c.loop-statement.around in
+    let old : Context = c.loop-statement.context in
     let made = code_of c.loop-statement.draft in
     let all = c.args.statements.now in
     let i = c.loop-statement.statement-index in
     let s : Statement = c.statement-item.result in
     let rest : List Statement = drop (i + 1) all in
     let left = pack_stmts (map stmt_of rest) in
-    let inside : Around = after old (stmt_of s) in
+    let inside : Context = after old (stmt_of s) in
     let one = c.in_ok-lower_statement.ensures in
     record {
-      around =
-          ap (λ (a : Around). after_all a left) one.around
+      context =
+          ap (λ (a : Context). after_all a left) one.context
           ∙ ap (λ (w : Statement). after_all old (pack_stmts (map stmt_of (w ∷ rest)))) c.statement-item.is
           ∙ sym (at_drop_more (λ (ss : List Statement). after_all old (pack_stmts (map stmt_of ss))) all i s
           c.loop-statement-test.true)
-          ∙ c.loop-statement.invariant.around;
+          ∙ c.loop-statement.invariant.context;
       code =
-          ap (λ (a : Around). code_of c.lower_statement.new.draft ++ stmts a left) one.around
+          ap (λ (a : Context). code_of c.lower_statement.new.draft ++ stmts a left) one.context
           ∙ ap (λ (x : Code). x ++ stmts inside left) one.code
           ∙ append_assoc made (stmt old (stmt_of s)) (stmts inside left)
           ∙ ap (λ (w : Statement). made ++ stmts old (pack_stmts (map stmt_of (w ∷ rest)))) c.statement-item.is
@@ -229,30 +230,30 @@ lower_statements-loop-statement-preserved t c =
           ∙ c.loop-statement.invariant.code;
     }
 
-pub lower_statements-returns-clause-around : goal.lower_statements-returns-clause-around
-lower_statements-returns-clause-around t c =
-    sym (at_drop_all (λ (ss : List Statement). after_all c.loop-statement.around (pack_stmts (map stmt_of ss)))
+pub lower_statements-returns-clause-context : goal.lower_statements-returns-clause-context
+lower_statements-returns-clause-context t c =
+    sym (at_drop_all (λ (ss : List Statement). after_all c.loop-statement.context (pack_stmts (map stmt_of ss)))
     c.args.statements.now c.loop-statement.statement-index c.loop-statement-test.false)
-    ∙ c.loop-statement.invariant.around
+    ∙ c.loop-statement.invariant.context
 
 pub lower_statements-returns-clause-code : goal.lower_statements-returns-clause-code
 lower_statements-returns-clause-code t c =
     let made = code_of c.loop-statement.draft in
     sym (append-nil made)
     ∙ sym (at_drop_all
-    (λ (ss : List Statement). made ++ stmts c.loop-statement.around (pack_stmts (map stmt_of ss)))
+    (λ (ss : List Statement). made ++ stmts c.loop-statement.context (pack_stmts (map stmt_of ss)))
     c.args.statements.now c.loop-statement.statement-index c.loop-statement-test.false)
     ∙ c.loop-statement.invariant.code
 
 -- ---- choices, loops and locks
 
-pub lower_if-returns-clause-around : goal.lower_if-returns-clause-around
-lower_if-returns-clause-around t c =
-    on_ok_weaker c.choose.result (λ made. c.in_ok-lower_statement.ensures.around) c.choose.ensures
+pub lower_if-returns-clause-context : goal.lower_if-returns-clause-context
+lower_if-returns-clause-context t c =
+    on_ok_weaker c.choose.result (λ made. c.in_ok-lower_statement.ensures.context) c.choose.ensures
 
 pub lower_if-returns-clause-code : goal.lower_if-returns-clause-code
 lower_if-returns-clause-code t c =
-    let a = c.args.around.now in
+    let a = c.args.context.now in
     on_ok_weaker c.choose.result
     (half-made (code_of c.args.draft.now) (code_of c.lower_run.new.draft) (code_of c.lower_statement.new.draft)
     (code_of c.choose.new.self) (run a (expr_of c.args.e.now)) (stmt a (stmt_of c.args.s.now)) c.len-left.result
@@ -260,17 +261,17 @@ lower_if-returns-clause-code t c =
     c.len-right.ensures)
     c.choose.ensures
 
-pub lower_if_else-returns-clause-around : goal.lower_if_else-returns-clause-around
-lower_if_else-returns-clause-around t c =
+pub lower_if_else-returns-clause-context : goal.lower_if_else-returns-clause-context
+lower_if_else-returns-clause-context t c =
     let u = stmt_of c.args.t.now in
     on_ok_weaker c.choose.result
-    (λ made. c.in_ok-lower_statement-2.ensures.around
-    ∙ ap (λ (i : Around). after i u) c.in_ok-lower_statement.ensures.around)
+    (λ made. c.in_ok-lower_statement-2.ensures.context
+    ∙ ap (λ (i : Context). after i u) c.in_ok-lower_statement.ensures.context)
     c.choose.ensures
 
 pub lower_if_else-returns-clause-code : goal.lower_if_else-returns-clause-code
 lower_if_else-returns-clause-code t c =
-    let a = c.args.around.now in
+    let a = c.args.context.now in
     let s = stmt_of c.args.s.now in
     let u = stmt_of c.args.t.now in
     let second = code_of c.lower_statement.new.draft in
@@ -280,37 +281,37 @@ lower_if_else-returns-clause-code t c =
     (stmt (after a s) u) c.len-left.result c.len-right.result c.in_ok-lower_run.ensures c.len-left.ensures
     c.in_ok-lower_statement.ensures.code c.len-right.ensures
     (c.in_ok-lower_statement-2.ensures.code
-    ∙ ap (λ (i : Around). second ++ stmt i u) c.in_ok-lower_statement.ensures.around))
+    ∙ ap (λ (i : Context). second ++ stmt i u) c.in_ok-lower_statement.ensures.context))
     c.choose.ensures
 
-pub lower_while-returns-clause-around : goal.lower_while-returns-clause-around
-lower_while-returns-clause-around t c =
-    on_ok_weaker c.end_while.result (λ made. c.in_ok-lower_statement.ensures.around) c.end_while.ensures
+pub lower_while-returns-clause-context : goal.lower_while-returns-clause-context
+lower_while-returns-clause-context t c =
+    on_ok_weaker c.end_while.result (λ made. c.in_ok-lower_statement.ensures.context) c.end_while.ensures
 
 pub lower_while-returns-clause-code : goal.lower_while-returns-clause-code
 lower_while-returns-clause-code t c =
-    let a = c.args.around.now in
+    let a = c.args.context.now in
     let e = expr_of c.args.e.now in
     let s = stmt_of c.args.s.now in
     let one = code_of c.lower_run.new.draft in
     let second = code_of c.lower_statement.new.draft in
-    let parts : Code = second ++ run c.lower_statement.new.around e in
+    let parts : Code = second ++ run c.lower_statement.new.context e in
     let behind : parts ≡ one ++ (stmt a s ++ run (after a s) e) =
     two_pieces one second parts (stmt a s) (run (after a s) e) c.in_ok-lower_statement.ensures.code
-    (ap (λ (i : Around). second ++ run i e) c.in_ok-lower_statement.ensures.around) in
+    (ap (λ (i : Context). second ++ run i e) c.in_ok-lower_statement.ensures.context) in
     on_ok_weaker c.end_while.result
     (λ made. made ∙ ap (λ (n : ℕ). repeated_from n parts) c.len-body.ensures
     ∙ gathered repeated (code_of c.args.draft.now) one parts (run a e) (stmt a s ++ run (after a s) e)
     c.in_ok-lower_run.ensures behind)
     c.end_while.ensures
 
-pub lower_sync-returns-clause-around : goal.lower_sync-returns-clause-around
-lower_sync-returns-clause-around t c =
-    on_ok_weaker c.hold.result (λ made. c.in_ok-lower_block.ensures.around) c.hold.ensures
+pub lower_sync-returns-clause-context : goal.lower_sync-returns-clause-context
+lower_sync-returns-clause-context t c =
+    on_ok_weaker c.hold.result (λ made. c.in_ok-lower_block.ensures.context) c.hold.ensures
 
 pub lower_sync-returns-clause-code : goal.lower_sync-returns-clause-code
 lower_sync-returns-clause-code t c =
-    let a = c.args.around.now in
+    let a = c.args.context.now in
     let inner = tree.Block (pack_stmts (map stmt_of c.args.statements.now)) in
     let second = code_of c.lower_block.new.draft in
     on_ok_weaker c.hold.result
@@ -322,62 +323,62 @@ lower_sync-returns-clause-code t c =
 
 -- ---- ends of blocks
 
-pub lower_block-returns-clause-around : goal.lower_block-returns-clause-around
-lower_block-returns-clause-around t c =
-    let a = c.args.around.now in
+pub lower_block-returns-clause-context : goal.lower_block-returns-clause-context
+lower_block-returns-clause-context t c =
+    let a = c.args.context.now in
     let ss = pack_stmts (map stmt_of c.args.statements.now) in
-    left-then c.end_block.result a (after_all a ss) c.lower_statements.new.around c.end_block.new.around
-    c.in_scope-before.result c.in_scope-before.ensures c.in_ok-lower_statements.ensures.around
-    (inside-after_all a ss) c.end_block.ensures.around
+    left-then c.end_block.result a (after_all a ss) c.lower_statements.new.context c.end_block.new.context
+    c.in_scope-before.result c.in_scope-before.ensures c.in_ok-lower_statements.ensures.context
+    (inside-after_all a ss) c.end_block.ensures.context
 
 pub lower_block-returns-clause-code : goal.lower_block-returns-clause-code
 lower_block-returns-clause-code t c =
-    let a = c.args.around.now in
+    let a = c.args.context.now in
     let ss = pack_stmts (map stmt_of c.args.statements.now) in
-    closed-then c.end_block.result a (after_all a ss) c.lower_statements.new.around (code_of c.args.draft.now)
+    closed-then c.end_block.result a (after_all a ss) c.lower_statements.new.context (code_of c.args.draft.now)
     (code_of c.lower_statements.new.draft) (code_of c.end_block.new.draft) (stmts a ss)
-    c.in_scope-before.result c.in_scope-before.ensures c.in_ok-lower_statements.ensures.around
+    c.in_scope-before.result c.in_scope-before.ensures c.in_ok-lower_statements.ensures.context
     (inside-after_all a ss) c.in_ok-lower_statements.ensures.code c.end_block.ensures.code
 
-pub lower_for-returns-clause-around : goal.lower_for-returns-clause-around
-lower_for-returns-clause-around t c =
+pub lower_for-returns-clause-context : goal.lower_for-returns-clause-context
+lower_for-returns-clause-context t c =
     let s = stmt_of c.args.s.now in
-    for-around c.end_block.result c.args.around.now c.lower_statement.new.around c.end_block.new.around
+    for-context c.end_block.result c.args.context.now c.lower_statement.new.context c.end_block.new.context
     c.in_scope-before.result (start_of c.args.start.now) (option_map expr_of c.args.e.now)
     (pack_exprs (map expr_of c.args.updates.now)) s c.in_scope-before.ensures
-    (c.in_ok-lower_statement.ensures.around ∙ ap (λ x. after x s) c.in_ok-begin_for.ensures.around)
-    c.end_block.ensures.around
+    (c.in_ok-lower_statement.ensures.context ∙ ap (λ x. after x s) c.in_ok-begin_for.ensures.context)
+    c.end_block.ensures.context
 
 pub lower_for-returns-clause-code : goal.lower_for-returns-clause-code
 lower_for-returns-clause-code t c =
-    for-code c.end_block.result c.args.around.now c.begin_for.new.around c.lower_statement.new.around
+    for-code c.end_block.result c.args.context.now c.begin_for.new.context c.lower_statement.new.context
     (code_of c.args.draft.now) (code_of c.begin_for.new.draft) (code_of c.lower_statement.new.draft)
     (code_of c.end_for.new.draft) (code_of c.end_block.new.draft) c.in_scope-before.result c.len-body.result
     (start_of c.args.start.now) (option_map expr_of c.args.e.now) (pack_exprs (map expr_of c.args.updates.now))
-    (stmt_of c.args.s.now) c.in_scope-before.ensures c.in_ok-begin_for.ensures.around
-    c.in_ok-begin_for.ensures.code c.len-body.ensures c.in_ok-lower_statement.ensures.around
+    (stmt_of c.args.s.now) c.in_scope-before.ensures c.in_ok-begin_for.ensures.context
+    c.in_ok-begin_for.ensures.code c.len-body.ensures c.in_ok-lower_statement.ensures.context
     c.in_ok-lower_statement.ensures.code c.in_ok-end_for.ensures c.end_block.ensures.code
 
-pub lower_for_each-returns-clause-around : goal.lower_for_each-returns-clause-around
-lower_for_each-returns-clause-around t c =
-    let a = c.args.around.now in
+pub lower_for_each-returns-clause-context : goal.lower_for_each-returns-clause-context
+lower_for_each-returns-clause-context t c =
+    let a = c.args.context.now in
     let x = c.args.x.now in
     let s = stmt_of c.args.s.now in
-    each-around c.end_block.result a c.lower_statement.new.around c.end_block.new.around c.in_scope-before.result
+    each-context c.end_block.result a c.lower_statement.new.context c.end_block.new.context c.in_scope-before.result
     (ty_of c.args.t.now) x (expr_of c.args.e.now) s c.in_scope-before.ensures
-    (c.in_ok-lower_statement.ensures.around
-    ∙ ap (λ i. after i s) (c.in_ok-v.ensures.around ∙ ap (λ k. declared a k x) c.type_kind.ensures))
-    c.end_block.ensures.around
+    (c.in_ok-lower_statement.ensures.context
+    ∙ ap (λ i. after i s) (c.in_ok-v.ensures.context ∙ ap (λ k. declared a k x) c.type_kind.ensures))
+    c.end_block.ensures.context
 
 pub lower_for_each-returns-clause-code : goal.lower_for_each-returns-clause-code
 lower_for_each-returns-clause-code t c =
-    let a = c.args.around.now in
+    let a = c.args.context.now in
     let x = c.args.x.now in
-    each-code c.end_block.result a c.declare.new.self c.lower_statement.new.around (code_of c.args.draft.now)
+    each-code c.end_block.result a c.declare.new.self c.lower_statement.new.context (code_of c.args.draft.now)
     (code_of c.lower_run.new.draft) (code_of c.lower_next.new.draft) (code_of c.lower_statement.new.draft)
     (code_of c.repeat.new.self) (code_of c.end_block.new.draft) c.in_scope-before.result c.len-body.result
     c.in_ok-v.v (ty_of c.args.t.now) x (expr_of c.args.e.now) (stmt_of c.args.s.now) c.in_scope-before.ensures
     c.in_ok-lower_run.ensures c.len-body.ensures c.in_ok-v.ensures.variable
-    (c.in_ok-v.ensures.around ∙ ap (λ k. declared a k x) c.type_kind.ensures) c.in_ok-lower_next.ensures
-    c.in_ok-lower_statement.ensures.around c.in_ok-lower_statement.ensures.code c.in_ok-repeat.ensures
+    (c.in_ok-v.ensures.context ∙ ap (λ k. declared a k x) c.type_kind.ensures) c.in_ok-lower_next.ensures
+    c.in_ok-lower_statement.ensures.context c.in_ok-lower_statement.ensures.code c.in_ok-repeat.ensures
     c.end_block.ensures.code

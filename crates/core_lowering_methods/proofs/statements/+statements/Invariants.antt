@@ -13,8 +13,8 @@ invariant-lower_statements-loop-statement l =
     let left = pack_stmts (map stmt_of (drop l.statement-index l.statements)) in
     let all = pack_stmts (map stmt_of l.statements) in
     record {
-      around : after_all l.around left ≡ after_all l.initial.around all;
-      code : code_of l.draft ++ stmts l.around left ≡ code_of l.initial.draft ++ stmts l.initial.around all;
+      context : after_all l.context left ≡ after_all l.initial.context all;
+      code : code_of l.draft ++ stmts l.context left ≡ code_of l.initial.draft ++ stmts l.initial.context all;
     }
 
 -- the deepest part comes first, and of functions on one part the outer one

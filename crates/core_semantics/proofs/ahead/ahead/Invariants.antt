@@ -3,4 +3,4 @@ use Rattle.core_semantics.specs.View.{todo_of}
 use Rattle.core_semantics.proofs.ahead.ahead.Given as goal
 
 abbrev pub invariant-loop-number : goal.invariant-loop-number
-invariant-loop-number l = slice_get (todo_of (drop l.number l.laters)) 0 ≡ slice_get (todo_of l.laters) 0
+invariant-loop-number l = slice_get (todo_of (drop l.number l.pending)) 0 ≡ slice_get (todo_of l.pending) 0

@@ -18,7 +18,7 @@ returns-in_default-replace_by_two c = λ store callers.
     (λ i. after (spot_at store (record {
       vars = frame.vars;
       stack = frame.stack;
-      laters = c.in_default-replace_by_two.ensures.err i;
+      pending = c.in_default-replace_by_two.ensures.err i;
       locked = frame.locked;
     }) callers (locks i)))
 

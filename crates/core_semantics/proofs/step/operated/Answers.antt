@@ -11,7 +11,7 @@ returns-in-Ret c =
     let running = c.args.running.now in
     let store = store_of c.args.store.now in
     ret_unlocks (core c.args.given.now.program.now) (spot_of store running c.args.locks.now)
-    (todo_of (drop 1 running.frame.laters)) c.args.op c.in-Ret.is c.if-running-gt0.true
+    (todo_of (drop 1 running.frame.pending)) c.args.op c.in-Ret.is c.if-running-gt0.true
     ∙ ap (λ s. Goes (after s)) (sym (c.unlock.ensures store (callers_of running)))
 
 pub returns-in-Ret-2 : goal.returns-in-Ret-2
@@ -19,7 +19,7 @@ returns-in-Ret-2 c =
     let running = c.args.running.now in
     let locks = c.args.locks.now in
     let store = store_of c.args.store.now in
-    let rest = todo_of (drop 1 running.frame.laters) in
+    let rest = todo_of (drop 1 running.frame.pending) in
     let s = spot_of store running locks in
     along (returned (behind_spot store running locks)) (operated (core c.args.given.now.program.now) s rest c.args.op)
     (after s) (after (spot_of store c.give_back.new.running locks)) c.give_back.result

@@ -3,9 +3,9 @@ use Rattle.core_semantics.specs.Steps.{Goes, after}
 use Rattle.core_semantics.specs.View.{callers_of, store_of}
 use Rattle.core_semantics.proofs.step.step_next.Goals as goal
 
-pub returns-in-Lock : goal.returns-in-Lock
-returns-in-Lock c =
-    rw c.in-Lock.is (c.lock.ensures (store_of c.args.store.now) (callers_of c.args.running.now))
+pub returns-in-Sync : goal.returns-in-Sync
+returns-in-Sync c =
+    rw c.in-Sync.is (c.lock.ensures (store_of c.args.store.now) (callers_of c.args.running.now))
 
 pub returns-in-Unlock : goal.returns-in-Unlock
 returns-in-Unlock c =

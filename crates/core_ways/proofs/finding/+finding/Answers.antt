@@ -4,7 +4,7 @@ use Rattle.std.proofs.lemmas.List.{at_drop_all}
 use Rattle.core_code.specs.declared.code.Code.{Code}
 use Rattle.core_code.specs.declared.code.Code.TheFolds.{the_lemmas}
 use Rattle.core_code.specs.declared.code.Op.{Op as CoreOp}
-use Rattle.core_code.specs.Tree.{Tree, Step as Operate, Then, Either, Again, Held, tree_of, in_sequence}
+use Rattle.core_code.specs.Tree.{Tree, Op, Seq, Choice, Loop, Sync, tree_of, in_sequence}
 use Rattle.core_ways.specs.Paths.{op_there, path_to, path_where}
 use Rattle.core_ways.specs.Ways.{has_site}
 use Rattle.core_ways.proofs.PassedCode.{turn}
@@ -17,7 +17,7 @@ pub find-returns-then-is_some-clause-there : goal.find-returns-then-is_some-clau
 find-returns-then-is_some-clause-there t c =
     let a = tree_of c.deref.result.now in
     let b = tree_of c.in-Choice.right.value in
-    let sides : tree_of c.args.code.now ≡ Either a b = search (rules, the_lemmas) in
+    let sides : tree_of c.args.code.now ≡ Choice a b = search (rules, the_lemmas) in
     let found = c.in-Ok-find.found in
     let some : is_some found ≡ true = search rules in
     subst (λ (code : Tree). found ≡ op_there code c.args.site) (sym sides)
@@ -27,7 +27,7 @@ pub find-returns-then-is_some-clause-path : goal.find-returns-then-is_some-claus
 find-returns-then-is_some-clause-path t c =
     let a = tree_of c.deref.result.now in
     let b = tree_of c.in-Choice.right.value in
-    let sides : tree_of c.args.code.now ≡ Either a b = search (rules, the_lemmas) in
+    let sides : tree_of c.args.code.now ≡ Choice a b = search (rules, the_lemmas) in
     let found = c.in-Ok-find.found in
     let some : is_some found ≡ true = search rules in
     let old = c.args.path.now.items in
@@ -40,7 +40,7 @@ pub find-returns-then-is_none-clause-there : goal.find-returns-then-is_none-clau
 find-returns-then-is_none-clause-there t c =
     let a = tree_of c.deref.result.now in
     let b = tree_of c.deref-in-Choice.result.now in
-    let sides : tree_of c.args.code.now ≡ Either a b = search (rules, the_lemmas) in
+    let sides : tree_of c.args.code.now ≡ Choice a b = search (rules, the_lemmas) in
     let first = c.in-Ok-find.found in
     let none : is_some first ≡ false = search rules in
     let found = c.in-Ok-find-2.found in
@@ -52,7 +52,7 @@ pub find-returns-else-is_none-clause-there : goal.find-returns-else-is_none-clau
 find-returns-else-is_none-clause-there t c =
     let a = tree_of c.deref.result.now in
     let b = tree_of c.deref-in-Choice.result.now in
-    let sides : tree_of c.args.code.now ≡ Either a b = search (rules, the_lemmas) in
+    let sides : tree_of c.args.code.now ≡ Choice a b = search (rules, the_lemmas) in
     let first = c.in-Ok-find.found in
     let none : is_some first ≡ false = search rules in
     let found = c.in-Ok-find-2.found in
@@ -65,7 +65,7 @@ find-returns-then-is_none-clause-path t c =
     let site = c.args.site in
     let a = tree_of c.deref.result.now in
     let b = tree_of c.deref-in-Choice.result.now in
-    let sides : tree_of c.args.code.now ≡ Either a b = search (rules, the_lemmas) in
+    let sides : tree_of c.args.code.now ≡ Choice a b = search (rules, the_lemmas) in
     let first = c.in-Ok-find.found in
     let second = c.in-Ok-find-2.found in
     let none : is_some first ≡ false = search rules in
@@ -92,7 +92,7 @@ find-returns-else-is_none-clause-path t c =
     let site = c.args.site in
     let a = tree_of c.deref.result.now in
     let b = tree_of c.deref-in-Choice.result.now in
-    let sides : tree_of c.args.code.now ≡ Either a b = search (rules, the_lemmas) in
+    let sides : tree_of c.args.code.now ≡ Choice a b = search (rules, the_lemmas) in
     let first = c.in-Ok-find.found in
     let second = c.in-Ok-find-2.found in
     let none : is_some first ≡ false = search rules in
@@ -140,11 +140,11 @@ find_among-returns-then-is_some-clause-path t c =
     has-found whole site found true
     (first-there a b site found c.in-Ok-find.ensures.there some
     ∙ ap (λ (code : Tree). op_there code site) (sym left) ∙ at.invariant.there) some in
-    let both : has_site (Then a b) site ≡ true =
-    has-found (Then a b) site found true (first-there a b site found c.in-Ok-find.ensures.there some) some in
+    let both : has_site (Seq a b) site ≡ true =
+    has-found (Seq a b) site found true (first-there a b site found c.in-Ok-find.ensures.there some) some in
     first-path a b site at.path.items c.push.new.self.items c.find.new.path.items c.in-Ok.ensures.items
     c.in-Ok-find.ensures.path has
-    ∙ ap (λ (p : List Bool). at.path.items ++ p) (where-there (Then a b) site both)
+    ∙ ap (λ (p : List Bool). at.path.items ++ p) (where-there (Seq a b) site both)
     ∙ ap (λ (code : Tree). at.path.items ++ path_to site code) (sym left)
     ∙ at.invariant.path
     ∙ ap (λ (p : List Bool). c.args.path.now.items ++ p) (sym (where-there whole site all))
@@ -175,7 +175,7 @@ find_among-loop-code-preserved t c =
           ∙ at.invariant.there;
       path =
           ap (λ (p : List Bool). p ++ path_to site b) pushed
-          ∙ path-on a b site at.path.items (path_to site (Then a b)) has refl
+          ∙ path-on a b site at.path.items (path_to site (Seq a b)) has refl
           ∙ ap (λ (code : Tree). at.path.items ++ path_to site code) (sym left)
           ∙ at.invariant.path;
       start =
@@ -200,14 +200,14 @@ find-returns-in-Seq-clause-path t c =
 
 pub find-returns-in-Loop-clause-there : goal.find-returns-in-Loop-clause-there
 find-returns-in-Loop-clause-there t c =
-    let is : tree_of c.args.code.now ≡ Again (tree_of c.deref-in-Loop.result.now) = search (rules, the_lemmas) in
+    let is : tree_of c.args.code.now ≡ Loop (tree_of c.deref-in-Loop.result.now) = search (rules, the_lemmas) in
     subst (λ (code : Tree). IfOk c.find-in-Loop.result
     (λ (there : Option CoreOp). there ≡ op_there code c.args.site)) (sym is)
     c.find-in-Loop.ensures.there
 
 pub find-returns-in-Loop-clause-path : goal.find-returns-in-Loop-clause-path
 find-returns-in-Loop-clause-path t c =
-    let is : tree_of c.args.code.now ≡ Again (tree_of c.deref-in-Loop.result.now) = search (rules, the_lemmas) in
+    let is : tree_of c.args.code.now ≡ Loop (tree_of c.deref-in-Loop.result.now) = search (rules, the_lemmas) in
     subst (λ (code : Tree).
     OnOk c.find-in-Loop.result (c.find-in-Loop.new.path.items ≡ c.args.path.now.items ++ path_where c.args.site
     code)) (sym is)
@@ -215,7 +215,7 @@ find-returns-in-Loop-clause-path t c =
 
 pub find-returns-in-Sync-clause-there : goal.find-returns-in-Sync-clause-there
 find-returns-in-Sync-clause-there t c =
-    let is : tree_of c.args.code.now ≡ Held c.in-Sync.field-0 (tree_of c.deref-in-Sync.result.now) =
+    let is : tree_of c.args.code.now ≡ Sync c.in-Sync.field-0 (tree_of c.deref-in-Sync.result.now) =
     search (rules, the_lemmas) in
     subst (λ (code : Tree). IfOk c.find-in-Sync.result
     (λ (there : Option CoreOp). there ≡ op_there code c.args.site)) (sym is)
@@ -223,7 +223,7 @@ find-returns-in-Sync-clause-there t c =
 
 pub find-returns-in-Sync-clause-path : goal.find-returns-in-Sync-clause-path
 find-returns-in-Sync-clause-path t c =
-    let is : tree_of c.args.code.now ≡ Held c.in-Sync.field-0 (tree_of c.deref-in-Sync.result.now) =
+    let is : tree_of c.args.code.now ≡ Sync c.in-Sync.field-0 (tree_of c.deref-in-Sync.result.now) =
     search (rules, the_lemmas) in
     subst (λ (code : Tree).
     OnOk c.find-in-Sync.result (c.find-in-Sync.new.path.items ≡ c.args.path.now.items ++ path_where c.args.site
@@ -233,26 +233,26 @@ find-returns-in-Sync-clause-path t c =
 pub find-returns-then-eq-clause-there : goal.find-returns-then-eq-clause-there
 find-returns-then-eq-clause-there t c =
     let op = c.in-Op.op in
-    let is : tree_of c.args.code.now ≡ Operate c.in-Op.at c.in-Op.field-1 op = search (rules, the_lemmas) in
+    let is : tree_of c.args.code.now ≡ Op c.in-Op.at c.in-Op.field-1 op = search (rules, the_lemmas) in
     op-found c.in-Op.at c.in-Op.field-1 op c.args.site (sym c.eq.ensures ∙ c.if-eq.true)
     ∙ ap (λ (code : Tree). op_there code c.args.site) (sym is)
 
 pub find-returns-then-eq-clause-path : goal.find-returns-then-eq-clause-path
 find-returns-then-eq-clause-path t c =
-    let is : tree_of c.args.code.now ≡ Operate c.in-Op.at c.in-Op.field-1 c.in-Op.op = search (rules, the_lemmas) in
+    let is : tree_of c.args.code.now ≡ Op c.in-Op.at c.in-Op.field-1 c.in-Op.op = search (rules, the_lemmas) in
     op-path c.in-Op.at c.in-Op.field-1 c.in-Op.op c.args.site c.args.path.now.items
     ∙ ap (λ (code : Tree). c.args.path.now.items ++ path_where c.args.site code) (sym is)
 
 pub find-returns-else-eq-clause-there : goal.find-returns-else-eq-clause-there
 find-returns-else-eq-clause-there t c =
     let op = c.in-Op.op in
-    let is : tree_of c.args.code.now ≡ Operate c.in-Op.at c.in-Op.field-1 op = search (rules, the_lemmas) in
+    let is : tree_of c.args.code.now ≡ Op c.in-Op.at c.in-Op.field-1 op = search (rules, the_lemmas) in
     op-missed c.in-Op.at c.in-Op.field-1 op c.args.site (sym c.eq.ensures ∙ c.if-eq.false)
     ∙ ap (λ (code : Tree). op_there code c.args.site) (sym is)
 
 pub find-returns-else-eq-clause-path : goal.find-returns-else-eq-clause-path
 find-returns-else-eq-clause-path t c =
-    let is : tree_of c.args.code.now ≡ Operate c.in-Op.at c.in-Op.field-1 c.in-Op.op = search (rules, the_lemmas) in
+    let is : tree_of c.args.code.now ≡ Op c.in-Op.at c.in-Op.field-1 c.in-Op.op = search (rules, the_lemmas) in
     op-path c.in-Op.at c.in-Op.field-1 c.in-Op.op c.args.site c.args.path.now.items
     ∙ ap (λ (code : Tree). c.args.path.now.items ++ path_where c.args.site code) (sym is)
 

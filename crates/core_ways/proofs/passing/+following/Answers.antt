@@ -2,10 +2,10 @@ use Rattle.std.proofs.Common.{◌≡◌, ◌+◌, List, Bool, [], ◌∷◌, ◌
 use Rattle.std.proofs.lemmas.List.{at_drop_all}
 use Rattle.core_code.specs.declared.code.Code.{Code}
 use Rattle.core_code.specs.declared.code.Code.TheFolds.{the_lemmas}
-use Rattle.core_code.specs.Tree.{Tree, Step as Operate, Then, Either, Again, Held, in_sequence, tree_of}
+use Rattle.core_code.specs.Tree.{Tree, Op, Seq, Choice, Loop, Sync, in_sequence, tree_of}
 use Rattle.core_semantics.specs.declared.answer.Turn.{Turn}
 use Rattle.core_ways.specs.declared.part.WayPart.{WayPart}
-use Rattle.core_ways.specs.declared.part.WayPart.TheVariants.{Turned}
+use Rattle.core_ways.specs.declared.part.WayPart.TheVariants.{Branched}
 use Rattle.core_ways.specs.Paths.{followed}
 use Rattle.core_ways.specs.Ways.{passed}
 use Rattle.core_ways.proofs.PassedCode.{turn, more}
@@ -15,7 +15,7 @@ use Rattle.core_ways.proofs.passing.+following.Goals as goal
 
 pub follow-returns-in-Op : goal.follow-returns-in-Op
 follow-returns-in-Op t c =
-    let is : tree_of c.args.code.now ≡ Operate c.in-Op.field-0 c.in-Op.field-1 c.in-Op.field-2 =
+    let is : tree_of c.args.code.now ≡ Op c.in-Op.field-0 c.in-Op.field-1 c.in-Op.field-2 =
     search (rules, the_lemmas) in
     nothing-followed c.args.parts.now.items (followed c.args.locks c.args.path.now (tree_of c.args.code.now))
     (ap (followed c.args.locks c.args.path.now) is)
@@ -32,10 +32,10 @@ follow-returns-in_default t c =
     let left = tree_of c.in-Choice.left.value in
     let right = tree_of c.in-Choice.right.value in
     let path = c.args.path.now in
-    let sides : tree_of c.args.code.now ≡ Either left right = search (rules, the_lemmas) in
+    let sides : tree_of c.args.code.now ≡ Choice left right = search (rules, the_lemmas) in
     nothing-followed c.args.parts.now.items (followed c.args.locks path (tree_of c.args.code.now))
     (ap (followed c.args.locks path) sides
-    ∙ ap (λ (p : List Bool). followed c.args.locks p (Either left right)) c.in_default.ensures)
+    ∙ ap (λ (p : List Bool). followed c.args.locks p (Choice left right)) c.in_default.ensures)
 
 pub follow-returns-then-is_left : goal.follow-returns-then-is_left
 follow-returns-then-is_left t c =
@@ -43,10 +43,10 @@ follow-returns-then-is_left t c =
     let right = tree_of c.in-Choice.right.value in
     let old = c.args.parts.now.items in
     let path = c.args.path.now in
-    let sides : tree_of c.args.code.now ≡ Either left right = search (rules, the_lemmas) in
+    let sides : tree_of c.args.code.now ≡ Choice left right = search (rules, the_lemmas) in
     subst (λ (ps : List WayPart). OnOk c.follow.result (c.follow.new.parts.items ≡ ps))
     (left-followed c.args.locks left right old c.push.new.self.items path c.in-Some.rest.now c.in-Some.is_left
-    c.in-Some.ensures (c.in-Ok.ensures.items ∙ ap (λ (turn : Turn). old ++ Turned turn ∷ []) c.turn_to.ensures)
+    c.in-Some.ensures (c.in-Ok.ensures.items ∙ ap (λ (turn : Turn). old ++ Branched turn ∷ []) c.turn_to.ensures)
     c.if-is_left.true
     ∙ ap (λ (code : Tree). old ++ followed c.args.locks path code) (sym sides))
     c.follow.ensures
@@ -57,10 +57,10 @@ follow-returns-else-is_left t c =
     let right = tree_of c.deref-in-Choice.result.now in
     let old = c.args.parts.now.items in
     let path = c.args.path.now in
-    let sides : tree_of c.args.code.now ≡ Either left right = search (rules, the_lemmas) in
+    let sides : tree_of c.args.code.now ≡ Choice left right = search (rules, the_lemmas) in
     subst (λ (ps : List WayPart). OnOk c.follow-in-Choice.result (c.follow-in-Choice.new.parts.items ≡ ps))
     (right-followed c.args.locks left right old c.push.new.self.items path c.in-Some.rest.now c.in-Some.is_left
-    c.in-Some.ensures (c.in-Ok.ensures.items ∙ ap (λ (turn : Turn). old ++ Turned turn ∷ []) c.turn_to.ensures)
+    c.in-Some.ensures (c.in-Ok.ensures.items ∙ ap (λ (turn : Turn). old ++ Branched turn ∷ []) c.turn_to.ensures)
     c.if-is_left.false
     ∙ ap (λ (code : Tree). old ++ followed c.args.locks path code) (sym sides))
     c.follow-in-Choice.ensures
@@ -70,7 +70,7 @@ follow-returns-in-Ok-push t c =
     let old = c.args.parts.now.items in
     let path = c.args.path.now in
     let body = tree_of c.deref-in-Loop.result.now in
-    let is : tree_of c.args.code.now ≡ Again body = search (rules, the_lemmas) in
+    let is : tree_of c.args.code.now ≡ Loop body = search (rules, the_lemmas) in
     subst (λ (ps : List WayPart). OnOk c.follow-in-Loop.result (c.follow-in-Loop.new.parts.items ≡ ps))
     (loop-followed c.args.locks body old c.push-in-Loop.new.self.items path c.in-Ok-push.ensures.items
     ∙ ap (λ (code : Tree). old ++ followed c.args.locks path code) (sym is))
@@ -81,7 +81,7 @@ follow-returns-in-Ok-one_more t c =
     let old = c.args.parts.now.items in
     let path = c.args.path.now in
     let body = tree_of c.deref-in-Sync.result.now in
-    let is : tree_of c.args.code.now ≡ Held c.in-Sync.field-0 body = search (rules, the_lemmas) in
+    let is : tree_of c.args.code.now ≡ Sync c.in-Sync.field-0 body = search (rules, the_lemmas) in
     subst (λ (ps : List WayPart). OnOk c.follow-in-Sync.result (c.follow-in-Sync.new.parts.items ≡ ps))
     (held-followed c.args.locks c.in-Ok-one_more.within c.in-Sync.field-0 body old c.push-in-Sync.new.self.items path
     c.in-Ok-push-2.ensures.items c.in-Ok-one_more.ensures
@@ -96,7 +96,7 @@ follow_through-loop-code-preserved t c =
     let first = tree_of c.code-item.result in
     let others = in_sequence (map tree_of (drop (at.code-index + 1) codes)) in
     let left = in_sequence (map tree_of (drop at.code-index codes)) in
-    let is : left ≡ Then first others = turn codes at.code-index c.code-item.result c.loop-code-test.true
+    let is : left ≡ Seq first others = turn codes at.code-index c.code-item.result c.loop-code-test.true
     c.code-item.is in
     more c.pass.new.parts.items at.parts.items (passed locks first) (followed locks c.in-Some.rest.now others)
     (followed locks at.path.now left)
@@ -114,11 +114,11 @@ follow_through-returns-in_default t c =
     let first = tree_of c.code-item.result in
     let others = in_sequence (map tree_of (drop (at.code-index + 1) codes)) in
     let left = in_sequence (map tree_of (drop at.code-index codes)) in
-    let is : left ≡ Then first others = turn codes at.code-index c.code-item.result c.loop-code-test.true
+    let is : left ≡ Seq first others = turn codes at.code-index c.code-item.result c.loop-code-test.true
     c.code-item.is in
     nothing-followed at.parts.items (followed locks at.path.now left)
     (ap (followed locks at.path.now) is ∙ ap
-    (λ (p : List Bool). followed locks p (Then first others)) c.in_default.ensures)
+    (λ (p : List Bool). followed locks p (Seq first others)) c.in_default.ensures)
     ∙ at.invariant
 
 pub follow_through-returns-then-is_first : goal.follow_through-returns-then-is_first
@@ -129,7 +129,7 @@ follow_through-returns-then-is_first t c =
     let first = tree_of c.code-item.result in
     let others = in_sequence (map tree_of (drop (at.code-index + 1) codes)) in
     let left = in_sequence (map tree_of (drop at.code-index codes)) in
-    let is : left ≡ Then first others = turn codes at.code-index c.code-item.result c.loop-code-test.true
+    let is : left ≡ Seq first others = turn codes at.code-index c.code-item.result c.loop-code-test.true
     c.code-item.is in
     subst (λ (ps : List WayPart). OnOk c.follow.result (c.follow.new.parts.items ≡ ps))
     (ap (λ (ps : List WayPart). at.parts.items ++ ps)

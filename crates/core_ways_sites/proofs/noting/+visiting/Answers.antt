@@ -3,7 +3,7 @@ use Rattle.std.specs.BTreeSet.{contains}
 use Rattle.std.specs.Ordering.{nat_cmp}
 use Rattle.core_code.specs.Program.{core}
 use Rattle.core_code.specs.declared.code.Code.TheFolds.{the_lemmas}
-use Rattle.core_code.specs.Tree.{Tree, Step as Operate, Then, Either, Again, in_sequence, tree_of}
+use Rattle.core_code.specs.Tree.{Tree, Op, Seq, Choice, Loop, in_sequence, tree_of}
 use Rattle.core_semantics.specs.declared.answer.Turn.{Turn}
 use Rattle.core_semantics.specs.declared.answer.Turn.TheVariants.{Right}
 use Rattle.core_ways.specs.Ways.{has_site, passed, trip_along, trip_of}
@@ -18,12 +18,12 @@ use Rattle.core_ways_sites.proofs.noting.+visiting.Goals as goal
 pub visit-returns-in-Op-clause-found : goal.visit-returns-in-Op-clause-found
 visit-returns-in-Op-clause-found t c = λ whole led right.
     let program = core c.args.program.now in
-    let is : tree_of c.args.code.now ≡ Operate c.in-Op.site c.in-Op.place c.in-Op.op = search (rules, the_lemmas) in
+    let is : tree_of c.args.code.now ≡ Op c.in-Op.site c.in-Op.place c.in-Op.op = search (rules, the_lemmas) in
     let here = subst (λ (code : Tree).
     AreLed program whole c.args.locks code c.args.sites.now.wanted c.args.count c.args.turns.now.items) is led in
     c.visit_op.ensures.found program whole c.args.locks
     (subst (λ (turns : List Turn). AreLed program whole c.args.locks
-    (Operate c.in-Op.site c.in-Op.place c.in-Op.op) c.args.sites.now.wanted c.args.count turns)
+    (Op c.in-Op.site c.in-Op.place c.in-Op.op) c.args.sites.now.wanted c.args.count turns)
     (sym c.as_slice.ensures.value) here)
     right
 
@@ -48,7 +48,7 @@ visit-returns-in-Ok-turn-clause-left t c =
     let old = c.args.sites.now.wanted in
     let mid = c.visit.new.sites.wanted in
     let new = c.visit-in-Choice.new.sites.wanted in
-    let sides : tree_of c.args.code.now ≡ Either left right = search (rules, the_lemmas) in
+    let sides : tree_of c.args.code.now ≡ Choice left right = search (rules, the_lemmas) in
     on-ok c.visit-in-Choice.result (AreLeft right mid new) (AreLeft (tree_of c.args.code.now) old new)
     (λ out. subst (λ (code : Tree). AreLeft code old new) (sym sides)
     (left-both left right old mid new c.in-Ok-visit.ensures.left out)) c.visit-in-Choice.ensures.left
@@ -64,7 +64,7 @@ visit-returns-in-Ok-turn-clause-found t c = λ whole led noted.
     let wanted = c.args.sites.now.wanted in
     let mid = c.visit.new.sites.wanted in
     let length_of : c.len-before.result ≡ length old = search rules in
-    let sides : tree_of c.args.code.now ≡ Either left right = search (rules, the_lemmas) in
+    let sides : tree_of c.args.code.now ≡ Choice left right = search (rules, the_lemmas) in
     let cut : c.truncate.new.self.items ≡ old =
     cut-back old c.visit.new.turns.items c.truncate.new.self.items c.len-before.result length_of
     (longer-then old c.to_left.new.turns.items c.visit.new.turns.items c.in-Ok.ensures.longer
@@ -84,7 +84,7 @@ pub visit-returns-in-Ok-to_left-clause-found : goal.visit-returns-in-Ok-to_left-
 visit-returns-in-Ok-to_left-clause-found t c = λ whole led noted.
     let program = core c.args.program.now in
     let body = tree_of c.deref-in-Loop.result.now in
-    let is : tree_of c.args.code.now ≡ Again body = search (rules, the_lemmas) in
+    let is : tree_of c.args.code.now ≡ Loop body = search (rules, the_lemmas) in
     c.visit-in-Loop.ensures.found whole
     (led-again program whole c.args.locks body c.args.sites.now.wanted c.args.count c.in-Ok-to_left.there
     c.args.turns.now.items c.to_left-in-Loop.new.turns.items
@@ -100,7 +100,7 @@ visit_through-returns-then-is_empty-clause-left t c = λ s.
     let first = tree_of c.code-item.result in
     let rest = in_sequence (map tree_of (drop (at.code-index + 1) codes)) in
     let left = in_sequence (map tree_of (drop at.code-index codes)) in
-    let is : left ≡ Then first rest =
+    let is : left ≡ Seq first rest =
     turn codes at.code-index c.code-item.result c.loop-code-test.true c.code-item.is in
     let none = none-wanted new s.0 (c.is_empty.ensures.0 c.if-is_empty.true) in
     none
@@ -117,7 +117,7 @@ visit_through-returns-then-is_empty-clause-found t c = λ whole led noted.
     let first = tree_of c.code-item.result in
     let rest = in_sequence (map tree_of (drop (at.code-index + 1) codes)) in
     let left = in_sequence (map tree_of (drop at.code-index codes)) in
-    let is : left ≡ Then first rest =
+    let is : left ≡ Seq first rest =
     turn codes at.code-index c.code-item.result c.loop-code-test.true c.code-item.is in
     let both = at.invariant.found whole led noted in
     c.in-Ok.ensures.found whole
@@ -137,7 +137,7 @@ visit_through-loop-code-preserved t c =
     let first = tree_of c.code-item.result in
     let rest = in_sequence (map tree_of (drop (at.code-index + 1) codes)) in
     let left = in_sequence (map tree_of (drop at.code-index codes)) in
-    let is : left ≡ Then first rest =
+    let is : left ≡ Seq first rest =
     turn codes at.code-index c.code-item.result c.loop-code-test.true c.code-item.is in
     let length_of : c.len-before.result ≡ length old = search rules in
     let cut : c.truncate.new.self.items ≡ old =

@@ -40,7 +40,7 @@ loop-item-preserved c =
     let w = went c.args.tokens.now rest item after c.loop-item.size c.loop-item.invariant.at
     c.loop-item.invariant.within c.in-Some.ensures.parts in
     record {
-      behind = ap (λ q. behind_member q (items_of after)) c.signed-equals.ensures
+      behind = ap (λ q. behind_member q (items_of after)) c.begins_sign-equals.ensures
           ∙ next_behind c.loop-item.equals (items_of rest) (items_of after) item c.if-equals.false
           c.in-Some.ensures.first (sym c.ends_member.ensures ∙ c.if-ends_member.false)
           ∙ c.loop-item.invariant.behind;

@@ -12,4 +12,5 @@ returns c =
     let e = three_pieces (pieces_of c.args.tokens.now) (pieces_of c.in_ok-word.rest.now)
     (pieces_of c.in_ok-name.rest.now) (pieces_of c.in_ok-next.field-0-1.now) word name next
     c.in_ok-word.ensures.first c.in_ok-name.ensures.first c.in_ok-next.ensures.first in
-    subst (λ (o : Option Token). MatchOption c.named.result (o ≡ None) (λ t. o ≡ Some t.now)) (sym e) c.named.ensures
+    subst (λ (o : Option Token). MatchOption c.first_of_name.result (o ≡ None) (λ t. o ≡ Some t.now))
+    (sym e) c.first_of_name.ensures

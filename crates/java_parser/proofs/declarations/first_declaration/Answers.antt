@@ -16,8 +16,8 @@ returns-then-is_whole-clause-first c =
     sym c.loop-item.invariant.first
     ∙ declared_there (seen_of c.loop-item.seen) more (items_of rest) (items_of after) item c.in-Some.ensures.first
     c.in-Some-seen_with.ensures (sym c.is_whole.ensures ∙ c.if-is_whole.true)
-    ∙ ap (λ b. Declared b more (items_of after)) (sym c.signed-braces.ensures)
-    ∙ ap (λ l. Declared c.signed-braces.result more (items_of l)) (sym w.at)
+    ∙ ap (λ b. Declared b more (items_of after)) (sym c.begins_sign-braces.ensures)
+    ∙ ap (λ l. Declared c.begins_sign-braces.result more (items_of l)) (sym w.at)
 
 pub loop-item-preserved : goal.loop-item-preserved
 loop-item-preserved c =

@@ -22,7 +22,7 @@ loop-item-preserved c =
       gives = ap (λ l. before_first l (between_commas (items_of after))) (take_step tokens rest item after size
           c.loop-item.invariant.at c.in-Some.ensures.parts w.at)
           ∙ comma_later (take size tokens) rest item after (between_commas (items_of tokens))
-          c.loop-item.invariant.gives c.in-Some.ensures.first (sym c.signed.ensures ∙ c.if-signed.false);
+          c.loop-item.invariant.gives c.in-Some.ensures.first (sym c.begins_sign.ensures ∙ c.if-begins_sign.false);
       at = w.at;
       within = w.within;
     }

@@ -19,7 +19,8 @@ loop-piece-preserved c =
       gives = ap (λ l. behind_front l (before_parentheses (pieces_of after))) (take_step member rest piece after size
           c.loop-piece.invariant.at c.in-Some.ensures.parts w.at)
           ∙ head_more (take size member) (pieces_of rest) (pieces_of after) piece c.in-Some.ensures.first
-          (sym c.signed.ensures ∙ c.if-signed.false) (sym c.signed-in-Some.ensures ∙ c.if-signed-2.false)
+          (sym c.begins_sign.ensures ∙ c.if-begins_sign.false)
+          (sym c.begins_sign-in-Some.ensures ∙ c.if-begins_sign-2.false)
           ∙ c.loop-piece.invariant.gives;
       at = w.at;
       within = w.within;

@@ -109,20 +109,20 @@ first_operand::cast-returns-clause-small t c =
     exactly _ c.cast_to.result _ _ c.cast_to.ensures.small
     (omega (arith, c.in_ok-part.ensures.small, c.in_ok-kind.ensures.small))
 
-pub first_operand::named-returns-clause-places : goal.first_operand::named-returns-clause-places
-first_operand::named-returns-clause-places t c =
+pub first_operand::name_operand-returns-clause-places : goal.first_operand::name_operand-returns-clause-places
+first_operand::name_operand-returns-clause-places t c =
     rw (c.in_ok-all.ensures.places, c.in-Some.ensures.places) at c.call.ensures.places
 
-pub first_operand::named-returns-clause-shorter : goal.first_operand::named-returns-clause-shorter
-first_operand::named-returns-clause-shorter t c =
+pub first_operand::name_operand-returns-clause-shorter : goal.first_operand::name_operand-returns-clause-shorter
+first_operand::name_operand-returns-clause-shorter t c =
     fewer _ c.call.result _ _ c.call.ensures.shorter (omega (
       arith,
       c.in_ok-all.ensures.shorter,
       c.in-Some.ensures.shorter,
     ))
 
-pub first_operand::named-returns-clause-small : goal.first_operand::named-returns-clause-small
-first_operand::named-returns-clause-small t c =
+pub first_operand::name_operand-returns-clause-small : goal.first_operand::name_operand-returns-clause-small
+first_operand::name_operand-returns-clause-small t c =
     exactly _ c.call.result _ _ c.call.ensures.small (omega (arith, c.in_ok-all.ensures.small))
 
 pub initialisers::read_initialiser-returns-clause-places : goal.initialisers::read_initialiser-returns-clause-places
@@ -344,13 +344,13 @@ first_operand::operand-returns-in-Keyword-clause-places t c =
 pub first_operand::operand-returns-in-Name-clause-places : goal.first_operand::operand-returns-in-Name-clause-places
 first_operand::operand-returns-in-Name-clause-places t c =
     let ts = c.args.tokens.now in
-    subst (λ us. IfOk c.named.result (λ x. expr_places x.0.tree.value (kept x.1.now) ≡ kept us))
+    subst (λ us. IfOk c.name_operand.result (λ x. expr_places x.0.tree.value (kept x.1.now) ≡ kept us))
     (sym (first_and_rest ts c.token-item.result c.in-len1-up.len_at_least c.token-item.is))
-    (rw c.in-Name.is c.named.ensures.places)
+    (rw c.in-Name.is c.name_operand.ensures.places)
 
 pub first_operand::operand-returns-in-Sign-clause-places : goal.first_operand::operand-returns-in-Sign-clause-places
 first_operand::operand-returns-in-Sign-clause-places t c =
     let ts = c.args.tokens.now in
-    subst (λ us. IfOk c.signed.result (λ x. expr_places x.0.tree.value (kept x.1.now) ≡ kept us))
+    subst (λ us. IfOk c.sign_operand.result (λ x. expr_places x.0.tree.value (kept x.1.now) ≡ kept us))
     (sym (first_and_rest ts c.token-item.result c.in-len1-up.len_at_least c.token-item.is))
-    (rw c.in-Sign.is c.signed.ensures.places)
+    (rw c.in-Sign.is c.sign_operand.ensures.places)

@@ -26,8 +26,9 @@ use Rattle.java_parser_types.specs.ReadAnswer.{Gives}
 use Rattle.java_parser_expressions.proofs.LastCalls.{first_and_rest}
 use Rattle.java_parser_expressions.proofs.+expressions.Goals as goal
 
-pub first_operand::signed-returns-in-None-clause-gives : goal.first_operand::signed-returns-in-None-clause-gives
-first_operand::signed-returns-in-None-clause-gives t c =
+pub first_operand::sign_operand-returns-in-None-clause-gives :
+    goal.first_operand::sign_operand-returns-in-None-clause-gives
+first_operand::sign_operand-returns-in-None-clause-gives t c =
     let n = c.args.limit in
     let ts = map spelled c.args.tokens.now in
     let text = c.args.token.now.text in
@@ -105,18 +106,20 @@ expressions::turn-returns-then-not-goes_on-clause-gives t c =
     (lead_of c.lead_at-lead.result) (lead (map spelled c.args.tokens.now)) c.lead_at-lead.ensures.gives (rw same at
     (sym c.goes_on.ensures ∙ c.if-not-goes_on.true))
 
-pub first_operand::named-returns-then-class_follows-clause-gives :
-    goal.first_operand::named-returns-then-class_follows-clause-gives
-first_operand::named-returns-then-class_follows-clause-gives t c = c.class.ensures.gives (read_at c.args.limit)
+pub first_operand::name_operand-returns-then-class_follows-clause-gives :
+    goal.first_operand::name_operand-returns-then-class_follows-clause-gives
+first_operand::name_operand-returns-then-class_follows-clause-gives t c = c.class.ensures.gives (read_at c.args.limit)
 
-pub first_operand::named-returns-in_default-clause-gives : goal.first_operand::named-returns-in_default-clause-gives
+pub first_operand::name_operand-returns-in_default-clause-gives :
+    goal.first_operand::name_operand-returns-in_default-clause-gives
 unfolding name_with
-first_operand::named-returns-in_default-clause-gives t c =
+first_operand::name_operand-returns-in_default-clause-gives t c =
     rw (c.class_follows.ensures.none c.if-class_follows.false, c.in_default.ensures.gives) c.variable.ensures.gives
 
-pub first_operand::named-returns-in_err-all-clause-gives : goal.first_operand::named-returns-in_err-all-clause-gives
+pub first_operand::name_operand-returns-in_err-all-clause-gives :
+    goal.first_operand::name_operand-returns-in_err-all-clause-gives
 unfolding name_with
-first_operand::named-returns-in_err-all-clause-gives t c =
+first_operand::name_operand-returns-in_err-all-clause-gives t c =
     let p = err_from_is_err_and c.from_residual.result c.from_residual.ensures.1 in
     rw (p.1, p.2) (part_fails c.in_err-all.field-0.0 (call_arguments_with (read_at c.args.limit)
     (map spelled c.in-Some.inside.now)) _ (λ n. rw (
@@ -125,33 +128,33 @@ first_operand::named-returns-in_err-all-clause-gives t c =
       n,
     ) refl) c.in_err-all.ensures.gives)
 
-pub first_operand::named-returns-clause-gives : goal.first_operand::named-returns-clause-gives
+pub first_operand::name_operand-returns-clause-gives : goal.first_operand::name_operand-returns-clause-gives
 unfolding name_with
-first_operand::named-returns-clause-gives t c =
+first_operand::name_operand-returns-clause-gives t c =
     rw (c.class_follows.ensures.none c.if-class_follows.false, c.in-Some.ensures.gives, c.in_ok-all.ensures.gives)
     c.call.ensures.gives
 
-pub first_operand::signed-returns-in-Some-true-clause-gives :
-    goal.first_operand::signed-returns-in-Some-true-clause-gives
-first_operand::signed-returns-in-Some-true-clause-gives t c =
+pub first_operand::sign_operand-returns-in-Some-true-clause-gives :
+    goal.first_operand::sign_operand-returns-in-Some-true-clause-gives
+first_operand::sign_operand-returns-in-Some-true-clause-gives t c =
     let text = c.args.token.now.text in
     let no_prefix : is_prefix text ≡ false = search rules in
     let round : bytes_eq text (codes "(") ≡ true = search rules in
     let chosen : casts (map spelled c.args.tokens.now) ≡ true = search rules in
     rw (no_prefix, round, chosen) c.cast.ensures.gives
 
-pub first_operand::signed-returns-in-Some-false-clause-gives :
-    goal.first_operand::signed-returns-in-Some-false-clause-gives
-first_operand::signed-returns-in-Some-false-clause-gives t c =
+pub first_operand::sign_operand-returns-in-Some-false-clause-gives :
+    goal.first_operand::sign_operand-returns-in-Some-false-clause-gives
+first_operand::sign_operand-returns-in-Some-false-clause-gives t c =
     let text = c.args.token.now.text in
     let no_prefix : is_prefix text ≡ false = search rules in
     let round : bytes_eq text (codes "(") ≡ true = search rules in
     let chosen : casts (map spelled c.args.tokens.now) ≡ false = search rules in
     rw (no_prefix, round, chosen) c.parens.ensures.gives
 
-pub first_operand::signed-returns-then-not-is_text-clause-gives :
-    goal.first_operand::signed-returns-then-not-is_text-clause-gives
-first_operand::signed-returns-then-not-is_text-clause-gives t c =
+pub first_operand::sign_operand-returns-then-not-is_text-clause-gives :
+    goal.first_operand::sign_operand-returns-then-not-is_text-clause-gives
+first_operand::sign_operand-returns-then-not-is_text-clause-gives t c =
     let text = c.args.token.now.text in
     let no_prefix : is_prefix text ≡ false = search rules in
     let other : bytes_eq text (codes "(") ≡ false = search rules in
@@ -217,17 +220,17 @@ unfolding operand_with
 first_operand::operand-returns-in-Name-clause-gives t c =
     let n = c.args.limit in
     let ts = c.args.tokens.now in
-    subst (λ us. Gives (λ x. (expr_of x.0.tree.value, map spelled x.1.now)) c.named.result
+    subst (λ us. Gives (λ x. (expr_of x.0.tree.value, map spelled x.1.now)) c.name_operand.result
     (operand_with (read_at n) (ty_at n) (made_base_at n) (array_at n) (map spelled us)))
     (sym (first_and_rest ts c.token-item.result c.in-len1-up.len_at_least c.token-item.is))
-    (rw (c.if-token.false, c.in-Name.is) c.named.ensures.gives)
+    (rw (c.if-token.false, c.in-Name.is) c.name_operand.ensures.gives)
 
 pub first_operand::operand-returns-in-Sign-clause-gives : goal.first_operand::operand-returns-in-Sign-clause-gives
 unfolding operand_with
 first_operand::operand-returns-in-Sign-clause-gives t c =
     let n = c.args.limit in
     let ts = c.args.tokens.now in
-    subst (λ us. Gives (λ x. (expr_of x.0.tree.value, map spelled x.1.now)) c.signed.result
+    subst (λ us. Gives (λ x. (expr_of x.0.tree.value, map spelled x.1.now)) c.sign_operand.result
     (operand_with (read_at n) (ty_at n) (made_base_at n) (array_at n) (map spelled us)))
     (sym (first_and_rest ts c.token-item.result c.in-len1-up.len_at_least c.token-item.is))
-    (rw (c.if-token.false, c.in-Sign.is) c.signed.ensures.gives)
+    (rw (c.if-token.false, c.in-Sign.is) c.sign_operand.ensures.gives)

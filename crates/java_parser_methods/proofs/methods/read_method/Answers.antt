@@ -23,4 +23,5 @@ returns-clause-places c =
     rw c.from.ensures (modified_led modifiers given (kept c.args.tokens.now) (kept c.in_ok-modifiers.rest.now)
     (kept c.in_ok-given.rest.now) c.in_ok-modifiers.ensures.places c.in_ok-given.ensures.places) in
     from_start (λ (rest : Marks). each_marks modifier_marks c.from.result (some_onto given rest))
-    (kept c.args.tokens.now) (kept c.in_ok-given.rest.now) led c.named.result c.named.ensures.places
+    (kept c.args.tokens.now) (kept c.in_ok-given.rest.now) led c.method_from_name.result
+    c.method_from_name.ensures.places

@@ -34,7 +34,7 @@ returns-in_default-clause-gives c =
     (length (map spelled c.args.tokens.now)) (map spelled c.args.tokens.now)) in
     point_ends bare_part_at named_end total c.args.tokens.now c.loop.counter (map part_of c.loop.parts.items)
     (map spelled c.loop.rest.now) c.loop-test.true c.in_default.ensures.gives c.loop.invariant.gives
-    ∙ sym c.named.ensures.gives
+    ∙ sym c.named_base.ensures.gives
 
 pub returns-in_err-next-clause-gives : goal.returns-in_err-next-clause-gives
 returns-in_err-next-clause-gives c =
@@ -79,4 +79,4 @@ returns-clause-gives c =
     finished named_end (part_of c.args.first.tree ∷ []) (points bare_part_at
     (length (map spelled c.args.tokens.now)) (map spelled c.args.tokens.now)) in
     point_runs_out bare_part_at named_end total c.args.tokens.now c.loop.counter (map part_of c.loop.parts.items)
-    (map spelled c.loop.rest.now) c.loop-test.false c.loop.invariant.gives ∙ sym c.named-2.ensures.gives
+    (map spelled c.loop.rest.now) c.loop-test.false c.loop.invariant.gives ∙ sym c.named_base-2.ensures.gives

@@ -21,8 +21,8 @@ returns-in_err-next-clause-gives c =
     (map part_of c.loop.parts.items) c.in_err-next.field-0.0 (map spelled c.loop.rest.now) c.loop-test.true
     c.in_err-next.ensures.gives c.loop.invariant.gives)
 
-pub named-requires : goal.named-requires
-named-requires c =
+pub named_base-requires : goal.named_base-requires
+named_base-requires c =
     let n = c.in_ok-next.next.tree in
     let e : map part_of c.push.new.self.items ≡ map part_of c.loop.parts.items ++ part_of n ∷ [] =
     rw c.in_ok-push.ensures.items (map_push _ c.loop.parts.items n) in
@@ -43,14 +43,14 @@ returns-in_default-clause-gives c =
     rw c.in_ok-push.ensures.items (map_push _ c.loop.parts.items n) in
     let total = finished named_end [] (made_parts_with (ty_at c.args.limit) (length (map spelled c.args.tokens.now))
     (map spelled c.args.tokens.now)) in
-    rw c.named.ensures.gives (rw e (made_ends (ty_at c.args.limit) named_end total c.args.tokens.now c.loop.counter
+    rw c.named_base.ensures.gives (rw e (made_ends (ty_at c.args.limit) named_end total c.args.tokens.now c.loop.counter
     (map part_of c.loop.parts.items) (part_of n) (map spelled c.loop.rest.now)
     (map spelled c.in_ok-next.behind.now) c.loop-test.true c.in_ok-next.ensures.gives c.in_default.ensures.gives
     c.loop.invariant.gives))
 
 pub returns-in_default-clause-places : goal.returns-in_default-clause-places
 returns-in_default-clause-places c =
-    rw (c.named.ensures.places, c.named.ensures.same, c.in_ok-push.ensures.items) (one_more part_places
+    rw (c.named_base.ensures.places, c.named_base.ensures.same, c.in_ok-push.ensures.items) (one_more part_places
     c.loop.parts.items c.in_ok-next.next.tree (kept c.loop.rest.now) (kept c.in_ok-next.behind.now) _
     c.in_ok-next.ensures.places c.loop.invariant.places)
 

@@ -98,7 +98,7 @@ parts-returns-in_default-clause-gives t c =
     (map spelled c.args.tokens.now)) in
     point_ends read named_end total c.args.tokens.now c.loop.counter (map part_of c.loop.parts.items)
     (map spelled c.loop.rest.now) c.loop-test.true c.in_default.ensures.gives c.loop.invariant.gives
-    ∙ sym c.named.ensures.gives
+    ∙ sym c.named_base.ensures.gives
 
 pub parts-returns-in_err-next-clause-gives : goal.parts-returns-in_err-next-clause-gives
 parts-returns-in_err-next-clause-gives t c =
@@ -158,7 +158,7 @@ parts-returns-clause-gives t c =
     finished named_end (part_of c.args.first.tree ∷ []) (points read (length (map spelled c.args.tokens.now))
     (map spelled c.args.tokens.now)) in
     point_runs_out read named_end total c.args.tokens.now c.loop.counter (map part_of c.loop.parts.items)
-    (map spelled c.loop.rest.now) c.loop-test.false c.loop.invariant.gives ∙ sym c.named-2.ensures.gives
+    (map spelled c.loop.rest.now) c.loop-test.false c.loop.invariant.gives ∙ sym c.named_base-2.ensures.gives
 
 -- ---- what is read of parts
 

@@ -13,8 +13,8 @@ returns c =
     let some : 0 < length c.args.fields.now = not_none (length c.args.fields.now) c.if-is_empty.ensures in
     let own = c.args.path.now.fields in
     let fields = c.args.fields.now in
-    let made : c.from.result ≡ own ++ fields =
-    c.from.ensures
+    let made : c.from_vec.result ≡ own ++ fields =
+    c.from_vec.ensures
     ∙ c.in_ok-extend_from_slice-2.ensures.items
     ∙ ap (λ (fs : List FieldId). fs ++ fields)
     (c.in_ok-extend_from_slice.ensures.items

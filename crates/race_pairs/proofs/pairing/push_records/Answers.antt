@@ -1,7 +1,7 @@
 use Rattle.std.proofs.Common.{List, map, refl, ◌∙◌}
 use Rattle.std.specs.List.{enumerate_from}
 use Rattle.access_domain.specs.declared.access.Access.{Access}
-use Rattle.race_pairs.specs.Warnings.{record_at}
+use Rattle.race_pairs.specs.Warnings.{numbered_record}
 use Rattle.race_pairs.specs.MethodRecords.{all_records}
 use Rattle.race_pairs.proofs.Turns.{at_end}
 use Rattle.race_pairs.proofs.Numbered.{record_turn}
@@ -17,7 +17,7 @@ loop-index-preserved c =
 pub returns : goal.returns
 returns c =
     let made = λ (accesses : List Access).
-    map (record_at c.args.method) (enumerate_from c.loop-index.index accesses) in
+    map (numbered_record c.args.method) (enumerate_from c.loop-index.index accesses) in
     at_end made c.args.accesses.now c.loop-index.index (all_records c.loop-index.records.items) refl
     c.loop-index-test.false
     ∙ c.loop-index.invariant

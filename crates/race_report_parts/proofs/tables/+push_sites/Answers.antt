@@ -2,7 +2,7 @@ use Rattle.std.proofs.Common.{◌≡◌, List, ◌++◌, map, refl, sym, ap, ◌
 use Rattle.std.proofs.lemmas.List.{map-append}
 use Rattle.core_code.specs.declared.code.Code.{Code}
 use Rattle.core_code.specs.declared.code.Code.TheFolds.{the_lemmas}
-use Rattle.core_code.specs.Tree.{Tree, Either, tree_of, in_sequence, steps_of}
+use Rattle.core_code.specs.Tree.{Tree, Choice, tree_of, in_sequence, steps_of}
 use Rattle.core_code.proofs.Loops.{one_turn, at_end}
 use Rattle.race_report_parts.specs.declared.tables.Site.{Site}
 use Rattle.race_report_parts.specs.Sites.{site_of, sites_of}
@@ -22,7 +22,7 @@ returns-in_ok-push_sites-in-Choice-2 n c =
     let before = c.args.sites.now.items in
     let left = tree_of c.deref.result.now in
     let right = tree_of c.deref-in-Choice.result.now in
-    let sides : tree_of c.args.code.now ≡ Either left right = search (rules, the_lemmas) in
+    let sides : tree_of c.args.code.now ≡ Choice left right = search (rules, the_lemmas) in
     c.in_ok-push_sites-in-Choice-2.ensures
     ∙ ap (λ (front : List Site). front ++ sites_of right) c.in_ok-push_sites-in-Choice.ensures
     ∙ append_assoc before (sites_of left) (sites_of right)

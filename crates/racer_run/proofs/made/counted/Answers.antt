@@ -2,7 +2,7 @@ use Rattle.std.proofs.Common.{◌≡◌, ap}
 use Rattle.std.specs.Arc.{arc_value}
 use Rattle.core_code.specs.declared.program.Program.{Program}
 use Rattle.core_code.specs.Program.{core}
-use Rattle.racer_run.specs.declared.said.Said.{Said}
+use Rattle.racer_run.specs.declared.said.RunOutput.{RunOutput}
 use Rattle.racer_run.specs.Made.{made_said}
 use Rattle.racer_run.proofs.Tails.{if_ok}
 use Rattle.racer_run.proofs.made.counted.Goals as goal
@@ -11,5 +11,5 @@ pub returns-clause-said : goal.returns-clause-said
 returns-clause-said g c =
     let number = c.args.wanted.now.number in
     if_ok c.said_of_made.result (made_said number (core c.deref.result.now))
-    (λ (said : Said). said ≡ made_said number (core (arc_value c.args.program.now)))
+    (λ (said : RunOutput). said ≡ made_said number (core (arc_value c.args.program.now)))
     (ap (λ (p : Program). made_said number (core p)) c.deref.ensures) c.said_of_made.ensures.said

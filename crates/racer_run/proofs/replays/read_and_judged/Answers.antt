@@ -2,7 +2,7 @@ use Rattle.std.proofs.Common.{◌≡◌, codes, sym, ap, subst, ◌∙◌}
 use Rattle.core_code.specs.Program.{core}
 use Rattle.witness_text_files.specs.Answers.{IsWitnessFault, seen}
 use Rattle.witness_text.specs.Verdicts.{verdict}
-use Rattle.racer_run.specs.declared.said.Said.{Said}
+use Rattle.racer_run.specs.declared.said.RunOutput.{RunOutput}
 use Rattle.racer_run.specs.Replays.{json_of, json_said, not_a_witness, verdict_said}
 use Rattle.racer_run.proofs.JsonBytes.{said-file, said-no_json, said-other}
 use Rattle.racer_run.proofs.Tails.{if_ok}
@@ -14,7 +14,7 @@ returns-in-Ok c =
     let bytes = c.args.bytes.now in
     let file = seen c.in-Ok.file in
     if_ok c.judged.result (verdict_said (verdict program file))
-    (λ (said : Said). said ≡ json_said program (json_of bytes))
+    (λ (said : RunOutput). said ≡ json_said program (json_of bytes))
     (sym (said-file program bytes file c.in-Ok.ensures.ok)) c.judged.ensures
 
 pub returns-in-Err-NotJson : goal.returns-in-Err-NotJson
@@ -22,7 +22,7 @@ returns-in-Err-NotJson c =
     let program = core c.args.program.now in
     let bytes = c.args.bytes.now in
     if_ok c.not_a_witness.result (not_a_witness (codes "json"))
-    (λ (said : Said). said ≡ json_said program (json_of bytes))
+    (λ (said : RunOutput). said ≡ json_said program (json_of bytes))
     (sym (said-no_json program bytes
     (subst (IsWitnessFault bytes) c.in-Err-NotJson.field-0-is c.in-Err-NotJson.ensures.err))) c.not_a_witness.ensures
 
@@ -31,7 +31,7 @@ returns-in-Err-NotAWitness c =
     let program = core c.args.program.now in
     let bytes = c.args.bytes.now in
     if_ok c.not_a_witness-in-Err-NotAWitness.result (not_a_witness c.field_name.result.now)
-    (λ (said : Said). said ≡ json_said program (json_of bytes))
+    (λ (said : RunOutput). said ≡ json_said program (json_of bytes))
     (ap not_a_witness c.field_name.ensures
     ∙ sym (said-other program bytes c.in-Err-NotAWitness.field
     (subst (IsWitnessFault bytes) c.in-Err-NotAWitness.field-0-is c.in-Err-NotAWitness.ensures.err)))

@@ -1,6 +1,6 @@
 use Rattle.std.proofs.Common.{◌≡◌, true}
 use Rattle.core_code.specs.Program.{core}
-use Rattle.racer_run.specs.declared.said.Said.{Said}
+use Rattle.racer_run.specs.declared.said.RunOutput.{RunOutput}
 use Rattle.racer_run.specs.Replays.{json_of, json_said}
 use Rattle.racer_run.specs.Statuses.{is_replay_status}
 use Rattle.racer_run.proofs.JsonBytes.{json-status}
@@ -12,5 +12,5 @@ returns-clause-status c =
     let program = core c.args.program.now in
     let bytes = c.args.bytes.now in
     if_ok c.read_and_judged.result (json_said program (json_of bytes))
-    (λ (said : Said). is_replay_status said.status ≡ true)
+    (λ (said : RunOutput). is_replay_status said.status ≡ true)
     (json-status program (json_of bytes)) c.read_and_judged.ensures

@@ -1,7 +1,7 @@
 use Rattle.std.proofs.Common.{subst}
 use Rattle.std.specs.Option.{IfSome}
 use Rattle.racer_base.specs.Outside.{Told}
-use Rattle.racer_sources.specs.declared.found.Found.{Found}
+use Rattle.racer_sources.specs.declared.found.FolderSources.{FolderSources}
 use Rattle.racer_sources.specs.Finding.{IsFound}
 use Rattle.racer_sources.proofs.Conditions.{lowered_there}
 use Rattle.racer_sources.proofs.programs.folder_program.Goals as goal
@@ -10,5 +10,6 @@ pub returns-in_ok-lowered-in-Accepted-clause-found : goal.returns-in_ok-lowered-
 returns-in_ok-lowered-in-Accepted-clause-found g c =
     let told = g.F.Folder.told c.args.folder.now in
     lowered_there told c.in-Accepted.found _
-    (subst (λ (f : Found). IfSome told (λ (t : Told). IsFound t.files f)) c.in-Accepted.is c.in_ok-found.ensures.found)
+    (subst (λ (f : FolderSources). IfSome told (λ (t : Told). IsFound t.files f)) c.in-Accepted.is
+    c.in_ok-found.ensures.found)
     c.in_ok-lowered-in-Accepted.ensures

@@ -6,7 +6,7 @@ use Rattle.racer_base.specs.declared.limits.TheConstants.{MAX_CALL_EDGES}
 use Rattle.core_code.specs.Program.{core}
 use Rattle.core_lowering_rules.specs.Programs.{IsLowered}
 use Rattle.core_lowering.specs.Lowered.{calls_of}
-use Rattle.racer_sources.proofs.Conditions.{placed, named}
+use Rattle.racer_sources.proofs.Conditions.{placed, names_known}
 use Rattle.racer_sources.proofs.programs.lowered.Goals as goal
 
 pub lower-requires-clause-placed : goal.lower-requires-clause-placed
@@ -23,7 +23,8 @@ pub lower-requires-clause-named : goal.lower-requires-clause-named
 lower-requires-clause-named c =
     let found = c.args.found.now in
     subst (λ (us : List unit.Unit). IsTrue (are_named us)) (sym c.as_slice.ensures.value)
-    (named c.read_units_are_named.ensures (map string_bytes found.names.items) found.units.items found.table c.requires)
+    (names_known c.read_units_are_named.ensures
+    (map string_bytes found.names.items) found.units.items found.table c.requires)
 
 pub returns-in-Ok : goal.returns-in-Ok
 returns-in-Ok c =

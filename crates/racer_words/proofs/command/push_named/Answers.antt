@@ -1,7 +1,7 @@
 use Rattle.std.proofs.Common.{sym, ap, append-nil, ◌++◌, ◌∙◌}
 use Rattle.std.proofs.lemmas.List.{at_drop_all}
 use Rattle.racer_words.specs.Command.{rules_of}
-use Rattle.racer_words.proofs.AddedRules.{named, named_is, named_turn}
+use Rattle.racer_words.proofs.AddedRules.{named_rules, named_is, named_turn}
 use Rattle.racer_words.proofs.command.push_named.Goals as goal
 
 pub loop-name-preserved : goal.loop-name-preserved
@@ -16,5 +16,5 @@ loop-name-preserved c =
 pub returns : goal.returns
 returns c =
     let made = rules_of c.loop-name.arguments.items in
-    let left = at_drop_all (named c.args.action) c.args.names.now c.loop-name.name-index c.loop-name-test.false in
+    let left = at_drop_all (named_rules c.args.action) c.args.names.now c.loop-name.name-index c.loop-name-test.false in
     sym (append-nil made) ∙ ap (λ rules. made ++ rules) (sym left) ∙ c.loop-name.invariant

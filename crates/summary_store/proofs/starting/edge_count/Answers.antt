@@ -1,7 +1,7 @@
 use Rattle.std.proofs.Common.{[], ◌∷◌, length, take, get_or, ap, arith}
 use Rattle.std.proofs.lemmas.List.{take_more}
 use Rattle.racer_base.specs.declared.ids.MethodId.{MethodId}
-use Rattle.core_code.specs.Rows.{rows_in}
+use Rattle.core_code.specs.CalleeRows.{rows_in}
 use Rattle.core_code.specs.Counting.{weigh}
 use Rattle.core_code.specs.Chains.{row_of}
 use Rattle.summary_store.proofs.Weights.{weigh-append}

@@ -1,5 +1,5 @@
 use Rattle.std.proofs.Common.{◌≡◌, take, length}
-use Rattle.core_code.specs.Rows.{rows_in}
+use Rattle.core_code.specs.CalleeRows.{rows_in}
 use Rattle.core_code.specs.Counting.{weigh}
 use Rattle.core_code.specs.Chains.{row_of}
 use Rattle.summary_store.proofs.starting.edge_count.Given as goal

@@ -1,7 +1,7 @@
 use Rattle.std.proofs.Common.{length, ap, ◌∙◌}
 use Rattle.std.proofs.Common.{arith}
 use Rattle.core_code.specs.Program.{core}
-use Rattle.core_code.specs.Rows.{rows_in, rows_of}
+use Rattle.core_code.specs.CalleeRows.{rows_in, rows_of}
 use Rattle.core_code.specs.Counting.{analysed_methods}
 use Rattle.summary_store.proofs.Opening.{rows_fit, room_same}
 use Rattle.summary_store.proofs.starting.takes_bound.Goals as goal

@@ -3,14 +3,14 @@ use Rattle.std.proofs.lemmas.List.{drop_more, drop_all}
 use Rattle.std.proofs.lemmas.Option.{get_or_from_slice_get}
 use Rattle.access_domain.specs.declared.access.Access.{Access}
 use Rattle.call_subst.specs.declared.naming.Call.{Call}
-use Rattle.call_subst.specs.Calls.{record_at, records_at}
+use Rattle.call_subst.specs.Calls.{substituted_at, records_at}
 use Rattle.transfer.specs.Marks.{marks, IsMarked, IsNoted, IsStopped}
 use Rattle.transfer.proofs.Flows.{records-led, records-ended}
 use Rattle.transfer.proofs.Marking.{noted-nothing}
 use Rattle.transfer.proofs.calls.note_records.Goals as goal
 
 turn : (call : Call) (records : List Access) (i : ℕ) (r : Access) → i < length records → r ≡ get_or records i r →
-    records_at call i (drop i records) ≡ (record_at call (i, r) ++ records_at call (i + 1) (drop (i + 1) records))
+    records_at call i (drop i records) ≡ (substituted_at call (i, r) ++ records_at call (i + 1) (drop (i + 1) records))
 turn call records i r within is = ap (records_at call i) (drop_more records i r within)
     ∙ ap (λ (x : Access). records_at call i (x ∷ drop (i + 1) records)) (sym is)
 
@@ -25,7 +25,7 @@ loop-index-preserved c =
     let r : Access = c.get.result.now in
     let within : at.index < length records = omega (arith, c.len-index-end.ensures.count) in
     records-led c.args.found.now (marks (records_at call 0 records) []) at.found c.note_any_record.new.self
-    (records_at call at.index (drop at.index records)) (record_at call (at.index, r))
+    (records_at call at.index (drop at.index records)) (substituted_at call (at.index, r))
     (records_at call (at.index + 1) (drop (at.index + 1) records))
     (turn call records at.index r within (sym (get_or_from_slice_get records at.index r r c.get.ensures)))
     at.invariant
@@ -40,7 +40,7 @@ returns-in-Err c =
     let r : Access = c.get.result.now in
     let within : at.index < length records = omega (arith, c.len-index-end.ensures.count) in
     records-ended c.args.found.now (marks (records_at call 0 records) []) at.found c.note_any_record.new.self
-    (records_at call at.index (drop at.index records)) (record_at call (at.index, r))
+    (records_at call at.index (drop at.index records)) (substituted_at call (at.index, r))
     (records_at call (at.index + 1) (drop (at.index + 1) records)) c.in-Err.stop
     (turn call records at.index r within (sym (get_or_from_slice_get records at.index r r c.get.ensures)))
     at.invariant

@@ -18,7 +18,7 @@ pub returns : goal.returns
 returns c =
     let method = method_of c.args.method.now in
     let g = given_of (core c.args.program.now) (table_of c.args.callees.now) method.main in
-    let walked = c.go-walked in
+    let walked = c.walk_code-walked in
     let start : c.new-here.result ≡ start_of method =
     c.new-here.ensures ∙ ap (λ (vars : List Value). stack_of vars []) c.in-Ok.ensures in
     let e = effects_given (core c.args.program.now) (table_of c.args.callees.now) method in

@@ -5,7 +5,7 @@ use Rattle.std.proofs.lemmas.List.{at_drop_more, at_drop_all}
 use Rattle.owner_domain.specs.declared.value.State.{State}
 use Rattle.core_code.specs.declared.code.Code.{Code}
 use Rattle.core_code.specs.declared.code.Code.TheFolds.{the_lemmas}
-use Rattle.core_code.specs.Tree.{Tree, Step as Operate, Then, Either, Again, tree_of, in_sequence}
+use Rattle.core_code.specs.Tree.{Tree, Op, Seq, Choice, Loop, tree_of, in_sequence}
 use Rattle.access_domain.specs.Flow.{flow, rounds, lost_next}
 use Rattle.transfer_loops.specs.Rounds.{rounds_of}
 use Rattle.transfer.specs.Frames.{given}
@@ -20,13 +20,13 @@ use Rattle.transfer.proofs.Rounding.{rounds-left}
 use Rattle.transfer.proofs.Marking.{noted-nothing}
 use Rattle.transfer.proofs.walk.+codes.Goals as goal
 
-pub go-returns-in-Err : goal.go-returns-in-Err
-go-returns-in-Err t c =
+pub walk_code-returns-in-Err : goal.walk_code-returns-in-Err
+walk_code-returns-in-Err t c =
     let g = given c.args.frame.now in
     let left = tree_of c.deref.result.now in
     let right = tree_of c.in-Choice.right.value in
     let here = c.args.here.now in
-    let sides : tree_of c.args.code.now ≡ Either left right = search (rules, the_lemmas) in
+    let sides : tree_of c.args.code.now ≡ Choice left right = search (rules, the_lemmas) in
     record {
       flow =
           subst (λ (code : Tree). IsStopped c.args.found.now (flow g code c.args.locked here) c.in-Err.stop) (sym sides)
@@ -36,54 +36,56 @@ go-returns-in-Err t c =
       calls = tt;
     }
 
-pub go-returns-in-Err-go : goal.go-returns-in-Err-go
-go-returns-in-Err-go t c =
+pub walk_code-returns-in-Err-walk_code : goal.walk_code-returns-in-Err-walk_code
+walk_code-returns-in-Err-walk_code t c =
     let g = given c.args.frame.now in
     let left = tree_of c.deref.result.now in
     let right = tree_of c.deref-in-Choice.result.now in
     let here = c.args.here.now in
-    let stop = c.in-Err-go.stop in
-    let sides : tree_of c.args.code.now ≡ Either left right = search (rules, the_lemmas) in
+    let stop = c.in-Err-walk_code.stop in
+    let sides : tree_of c.args.code.now ≡ Choice left right = search (rules, the_lemmas) in
     record {
       flow =
           subst (λ (code : Tree). IsStopped c.args.found.now (flow g code c.args.locked here) stop) (sym sides)
           (stopped-right (flow g left c.args.locked here) (flow g right c.args.locked here) c.args.found.now
-          c.go.new.found stop c.in-Ok-go.ensures.flow.1
-          (subst (λ (s : State). IsStopped c.go.new.found (flow g right c.args.locked s) stop) c.in-Ok.ensures
-          c.in-Err-go.ensures.flow));
+          c.walk_code.new.found stop c.in-Ok-walk_code.ensures.flow.1
+          (subst (λ (s : State). IsStopped c.walk_code.new.found (flow g right c.args.locked s) stop) c.in-Ok.ensures
+          c.in-Err-walk_code.ensures.flow));
       calls = tt;
     }
 
-pub go-returns-in-Ok-go-2 : goal.go-returns-in-Ok-go-2
-go-returns-in-Ok-go-2 t c =
+pub walk_code-returns-in-Ok-walk_code-2 : goal.walk_code-returns-in-Ok-walk_code-2
+walk_code-returns-in-Ok-walk_code-2 t c =
     let g = given c.args.frame.now in
     let left = tree_of c.deref.result.now in
     let right = tree_of c.deref-in-Choice.result.now in
     let here = c.args.here.now in
-    let other = c.go-in-Choice in
-    let left_end = next_of c.in-Ok-go.goes_on c.go.new.here in
-    let right_end = next_of c.in-Ok-go-2.goes_on other.new.here in
-    let sides : tree_of c.args.code.now ≡ Either left right = search (rules, the_lemmas) in
-    let done : IsFlow (flow g right c.args.locked here) other.new.here c.go.new.found other.new.found
-    (Ok c.in-Ok-go-2.goes_on) =
-    subst (λ (s : State). IsFlow (flow g right c.args.locked s) other.new.here c.go.new.found other.new.found
-    (Ok c.in-Ok-go-2.goes_on)) c.in-Ok.ensures c.in-Ok-go-2.ensures.flow in
+    let other = c.walk_code-in-Choice in
+    let left_end = next_of c.in-Ok-walk_code.goes_on c.walk_code.new.here in
+    let right_end = next_of c.in-Ok-walk_code-2.goes_on other.new.here in
+    let sides : tree_of c.args.code.now ≡ Choice left right = search (rules, the_lemmas) in
+    let done : IsFlow (flow g right c.args.locked here) other.new.here c.walk_code.new.found other.new.found
+    (Ok c.in-Ok-walk_code-2.goes_on) =
+    subst (λ (s : State). IsFlow (flow g right c.args.locked s) other.new.here c.walk_code.new.found other.new.found
+    (Ok c.in-Ok-walk_code-2.goes_on)) c.in-Ok.ensures c.in-Ok-walk_code-2.ensures.flow in
     record {
       flow =
-          subst (λ (code : Tree). IsFlow (flow g code c.args.locked here) c.settle.new.here c.args.found.now
-          c.settle.new.found c.settle.result) (sym sides)
+          subst (λ (code : Tree). IsFlow (flow g code c.args.locked here) c.join_ends.new.here c.args.found.now
+          c.join_ends.new.found c.join_ends.result) (sym sides)
           (flow-chosen (flow g left c.args.locked here) (flow g right c.args.locked here) left_end right_end
-          c.settle.new.here c.args.found.now c.go.new.found other.new.found c.settle.new.found c.settle.result
-          c.in-Ok-go.ensures.flow.0 done.0 c.in-Ok-go.ensures.flow.1 done.1 c.settle.ensures.state
-          c.settle.ensures.found);
+          c.join_ends.new.here c.args.found.now c.walk_code.new.found other.new.found c.join_ends.new.found
+          c.join_ends.result
+          c.in-Ok-walk_code.ensures.flow.0 done.0 c.in-Ok-walk_code.ensures.flow.1 done.1 c.join_ends.ensures.state
+          c.join_ends.ensures.found);
       calls =
-          marked-found g other.new.calls.keys other.new.found c.settle.new.found
-          (marks [] (lost_next left_end right_end)) c.settle.result c.settle.ensures.found c.in-Ok-go-2.ensures.calls;
+          marked-found g other.new.calls.keys other.new.found c.join_ends.new.found
+          (marks [] (lost_next left_end right_end)) c.join_ends.result c.join_ends.ensures.found
+          c.in-Ok-walk_code-2.ensures.calls;
     }
 
-pub go-returns-in-Loop : goal.go-returns-in-Loop
-go-returns-in-Loop t c =
-    let looped : tree_of c.args.code.now ≡ Again (tree_of c.deref-in-Loop.result.now) = search (rules, the_lemmas) in
+pub walk_code-returns-in-Loop : goal.walk_code-returns-in-Loop
+walk_code-returns-in-Loop t c =
+    let looped : tree_of c.args.code.now ≡ Loop (tree_of c.deref-in-Loop.result.now) = search (rules, the_lemmas) in
     record {
       flow =
           subst (λ (code : Tree). IsFlow (flow (given c.args.frame.now) code c.args.locked c.args.here.now)
@@ -92,9 +94,9 @@ go-returns-in-Loop t c =
     }
 
 turn : (parts : List Code) (i : ℕ) (part : Code) → i < length parts → part ≡ get_or parts i part →
-    in_sequence (map tree_of (drop i parts)) ≡ Then (tree_of part) (in_sequence (map tree_of (drop (i + 1) parts)))
+    in_sequence (map tree_of (drop i parts)) ≡ Seq (tree_of part) (in_sequence (map tree_of (drop (i + 1) parts)))
 turn parts i part within is = at_drop_more (λ ps. in_sequence (map tree_of ps)) parts i part within
-    ∙ ap (λ (p : Code). Then (tree_of p) (in_sequence (map tree_of (drop (i + 1) parts)))) (sym is)
+    ∙ ap (λ (p : Code). Seq (tree_of p) (in_sequence (map tree_of (drop (i + 1) parts)))) (sym is)
 
 pub go_through-returns-in-Ok-false : goal.go_through-returns-in-Ok-false
 go_through-returns-in-Ok-false t c =
@@ -102,8 +104,8 @@ go_through-returns-in-Ok-false t c =
     let at = c.loop-part in
     let i = at.part-index in
     let parts = c.args.parts.now in
-    let here = c.go.new.here in
-    let new = c.go.new.found in
+    let here = c.walk_code.new.here in
+    let new = c.walk_code.new.found in
     record {
       flow =
           at.invariant.1 here new (Ok false)
@@ -124,7 +126,7 @@ go_through-returns-in-Err t c =
     let parts = c.args.parts.now in
     record {
       flow =
-          at.invariant.1 at.here c.go.new.found (Err c.in-Err.stop)
+          at.invariant.1 at.here c.walk_code.new.found (Err c.in-Err.stop)
           (subst (λ (code : Tree). IsStopped at.found (flow g code c.args.locked at.here) c.in-Err.stop)
           (sym (turn parts i c.part-item.result c.loop-part-test.true c.part-item.is))
           (stopped-after (flow g (tree_of c.part-item.result) c.args.locked at.here)
@@ -141,17 +143,17 @@ go_through-loop-part-preserved t c =
     let parts = c.args.parts.now in
     let first = tree_of c.part-item.result in
     let rest = in_sequence (map tree_of (drop (i + 1) parts)) in
-    let same : in_sequence (map tree_of (drop i parts)) ≡ Then first rest =
+    let same : in_sequence (map tree_of (drop i parts)) ≡ Seq first rest =
     turn parts i c.part-item.result c.loop-part-test.true c.part-item.is in
     let m = c.in-Ok-true.ensures.flow in
-    let next = m.0 ∙ ap (λ (b : Bool). next_of b c.go.new.here) c.in-Ok-true.field-0-test in (
-      high_rest g first rest c.args.locked at.here c.go.new.here
+    let next = m.0 ∙ ap (λ (b : Bool). next_of b c.walk_code.new.here) c.in-Ok-true.field-0-test in (
+      high_rest g first rest c.args.locked at.here c.walk_code.new.here
           (subst (λ (code : Tree). IsHighEnough code at.here) same at.invariant.0) next,
       λ here new r k.
           at.invariant.1 here new r
           (subst (λ (code : Tree). IsFlow (flow g code c.args.locked at.here) here at.found new r) (sym same)
-          (flow-then (flow g first c.args.locked at.here) (flow g rest c.args.locked) c.go.new.here here at.found
-          c.go.new.found new r next m.1 k)),
+          (flow-then (flow g first c.args.locked at.here) (flow g rest c.args.locked) c.walk_code.new.here here at.found
+          c.walk_code.new.found new r next m.1 k)),
       c.in-Ok-true.ensures.calls,
     )
 
@@ -178,8 +180,8 @@ repeat-returns-in-Err t c =
       calls = tt;
     }
 
-pub repeat-go-ended-requires : goal.repeat-go-ended-requires
-repeat-go-ended-requires t c =
+pub repeat-walk_code-ended-requires : goal.repeat-walk_code-ended-requires
+repeat-walk_code-ended-requires t c =
     let g = given c.args.frame.now in
     let body = tree_of c.args.body.now in
     let start = c.args.here.now in
@@ -200,9 +202,9 @@ repeat-returns-in-Ok-ended t c =
     let now = c.go_rounds.new in
     record {
       flow =
-          rounds-ended body 0 start now.here c.args.found.now now.found c.go-ended.new.found refl
+          rounds-ended body 0 start now.here c.args.found.now now.found c.walk_code-ended.new.found refl
           (rounds-left body start now.here c.args.found.now now.found c.in-Ok.ensures.rounds)
-          (subst (λ (s : State). IsNoted now.found (body s) c.go-ended.new.found) c.in-Ok-copied.ensures
+          (subst (λ (s : State). IsNoted now.found (body s) c.walk_code-ended.new.found) c.in-Ok-copied.ensures
           c.in-Ok-ended.ensures.flow.1);
       calls = c.in-Ok-ended.ensures.calls;
     }
@@ -221,9 +223,9 @@ repeat-returns-in-Err-ended t c =
       calls = tt;
     }
 
-pub go-returns-in-Op : goal.go-returns-in-Op
-go-returns-in-Op t c =
-    let is : tree_of c.args.code.now ≡ Operate c.in-Op.site c.in-Op.field-1 c.in-Op.op = search (rules, the_lemmas) in
+pub walk_code-returns-in-Op : goal.walk_code-returns-in-Op
+walk_code-returns-in-Op t c =
+    let is : tree_of c.args.code.now ≡ Op c.in-Op.site c.in-Op.field-1 c.in-Op.op = search (rules, the_lemmas) in
     record {
       flow =
           subst (λ (code : Tree). IsFlow (flow (given c.args.frame.now) code c.args.locked c.args.here.now)
@@ -231,8 +233,8 @@ go-returns-in-Op t c =
       calls = c.operate.ensures.calls;
     }
 
-pub go-returns-in-Seq : goal.go-returns-in-Seq
-go-returns-in-Seq t c =
+pub walk_code-returns-in-Seq : goal.walk_code-returns-in-Seq
+walk_code-returns-in-Seq t c =
     let is : tree_of c.args.code.now ≡ in_sequence (map tree_of c.as_slice.result.now) =
     search (rules, the_lemmas) in
     record {

@@ -2,7 +2,7 @@ use Rattle.std.proofs.Common.{◌≡◌, Bool, Option, Some, None, [], sym, ap, 
 use Rattle.std.specs.Prelude.{OnOk}
 use Rattle.owner_domain.specs.declared.value.State.{State}
 use Rattle.owner_domain.specs.Values.{joined_state}
-use Rattle.core_code.specs.Tree.{tree_of, Again}
+use Rattle.core_code.specs.Tree.{tree_of, Loop}
 use Rattle.access_domain.specs.Flow.{flow}
 use Rattle.transfer_loops.specs.Rounds.{round_next, round_lost}
 use Rattle.transfer.specs.Frames.{given}
@@ -116,6 +116,6 @@ returns-clause-high c =
     k.0 ∙ ap (λ (b : Bool). next_of b c.resume.new.here)
     (is_yes c.in-Ok-resume.passed.goes_on c.if-not-passed.false) in
     on_ok_then c.meet.result (c.meet.new.here ≡ joined_state here c.resume.new.here)
-    (IsHighEnough (Again body) c.meet.new.here) c.meet.ensures.state
-    (λ is. subst (IsHighEnough (Again body)) (ap (round_next here) next ∙ sym is)
+    (IsHighEnough (Loop body) c.meet.new.here) c.meet.ensures.state
+    (λ is. subst (IsHighEnough (Loop body)) (ap (round_next here) next ∙ sym is)
     (high_round g body c.args.locked here c.requires.high))

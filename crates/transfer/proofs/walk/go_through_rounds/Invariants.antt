@@ -1,5 +1,5 @@
 use Rattle.std.proofs.Common.{◌+◌, ◌-◌, length}
-use Rattle.core_code.specs.Tree.{tree_of, Again}
+use Rattle.core_code.specs.Tree.{tree_of, Loop}
 use Rattle.access_domain.specs.Flow.{flow}
 use Rattle.transfer.specs.Frames.{given}
 use Rattle.transfer.specs.Heights.{IsHighEnough, AreSound}
@@ -12,6 +12,6 @@ invariant-loop-round l = let total = length l.fn.here.vars + length l.fn.here.st
       rounds : AreRounds (flow (given l.frame) (tree_of l.body) l.locked) total
           (total - l.round) l.fn.here l.here l.fn.found l.found;
       high : IsHighEnough
-          (Again (tree_of l.body)) l.here;
+          (Loop (tree_of l.body)) l.here;
       sound : AreSound (given l.frame) (tree_of l.body) l.locked l.heads.items l.here;
     }

@@ -11,9 +11,9 @@ use Rattle.core_code.specs.Chains.{row_of}
 use Rattle.core_code.specs.Falling.{number_of}
 use Rattle.core_code.specs.Calls.{is_analysed}
 use Rattle.core_code.specs.Program.{core}
-use Rattle.core_code.specs.Rows.{rows_in, rows_of, ranks_in}
+use Rattle.core_code.specs.CalleeRows.{rows_in, rows_of, ranks_in}
 use Rattle.core_code.proofs.RowCallees.{is_method, or-right, read_any, row_analysed, row_there}
-use Rattle.transfer.specs.Callees.{Held, AreCallees, outcome_in}
+use Rattle.transfer.specs.Callees.{SharedFinished, AreCallees, outcome_in}
 use Rattle.transfer.specs.declared.finished.Finished.{Finished}
 use Rattle.transfer.specs.Tables.{IsFinished, finished_at}
 use Rattle.transfer.proofs.Every.{read_at, one-fewer, row-done}
@@ -48,16 +48,17 @@ loop-callee-preserved t c =
     c.loop-callee-test.true in
     let callees = c.loop-callee.callees.items in
     let made = c.in-Ok.finished in
-    let IsFor : Held → Type 0 = λ f. core (arc_value (arc_value f).program) ≡ program in
+    let IsFor : SharedFinished → Type 0 = λ f. core (arc_value (arc_value f).program) ≡ program in
     record {
       table = c.in-Ok.ensures.table;
       same_program =
-          subst (λ (fs : List Held). All IsFor fs)
-          (sym {A = List Held} {b = callees ++ made ∷ []} c.in-Ok-push.ensures.items)
+          subst (λ (fs : List SharedFinished). All IsFor fs)
+          (sym {A = List SharedFinished} {b = callees ++ made ∷ []} c.in-Ok-push.ensures.items)
           (All-push IsFor callees made inv.same_program c.in-Ok.ensures.made.program_is);
       there = λ k e.
-          subst (λ (fs : List Held). (is_some (outcome_in fs k) || list_any (is_method k) (drop (i + 1) row)) ≡ true)
-          (sym {A = List Held} {b = callees ++ made ∷ []} c.in-Ok-push.ensures.items)
+          subst (λ (fs : List SharedFinished). (is_some (outcome_in fs k) || list_any (is_method k)
+          (drop (i + 1) row)) ≡ true)
+          (sym {A = List SharedFinished} {b = callees ++ made ∷ []} c.in-Ok-push.ensures.items)
           (one-fewer callees made row i n k at.0 at.1 c.in-Ok.ensures.made.method (inv.there k e));
     }
 
@@ -81,7 +82,7 @@ returns-in-Some-clause-made t c =
     let found : Some (arc_value c.in-Some.finished) ≡ finished_at c.args.table.now.items m =
     sym (ap (option_map arc_value) c.in-Some.is)
     ∙ c.in_ok-finished.ensures
-    ∙ ap (λ (table : List (Option Held)). finished_at table m) c.as_slice.ensures.value in
+    ∙ ap (λ (table : List (Option SharedFinished)). finished_at table m) c.as_slice.ensures.value in
     subst (λ (o : Option Finished). IfSome o (λ f. IsFinished program m f)) (sym found) (c.requires.table m)
 
 pub returns-in-Some-clause-table : goal.returns-in-Some-clause-table
@@ -90,12 +91,13 @@ returns-in-Some-clause-table t c = c.requires.table
 pub loop-callee-init : goal.loop-callee-init
 loop-callee-init t c =
     let program = core (arc_value c.args.program.now) in
-    let IsFor : Held → Type 0 = λ f. core (arc_value (arc_value f).program) ≡ program in
+    let IsFor : SharedFinished → Type 0 = λ f. core (arc_value (arc_value f).program) ≡ program in
     let made = c.new-callees.result.items in
     let row = row_of (rows_in c.args.rows.now) c.args.method in
     record {
       table = c.requires.table;
-      same_program = subst (λ (fs : List Held). All IsFor fs) (sym c.new-callees.ensures.items) (All-nil IsFor);
+      same_program = subst (λ (fs : List SharedFinished). All IsFor fs) (sym c.new-callees.ensures.items)
+          (All-nil IsFor);
       there = λ n e. or-right (is_some (outcome_in made n)) (list_any (is_method n) row) e;
     }
 

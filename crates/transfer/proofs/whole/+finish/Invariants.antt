@@ -5,9 +5,9 @@ use Rattle.racer_base.specs.declared.ids.MethodId.{MethodId}
 use Rattle.core_code.specs.Chains.{row_of}
 use Rattle.core_code.specs.Falling.{number_of}
 use Rattle.core_code.specs.Program.{core}
-use Rattle.core_code.specs.Rows.{rows_in, ranks_in}
+use Rattle.core_code.specs.CalleeRows.{rows_in, ranks_in}
 use Rattle.core_code.proofs.RowCallees.{is_method}
-use Rattle.transfer.specs.Callees.{Held, outcome_in}
+use Rattle.transfer.specs.Callees.{SharedFinished, outcome_in}
 use Rattle.transfer.specs.Tables.{IsTable}
 use Rattle.transfer.proofs.whole.+finish.Given as goal
 
@@ -21,7 +21,7 @@ invariant-loop-callee l =
     let row = row_of (rows_in l.rows) l.method in
     record {
       table : IsTable program l.table.items;
-      same_program : All (λ (f : Held). core (arc_value (arc_value f).program) ≡ program) l.callees.items;
+      same_program : All (λ (f : SharedFinished). core (arc_value (arc_value f).program) ≡ program) l.callees.items;
       there : (n : MethodId) → list_any (is_method n) row ≡ true →
           (is_some (outcome_in l.callees.items n) || list_any (is_method n) (drop l.callee-index row)) ≡ true;
     }

@@ -1,6 +1,6 @@
 use Rattle.std.proofs.Common.{◌≡◌, ℕ, ◌+◌, ◌-◌, List, Option, None, ◌++◌, replicate, sym, ap, ◌∙◌, arith}
 use Rattle.std.proofs.lemmas.List.{append-nil}
-use Rattle.transfer.specs.Callees.{Held}
+use Rattle.transfer.specs.Callees.{SharedFinished}
 use Rattle.transfer.proofs.Stacks.{replicate-turn}
 use Rattle.transfer.proofs.whole.empty.Goals as goal
 
@@ -8,7 +8,7 @@ pub loop-place-preserved : goal.loop-place-preserved
 loop-place-preserved c =
     let n = c.args.places in
     let i = c.loop-place._place in
-    ap (λ (places : List (Option Held)). places ++ replicate (n - (i + 1)) None) c.in-Ok-push.ensures.items
+    ap (λ (places : List (Option SharedFinished)). places ++ replicate (n - (i + 1)) None) c.in-Ok-push.ensures.items
     ∙ replicate-turn c.loop-place.table.items n i None c.loop-place-test.true
     ∙ c.loop-place.invariant
 

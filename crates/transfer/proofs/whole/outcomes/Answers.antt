@@ -2,7 +2,7 @@ use Rattle.std.proofs.Common.{length, sym, subst}
 use Rattle.std.specs.Arc.{arc_value}
 use Rattle.core_code.specs.declared.program.Program.{Program}
 use Rattle.core_code.specs.Program.{core}
-use Rattle.core_code.specs.Rows.{AreRowsOf}
+use Rattle.core_code.specs.CalleeRows.{AreRowsOf}
 use Rattle.transfer.specs.Tables.{IsTable}
 use Rattle.transfer.proofs.Every.{empty-table}
 use Rattle.transfer.proofs.whole.outcomes.Goals as goal

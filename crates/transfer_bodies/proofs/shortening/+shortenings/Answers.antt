@@ -1,7 +1,7 @@
 use Rattle.std.proofs.Common.{◌≡◌, rules, sym, subst}
 use Rattle.std.specs.Prelude.{IfOk}
 use Rattle.core_code.specs.declared.code.Code.TheFolds.{the_lemmas}
-use Rattle.core_code.specs.Tree.{Tree, Either, Again, tree_of}
+use Rattle.core_code.specs.Tree.{Tree, Choice, Loop, tree_of}
 use Rattle.transfer_bodies.specs.Shortening.{IsShortened}
 use Rattle.transfer_bodies.proofs.WhatIsMade.{shortened-choice, shortened-loop, walks-on, walks-all}
 use Rattle.transfer_bodies.proofs.shortening.+shortenings.Goals as goal
@@ -10,7 +10,7 @@ pub shorten-returns-in-Ok-shorten : goal.shorten-returns-in-Ok-shorten
 shorten-returns-in-Ok-shorten t c =
     let left = tree_of c.deref.result.now in
     let right = tree_of c.deref-in-Choice.result.now in
-    let sides : tree_of c.args.code.now ≡ Either left right = search (rules, the_lemmas) in
+    let sides : tree_of c.args.code.now ≡ Choice left right = search (rules, the_lemmas) in
     subst (λ (code : Tree). IfOk c.choice.result (λ short. IsShortened c.args.height code short)) (sym sides)
     (shortened-choice c.args.height left right c.in-Ok.left c.in-Ok-shorten.right c.choice.result c.in-Ok.ensures
     c.in-Ok-shorten.ensures c.choice.ensures.code c.choice.ensures.height c.choice.ensures.still)
@@ -18,7 +18,7 @@ shorten-returns-in-Ok-shorten t c =
 pub shorten-returns-in-Ok-shorten-2 : goal.shorten-returns-in-Ok-shorten-2
 shorten-returns-in-Ok-shorten-2 t c =
     let body = tree_of c.deref-in-Loop.result.now in
-    let looped : tree_of c.args.code.now ≡ Again body = search (rules, the_lemmas) in
+    let looped : tree_of c.args.code.now ≡ Loop body = search (rules, the_lemmas) in
     subst (λ (code : Tree). IfOk c.repeated.result (λ short. IsShortened c.args.height code short)) (sym looped)
     (shortened-loop c.args.height body c.in-Ok-shorten-2.body c.repeated.result c.in-Ok-shorten-2.ensures
     c.repeated.ensures.code c.repeated.ensures.height c.repeated.ensures.still)

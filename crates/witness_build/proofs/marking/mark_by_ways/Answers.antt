@@ -2,7 +2,7 @@ use Rattle.std.proofs.Common.{◌∙◌}
 use Rattle.core_code.specs.Program.{core}
 use Rattle.core_ways.specs.Marks.{mark_by_calls}
 use Rattle.core_ways.specs.Ways.{way_of}
-use Rattle.core_ways.specs.Both.{said_of}
+use Rattle.core_ways.specs.WayPairs.{said_of}
 use Rattle.witness_build_laws.specs.Warned.{pair_of}
 use Rattle.witness_build.proofs.FewTurns.{both-short}
 use Rattle.witness_build.proofs.SaidOfWays.{said-locked, said-unlocked}

@@ -1,7 +1,7 @@
 use Rattle.std.proofs.Common.{◌++◌, ◌-◌, ap, ◌∙◌, length, take, drop}
 use Rattle.core_semantics.specs.Steps.{passed_from}
 use Rattle.core_semantics.specs.View.{frame_of}
-use Rattle.core_semantics.proofs.Frames.{top_of_pile}
+use Rattle.core_semantics.proofs.Frames.{top_of_stack}
 use Rattle.core_semantics.proofs.Gathered.{one_put, all_put}
 use Rattle.core_semantics.proofs.frame.Frame.passed.Goals as goal
 
@@ -10,7 +10,7 @@ loop-value-init c =
     let all = c.as_slice-all.result.now in
     let k = c.saturating_sub.result in
     ap (λ vs. vs ++ take (length all - k) (drop k all)) c.new-values.ensures.items
-    ∙ top_of_pile c.args.count k c.args.self.now.stack all c.as_slice-all.ensures c.saturating_sub.ensures
+    ∙ top_of_stack c.args.count k c.args.self.now.stack all c.as_slice-all.ensures c.saturating_sub.ensures
 
 pub loop-value-preserved : goal.loop-value-preserved
 loop-value-preserved c =

@@ -4,7 +4,7 @@ use Rattle.std.specs.List.{list_all}
 use Rattle.std.specs.Arc.{arc_value}
 use Rattle.racer_base.specs.declared.ids.MethodId.{MethodId}
 use Rattle.core_code.specs.Program.{core}
-use Rattle.core_code.specs.Rows.{rows_in, rows_of}
+use Rattle.core_code.specs.CalleeRows.{rows_in, rows_of}
 use Rattle.summary_store.specs.Setups.{state_after}
 use Rattle.summary_store.specs.Kept.{pieces_of, has_piece}
 use Rattle.summary_store.proofs.Keeping.{agreed, held_method, no_row_done, row_done_or_not}

@@ -3,7 +3,7 @@ use Rattle.std.specs.Prelude.{All}
 use Rattle.racer_base.specs.declared.ids.MethodId.{MethodId}
 use Rattle.core_code.specs.declared.program.Program.{Program}
 use Rattle.core_code.specs.Program.{core}
-use Rattle.core_code.specs.Rows.{rows_in}
+use Rattle.core_code.specs.CalleeRows.{rows_in}
 use Rattle.core_code.specs.declared.rows.CallRows.{CallRows}
 use Rattle.core_code.specs.Counting.{analysed_methods, flags_of}
 use Rattle.summary_store.specs.declared.machine.Hand.TheVariants.{Free}
