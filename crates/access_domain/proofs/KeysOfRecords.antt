@@ -10,13 +10,13 @@ use Rattle.access_domain.specs.declared.access.Key.{Key}
 use Rattle.access_domain.specs.Keys.{key_eq, key_of, HasKeysOf}
 use Rattle.access_domain.specs.Records.{is_write, same_flag, same_key}
 
-flags_back : (a b : Bool) → beq a b ≡ same_flag b a
+pub flags_back : (a b : Bool) → beq a b ≡ same_flag b a
 flags_back true true = refl
 flags_back true false = refl
 flags_back false true = refl
 flags_back false false = refl
 
-grouped : (p q r s : Bool) → (p && (q && (r && s))) ≡ (p && q && r && s)
+pub grouped : (p q r s : Bool) → (p && (q && (r && s))) ≡ (p && q && r && s)
 grouped true true r s = refl
 grouped true false r s = refl
 grouped false q r s = refl

@@ -4,3 +4,6 @@ pub mod RecordOrigins
 pub mod AdditionLemmas
 pub mod KeysOfRecords
 pub mod ReachedPaths
+pub mod NumberedKeys
+pub mod NumberedReading
+pub mod MethodOutcomes

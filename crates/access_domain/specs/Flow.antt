@@ -88,4 +88,4 @@ flow g Skip locked s = goes_on s
 flow g (Seq first rest) locked s = after (flow g first locked s) (flow g rest locked)
 flow g (Choice left right) locked s = chosen (flow g left locked s) (flow g right locked s)
 flow g (Loop body) locked s = looped (flow g body locked) s
-flow g (Sync place body) locked s = flow g body true (popped s 1)
+flow g (Sync lock body) locked s = flow g body true (popped s 1)

@@ -9,6 +9,8 @@ pub mod Substitution
 pub mod Operations
 pub mod Flow
 pub mod Summaries
+pub mod OutcomeRecords
 pub mod Examples
 pub mod Outcomes
 pub mod Origins
+pub mod Numbered

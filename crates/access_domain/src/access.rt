@@ -171,7 +171,7 @@ impl Accesses {
 }
 
 /// Whether an access writes.
-fn writes(kind: Touch) -> bool
+pub(crate) fn writes(kind: Touch) -> bool
     ensures { result ≡ is_write kind }
 {
     matches!(kind, Touch::Write)

@@ -23,7 +23,8 @@ ghost use Rattle.access_domain.specs.Given.{FlowContext, given_of};
 ghost use Rattle.access_domain.specs.Operations.{Effects};
 ghost use Rattle.access_domain.specs.Origins.{HasOrigin};
 ghost use Rattle.access_domain.specs.Records.{different_paths, first_of_keys, same_key};
-ghost use Rattle.access_domain.specs.Summaries.{outcome_of, known_of, known_of_callees, effects_of};
+ghost use Rattle.access_domain.specs.Outcomes.{outcome_among};
+ghost use Rattle.access_domain.specs.Summaries.{outcome_of, outcomes_of, known_of, known_of_callees, effects_of};
 ghost use Rattle.access_domain.specs.Examples.{mix, join, statics, field, method, class, this_path, formal_path};
 ghost use Rattle.access_domain.specs.Examples.{access, access_below};
 
@@ -118,6 +119,11 @@ pub fn callees_are_known()
         known_of_callees core m n ≡ known_of core n }
     ensures other { (core : Core) (m n : MethodId) → rank_of core m ≤ rank_of core n →
         known_of_callees core m n ≡ None }
+{}
+
+/// What the outcomes of a program have of a method is its outcome.
+pub fn outcomes_are_those_of_methods()
+    ensures { (core : Core) (m : MethodId) → outcome_among (outcomes_of core) m ≡ outcome_of core m }
 {}
 
 /// The set of a list of paths is that of its different ones.

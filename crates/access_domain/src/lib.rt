@@ -6,6 +6,7 @@
 //! # The definitions
 //!
 //! - `specs/Records.antt`: keys, and the first record of each.
+//! - `specs/Numbered.antt`: records whose paths are numbers of a table, and what they are.
 //! - `specs/Findings.antt`: what is known of a method, in lists (`Known`), and the same as an `Outcome`.
 //! - `specs/Given.antt`: what a flow needs of a program (`FlowContext`), and `given_of` a program's parts.
 //! - `specs/Reached.antt`: the path of an access, by the value of the field.
@@ -14,13 +15,19 @@
 //! - `specs/Flow.antt`: the flow of a piece of code, by cases on its tree.
 //! - `specs/Origins.antt`: where a record of a method comes from.
 //! - `specs/Summaries.antt`: what is known of a method by rank, its outcome (`outcome_of`), and those of all.
+//! - `specs/OutcomeRecords.antt`: the records of a method, by its outcome.
+//! - `specs/Outcomes.antt`: the outcomes of all as the code holds them, and what they have of one method.
 #![tactic(auto)]
 
 mod access;
 pub mod laws;
+mod numbered;
+mod outcomes;
 mod summary;
 mod touching;
 
 pub use access::{Access, Accesses};
-pub use summary::{Outcome, Outcomes, Summary};
+pub use numbered::{NumberedAccess, NumberedAccesses};
+pub use outcomes::{Outcomes, outcome_at, record_of, records_of, summary_at, wobbly_of};
+pub use summary::{Outcome, Summary};
 pub use touching::{Touched, path_reached, touched_field};

@@ -1,7 +1,6 @@
 //! What is known of a method.
 use crate::Accesses;
 use owner_domain::Value;
-use std::sync::Arc;
 use wobbly_paths::Wobbly;
 
 /// What an analysed method does, in names of its own receiver and parameters.
@@ -20,6 +19,3 @@ pub enum Outcome {
     /// It has too many records or wobbly paths, or calls such a method.
     Large,
 }
-
-/// One for each method, `None` for those that are not analysed.
-pub type Outcomes = Vec<Option<Arc<Outcome>>>;

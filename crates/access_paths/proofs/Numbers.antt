@@ -1,7 +1,10 @@
 -- Paths and their numbers.
-use Rattle.std.proofs.Common.{◌≡◌, ℕ, zero, suc, ◌⊎◌, inl, inr, ◌<◌, ◌+◌, Bool, true, false, cond, ◌||◌, List, [], ◌∷◌, ◌++◌, length, Some, slice_get, get_or, nat_eq, refl, sym, ap, ◌∙◌, arith, length-append}
+use Rattle.std.proofs.Common.{◌≡◌, ℕ, zero, suc, ◌⊎◌, inl, inr, ◌<◌, ◌+◌, Bool, true, false, cond, ◌||◌, List, []}
+use Rattle.std.proofs.Common.{◌∷◌, ◌++◌, length, Some, slice_get, get_or, nat_eq, refl, sym, ap, subst, ◌∙◌, arith}
+use Rattle.std.proofs.Common.{length-append, Result, Ok, Err}
+use Rattle.std.specs.Prelude.{OnOk, OnErr}
 use Rattle.std.proofs.lemmas.List.Quantifiers.{position-Some}
-use Rattle.std.proofs.lemmas.Option.{slice_get-get_or}
+use Rattle.std.proofs.lemmas.Option.{slice_get-get_or, get_or_from_slice_get}
 use Rattle.std.specs.List.{list_any, position}
 use Rattle.access_paths.specs.declared.path.Path.{Path}
 use Rattle.access_paths.specs.Paths.{same_path}
@@ -85,6 +88,15 @@ pub interned-goes_on : (paths : List Path) (p : Path) → GoesOn paths (interned
 interned-goes_on paths p = elim (list_any (same_path p) paths) as (λ b. GoesOn paths (cond b paths (paths ++ p ∷ [])))
     [ true ↦ ([], append-nil paths) | false ↦ (p ∷ [], refl) ]
 
+pub goes_on-same : (a : List Path) → GoesOn a a
+goes_on-same a = ([], append-nil a)
+
+-- whatever the answer of a call that puts a path in, or leaves the table as it is where memory is refused
+pub interned_or_same : {X E : Type 0} (result : Result X E) (old new : List Path) (p : Path) →
+    OnOk result (new ≡ interned old p) → OnErr result (new ≡ old) → GoesOn old new
+interned_or_same (Ok x) old new p put same = subst (GoesOn old) (sym put) (interned-goes_on old p)
+interned_or_same (Err e) old new p put same = subst (GoesOn old) (sym same) (goes_on-same old)
+
 pub goes_on-trans : (a b c : List Path) → GoesOn a b → GoesOn b c → GoesOn a c
 goes_on-trans a b c h k = (h.0 ++ k.0, k.1 ∙ ap (λ xs. xs ++ k.0) h.1 ∙ append-assoc a h.0 k.0)
 
@@ -117,3 +129,19 @@ equal_numbers a i j table low high = elim (nat_eq i j)
         let same : path_at a i ≡ path_at a j = equal_of_same (path_at a i) (path_at a j) f in
         let number : i ≡ j = table.once i j (path_at a j) (at_i ∙ ap Some same) at_j in
         absurd (let yes : nat_eq i j ≡ true = eq-eqb i j number in cc)
+
+-- the path that stands at a number is that of the number, which is one of the table's
+pub number-at : (paths : List Path) (n : ℕ) (p : Path) → slice_get paths n ≡ Some p → path_at paths n ≡ p
+number-at paths n p e = get_or_from_slice_get paths n p (alone This) e
+
+pub number-below : (paths : List Path) (n : ℕ) (p : Path) → slice_get paths n ≡ Some p → n < length paths
+number-below [] n p e = cc
+number-below (q ∷ paths) zero p e = let long : length (q ∷ paths) ≡ suc (length paths) = refl in omega arith
+number-below (q ∷ paths) (suc n) p e =
+    let long : length (q ∷ paths) ≡ suc (length paths) = refl in
+    let low : n < length paths = number-below paths n p e in
+    omega arith
+
+pub number-still : (a b : List Path) (n : ℕ) → GoesOn a b → n < length a → n < length b
+number-still a b n h low = let long : length b ≡ length a + length h.0 = ap length h.1 ∙ length-append a h.0 in
+    omega arith

@@ -3,3 +3,6 @@ pub mod Sizes
 pub mod SameSets
 pub mod NamedValues
 pub mod Whole
+pub mod NumberedSets
+pub mod KnownRoots
+pub mod ValuesRead

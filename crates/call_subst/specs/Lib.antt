@@ -1,3 +1,4 @@
 -- A contract of a public call rests on this: the list of files.
 pub mod Substitutes
 pub mod Calls
+pub mod Numbered

@@ -29,7 +29,7 @@ module _ (all : Bool) where
   callees_are (Seq first rest) = together first rest (callees_are first) (callees_are rest)
   callees_are (Choice left right) = together left right (callees_are left) (callees_are right)
   callees_are (Loop body) = callees_are body
-  callees_are (Sync place body) = callees_are body
+  callees_are (Sync lock body) = callees_are body
 
 all_callees : (code : Tree) → callees_of true code ≡ all_calls_in code
 unfolding callees_at

@@ -2,9 +2,8 @@
 use Rattle.std.proofs.Common.{◌≡◌, ℕ, Bool, true, ◌&&◌, List, ◌++◌, ◌∙◌}
 use Rattle.std.proofs.lemmas.List.Folds.{list_all-append}
 use Rattle.std.specs.List.{list_all}
-use Rattle.racer_base.specs.declared.ids.Place.{Place}
 use Rattle.core_code.specs.Core.{Core}
-use Rattle.core_code.specs.Tree.{Tree, Seq, Sync, steps_of, locks_of}
+use Rattle.core_code.specs.Tree.{LockAt, Tree, Seq, Sync, steps_of, locks_of}
 use Rattle.core_code.proofs.BoolParts.{both, first_part, last_part}
 use Rattle.core_code.specs.Facts.{is_place, is_operation, is_code}
 
@@ -30,9 +29,9 @@ module _ (core : Core) (variables : ℕ) where
       (last_part (steps_fit first) (locks_fit first) one)
       (last_part (steps_fit rest) (locks_fit rest) others))
 
-  pub held_in_range : (place : Place) (body : Tree) → is_place core place ≡ true → is_code core variables body ≡ true →
-      is_code core variables (Sync place body) ≡ true
-  held_in_range place body here inside =
-      both (steps_fit body) (is_place core place && locks_fit body)
+  pub held_in_range : (lock : LockAt) (body : Tree) → is_place core lock.place ≡ true → is_code core variables body ≡ true →
+      is_code core variables (Sync lock body) ≡ true
+  held_in_range lock body here inside =
+      both (steps_fit body) (is_place core lock.place && locks_fit body)
       (first_part (steps_fit body) (locks_fit body) inside)
-      (both (is_place core place) (locks_fit body) here (last_part (steps_fit body) (locks_fit body) inside))
+      (both (is_place core lock.place) (locks_fit body) here (last_part (steps_fit body) (locks_fit body) inside))

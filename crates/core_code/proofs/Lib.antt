@@ -10,6 +10,7 @@ pub mod InRange
 pub mod Gathering
 pub mod Loops
 pub mod Named
+pub mod FieldNames
 pub mod Different
 pub mod FirstStamps
 pub mod Ranks

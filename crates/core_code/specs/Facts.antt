@@ -148,7 +148,7 @@ height_after Skip h = Some h
 height_after (Seq first rest) h = elim (height_after first h) [ None ↦ None | Some k ↦ height_after rest k ]
 height_after (Choice left right) h = same_height (height_after left h) (height_after right h)
 height_after (Loop body) h = same_height (Some h) (height_after body h)
-height_after (Sync place body) h = if nat_le 1 h then height_after body (h - 1) else None
+height_after (Sync lock body) h = if nat_le 1 h then height_after body (h - 1) else None
 
 abbrev pub is_stack_enough : Method → Bool
 is_stack_enough m = is_some (height_after m.code 0)

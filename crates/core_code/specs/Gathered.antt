@@ -18,7 +18,7 @@ callees_of all Skip = []
 callees_of all (Seq first rest) = callees_of all first ++ callees_of all rest
 callees_of all (Choice left right) = callees_of all left ++ callees_of all right
 callees_of all (Loop body) = callees_of all body
-callees_of all (Sync place body) = callees_of all body
+callees_of all (Sync lock body) = callees_of all body
 
 abbrev pub callee_rows : Bool → List MethodCore → List (List MethodId)
 callee_rows all methods = map (λ (m : MethodCore). callees_of all (tree_of m.code)) methods

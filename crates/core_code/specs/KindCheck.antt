@@ -112,8 +112,8 @@ kinds_after core method (Choice left right) stack =
     and_then (kinds_after core method right stack) (λ b. joined_stack a b))
 kinds_after core method (Loop body) stack =
     and_then (kinds_after core method body stack) (λ after. where_true (same_stack stack after) stack)
-kinds_after core method (Sync place body) [] = None
-kinds_after core method (Sync place body) (lock ∷ stack) = kinds_after core method body stack
+kinds_after core method (Sync lock body) [] = None
+kinds_after core method (Sync lock body) (value ∷ stack) = kinds_after core method body stack
 
 abbrev pub same_declared_kind : Kind → Kind → Bool
 same_declared_kind a b = same_kind (kind_of a) (kind_of b)

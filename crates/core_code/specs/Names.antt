@@ -7,15 +7,22 @@ use Rattle.core_code.specs.declared.parts.ClassCore.{ClassCore}
 use Rattle.core_code.specs.declared.parts.FieldCore.{FieldCore}
 use Rattle.core_code.specs.Core.{Core, Method}
 
--- The names of classes and fields are identifiers: words that are neither keywords nor literals (JLS 3.8).
+-- An identifier is a word that is neither a keyword nor a literal (JLS 3.8).
 
 abbrev pub is_identifier : List ℕ → Bool
 is_identifier text = is_word text && not (is_listed keywords text) && not (is_listed fixed_words text)
 
-abbrev pub are_identifiers : Core → Bool
-are_identifiers core =
+-- The name of a field is an identifier. What else is known of it: the law `field_names_stand_in_texts`.
+
+abbrev pub is_field_name : List ℕ → Bool
+is_field_name text = is_identifier text
+
+-- The names of classes are identifiers, those of fields names of fields.
+
+abbrev pub are_names_right : Core → Bool
+are_names_right core =
     list_all (λ (c : ClassCore). is_identifier c.name) core.classes
-    && list_all (λ (f : FieldCore). is_identifier f.name) core.fields
+    && list_all (λ (f : FieldCore). is_field_name f.name) core.fields
 
 -- no two elements are the same
 abbrev pub all_differ : {X : Type 0} → (X → X → Bool) → List X → Bool

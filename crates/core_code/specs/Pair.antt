@@ -12,6 +12,7 @@ use Rattle.racer_base.specs.declared.ids.Place.{Place}
 use Rattle.core_code.specs.declared.code.Op.{Op as CoreOp}
 use Rattle.core_code.specs.declared.code.Op.TheVariants.{Push, PushPrim, Drop, Put, Call, Unread, Ret}
 use Rattle.core_code.specs.declared.code.Reason.{Reason}
+use Rattle.core_code.specs.declared.code.LockKind.TheVariants.{Own}
 use Rattle.core_code.specs.declared.parts.ClassCore.{ClassCore}
 use Rattle.core_code.specs.declared.parts.FieldCore.{FieldCore}
 use Rattle.core_code.specs.Tree.{Tree, Op, Sync, in_sequence}
@@ -22,6 +23,10 @@ at line column = record { file = record { 0 = 0 }; line = line; column = column 
 
 abbrev pub step : ℕ → Place → CoreOp → Tree
 step site place op = Op (record { 0 = site }) place op
+
+-- a body under the monitor of an object
+abbrev pub own_sync : Place → Tree → Tree
+own_sync place body = Sync (record { place = place; kind = Own }) body
 
 abbrev pub this : CoreOp
 this = Push (record { 0 = 0 })
@@ -89,7 +94,7 @@ method_both =
       code =
           in_sequence
           (step 0 (at 5 8) this
-          ∷ Sync (at 5 17)
+          ∷ own_sync (at 5 17)
           (in_sequence
           (step 1 (at 5 8) this ∷ step 2 (at 5 8) PushPrim ∷ step 3 (at 5 44) (put_at 0) ∷ step 4 (at 5 8) Drop
           ∷ step 5 (at 5 8) this ∷ step 6 (at 5 8) PushPrim ∷ step 7 (at 5 56) (put_at 1) ∷ step 8 (at 5 8) Drop ∷ []))
@@ -99,7 +104,7 @@ method_both =
 -- the first method with a lock that stands in another file
 abbrev pub lock_elsewhere : Method
 lock_elsewhere =
-    record method_new { code = Sync (record { file = record { 0 = 1 }; line = 1; column = 1 }) (step 0 (at 1 7) this) }
+    record method_new { code = own_sync (record { file = record { 0 = 1 }; line = 1; column = 1 }) (step 0 (at 1 7) this) }
 
 abbrev pub pair : Core
 pair =

@@ -4,12 +4,18 @@ use Rattle.std.specs.Prelude.{List, [], ◌∷◌, ◌++◌, Bool, true, false, 
 use Rattle.std.specs.List.{find}
 use Rattle.racer_base.specs.declared.ids.Place.{Place}
 use Rattle.racer_base.specs.declared.ids.SiteId.{SiteId}
+use Rattle.core_code.specs.declared.code.LockKind.{LockKind}
 use Rattle.core_code.specs.declared.code.Op.{Op as CoreOp}
 use Rattle.core_code.specs.declared.code.Op.TheVariants.{Ret}
 use Rattle.core_code.specs.declared.code.Code.{Code}
 use Rattle.core_code.specs.declared.code.Code.TheOpen.{Code-F}
 use Rattle.core_code.specs.declared.code.Code.TheOpen as node
 use Rattle.core_code.specs.declared.code.Code.TheFolds.{fold-Code}
+
+-- where a lock stands, and which lock of the object it is
+pub record LockAt : Type 0 where
+  pub place : Place
+  pub kind : LockKind
 
 -- one operation; nothing; a part and what comes after it; one of two; a body done any number of times; a body under a
 -- lock
@@ -19,7 +25,7 @@ pub data Tree : Type 0 where
   Seq : (first rest : Tree) → Tree
   Choice : (left right : Tree) → Tree
   Loop : (body : Tree) → Tree
-  Sync : (place : Place) (body : Tree) → Tree
+  Sync : (lock : LockAt) (body : Tree) → Tree
 
 -- the parts one after another
 abbrev pub in_sequence : List Tree → Tree
@@ -32,7 +38,7 @@ layer (node.Op site place op) = Op site place op
 layer (node.Seq parts) = in_sequence parts.items
 layer (node.Choice left right) = Choice left.value right.value
 layer (node.Loop body) = Loop body.value
-layer (node.Sync place body) = Sync place body.value
+layer (node.Sync place kind body) = Sync (record { place = place; kind = kind }) body.value
 
 -- code as a tree
 abbrev pub tree_of : Code → Tree
@@ -51,7 +57,7 @@ steps_of Skip = []
 steps_of (Seq first rest) = steps_of first ++ steps_of rest
 steps_of (Choice left right) = steps_of left ++ steps_of right
 steps_of (Loop body) = steps_of body
-steps_of (Sync place body) = steps_of body
+steps_of (Sync lock body) = steps_of body
 
 -- the places of the locks in reading order
 abbrev pub locks_of : Tree → List Place
@@ -60,7 +66,7 @@ locks_of Skip = []
 locks_of (Seq first rest) = locks_of first ++ locks_of rest
 locks_of (Choice left right) = locks_of left ++ locks_of right
 locks_of (Loop body) = locks_of body
-locks_of (Sync place body) = place ∷ locks_of body
+locks_of (Sync lock body) = lock.place ∷ locks_of body
 
 -- the operation that has this site, where the code has one
 abbrev pub op_at : Tree → SiteId → Option Operation
@@ -77,4 +83,4 @@ can_end Skip = true
 can_end (Seq first rest) = can_end first && can_end rest
 can_end (Choice left right) = can_end left || can_end right
 can_end (Loop body) = true
-can_end (Sync place body) = can_end body
+can_end (Sync lock body) = can_end body

@@ -31,7 +31,7 @@ fn push_callees(code: &Code, all: bool, callees: &mut Vec<MethodId>) -> Result<(
             push_callees(right, all, callees)
         }
         Code::Loop(body) => push_callees(body, all, callees),
-        Code::Sync(_, body) => push_callees(body, all, callees),
+        Code::Sync(_, _, body) => push_callees(body, all, callees),
     }
 }
 
@@ -66,6 +66,13 @@ pub(crate) fn callees(alloc: Global, code: &Code, all: bool) -> Result<Vec<Metho
     Ok(callees)
 }
 
+/// The methods that code calls, in reading order: also those that are not analysed.
+pub fn all_callees(alloc: Global, code: &Code) -> Result<Vec<MethodId>, Memory>
+    ensures { IfOk result (λ made. made.items ≡ callees_of true (tree_of code.now)) }
+{
+    callees(alloc, code, true)
+}
+
 /// For each method the methods that it calls: also those that are not analysed.
 pub(crate) fn callee_rows(
     alloc: Global,
@@ -75,7 +82,7 @@ pub(crate) fn callee_rows(
 {
     let mut rows = Vec::new(alloc);
     for method in methods {
-        rows.push(Items::from(callees(alloc, &method.code, true)?))?;
+        rows.push(Items::from(all_callees(alloc, &method.code)?))?;
     }
     Ok(rows)
 }

@@ -33,6 +33,15 @@ pub enum Op {
     Ret,
 }
 
+/// Which lock of an object.
+#[derive(Clone, Copy)]
+pub enum LockKind {
+    /// The object's monitor (JLS 17.1).
+    Own,
+    /// The lock that the object is, where a field's value is a lock object. No code has it yet.
+    Explicit,
+}
+
 /// Core code.
 #[derive(Drop)]
 pub enum Code {
@@ -40,8 +49,8 @@ pub enum Code {
     Seq(Vec<Code>),
     Choice(Box<Code>, Box<Code>),
     Loop(Box<Code>),
-    /// Pops an object, and does the body with its monitor held (JLS 14.19).
-    Sync(Place, Box<Code>),
+    /// Pops an object, and does the body with that lock of it held (JLS 14.19).
+    Sync(Place, LockKind, Box<Code>),
 }
 
 /// Why a method is not analysed. Of several the first applies.

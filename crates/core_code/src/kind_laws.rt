@@ -2,8 +2,8 @@
 ghost use Rattle.std.specs.Prelude.{◌≡◌, true, false, [], ◌∷◌, Some, None, map};
 ghost use Rattle.racer_base.specs.declared.ids.Kind.TheVariants as types;
 ghost use Rattle.core_code.specs.declared.code.Op.TheVariants as op;
-ghost use Rattle.core_code.specs.Tree.{Skip, Seq, Choice, Loop, Sync};
-ghost use Rattle.core_code.specs.Pair.{at, step};
+ghost use Rattle.core_code.specs.Tree.{Skip, Seq, Choice, Loop};
+ghost use Rattle.core_code.specs.Pair.{at, own_sync, step};
 ghost use Rattle.core_code.specs.Kinds.{Plain, Null, Opaque, Other, joined_stack};
 ghost use Rattle.core_code.specs.KindCheck.{are_kinded, kinds_after_op};
 ghost use Rattle.core_code.specs.Kinded.{a, b, an_a, a_b, the_a, the_b, after_each, after_code, kinded, method_f};
@@ -97,9 +97,9 @@ pub fn kinds_of_code()
         ≡ Some (Null ∷ []) }
     ensures changed { after_code (Loop (Seq (step 0 (at 1 1) op.Drop) (step 1 (at 1 1) op.PushPrim))) (Null ∷ [])
         ≡ None }
-    ensures held { after_code (Sync (at 1 1) (step 0 (at 1 1) op.PushNull)) (Other ∷ Plain ∷ [])
+    ensures held { after_code (own_sync (at 1 1) (step 0 (at 1 1) op.PushNull)) (Other ∷ Plain ∷ [])
         ≡ Some (Null ∷ Plain ∷ []) }
-    ensures no_lock { after_code (Sync (at 1 1) Skip) [] ≡ None }
+    ensures no_lock { after_code (own_sync (at 1 1) Skip) [] ≡ None }
     ensures methods { are_kinded kinded ≡ true }
     ensures no_parameter { are_kinded (with_variables (types.Declared a ∷ types.Declared a ∷ [])) ≡ false }
     ensures other_parameter { are_kinded (with_variables (types.Declared a ∷ types.Declared b ∷ types.Plain ∷ []))

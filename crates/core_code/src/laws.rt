@@ -1,6 +1,7 @@
 //! Laws of the definitions, and their values on small programs.
 ghost use Rattle.std.specs.Prelude.{◌≡◌, ℕ, ◌<◌, true, false, [], ◌∷◌, ◌++◌, ◌&&◌, ◌+◌, length, Some, None, IsTrue, List};
-ghost use Rattle.std.specs.Prelude.{slice_get, Contains, map, codes};
+ghost use Rattle.std.specs.Prelude.{slice_get, Contains, map, codes, nat_eq};
+ghost use Rattle.std.specs.List.{All};
 ghost use Rattle.racer_base.specs.declared.ids.Kind.TheVariants.{Plain};
 ghost use Rattle.core_code.specs.declared.code.Op.TheVariants.{Call};
 ghost use Rattle.core_code.specs.declared.code.Reason.TheVariants.{Overload};
@@ -19,7 +20,8 @@ ghost use Rattle.core_code.specs.Pair.{with_method, class_pair, field_a, field_b
 ghost use Rattle.core_code.specs.Pair.{call_put, unread_put, after_call, with_parameters};
 ghost use Rattle.core_code.specs.CallFacts.{do_end_by_return, are_calls_right, has_ranks};
 ghost use Rattle.core_code.specs.KindCheck.{are_kinded};
-ghost use Rattle.core_code.specs.Names.{is_identifier, are_identifiers, do_classes_differ, do_fields_differ};
+ghost use Rattle.core_code.specs.Names.{is_identifier, is_field_name, are_names_right};
+ghost use Rattle.core_code.specs.Names.{do_classes_differ, do_fields_differ};
 ghost use Rattle.core_code.specs.Names.{do_methods_differ};
 
 /// What the type of `Program` keeps holds of a class with two methods, and is refused where one number of it is
@@ -33,7 +35,7 @@ pub fn pair_is_a_program()
     ensures calls { IsTrue (are_calls_right pair) }
     ensures ranks { IsTrue (has_ranks pair) }
     ensures kinded { IsTrue (are_kinded pair) }
-    ensures identifiers { IsTrue (are_identifiers pair) }
+    ensures names_right { IsTrue (are_names_right pair) }
     ensures classes { IsTrue (do_classes_differ pair) }
     ensures fields { IsTrue (do_fields_differ pair) }
     ensures methods { IsTrue (do_methods_differ pair) }
@@ -55,9 +57,9 @@ pub fn names_of_programs()
     ensures others { map is_identifier
         (codes "" ∷ codes "<new>" ∷ codes "1a" ∷ codes "a b" ∷ codes "class" ∷ codes "null" ∷ [])
         ≡ false ∷ false ∷ false ∷ false ∷ false ∷ false ∷ [] }
-    ensures class_name { are_identifiers (record pair { classes = record class_pair { name = codes "<new>" } ∷ [] })
+    ensures class_name { are_names_right (record pair { classes = record class_pair { name = codes "<new>" } ∷ [] })
         ≡ false }
-    ensures field_name { are_identifiers (record pair { fields = record field_a { name = codes "int" } ∷ [] }) ≡ false }
+    ensures field_name { are_names_right (record pair { fields = record field_a { name = codes "int" } ∷ [] }) ≡ false }
     ensures classes { do_classes_differ (record pair { classes = class_pair ∷ class_pair ∷ [] }) ≡ false }
     ensures fields { do_fields_differ (record pair { fields = field_a ∷ field_b ∷ field_a ∷ [] }) ≡ false }
     ensures of_classes { do_fields_differ (record pair { fields = field_a ∷ in_class 1 field_a ∷ [] }) ≡ true }
@@ -66,6 +68,14 @@ pub fn names_of_programs()
         (record pair { methods = method_put ∷ record method_put { status = Some Overload } ∷ [] }) ≡ true }
     ensures counts { do_methods_differ
         (record pair { methods = method_put ∷ record method_put { parameters = Plain ∷ [] } ∷ [] }) ≡ true }
+{}
+
+/// The name of a field is not empty, and neither a dot (byte 46) nor a number sign (byte 35) is in it, so that it can be
+/// read back from a text where these stand round it.
+pub fn field_names_stand_in_texts()
+    ensures not_empty { is_field_name [] ≡ false }
+    ensures no_dot { (name : List ℕ) → IsTrue (is_field_name name) → All (λ b. nat_eq b 46 ≡ false) name }
+    ensures no_number_sign { (name : List ℕ) → IsTrue (is_field_name name) → All (λ b. nat_eq b 35 ≡ false) name }
 {}
 
 /// Which methods have few parameters: 64 and no more, where they are analysed.

@@ -30,7 +30,8 @@ mod row_making;
 mod rows;
 mod walk;
 
-pub use code::{Code, Op, Reason};
+pub use calls::all_callees;
+pub use code::{Code, LockKind, Op, Reason};
 pub use cycles::on_cycles;
 pub use falling::falling_numbers;
 pub use parts::{ClassCore, FieldCore, MethodCore, Parts};

@@ -5,7 +5,7 @@ ghost use Rattle.core_code.specs.Facts.{are_numbers_in_range, are_sites_in_order
 ghost use Rattle.core_code.specs.Facts.{are_stacks_enough, are_parameters_few};
 ghost use Rattle.core_code.specs.CallFacts.{do_end_by_return, are_calls_right, has_ranks};
 ghost use Rattle.core_code.specs.KindCheck.{are_kinded};
-ghost use Rattle.core_code.specs.Names.{are_identifiers, do_classes_differ, do_fields_differ, do_methods_differ};
+ghost use Rattle.core_code.specs.Names.{are_names_right, do_classes_differ, do_fields_differ, do_methods_differ};
 
 use crate::{ClassCore, FieldCore, MethodCore, Parts};
 use racer_base::{ClassId, FieldId, Names, Place, Text};
@@ -22,7 +22,7 @@ pub struct Program {
     pub ghost calls_right: { IsTrue (are_calls_right (core_of parts)) },
     pub ghost ranks_there: { IsTrue (has_ranks (core_of parts)) },
     pub ghost kinded: { IsTrue (are_kinded (core_of parts)) },
-    pub ghost identifiers: { IsTrue (are_identifiers (core_of parts)) },
+    pub ghost names_right: { IsTrue (are_names_right (core_of parts)) },
     pub ghost classes_differ: { IsTrue (do_classes_differ (core_of parts)) },
     pub ghost fields_differ: { IsTrue (do_fields_differ (core_of parts)) },
     pub ghost methods_differ: { IsTrue (do_methods_differ (core_of parts)) },
@@ -37,7 +37,7 @@ impl Program {
     ghost use Rattle.core_code.specs.Facts.{are_stacks_enough, are_parameters_few};
     ghost use Rattle.core_code.specs.CallFacts.{do_end_by_return, are_calls_right, has_ranks};
     ghost use Rattle.core_code.specs.KindCheck.{are_kinded};
-    ghost use Rattle.core_code.specs.Names.{are_identifiers, do_classes_differ, do_fields_differ, do_methods_differ};
+    ghost use Rattle.core_code.specs.Names.{are_names_right, do_classes_differ, do_fields_differ, do_methods_differ};
 
     /// Makes a program of its parts, without taking memory.
     pub fn of(parts: Parts) -> Program
@@ -49,7 +49,7 @@ impl Program {
         requires calls_right { IsTrue (are_calls_right (core_of parts)) }
         requires ranks_there { IsTrue (has_ranks (core_of parts)) }
         requires kinded { IsTrue (are_kinded (core_of parts)) }
-        requires identifiers { IsTrue (are_identifiers (core_of parts)) }
+        requires names_right { IsTrue (are_names_right (core_of parts)) }
         requires classes_differ { IsTrue (do_classes_differ (core_of parts)) }
         requires fields_differ { IsTrue (do_fields_differ (core_of parts)) }
         requires methods_differ { IsTrue (do_methods_differ (core_of parts)) }

@@ -3,7 +3,9 @@ pub mod LocalCounts
 pub mod SameReasons
 pub mod SameSources
 pub mod SameCounts
+pub mod Tallies
 pub mod SameCalls
+pub mod LowRows
 pub mod Ordered
 pub mod SamePrograms
 pub mod Loops

@@ -1,11 +1,11 @@
 -- Methods that are called as one have one first method.
-use Rattle.std.proofs.Common.{◌≡◌, ℕ, Bool, true, false, cond, ◌&&◌, List, [], ◌∷◌, Option, Some, None, length}
+use Rattle.std.proofs.Common.{◌≡◌, ℕ, suc, ◌<◌, Bool, true, false, cond, ◌&&◌, List, [], ◌∷◌, Option, Some, None, length}
 use Rattle.std.proofs.Common.{refl, sym, ap, ◌∙◌, subst, slice_get, nat_eq, nat_lt, arith}
 use Rattle.std.specs.Prelude.{option_map, count_by, bytes_eq, if◌then◌else◌}
 use borrow.Author.Tests.{eqb-true}
 use Rattle.std.proofs.lemmas.Bool.{false≢true, eq-eqb}
 use Rattle.std.proofs.lemmas.List.Sums.{sum_by-cons}
-use Rattle.std.proofs.lemmas.Option.{same_Some, none-some}
+use Rattle.std.proofs.lemmas.Option.{same_Some, none-some, slice_get_within}
 use Rattle.racer_base.specs.declared.ids.ClassId.{ClassId}
 use Rattle.racer_base.specs.declared.ids.MethodId.{MethodId}
 use Rattle.java_tree.specs.SameParts.{bytes_is, bytes_refl}
@@ -66,6 +66,10 @@ first-there methods a f e =
     let y = first-passes (as_one a) methods f.0 (numbered (first_that (as_one a) methods) f e) in
     (y.0, y.1, called-as a y.0 y.2)
 
+pub first-below : (methods : List MethodInfo) (a : MethodInfo) (f : MethodId) → first_of methods a ≡ Some f →
+    f.0 < length methods
+first-below methods a f e = let y = first-there methods a f e in slice_get_within methods f.0 y.0 y.1
+
 -- two methods with one first method are called as one
 one-first : (methods : List MethodInfo) (a b : MethodInfo) (f g : MethodId) → first_of methods a ≡ Some f →
     first_of methods b ≡ Some g → g.0 ≡ f.0 → as_one a b ≡ true
@@ -115,3 +119,33 @@ module _ (methods : List MethodInfo) (a : MethodInfo) (f : MethodId) (first : fi
 
   pub overload-counted : (count : ℕ) → count ≡ tally methods f.0 methods → nat_lt 1 count ≡ is_overloaded methods a
   overload-counted count e = ap (nat_lt 1) (e ∙ tally-counts methods)
+
+-- where none is the first, none is called so
+none-passes : {A : Type 0} (test : A → Bool) (xs : List A) → first_that test xs ≡ None → count_by test xs ≡ 0
+none-passes test [] e = refl
+none-passes {A} test (x ∷ xs) e = by (none-passes test xs) (test x) refl
+  where
+    none-next : (o : Option ℕ) → option_map suc o ≡ None → o ≡ None
+    none-next None e = refl
+    none-next (Some n) e = absurd (none-some _ (sym e))
+
+    by : (first_that test xs ≡ None → count_by test xs ≡ 0) → (t : Bool) → test x ≡ t → count_by test (x ∷ xs) ≡ 0
+    by later true h =
+        absurd (none-some _
+        (sym e ∙ ap (λ (t : Bool). if t then Some 0 else option_map suc (first_that test xs)) h))
+    by later false h =
+        let next = sum_by-cons (λ m. cond (test m) 1 0) x xs in
+        let own : cond {A = ℕ} (test x) 1 0 ≡ 0 = ap (λ (t : Bool). cond {A = ℕ} t 1 0) h in
+        let others : count_by test xs ≡ 0 =
+        later (none-next (first_that test xs)
+        (sym (ap (λ (t : Bool). if t then Some 0 else option_map suc (first_that test xs)) h) ∙ e)) in
+        omega arith
+
+pub none-overloaded : (methods : List MethodInfo) (a : MethodInfo) → first_of methods a ≡ None →
+    false ≡ is_overloaded methods a
+none-overloaded methods a e =
+    sym (ap (nat_lt 1) (none-passes (as_one a) methods (none-first (first_that (as_one a) methods) e)))
+  where
+    none-first : (o : Option ℕ) → option_map (λ n. let made : MethodId = record { 0 = n } in made) o ≡ None → o ≡ None
+    none-first None e = refl
+    none-first (Some n) e = absurd (none-some _ (sym e))

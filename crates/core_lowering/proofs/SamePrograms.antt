@@ -38,16 +38,22 @@ core_in files units classes fields methods statuses sources =
 module _ (units : List unit_type.Unit) (classes : List ClassInfo) (fields : List FieldInfo)
     (methods : List MethodInfo) (sources : List Source) (c : classes ≡ classes_of units) (f : fields ≡ fields_of units)
     (m : methods ≡ methods_of units) (s : sources ≡ sources_of units) where
+  declared-same : folder_in classes fields methods [] ≡ declared_in units
+  declared-same =
+      ap (λ (cs : List ClassInfo). folder_in cs fields methods []) c
+      ∙ ap (λ (fs : List FieldInfo). folder_in (classes_of units) fs methods []) f
+      ∙ ap (λ (ms : List MethodInfo). folder_in (classes_of units) (fields_of units) ms []) m
+
   statuses-are : (is_recursive : MethodId → Bool) (statuses : List (Option Reason)) →
-      statuses ≡ with_recursive is_recursive 0 (map (own_reason methods) sources) →
+      statuses ≡ with_recursive is_recursive 0 (map (own_reason (folder_in classes fields methods [])) sources) →
       statuses ≡ statuses_from (declared_in units) is_recursive 0 (sources_of units)
   statuses-are is_recursive statuses e =
-      e ∙ ap (λ (ms : List MethodInfo). with_recursive is_recursive 0 (map (own_reason ms) sources)) m
-      ∙ ap (λ (ss : List Source). with_recursive is_recursive 0 (map (own_reason (methods_of units)) ss)) s
+      e ∙ ap (λ (folder : Folder). with_recursive is_recursive 0 (map (own_reason folder) sources)) declared-same
+      ∙ ap (λ (ss : List Source). with_recursive is_recursive 0 (map (own_reason (declared_in units)) ss)) s
       ∙ statuses-same (declared_in units) is_recursive 0 (sources_of units)
 
   pub program-made : (files : List (List ℕ)) (is_recursive : MethodId → Bool) (statuses : List (Option Reason)) →
-      statuses ≡ with_recursive is_recursive 0 (map (own_reason methods) sources) →
+      statuses ≡ with_recursive is_recursive 0 (map (own_reason (folder_in classes fields methods [])) sources) →
       core_in files units classes fields methods statuses sources ≡ program_of files units is_recursive
   program-made files is_recursive statuses e =
       let made = statuses_from (declared_in units) is_recursive 0 (sources_of units) in
@@ -61,7 +67,7 @@ module _ (units : List unit_type.Unit) (classes : List ClassInfo) (fields : List
       (statuses-are is_recursive statuses e)
 
   pub rows-made : (statuses : List (Option Reason)) →
-      statuses ≡ with_recursive (λ n. true) 0 (map (own_reason methods) sources) →
+      statuses ≡ with_recursive (λ n. true) 0 (map (own_reason (folder_in classes fields methods [])) sources) →
       map (row_in (folder_in classes fields methods statuses)) sources ≡ all_rows (draft_of [] units)
   rows-made statuses e =
       ap (λ (cs : List ClassInfo). map (row_in (folder_in cs fields methods statuses)) sources) c

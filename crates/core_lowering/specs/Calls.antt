@@ -1,5 +1,6 @@
 -- No public contract rests on this: the calls of code, as they are gathered, and those of methods.
-use Rattle.std.specs.Prelude.{ℕ, ◌+◌, Bool, true, false, List, [], ◌∷◌, length}
+use Rattle.std.specs.Prelude.{ℕ, ◌+◌, Bool, true, false, List, [], ◌∷◌, length, nat_lt}
+use Rattle.std.specs.List.{list_all}
 use Rattle.racer_base.specs.declared.ids.MethodId.{MethodId}
 use Rattle.core_code.specs.Tree.{Tree, in_sequence}
 use Rattle.core_code.specs.Gathered.{callees_of}
@@ -15,6 +16,14 @@ code_in folder s = numbered 0 (in_sequence (method_code folder s))
 -- the methods that a method calls
 abbrev pub row_in : Folder → Source → List MethodId
 row_in folder s = callees_of true (code_in folder s)
+
+-- whether these are numbers below this one
+abbrev pub are_low : ℕ → List MethodId → Bool
+are_low count = list_all (λ (m : MethodId). nat_lt m.0 count)
+
+-- whether each row has numbers of rows
+abbrev pub are_rows_low : List (List MethodId) → Bool
+are_rows_low rows = list_all (are_low (length rows)) rows
 
 -- how many different methods these rows have, row by row
 abbrev pub edges : List (List MethodId) → ℕ

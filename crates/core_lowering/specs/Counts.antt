@@ -14,10 +14,14 @@ abbrev pub is_number : Option MethodId → ℕ → Bool
 is_number None n = false
 is_number (Some m) n = nat_eq m.0 n
 
+-- one at the number of a method
+abbrev pub one_at : Option MethodId → ℕ → ℕ
+one_at m n = if is_number m n then 1 else 0
+
 -- how many of these methods have the method of this number as their first
 abbrev pub tally : List MethodInfo → ℕ → List MethodInfo → ℕ
 tally methods n [] = 0
-tally methods n (m ∷ ms) = (if is_number (first_of methods m) n then 1 else 0) + tally methods n ms
+tally methods n (m ∷ ms) = one_at (first_of methods m) n + tally methods n ms
 
 -- the counts are those of all methods
 abbrev pub AreCounts : List MethodInfo → List ℕ → Type 0

@@ -80,10 +80,7 @@ pub(crate) fn methods(
         wanted.method_cores (folder_of table.now statuses.now) (map source_of sources.now) statuses.now) }
 {
     let mut methods = Items::new(alloc);
-    for (index, source) in sources.iter().enumerate() {
-        let Some(status) = statuses.get(index) else {
-            return Err(Memory);
-        };
+    for (source, status) in sources.iter().zip(statuses) {
         methods.push(method(alloc, table, statuses, source, *status)?)?;
     }
     Ok(methods)

@@ -15,6 +15,7 @@ ghost use Rattle.core_lowering_rules.specs.Programs as wanted;
 ghost use Rattle.core_lowering_rules.specs.Programs.{draft_of, IsLowered};
 ghost use Rattle.core_lowering_methods.specs.Views.{folder_of};
 ghost use Rattle.core_lowering_methods.specs.Sources.{source_of};
+ghost use Rattle.core_lowering.specs.Calls.{are_rows_low};
 ghost use Rattle.core_lowering.specs.Lowered.{calls_of, IsFault};
 ghost use Rattle.core_lowering.specs.Reasons.{reason_of};
 
@@ -52,7 +53,7 @@ fn draft_rows(
     requires fields { seen.fields table.now ≡ fields_of units.now }
     requires methods { seen.methods table.now ≡ methods_of units.now }
     requires sources { map source_of sources.now ≡ wanted.sources_of units.now }
-    requires reasons { reasons.now ≡ map (reason_of (seen.methods table.now)) sources.now }
+    requires reasons { reasons.now ≡ map (reason_of table.now) sources.now }
     ensures { IfOk result (λ rows. rows.items ≡ all_rows (draft_of [] units.now)) }
 {
     let draft = all_recursive(alloc, reasons)?;
@@ -71,7 +72,8 @@ fn find_calls(
     requires fields { seen.fields table.now ≡ fields_of units.now }
     requires methods { seen.methods table.now ≡ methods_of units.now }
     requires sources { map source_of sources.now ≡ wanted.sources_of units.now }
-    requires reasons { reasons.now ≡ map (reason_of (seen.methods table.now)) sources.now }
+    requires reasons { reasons.now ≡ map (reason_of table.now) sources.now }
+    requires low { IsTrue (are_rows_low (all_rows (draft_of [] units.now))) }
     ensures rows { IfOk result (λ calls. calls.rows ≡ all_rows (draft_of [] units.now)) }
     ensures edges { IfOk result (λ calls. calls_of units.now ≡ calls.edges) }
 {
@@ -123,7 +125,7 @@ fn program_parts(
     requires fields { seen.fields table.now ≡ fields_of units.now }
     requires methods { seen.methods table.now ≡ methods_of units.now }
     requires sources { map source_of sources.now ≡ wanted.sources_of units.now }
-    requires reasons { reasons.now ≡ map (reason_of (seen.methods table.now)) sources.now }
+    requires reasons { reasons.now ≡ map (reason_of table.now) sources.now }
     ensures { IfOk result (λ parts. core_of parts ≡
         wanted.program_of (map (λ file. string_bytes file) files.now) units.now (flag_of recursive.now)) }
 {
@@ -148,7 +150,7 @@ fn program(
     requires named { IsTrue (are_named units.now) }
     requires placed { IsTrue (are_in_files (map (λ file. string_bytes file) files.now) units.now) }
     requires sources { map source_of sources.now ≡ wanted.sources_of units.now }
-    requires reasons { reasons.now ≡ map (reason_of (seen.methods table.now)) sources.now }
+    requires reasons { reasons.now ≡ map (reason_of table.now) sources.now }
     requires recursive { TellRecursion (draft_of (map (λ file. string_bytes file) files.now) units.now) recursive.now }
     ensures { IfOk result (λ made. program.core made ≡
         wanted.program_of (map (λ file. string_bytes file) files.now) units.now (flag_of recursive.now)) }
@@ -174,7 +176,7 @@ fn program_of(
     requires named { IsTrue (are_named units.now) }
     requires placed { IsTrue (are_in_files (map (λ file. string_bytes file) files.now) units.now) }
     requires sources { map source_of sources.now ≡ wanted.sources_of units.now }
-    requires reasons { reasons.now ≡ map (reason_of (seen.methods table.now)) sources.now }
+    requires reasons { reasons.now ≡ map (reason_of table.now) sources.now }
     requires rows { rows.now ≡ all_rows (draft_of [] units.now) }
     ensures { IfOk result (λ made.
         IsLowered (map (λ file. string_bytes file) files.now) units.now (program.core made)) }
@@ -204,7 +206,7 @@ fn find_known<'a>(alloc: Global, table: &'a Table, units: &'a [Unit]) -> Result<
     requires methods { seen.methods table.now ≡ methods_of units.now }
     ensures sources { IfOk result (λ known. map source_of known.sources.items ≡ wanted.sources_of units.now) }
     ensures reasons { IfOk result (λ known.
-        known.reasons.items ≡ map (reason_of (seen.methods table.now)) known.sources.items) }
+        known.reasons.items ≡ map (reason_of table.now) known.sources.items) }
 {
     let sources = sources_of(alloc, table.methods(), units)?;
     let reasons = own_reasons(alloc, table, sources.as_slice())?;
@@ -229,27 +231,13 @@ pub fn lower(
     ensures few { IfOk result (λ _. calls_of units.now ≤ MAX_CALL_EDGES) }
     ensures err { IfErr result (IsFault units.now) }
 {
-    let Ok(known) = find_known(alloc, table, units) else {
-        return Err(LowerFault::Memory);
-    };
+    let known = find_known(alloc, table, units)?;
     let sources = known.sources.as_slice();
     let reasons = known.reasons.as_slice();
-    let Ok(calls) = find_calls(alloc, table, units, reasons, sources) else {
-        return Err(LowerFault::Memory);
-    };
+    let calls = find_calls(alloc, table, units, reasons, sources)?;
     if calls.edges as usize > MAX_CALL_EDGES {
         return Err(LowerFault::TooManyCalls(calls.edges));
     }
-    let Ok(made) = program_of(
-        alloc,
-        table,
-        units,
-        files,
-        reasons,
-        sources,
-        calls.rows.as_slice(),
-    ) else {
-        return Err(LowerFault::Memory);
-    };
-    Ok(made)
+    let rows = calls.rows.as_slice();
+    Ok(program_of(alloc, table, units, files, reasons, sources, rows)?)
 }

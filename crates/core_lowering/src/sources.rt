@@ -123,10 +123,7 @@ fn with_infos<'a>(
         map source_of sources.items ≡ wanted.with_infos (map part_of parts.now) infos.now) }
 {
     let mut sources = Vec::new(alloc);
-    for (index, part) in parts.iter().enumerate() {
-        let Some(info) = infos.get(index) else {
-            return Err(Memory);
-        };
+    for (part, info) in parts.iter().zip(infos) {
         sources.push(Source {
             info,
             members: part.members,

@@ -3,7 +3,7 @@ ghost use Rattle.std.specs.Prelude.{◌≡◌, IfOk, map, true};
 ghost use Rattle.core_code.specs.Chains.{flag_of};
 ghost use Rattle.java_resolver.specs.Table.{methods};
 ghost use Rattle.core_lowering_rules.specs.Programs.{is_unspelled};
-ghost use Rattle.core_lowering_methods.specs.Sources.{source_of, body_of};
+ghost use Rattle.core_lowering_methods.specs.Sources.{body_of};
 ghost use Rattle.core_lowering.specs.Counts.{AreCounts};
 ghost use Rattle.core_lowering.specs.Reasons as wanted;
 
@@ -53,7 +53,7 @@ fn first_reason(
 /// The first reason that applies to a method, apart from recursion.
 fn own_reason(table: &Table, counts: &[u32], source: &Source) -> Result<Option<Reason>, Memory>
     requires { AreCounts (methods table.now) counts.now }
-    ensures { IfOk result (λ reason. reason ≡ wanted.own_reason (methods table.now) (source_of source.now)) }
+    ensures { IfOk result (λ reason. reason ≡ wanted.reason_of table.now source.now) }
 {
     let is_overload = is_overloaded(table, counts, source.info)?;
     let locals = count_locals(source)?;
@@ -67,7 +67,7 @@ pub(crate) fn own_reasons(
     table: &Table,
     sources: &[Source],
 ) -> Result<Vec<Option<Reason>>, Memory>
-    ensures { IfOk result (λ reasons. reasons.items ≡ map (wanted.reason_of (methods table.now)) sources.now) }
+    ensures { IfOk result (λ reasons. reasons.items ≡ map (wanted.reason_of table.now) sources.now) }
 {
     let counts = count_methods(alloc, table, table.methods())?;
     let mut reasons = Vec::new(alloc);

@@ -13,7 +13,7 @@ use Rattle.core_code.specs.Tree.{tree_of, can_end}
 use Rattle.core_code.specs.Facts.{sites_of, counts_from}
 use Rattle.core_code.proofs.BoolParts.{first_part, last_part, both}
 use Rattle.core_code.proofs.Sites.{counts_from-append, sites_of-then, sites_go_on}
-use Rattle.core_lowering_rules.specs.Context.{op_at, choice, repeated, held}
+use Rattle.core_lowering_rules.specs.Context.{op_at, choice, own_at, repeated, held}
 use Rattle.core_lowering_rules.specs.Sites.{numbered}
 use Rattle.core_lowering_methods.specs.Erased.{erased, part_of, whole_of, AreNumbered}
 
@@ -67,7 +67,7 @@ numbered-erased (Choice left right) n h =
     ∙ ap (λ k. Choice left (numbered (n + k) (erased right))) (steps-erased left)
     ∙ ap (Choice left) (numbered-erased right (n + count left) p.1)
 numbered-erased (Loop body) n h = ap Loop (numbered-erased body n h)
-numbered-erased (Sync place body) n h = ap (Sync place) (numbered-erased body n h)
+numbered-erased (Sync lock body) n h = ap (Sync lock) (numbered-erased body n h)
 
 pub erased-sequence : (ts : List Tree) → erased (in_sequence ts) ≡ in_sequence (map erased ts)
 erased-sequence [] = refl
@@ -204,8 +204,8 @@ pub held-numbered : (old new : List Code) (next at : ℕ) (place : Place) → Ar
 held-numbered old new next at place h e =
     numbered-same old new next h
     (ap (λ ts. steps_of (in_sequence ts)) e
-    ∙ steps-last (trees_of (take at old)) (trees_of (drop at old)) (Sync place (in_sequence (trees_of (drop at old))))
-    refl
+    ∙ steps-last (trees_of (take at old)) (trees_of (drop at old))
+    (Sync (own_at place) (in_sequence (trees_of (drop at old)))) refl
     ∙ ap (λ ts. steps_of (in_sequence ts)) (sym (grouped old at)))
 
 -- the same code without sites
@@ -247,7 +247,8 @@ pub held-put : (old new : List Code) (at : ℕ) (place : Place) →
     trees_of new ≡ trees_of (take at old) ++ held place (trees_of (drop at old)) →
     map part_of new ≡ take at (map part_of old) ++ held place (drop at (map part_of old))
 held-put old new at place e =
-    last-erased new (take at old) (Sync place (whole_of (drop at old)))
-    (Sync place (in_sequence (map part_of (drop at old)))) e (ap (Sync place) (whole-erased (drop at old)))
+    last-erased new (take at old) (Sync (own_at place) (whole_of (drop at old)))
+    (Sync (own_at place) (in_sequence (map part_of (drop at old)))) e
+    (ap (Sync (own_at place)) (whole-erased (drop at old)))
     ∙ ap (λ ts. ts ++ held place (map part_of (drop at old))) (sym (take-map part_of at old))
     ∙ ap (λ ts. take at (map part_of old) ++ held place ts) (sym (drop-map part_of at old))

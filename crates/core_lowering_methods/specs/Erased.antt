@@ -11,7 +11,7 @@ erased Skip = Skip
 erased (Seq first rest) = Seq (erased first) (erased rest)
 erased (Choice left right) = Choice (erased left) (erased right)
 erased (Loop body) = Loop (erased body)
-erased (Sync place body) = Sync place (erased body)
+erased (Sync lock body) = Sync lock (erased body)
 
 abbrev pub part_of : Code → Tree
 part_of code = erased (tree_of code)

@@ -5,7 +5,7 @@ ghost use Rattle.core_lowering_rules.specs.Context.{choice, repeated, held};
 ghost use Rattle.core_lowering_methods.specs.Erased.{AreNumbered, whole_of};
 
 use crate::value_kind::ValueKind;
-use core_code::{Code, Op};
+use core_code::{Code, LockKind, Op};
 use racer_base::{Memory, Place, SiteId};
 use std::alloc::Global;
 use std::mem;
@@ -59,13 +59,13 @@ fn repeat(alloc: Global, parts: &mut Vec<Code>, at: usize) -> Result<(), Memory>
     Ok(())
 }
 
-/// Puts the parts from this one on under a lock.
+/// Puts the parts from this one on under the monitor of an object.
 fn hold(alloc: Global, parts: &mut Vec<Code>, place: Place, at: usize) -> Result<(), Memory>
     ensures { OnOk result (map tree_of parts.new.items ≡ map tree_of (take at parts.old.items)
         ++ held place (map tree_of (drop at parts.old.items))) }
 {
     let body = taken(alloc, parts, at)?;
-    parts.push(Code::Sync(place, body))?;
+    parts.push(Code::Sync(place, LockKind::Own, body))?;
     Ok(())
 }
 
@@ -180,7 +180,7 @@ fn can_end(code: &Code) -> bool
         Code::Seq(parts) => can_all_end(parts),
         Code::Choice(left, right) => can_end(left) || can_end(right),
         Code::Loop(_) => true,
-        Code::Sync(_, body) => can_end(body),
+        Code::Sync(_, _, body) => can_end(body),
     }
 }
 

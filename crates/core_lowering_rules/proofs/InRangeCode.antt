@@ -50,7 +50,7 @@ is_sound core Skip = true
 is_sound core (Seq first rest) = is_sound core first && is_sound core rest
 is_sound core (Choice left right) = is_sound core left && is_sound core right
 is_sound core (Loop body) = is_sound core body
-is_sound core (Sync place body) = is_place core place && is_sound core body
+is_sound core (Sync lock body) = is_place core lock.place && is_sound core body
 
 -- the code of parts
 pub record Fine (core : Core) (code : Code) : Type 0 where
@@ -137,7 +137,7 @@ module _ (core : Core) where
       ap (λ b. b && is_sound core (numbered (n + length (steps_of left)) right)) (sound-numbered left n)
       ∙ ap (λ b. is_sound core left && b) (sound-numbered right (n + length (steps_of left)))
   sound-numbered (Loop body) n = sound-numbered body n
-  sound-numbered (Sync place body) n = ap (λ b. is_place core place && b) (sound-numbered body n)
+  sound-numbered (Sync lock body) n = ap (λ b. is_place core lock.place && b) (sound-numbered body n)
 
   -- ---- what the check of kinds shows
 
@@ -233,10 +233,10 @@ module _ (core : Core) (m : Method) where
   in_range (Loop body) stack h k =
       let after = first-some (kinds_after core m body stack) (λ after. where_true (same_stack stack after) stack) h in
       in_range body stack (some-by (kinds_after core m body stack) after.0 after.1) k
-  in_range (Sync place body) [] h k = absurd (false≢true h)
-  in_range (Sync place body) (lock ∷ stack) h k =
-      held_in_range core (length m.variables) place body (first_part (is_place core place) (is_sound core body) k)
-      (in_range body stack h (last_part (is_place core place) (is_sound core body) k))
+  in_range (Sync lock body) [] h k = absurd (false≢true h)
+  in_range (Sync lock body) (value ∷ stack) h k =
+      held_in_range core (length m.variables) lock body (first_part (is_place core lock.place) (is_sound core body) k)
+      (in_range body stack h (last_part (is_place core lock.place) (is_sound core body) k))
 
   -- the numbered code of a method
   pub code-in_range : {code : Code} → Fine core code →

@@ -52,7 +52,7 @@ pub record Grounded (core : Core) (context : Context) : Type 0 where
   pub kinds : Each (λ k. is_kind core k ≡ true) context.kinds
   pub fields : (f : FieldId) (info : FieldInfo) → field_at context f ≡ Some info → is_class core info.class ≡ true
   pub methods : (m : MethodId) (info : MethodInfo) → info_at context m ≡ Some info → is_method core m ≡ true
-  pub of_name : (name : List ℕ) (c : ClassId) → class_named (class_names context.folder.classes) name ≡ Some c →
+  pub named : (name : List ℕ) (c : ClassId) → class_named (class_names context.folder.classes) name ≡ Some c →
       is_class core c ≡ true
   pub types : (t : Ty) → is_kind core (type_kind context t) ≡ true
 

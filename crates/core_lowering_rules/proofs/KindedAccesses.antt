@@ -35,7 +35,7 @@ use Rattle.core_lowering_rules.proofs.Suits.{Suits, fits-suits, suits-own, class
 use Rattle.core_lowering_rules.proofs.Runs.{Runs, nothing, followed, once, outside, popped, comes}
 use Rattle.core_lowering_rules.proofs.Runs.{in_turn_3, in_turn_4, in_turn_5, in_turn_6, in_turn_7}
 use Rattle.core_lowering_rules.proofs.FoundElements.{FieldThere, field-there, last-holds}
-use Rattle.core_lowering_rules.proofs.Stands.{Stands, IsVariable, field-stands}
+use Rattle.core_lowering_rules.proofs.Stands.{Stands, IsVariable}
 
 -- code that leaves one value of this kind
 pub record Leaves (core : Core) (m : Method) (code : Code) (kind : ValueKind) : Type 0 where
@@ -265,7 +265,7 @@ module _ (core : Core) (m : Method) (context : Context) (stands : Stands core m 
       subst (λ o. IsStorage core m (in_field class object x f o)) (sym there)
       (record {
         field = field_core info;
-        there = field-stands stands f info there;
+        there = stands.fields f info there;
         kind_is = refl;
         behind = by-static info class object p q info.is_static refl;
       })

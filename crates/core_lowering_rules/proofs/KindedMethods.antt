@@ -4,6 +4,7 @@ use Rattle.std.proofs.Common.{length, refl}
 use Rattle.std.proofs.Common.{sym, ap, ◌∙◌, append_assoc, append-nil, slice_get, is_some, is_none}
 use Rattle.std.specs.Prelude.{codes}
 use Rattle.std.specs.List.{flat_map}
+use Rattle.racer_base.specs.declared.ids.FieldId.{FieldId}
 use Rattle.racer_base.specs.declared.ids.MethodId.{MethodId}
 use Rattle.racer_base.specs.declared.ids.Kind.{Kind}
 use Rattle.racer_base.specs.declared.ids.Kind.TheVariants as types
@@ -18,6 +19,7 @@ use Rattle.java_tree.specs.declared.methods.ResultTree.TheVariants as result
 use Rattle.java_tree.specs.View.{ty_of}
 use Rattle.java_parser_grammar.specs.declared.unit.Member.{Member}
 use Rattle.java_parser_grammar.specs.declared.unit.Member.TheVariants as member
+use Rattle.java_resolver.specs.declared.infos.FieldInfo.{FieldInfo}
 use Rattle.java_resolver.specs.declared.infos.MethodInfo.{MethodInfo}
 use Rattle.java_resolver.specs.Declarations.{class_names, kinds_of, is_constructor}
 use Rattle.java_resolver.specs.Words.{has_word}
@@ -28,7 +30,7 @@ use Rattle.core_code.specs.Core.{Core, Method}
 use Rattle.core_code.specs.Kinds.{StackKind, Plain, Declared, Class, Opaque, joined_stack}
 use Rattle.core_code.specs.KindCheck.{Kinds, and_then, where_true, kinds_after, same_stack, same_declared_kind}
 use Rattle.core_code.specs.KindCheck.{begins_with}
-use Rattle.core_code.specs.KindCheck.{is_kinded, variable_at}
+use Rattle.core_code.specs.KindCheck.{is_kinded, field_at, variable_at}
 use Rattle.core_code.specs.Calls.{taken_by}
 use Rattle.core_code.specs.Calls as core_calls
 use Rattle.core_code.proofs.BoolParts.{both}
@@ -258,7 +260,8 @@ taken-is false own ps = refl
 
 -- what the program has of the folder
 pub record FolderStands (core : Core) (folder : Folder) : Type 0 where
-  pub fields : core.fields ≡ map field_core folder.fields
+  pub fields : (f : FieldId) (info : FieldInfo) → slice_get folder.fields f.0 ≡ Some info →
+      field_at core f ≡ Some (field_core info)
   pub methods : (n : MethodId) (info : MethodInfo) → slice_get folder.methods n.0 ≡ Some info →
       elim (slice_get folder.statuses n.0) as (λ _. Bool) [ None ↦ false | Some status ↦ is_none status ] ≡ true →
       HasMethod core n info

@@ -32,7 +32,7 @@ use Rattle.core_code.proofs.BoolParts.{both}
 use Rattle.core_lowering_rules.specs.Context.{Folder}
 use Rattle.core_lowering_rules.specs.Methods.{Source, Default}
 use Rattle.core_lowering_rules.specs.Programs.{member_sources, default_sources, class_sources, sources_of}
-use Rattle.core_lowering_rules.specs.Programs.{folder_of, method_core, method_cores, program_of}
+use Rattle.core_lowering_rules.specs.Programs.{field_core, folder_of, method_core, method_cores, program_of}
 use Rattle.core_lowering_rules.proofs.FoundElements.{Each}
 use Rattle.core_lowering_rules.proofs.Stands.{HasMethod}
 use Rattle.core_lowering_rules.proofs.KindedMethods.{FolderStands, IsRight, IsRightResult, kinded}
@@ -259,7 +259,7 @@ module _ (files : List (List ℕ)) (units : List unit_type.Unit) (is_recursive :
   pub folder-stands : FolderStands program folder
   folder-stands =
       record {
-        fields = refl;
+        fields = λ f info e. slice_get-map field_core folder.fields f.0 ∙ ap (option_map field_core) e;
         methods = found-method;
         unread = λ n h. unread-method (sources_of units) folder.statuses n.0 h;
         constructors = λ n info e h. each-at IsMaker (methods_of units) n.0 info (methods-makers units) e h;

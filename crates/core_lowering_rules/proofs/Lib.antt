@@ -10,6 +10,7 @@ pub mod KindedStatements
 pub mod KindedMethods
 pub mod KindedPrograms
 pub mod NumberedCode
+pub mod ByField
 pub mod ProgramFacts
 pub mod ProgramNames
 pub mod PlacedTrees

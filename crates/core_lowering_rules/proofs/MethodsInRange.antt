@@ -107,7 +107,7 @@ module _ (core : Core) where
         kinds = g.kinds;
         fields = g.fields;
         methods = g.methods;
-        of_name = g.named;
+        named = g.named;
         types = g.types;
       }
 

@@ -24,7 +24,7 @@ use Rattle.core_lowering_rules.specs.Methods.{parameters_declared}
 use Rattle.core_lowering_rules.specs.Methods.{spelled_code, method_code}
 use Rattle.core_lowering_rules.specs.Programs.{sources_of, status_of, declared_in, statuses_from, folder_of, class_core}
 use Rattle.core_lowering_rules.specs.Programs.{is_overloaded}
-use Rattle.core_lowering_rules.specs.Programs.{local_count, where_so, is_unspelled}
+use Rattle.core_lowering_rules.specs.Programs.{local_count, where_so, is_outside}
 use Rattle.core_lowering_rules.specs.Programs.{is_checked, is_entry, method_core, method_cores, program_of}
 use Rattle.core_lowering_rules.proofs.Runs.{whole_high, whole_calls}
 use Rattle.core_lowering_rules.proofs.FoundElements.{Each}
@@ -172,7 +172,8 @@ module _ (files : List (List ℕ)) (units : List unit_type.Unit) (is_recursive :
 
   few : (n : ℕ) (s : Source) → has_few_parameters (method_core folder s (status_by n s)) ≡ true
   few n s =
-      few-or_reason (is_overloaded (declared_in units).methods s.info) (is_unspelled s.body) (length s.info.parameters)
+      few-or_reason (is_overloaded (declared_in units).methods s.info) (is_outside (declared_in units) s)
+      (length s.info.parameters)
       (option_or (where_so (nat_lt MAX_LOCALS (local_count (declared_in units) s)) Locals)
       (where_so (is_recursive (record { 0 = n })) Recursive))
 

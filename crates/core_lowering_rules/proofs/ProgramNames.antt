@@ -25,28 +25,28 @@ use Rattle.core_code.specs.declared.code.Reason.TheVariants.{Overload, Outside, 
 use Rattle.core_code.specs.declared.parts.ClassCore.{ClassCore}
 use Rattle.core_code.specs.declared.parts.FieldCore.{FieldCore}
 use Rattle.core_code.specs.Core.{Method}
-use Rattle.core_code.specs.Names.{is_identifier, are_identifiers, all_differ, same_text, do_classes_differ}
+use Rattle.core_code.specs.Names.{is_identifier, is_field_name, are_names_right, all_differ, same_text, do_classes_differ}
 use Rattle.core_code.specs.Names.{do_fields_differ, same_signature, do_methods_differ}
 use Rattle.core_code.specs.Names as names
 use Rattle.core_code.proofs.BoolParts.{both, first_part, last_part}
 use Rattle.core_lowering_rules.specs.Context.{Folder}
 use Rattle.core_lowering_rules.specs.Methods.{Source}
-use Rattle.core_lowering_rules.specs.Programs.{sources_of, is_unspelled, is_overloaded, local_count, where_so, status_of}
+use Rattle.core_lowering_rules.specs.Programs.{sources_of, is_outside, is_overloaded, local_count, where_so, status_of}
 use Rattle.core_lowering_rules.specs.Programs.{declared_in, statuses_from, folder_of, class_core, field_core, method_core}
 use Rattle.core_lowering_rules.specs.Programs.{method_cores, program_of}
 use Rattle.core_lowering_rules.specs.Conditions.{are_named}
 use Rattle.core_lowering_rules.proofs.FoundElements.{Each}
 use Rattle.core_lowering_rules.proofs.KindedPrograms.{known, sources-same}
 
--- ---- identifiers
+-- ---- names are right
 
-pub identifiers-there : (files : List (List ℕ)) (units : List unit_type.Unit) (is_recursive : MethodId → Bool) →
-    are_named units ≡ true → are_identifiers (program_of files units is_recursive) ≡ true
-identifiers-there files units is_recursive h =
+pub names-right : (files : List (List ℕ)) (units : List unit_type.Unit) (is_recursive : MethodId → Bool) →
+    are_named units ≡ true → are_names_right (program_of files units is_recursive) ≡ true
+names-right files units is_recursive h =
     both (list_all (λ (c : ClassCore). is_identifier c.name) (map class_core (classes_of units))) _
     (list_all-map (λ (c : ClassCore). is_identifier c.name) class_core (classes_of units)
     ∙ first_part (list_all (λ (c : ClassInfo). is_identifier c.name) (classes_of units)) _ h)
-    (list_all-map (λ (f : FieldCore). is_identifier f.name) field_core (fields_of units)
+    (list_all-map (λ (f : FieldCore). is_field_name f.name) field_core (fields_of units)
     ∙ last_part (list_all (λ (c : ClassInfo). is_identifier c.name) (classes_of units)) _ h)
 
 -- ---- lists without repetitions
@@ -204,7 +204,7 @@ no-overload : (folder : Folder) (b : Bool) (s : Source) → status_of folder b s
     is_overloaded folder.methods s.info ≡ false
 no-overload folder b s e =
     let parts = or-none (where_so (is_overloaded folder.methods s.info) Overload)
-    (option_or (where_so (is_unspelled s.body) Outside)
+    (option_or (where_so (is_outside folder s) Outside)
     (option_or (where_so (nat_lt MAX_PARAMETERS (length s.info.parameters)) Parameters)
     (option_or (where_so (nat_lt MAX_LOCALS (local_count folder s)) Locals) (where_so b Recursive)))) e in
     where_so-none (is_overloaded folder.methods s.info) Overload parts.0

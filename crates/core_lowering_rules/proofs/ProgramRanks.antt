@@ -29,7 +29,7 @@ use Rattle.core_code.proofs.RowCallees.{is_method, analysed_among, right_at, met
 use Rattle.core_lowering_rules.specs.Context.{Folder}
 use Rattle.core_lowering_rules.specs.Methods.{Source}
 use Rattle.core_lowering_rules.specs.Programs.{sources_of, declared_in, statuses_from, status_of, where_so, method_cores}
-use Rattle.core_lowering_rules.specs.Programs.{program_of, draft_of, folder_of, is_overloaded, is_unspelled, local_count}
+use Rattle.core_lowering_rules.specs.Programs.{program_of, draft_of, folder_of, is_outside, is_overloaded, local_count}
 use Rattle.core_lowering_rules.proofs.NamedMethods.{rows-same}
 use Rattle.core_lowering_rules.proofs.ProgramFacts.{calls-right}
 
@@ -122,7 +122,7 @@ not_recursive d b s h =
     let others = where_so (nat_lt MAX_LOCALS (local_count d s)) Locals in
     let by_size = option_or others (where_so b Recursive) in
     let many = where_so (nat_lt MAX_PARAMETERS (length s.info.parameters)) Parameters in
-    let outside = where_so (is_unspelled s.body) Outside in
+    let outside = where_so (is_outside d s) Outside in
     let overloaded = where_so (is_overloaded d.methods s.info) Overload in
     not_so b
     (last_none others (where_so b Recursive)

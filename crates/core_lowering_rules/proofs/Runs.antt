@@ -23,7 +23,7 @@ use Rattle.core_code.specs.KindCheck.{Kinds, and_then, where_true, after_popping
 use Rattle.core_code.specs.KindCheck.{same_stack}
 use Rattle.core_lowering_rules.specs.ValueKinds.{ValueKind, Of, is_converted}
 use Rattle.core_lowering_rules.specs.ValueKinds as value
-use Rattle.core_lowering_rules.specs.Context.{Context, Code, op_at, op, choice, repeated, held, converted}
+use Rattle.core_lowering_rules.specs.Context.{Context, Code, op_at, op, choice, own_at, repeated, held, converted}
 use Rattle.core_lowering_rules.proofs.Suits.{Suits, class_equal}
 
 pub and_then-agree : (o : Kinds) (f g : List StackKind → Kinds) → ((s : List StackKind) → f s ≡ g s) →
@@ -244,7 +244,7 @@ module _ (core : Core) (m : Method) where
       (ap (same_height (Some 0)) (whole_high x)) (whole_calls x)
 
   pub locked : (place : Place) (lock : StackKind) {a : Code} → Runs a [] [] → Runs (held place a) (lock ∷ []) []
-  locked place lock {a} x = part-runs (Sync place (in_sequence a)) (whole x) (whole_high x) (whole_calls x)
+  locked place lock {a} x = part-runs (Sync (own_at place) (in_sequence a)) (whole x) (whole_high x) (whole_calls x)
 
   -- ---- values
 

@@ -1,8 +1,5 @@
 -- What is known of a program and a method where code of the method is lowered.
-use Rattle.std.proofs.Common.{◌≡◌, true, false, cond, List, ◌∷◌, Some, map}
-use Rattle.std.proofs.Common.{ap, ◌∙◌, slice_get}
-use Rattle.std.specs.Prelude.{option_map}
-use Rattle.std.proofs.lemmas.Option.{slice_get-map}
+use Rattle.std.proofs.Common.{◌≡◌, true, false, cond, List, ◌∷◌, Some, is_none, slice_get}
 use Rattle.racer_base.specs.declared.ids.ClassId.{ClassId}
 use Rattle.racer_base.specs.declared.ids.FieldId.{FieldId}
 use Rattle.racer_base.specs.declared.ids.MethodId.{MethodId}
@@ -11,11 +8,9 @@ use Rattle.racer_base.specs.declared.ids.Kind.TheVariants.{Plain, Declared}
 use Rattle.java_resolver.specs.declared.infos.FieldInfo.{FieldInfo}
 use Rattle.java_resolver.specs.declared.infos.MethodInfo.{MethodInfo}
 use Rattle.java_resolver.specs.declared.scope.ScopeVariable.{ScopeVariable}
-use Rattle.core_code.specs.declared.parts.FieldCore.{FieldCore}
 use Rattle.core_code.specs.Core.{Core, Method}
 use Rattle.core_code.specs.Calls.{method_at, taken_by}
 use Rattle.core_code.specs.Calls as core_calls
-use Rattle.std.proofs.Common.{false, is_none}
 use Rattle.core_code.specs.KindCheck.{field_at, variable_at}
 use Rattle.core_lowering_rules.specs.Context.{Context, Result, Itself, Nothing, Value, is_analysed}
 use Rattle.core_lowering_rules.specs.Calls.{info_at}
@@ -45,7 +40,8 @@ IsResult m Nothing = m.result ≡ Plain
 IsResult m (Value k) = m.result ≡ k
 
 pub record Stands (core : Core) (m : Method) (context : Context) : Type 0 where
-  pub fields : core.fields ≡ map field_core context.folder.fields
+  pub fields : (f : FieldId) (info : FieldInfo) → slice_get context.folder.fields f.0 ≡ Some info →
+      field_at core f ≡ Some (field_core info)
   pub methods : (n : MethodId) (info : MethodInfo) → info_at context n ≡ Some info → is_analysed context n ≡ true →
       HasMethod core n info
   pub unread : (n : MethodId) → is_analysed context n ≡ false → core_calls.is_analysed core n ≡ false
@@ -55,11 +51,3 @@ pub record Stands (core : Core) (m : Method) (context : Context) : Type 0 where
   pub object : context.scope.is_static ≡ false →
       variable_at m (record { 0 = 0 }) ≡ Some (Declared context.scope.class)
   pub gives : IsResult m context.result
-
--- the field of the program
-pub field-stands : {core : Core} {m : Method} {context : Context} → Stands core m context → (f : FieldId)
-    (info : FieldInfo) →
-    slice_get context.folder.fields f.0 ≡ Some info → field_at core f ≡ Some (field_core info)
-field-stands {context = context} s f info e =
-    ap (λ (fields : List FieldCore). slice_get fields f.0) s.fields
-    ∙ slice_get-map field_core context.folder.fields f.0 ∙ ap (option_map field_core) e

@@ -17,7 +17,8 @@ use Rattle.java_resolver.specs.TypeKinds.{kind_of}
 use Rattle.core_code.specs.declared.code.Op.{Op as CoreOp}
 use Rattle.core_code.specs.declared.code.Op.TheVariants.{Push, PushClass, Outside}
 use Rattle.core_code.specs.declared.code.Reason.{Reason}
-use Rattle.core_code.specs.Tree.{Tree, Op, Choice, Loop, Sync, in_sequence}
+use Rattle.core_code.specs.declared.code.LockKind.TheVariants.{Own}
+use Rattle.core_code.specs.Tree.{LockAt, Tree, Op, Choice, Loop, Sync, in_sequence}
 use Rattle.core_lowering_rules.specs.ValueKinds.{ValueKind, is_converted}
 
 -- ---- what code stands in
@@ -73,8 +74,12 @@ choice left right = Choice (in_sequence left) (in_sequence right) ∷ []
 abbrev pub repeated : Code → Code
 repeated body = Loop (in_sequence body) ∷ []
 
+-- the monitor of an object, locked at this place
+abbrev pub own_at : Place → LockAt
+own_at place = record { place = place; kind = Own }
+
 abbrev pub held : Place → Code → Code
-held place body = Sync place (in_sequence body) ∷ []
+held place body = Sync (own_at place) (in_sequence body) ∷ []
 
 -- what a value of this kind goes through on its way to a kind
 abbrev pub converted : Context → Kind → ValueKind → Code

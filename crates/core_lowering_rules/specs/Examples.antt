@@ -24,7 +24,7 @@ use Rattle.core_code.specs.declared.code.Op.TheVariants as op
 use Rattle.core_code.specs.declared.code.Reason.TheVariants.{Recursive}
 use Rattle.core_code.specs.Tree.{Tree, Op, Choice, Loop, Sync, in_sequence}
 use Rattle.core_lowering_rules.specs.ValueKinds.{ValueKind}
-use Rattle.core_lowering_rules.specs.Context.{Folder, Context, Result, Itself, Nothing, Value, Code}
+use Rattle.core_lowering_rules.specs.Context.{Folder, Context, Result, Itself, Nothing, Value, Code, own_at}
 use Rattle.core_lowering_rules.specs.Expressions.{kind, code}
 use Rattle.core_lowering_rules.specs.Scopes.{declared}
 use Rattle.core_lowering_rules.specs.Statements.{stmt}
@@ -207,7 +207,7 @@ abbrev pub repeated : Code → Tree
 repeated body = Loop (in_sequence body)
 
 abbrev pub held : Code → Tree
-held body = Sync word_place (in_sequence body)
+held body = Sync (own_at word_place) (in_sequence body)
 
 -- ---- bodies of methods
 

@@ -11,6 +11,7 @@ pub mod Statements
 pub mod Methods
 pub mod Sites
 pub mod Programs
+pub mod ByField
 pub mod PlacedTexts
 pub mod Examples
 pub mod ProgramExamples

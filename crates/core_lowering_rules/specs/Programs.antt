@@ -58,6 +58,10 @@ abbrev pub is_unspelled : Body → Bool
 is_unspelled Unspelled = true
 is_unspelled _ = false
 
+-- whether a method is outside the subset: no tree spells it
+abbrev pub is_outside : Folder → Source → Bool
+is_outside folder s = is_unspelled s.body
+
 -- whether another method of its class has its name and its number of parameters
 abbrev pub is_overloaded : List MethodInfo → MethodInfo → Bool
 is_overloaded methods m = nat_lt 1 (count_by (is_called m.class m.name (length m.parameters)) methods)
@@ -73,7 +77,7 @@ where_so test reason = if test then Some reason else None
 abbrev pub status_of : Folder → Bool → Source → Option Reason
 status_of folder is_recursive s =
     option_or (where_so (is_overloaded folder.methods s.info) Overload)
-    (option_or (where_so (is_unspelled s.body) Outside)
+    (option_or (where_so (is_outside folder s) Outside)
     (option_or (where_so (nat_lt MAX_PARAMETERS (length s.info.parameters)) Parameters)
     (option_or (where_so (nat_lt MAX_LOCALS (local_count folder s)) Locals) (where_so is_recursive Recursive))))
 

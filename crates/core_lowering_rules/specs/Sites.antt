@@ -9,4 +9,4 @@ numbered n Skip = Skip
 numbered n (Seq first rest) = Seq (numbered n first) (numbered (n + length (steps_of first)) rest)
 numbered n (Choice left right) = Choice (numbered n left) (numbered (n + length (steps_of left)) right)
 numbered n (Loop body) = Loop (numbered n body)
-numbered n (Sync place body) = Sync place (numbered n body)
+numbered n (Sync lock body) = Sync lock (numbered n body)

@@ -60,6 +60,6 @@ pub use methods::{
 };
 pub use programs::{
     codes_of_programs, conditions_of_units, draft_edges, entries_of_programs, facts_of_programs,
-    ordered_places, ranks_of_programs, sites, statuses_of_programs,
+    fields_by_field, ordered_places, ranks_of_programs, sites, statuses_of_programs,
 };
 pub use statements::{blocks, branches, loops, returns, variables};

@@ -18,7 +18,7 @@ wanted None is = absurd cc
 wanted (Some (Op place op)) is = no_turn op is
 wanted (Some (Choice left right)) is = refl
 wanted (Some (Loop body)) is = refl
-wanted (Some (Sync place body)) is = absurd cc
+wanted (Some (Sync lock body)) is = absurd cc
 wanted (Some Unlock) is = absurd cc
 
 unwanted_by_read : (next : Option Todo) → next_look next ≡ Read →
@@ -27,7 +27,7 @@ unwanted_by_read None is = refl
 unwanted_by_read (Some (Op place op)) is = refl
 unwanted_by_read (Some (Choice left right)) is = absurd cc
 unwanted_by_read (Some (Loop body)) is = absurd cc
-unwanted_by_read (Some (Sync place body)) is = refl
+unwanted_by_read (Some (Sync lock body)) is = refl
 unwanted_by_read (Some Unlock) is = refl
 
 unwanted_by_other : (next : Option Todo) → next_look next ≡ Other →
@@ -36,7 +36,7 @@ unwanted_by_other None is = refl
 unwanted_by_other (Some (Op place op)) is = refl
 unwanted_by_other (Some (Choice left right)) is = absurd cc
 unwanted_by_other (Some (Loop body)) is = absurd cc
-unwanted_by_other (Some (Sync place body)) is = refl
+unwanted_by_other (Some (Sync lock body)) is = refl
 unwanted_by_other (Some Unlock) is = refl
 
 pub turn_wanted : (s : State) (t : ℕ) → look_of s t ≡ Turn → wants_turn s t ≡ true

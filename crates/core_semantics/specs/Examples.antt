@@ -7,12 +7,13 @@ use Rattle.racer_base.specs.declared.ids.MethodId.{MethodId}
 use Rattle.racer_base.specs.declared.ids.VarId.{VarId}
 use Rattle.racer_base.specs.declared.ids.Kind.{Kind}
 use Rattle.racer_base.specs.declared.ids.Kind.TheVariants.{Plain, Declared, Other}
+use Rattle.core_code.specs.declared.code.LockKind.TheVariants.{Explicit}
 use Rattle.core_code.specs.declared.code.Op.{Op as CoreOp}
 use Rattle.core_code.specs.declared.code.Op.TheVariants.{Push, PushPrim, PushNull, Drop, Get, Put, Set, Call, Ret}
 use Rattle.core_code.specs.declared.parts.FieldCore.{FieldCore}
 use Rattle.core_code.specs.Tree.{Tree, Op, Skip, Choice, Loop, Sync, in_sequence}
 use Rattle.core_code.specs.Core.{Core, Method}
-use Rattle.core_code.specs.Pair.{at}
+use Rattle.core_code.specs.Pair.{at, own_sync}
 use Rattle.core_semantics.specs.declared.answer.Turn.{Turn}
 use Rattle.core_semantics.specs.declared.object.Object.TheVariants.{Start as StartOf, Fresh}
 use Rattle.core_semantics.specs.declared.object.Start.{Start}
@@ -106,11 +107,11 @@ abbrev pub gate : Core
 gate =
     program_of (field_of 0 Plain ∷ field_of 0 Plain ∷ [])
     (method_of [] []
-    (op (Push (var 0)) ∷ Sync (at 1 51) (in_sequence (write_of 1 78)) ∷ in_sequence (write_of 0 92) ∷ op PushPrim
+    (op (Push (var 0)) ∷ own_sync (at 1 51) (in_sequence (write_of 1 78)) ∷ in_sequence (write_of 0 92) ∷ op PushPrim
     ∷ op Ret ∷ [])
     ∷ method_of [] []
     (op (Push (var 0))
-    ∷ Sync (at 1 118) (in_sequence (op (Push (var 0)) ∷ op_at 1 136 (Get (field 0)) ∷ op Ret ∷ []))
+    ∷ own_sync (at 1 118) (in_sequence (op (Push (var 0)) ∷ op_at 1 136 (Get (field 0)) ∷ op Ret ∷ []))
     ∷ []) ∷ [])
 
 -- class A {
@@ -123,7 +124,7 @@ early =
     program_of (field_of 0 Plain ∷ field_of 0 Plain ∷ [])
     (method_of [] []
     (op (Push (var 0))
-    ∷ Sync (at 1 60)
+    ∷ own_sync (at 1 60)
     (in_sequence
     (op (Push (var 0)) ∷ op_at 1 86 (Get (field 1)) ∷ op Drop
     ∷ Choice (in_sequence (op PushPrim ∷ op Ret ∷ [])) Skip ∷ in_sequence (write_of 1 102) ∷ []))
@@ -140,7 +141,7 @@ calls =
     program_of (field_of 0 (Declared (class 0)) ∷ [])
     (method_of (Declared (class 0) ∷ Other ∷ []) (Declared (class 0) ∷ Other ∷ [])
     (op (Push (var 0)) ∷ op (Push (var 1)) ∷ op (Put (field 0)) ∷ op Drop ∷ op (Push (var 2))
-    ∷ Sync (at 1 1) (in_sequence (op (Push (var 1)) ∷ op Ret ∷ [])) ∷ [])
+    ∷ own_sync (at 1 1) (in_sequence (op (Push (var 1)) ∷ op Ret ∷ [])) ∷ [])
     ∷ method_of (Declared (class 0) ∷ Other ∷ []) (Declared (class 0) ∷ Other ∷ Declared (class 0) ∷ [])
     (Loop
     (in_sequence
@@ -148,6 +149,14 @@ calls =
     ∷ op (Set (var 3)) ∷ op Drop ∷ []))
     ∷ op PushPrim ∷ op Ret ∷ [])
     ∷ method_of [] [] (op (Push (var 0)) ∷ op (Get (field 0)) ∷ op Ret ∷ []) ∷ [])
+
+-- two methods that lock `this`, each a monitor of another kind
+abbrev pub two_kinds : Core
+two_kinds =
+    program_of []
+    (method_of [] [] (op (Push (var 0)) ∷ own_sync (at 1 1) Skip ∷ op PushPrim ∷ op Ret ∷ [])
+    ∷ method_of [] []
+    (op (Push (var 0)) ∷ Sync (record { place = at 1 1; kind = Explicit }) Skip ∷ op PushPrim ∷ op Ret ∷ []) ∷ [])
 
 -- so many steps of a thread with these turns
 abbrev pub leg : ℕ → List Turn → ℕ → Leg

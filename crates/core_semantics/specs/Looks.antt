@@ -16,7 +16,7 @@ abbrev pub todo_look : Todo → Look
 todo_look (Op place op) = op_look op
 todo_look (Choice left right) = Turn
 todo_look (Loop body) = Turn
-todo_look (Sync place body) = Other
+todo_look (Sync lock body) = Other
 todo_look Unlock = Other
 
 -- what this step is; another one than a turn or a read where there is none

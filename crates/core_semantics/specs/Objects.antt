@@ -3,6 +3,8 @@
 use Rattle.std.specs.Prelude.{Bool, true, false, ◌&&◌, [], ◌∷◌, ◌++◌, nat_eq}
 use Rattle.racer_base.specs.declared.ids.FieldId.{FieldId}
 use Rattle.access_paths.specs.Paths.{same_fields}
+use Rattle.core_code.specs.declared.code.LockKind.{LockKind}
+use Rattle.core_code.specs.declared.code.LockKind.TheVariants.{Own, Explicit}
 use Rattle.core_semantics.specs.declared.answer.Holder.{Holder}
 use Rattle.core_semantics.specs.declared.answer.Holder.TheVariants.{Object as Of, Outside}
 use Rattle.core_semantics.specs.declared.object.StartRoot.{StartRoot}
@@ -25,9 +27,14 @@ same_object (Start p) (Start q) = same_start_path p q
 same_object (Fresh m) (Fresh n) = nat_eq m n
 same_object _ _ = false
 
+abbrev pub same_lock_kind : LockKind → LockKind → Bool
+same_lock_kind Own Own = true
+same_lock_kind Explicit Explicit = true
+same_lock_kind _ _ = false
+
 abbrev pub same_monitor : Holder → Holder → Bool
-same_monitor (Of a) (Of b) = same_object a b
-same_monitor Outside Outside = true
+same_monitor (Of j a) (Of k b) = same_lock_kind j k && same_object a b
+same_monitor (Outside j) (Outside k) = same_lock_kind j k
 same_monitor _ _ = false
 
 -- a root without fields

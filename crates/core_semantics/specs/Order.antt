@@ -4,6 +4,8 @@ use Rattle.std.specs.Ordering.{nat_cmp}
 use Rattle.std.specs.declared.cmp.Ordering.{Ordering}
 use Rattle.std.specs.Cmp.Lexicographic.{slice_cmp}
 use Rattle.racer_base.specs.declared.ids.FieldId.{FieldId}
+use Rattle.core_code.specs.declared.code.LockKind.{LockKind}
+use Rattle.core_code.specs.declared.code.LockKind.TheVariants.{Own, Explicit}
 use Rattle.core_semantics.specs.declared.answer.Holder.{Holder}
 use Rattle.core_semantics.specs.declared.answer.Holder.TheVariants.{Object as Of, Outside}
 use Rattle.core_semantics.specs.declared.object.StartRoot.{StartRoot}
@@ -54,10 +56,25 @@ object_key o =
 abbrev pub object_cmp : Object → Object → Ordering
 object_cmp a b = slice_cmp nat_cmp (object_key a) (object_key b)
 
--- objects, and then the monitor of all opaque values
+abbrev pub lock_kind_number : LockKind → ℕ
+lock_kind_number Own = 0
+lock_kind_number Explicit = 1
+
+abbrev pub lock_kind : Holder → LockKind
+lock_kind (Of kind o) = kind
+lock_kind (Outside kind) = kind
+
+-- what has the monitor: all opaque values, and then objects
+abbrev pub owner_key : Holder → List ℕ
+owner_key (Of kind o) = object_key o
+owner_key (Outside kind) = []
+
+abbrev pub owner_cmp : Holder → Holder → Ordering
+owner_cmp a b = slice_cmp nat_cmp (owner_key a) (owner_key b)
+
+-- the kind, and then what has the monitor
 abbrev pub holder_key : Holder → List ℕ
-holder_key (Of o) = object_key o
-holder_key Outside = 4 ∷ []
+holder_key m = lock_kind_number (lock_kind m) ∷ owner_key m
 
 abbrev pub holder_cmp : Holder → Holder → Ordering
 holder_cmp a b = slice_cmp nat_cmp (holder_key a) (holder_key b)

@@ -81,7 +81,7 @@ abbrev pub is_turn : Todo → Bool
 is_turn (Op place op) = false
 is_turn (Choice left right) = true
 is_turn (Loop body) = true
-is_turn (Sync place body) = false
+is_turn (Sync lock body) = false
 is_turn Unlock = false
 
 -- whether a thread is at a choice or a loop
@@ -92,7 +92,7 @@ abbrev pub place_of : Todo → Option Place
 place_of (Op place op) = Some place
 place_of (Choice left right) = None
 place_of (Loop body) = None
-place_of (Sync place body) = Some place
+place_of (Sync lock body) = Some lock.place
 place_of Unlock = None
 
 -- the place of the operation or the lock that a thread is at

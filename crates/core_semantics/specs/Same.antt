@@ -67,11 +67,11 @@ and_groups : (a b c : Bool) → ((a && b) && c) ≡ (a && (b && c))
 and_groups true b c = refl
 and_groups false b c = refl
 
-and_true : (b : Bool) → b ≡ (b && true)
+pub and_true : (b : Bool) → b ≡ (b && true)
 and_true true = refl
 and_true false = refl
 
-and_false : (b : Bool) → false ≡ (b && false)
+pub and_false : (b : Bool) → false ≡ (b && false)
 and_false true = refl
 and_false false = refl
 

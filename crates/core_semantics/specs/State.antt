@@ -4,7 +4,7 @@ use Rattle.std.specs.Prelude.{ℕ, Bool, List, ◌∷◌, Option, nat_eq, if◌t
 use Rattle.racer_base.specs.declared.ids.FieldId.{FieldId}
 use Rattle.racer_base.specs.declared.ids.Place.{Place}
 use Rattle.core_code.specs.declared.code.Op.{Op as CoreOp}
-use Rattle.core_code.specs.Tree.{Tree}
+use Rattle.core_code.specs.Tree.{LockAt, Tree}
 use Rattle.core_code.specs.Tree as tree
 use Rattle.core_semantics.specs.declared.answer.Holder.{Holder}
 use Rattle.core_semantics.specs.declared.object.StartPath.{StartPath}
@@ -16,7 +16,7 @@ pub data Todo : Type 0 where
   Op : (place : Place) (op : CoreOp) → Todo
   Choice : (left right : Tree) → Todo
   Loop : (body : Tree) → Todo
-  Sync : (place : Place) (body : Tree) → Todo
+  Sync : (lock : LockAt) (body : Tree) → Todo
   Unlock : Todo
 
 -- code before what is still to do: sequences unfold without a step
@@ -26,7 +26,7 @@ before tree.Skip todo = todo
 before (tree.Seq first rest) todo = before first (before rest todo)
 before (tree.Choice left right) todo = Choice left right ∷ todo
 before (tree.Loop body) todo = Loop body ∷ todo
-before (tree.Sync place body) todo = Sync place body ∷ todo
+before (tree.Sync lock body) todo = Sync lock body ∷ todo
 
 -- The stack's top stands first. Of the monitors that its thread holds a frame locked so many, the innermost ones that
 -- inner frames did not lock.

@@ -10,6 +10,7 @@ use Rattle.racer_base.specs.declared.ids.VarId.{VarId}
 use Rattle.racer_base.specs.declared.ids.Kind.{Kind}
 use Rattle.racer_base.specs.declared.ids.Kind.TheVariants.{Plain as PlainKind, Declared, Other}
 use Rattle.access_paths.specs.Paths.{same_field}
+use Rattle.core_code.specs.declared.code.LockKind.{LockKind}
 use Rattle.core_code.specs.declared.code.Op.{Op as CoreOp}
 use Rattle.core_code.specs.declared.code.Op.TheVariants.{Push, PushClass, PushPrim, PushNull, New, Dup, Drop, Get, Put}
 use Rattle.core_code.specs.declared.code.Op.TheVariants.{Set, Prim, Outside, Call, Ret}
@@ -247,19 +248,19 @@ locking others s body monitor =
     then Waits monitor
     else Goes (after (with_lock s body monitor))
 
--- the monitor of a value, or why it has none: all opaque values share one
-abbrev pub monitor_of : Value → Result Holder Why
-monitor_of Plain = Err PlainBase
-monitor_of Null = Err NullBase
-monitor_of Opaque = Ok AllOpaque
-monitor_of (Ref o) = Ok (Of o)
+-- the monitor of this kind of a value, or why it has none: all opaque values share one
+abbrev pub monitor_of : LockKind → Value → Result Holder Why
+monitor_of kind Plain = Err PlainBase
+monitor_of kind Null = Err NullBase
+monitor_of kind Opaque = Ok (AllOpaque kind)
+monitor_of kind (Ref o) = Ok (Of kind o)
 
 abbrev pub lock_with : List Holder → Spot → Tree → Result Holder Why → Next After
 lock_with others s body (Ok monitor) = locking others s body monitor
 lock_with others s body (Err why) = Sticks why
 
-abbrev pub lock_step : List Holder → Spot → Tree → Value → Next After
-lock_step others s body v = lock_with others s body (monitor_of v)
+abbrev pub lock_step : List Holder → Spot → LockKind → Tree → Value → Next After
+lock_step others s kind body v = lock_with others s body (monitor_of kind v)
 
 -- One step: an operation, one turn at a choice or a loop, one lock, or one unlock.
 
@@ -284,8 +285,8 @@ todo_step core turn others s (Choice left right ∷ rest) =
     Goes (after (with_todo s (chosen turn (before left rest) (before right rest))))
 todo_step core turn others s (Loop body ∷ rest) =
     Goes (after (with_todo s (chosen turn (before body (Loop body ∷ rest)) rest)))
-todo_step core turn others s (Sync place body ∷ rest) =
-    lock_step others (with_todo s rest) body (top s.frame)
+todo_step core turn others s (Sync lock body ∷ rest) =
+    lock_step others (with_todo s rest) lock.kind body (top s.frame)
 todo_step core turn others s (Unlock ∷ rest) = Goes (after (unlocked (with_todo s rest)))
 
 abbrev pub frame_step : Core → Turn → List Holder → Spot → Next After

@@ -38,7 +38,7 @@ abbrev pub step_of : NextStep → Todo
 step_of (step.Op place op) = Op place op
 step_of (step.Choice left right) = Choice (tree_of left.now) (tree_of right.now)
 step_of (step.Loop body) = Loop (tree_of body.now)
-step_of (step.Sync place body) = Sync place (tree_of body.now)
+step_of (step.Sync place kind body) = Sync (record { place = place; kind = kind }) (tree_of body.now)
 step_of step.Unlock = Unlock
 
 -- this step where there is one, else what comes then

@@ -13,7 +13,7 @@ tree_weight Skip = 1
 tree_weight (Seq first rest) = 2 + (tree_weight first + tree_weight rest)
 tree_weight (Choice left right) = 1
 tree_weight (Loop body) = 1
-tree_weight (Sync place body) = 1
+tree_weight (Sync lock body) = 1
 
 abbrev pub part_weight : Pending → ℕ
 part_weight (One code) = 1 + tree_weight (tree_of code.now)

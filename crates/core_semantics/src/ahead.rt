@@ -19,7 +19,7 @@ fn first_of<'a>(code: &'a Code) -> Option<NextStep<'a>>
         Code::Seq(parts) => first_of_parts(parts.as_slice()),
         Code::Choice(left, right) => Some(NextStep::Choice(left, right)),
         Code::Loop(body) => Some(NextStep::Loop(body)),
-        Code::Sync(place, body) => Some(NextStep::Sync(*place, body)),
+        Code::Sync(place, kind, body) => Some(NextStep::Sync(*place, *kind, body)),
     }
 }
 

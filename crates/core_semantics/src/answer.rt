@@ -1,5 +1,6 @@
 //! What a step answers.
 use crate::Object;
+use core_code::LockKind;
 
 /// The side of a choice; at a loop, whether its body is done once more.
 #[derive(Clone, Copy)]
@@ -21,12 +22,12 @@ pub enum Why {
     UnreadCall,
 }
 
-/// A monitor.
+/// A monitor. Each object has one of each kind.
 #[derive(Drop)]
 pub enum Holder {
-    Object(Object),
-    /// The one monitor of all values from outside the folder.
-    Outside,
+    Object(LockKind, Object),
+    /// The one monitor of this kind of all values from outside the folder.
+    Outside(LockKind),
 }
 
 /// The answer of a step.

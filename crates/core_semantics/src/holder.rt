@@ -1,8 +1,9 @@
 //! Equality and an order of monitors.
 ghost use Rattle.std.specs.Prelude.{◌≡◌, IfOk};
-ghost use Rattle.core_semantics.specs.Order.{holder_cmp};
+ghost use Rattle.core_semantics.specs.Order.{holder_cmp, lock_kind, lock_kind_number, owner_cmp};
 
 use crate::Holder;
+use core_code::LockKind;
 use racer_base::Memory;
 use std::alloc::Global;
 use std::cmp::Ordering;
@@ -58,26 +59,49 @@ impl Ord for Holder {
     }
 }
 
-/// The order of two monitors: that of their objects, and then the one of all values from outside the folder.
+/// The order of what has two monitors: all values from outside the folder, and then objects.
+fn compare_owners(a: &Holder, b: &Holder) -> Ordering
+    ensures { result ≡ owner_cmp a.now b.now }
+{
+    match (a, b) {
+        (Holder::Object(_, a), Holder::Object(_, b)) => a.cmp(b),
+        (Holder::Object(_, _), Holder::Outside(_)) => Ordering::Greater,
+        (Holder::Outside(_), Holder::Object(_, _)) => Ordering::Less,
+        (Holder::Outside(_), Holder::Outside(_)) => Ordering::Equal,
+    }
+}
+
+/// The order of two monitors: of their kinds, and of what has them.
 fn compare(a: &Holder, b: &Holder) -> Ordering
     ensures { result ≡ holder_cmp a.now b.now }
 {
-    match (a, b) {
-        (Holder::Object(a), Holder::Object(b)) => a.cmp(b),
-        (Holder::Object(_), Holder::Outside) => Ordering::Less,
-        (Holder::Outside, Holder::Object(_)) => Ordering::Greater,
-        (Holder::Outside, Holder::Outside) => Ordering::Equal,
+    let kinds = a.kind_number().cmp(&b.kind_number());
+    if kinds.is_eq() {
+        compare_owners(a, b)
+    } else {
+        kinds
     }
 }
 
 impl Holder {
+    /// The number of its kind.
+    fn kind_number(&self) -> u32
+        ensures { result ≡ lock_kind_number (lock_kind self.now) }
+    {
+        let (Holder::Object(kind, _) | Holder::Outside(kind)) = self;
+        match kind {
+            LockKind::Own => 0,
+            LockKind::Explicit => 1,
+        }
+    }
+
     /// A monitor that is equal to this one.
     pub(crate) fn copied(&self, alloc: Global) -> Result<Holder, Memory>
         ensures { IfOk result (λ copy. copy ≡ self.now) }
     {
         match self {
-            Holder::Object(object) => Ok(Holder::Object(object.copied(alloc)?)),
-            Holder::Outside => Ok(Holder::Outside),
+            Holder::Object(kind, object) => Ok(Holder::Object(*kind, object.copied(alloc)?)),
+            Holder::Outside(kind) => Ok(Holder::Outside(*kind)),
         }
     }
 }

@@ -4,6 +4,7 @@ ghost use Rattle.racer_base.specs.declared.ids.Touch.TheVariants.{Write};
 ghost use Rattle.core_code.specs.Pair.{at};
 ghost use Rattle.core_code.specs.declared.code.Op.TheVariants.{Push, PushClass, PushPrim, PushNull, New, Dup, Drop};
 ghost use Rattle.core_code.specs.declared.code.Op.TheVariants.{Get, Put, Set, Prim, Outside, Call, Unread, Ret};
+ghost use Rattle.core_code.specs.declared.code.LockKind.TheVariants.{Own, Explicit};
 ghost use Rattle.core_semantics.specs.declared.answer.Holder.TheVariants.{Object as MonitorOf, Outside as AllOpaque};
 ghost use Rattle.core_semantics.specs.declared.answer.Turn.TheVariants.{Left, Right};
 ghost use Rattle.core_semantics.specs.declared.answer.Why.TheVariants.{NullBase, OpaqueBase, PlainBase, UnreadCall};
@@ -12,11 +13,11 @@ ghost use Rattle.core_semantics.specs.declared.object.Start.TheVariants.{All, On
 ghost use Rattle.core_semantics.specs.declared.object.StartRoot.TheVariants.{This, Class, Param};
 ghost use Rattle.core_semantics.specs.declared.object.Value.TheVariants.{Plain, Opaque, Null, Object as Ref};
 ghost use Rattle.core_semantics.specs.Legs.{NoTurn, StuckFor, HeldBy, HasEnded};
-ghost use Rattle.core_semantics.specs.Objects.{root_path};
+ghost use Rattle.core_semantics.specs.Objects.{root_path, same_monitor};
 ghost use Rattle.core_semantics.specs.Runs.{place, next_touch, wants_turn};
 ghost use Rattle.core_semantics.specs.Steps.{op_step, Sticks};
 ghost use Rattle.core_semantics.specs.Examples.{class, field, method, var, fresh, this_path, this_value};
-ghost use Rattle.core_semantics.specs.Examples.{null, gate, early, calls, leg, after_legs, is_race, halt_after};
+ghost use Rattle.core_semantics.specs.Examples.{null, gate, early, calls, two_kinds, leg, after_legs, is_race, halt_after};
 ghost use Rattle.core_semantics.specs.Examples.{stack_of, vars_of, after_op, with_stack};
 
 /// What each operation leaves on the stack, which holds a plain value on `this` on an object.
@@ -75,7 +76,7 @@ pub fn gate_row()
     ensures race { is_race gate (method 1) (method 0) (leg 1 [] 9 ∷ leg 0 [] 3 ∷ []) ≡ Some true }
     ensures too_early { is_race gate (method 1) (method 0) (leg 1 [] 8 ∷ leg 0 [] 3 ∷ []) ≡ Some false }
     ensures held { halt_after gate (method 1) (method 0) (leg 0 [] 2 ∷ []) (leg 1 [] 2)
-        ≡ Some (HeldBy (MonitorOf (StartOf (root_path This))), 1) }
+        ≡ Some (HeldBy (MonitorOf Own (StartOf (root_path This))), 1) }
     ensures reads { is_race gate (method 1) (method 1) (leg 0 [] 3 ∷ []) ≡ Some false }
     ensures over { halt_after gate (method 1) (method 1) [] (leg 0 [] 7) ≡ Some (HasEnded, 6) }
 {}
@@ -91,7 +92,7 @@ pub fn early_row()
         ≡ Some false }
     ensures unlocked { halt_after early (method 0) (method 0) (leg 0 (Left ∷ []) 8 ∷ []) (leg 1 [] 2) ≡ None }
     ensures still_locked { halt_after early (method 0) (method 0) (leg 0 (Left ∷ []) 7 ∷ []) (leg 1 [] 2)
-        ≡ Some (HeldBy (MonitorOf (StartOf (root_path This))), 1) }
+        ≡ Some (HeldBy (MonitorOf Own (StartOf (root_path This))), 1) }
     ensures left_over { after_legs early (method 0) (method 0) All (leg 0 (Left ∷ []) 5 ∷ []) ≡ None }
 {}
 
@@ -105,7 +106,7 @@ pub fn calls_row()
     ensures round { option_map (λ s. wants_turn s 0)
         (after_legs calls (method 1) (method 1) All (leg 0 (Left ∷ []) 17 ∷ [])) ≡ Some true }
     ensures held { halt_after calls (method 1) (method 1) (leg 0 (Left ∷ []) 11 ∷ []) (leg 1 (Left ∷ []) 11)
-        ≡ Some (HeldBy AllOpaque, 10) }
+        ≡ Some (HeldBy (AllOpaque Own), 10) }
     ensures given_back { option_map (stack_of 0)
         (after_legs calls (method 1) (method 1) All (leg 0 (Left ∷ []) 14 ∷ []))
         ≡ Some (Some (Ref (StartOf (root_path (Param 0 0))) ∷ [])) }
@@ -118,6 +119,15 @@ pub fn calls_row()
     ensures reads_what_is_stored { option_map (stack_of 1)
         (after_legs calls (method 0) (method 2) All (leg 0 [] 3 ∷ leg 1 [] 2 ∷ []))
         ≡ Some (Some (Ref (StartOf (root_path (Param 0 0))) ∷ [])) }
+{}
+
+/// An object has a monitor of each kind, which are two, and so have all opaque values together.
+pub fn kinds_row()
+    ensures apart { halt_after two_kinds (method 0) (method 1) (leg 0 [] 2 ∷ []) (leg 1 [] 3) ≡ None }
+    ensures held { halt_after two_kinds (method 1) (method 1) (leg 0 [] 2 ∷ []) (leg 1 [] 3)
+        ≡ Some (HeldBy (MonitorOf Explicit (StartOf (root_path This))), 1) }
+    ensures opaque { map (same_monitor (AllOpaque Explicit)) (AllOpaque Own ∷ AllOpaque Explicit ∷ [])
+        ≡ false ∷ true ∷ [] }
 {}
 
 /// A read gives an object where the heap has its path, and null where it has not.

@@ -10,16 +10,16 @@ use crate::frame::Frame;
 use crate::monitors::Monitors;
 use crate::pending::Pending;
 use crate::{Holder, StepAnswer, Value, Why};
-use core_code::Code;
+use core_code::{Code, LockKind};
 use std::alloc::Global;
 
-/// The monitor of a value, or why it has none.
-fn monitor_of(value: Value) -> Result<Holder, Why>
-    ensures { result ≡ monitor_of value }
+/// The monitor of this kind of a value, or why it has none.
+fn monitor_of(kind: LockKind, value: Value) -> Result<Holder, Why>
+    ensures { result ≡ monitor_of kind value }
 {
     match value {
-        Value::Object(object) => Ok(Holder::Object(object)),
-        Value::Opaque => Ok(Holder::Outside),
+        Value::Object(object) => Ok(Holder::Object(kind, object)),
+        Value::Opaque => Ok(Holder::Outside(kind)),
         Value::Plain => Err(Why::PlainBase),
         Value::Null => Err(Why::NullBase),
     }
@@ -59,24 +59,25 @@ fn take<'a>(
     StepAnswer::Stepped
 }
 
-/// Locks the monitor of the value on the stack's top round a body.
+/// Locks the monitor of this kind of the value on the stack's top round a body.
 pub(crate) fn lock<'a>(
     alloc: Global,
     others: &Monitors,
     frame: &mut Frame<'a>,
     locks: &mut Monitors,
+    kind: LockKind,
     body: &'a Code,
 ) -> StepAnswer
     requires { 0 < length frame.old.pending }
     ensures { (store : Store) (callers : List FrameSeen) →
-        IsAnswer (lock_step others.now (behind_at store frame.old callers locks.old) (tree_of body.now)
+        IsAnswer (lock_step others.now (behind_at store frame.old callers locks.old) kind (tree_of body.now)
         (top (frame_of frame.old)))
         (after (spot_at store frame.old callers locks.old)) (after (spot_at store frame.new callers locks.new)) result }
 {
     let Ok(value) = frame.slot(alloc, 0) else {
         return StepAnswer::Memory;
     };
-    match monitor_of(value) {
+    match monitor_of(kind, value) {
         Ok(monitor) => take(others, frame, locks, monitor, body),
         Err(why) => StepAnswer::Stuck(why),
     }

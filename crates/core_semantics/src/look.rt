@@ -29,7 +29,7 @@ fn step_look(next: NextStep) -> Look
         NextStep::Op(_, _) => Look::Other,
         NextStep::Choice(_, _) => Look::Turn,
         NextStep::Loop(_) => Look::Turn,
-        NextStep::Sync(_, _) => Look::Other,
+        NextStep::Sync(_, _, _) => Look::Other,
         NextStep::Unlock => Look::Other,
     }
 }

@@ -6,7 +6,7 @@ ghost use Rattle.core_semantics.specs.Weights.{part_weight, tree_weight, unfolde
 ghost use Rattle.core_semantics.specs.View.{todo_of, before_part, before_unfolded, IsNext};
 
 use crate::stack::Stack;
-use core_code::{Code, Op};
+use core_code::{Code, LockKind, Op};
 use racer_base::{Memory, Place};
 
 /// A part of what a frame has still to do.
@@ -27,7 +27,7 @@ pub(crate) enum NextStep<'a> {
     /// A loop with this body.
     Loop(&'a Code),
     /// A lock round this body.
-    Sync(Place, &'a Code),
+    Sync(Place, LockKind, &'a Code),
     Unlock,
 }
 
@@ -50,7 +50,7 @@ fn unfold_code<'a>(code: &'a Code) -> Unfolded<'a>
         Code::Seq(parts) => Unfolded::One(Pending::Parts(parts.as_slice())),
         Code::Choice(left, right) => Unfolded::Next(NextStep::Choice(left, right)),
         Code::Loop(body) => Unfolded::Next(NextStep::Loop(body)),
-        Code::Sync(place, body) => Unfolded::Next(NextStep::Sync(*place, body)),
+        Code::Sync(place, kind, body) => Unfolded::Next(NextStep::Sync(*place, *kind, body)),
     }
 }
 

@@ -111,8 +111,15 @@ fn step_next<'a>(
         NextStep::Op(_, op) => operated(given, store, running, locks, op),
         NextStep::Choice(left, right) => choose(&mut running.frame, given.turn, left, right),
         NextStep::Loop(body) => repeat(&mut running.frame, given.turn, body),
-        NextStep::Sync(_, body) => {
-            lock(given.alloc, given.others, &mut running.frame, locks, body)
+        NextStep::Sync(_, kind, body) => {
+            lock(
+                given.alloc,
+                given.others,
+                &mut running.frame,
+                locks,
+                kind,
+                body,
+            )
         }
         NextStep::Unlock => {
             end_lock(&mut running.frame, locks);

@@ -22,7 +22,7 @@ fn place_of(next: NextStep) -> Option<Place>
 {
     match next {
         NextStep::Op(place, _) => Some(place),
-        NextStep::Sync(place, _) => Some(place),
+        NextStep::Sync(place, _, _) => Some(place),
         NextStep::Choice(_, _) => None,
         NextStep::Loop(_) => None,
         NextStep::Unlock => None,
@@ -35,7 +35,7 @@ pub(crate) fn is_turn(next: NextStep) -> bool
 {
     match next {
         NextStep::Op(_, _) => false,
-        NextStep::Sync(_, _) => false,
+        NextStep::Sync(_, _, _) => false,
         NextStep::Choice(_, _) => true,
         NextStep::Loop(_) => true,
         NextStep::Unlock => false,

@@ -188,8 +188,8 @@ turn-keeps core turn others s [] free = tt
 turn-keeps core turn others s (Op place op ∷ rest) free = operated-keeps core others s rest op free
 turn-keeps core turn others s (Choice left right ∷ rest) free = free
 turn-keeps core turn others s (Loop body ∷ rest) free = free
-turn-keeps core turn others s (Sync place body ∷ rest) free =
-    lock-keeps others (with_todo s rest) body (monitor_of (top s.frame)) free
+turn-keeps core turn others s (Sync lock body ∷ rest) free =
+    lock-keeps others (with_todo s rest) body (monitor_of lock.kind (top s.frame)) free
 turn-keeps core turn others s (Unlock ∷ rest) free = fewer-free others s.locks free
 
 thread-keeps : (core : Core) (turn : Turn) (others : List Holder) (store : Store) (thread : Thread) →

@@ -10,7 +10,7 @@ use Rattle.core_code.specs.declared.code.Op.TheVariants.{Push, PushClass, PushPr
 use Rattle.core_code.specs.declared.code.Op.TheVariants.{Set, Prim, Outside, Call, Unread as UnreadCall, Ret}
 use Rattle.core_code.specs.Calls.{method_at}
 use Rattle.core_code.specs.Core.{Core, Method}
-use Rattle.core_code.specs.Tree.{Tree}
+use Rattle.core_code.specs.Tree.{LockAt, Tree}
 use Rattle.core_code.specs.Tree.{can_end, steps_of}
 use Rattle.core_code.specs.Tree as tree
 use Rattle.core_code.specs.Calls.{called_by}
@@ -447,15 +447,15 @@ module _ (core : Core) (trips : MethodId → Trip) (test : MethodId → Bool)
       (past-turn core trip Left a b (IsBehind (can_end left) todo locked callers locks) (λ rest. refl)
       (on_left locked store vars stack todo callers locks))
 
-  runs-lock : (place : Place) (body : Tree) (locked : ℕ) (store : Store) (vars stack : List Value) (todo : List Todo)
+  runs-lock : (lock : LockAt) (body : Tree) (locked : ℕ) (store : Store) (vars stack : List Value) (todo : List Todo)
       (callers : List Frame) (locks : List Holder) (r : Result Holder Why) → RunsPast core trips body →
       (rest : List Turn) →
       let trip = trip_along trips (passed (suc locked) body ++ cond (can_end body) (Step ∷ []) []) in
       ComesTo (IsBehind (can_end body) todo locked callers locks) rest
       (onward (λ a. alone core trip.steps (trip.turns ++ rest) a)
       (lock_with [] (spot store vars stack todo locked callers locks) body r))
-  runs-lock place body locked store vars stack todo callers locks (Err why) past rest = tt
-  runs-lock place body locked store vars stack todo callers locks (Ok monitor) past rest =
+  runs-lock lock body locked store vars stack todo callers locks (Err why) past rest = tt
+  runs-lock lock body locked store vars stack todo callers locks (Ok monitor) past rest =
       subst (λ (t : Trip). ComesTo (IsBehind (can_end body) todo locked callers locks) rest
       (alone core t.steps (t.turns ++ rest)
       (here store vars (drop 1 stack) (before body (Unlock ∷ todo)) (suc locked) callers (monitor ∷ locks))))
@@ -487,10 +487,10 @@ module _ (core : Core) (trips : MethodId → Trip) (test : MethodId → Bool)
       λ locked store vars stack todo callers locks.
       runs-either left right locked store vars stack todo callers locks (can_end right) refl on_left on_right
   runs-past (tree.Loop body) all = λ locked store vars stack todo callers locks rest. (refl, (store, vars, stack, refl))
-  runs-past (tree.Sync place body) all = λ locked store vars stack todo callers locks.
+  runs-past (tree.Sync lock body) all = λ locked store vars stack todo callers locks.
       let trip = trip_along trips (passed (suc locked) body ++ cond (can_end body) (Step ∷ []) []) in
       one-more core trip.turns trip.steps (1 + trip.steps)
-      (here store vars stack (Sync place body ∷ todo) locked callers locks)
+      (here store vars stack (Sync lock body ∷ todo) locked callers locks)
       (IsBehind (can_end body) todo locked callers locks) (omega arith)
-      (runs-lock place body locked store vars stack todo callers locks (monitor_of (slice_index_or stack 0 Null))
-      (runs-past body all))
+      (runs-lock lock body locked store vars stack todo callers locks
+      (monitor_of lock.kind (slice_index_or stack 0 Null)) (runs-past body all))

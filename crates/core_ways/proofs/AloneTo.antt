@@ -194,10 +194,10 @@ module _ (core : Core) (trips : MethodId → Trip) (test : MethodId → Bool)
       (here store vars stack (before body (Loop body ∷ todo)) locked callers locks)
       (IsBefore o (locks_round site body) locked callers locks) (λ rest. refl)
       (runs-to body all is ends locked store vars stack (Loop body ∷ todo) callers locks)
-  runs-to (tree.Sync place body) all is ends = λ locked store vars stack todo callers locks.
+  runs-to (tree.Sync lock body) all is ends = λ locked store vars stack todo callers locks.
       let trip = trip_along trips (reached (suc locked) site body) in
       one-more core trip.turns trip.steps (1 + trip.steps)
-      (here store vars stack (Sync place body ∷ todo) locked callers locks)
+      (here store vars stack (Sync lock body ∷ todo) locked callers locks)
       (IsBefore o (suc (locks_round site body)) locked callers locks) (omega arith)
       (to-lock core trips site o body locked store vars stack todo callers locks
-      (monitor_of (slice_index_or stack 0 Null)) (runs-to body all is ends))
+      (monitor_of lock.kind (slice_index_or stack 0 Null)) (runs-to body all is ends))

@@ -68,7 +68,7 @@ module _ (P : MethodId → Type 0) (test : MethodId → Bool) (holds : (m : Meth
       (each-passed locks right (last_part (do_pass test (steps_of left)) (do_pass test (steps_of right)) both))
       (each-passed locks left (first_part (do_pass test (steps_of left)) (do_pass test (steps_of right)) both))
   each-passed locks (Loop body) all = tt
-  each-passed locks (Sync place body) all =
+  each-passed locks (Sync lock body) all =
       each-append P (passed (suc locks) body) (cond (can_end body) (Step ∷ []) []) (each-passed (suc locks) body all)
       (either (can_end body) (Step ∷ []) [] tt tt)
 

@@ -1,8 +1,7 @@
 -- Code that is gone into along a path, piece by piece.
 use Rattle.std.proofs.Common.{◌≡◌, ℕ, suc, Bool, true, false, List, [], ◌∷◌, ◌++◌, sym, ap, ◌∙◌, append_assoc}
 use Rattle.std.proofs.lemmas.List.{append-nil}
-use Rattle.racer_base.specs.declared.ids.Place.{Place}
-use Rattle.core_code.specs.Tree.{Tree, Seq, Choice, Loop, Sync}
+use Rattle.core_code.specs.Tree.{LockAt, Tree, Seq, Choice, Loop, Sync}
 use Rattle.core_semantics.specs.declared.answer.Turn.TheVariants.{Left}
 use Rattle.core_ways.specs.declared.part.WayPart.{WayPart}
 use Rattle.core_ways.specs.declared.part.WayPart.TheVariants.{Step, Branched}
@@ -40,10 +39,10 @@ loop-followed locks body old pushed path step =
     ap (λ (ps : List WayPart). ps ++ followed locks path body) step
     ∙ append_assoc old (Branched Left ∷ []) (followed locks path body)
 
-pub held-followed : (locks within : ℕ) (place : Place) (body : Tree) (old pushed : List WayPart) (path : List Bool) →
+pub held-followed : (locks within : ℕ) (lock : LockAt) (body : Tree) (old pushed : List WayPart) (path : List Bool) →
     pushed ≡ old ++ Step ∷ [] → within ≡ suc locks →
-    pushed ++ followed within path body ≡ old ++ followed locks path (Sync place body)
-held-followed locks within place body old pushed path step more =
+    pushed ++ followed within path body ≡ old ++ followed locks path (Sync lock body)
+held-followed locks within lock body old pushed path step more =
     (λ i. step i ++ followed (more i) path body)
     ∙ append_assoc old (Step ∷ []) (followed (suc locks) path body)
 

@@ -1,79 +1,27 @@
 -- Going through one method after another towards a record.
-use Rattle.std.proofs.Common.{◌≡◌, ℕ, zero, suc, ◌+◌, ◌<◌, ◌≤◌, Bool, true, cond, List, [], ◌∷◌, ◌++◌}
-use Rattle.std.proofs.Common.{Option, None, Some, is_none, is_some, slice_get, option_map, length}
-use Rattle.std.proofs.Common.{refl, sym, ap, subst, ◌∙◌, append_assoc, arith}
+use Rattle.std.proofs.Common.{◌≡◌, ℕ, ◌<◌, Bool, true, cond, List, [], ◌∷◌, ◌++◌}
+use Rattle.std.proofs.Common.{Option, None, Some, is_some, option_map}
+use Rattle.std.proofs.Common.{refl, sym, ap, subst, ◌∙◌, append_assoc}
 use Rattle.std.proofs.lemmas.List.{append-nil}
-use Rattle.std.proofs.Math.Nat.{add-zero, zero-add}
-use Rattle.std.proofs.lemmas.Bool.{cases_lt}
-use Rattle.std.proofs.Common.{inl, inr}
-use Rattle.std.specs.Option.{option_and_then}
 use Rattle.std.specs.Prelude.{Result, Ok, Err, IfOk}
 use Rattle.racer_base.specs.declared.ids.MethodId.{MethodId}
 use Rattle.core_code.specs.declared.code.Op.{Op as CoreOp}
-use Rattle.core_code.specs.Calls.{method_at, rank_of, known_below}
+use Rattle.core_code.specs.Calls.{rank_of, known_below}
 use Rattle.core_code.specs.CallFacts.{has_ranks}
-use Rattle.core_code.specs.Core.{Core, Method}
+use Rattle.core_code.specs.Core.{Core}
 use Rattle.core_code.specs.Tree.{Tree, Operation, op_at}
 use Rattle.core_code.proofs.ByRank.{known_below-lower}
 use Rattle.access_domain.specs.declared.access.Access.{Access}
-use Rattle.access_domain.specs.declared.summary.Outcome.{Outcome}
-use Rattle.access_domain.specs.Summaries.{outcome_of, outcomes_of, outcomes_from, known_given, known_of_callees}
-use Rattle.access_domain.specs.Findings.{outcome_from}
+use Rattle.access_domain.specs.OutcomeRecords.{record_at}
 use Rattle.core_ways.specs.declared.part.WayPart.{WayPart}
 use Rattle.core_ways.specs.declared.part.WayPart.TheVariants.{Step}
-use Rattle.core_ways.specs.Ways.{code_at, has_site, entered, entered_op, reached, record_at, records_held}
+use Rattle.core_ways.specs.Ways.{code_at, has_site, entered, entered_op, reached}
 use Rattle.core_ways.specs.Ways.{towards_record}
 use Rattle.core_ways.specs.Ways.{way_given, way_parts}
-use Rattle.core_ways.specs.Going.{record_among, IsEntered, GoesOn}
+use Rattle.core_ways.specs.Going.{IsEntered, GoesOn}
 use Rattle.core_ways.specs.Paths.{op_there, reached_where}
 use Rattle.core_ways.proofs.Callees.{lower-site}
 use Rattle.core_ways.proofs.SitePaths.{has-found, reached-not}
-
--- ---- records among the outcomes of all methods
-
-outcome-at : (core : Core) (k n i : ℕ) → i < n →
-    slice_get (outcomes_from core k n) i ≡ Some (outcome_of core (record { 0 = k + i }))
-outcome-at core k zero i within = absurd (omega arith)
-outcome-at core k (suc n) zero within =
-    ap (λ (j : ℕ). Some (outcome_of core (record { 0 = j }))) (sym (add-zero k))
-outcome-at core k (suc n) (suc i) within =
-    let moved : suc k + i ≡ k + suc i = omega arith in
-    outcome-at core (suc k) n i (omega arith) ∙ ap (λ (j : ℕ). Some (outcome_of core (record { 0 = j }))) moved
-
-outcome-past : (core : Core) (k n i : ℕ) → n ≤ i → slice_get (outcomes_from core k n) i ≡ None
-outcome-past core k zero i past = refl
-outcome-past core k (suc n) zero past = absurd (omega arith)
-outcome-past core k (suc n) (suc i) past = outcome-past core (suc k) n i (omega arith)
-
-past-end : (ms : List Method) (i : ℕ) → length ms ≤ i → slice_get ms i ≡ None
-past-end [] i past = refl
-past-end (m ∷ ms) zero past = absurd (omega arith)
-past-end (m ∷ ms) (suc i) past = past-end ms i (omega arith)
-
-none-of : (core : Core) (m : MethodId) → method_at core m ≡ None → outcome_of core m ≡ None
-none-of core m none =
-    ap (λ (o : Option Method). option_map outcome_from
-    (option_and_then (λ (method : Method).
-    cond (is_none method.status) (Some (known_given core (known_of_callees core m) method)) None) o))
-    none
-
--- what is found at the number of a method
-pub same-outcome : (core : Core) (m : MethodId) →
-    option_and_then (λ (x : Option Outcome). x) (slice_get (outcomes_of core) m.0) ≡ outcome_of core m
-same-outcome core m =
-    elim (cases_lt m.0 (length core.methods)) [
-      | inl within ↦
-          ap (λ (o : Option (Option Outcome)). option_and_then (λ (x : Option Outcome). x) o)
-          (outcome-at core 0 (length core.methods) m.0 within
-          ∙ ap (λ (j : ℕ). Some (outcome_of core (record { 0 = j }))) (zero-add m.0))
-      | inr past ↦
-          ap (λ (o : Option (Option Outcome)). option_and_then (λ (x : Option Outcome). x) o)
-          (outcome-past core 0 (length core.methods) m.0 past)
-          ∙ sym (none-of core m (past-end core.methods m.0 past))
-    ]
-
-pub same-record : (core : Core) (m : MethodId) (i : ℕ) → record_among (outcomes_of core) m i ≡ record_at core m i
-same-record core m i = ap (λ (o : Option Outcome). slice_get (records_held o) i) (same-outcome core m)
 
 -- ---- one method after another
 

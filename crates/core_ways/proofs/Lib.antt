@@ -1,7 +1,6 @@
 pub mod PassedCode
 pub mod FollowedCode
 pub mod SitePaths
-pub mod FoundOutcomes
 pub mod Trips
 pub mod Counted
 pub mod Callees

@@ -44,7 +44,7 @@ todo_reads : (core : Core) (s : State) (f : Frame) (todo : Todo) → todo_look t
 todo_reads core s f (Op place op) is = op_reads core s f op is
 todo_reads core s f (Choice left right) is = refl
 todo_reads core s f (Loop body) is = refl
-todo_reads core s f (Sync place body) is = refl
+todo_reads core s f (Sync lock body) is = refl
 todo_reads core s f Unlock is = refl
 
 next_reads : (core : Core) (s : State) (f : Frame) (next : Option Todo) → next_look next ≡ look.Other →

@@ -3,9 +3,8 @@ use Rattle.std.proofs.Common.{◌≡◌, ℕ, suc, ◌+◌, ◌<◌, Bool, true,
 use Rattle.std.proofs.Common.{drop, take, get_or, refl, sym, ap, ◌∙◌, append_assoc}
 use Rattle.std.proofs.Math.Seq.{take-append_seam}
 use Rattle.std.proofs.lemmas.List.{append-nil, at_drop_more}
-use Rattle.racer_base.specs.declared.ids.Place.{Place}
 use Rattle.core_code.specs.declared.code.Code.{Code}
-use Rattle.core_code.specs.Tree.{Tree, Seq, Choice, Sync, can_end, in_sequence, tree_of}
+use Rattle.core_code.specs.Tree.{LockAt, Tree, Seq, Choice, Sync, can_end, in_sequence, tree_of}
 use Rattle.core_semantics.specs.declared.answer.Turn.TheVariants.{Left, Right}
 use Rattle.core_ways.specs.declared.part.WayPart.{WayPart}
 use Rattle.core_ways.specs.declared.part.WayPart.TheVariants.{Step, Branched}
@@ -92,18 +91,18 @@ held-grown locks within body old pushed new more step grown =
     ∙ (λ i. step i ++ passed (more i) body)
     ∙ append_assoc old (Step ∷ []) (passed (suc locks) body)
 
-pub held-stays : (locks within : ℕ) (place : Place) (body : Tree) (old pushed new : List WayPart) →
+pub held-stays : (locks within : ℕ) (lock : LockAt) (body : Tree) (old pushed new : List WayPart) →
     can_end body ≡ false → within ≡ suc locks → pushed ≡ old ++ Step ∷ [] → new ≡ pushed ++ passed within body →
-    new ≡ old ++ passed locks (Sync place body)
-held-stays locks within place body old pushed new ends more step grown =
+    new ≡ old ++ passed locks (Sync lock body)
+held-stays locks within lock body old pushed new ends more step grown =
     held-grown locks within body old pushed new more step grown
     ∙ ap (λ (ps : List WayPart). old ++ Step ∷ ps) (sym (append-nil (passed (suc locks) body)))
     ∙ ap (λ (b : Bool). old ++ Step ∷ (passed (suc locks) body ++ cond b (Step ∷ []) [])) (sym ends)
 
-pub held-ends : (locks within : ℕ) (place : Place) (body : Tree) (old pushed new : List WayPart) →
+pub held-ends : (locks within : ℕ) (lock : LockAt) (body : Tree) (old pushed new : List WayPart) →
     can_end body ≡ true → within ≡ suc locks → pushed ≡ old ++ Step ∷ [] → new ≡ pushed ++ passed within body →
-    new ++ Step ∷ [] ≡ old ++ passed locks (Sync place body)
-held-ends locks within place body old pushed new ends more step grown =
+    new ++ Step ∷ [] ≡ old ++ passed locks (Sync lock body)
+held-ends locks within lock body old pushed new ends more step grown =
     ap (λ (ps : List WayPart). ps ++ Step ∷ []) (held-grown locks within body old pushed new more step grown)
     ∙ append_assoc old (Step ∷ passed (suc locks) body) (Step ∷ [])
     ∙ ap (λ (b : Bool). old ++ Step ∷ (passed (suc locks) body ++ cond b (Step ∷ []) [])) (sym ends)

@@ -35,7 +35,7 @@ followed-path locks site (Choice left right) =
       | false ↦ ap (λ (ps : List WayPart). Branched Right ∷ ps) (followed-path locks site right)
     ]
 followed-path locks site (Loop body) = ap (λ (ps : List WayPart). Branched Left ∷ ps) (followed-path locks site body)
-followed-path locks site (Sync place body) = ap (λ (ps : List WayPart). Step ∷ ps) (followed-path (suc locks) site body)
+followed-path locks site (Sync lock body) = ap (λ (ps : List WayPart). Step ∷ ps) (followed-path (suc locks) site body)
 
 map-or : (p q : Option Operation) →
     option_map (λ (o : Operation). o.op) (option_or p q) ≡

@@ -108,7 +108,7 @@ locks_round site tree.Skip = 0
 locks_round site (tree.Seq first rest) = if has_site first site then locks_round site first else locks_round site rest
 locks_round site (tree.Choice left right) = if has_site left site then locks_round site left else locks_round site right
 locks_round site (tree.Loop body) = locks_round site body
-locks_round site (tree.Sync place body) = suc (locks_round site body)
+locks_round site (tree.Sync lock body) = suc (locks_round site body)
 
 -- whether each part that stands in sequence before a site can end
 abbrev pub do_end_before : SiteId → Tree → Bool
@@ -119,7 +119,7 @@ do_end_before site (tree.Seq first rest) =
 do_end_before site (tree.Choice left right) =
     if has_site left site then do_end_before site left else do_end_before site right
 do_end_before site (tree.Loop body) = do_end_before site body
-do_end_before site (tree.Sync place body) = do_end_before site body
+do_end_before site (tree.Sync lock body) = do_end_before site body
 
 -- the frame is at this operation, within so many more locks
 pub record IsBefore (o : Operation) (more locked : ℕ) (callers : List Frame) (locks : List Holder)

@@ -10,7 +10,7 @@ use Rattle.core_code.specs.declared.code.Reason.TheVariants.{Recursive}
 use Rattle.core_code.specs.declared.parts.FieldCore.{FieldCore}
 use Rattle.core_code.specs.Tree.{Tree, Op, Skip, Seq, Choice, Loop, Sync, in_sequence}
 use Rattle.core_code.specs.Core.{Core, Method}
-use Rattle.core_code.specs.Pair.{at}
+use Rattle.core_code.specs.Pair.{at, own_sync}
 use Rattle.core_semantics.specs.declared.answer.Turn.{Turn}
 use Rattle.core_semantics.specs.Legs.{Leg}
 use Rattle.core_semantics.specs.Examples.{class, field, method, var}
@@ -23,7 +23,7 @@ numbered n Skip = (n, Skip)
 numbered n (Seq first rest) = let a = numbered n first in let b = numbered a.0 rest in (b.0, Seq a.1 b.1)
 numbered n (Choice left right) = let a = numbered n left in let b = numbered a.0 right in (b.0, Choice a.1 b.1)
 numbered n (Loop body) = let a = numbered n body in (a.0, Loop a.1)
-numbered n (Sync place body) = let a = numbered n body in (a.0, Sync place a.1)
+numbered n (Sync lock body) = let a = numbered n body in (a.0, Sync lock a.1)
 
 -- a program with the sites of its methods in order
 abbrev pub with_sites : Core → Core
@@ -86,7 +86,7 @@ card =
     (this ∷ op (Get (field 1)) ∷ op (Outside 0) ∷ op (Put (field 0)) ∷ op Drop ∷ returned)
     ∷ method_of true
     (this
-    ∷ Sync (at 1 1) (in_sequence (this ∷ op (Get (field 1)) ∷ op (Get (field 0)) ∷ op Ret ∷ [])) ∷ [])
+    ∷ own_sync (at 1 1) (in_sequence (this ∷ op (Get (field 1)) ∷ op (Get (field 0)) ∷ op Ret ∷ [])) ∷ [])
     ∷ [])
 
 -- class A {
@@ -141,13 +141,13 @@ turning =
     program_of (field_of 1 Plain ∷ field_of 1 Plain ∷ [])
     (method_of true
     (Choice (Choice (in_sequence returned) Skip) (in_sequence returned) ∷ this
-    ∷ Sync (at 1 1) (Choice (in_sequence returned) (in_sequence returned)) ∷ [])
+    ∷ own_sync (at 1 1) (Choice (in_sequence returned) (in_sequence returned)) ∷ [])
     ∷ method_of true
     (Loop (in_sequence (this ∷ op PushPrim ∷ op (Put (field 0)) ∷ op Drop ∷ []))
     ∷ Choice (in_sequence (this ∷ op PushPrim ∷ op (Put (field 0)) ∷ op Drop ∷ []))
     (in_sequence
-    (this ∷ Sync (at 1 1) (Choice (in_sequence (this ∷ op (Get (field 0)) ∷ op Drop ∷ [])) Skip) ∷ []))
-    ∷ this ∷ Sync (at 1 1) (in_sequence (this ∷ op (Call (method 0) 1) ∷ op Drop ∷ [])) ∷ this ∷ op PushPrim
+    (this ∷ own_sync (at 1 1) (Choice (in_sequence (this ∷ op (Get (field 0)) ∷ op Drop ∷ [])) Skip) ∷ []))
+    ∷ this ∷ own_sync (at 1 1) (in_sequence (this ∷ op (Call (method 0) 1) ∷ op Drop ∷ [])) ∷ this ∷ op PushPrim
     ∷ op (Put (field 1)) ∷ op Drop ∷ returned)
     ∷ [])
 

@@ -1,21 +1,13 @@
 -- No public contract rests on this: going through one method towards a record.
-use Rattle.std.specs.Prelude.{◌≡◌, ℕ, ◌<◌, List, [], ◌∷◌, ◌++◌, Option, None, Some, slice_get}
-use Rattle.std.specs.Option.{option_and_then}
+use Rattle.std.specs.Prelude.{◌≡◌, ℕ, ◌<◌, List, [], ◌∷◌, ◌++◌, Option, None, Some}
 use Rattle.racer_base.specs.declared.ids.MethodId.{MethodId}
 use Rattle.core_code.specs.declared.code.Op.{Op as CoreOp}
 use Rattle.core_code.specs.declared.code.Op.TheVariants.{Call}
 use Rattle.core_ways.specs.declared.part.WayPart.TheVariants.{Step}
 use Rattle.core_code.specs.Calls.{rank_of}
 use Rattle.core_code.specs.Core.{Core}
-use Rattle.access_domain.specs.declared.access.Access.{Access}
-use Rattle.access_domain.specs.declared.summary.Outcome.{Outcome}
 use Rattle.core_ways.specs.declared.part.WayPart.{WayPart}
-use Rattle.core_ways.specs.Ways.{entered, records_held, way_parts}
-
--- the record of an index of a method, among these outcomes of all methods
-abbrev pub record_among : List (Option Outcome) → MethodId → ℕ → Option Access
-record_among outcomes m i =
-    slice_get (records_held (option_and_then (λ (o : Option Outcome). o) (slice_get outcomes m.0))) i
+use Rattle.core_ways.specs.Ways.{entered, way_parts}
 
 -- the way goes on to a record of a callee, or ends here
 abbrev pub GoesOn : Core → MethodId → ℕ → List WayPart → List WayPart → Option (MethodId × ℕ) → Type 0

@@ -2,7 +2,6 @@
 pub mod Ways
 pub mod Answers
 pub mod Paths
-pub mod Found
 pub mod Going
 pub mod Counts
 pub mod Passings

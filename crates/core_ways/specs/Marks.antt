@@ -22,12 +22,13 @@ use Rattle.core_semantics.specs.Runs.{Access as Touching, begun, next_touch, pla
 use Rattle.core_semantics.specs.State.{State}
 use Rattle.core_semantics.specs.Steps.{Next, Goes, read, step}
 use Rattle.access_domain.specs.Records.{firsts}
+use Rattle.access_domain.specs.OutcomeRecords.{record_at}
 use Rattle.core_ways.specs.declared.mark.Leg.{Leg as LegTaken}
 use Rattle.core_ways.specs.declared.mark.Mark.{Mark}
 use Rattle.core_ways.specs.declared.mark.Mark.TheVariants as code
 use Rattle.core_ways.specs.Answers.{counted}
 use Rattle.core_ways.specs.Stable.{unstable_prefix}
-use Rattle.core_ways.specs.Ways.{Trip, way_of, record_at}
+use Rattle.core_ways.specs.Ways.{Trip, way_of}
 
 -- a warning: a record of each of two entries
 pub record Pair : Type 0 where

@@ -24,7 +24,7 @@ path_to site (Seq first rest) =
 path_to site (Choice left right) =
     if has_site left site then true ∷ path_to site left else false ∷ path_to site right
 path_to site (Loop body) = path_to site body
-path_to site (Sync place body) = path_to site body
+path_to site (Sync lock body) = path_to site body
 
 -- none where the code has no such site
 abbrev pub path_where : SiteId → Tree → List Bool
@@ -51,7 +51,7 @@ followed locks path (Choice left right) =
           if is_left then Branched Left ∷ followed locks sides left else Branched Right ∷ followed locks sides right
     ]
 followed locks path (Loop body) = Branched Left ∷ followed locks path body
-followed locks path (Sync place body) = Step ∷ followed (suc locks) path body
+followed locks path (Sync lock body) = Step ∷ followed (suc locks) path body
 
 -- a path by its first side and those behind it
 abbrev pub sides_of : Option (Bool × Bor (List Bool)) → List Bool

@@ -1,7 +1,7 @@
 -- A contract of a public call rests on this: the way of a record, from the entry of its method to just before the
 -- access. These fixed ways are this project's own.
 use Rattle.std.specs.Prelude.{ℕ, suc, ◌+◌, Bool, List, [], ◌∷◌, ◌++◌, Option, None, Some, is_some}
-use Rattle.std.specs.Prelude.{is_none, replicate, slice_get}
+use Rattle.std.specs.Prelude.{is_none, replicate}
 use Rattle.std.specs.Option.{option_and_then}
 use Rattle.std.specs.Prelude.{if◌then◌else◌}
 use Rattle.racer_base.specs.declared.ids.MethodId.{MethodId}
@@ -13,8 +13,7 @@ use Rattle.core_code.specs.Tree.{Tree, Op, Skip, Seq, Choice, Loop, Sync, can_en
 use Rattle.core_code.specs.Core.{Core, Method}
 use Rattle.core_code.specs.Calls.{method_at, closed_by_rank}
 use Rattle.access_domain.specs.declared.access.Access.{Access}
-use Rattle.access_domain.specs.declared.summary.Outcome.{Outcome}
-use Rattle.access_domain.specs.Summaries.{accesses_of, outcome_of}
+use Rattle.access_domain.specs.OutcomeRecords.{record_at}
 use Rattle.core_semantics.specs.declared.answer.Turn.{Turn}
 use Rattle.core_semantics.specs.declared.answer.Turn.TheVariants.{Left, Right}
 use Rattle.core_ways.specs.declared.part.WayPart.{WayPart}
@@ -36,7 +35,7 @@ passed locks (Seq first rest) = passed locks first ++ (if can_end first then pas
 passed locks (Choice left right) =
     if can_end right then Branched Right ∷ passed locks right else Branched Left ∷ passed locks left
 passed locks (Loop body) = Branched Right ∷ []
-passed locks (Sync place body) =
+passed locks (Sync lock body) =
     Step ∷ passed (suc locks) body ++ (if can_end body then Step ∷ [] else [])
 
 -- Going towards a site: each choice and each loop round it is taken towards it, a loop once. What stands before it is
@@ -53,7 +52,7 @@ reached locks site (Seq first rest) =
 reached locks site (Choice left right) =
     if has_site left site then Branched Left ∷ reached locks site left else Branched Right ∷ reached locks site right
 reached locks site (Loop body) = Branched Left ∷ reached locks site body
-reached locks site (Sync place body) = Step ∷ reached (suc locks) site body
+reached locks site (Sync lock body) = Step ∷ reached (suc locks) site body
 
 -- The turns of a way, how many steps it has, and the places of the calls on it that are not read.
 pub record Trip : Type 0 where
@@ -97,14 +96,6 @@ trip_of core = closed_by_rank (straight 0) (trip_given core) core
 
 -- The way to a record of a method, by the record's index. Where its site is a call, the callee is entered towards the
 -- callee's record.
-
-abbrev pub records_held : Option Outcome → List Access
-records_held None = []
-records_held (Some outcome) = accesses_of outcome
-
--- the record of this index of a method; none where there are too many
-abbrev pub record_at : Core → MethodId → ℕ → Option Access
-record_at core m i = slice_get (records_held (outcome_of core m)) i
 
 abbrev pub entered_op : (MethodId → ℕ → List WayPart) → ℕ → CoreOp → List WayPart
 entered_op ways j (Call m n) = Step ∷ ways m j

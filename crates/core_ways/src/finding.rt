@@ -44,7 +44,7 @@ pub(crate) fn find(path: &mut Vec<bool>, site: SiteId, code: &Code) -> Result<Op
             Ok(found)
         }
         Code::Loop(body) => find(path, site, body),
-        Code::Sync(_, body) => find(path, site, body),
+        Code::Sync(_, _, body) => find(path, site, body),
     }
 }
 

@@ -102,7 +102,7 @@ pub fn pass(parts: &mut Vec<WayPart>, locks: u32, code: &Code) -> Result<bool, M
             pass(parts, locks, left)
         }
         Code::Loop(_) => put(parts, WayPart::Branched(Turn::Right)),
-        Code::Sync(_, body) => {
+        Code::Sync(_, _, body) => {
             let Ok(()) = parts.push(WayPart::Step) else {
                 return Err(Memory);
             };
@@ -179,7 +179,7 @@ pub(crate) fn follow(
             };
             follow(parts, locks, path, body)
         }
-        Code::Sync(_, body) => {
+        Code::Sync(_, _, body) => {
             let Ok(()) = parts.push(WayPart::Step) else {
                 return Err(Memory);
             };

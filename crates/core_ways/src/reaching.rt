@@ -9,10 +9,9 @@ ghost use Rattle.core_ways.specs.Paths.{op_there, reached_where};
 ghost use Rattle.core_ways.specs.Ways.{code_at, way_parts};
 
 use crate::finding::find;
-use crate::found::record_of;
 use crate::part::WayPart;
 use crate::passing::follow;
-use access_domain::Outcomes;
+use access_domain::{Outcomes, record_of};
 use core_code::{Code, Op, Program};
 use racer_base::{Memory, MethodId, SiteId};
 use std::alloc::Global;

@@ -60,9 +60,9 @@ module _ (core : Core) (f g : Calls) (test : MethodId → Bool) (same : (m : Met
       let r = go-same right (last_part (do_pass test (steps_of left)) (do_pass test (steps_of right)) both) in
       (λ i at. cond (can_end right) (r i at) (l i at))
   go-same (Loop body) all = refl
-  go-same (Sync place body) all =
+  go-same (Sync lock body) all =
       let inside = go-same body all in
-      (λ i at. on_ok (monitor_of (top_value at)) (inside i (point_popped at 1)))
+      (λ i at. on_ok (monitor_of lock.kind (top_value at)) (inside i (point_popped at 1)))
 
 abbrev lower : Core → MethodId → MethodId → Bool
 lower core m n = nat_lt (rank_of core n) (rank_of core m)

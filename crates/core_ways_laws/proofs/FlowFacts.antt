@@ -84,7 +84,7 @@ ends_with_state g (Choice left right) locked s =
     joined_ends (flow g left locked s).next (flow g right locked s).next
     ∙ (λ i. ends_with_state g left locked s i || ends_with_state g right locked s i)
 ends_with_state g (Loop body) locked s = refl
-ends_with_state g (Sync place body) locked s = ends_with_state g body true (popped s 1)
+ends_with_state g (Sync lock body) locked s = ends_with_state g body true (popped s 1)
 
 -- ---- results
 
@@ -123,7 +123,7 @@ has_result g (Choice left right) locked s h =
     joined_first (flow g left locked s).result (flow g right locked s).result
     (has_result g left locked s (or_false (can_end left) (can_end right) h).0)
 has_result g (Loop body) locked s h = cc
-has_result g (Sync place body) locked s h = has_result g body true (popped s 1) h
+has_result g (Sync lock body) locked s h = has_result g body true (popped s 1) h
 
 -- ---- large flows
 

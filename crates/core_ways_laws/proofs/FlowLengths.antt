@@ -307,8 +307,8 @@ flow_shape core method g (Loop body) locked ks ends s t right h p is =
     (rounds_shape method ks (flow g body locked)
     (λ a b q e. flow_shape core method g body locked ks ks a b right k.1 q e)
     (length s.vars + length s.stack + 1) s p))
-flow_shape core method g (Sync place body) locked ks ends s t right h p is =
-    let k : IsWithin core method body ks ends = held_kinds core method place body ks ends h in
+flow_shape core method g (Sync lock body) locked ks ends s t right h p is =
+    let k : IsWithin core method body ks ends = held_kinds core method lock body ks ends h in
     let high : length ks ≡ suc (length k.below) = ap length (sym k.is) in
     let made : length (drop 1 s.stack) ≡ length ks - 1 =
     length-drop 1 s.stack ∙ ap (λ (i : ℕ). i - 1) p.stack in

@@ -5,9 +5,8 @@ use borrow.Author.Tests.{eqb-true}
 use Rattle.racer_base.specs.declared.ids.ClassId.{ClassId}
 use Rattle.racer_base.specs.declared.ids.Kind.{Kind}
 use Rattle.racer_base.specs.declared.ids.Kind.TheVariants as types
-use Rattle.racer_base.specs.declared.ids.Place.{Place}
 use Rattle.core_code.specs.declared.parts.FieldCore.{FieldCore}
-use Rattle.core_code.specs.Tree.{Tree, Seq, Choice, Loop, Sync}
+use Rattle.core_code.specs.Tree.{LockAt, Tree, Seq, Choice, Loop, Sync}
 use Rattle.core_code.specs.Core.{Core, Method}
 use Rattle.core_code.specs.Kinds.{StackKind, Plain, Declared, Class, Null, Opaque, Other, kind_of, same_kind}
 use Rattle.core_code.specs.Kinds.{joined_kind, joined_stack, fits_class, fits}
@@ -188,7 +187,7 @@ module _ (core : Core) (method : Method) where
       let t = tested (same_stack ks on.0) ks ends on.2 in
       (sym t.1, on.1 ∙ ap Some (sym (equal_stacks ks on.0 t.0)))
 
-  pub held_kinds : (place : Place) (body : Tree) (ks ends : List StackKind) →
-      kinds_after core method (Sync place body) ks ≡ Some ends → IsWithin core method body ks ends
-  held_kinds place body [] ends h = cc
-  held_kinds place body (k ∷ below) ends h = record { lock = k; below = below; is = refl; inside = h }
+  pub held_kinds : (lock : LockAt) (body : Tree) (ks ends : List StackKind) →
+      kinds_after core method (Sync lock body) ks ≡ Some ends → IsWithin core method body ks ends
+  held_kinds lock body [] ends h = cc
+  held_kinds lock body (k ∷ below) ends h = record { lock = k; below = below; is = refl; inside = h }

@@ -7,10 +7,10 @@ use Rattle.core_code.specs.Core.{Core, Method}
 use Rattle.core_code.specs.Program.{core}
 use Rattle.access_domain.specs.declared.access.Access.{Access}
 use Rattle.access_domain.specs.Summaries.{known_of}
+use Rattle.access_domain.specs.OutcomeRecords.{record_at}
 use Rattle.core_semantics.specs.Runs.{given_to}
 use Rattle.core_semantics.specs.State.{Store}
 use Rattle.core_ways.specs.Stable.{IsStable}
-use Rattle.core_ways.specs.Ways.{record_at}
 use Rattle.core_ways_laws.specs.Arrivals.{Arrival, top_of}
 use Rattle.core_ways_laws.specs.Kept.{AreMet, IsEntered, IsMet}
 use Rattle.core_ways_laws.specs.Meets.{DoesMeet, base_path, base_value}

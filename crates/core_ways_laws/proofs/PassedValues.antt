@@ -317,8 +317,8 @@ go-ends core calls (tree.Choice left right) at =
     either-ends (can_end left) (can_end right) (evaluate core calls left at) (evaluate core calls right at)
     (go-ends core calls left at) (go-ends core calls right at)
 go-ends core calls (tree.Loop body) at = refl
-go-ends core calls (tree.Sync place body) at =
-    ok-ends (can_end body) (monitor_of (top_value at)) (evaluate core calls body (point_popped at 1))
+go-ends core calls (tree.Sync lock body) at =
+    ok-ends (can_end body) (monitor_of lock.kind (top_value at)) (evaluate core calls body (point_popped at 1))
     (go-ends core calls body (point_popped at 1))
 
 -- ---- turns and locks
@@ -451,8 +451,8 @@ module _ (core : Core) (trips : MethodId → Trip) (calls : Calls) (test : Metho
       λ locked at todo callers locks.
       goes-either left right locked at todo callers locks (can_end right) on_left on_right
   goes-past (tree.Loop body) all = λ locked at todo callers locks rest. (refl, refl)
-  goes-past (tree.Sync place body) all = λ locked at todo callers locks.
+  goes-past (tree.Sync lock body) all = λ locked at todo callers locks.
       let trip = trip_along trips (passed (suc locked) body ++ cond (can_end body) (Step ∷ []) []) in
-      one-more core trip.turns trip.steps (1 + trip.steps) (at_point at (Sync place body ∷ todo) locked callers locks)
-      (IsEnd (evaluate core calls (tree.Sync place body) at) todo locked callers locks) (omega arith)
-      (goes-lock body locked at todo callers locks (monitor_of (top_value at)) (goes-past body all))
+      one-more core trip.turns trip.steps (1 + trip.steps) (at_point at (Sync lock body ∷ todo) locked callers locks)
+      (IsEnd (evaluate core calls (tree.Sync lock body) at) todo locked callers locks) (omega arith)
+      (goes-lock body locked at todo callers locks (monitor_of lock.kind (top_value at)) (goes-past body all))

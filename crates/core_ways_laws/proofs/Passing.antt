@@ -212,8 +212,8 @@ module _ (core : Core) (quiet : Quietness core) (n : Naming) (method : Method) (
             (looped-frame body locked kinds ends s at right fits
             (hush-first core quiet n last.1 (effects body locked last.0).wobbly hush) frame);
       }
-  kept (Sync place body) right safe locked [] ends s at fits hush small frame stored = absurd cc
-  kept (Sync place body) right safe locked (kind ∷ kinds) ends s at fits hush small frame stored =
+  kept (Sync lock body) right safe locked [] ends s at fits hush small frame stored = absurd cc
+  kept (Sync lock body) right safe locked (kind ∷ kinds) ends s at fits hush small frame stored =
       ok-kept core quiet n method ends (effects body true (popped s 1)) _ (evaluate core calls body (point_popped at 1))
       (kept body right safe true kinds ends (popped s 1) (point_popped at 1) fits hush small
       (popped-frame kind kinds s at frame) stored)

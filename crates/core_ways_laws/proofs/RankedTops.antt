@@ -17,9 +17,9 @@ use Rattle.access_domain.specs.Findings.{Findings, Known, Large, Whole, Table, o
 use Rattle.access_domain.specs.Operations.{Effects}
 use Rattle.access_domain.specs.Records.{same_key}
 use Rattle.access_domain.specs.Summaries.{effects_given, known_of, known_of_callees, start_of}
+use Rattle.access_domain.specs.OutcomeRecords.{record_at, records_held}
 use Rattle.core_semantics.specs.declared.object.Value.{Value}
 use Rattle.core_semantics.specs.State.{Store}
-use Rattle.core_ways.specs.Ways.{record_at, records_held}
 use Rattle.core_ways_laws.specs.Arrivals.{Arrival, Arrivals, to, to_record, top_given, top_of}
 use Rattle.core_ways_laws.specs.Values.{call_of, entry_point}
 use Rattle.core_ways_laws.specs.Kept.{AreMet, IsEntered, IsMet}

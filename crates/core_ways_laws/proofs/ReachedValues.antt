@@ -211,13 +211,13 @@ module _ (core : Core) (trips : MethodId → Trip) (calls : Calls) (tops : Arriv
       (at_point at (before body (Loop body ∷ todo)) locked callers locks)
       (IsTop (to core calls tops site below body at) locks) (λ rest. refl)
       (goes-to body all is ends locked at (Loop body ∷ todo) callers locks)
-  goes-to (tree.Sync place body) all is ends = λ locked at todo callers locks.
+  goes-to (tree.Sync lock body) all is ends = λ locked at todo callers locks.
       let trip = trip_along trips (reached (suc locked) site body ++ entered ways below o.op) in
       one-more core trip.turns trip.steps (1 + trip.steps)
-      (at_point at (Sync place body ∷ todo) locked callers locks)
-      (IsTop (to core calls tops site below (tree.Sync place body) at) locks) (omega arith)
+      (at_point at (Sync lock body ∷ todo) locked callers locks)
+      (IsTop (to core calls tops site below (tree.Sync lock body) at) locks) (omega arith)
       (to-lock core trips calls tops ways site below o.op body locked at todo callers locks
-      (monitor_of (top_value at)) (goes-to body all is ends))
+      (monitor_of lock.kind (top_value at)) (goes-to body all is ends))
 
 -- ---- what comes next has what the operation at the site leads to
 
@@ -276,8 +276,8 @@ module _ (core : Core) (calls : Calls) (tops : Arrivals) (site : SiteId) (below 
       (λ has. to-has left (op-first left right site o has is) at)
       (λ has. to-has right (op-second left right site o has is) at)
   to-has (tree.Loop body) is at = to-has body is at
-  to-has (tree.Sync place body) is at =
-      ok-has (P (suc (locks_round site body))) (monitor_of (top_value at))
+  to-has (tree.Sync lock body) is at =
+      ok-has (P (suc (locks_round site body))) (monitor_of lock.kind (top_value at))
       (option_map one_lock_more (to core calls tops site below body (point_popped at 1)))
       (lock-has (locks_round site body) (to core calls tops site below body (point_popped at 1))
       (to-has body is (point_popped at 1)))

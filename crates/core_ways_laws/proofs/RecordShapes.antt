@@ -29,6 +29,7 @@ use Rattle.access_domain.specs.Substitution.{Actuals, actuals_from, root_value, 
 use Rattle.access_domain.specs.Substitution.{substituted_record, touched}
 use Rattle.access_domain.specs.Summaries.{effects_given, findings_from, is_large, known_at, known_from, known_given}
 use Rattle.access_domain.specs.Summaries.{known_of, start_of}
+use Rattle.access_domain.specs.OutcomeRecords.{record_at, records_held}
 use Rattle.core_code.specs.declared.code.Op.{Op as CoreOp}
 use Rattle.core_code.specs.declared.code.Op.TheVariants.{Push, PushClass, PushPrim, PushNull, New, Dup, Drop, Get, Put}
 use Rattle.core_code.specs.declared.code.Op.TheVariants.{Set, Prim, Outside, Call, Unread, Ret}
@@ -36,7 +37,6 @@ use Rattle.core_code.specs.Calls.{known_below, method_at, rank_of}
 use Rattle.core_code.specs.Core.{Core, Method}
 use Rattle.core_code.specs.Tree.{Tree, Op, Skip, Seq, Choice, Loop, Sync}
 use Rattle.core_code.proofs.Membership.{In, in_append, in_flat_map}
-use Rattle.core_ways.specs.Ways.{record_at, records_held}
 use Rattle.core_ways_laws.specs.Longer.{longer}
 use Rattle.core_ways_laws.specs.Shapes.{HasOneBehindSome}
 use Rattle.core_ways_laws.proofs.KnownValues.{AreKnownActuals, IsKnown, IsKnownState, known-actuals, known-along}
@@ -345,7 +345,7 @@ module _ (g : FlowContext) where
       let inner = flow-good good body locked (rounds (flow g body locked) (length s.vars + length s.stack + 1) s).0
       last in
       record { next = last; records = inner.records; result = inner.result }
-  flow-good good (Sync place body) locked s known = flow-good good body true (popped s 1) (known-popped s 1 known)
+  flow-good good (Sync lock body) locked s known = flow-good good body true (popped s 1) (known-popped s 1 known)
 
 -- ---- methods, by rank
 

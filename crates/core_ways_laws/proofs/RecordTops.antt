@@ -29,6 +29,7 @@ use Rattle.access_domain.specs.Findings.{Findings, Known, Large, Table, Whole, o
 use Rattle.access_domain.specs.Given.{FlowContext, given_of}
 use Rattle.access_domain.specs.Origins.{touch_of}
 use Rattle.access_domain.specs.Summaries.{known_given, known_of, known_of_callees}
+use Rattle.access_domain.specs.OutcomeRecords.{record_at, records_held}
 use Rattle.core_semantics.specs.declared.answer.Holder.{Holder}
 use Rattle.core_semantics.specs.declared.answer.Turn.{Turn}
 use Rattle.core_semantics.specs.declared.answer.Why.{Why}
@@ -43,7 +44,7 @@ use Rattle.core_semantics.specs.Steps.{on_object, passed_from}
 use Rattle.core_ways.specs.declared.part.WayPart.{WayPart}
 use Rattle.core_ways.specs.declared.part.WayPart.TheVariants.{Step}
 use Rattle.core_ways.specs.Alone.{Alone, ComesTo, alone, do_end_before, locks_round, onward}
-use Rattle.core_ways.specs.Ways.{code_at, entered, has_site, reached, record_at, records_held}
+use Rattle.core_ways.specs.Ways.{code_at, entered, has_site, reached}
 use Rattle.core_ways.specs.Ways.{towards_record, trip_along, trip_of, way_given, way_of, way_parts}
 use Rattle.core_ways.proofs.Alone.{Leads, one-more}
 use Rattle.core_ways.proofs.AloneMethods.{AreRight, calls-pass, code-there, may_call}
@@ -150,9 +151,9 @@ module _ (core : Core) (calls : Calls) (f g : Arrivals) (site : SiteId) (below :
       let r = to-same right (last_part (do_pass test (steps_of left)) (do_pass test (steps_of right)) both) in
       (λ i at. cond (has_site left site) (l i at) (r i at))
   to-same (tree.Loop body) all = to-same body all
-  to-same (tree.Sync place body) all =
+  to-same (tree.Sync lock body) all =
       let inside = to-same body all in
-      (λ i at. on_ok (monitor_of (top_value at)) (option_map one_lock_more (inside i (point_popped at 1))))
+      (λ i at. on_ok (monitor_of lock.kind (top_value at)) (option_map one_lock_more (inside i (point_popped at 1))))
 
 abbrev inner_tops : Core → MethodId → Arrivals
 inner_tops core m = known_below (λ i values store. None) (top_given core) core (rank_of core m)

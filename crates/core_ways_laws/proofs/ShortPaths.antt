@@ -28,6 +28,7 @@ use Rattle.access_domain.specs.Substitution.{Actuals, actuals_from, root_value, 
 use Rattle.access_domain.specs.Substitution.{substituted_record, touched}
 use Rattle.access_domain.specs.Summaries.{effects_given, findings_from, is_large, known_at, known_from, known_given}
 use Rattle.access_domain.specs.Summaries.{known_of, start_of}
+use Rattle.access_domain.specs.OutcomeRecords.{record_at, records_held}
 use Rattle.core_code.specs.declared.code.Op.{Op as CoreOp}
 use Rattle.core_code.specs.declared.code.Op.TheVariants.{Push, PushClass, PushPrim, PushNull, New, Dup, Drop, Get, Put}
 use Rattle.core_code.specs.declared.code.Op.TheVariants.{Set, Prim, Outside, Call, Unread, Ret}
@@ -35,7 +36,6 @@ use Rattle.core_code.specs.Calls.{known_below, method_at, rank_of}
 use Rattle.core_code.specs.Core.{Core, Method}
 use Rattle.core_code.specs.Tree.{Tree, Op, Skip, Seq, Choice, Loop, Sync}
 use Rattle.core_code.proofs.Membership.{In, in_append, in_flat_map}
-use Rattle.core_ways.specs.Ways.{record_at, records_held}
 use Rattle.core_ways_laws.specs.Longer.{longer}
 use Rattle.core_ways_laws.proofs.Members.{firsts_give}
 use Rattle.core_ways_laws.proofs.RankedTops.{in_at}
@@ -212,7 +212,7 @@ flow-short g known (Choice left right) locked s a h =
     (in_append (flow g left locked s).records (flow g right locked s).records a h)
 flow-short g known (Loop body) locked s a h =
     flow-short g known body locked (rounds (flow g body locked) (length s.vars + length s.stack + 1) s).0 a h
-flow-short g known (Sync place body) locked s a h = flow-short g known body true (popped s 1) a h
+flow-short g known (Sync lock body) locked s a h = flow-short g known body true (popped s 1) a h
 
 -- ---- methods, by rank
 

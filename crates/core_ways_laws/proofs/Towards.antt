@@ -206,9 +206,9 @@ module _ (core : Core) (quiet : Quietness core) (n : Naming) (method : Method) (
       (hush-second core quiet n last.1 (effects body locked last.0).wobbly hush) small
       (looped-frame core quiet n method table main calls body locked kinds ends s at right fits
       (hush-first core quiet n last.1 (effects body locked last.0).wobbly hush) frame) stored has
-  towards-met (Sync place body) right safe meets k counts locked [] ends s at r fits hush small frame stored has =
+  towards-met (Sync lock body) right safe meets k counts locked [] ends s at r fits hush small frame stored has =
       absurd cc
-  towards-met (Sync place body) right safe meets k counts locked (kind ∷ kinds) ends s at r fits hush small frame stored
+  towards-met (Sync lock body) right safe meets k counts locked (kind ∷ kinds) ends s at r fits hush small frame stored
       has =
       ok-met core quiet n method r _ (option_map one_lock_more (to core calls tops r.site r.below body (point_popped
       at 1)))

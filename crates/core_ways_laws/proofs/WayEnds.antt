@@ -8,13 +8,14 @@ use Rattle.core_code.specs.Calls.{method_at, rank_of}
 use Rattle.core_code.specs.Core.{Core, Method}
 use Rattle.core_code.specs.Program.{core as core_of}
 use Rattle.access_domain.specs.declared.access.Access.{Access}
+use Rattle.access_domain.specs.OutcomeRecords.{record_at}
 use Rattle.core_semantics.specs.declared.answer.Turn.{Turn}
 use Rattle.core_semantics.specs.declared.object.Value.{Value}
 use Rattle.core_semantics.specs.Legs.{Ran, runs}
 use Rattle.core_semantics.specs.State.{Frame, State, Thread, Op, before, other_of, thread_of, with_thread}
 use Rattle.core_semantics.specs.Steps.{After, entered}
 use Rattle.core_ways.specs.Alone.{Alone, Came, Stuck, Broken, ComesTo, IsSeen, alone, part_of}
-use Rattle.core_ways.specs.Ways.{record_at, way_of}
+use Rattle.core_ways.specs.Ways.{way_of}
 use Rattle.core_ways.proofs.Beside.{beside}
 use Rattle.core_ways_laws.specs.Ends.{EndsAtAccess, IsAtAccess}
 use Rattle.core_ways_laws.specs.RunValues.{IsAtTop, IsOfRecord, IsTop, at_point}

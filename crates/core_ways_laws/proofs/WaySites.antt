@@ -23,7 +23,7 @@ use Rattle.core_code.specs.declared.code.Op.TheVariants.{Set, Prim, Outside, Cal
 use Rattle.core_code.specs.Calls.{method_at, rank_of}
 use Rattle.core_code.specs.Core.{Core, Method}
 use Rattle.core_code.specs.Facts.{counts_from, sites_of}
-use Rattle.core_code.specs.Tree.{Tree, Op, Skip, Seq, Choice, Loop, Sync, Operation, can_end, op_at, steps_of}
+use Rattle.core_code.specs.Tree.{LockAt, Tree, Op, Skip, Seq, Choice, Loop, Sync, Operation, can_end, op_at, steps_of}
 use Rattle.core_code.proofs.BoolParts.{both}
 use Rattle.core_code.proofs.ByRank.{known_below-some}
 use Rattle.core_code.proofs.Membership.{In, in_append, in_enumerate_from, in_flat_map}
@@ -82,7 +82,7 @@ goes-on-ends g (Choice left right) locked s t e =
       | Some u ↦ λ is k. or-left (can_end left) (can_end right) (goes-on-ends g left locked s u is)
     ] refl e
 goes-on-ends g (Loop body) locked s t e = refl
-goes-on-ends g (Sync place body) locked s t e = goes-on-ends g body true (popped s 1) t e
+goes-on-ends g (Sync lock body) locked s t e = goes-on-ends g body true (popped s 1) t e
 
 -- ---- the records of an operation
 
@@ -341,10 +341,10 @@ module _ (g : FlowContext) where
       (ap (λ (b : Bool).
       locked || nat_lt 0 (cond b (locks_round a.site left) (locks_round a.site right))) (sym lacks))
 
-  by-lock : (place : Place) (body : Tree) (locked : Bool) (a : Access) → IsRecordOf g body true a →
-      IsRecordOf g (Sync place body) locked a
-  by-lock place body locked a c =
-      lifted g body (Sync place body) true locked a c c.at c.ends
+  by-lock : (lock : LockAt) (body : Tree) (locked : Bool) (a : Access) → IsRecordOf g body true a →
+      IsRecordOf g (Sync lock body) locked a
+  by-lock lock body locked a c =
+      lifted g body (Sync lock body) true locked a c c.at c.ends
       (sym (or-right locked (nat_lt 0 (suc (locks_round a.site body)))
       (lt-ltb 0 (suc (locks_round a.site body)) (omega arith))))
 
@@ -374,8 +374,8 @@ module _ (g : FlowContext) where
       let c : IsRecordOf g body locked a =
       comes-in n body locked (rounds (flow g body locked) (length s.vars + length s.stack + 1) s).0 a counts h in
       lifted g body (Loop body) locked locked a c c.at c.ends refl
-  comes-in n (Sync place body) locked s a counts h =
-      by-lock place body locked a (comes-in n body true (popped s 1) a counts h)
+  comes-in n (Sync lock body) locked s a counts h =
+      by-lock lock body locked a (comes-in n body true (popped s 1) a counts h)
 
 -- ---- methods
 

@@ -4,6 +4,7 @@ use Rattle.std.specs.Prelude.{ℕ, suc, List, Option, None, Some, option_map, if
 use Rattle.racer_base.specs.declared.ids.MethodId.{MethodId}
 use Rattle.racer_base.specs.declared.ids.SiteId.{SiteId}
 use Rattle.access_domain.specs.declared.access.Access.{Access}
+use Rattle.access_domain.specs.OutcomeRecords.{record_at}
 use Rattle.core_code.specs.declared.code.Op.{Op as CoreOp}
 use Rattle.core_code.specs.declared.code.Op.TheVariants.{Call}
 use Rattle.core_code.specs.Calls.{method_at, closed_by_rank}
@@ -12,7 +13,7 @@ use Rattle.core_code.specs.Tree.{Tree, Op, Skip, Seq, Choice, Loop, Sync}
 use Rattle.core_semantics.specs.declared.object.Value.{Value}
 use Rattle.core_semantics.specs.State.{Store}
 use Rattle.core_semantics.specs.Steps.{monitor_of}
-use Rattle.core_ways.specs.Ways.{has_site, record_at}
+use Rattle.core_ways.specs.Ways.{has_site}
 use Rattle.core_ways_laws.specs.Values.{Point, End, Behind, Back, Calls, evaluate, received, values_passed, entry_point}
 use Rattle.core_ways_laws.specs.Values.{call_of}
 use Rattle.core_ways_laws.specs.Values.{on_ok, point_popped, top_value}
@@ -62,8 +63,8 @@ to core calls tops site below (Choice left right) at =
     then to core calls tops site below left at
     else to core calls tops site below right at
 to core calls tops site below (Loop body) at = to core calls tops site below body at
-to core calls tops site below (Sync place body) at =
-    on_ok (monitor_of (top_value at))
+to core calls tops site below (Sync lock body) at =
+    on_ok (monitor_of lock.kind (top_value at))
     (option_map one_lock_more (to core calls tops site below body (point_popped at 1)))
 
 abbrev pub to_record : Core → Arrivals → Option Access → Method → List Value → Store → Option Arrival

@@ -11,13 +11,14 @@ use Rattle.core_code.specs.Tree.{Tree}
 use Rattle.access_paths.specs.Paths.{last_of}
 use Rattle.access_domain.specs.declared.access.Access.{Access}
 use Rattle.access_domain.specs.Origins.{touch_of}
+use Rattle.access_domain.specs.OutcomeRecords.{record_at}
 use Rattle.core_semantics.specs.declared.answer.Holder.{Holder}
 use Rattle.core_semantics.specs.declared.object.Value.{Value}
 use Rattle.core_semantics.specs.State.{Frame, Store, Todo, Op, before}
 use Rattle.core_semantics.specs.Steps.{After, ended_with}
 use Rattle.core_ways.specs.declared.part.WayPart.{WayPart}
 use Rattle.core_ways.specs.Alone.{LeadsTo, here}
-use Rattle.core_ways.specs.Ways.{Trip, entered, passed, reached, record_at, trip_along, way_of}
+use Rattle.core_ways.specs.Ways.{Trip, entered, passed, reached, trip_along, way_of}
 use Rattle.core_ways_laws.specs.Values.{Behind, Back, Calls, End, Point, entry_point, evaluate}
 use Rattle.core_ways_laws.specs.Sites.{field_of}
 use Rattle.core_ways_laws.specs.Arrivals.{Arrival, top_of}

@@ -97,8 +97,8 @@ evaluate core calls (Seq first rest) at = go_on (evaluate core calls first at) (
 evaluate core calls (Choice left right) at =
     if can_end right then evaluate core calls right at else evaluate core calls left at
 evaluate core calls (Loop body) at = Some (Behind at)
-evaluate core calls (Sync place body) at =
-    on_ok (monitor_of (top_value at)) (evaluate core calls body (point_popped at 1))
+evaluate core calls (Sync lock body) at =
+    on_ok (monitor_of lock.kind (top_value at)) (evaluate core calls body (point_popped at 1))
 
 -- a method at its entry with these values: its locals are null
 abbrev pub entry_point : Method → List Value → Store → Point

@@ -122,7 +122,7 @@ module _ (core : Core) (roots : Roots) where
   todo-cells frame method (Op place op ∷ rest) ks held h = op-cells frame method place op rest ks held h
   todo-cells frame method (Choice left right ∷ rest) ks held h = λ q x kind e. absurd cc
   todo-cells frame method (Loop body ∷ rest) ks held h = λ q x kind e. absurd cc
-  todo-cells frame method (Sync place body ∷ rest) ks held h = λ q x kind e. absurd cc
+  todo-cells frame method (Sync lock body ∷ rest) ks held h = λ q x kind e. absurd cc
   todo-cells frame method (Unlock ∷ rest) ks held h = λ q x kind e. absurd cc
 
   frames-cells : (frames : List Frame) → AreFrames core (object_kinds core roots) frames →

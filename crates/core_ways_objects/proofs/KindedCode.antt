@@ -35,7 +35,7 @@ module _ {core : Core} (k : Kinding core) (method : Method) where
   before-does (tree.Choice left right) todo a b h on =
       record { from = a; weaker = same-known a; after = b; does = h; on = on }
   before-does (tree.Loop body) todo a b h on = record { from = a; weaker = same-known a; after = b; does = h; on = on }
-  before-does (tree.Sync place body) todo a b h on =
+  before-does (tree.Sync lock body) todo a b h on =
       record { from = a; weaker = same-known a; after = b; does = h; on = on }
 
   -- ---- a choice, a loop and a lock, each with what comes behind

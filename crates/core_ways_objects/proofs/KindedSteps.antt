@@ -218,11 +218,11 @@ module _ {core : Core} {k : Kinding core} (keeps : Keeps core k) where
       (record { stored = at.stored; so = h.weaker.so s.frame.vars s.frame.stack at.so; waiting = at.waiting })
       (once-more k method body rest h.from h.after h.does h.on)
       (loop-left k method body rest h.from h.after h.does h.on)
-  todo-kept turn others method known s (Sync place body ∷ rest) at whole h =
+  todo-kept turn others method known s (Sync lock body ∷ rest) at whole h =
       let locked : IsLocked core k method h.does.under s.frame.vars s.frame.stack =
       keeps.lock method h.from h.does.under s.frame.vars s.frame.stack h.does.pops
       (h.weaker.so s.frame.vars s.frame.stack at.so) in
-      lock-kept others (with_todo s rest) body (monitor_of (top s.frame)) locked.monitor
+      lock-kept others (with_todo s rest) body (monitor_of lock.kind (top s.frame)) (locked.monitor lock.kind)
       (λ monitor. held-kept method h.does.under h.after s body rest monitor h.does.body locked at.stored at.waiting
       h.on)
   todo-kept turn others method known s (Unlock ∷ rest) at whole h =

@@ -157,6 +157,6 @@ module _ (core : Core) (roots : Roots) where
         back = itself method ks;
         out = subst (λ (a : List StackKind). Weaker method ks a) t.same (itself method ks);
       }
-  leads method (Sync place body) [] ends h right = absurd cc
-  leads method (Sync place body) (k ∷ ks) ends h right =
+  leads method (Sync lock body) [] ends h right = absurd cc
+  leads method (Sync lock body) (k ∷ ks) ends h right =
       record { under = ks; pops = record { lock = k; is = refl }; body = leads method body ks ends h right }

@@ -173,7 +173,7 @@ module _ (core : Core) (roots : Roots) where
       AreHeld core roots method ks vars stack → IsLocked core (object_kinds core roots) method under vars stack
   lock-popped method ks under vars stack u held =
       record {
-        monitor = has-monitor (monitor_of (slice_index_or stack 0 Null));
+        monitor = λ kind. has-monitor (monitor_of kind (slice_index_or stack 0 Null));
         so =
             record {
               vars = held.vars;

@@ -120,7 +120,7 @@ module _ (core : Core) (roots : Roots) where
       op-right s frame method place op rest ks stored held h
   todo-right s frame method (Choice left right ∷ rest) ks stored held h = tt
   todo-right s frame method (Loop body ∷ rest) ks stored held h = tt
-  todo-right s frame method (Sync place body ∷ rest) ks stored held h = tt
+  todo-right s frame method (Sync lock body ∷ rest) ks stored held h = tt
   todo-right s frame method (Unlock ∷ rest) ks stored held h = tt
 
   frames-right : (s : State) (frames : List Frame) → AreStored core roots s.store →

@@ -4,6 +4,7 @@
 use Rattle.std.specs.Prelude.{◌≡◌, ℕ, Bool, true, false, List, [], ◌∷◌, Some}
 use Rattle.std.specs.Prelude.{drop, reverse, slice_index_or, take, Result, Ok, Err}
 use Rattle.racer_base.specs.declared.ids.MethodId.{MethodId}
+use Rattle.core_code.specs.declared.code.LockKind.{LockKind}
 use Rattle.core_code.specs.declared.code.Op.{Op as CoreOp}
 use Rattle.core_code.specs.declared.code.Op.TheVariants.{Call, Ret}
 use Rattle.core_code.specs.Calls.{method_at}
@@ -77,7 +78,7 @@ Leads core k method (tree.Seq first rest) a b = InTurn (Leads core k method firs
 Leads core k method (tree.Choice left right) a b =
     OneOf core k method (Leads core k method left) (Leads core k method right) a b
 Leads core k method (tree.Loop body) a b = Looping core k method (Leads core k method body) a b
-Leads core k method (tree.Sync place body) a b = Locking core k method (Leads core k method body) a b
+Leads core k method (tree.Sync lock body) a b = Locking core k method (Leads core k method body) a b
 
 -- the code of a method
 pub record IsCode (core : Core) (k : Kinding core) (method : Method) : Type 0 where
@@ -90,7 +91,7 @@ abbrev pub Does : (core : Core) → (k : Kinding core) → Method → Todo → k
 Does core k method (Op place op) a b = k.IsAfter method op a b
 Does core k method (Choice left right) a b = Leads core k method (tree.Choice left right) a b
 Does core k method (Loop body) a b = Leads core k method (tree.Loop body) a b
-Does core k method (Sync place body) a b = Leads core k method (tree.Sync place body) a b
+Does core k method (Sync lock body) a b = Leads core k method (tree.Sync lock body) a b
 Does core k method Unlock a b = a ≡ b
 
 -- A step fits what is known, or less of it, and what comes behind it fits what is known then. Less is known before a
@@ -198,7 +199,7 @@ pub record IsCalled (core : Core) (k : Kinding core) (method : Method) (m : Meth
 -- a lock that is popped
 pub record IsLocked (core : Core) (k : Kinding core) (method : Method) (under : k.Known) (vars stack : List Value)
     : Type 0 where
-  pub monitor : HasMonitor core k (monitor_of (slice_index_or stack 0 Null))
+  pub monitor : (kind : LockKind) → HasMonitor core k (monitor_of kind (slice_index_or stack 0 Null))
   pub so : k.IsSo method under vars (drop 1 stack)
 
 pub record Keeps (core : Core) (k : Kinding core) : Type 0 where

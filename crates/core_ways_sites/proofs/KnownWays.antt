@@ -10,13 +10,14 @@ use Rattle.core_code.specs.CallFacts.{has_ranks}
 use Rattle.core_code.specs.Core.{Core}
 use Rattle.core_code.specs.Tree.{Tree}
 use Rattle.access_domain.specs.declared.access.Access.{Access}
+use Rattle.access_domain.specs.OutcomeRecords.{record_at}
 use Rattle.core_semantics.specs.declared.answer.Turn.{Turn}
 use Rattle.core_ways.specs.declared.count.Count.{Count}
 use Rattle.core_ways.specs.declared.part.WayPart.{WayPart}
 use Rattle.core_ways.specs.declared.part.WayPart.TheVariants.{Step}
 use Rattle.core_ways.specs.Going.{GoesOn, IsEntered}
 use Rattle.core_ways.specs.Paths.{reached_where}
-use Rattle.core_ways.specs.Ways.{Trip, joined, reached, record_at, straight, trip_along, trip_of, way_of, way_parts}
+use Rattle.core_ways.specs.Ways.{Trip, joined, reached, straight, trip_along, trip_of, way_of, way_parts}
 use Rattle.core_ways.proofs.Alone.{along-both}
 use Rattle.core_ways.proofs.Going.{goes-through}
 use Rattle.core_ways.proofs.SitePaths.{has-found}

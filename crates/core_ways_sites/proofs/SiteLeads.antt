@@ -11,7 +11,7 @@ use Rattle.racer_base.specs.declared.ids.Place.{Place}
 use Rattle.racer_base.specs.declared.ids.SiteId.{SiteId}
 use Rattle.core_code.specs.declared.code.Op.{Op as CoreOp}
 use Rattle.core_code.specs.Core.{Core}
-use Rattle.core_code.specs.Tree.{Tree, Op, Skip, Seq, Choice, Loop, Sync, Operation}
+use Rattle.core_code.specs.Tree.{LockAt, Tree, Op, Skip, Seq, Choice, Loop, Sync, Operation}
 use Rattle.core_semantics.specs.declared.answer.Turn.{Turn}
 use Rattle.core_semantics.specs.declared.answer.Turn.TheVariants.{Left, Right}
 use Rattle.core_ways.specs.declared.count.Count.{Count}
@@ -154,10 +154,10 @@ module _ (core : Core) (whole : Tree) where
         there = one.there;
       }
 
-  pub led-held : (locks within : ℕ) (place : Place) (body : Tree) (wanted : BTreeSet ℕ) (count now : Count)
-      (turns : List Turn) → within ≡ suc locks → AreLed core whole locks (Sync place body) wanted count turns →
+  pub led-held : (locks within : ℕ) (lock : LockAt) (body : Tree) (wanted : BTreeSet ℕ) (count now : Count)
+      (turns : List Turn) → within ≡ suc locks → AreLed core whole locks (Sync lock body) wanted count turns →
       Onward count turns now turns (straight 1) → AreLed core whole within body wanted now turns
-  led-held locks within place body wanted count now turns deeper led onward = λ s still has.
+  led-held locks within lock body wanted count now turns deeper led onward = λ s still has.
       let one = led s still has in
       record {
         way =

@@ -170,7 +170,7 @@ pub(crate) fn visit(
             };
             visit(alloc, program, table, sites, turns, locks, there, body)
         }
-        Code::Sync(_, body) => {
+        Code::Sync(_, _, body) => {
             let Ok(within) = deeper(locks) else {
                 return Err(Memory);
             };

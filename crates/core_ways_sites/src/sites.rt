@@ -5,9 +5,9 @@ ghost use Rattle.core_ways.specs.Passings.{IsTable};
 ghost use Rattle.core_ways_sites.specs.Sites.{IsFound};
 
 use crate::noting::{Reached, Sites, visit};
-use access_domain::Outcomes;
+use access_domain::{Outcomes, record_of};
 use core_code::Program;
-use core_ways::{Count, Passings, code_of, record_of};
+use core_ways::{Count, Passings, code_of};
 use racer_base::{MAX_SUMMARY_KEYS, Memory, MethodId};
 use std::alloc::Global;
 use std::collections::{BTreeMap, BTreeSet};

@@ -3,13 +3,14 @@ ghost use Rattle.std.specs.Prelude.{◌≡◌, ℕ, ◌≤◌, List, Some as Som
 ghost use Rattle.std.specs.Option.{IfSome, option_copied};
 ghost use Rattle.access_domain.specs.declared.access.Access.{Access};
 ghost use Rattle.access_domain.specs.Outcomes.{AreOutcomes};
+ghost use Rattle.access_domain.specs.OutcomeRecords.{record_at};
 ghost use Rattle.core_code.specs.CallFacts.{has_ranks};
 ghost use Rattle.core_code.specs.Core.{Core};
 ghost use Rattle.core_code.specs.Program.{core};
 ghost use Rattle.core_ways.specs.Answers.{IsWay};
 ghost use Rattle.core_ways.specs.WayPairs.{IsWayPair};
 ghost use Rattle.core_ways.specs.Going.{IsEntered};
-ghost use Rattle.core_ways.specs.Ways.{Trip, joined, record_at, way_of};
+ghost use Rattle.core_ways.specs.Ways.{Trip, joined, way_of};
 ghost use Rattle.core_ways.specs.declared.part.WayPart.{WayPart};
 ghost use Rattle.core_ways_sites.specs.Gone.{IsGone, LeadsOn};
 ghost use Rattle.core_ways_sites.specs.Known.{Goes, IsKnown, entering};
@@ -18,12 +19,11 @@ ghost use Rattle.core_ways_sites.specs.Sites.{IsSite};
 use crate::gone::{along, is_open, step};
 use crate::noting::Reached;
 use crate::sites::sites_of;
-use access_domain::Outcomes;
+use access_domain::{Outcomes, record_of};
 use core_code::{Op, Program};
 use core_semantics::Turn;
 use core_ways::{
     Count, Passings, Target, WayFault, WayPair, WayTaken, behind_long, behind_taken, parts_to,
-    record_of,
 };
 use racer_base::{Items, MAX_WAY_STEPS, Memory, MethodId, SiteId};
 use std::alloc::Global;

@@ -5,8 +5,9 @@ use Rattle.racer_base.specs.declared.ids.MethodId.{MethodId}
 use Rattle.core_code.specs.Core.{Core, Method}
 use Rattle.core_code.specs.declared.parts.ClassCore.{ClassCore}
 use Rattle.access_domain.specs.declared.access.Access.{Access}
+use Rattle.access_domain.specs.OutcomeRecords.{records_of}
 use Rattle.race_pairs.specs.declared.warning.Warning.{Warning}
-use Rattle.race_pairs.specs.Warnings.{records_of, conflicts}
+use Rattle.race_pairs.specs.Warnings.{conflicts}
 
 -- the class is checked
 pub record IsCheckedClass (core : Core) (c : ClassId) : Type 0 where

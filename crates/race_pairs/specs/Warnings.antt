@@ -1,6 +1,6 @@
 -- A contract of a public call rests on this: which records conflict, and the list of warnings (JLS 17.4.1).
 use Rattle.std.specs.Prelude.{ℕ, Bool, ◌&&◌, ◌||◌, not, nat_eq, if◌then◌else◌}
-use Rattle.std.specs.Prelude.{List, [], Option, None, Some, map, option_map}
+use Rattle.std.specs.Prelude.{List, [], Option, map, option_map}
 use Rattle.std.specs.List.{enumerate_from, flat_map, filter_map, find}
 use Rattle.racer_base.specs.declared.ids.ClassId.{ClassId}
 use Rattle.racer_base.specs.declared.ids.MethodId.{MethodId}
@@ -8,9 +8,8 @@ use Rattle.access_paths.specs.Paths.{same_path, is_formal}
 use Rattle.core_code.specs.Core.{Core, Method}
 use Rattle.core_code.specs.declared.parts.ClassCore.{ClassCore}
 use Rattle.access_domain.specs.declared.access.Access.{Access}
-use Rattle.access_domain.specs.declared.summary.Outcome.{Outcome}
 use Rattle.access_domain.specs.Records.{is_write}
-use Rattle.access_domain.specs.Summaries.{outcome_of, accesses_of}
+use Rattle.access_domain.specs.OutcomeRecords.{records_of}
 use Rattle.race_pairs.specs.declared.warning.Warning.{Warning}
 
 -- Two records conflict when their paths are equal with root `this`, a class or `some c`, at least one writes, not both
@@ -25,15 +24,6 @@ pub record MethodRecord : Type 0 where
   pub method : MethodId
   pub index : ℕ
   pub access : Access
-
--- the records of what is known of a method; none where it is not analysed, or large
-abbrev pub records_held : Option Outcome → List Access
-records_held None = []
-records_held (Some outcome) = accesses_of outcome
-
--- the records of the outcome of a method
-abbrev pub records_of : Core → MethodId → List Access
-records_of core m = records_held (outcome_of core m)
 
 abbrev pub numbered_record : MethodId → ℕ × Access → MethodRecord
 numbered_record m e = record { method = m; index = e.0; access = e.1 }

@@ -1,10 +1,9 @@
 //! The list of warnings of a program.
-ghost use Rattle.std.specs.Prelude.{◌≡◌, ◌++◌, ◌^◌, ◌≤◌, IfOk, OnOk, MatchResult, option_map};
-ghost use Rattle.std.specs.Arc.{arc_value};
+ghost use Rattle.std.specs.Prelude.{◌≡◌, ◌++◌, ◌^◌, ◌≤◌, IfOk, OnOk, MatchResult};
 ghost use Rattle.core_code.specs.Core.{method_of};
 ghost use Rattle.core_code.specs.Program.{core};
 ghost use Rattle.access_domain.specs.Outcomes.{AreOutcomes};
-ghost use Rattle.race_pairs.specs.Warnings.{records_held, numbered_records, is_entry_of, records_in};
+ghost use Rattle.race_pairs.specs.Warnings.{numbered_records, is_entry_of, records_in};
 ghost use Rattle.race_pairs.specs.Warnings.{warnings_among, warnings};
 ghost use Rattle.race_pairs.specs.MethodRecords.{record_of, all_records};
 ghost use Rattle.race_pairs.specs.Firsts.{FindsPartners};
@@ -12,11 +11,10 @@ ghost use Rattle.race_pairs.specs.Firsts.{FindsPartners};
 use crate::Warning;
 use crate::method_access::MethodAccess;
 use crate::partners::{Firsts, firsts_of, partner_of};
-use access_domain::{Access, Outcome, Outcomes};
+use access_domain::{Access, Outcomes, records_of};
 use core_code::{MethodCore, Program};
 use racer_base::{ClassId, Memory, MethodId};
 use std::alloc::Global;
-use std::sync::Arc;
 
 /// Puts the warning of each of these records behind those that there are; the groups are made of the same records.
 fn push_partners(
@@ -42,19 +40,6 @@ fn push_partners(
         }
     }
     Ok(())
-}
-
-/// The records of what is known of a method: none where it is not analysed, or large.
-fn records_held(outcome: &Option<Arc<Outcome>>) -> &[Access]
-    ensures { result.now ≡ records_held (option_map arc_value outcome.now) }
-{
-    match outcome {
-        None => &[],
-        Some(outcome) => match &**outcome {
-            Outcome::Large => &[],
-            Outcome::Summary(summary) => summary.accesses.as_slice(),
-        },
-    }
 }
 
 /// The same number, where it is one that warnings can hold.
@@ -107,8 +92,8 @@ fn records_in<'a>(
     let mut records = Vec::new(alloc);
     for (number, method) in program.methods().iter().enumerate() {
         if is_entry_of(class, method) {
-            let accesses = records_held(&outcomes[number]);
             let number = in_32_bits(number)?;
+            let accesses = records_of(outcomes, MethodId(number));
             push_records(&mut records, MethodId(number), accesses)?;
         }
     }

@@ -3,6 +3,7 @@ use Rattle.std.proofs.Common.{◌≡◌, ◌++◌, ℕ, Bool, true, false, List,
 use Rattle.access_paths.specs.declared.path.Path.{Path}
 use Rattle.core_code.specs.Core.{Core}
 use Rattle.access_domain.specs.declared.access.Access.{Access}
+use Rattle.access_domain.specs.OutcomeRecords.{record_at}
 use Rattle.race_pairs.specs.declared.warning.Warning.{Warning}
 use Rattle.race_pairs.specs.Warnings.{warnings}
 use Rattle.core_semantics.specs.declared.object.StartPath.{StartPath}
@@ -10,7 +11,6 @@ use Rattle.core_semantics.specs.declared.object.Start.TheVariants.{All}
 use Rattle.core_semantics.specs.Legs.{Leg}
 use Rattle.core_semantics.specs.Runs.{begun}
 use Rattle.core_ways.specs.Marks.{Said, Unnamed, Unstable, Unread, Long, Blocked, Confirmed, legs_of, objects_of}
-use Rattle.core_ways.specs.Ways.{record_at}
 use Rattle.witness_build_laws.specs.Warned.{pair_of, warning_mark}
 use Rattle.race_report_parts.specs.Marks.{mark_word}
 use Rattle.race_report_parts.specs.Told.{sides_of}

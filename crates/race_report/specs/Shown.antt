@@ -4,13 +4,13 @@ use Rattle.std.specs.List.{flat_map}
 use Rattle.access_paths.specs.declared.path.Path.{Path}
 use Rattle.core_code.specs.Core.{Core}
 use Rattle.access_domain.specs.declared.access.Access.{Access}
+use Rattle.access_domain.specs.OutcomeRecords.{record_at}
 use Rattle.race_pairs.specs.declared.warning.Warning.{Warning}
 use Rattle.race_pairs.specs.Warnings.{warnings}
 use Rattle.core_semantics.specs.declared.object.StartPath.{StartPath}
 use Rattle.core_semantics.specs.Legs.{Leg}
 use Rattle.core_ways.specs.Marks.{IsWhole}
 use Rattle.core_ways.specs.Stable.{IsStable}
-use Rattle.core_ways.specs.Ways.{record_at}
 use Rattle.witness_build_laws.specs.Warned.{pair_of}
 use Rattle.race_report_parts.specs.Told.{sides_of}
 use Rattle.race_report_parts.specs.Report.{line, legs_lines, object_line, sides_lines, warning_lines}

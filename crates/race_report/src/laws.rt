@@ -5,7 +5,7 @@ ghost use Rattle.core_code.specs.declared.program.Program.{Program};
 ghost use Rattle.core_code.specs.Pair.{pair, after_call, call_put};
 ghost use Rattle.core_code.specs.Program.{core};
 ghost use Rattle.access_domain.specs.declared.access.Access.{Access};
-ghost use Rattle.core_ways.specs.Ways.{record_at};
+ghost use Rattle.access_domain.specs.OutcomeRecords.{record_at};
 ghost use Rattle.race_pairs.specs.declared.warning.Warning.{Warning};
 ghost use Rattle.race_pairs.specs.Warnings.{warnings};
 ghost use Rattle.witness_build_laws.specs.Warned.{warning_mark};

@@ -14,7 +14,7 @@ ghost use Rattle.race_report_parts.specs.Report as lines;
 use crate::Mode;
 use crate::marks::push_last;
 use crate::text::push_warnings;
-use access_domain::Outcome;
+use access_domain::Outcomes;
 use core_code::Program;
 use core_ways::Mark;
 use race_pairs::Warning;
@@ -23,16 +23,10 @@ use race_report_parts::{
 };
 use racer_base::Memory;
 use std::alloc::Global;
-use std::sync::Arc;
 
 /// Puts the lines of the summaries behind a text, where they are asked for.
-fn push_asked(
-    text: &mut Written,
-    summaries: bool,
-    program: &Program,
-    outcomes: &[Option<Arc<Outcome>>],
-)
-    requires { AreOutcomes (core program.now) outcomes.now }
+fn push_asked(text: &mut Written, summaries: bool, program: &Program, outcomes: &Outcomes)
+    requires { AreOutcomes (core program.now) outcomes.now.items }
     ensures lasts { Lasts text.old text.new }
     ensures puts { Puts (lines.summaries_lines summaries (core program.now)) text.old text.new }
 {
@@ -51,13 +45,8 @@ fn push_head(text: &mut Written, program: &Program)
 }
 
 /// Puts the lines on places and methods behind a text.
-fn push_methods(
-    text: &mut Written,
-    summaries: bool,
-    program: &Program,
-    outcomes: &[Option<Arc<Outcome>>],
-)
-    requires { AreOutcomes (core program.now) outcomes.now }
+fn push_methods(text: &mut Written, summaries: bool, program: &Program, outcomes: &Outcomes)
+    requires { AreOutcomes (core program.now) outcomes.now.items }
     ensures lasts { Lasts text.old text.new }
     ensures puts { Puts (lines.method_lines summaries (core program.now)) text.old text.new }
 {
@@ -71,11 +60,11 @@ fn push_lines(
     text: &mut Written,
     summaries: bool,
     program: &Program,
-    outcomes: &[Option<Arc<Outcome>>],
+    outcomes: &Outcomes,
     found: &[Warning],
     marks: &[Mark],
 )
-    requires outcomes { AreOutcomes (core program.now) outcomes.now }
+    requires outcomes { AreOutcomes (core program.now) outcomes.now.items }
     requires found { found.now ≡ pairs.warnings (core program.now) }
     requires marks { map said_by marks.now ≡ map (warning_mark (core program.now)) found.now }
     ensures lasts { Lasts text.old text.new }
@@ -92,11 +81,11 @@ fn push_object(
     text: &mut Written,
     summaries: bool,
     program: &Program,
-    outcomes: &[Option<Arc<Outcome>>],
+    outcomes: &Outcomes,
     found: &[Warning],
     marks: &[Mark],
 )
-    requires outcomes { AreOutcomes (core program.now) outcomes.now }
+    requires outcomes { AreOutcomes (core program.now) outcomes.now.items }
     requires found { found.now ≡ pairs.warnings (core program.now) }
     requires marks { map said_by marks.now ≡ map (warning_mark (core program.now)) found.now }
     ensures lasts { Lasts text.old text.new }
@@ -111,11 +100,11 @@ fn push_report(
     text: &mut Written,
     mode: Mode,
     program: &Program,
-    outcomes: &[Option<Arc<Outcome>>],
+    outcomes: &Outcomes,
     found: &[Warning],
     marks: &[Mark],
 )
-    requires outcomes { AreOutcomes (core program.now) outcomes.now }
+    requires outcomes { AreOutcomes (core program.now) outcomes.now.items }
     requires found { found.now ≡ pairs.warnings (core program.now) }
     requires marks { map said_by marks.now ≡ map (warning_mark (core program.now)) found.now }
     ensures lasts { Lasts text.old text.new }
@@ -134,11 +123,11 @@ pub fn report_text(
     alloc: Global,
     mode: Mode,
     program: &Program,
-    outcomes: &[Option<Arc<Outcome>>],
+    outcomes: &Outcomes,
     found: &[Warning],
     marks: &[Mark],
 ) -> Result<String, Memory>
-    requires outcomes { AreOutcomes (core program.now) outcomes.now }
+    requires outcomes { AreOutcomes (core program.now) outcomes.now.items }
     requires found { found.now ≡ pairs.warnings (core program.now) }
     requires marks { map said_by marks.now ≡ map (warning_mark (core program.now)) found.now }
     ensures { IfOk result (λ text. string_bytes text ≡ said.report mode (core program.now)) }
@@ -153,11 +142,11 @@ pub fn report(
     alloc: Global,
     mode: Mode,
     program: &Program,
-    outcomes: &[Option<Arc<Outcome>>],
+    outcomes: &Outcomes,
     found: &[Warning],
     marks: &[Mark],
 ) -> Result<Vec<u8>, Memory>
-    requires outcomes { AreOutcomes (core program.now) outcomes.now }
+    requires outcomes { AreOutcomes (core program.now) outcomes.now.items }
     requires found { found.now ≡ pairs.warnings (core program.now) }
     requires marks { map said_by marks.now ≡ map (warning_mark (core program.now)) found.now }
     ensures { IfOk result (λ bytes. bytes.items ≡ said.report mode (core program.now)) }

@@ -11,14 +11,13 @@ ghost use Rattle.core_ways.specs.Marks.{said_by};
 ghost use Rattle.witness_build_laws.specs.Warned.{warning_mark};
 ghost use Rattle.race_report_parts.specs.Report as said;
 
-use access_domain::Outcome;
+use access_domain::Outcomes;
 use core_code::Program;
 use core_ways::Mark;
 use race_pairs::Warning;
 use race_report_parts::{
     Sides, Site, Written, mark_at, push_mark_lines, push_side, push_text, sides_of, sites,
 };
-use std::sync::Arc;
 
 /// The lines of the two records of a warning.
 fn push_sides(text: &mut Written, program: &Program, sides: &Sides<'_>)
@@ -35,11 +34,11 @@ fn push_sides(text: &mut Written, program: &Program, sides: &Sides<'_>)
 fn push_sides_of(
     text: &mut Written,
     program: &Program,
-    outcomes: &[Option<Arc<Outcome>>],
+    outcomes: &Outcomes,
     sites: &[Vec<Site>],
     warning: Warning,
 )
-    requires outcomes { AreOutcomes (core program.now) outcomes.now }
+    requires outcomes { AreOutcomes (core program.now) outcomes.now.items }
     requires sites { AreSites (core program.now) sites.now }
     ensures lasts { Lasts text.old text.new }
     ensures puts { Puts
@@ -55,12 +54,12 @@ fn push_sides_of(
 fn push_warning(
     text: &mut Written,
     program: &Program,
-    outcomes: &[Option<Arc<Outcome>>],
+    outcomes: &Outcomes,
     sites: &[Vec<Site>],
     warning: Warning,
     mark: &Mark,
 )
-    requires outcomes { AreOutcomes (core program.now) outcomes.now }
+    requires outcomes { AreOutcomes (core program.now) outcomes.now.items }
     requires sites { AreSites (core program.now) sites.now }
     requires mark { said_by mark.now ≡ warning_mark (core program.now) warning }
     ensures lasts { Lasts text.old text.new }
@@ -73,12 +72,12 @@ fn push_warning(
 fn push_found_warnings(
     text: &mut Written,
     program: &Program,
-    outcomes: &[Option<Arc<Outcome>>],
+    outcomes: &Outcomes,
     sites: &[Vec<Site>],
     found: &[Warning],
     marks: &[Mark],
 )
-    requires outcomes { AreOutcomes (core program.now) outcomes.now }
+    requires outcomes { AreOutcomes (core program.now) outcomes.now.items }
     requires sites { AreSites (core program.now) sites.now }
     requires marks { map said_by marks.now ≡ map (warning_mark (core program.now)) found.now }
     ensures lasts { Lasts text.old text.new }
@@ -93,11 +92,11 @@ fn push_found_warnings(
 pub(crate) fn push_warnings(
     text: &mut Written,
     program: &Program,
-    outcomes: &[Option<Arc<Outcome>>],
+    outcomes: &Outcomes,
     found: &[Warning],
     marks: &[Mark],
 )
-    requires outcomes { AreOutcomes (core program.now) outcomes.now }
+    requires outcomes { AreOutcomes (core program.now) outcomes.now.items }
     requires marks { map said_by marks.now ≡ map (warning_mark (core program.now)) found.now }
     ensures lasts { Lasts text.old text.new }
     ensures puts { Puts (flat_map (said.warning_lines (core program.now)) found.now) text.old text.new }

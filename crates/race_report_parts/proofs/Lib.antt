@@ -2,7 +2,7 @@ pub mod JsonItems
 pub mod JsonPieces
 pub mod JsonTurns
 pub mod MarkedWarnings
-pub mod ReportOutcomes
+pub mod FoundSummaries
 pub mod SiteTables
 pub mod SortedTexts
 pub mod WobblyTexts

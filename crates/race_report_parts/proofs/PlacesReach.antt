@@ -20,9 +20,9 @@ use Rattle.access_domain.specs.declared.access.Access.{Access}
 use Rattle.access_domain.specs.Findings.{Known, Whole, outcome_from}
 use Rattle.access_domain.specs.Given.{FlowContext, given_of}
 use Rattle.access_domain.specs.Summaries.{known_of}
+use Rattle.access_domain.specs.OutcomeRecords.{records_held, records_of}
 use Rattle.core_ways.specs.Alone.{locks_round}
 use Rattle.race_pairs.specs.declared.warning.Warning.{Warning}
-use Rattle.race_pairs.specs.Warnings.{records_held, records_of}
 use Rattle.witness_build_laws.proofs.ConfirmedRun.{record-of}
 use Rattle.core_ways_laws.specs.Sites.{IsRecordOf, IsThrough, IsTouch}
 use Rattle.core_ways_laws.proofs.ProgramFacts.{IsRight, IsRightCall, is_right, known_is_analysed, lower_call, right_call}

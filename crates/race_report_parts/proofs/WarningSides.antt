@@ -3,9 +3,10 @@ use Rattle.std.proofs.Common.{◌≡◌, ℕ, Some, Contains, slice_get, option_
 use Rattle.racer_base.specs.declared.ids.MethodId.{MethodId}
 use Rattle.core_code.specs.Core.{Core, Method}
 use Rattle.access_domain.specs.declared.access.Access.{Access}
+use Rattle.access_domain.specs.OutcomeRecords.{records_of}
 use Rattle.race_pairs.specs.declared.warning.Warning.{Warning}
 use Rattle.race_pairs.specs.Pairs.{IsPair}
-use Rattle.race_pairs.specs.Warnings.{records_of, warnings}
+use Rattle.race_pairs.specs.Warnings.{warnings}
 use Rattle.race_pairs.proofs.WarningPairs.{warning_is_pair}
 use Rattle.race_report_parts.specs.Places.{OwnedRecord, places_of}
 use Rattle.race_report_parts.specs.Told.{Side, side_from, side_of, Sides, sides_from, sides_of}

@@ -10,7 +10,7 @@ use Rattle.core_code.specs.Calls.{method_at}
 use Rattle.core_code.specs.Core.{Core}
 use Rattle.core_code.specs.Tree.{Operation, op_at}
 use Rattle.access_domain.specs.declared.access.Access.{Access}
-use Rattle.race_pairs.specs.Warnings.{records_of}
+use Rattle.access_domain.specs.OutcomeRecords.{records_of}
 
 -- the operation of a method that has this site
 abbrev pub operation_at : Core → MethodId → SiteId → Option Operation

@@ -24,11 +24,10 @@ use crate::{
     Sides, Site, Written, push_count, push_text, reason_of, sides_of, sites, summary_of,
     wobbly_texts,
 };
-use access_domain::{Outcome, Summary};
+use access_domain::{Outcomes, Summary};
 use core_code::{MethodCore, Program};
 use core_ways::Mark;
 use race_pairs::Warning;
-use std::sync::Arc;
 
 /// The object of a method that has no summary, as an item.
 fn push_reason_item(
@@ -51,11 +50,11 @@ fn push_not_analysed_item(
     text: &mut Written,
     later: bool,
     program: &Program,
-    outcomes: &[Option<Arc<Outcome>>],
+    outcomes: &Outcomes,
     number: usize,
     method: &MethodCore,
 ) -> bool
-    requires { AreOutcomes (core program.now) outcomes.now }
+    requires { AreOutcomes (core program.now) outcomes.now.items }
     ensures lasts { Lasts text.old text.new }
     ensures puts { PutsItems later result (said.not_analysed_values (core program.now) (number, method_of method.now))
         text.old text.new }
@@ -69,8 +68,8 @@ fn push_not_analysed_item(
     }
 }
 
-fn push_not_analysed(text: &mut Written, program: &Program, outcomes: &[Option<Arc<Outcome>>])
-    requires { AreOutcomes (core program.now) outcomes.now }
+fn push_not_analysed(text: &mut Written, program: &Program, outcomes: &Outcomes)
+    requires { AreOutcomes (core program.now) outcomes.now.items }
     ensures lasts { Lasts text.old text.new }
     ensures puts { Puts (pieces.not_analysed_text (core program.now)) text.old text.new }
 {
@@ -115,12 +114,12 @@ fn push_summary(
     text: &mut Written,
     later: bool,
     program: &Program,
-    outcomes: &[Option<Arc<Outcome>>],
+    outcomes: &Outcomes,
     sites: &[Vec<Site>],
     number: usize,
     method: &MethodCore,
 ) -> bool
-    requires outcomes { AreOutcomes (core program.now) outcomes.now }
+    requires outcomes { AreOutcomes (core program.now) outcomes.now.items }
     requires sites { AreSites (core program.now) sites.now }
     ensures lasts { Lasts text.old text.new }
     ensures puts { PutsItems later result (said.summary_values (core program.now) (number, method_of method.now))
@@ -139,10 +138,10 @@ fn push_summary(
 fn push_found_summaries(
     text: &mut Written,
     program: &Program,
-    outcomes: &[Option<Arc<Outcome>>],
+    outcomes: &Outcomes,
     sites: &[Vec<Site>],
 )
-    requires outcomes { AreOutcomes (core program.now) outcomes.now }
+    requires outcomes { AreOutcomes (core program.now) outcomes.now.items }
     requires sites { AreSites (core program.now) sites.now }
     ensures lasts { Lasts text.old text.new }
     ensures puts { Puts (pieces.summaries_text (core program.now)) text.old text.new }
@@ -157,8 +156,8 @@ fn push_found_summaries(
 }
 
 /// The summaries of all methods that have one.
-fn push_summaries(text: &mut Written, program: &Program, outcomes: &[Option<Arc<Outcome>>])
-    requires { AreOutcomes (core program.now) outcomes.now }
+fn push_summaries(text: &mut Written, program: &Program, outcomes: &Outcomes)
+    requires { AreOutcomes (core program.now) outcomes.now.items }
     ensures lasts { Lasts text.old text.new }
     ensures puts { Puts (pieces.summaries_text (core program.now)) text.old text.new }
 {
@@ -189,12 +188,12 @@ fn push_warning(
     text: &mut Written,
     later: bool,
     program: &Program,
-    outcomes: &[Option<Arc<Outcome>>],
+    outcomes: &Outcomes,
     sites: &[Vec<Site>],
     warning: Warning,
     mark: &Mark,
 ) -> bool
-    requires outcomes { AreOutcomes (core program.now) outcomes.now }
+    requires outcomes { AreOutcomes (core program.now) outcomes.now.items }
     requires sites { AreSites (core program.now) sites.now }
     requires mark { said_by mark.now ≡ warning_mark (core program.now) warning }
     ensures lasts { Lasts text.old text.new }
@@ -217,12 +216,12 @@ fn push_warning(
 fn push_found_warnings(
     text: &mut Written,
     program: &Program,
-    outcomes: &[Option<Arc<Outcome>>],
+    outcomes: &Outcomes,
     sites: &[Vec<Site>],
     found: &[Warning],
     marks: &[Mark],
 )
-    requires outcomes { AreOutcomes (core program.now) outcomes.now }
+    requires outcomes { AreOutcomes (core program.now) outcomes.now.items }
     requires sites { AreSites (core program.now) sites.now }
     requires marks { map said_by marks.now ≡ map (warning_mark (core program.now)) found.now }
     ensures lasts { Lasts text.old text.new }
@@ -240,11 +239,11 @@ fn push_found_warnings(
 fn push_warnings(
     text: &mut Written,
     program: &Program,
-    outcomes: &[Option<Arc<Outcome>>],
+    outcomes: &Outcomes,
     found: &[Warning],
     marks: &[Mark],
 )
-    requires outcomes { AreOutcomes (core program.now) outcomes.now }
+    requires outcomes { AreOutcomes (core program.now) outcomes.now.items }
     requires marks { map said_by marks.now ≡ map (warning_mark (core program.now)) found.now }
     ensures lasts { Lasts text.old text.new }
     ensures puts { Puts (pieces.warnings_text (core program.now) found.now) text.old text.new }
@@ -269,8 +268,8 @@ fn push_counts(text: &mut Written, program: &Program)
 }
 
 /// The members before the summaries.
-fn push_first(text: &mut Written, program: &Program, outcomes: &[Option<Arc<Outcome>>])
-    requires { AreOutcomes (core program.now) outcomes.now }
+fn push_first(text: &mut Written, program: &Program, outcomes: &Outcomes)
+    requires { AreOutcomes (core program.now) outcomes.now.items }
     ensures lasts { Lasts text.old text.new }
     ensures puts { Puts (pieces.first_text (core program.now)) text.old text.new }
 {
@@ -282,8 +281,8 @@ fn push_first(text: &mut Written, program: &Program, outcomes: &[Option<Arc<Outc
 }
 
 /// The member of the summaries.
-fn push_summaries_member(text: &mut Written, program: &Program, outcomes: &[Option<Arc<Outcome>>])
-    requires { AreOutcomes (core program.now) outcomes.now }
+fn push_summaries_member(text: &mut Written, program: &Program, outcomes: &Outcomes)
+    requires { AreOutcomes (core program.now) outcomes.now.items }
     ensures lasts { Lasts text.old text.new }
     ensures puts { PutsMembers (said.with_summaries true (core program.now)) text.old text.new }
 {
@@ -292,13 +291,8 @@ fn push_summaries_member(text: &mut Written, program: &Program, outcomes: &[Opti
 }
 
 /// The member of the summaries, where they are asked for.
-fn push_asked(
-    text: &mut Written,
-    summaries: bool,
-    program: &Program,
-    outcomes: &[Option<Arc<Outcome>>],
-)
-    requires { AreOutcomes (core program.now) outcomes.now }
+fn push_asked(text: &mut Written, summaries: bool, program: &Program, outcomes: &Outcomes)
+    requires { AreOutcomes (core program.now) outcomes.now.items }
     ensures lasts { Lasts text.old text.new }
     ensures puts { PutsMembers (said.with_summaries summaries (core program.now)) text.old text.new }
 {
@@ -311,11 +305,11 @@ fn push_asked(
 fn push_last(
     text: &mut Written,
     program: &Program,
-    outcomes: &[Option<Arc<Outcome>>],
+    outcomes: &Outcomes,
     found: &[Warning],
     marks: &[Mark],
 )
-    requires outcomes { AreOutcomes (core program.now) outcomes.now }
+    requires outcomes { AreOutcomes (core program.now) outcomes.now.items }
     requires marks { map said_by marks.now ≡ map (warning_mark (core program.now)) found.now }
     ensures lasts { Lasts text.old text.new }
     ensures puts { Puts (pieces.last_text (core program.now) found.now) text.old text.new }
@@ -330,11 +324,11 @@ pub fn push_report(
     text: &mut Written,
     summaries: bool,
     program: &Program,
-    outcomes: &[Option<Arc<Outcome>>],
+    outcomes: &Outcomes,
     found: &[Warning],
     marks: &[Mark],
 )
-    requires outcomes { AreOutcomes (core program.now) outcomes.now }
+    requires outcomes { AreOutcomes (core program.now) outcomes.now.items }
     requires found { found.now ≡ pairs.warnings (core program.now) }
     requires marks { map said_by marks.now ≡ map (warning_mark (core program.now)) found.now }
     ensures lasts { Lasts text.old text.new }

@@ -38,7 +38,7 @@ pub use lines::{push_counts, push_not_analysed, push_side, push_skipped};
 pub use mark_lines::push_mark_lines;
 pub use mark_numbers::mark_at;
 pub use marks::{mark_word, push_leg, push_mark, push_start};
-pub use methods::{outcome_of, reason_of, summary_of};
+pub use methods::{reason_of, summary_of};
 pub use sides::{Side, Sides, sides_of};
 pub use summary_lines::push_summaries;
 pub use tables::{Site, place_at, sites};

@@ -12,10 +12,9 @@ use crate::{
     Side, Written, push_count, push_end, push_method, push_place, push_record, push_space,
     push_text, reason_of,
 };
-use access_domain::Outcome;
+use access_domain::Outcomes;
 use core_code::{MethodCore, Program};
 use racer_base::Place;
-use std::sync::Arc;
 
 /// `files N classes N methods N`
 pub fn push_counts(text: &mut Written, program: &Program)
@@ -79,11 +78,11 @@ fn push_reason(text: &mut Written, program: &Program, method: &MethodCore, reaso
 fn push_not_analysed_line(
     text: &mut Written,
     program: &Program,
-    outcomes: &[Option<Arc<Outcome>>],
+    outcomes: &Outcomes,
     number: usize,
     method: &MethodCore,
 )
-    requires { AreOutcomes (core program.now) outcomes.now }
+    requires { AreOutcomes (core program.now) outcomes.now.items }
     ensures lasts { Lasts text.old text.new }
     ensures puts { Puts (said.not_analysed_line (core program.now) (number, method_of method.now)) text.old text.new }
 {
@@ -94,8 +93,8 @@ fn push_not_analysed_line(
 }
 
 /// `not analysed METHOD PLACE REASON` for each method that has no summary
-pub fn push_not_analysed(text: &mut Written, program: &Program, outcomes: &[Option<Arc<Outcome>>])
-    requires { AreOutcomes (core program.now) outcomes.now }
+pub fn push_not_analysed(text: &mut Written, program: &Program, outcomes: &Outcomes)
+    requires { AreOutcomes (core program.now) outcomes.now.items }
     ensures lasts { Lasts text.old text.new }
     ensures puts { Puts (flat_map (said.not_analysed_line (core program.now))
         (enumerate_from 0 (core program.now).methods)) text.old text.new }

@@ -10,14 +10,12 @@ ghost use Rattle.race_report_parts.specs.Told as told;
 ghost use Rattle.race_report_parts.specs.Sites.{AreSites};
 ghost use Rattle.race_report_parts.specs.Sides.{held_of, side_told, sides_told};
 
-use crate::methods::records_of;
 use crate::tables::{Site, site_at};
-use access_domain::{Access, Outcome};
+use access_domain::{Access, Outcomes, record_of};
 use core_code::{MethodCore, Program};
 use race_pairs::Warning;
 use racer_base::{Memory, MethodId, Place};
 use std::alloc::Global;
-use std::sync::Arc;
 
 /// A record and the method that has it.
 #[derive(Clone, Copy)]
@@ -44,14 +42,14 @@ pub struct Sides<'a> {
 /// The record of a method that has this index.
 fn owned_record_at<'a>(
     program: &Program,
-    outcomes: &'a [Option<Arc<Outcome>>],
+    outcomes: &'a Outcomes,
     method: MethodId,
     index: u32,
 ) -> Option<OwnedRecord<'a>>
-    requires { AreOutcomes (core program.now) outcomes.now }
+    requires { AreOutcomes (core program.now) outcomes.now.items }
     ensures { option_map held_of result ≡ places.owned_record_at (core program.now) method index }
 {
-    match records_of(program, outcomes, method).get(index as usize) {
+    match record_of(outcomes, method, index) {
         None => None,
         Some(access) => Some(OwnedRecord { method, access }),
     }
@@ -60,11 +58,11 @@ fn owned_record_at<'a>(
 /// The record of the called method that a record is made of: it has this index there.
 fn record_below<'a>(
     program: &Program,
-    outcomes: &'a [Option<Arc<Outcome>>],
+    outcomes: &'a Outcomes,
     callee: Option<MethodId>,
     index: Option<u32>,
 ) -> Option<OwnedRecord<'a>>
-    requires { AreOutcomes (core program.now) outcomes.now }
+    requires { AreOutcomes (core program.now) outcomes.now.items }
     ensures { option_map held_of result ≡ places.record_below (core program.now) callee index }
 {
     match (callee, index) {
@@ -77,11 +75,11 @@ fn record_below<'a>(
 fn places_of(
     alloc: Global,
     program: &Program,
-    outcomes: &[Option<Arc<Outcome>>],
+    outcomes: &Outcomes,
     sites: &[Vec<Site>],
     held: OwnedRecord<'_>,
 ) -> Result<Vec<Place>, Memory>
-    requires outcomes { AreOutcomes (core program.now) outcomes.now }
+    requires outcomes { AreOutcomes (core program.now) outcomes.now.items }
     requires sites { AreSites (core program.now) sites.now }
     ensures { IfOk result (λ found. found.items ≡ places.places_of (core program.now) (held_of held.entry)) }
 {
@@ -111,12 +109,12 @@ fn method_at(program: &Program, number: MethodId) -> Option<&MethodCore>
 fn side_of<'a>(
     alloc: Global,
     program: &'a Program,
-    outcomes: &'a [Option<Arc<Outcome>>],
+    outcomes: &'a Outcomes,
     sites: &[Vec<Site>],
     number: MethodId,
     index: u32,
 ) -> Result<Option<Side<'a>>, Memory>
-    requires outcomes { AreOutcomes (core program.now) outcomes.now }
+    requires outcomes { AreOutcomes (core program.now) outcomes.now.items }
     requires sites { AreSites (core program.now) sites.now }
     ensures { IfOk result (λ side. option_map side_told side ≡ told.side_of (core program.now) number index) }
 {
@@ -138,11 +136,11 @@ fn side_of<'a>(
 pub fn sides_of<'a>(
     alloc: Global,
     program: &'a Program,
-    outcomes: &'a [Option<Arc<Outcome>>],
+    outcomes: &'a Outcomes,
     sites: &[Vec<Site>],
     warning: Warning,
 ) -> Result<Option<Sides<'a>>, Memory>
-    requires outcomes { AreOutcomes (core program.now) outcomes.now }
+    requires outcomes { AreOutcomes (core program.now) outcomes.now.items }
     requires sites { AreSites (core program.now) sites.now }
     ensures { IfOk result (λ sides. option_map sides_told sides ≡ told.sides_of (core program.now) warning) }
 {

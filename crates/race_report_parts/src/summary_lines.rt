@@ -15,10 +15,9 @@ use crate::{
     Site, Written, place_at, push_access, push_end, push_method, push_space, push_text, push_value,
     sites, summary_of, wobbly_texts,
 };
-use access_domain::{Access, Outcome, Summary};
+use access_domain::{Access, Outcomes, Summary};
 use core_code::{MethodCore, Program};
 use owner_domain::Value;
-use std::sync::Arc;
 
 /// ` RECORD at LINE:COLUMN`
 fn push_access_line(
@@ -149,12 +148,12 @@ fn push_summary(
 fn push_summary_of(
     text: &mut Written,
     program: &Program,
-    outcomes: &[Option<Arc<Outcome>>],
+    outcomes: &Outcomes,
     sites: &[Vec<Site>],
     number: usize,
     method: &MethodCore,
 )
-    requires outcomes { AreOutcomes (core program.now) outcomes.now }
+    requires outcomes { AreOutcomes (core program.now) outcomes.now.items }
     requires sites { AreSites (core program.now) sites.now }
     ensures lasts { Lasts text.old text.new }
     ensures puts { Puts (said.summary_lines (core program.now) (number, method_of method.now)) text.old text.new }
@@ -169,10 +168,10 @@ fn push_summary_of(
 fn push_found_summaries(
     text: &mut Written,
     program: &Program,
-    outcomes: &[Option<Arc<Outcome>>],
+    outcomes: &Outcomes,
     sites: &[Vec<Site>],
 )
-    requires outcomes { AreOutcomes (core program.now) outcomes.now }
+    requires outcomes { AreOutcomes (core program.now) outcomes.now.items }
     requires sites { AreSites (core program.now) sites.now }
     ensures lasts { Lasts text.old text.new }
     ensures puts { Puts (flat_map (said.summary_lines (core program.now))
@@ -185,8 +184,8 @@ fn push_found_summaries(
 }
 
 /// The lines of all summaries.
-pub fn push_summaries(text: &mut Written, program: &Program, outcomes: &[Option<Arc<Outcome>>])
-    requires { AreOutcomes (core program.now) outcomes.now }
+pub fn push_summaries(text: &mut Written, program: &Program, outcomes: &Outcomes)
+    requires { AreOutcomes (core program.now) outcomes.now.items }
     ensures lasts { Lasts text.old text.new }
     ensures puts { Puts (flat_map (said.summary_lines (core program.now))
         (enumerate_from 0 (core program.now).methods)) text.old text.new }

@@ -45,7 +45,7 @@ fn push_sites(code: &Code, sites: &mut Vec<Site>) -> Result<(), Memory>
             push_sites(right, sites)?;
         }
         Code::Loop(body) => push_sites(body, sites)?,
-        Code::Sync(_, body) => push_sites(body, sites)?,
+        Code::Sync(_, _, body) => push_sites(body, sites)?,
     }
     Ok(())
 }

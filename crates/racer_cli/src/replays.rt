@@ -54,6 +54,18 @@ const REPLAYS: &[Case] = &[
         ..REFUSED
     },
     Case {
+        folder_fails: &[0],
+        status: Status::FolderFault,
+        text: b"folder fault\n",
+        ..RACES
+    },
+    Case {
+        folder_fails: &[1],
+        status: Status::FolderFault,
+        text: b"folder fault\n",
+        ..RACES
+    },
+    Case {
         folder_fails: &[2],
         status: Status::FolderFault,
         text: b"folder fault\n",

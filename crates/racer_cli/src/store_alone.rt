@@ -42,7 +42,7 @@ const TEN: Case = Case {
 };
 
 /// The program of a row's folder.
-fn program(alloc: Global, row: &Row) -> Result<Arc<Program>, Fail> {
+fn program(alloc: Global, row: &Case) -> Result<Arc<Program>, Fail> {
     let mut folder = folder(alloc, row)?;
     match folder_program(alloc, &mut folder, "src") {
         Ok(FoundProgram::Accepted(program)) => Ok(Arc::new(alloc, program)?),

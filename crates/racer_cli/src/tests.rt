@@ -18,7 +18,8 @@ pub(crate) struct Case<'a> {
     pub files: &'a [(&'a str, &'a [u8])],
     /// The calls on the folder that fail, by their numbers from 0.
     pub folder_fails: &'a [u32],
-    /// How many bytes the sink takes at most in one call.
+    /// How many bytes the sink takes in all, and at most in one call.
+    pub capacity: usize,
     pub most: usize,
     /// The calls on the sink that fail.
     pub sink_fails: &'a [u32],
@@ -36,6 +37,7 @@ pub(crate) const PLAIN: Case = Case {
     words: &["src"],
     files: &[],
     folder_fails: &[],
+    capacity: 100_000,
     most: 10_000,
     sink_fails: &[],
     status: Status::Clean,
@@ -135,28 +137,34 @@ const CALLS: &[Case] = &[
           leave 0\n",
         ..PLAIN
     },
-    Row {
+    Case {
         files: TWO,
         text: b"racer report 1\nfiles 2 classes 2 methods 2\nwarnings 0 confirmed 0\n",
         ..PLAIN
     },
-    Row {
+    Case {
         words: &["lib"],
         ..FAULT
     },
-    Row {
+    Case {
         files: TWO,
         folder_fails: &[3],
         ..FAULT
     },
-    Row {
+    Case {
         most: 16,
         sink_fails: &[2],
         status: Status::SinkFault,
         text: b"racer report 1\nfiles 0 classes 0",
         ..PLAIN
     },
-    Row {
+    Case {
+        capacity: 10,
+        status: Status::SinkFault,
+        text: b"racer repo",
+        ..PLAIN
+    },
+    Case {
         folder_fails: &[1],
         sink_fails: &[0],
         status: Status::SinkFault,
@@ -166,7 +174,7 @@ const CALLS: &[Case] = &[
 ];
 
 /// A method that calls another.
-const DINNER: Row = Row {
+pub(crate) const DINNER: Case = Case {
     files: &[(
         "Dinner.java",
         b"@ThreadSafe\npublic class Dinner {\n  private int mTemperature;\n  public void makeDinner() {\n    boilWater();\n\
@@ -181,13 +189,13 @@ const DINNER: Row = Row {
 };
 
 /// Folders that are accepted and that are refused.
-const SOURCES: &[Row] = &[
+const SOURCES: &[Case] = &[
     DINNER,
-    Row {
+    Case {
         words: &["src", "--workers", "64"],
         ..DINNER
     },
-    Row {
+    Case {
         words: &["src", "--workers", "1", "--history"],
         text: b"racer report 1\nfiles 1 classes 1 methods 3\n\
           warning Dinner.makeDinner/0 write this.mTemperature\n at Dinner.java:5:5\n at Dinner.java:8:5\n\
@@ -198,7 +206,7 @@ const SOURCES: &[Row] = &[
           take 0 Dinner.makeDinner/0\npublish 0 Dinner.makeDinner/0\nleave 0\n",
         ..DINNER
     },
-    Row {
+    Case {
         files: &[(
             "A.java",
             b"@ThreadSafe class A { int x; void f() { this.x = 1; synchronized (this) { this.x = 2; } } }",
@@ -212,7 +220,7 @@ const SOURCES: &[Row] = &[
           warnings 2 confirmed 2\n",
         ..PLAIN
     },
-    Row {
+    Case {
         files: &[(
             "Two.java",
             b"@ThreadSafe class Two { int n; final Object k = new Object(); \
@@ -221,13 +229,13 @@ const SOURCES: &[Row] = &[
         text: b"racer report 1\nfiles 1 classes 1 methods 3\nwarnings 0 confirmed 0\n",
         ..PLAIN
     },
-    Row {
+    Case {
         files: &[("A.java", b"class A { interface I { } static { } }")],
         text: b"racer report 1\nfiles 1 classes 1 methods 1\n\
           skipped A.java:1:11\nskipped A.java:1:27\nwarnings 0 confirmed 0\n",
         ..PLAIN
     },
-    Row {
+    Case {
         files: &[(
             "Loop.java",
             b"@ThreadSafe\nclass Loop {\n  int c;\n  void m() { n(); }\n  void n() { m(); }\n\
@@ -240,12 +248,12 @@ const SOURCES: &[Row] = &[
           \x20mark unread Loop.java:6:14\nwarnings 1 confirmed 0\n",
         ..PLAIN
     },
-    Row {
+    Case {
         files: &[("A.java", b"class A {}"), ("B.java", b"class B {}\n/* x")],
         text: b"refused B.java:2:1 unclosed\n",
         ..REFUSED
     },
-    Row {
+    Case {
         files: &[("A.java", b"class A { int x; int x; }")],
         text: b"refused A.java:1:22 duplicate field, first A.java:1:15\n",
         ..REFUSED
@@ -295,7 +303,7 @@ fn sink(alloc: Global, row: &Case) -> Result<MemorySink, Fail>
         return Err(Fail::from("a sink that takes nothing"));
     }
     let failing = row.sink_fails.to_vec(alloc)?;
-    match MemorySink::new(alloc, 100_000, row.most, failing) {
+    match MemorySink::new(alloc, row.capacity, row.most, failing) {
         Ok(sink) => Ok(sink),
         Err(_) => Err(Fail::from("no memory for a sink")),
     }
@@ -316,7 +324,11 @@ pub(crate) fn called<R: Threads + Wait + Sync, G: Gate + Sync>(
 }
 
 /// Whether a call of `run` answers and writes what the row says.
-fn holds<R: Threads + Wait + Sync>(rt: &R, alloc: Global, row: &Case) -> Result<bool, Fail> {
+pub(crate) fn holds<R: Threads + Wait + Sync>(
+    rt: &R,
+    alloc: Global,
+    row: &Case,
+) -> Result<bool, Fail> {
     let (status, sink) = called(rt, alloc, row, &OpenGate)?;
     Ok(status == row.status && sink.taken() == row.text)
 }
@@ -345,32 +357,5 @@ fn calls(rt: HostRuntime) -> Result<(), Fail> {
 #[test]
 fn sources(rt: HostRuntime) -> Result<(), Fail> {
     assert!(rt; held(&rt, rt.alloc(), SOURCES)? == SOURCES.len());
-    Ok(())
-}
-
-/// How many writes of one byte, from the first, each end a run with what was written before where they fail.
-fn failing_writes_that_hold<R: Threads + Wait + Sync>(
-    rt: &R,
-    alloc: Global,
-) -> Result<usize, Fail> {
-    for at in 0..EMPTY.len() {
-        let failing = [at as u32];
-        let row = Case {
-            most: 1,
-            sink_fails: &failing,
-            status: Status::SinkFault,
-            text: &EMPTY[..at],
-            ..PLAIN
-        };
-        if !holds(rt, alloc, &row)? {
-            return Ok(at);
-        }
-    }
-    Ok(EMPTY.len())
-}
-
-#[test]
-fn every_write_fails_once(rt: HostRuntime) -> Result<(), Fail> {
-    assert!(rt; failing_writes_that_hold(&rt, rt.alloc())? == EMPTY.len());
     Ok(())
 }

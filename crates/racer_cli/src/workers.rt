@@ -41,7 +41,7 @@ const DINNER_HISTORY: &[u8] =
   take 0 Dinner.makeDinner/0\npublish 0 Dinner.makeDinner/0\nleave 0\n";
 
 /// A realistic class, one of whose methods calls another.
-const STOCK: Row = Row {
+const STOCK: Case = Case {
     files: &[("Stock.java", STOCK_JAVA)],
     status: Status::Warned,
     text: STOCK_REPORT,
@@ -212,7 +212,7 @@ const HISTORIES: &[&[&str]] = &[
 
 /// Whether a run with these words tells its workers as they passed the gate, behind the report of the realistic class.
 fn is_told<R: Threads + Wait + Sync>(rt: &R, alloc: Global, words: &[&str]) -> Result<bool, Fail> {
-    let row = Row { words, ..STOCK };
+    let row = Case { words, ..STOCK };
     let gate = Watching::new(alloc)?;
     let (status, sink) = called(rt, alloc, &row, &gate)?;
     let told = workers_as_told(alloc, &gate, sink.taken(), STOCK_METHODS)?;
@@ -245,7 +245,7 @@ fn dinner<R: Threads + Wait + Sync>(
     alloc: Global,
     words: &[&str],
 ) -> Result<MemorySink, Fail> {
-    let row = Row { words, ..DINNER };
+    let row = Case { words, ..DINNER };
     let (_status, sink) = called(rt, alloc, &row, &OpenGate)?;
     Ok(sink)
 }

@@ -54,7 +54,7 @@ fn put_code(page: &mut Page, code: &Code) {
             put_code(page, body);
             page.put(" }");
         }
-        Code::Sync(place, body) => {
+        Code::Sync(place, _, body) => {
             page.put_placed(" [@", *place);
             put_code(page, body);
             page.put(" ]");

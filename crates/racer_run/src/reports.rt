@@ -62,7 +62,7 @@ pub fn said_of(
         alloc,
         mode,
         program,
-        outcomes.as_slice(),
+        outcomes,
         found.as_slice(),
         marks.as_slice(),
     )?;

@@ -1,8 +1,7 @@
 -- Where the stack is high enough for code it is so for its parts, and heads that are sound stay so from round to round.
 use Rattle.std.proofs.Common.{◌≡◌, ℕ, zero, suc, ◌+◌, ◌-◌, ◌≤◌, Bool, true, false, not, ◌&&◌, slice_get, List, [], ◌∷◌, ◌++◌, Option, None, Some, length, is_some, replicate, refl, sym, ap, subst, ◌∙◌, arith}
-use Rattle.racer_base.specs.declared.ids.Place.{Place}
 use Rattle.owner_domain.specs.declared.value.State.{State}
-use Rattle.core_code.specs.Tree.{Tree, Seq, Choice, Loop, Sync}
+use Rattle.core_code.specs.Tree.{LockAt, Tree, Seq, Choice, Loop, Sync}
 use Rattle.std.specs.List.{list_all}
 use Rattle.core_code.specs.Core.{Method}
 use Rattle.core_code.specs.Facts.{height_after, is_stack_enough}
@@ -50,12 +49,12 @@ pub high_right : (left right : Tree) (s : State) → IsHighEnough (Choice left r
 high_right left right s e = let m = some_of (height_after (Choice left right) (length s.stack)) e in
     is_high right s m.0 (either_heights left right (length s.stack) m.0 m.1).1
 
-pub high_held : (place : Place) (body : Tree) (s : State) → IsHighEnough (Sync place body) s →
+pub high_held : (lock : LockAt) (body : Tree) (s : State) → IsHighEnough (Sync lock body) s →
     IsHighEnough body (popped s 1)
-high_held place body s e = let m = some_of (height_after (Sync place body) (length s.stack)) e in
+high_held lock body s e = let m = some_of (height_after (Sync lock body) (length s.stack)) e in
     let less = sized_pop (length s.vars) (length s.stack) (length s.stack - 1) 1 s (popped s 1) (sized s) refl refl in
     is_high body (popped s 1) m.0 (ap (height_after body) less.stack
-    ∙ held_heights place body (length s.stack) m.0 m.1)
+    ∙ held_heights lock body (length s.stack) m.0 m.1)
 
 pub high_body : (body : Tree) (s : State) → IsHighEnough (Loop body) s → IsHighEnough body s
 high_body body s e = let m = some_of (height_after (Loop body) (length s.stack)) e in

@@ -48,7 +48,7 @@ pub fn count_loops(code: &Code) -> Result<usize, Memory>
             };
             sum(1, inner)
         }
-        Code::Sync(_, body) => count_loops(body),
+        Code::Sync(_, _, body) => count_loops(body),
     }
 }
 
@@ -121,7 +121,7 @@ pub fn resume(
             })
         }
         Code::Loop(body) => resume_loop(alloc, frame, locked, body, first, here, heads),
-        Code::Sync(_, body) => {
+        Code::Sync(_, _, body) => {
             mem::drop(here.pop());
             resume(alloc, frame, true, body, first, here, heads)
         }

@@ -58,7 +58,7 @@ pub fn walk_code(
             join_ends(alloc, left_goes_on, right_goes_on, here, other, found)
         }
         Code::Loop(body) => repeat(alloc, frame, locked, body, here, calls, found),
-        Code::Sync(_, body) => {
+        Code::Sync(_, _, body) => {
             mem::drop(here.pop());
             walk_code(alloc, frame, true, body, here, calls, found)
         }

@@ -3,11 +3,10 @@ use Rattle.std.proofs.Common.{◌≡◌, ℕ, zero, suc, ◌-◌, Bool, true, co
 use Rattle.std.proofs.Common.{length, nat_le, refl, sym, ap, subst, ◌∙◌}
 use Rattle.std.proofs.lemmas.List.{length-drop, append-nil}
 use Rattle.std.proofs.lemmas.Bool.{eq-eqb}
-use Rattle.racer_base.specs.declared.ids.Place.{Place}
 use Rattle.access_paths.specs.declared.path.Path.{Path}
 use Rattle.owner_domain.specs.declared.value.State.{State}
 use Rattle.owner_domain.specs.Values.{joined_state, lost_state}
-use Rattle.core_code.specs.Tree.{Tree, Skip, Seq, Choice, Loop, Sync, in_sequence}
+use Rattle.core_code.specs.Tree.{LockAt, Tree, Skip, Seq, Choice, Loop, Sync, in_sequence}
 use Rattle.core_code.specs.Facts.{same_height, height_after}
 use Rattle.access_domain.specs.Given.{FlowContext}
 use Rattle.access_domain.specs.Operations.{Effects, popped}
@@ -69,9 +68,9 @@ shorter-either h k a b c d p q =
       next = λ g locked s long. (λ i. joined_next (p.next g locked s long i) (q.next g locked s long i));
     }
 
-pub shorter-held : (h k : ℕ) (place : Place) (a c : Tree) → nat_le 1 h ≡ true → IsShorter (h - 1) k a c →
-    IsShorter h k (Sync place a) (Sync place c)
-shorter-held h k place a c e p =
+pub shorter-held : (h k : ℕ) (lock : LockAt) (a c : Tree) → nat_le 1 h ≡ true → IsShorter (h - 1) k a c →
+    IsShorter h k (Sync lock a) (Sync lock c)
+shorter-held h k lock a c e p =
     record {
       height = ap (λ b. cond b (height_after a (h - 1)) None) e ∙ p.height;
       next = λ g locked s long.

@@ -4,11 +4,10 @@ use Rattle.std.proofs.Common.{Option, None, Some, length, map, take, drop, get_o
 use Rattle.std.proofs.Common.{subst, ◌∙◌}
 use Rattle.std.proofs.lemmas.List.{at_drop_more, at_drop_all, take_more, take_all, map-append}
 use Rattle.std.specs.Prelude.{Result, Ok, Err, IfOk}
-use Rattle.racer_base.specs.declared.ids.Place.{Place}
 use Rattle.racer_base.specs.declared.Memory.{Memory}
 use Rattle.owner_domain.specs.declared.value.State.{State}
 use Rattle.core_code.specs.declared.code.Code.{Code}
-use Rattle.core_code.specs.Tree.{Tree, Skip, Seq, Choice, Loop, Sync, tree_of, in_sequence}
+use Rattle.core_code.specs.Tree.{LockAt, Tree, Skip, Seq, Choice, Loop, Sync, tree_of, in_sequence}
 use Rattle.core_code.specs.Facts.{height_after}
 use Rattle.access_domain.specs.Given.{FlowContext}
 use Rattle.access_domain.specs.Flow.{flow}
@@ -60,22 +59,22 @@ shortened-loop from body a (Ok short) p is high same = λ to e.
     (short-made from from (Loop body) (Loop (tree_of a.code)) a.height a.is_still short is high same one.height
     (shorter-again from (tree_of a.code) body one.shorter) one.still)
 
-held_some : (place : Place) (body : Tree) (h k : ℕ) → height_after (Sync place body) h ≡ Some k → nat_le 1 h ≡ true
-held_some place body h k e =
+held_some : (lock : LockAt) (body : Tree) (h k : ℕ) → height_after (Sync lock body) h ≡ Some k → nat_le 1 h ≡ true
+held_some lock body h k e =
     elim (nat_le 1 h) as (λ b. cond b (height_after body (h - 1)) None ≡ Some k → b ≡ true) [
       | true ↦ λ f. refl
       | false ↦ λ f. cc
     ] e
 
-pub shortened-held : (from : ℕ) (place : Place) (body : Tree) (a : Short) (r : Result Short Memory) →
-    IsShortened (from - 1) body a → IfOk r (λ short. tree_of short.code ≡ Sync place (tree_of a.code)) →
+pub shortened-held : (from : ℕ) (lock : LockAt) (body : Tree) (a : Short) (r : Result Short Memory) →
+    IsShortened (from - 1) body a → IfOk r (λ short. tree_of short.code ≡ Sync lock (tree_of a.code)) →
     IfOk r (λ short. short.height ≡ a.height) → IfOk r (λ short. short.is_still ≡ a.is_still) →
-    IfOk r (λ short. IsShortened from (Sync place body) short)
-shortened-held from place body a (Err error) p is high same = tt
-shortened-held from place body a (Ok short) p is high same = λ to e.
-    let one = p to (held_heights place body from to e) in
-    short-made from to (Sync place body) (Sync place (tree_of a.code)) a.height a.is_still short is high same one.height
-    (shorter-held from to place (tree_of a.code) body (held_some place body from to e) one.shorter) one.still
+    IfOk r (λ short. IsShortened from (Sync lock body) short)
+shortened-held from lock body a (Err error) p is high same = tt
+shortened-held from lock body a (Ok short) p is high same = λ to e.
+    let one = p to (held_heights lock body from to e) in
+    short-made from to (Sync lock body) (Sync lock (tree_of a.code)) a.height a.is_still short is high same one.height
+    (shorter-held from to lock (tree_of a.code) body (held_some lock body from to e) one.shorter) one.still
 
 -- ---- the parts of a sequence in turn
 -- so many parts were gone through

@@ -15,4 +15,4 @@ is_still Skip = true
 is_still (Seq first rest) = is_still first && is_still rest
 is_still (Choice left right) = is_still left && is_still right
 is_still (Loop body) = is_still body
-is_still (Sync place body) = is_still body
+is_still (Sync lock body) = is_still body

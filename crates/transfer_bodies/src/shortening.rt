@@ -10,7 +10,7 @@ ghost use Rattle.transfer_bodies.specs.Shortening.{IsShortened};
 ghost use Rattle.transfer_bodies.specs.Still.{is_still_op};
 
 use crate::kept::{Kept, Short};
-use core_code::{Code, Op};
+use core_code::{Code, LockKind, Op};
 use racer_base::{Memory, Place, SiteId};
 use std::alloc::Global;
 
@@ -96,8 +96,9 @@ fn repeated(alloc: Global, body: Short) -> Result<Short, Memory>
 }
 
 /// This body under a lock.
-fn locked(alloc: Global, place: Place, body: Short) -> Result<Short, Memory>
-    ensures code { IfOk result (λ short. tree_of short.code ≡ tree.Sync place (tree_of body.code)) }
+fn locked(alloc: Global, place: Place, kind: LockKind, body: Short) -> Result<Short, Memory>
+    ensures code { IfOk result (λ short. tree_of short.code
+        ≡ tree.Sync (record { place = place; kind = kind }) (tree_of body.code)) }
     ensures height { IfOk result (λ short. short.height ≡ body.height) }
     ensures still { IfOk result (λ short. short.is_still ≡ body.is_still) }
 {
@@ -105,7 +106,7 @@ fn locked(alloc: Global, place: Place, body: Short) -> Result<Short, Memory>
         return Err(Memory);
     };
     Ok(Short {
-        code: Code::Sync(place, code),
+        code: Code::Sync(place, kind, code),
         height: body.height,
         is_still: body.is_still,
     })
@@ -134,11 +135,11 @@ fn shorten(alloc: Global, code: &Code, height: usize) -> Result<Short, Memory>
             };
             repeated(alloc, body)
         }
-        Code::Sync(place, body) => {
+        Code::Sync(place, kind, body) => {
             let Ok(body) = shorten(alloc, body, height.saturating_sub(1)) else {
                 return Err(Memory);
             };
-            locked(alloc, *place, body)
+            locked(alloc, *place, *kind, body)
         }
     }
 }

@@ -2,13 +2,12 @@
 use Rattle.std.proofs.Common.{◌≡◌, ℕ, zero, suc, ◌+◌, ◌-◌, ◌≤◌, Bool, true, false, cond, List, [], ◌∷◌, Option, None, Some, length, nat_eq, nat_le, refl, sym, ap, subst, ◌∙◌, arith}
 use Rattle.std.proofs.lemmas.List.{length-drop, length-set}
 use Rattle.std.proofs.lemmas.Bool.{leb-true, eqb-true}
-use Rattle.racer_base.specs.declared.ids.Place.{Place}
 use Rattle.racer_base.specs.declared.ids.SiteId.{SiteId}
 use Rattle.racer_base.specs.declared.ids.MethodId.{MethodId}
 use Rattle.owner_domain.specs.declared.value.Value.{Value}
 use Rattle.owner_domain.specs.declared.value.State.{State}
 use Rattle.owner_domain.specs.Values.{joined_values, joined_state}
-use Rattle.core_code.specs.Tree.{Tree, Op, Skip, Seq, Choice, Loop, Sync}
+use Rattle.core_code.specs.Tree.{LockAt, Tree, Op, Skip, Seq, Choice, Loop, Sync}
 use Rattle.core_code.specs.Facts.{pops, pushes, same_height, height_after}
 use Rattle.core_code.specs.declared.code.Op.{Op as CoreOp}
 use Rattle.core_code.specs.declared.code.Op.TheVariants.{Push, PushClass, PushPrim, PushNull, New, Dup, Drop, Get, Put}
@@ -120,9 +119,9 @@ pub loop_heights : (body : Tree) (h k : ℕ) → height_after (Loop body) h ≡ 
 loop_heights body h k e = let r = same_heights (Some h) (height_after body h) k e in
     let same : h ≡ k = some_same h k r.0 in (same, r.1 ∙ ap Some (sym same))
 
-pub held_heights : (place : Place) (body : Tree) (h k : ℕ) → height_after (Sync place body) h ≡ Some k →
+pub held_heights : (lock : LockAt) (body : Tree) (h k : ℕ) → height_after (Sync lock body) h ≡ Some k →
     height_after body (h - 1) ≡ Some k
-held_heights place body h k e = elim (nat_le 1 h)
+held_heights lock body h k e = elim (nat_le 1 h)
     as (λ b. cond b (height_after body (h - 1)) None ≡ Some k → height_after body (h - 1) ≡ Some k)
     [ true ↦ λ f. f | false ↦ λ f. cc ] e
 

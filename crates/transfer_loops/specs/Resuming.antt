@@ -16,7 +16,7 @@ loops Skip = 0
 loops (Seq first rest) = loops first + loops rest
 loops (Choice left right) = loops left + loops right
 loops (Loop body) = suc (loops body)
-loops (Sync place body) = loops body
+loops (Sync lock body) = loops body
 
 -- the state in which each loop was left, by its number in reading order; none where it was not come to yet
 abbrev pub Heads : Type 0
@@ -68,7 +68,7 @@ resumed g (Loop body) locked k h s = (
       (iterated (resumed g body locked (suc k)) (rounds_of s) h (entered (h k) s)).1 k
       (iterated (resumed g body locked (suc k)) (rounds_of s) h (entered (h k) s)).0,
 )
-resumed g (Sync place body) locked k h s = resumed g body true k h (popped s 1)
+resumed g (Sync lock body) locked k h s = resumed g body true k h (popped s 1)
 
 abbrev pub OnNext : Option State → (State → Type 0) → Type 0
 OnNext None P = Unit {0}
@@ -86,4 +86,4 @@ IsSound g (Choice left right) locked k h s =
 IsSound g (Loop body) locked k h s =
     OnNext (h k) (λ x. BelowState x (rounds (flow g body locked) (rounds_of s) s).0)
     × IsSound g body locked (suc k) h (rounds (flow g body locked) (rounds_of s) s).0
-IsSound g (Sync place body) locked k h s = IsSound g body true k h (popped s 1)
+IsSound g (Sync lock body) locked k h s = IsSound g body true k h (popped s 1)

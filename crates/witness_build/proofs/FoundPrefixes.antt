@@ -8,13 +8,12 @@ use Rattle.access_paths.specs.Order.{PathSet}
 use Rattle.access_paths.specs.Paths.{front}
 use Rattle.access_domain.specs.declared.summary.Outcome.{Outcome}
 use Rattle.access_domain.specs.Summaries.{outcome_of, outcomes_of}
+use Rattle.access_domain.specs.Outcomes.{outcome_among, wobbly_held, record_among}
+use Rattle.access_domain.proofs.MethodOutcomes.{same-outcome, same-record}
+use Rattle.access_domain.specs.OutcomeRecords.{record_at}
 use Rattle.core_code.specs.Core.{Core}
-use Rattle.core_ways.specs.Going.{record_among}
 use Rattle.core_ways.specs.Stable.{is_wobbly, unstable_prefix}
-use Rattle.core_ways.specs.Ways.{record_at}
-use Rattle.core_ways.proofs.Going.{same-outcome, same-record}
 use Rattle.wobbly_paths.specs.Sets.{HasNoPrefix, IsShortestPrefix}
-use Rattle.core_ways.specs.Found.{outcome_among, wobbly_held}
 use Rattle.witness_build.specs.Found.{IsLeast, holds_front, least}
 use Rattle.witness_build.proofs.LeastPrefix.{either, first-prefix, least-both, wobbly-held}
 

@@ -10,9 +10,9 @@ use Rattle.access_paths.specs.Paths.{front, same_path}
 use Rattle.access_paths.specs.Same.{path_cmp-total, tied}
 use Rattle.access_domain.specs.Findings.{Known, Large, Whole, outcome_from}
 use Rattle.access_domain.specs.Summaries.{known_of, outcome_of}
+use Rattle.access_domain.specs.Outcomes.{wobbly_held}
 use Rattle.core_code.specs.Core.{Core}
 use Rattle.core_ways.specs.Stable.{counting, is_wobbly, proper_prefixes, wobbly_in}
-use Rattle.core_ways.specs.Found.{wobbly_held}
 use Rattle.witness_build.specs.Found.{IsFirst, IsLeast, is_held, least}
 
 -- ---- the first of two tests

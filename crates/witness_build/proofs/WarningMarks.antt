@@ -6,12 +6,12 @@ use Rattle.access_paths.specs.Paths.{is_some_root}
 use Rattle.access_domain.specs.declared.access.Access.{Access}
 use Rattle.access_domain.specs.declared.summary.Outcome.{Outcome}
 use Rattle.access_domain.specs.Summaries.{outcomes_of}
+use Rattle.access_domain.specs.Outcomes.{record_among}
+use Rattle.access_domain.specs.OutcomeRecords.{record_at}
 use Rattle.core_code.specs.Core.{Core}
 use Rattle.core_ways.specs.declared.mark.Mark.{Mark}
-use Rattle.core_ways.specs.Going.{record_among}
 use Rattle.core_ways.specs.Marks.{Pair, Said, Unnamed, Unstable, is_locked, mark_by_calls, mark_of, said_by}
 use Rattle.core_ways.specs.Stable.{unstable_prefix}
-use Rattle.core_ways.specs.Ways.{record_at}
 use Rattle.race_pairs.specs.declared.warning.Warning.{Warning}
 use Rattle.witness_build_laws.specs.Warned.{pair_of, warning_mark}
 use Rattle.witness_build.proofs.FoundPrefixes.{record-found}

@@ -4,11 +4,11 @@ use Rattle.std.specs.List.{list_all}
 use Rattle.core_code.specs.Calls.{method_at}
 use Rattle.core_code.specs.Core.{Core, Method}
 use Rattle.access_domain.specs.declared.access.Access.{Access}
+use Rattle.access_domain.specs.OutcomeRecords.{record_at}
 use Rattle.race_pairs.specs.declared.warning.Warning.{Warning}
 use Rattle.core_semantics.specs.declared.object.StartPath.{StartPath}
 use Rattle.core_semantics.specs.Legs.{Leg}
 use Rattle.core_ways.specs.Marks.{Said, Unnamed, Unstable, Unread, Long, Blocked, Confirmed}
-use Rattle.core_ways.specs.Ways.{record_at}
 use Rattle.witness_build_laws.specs.Races.{RacesOn}
 use Rattle.core_ways_objects.specs.Reached.{is_right, roots_of}
 

@@ -17,12 +17,10 @@ ghost use Rattle.witness_build_laws.specs.Warned.{pair_of, warning_mark};
 ghost use Rattle.witness_build.specs.Replayed.{AreRight, DoRace, IfConfirmed};
 
 use crate::prefixes::unstable_prefix;
-use access_domain::Outcomes;
+use access_domain::{Outcomes, record_of};
 use core_code::Program;
 use core_semantics::{Machine, Start, begin};
-use core_ways::{
-    Leg, Mark, Objects, Target, WayPair, WayTaken, Witness, let_go, record_of, run_leg,
-};
+use core_ways::{Leg, Mark, Objects, Target, WayPair, WayTaken, Witness, let_go, run_leg};
 use core_ways_sites::{SiteWays, let_go as let_ways_go};
 use race_pairs::Warning;
 use racer_base::{Items, Memory, Place};

@@ -7,10 +7,9 @@ ghost use Rattle.access_paths.specs.Paths.{front};
 ghost use Rattle.core_ways.specs.Stable.{unstable_prefix};
 ghost use Rattle.witness_build.specs.Found.{IsLeast, holds_front, least};
 
-use access_domain::Outcomes;
+use access_domain::{Outcomes, wobbly_of};
 use access_paths::{Path, PathFields};
 use core_code::Program;
-use core_ways::wobbly_of;
 use racer_base::{Memory, MethodId};
 use std::alloc::Global;
 use wobbly_paths::Wobbly;

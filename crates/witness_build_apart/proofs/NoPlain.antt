@@ -54,7 +54,7 @@ todo-other core f None = tt
 todo-other core f (Some (Op place op)) = op-other core f op
 todo-other core f (Some (Choice left right)) = tt
 todo-other core f (Some (Loop body)) = tt
-todo-other core f (Some (Sync place body)) = tt
+todo-other core f (Some (Sync lock body)) = tt
 todo-other core f (Some Unlock) = tt
 
 frame-other : (core : Core) (frame : Option Frame) → IsOther core (frame_change core frame)

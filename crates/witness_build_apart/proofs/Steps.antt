@@ -256,8 +256,8 @@ todo-alike core but turn a b f callers locks others (Op place op ∷ rest) alike
     operated-alike core but a b f callers locks rest op alike avoided
 todo-alike core but turn a b f callers locks others (Choice left right ∷ rest) alike avoided = (refl, alike)
 todo-alike core but turn a b f callers locks others (Loop body ∷ rest) alike avoided = (refl, alike)
-todo-alike core but turn a b f callers locks others (Sync place body ∷ rest) alike avoided =
-    lock-alike core but a b (with_steps f rest) callers locks others body (monitor_of (top f)) alike
+todo-alike core but turn a b f callers locks others (Sync lock body ∷ rest) alike avoided =
+    lock-alike core but a b (with_steps f rest) callers locks others body (monitor_of lock.kind (top f)) alike
 todo-alike core but turn a b f callers locks others (Unlock ∷ rest) alike avoided = (refl, alike)
 
 abbrev pub thread_touch : Thread → Option Access

@@ -268,8 +268,8 @@ todo-changed core turn a f callers locks others (Op place op ∷ rest) plain =
     operated-changed core a f callers locks rest op plain
 todo-changed core turn a f callers locks others (Choice left right ∷ rest) plain = same-store core a plain
 todo-changed core turn a f callers locks others (Loop body ∷ rest) plain = same-store core a plain
-todo-changed core turn a f callers locks others (Sync place body ∷ rest) plain =
-    lock-changed core a (with_steps f rest) callers locks others body (monitor_of (top f)) plain
+todo-changed core turn a f callers locks others (Sync lock body ∷ rest) plain =
+    lock-changed core a (with_steps f rest) callers locks others body (monitor_of lock.kind (top f)) plain
 todo-changed core turn a f callers locks others (Unlock ∷ rest) plain = same-store core a plain
 
 pub thread-changed : (core : Core) (turn : Turn) (others : List Holder) (a : Store) (frames : List Frame)

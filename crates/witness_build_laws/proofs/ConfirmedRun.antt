@@ -1,7 +1,7 @@
 -- The run of a confirmed warning races, where each way leads to the object of its record's path.
 use Rattle.std.proofs.Common.{◌≡◌, ℕ, Bool, true, false, cond, not, ◌&&◌, ◌||◌, List, [], ◌∷◌, Option, None, Some}
 use Rattle.std.proofs.Common.{refl, sym}
-use Rattle.std.proofs.Common.{ap, subst, ◌∙◌, slice_get}
+use Rattle.std.proofs.Common.{ap, subst, ◌∙◌}
 use Rattle.std.specs.List.{Contains}
 use Rattle.racer_base.specs.declared.ids.MethodId.{MethodId}
 use Rattle.racer_base.specs.declared.ids.Touch.{Touch}
@@ -12,9 +12,8 @@ use Rattle.access_paths.specs.declared.path.Root.TheVariants.{This, Class, Forma
 use Rattle.access_paths.specs.Paths.{is_formal, is_some_root, same_path}
 use Rattle.access_paths.specs.Same.{equal_of_same}
 use Rattle.access_domain.specs.declared.access.Access.{Access}
-use Rattle.access_domain.specs.declared.summary.Outcome.{Outcome}
 use Rattle.access_domain.specs.Records.{is_write}
-use Rattle.access_domain.specs.Summaries.{outcome_of}
+use Rattle.access_domain.specs.OutcomeRecords.{record_at}
 use Rattle.core_code.specs.Calls.{method_at}
 use Rattle.core_code.specs.Core.{Core, Method}
 use Rattle.core_semantics.specs.declared.object.Start.TheVariants.{All, Only}
@@ -26,11 +25,11 @@ use Rattle.core_semantics.specs.Steps.{entered}
 use Rattle.core_ways.specs.Marks.{Confirmed, Said, Unnamed, first_halt, is_locked, leg_along, mark_of}
 use Rattle.core_ways.specs.Marks.{objects_of}
 use Rattle.core_ways.specs.Stable.{IsStable, is_lasting_root}
-use Rattle.core_ways.specs.Ways.{record_at, records_held, way_of}
+use Rattle.core_ways.specs.Ways.{way_of}
 use Rattle.witness_build_laws.specs.Heaps.{Heap, state_in}
 use Rattle.race_pairs.specs.declared.warning.Warning.{Warning}
 use Rattle.race_pairs.specs.Pairs.{IsPair}
-use Rattle.race_pairs.specs.Warnings.{conflicts, records_of, warnings, records_held as pairs_held}
+use Rattle.race_pairs.specs.Warnings.{conflicts, warnings}
 use Rattle.race_pairs.proofs.WarningPairs.{both_pass, warning_is_pair}
 use Rattle.witness_build_laws.specs.Warned.{pair_of, warning_mark}
 use Rattle.witness_build_laws.specs.Races.{RacesOn, Touches}
@@ -62,14 +61,6 @@ enters : (core : Core) (t : ℕ) (m : MethodId) (method : Method) → method_at 
 enters core t m method is = ap (thread_by t) is
 
 -- ---- the two records of a warning
-
-same-held : (o : Option Outcome) → pairs_held o ≡ records_held o
-same-held None = refl
-same-held (Some outcome) = refl
-
-pub record-of : (core : Core) (m : MethodId) (i : ℕ) (r : Access) → slice_get (records_of core m) i ≡ Some r →
-    record_at core m i ≡ Some r
-record-of core m i r is = ap (λ (rs : List Access). slice_get rs i) (sym (same-held (outcome_of core m))) ∙ is
 
 -- what a conflict says
 pub record Conflict (a b : Access) : Type 0 where
@@ -285,7 +276,7 @@ pub confirmed-found : (core : Core) (w : Warning) (objects : List StartPath) (le
 confirmed-found core w objects legs listed is =
     let pair : IsPair core w = warning_is_pair core w listed in
     let a : Access = pair.first in
-    let at : record_at core w.entry w.access ≡ Some a = record-of core w.entry w.access a pair.of_entry.has in
+    let at : record_at core w.entry w.access ≡ Some a = pair.of_entry.has in
     let by : IsConfirmedBy core (pair_of w) a.path objects legs =
     mark-parts core (pair_of w) a.path legs objects (sym (ap (mark_by core w) at) ∙ is) in
     let conflict : Conflict a pair.partner = conflict-parts a pair.partner pair.conflict in
@@ -297,7 +288,7 @@ confirmed-found core w objects legs listed is =
       entry = pair.of_entry.is;
       partner = pair.of_partner.is;
       of_entry = at;
-      of_partner = record-of core w.partner w.partner_access pair.partner pair.of_partner.has;
+      of_partner = pair.of_partner.has;
       conflict = conflict;
       stable = record { root = lasting a.path.root by.named conflict.formal; prefixes = by.stable };
       by = by;

@@ -2,6 +2,7 @@
 use Rattle.std.proofs.Common.{◌≡◌, List, Some, refl, sym, subst, ◌∙◌, inl, inr}
 use Rattle.std.specs.List.{Contains}
 use Rattle.access_domain.specs.declared.access.Access.{Access}
+use Rattle.access_domain.specs.OutcomeRecords.{record_at}
 use Rattle.core_code.specs.declared.program.Program.{Program}
 use Rattle.core_code.specs.Core.{Core}
 use Rattle.core_code.specs.Program.{core as core_of}
@@ -11,7 +12,6 @@ use Rattle.core_semantics.specs.Legs.{Leg}
 use Rattle.core_semantics.specs.Runs.{begun, given_to}
 use Rattle.core_ways.specs.Marks.{Confirmed}
 use Rattle.core_ways.specs.Stable.{IsStable}
-use Rattle.core_ways.specs.Ways.{record_at}
 use Rattle.race_pairs.specs.declared.warning.Warning.{Warning}
 use Rattle.race_pairs.specs.Warnings.{warnings}
 use Rattle.core_ways_laws.proofs.WayEnds.{way-ends}

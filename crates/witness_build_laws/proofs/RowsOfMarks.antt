@@ -7,6 +7,7 @@ use Rattle.racer_base.specs.declared.ids.Place.{Place}
 use Rattle.access_paths.specs.declared.path.Path.{Path}
 use Rattle.access_paths.specs.Paths.{is_some_root}
 use Rattle.access_domain.specs.declared.access.Access.{Access}
+use Rattle.access_domain.specs.OutcomeRecords.{record_at}
 use Rattle.core_code.specs.declared.program.Program.{Program}
 use Rattle.core_code.specs.Core.{Core}
 use Rattle.core_code.specs.Program.{core as core_of}
@@ -17,14 +18,13 @@ use Rattle.core_ways.specs.Marks.{Said, Unnamed, Unstable, Unread, Long, Blocked
 use Rattle.core_ways.specs.Marks.{first_long, first_unread, legs_of, mark_by_calls, mark_by_length, mark_by_run}
 use Rattle.core_ways.specs.Marks.{mark_of, objects_of, ways_in_order}
 use Rattle.core_ways.specs.Stable.{IsStable, unstable_prefix}
-use Rattle.core_ways.specs.Ways.{record_at}
 use Rattle.race_pairs.specs.declared.warning.Warning.{Warning}
 use Rattle.race_pairs.specs.Pairs.{IsPair}
 use Rattle.race_pairs.specs.Warnings.{warnings}
 use Rattle.race_pairs.proofs.WarningPairs.{warning_is_pair}
 use Rattle.witness_build_laws.specs.Table.{IsRow, IsStopped, IsStuckAt}
 use Rattle.witness_build_laws.specs.Warned.{pair_of, warning_mark}
-use Rattle.witness_build_laws.proofs.ConfirmedRun.{conflict-parts, full, lasting, mark_by, record-of}
+use Rattle.witness_build_laws.proofs.ConfirmedRun.{conflict-parts, full, lasting, mark_by}
 use Rattle.witness_build_laws.proofs.MarkParts.{halt_in}
 use Rattle.witness_build_laws.proofs.TableRows.{AreMade, DoStop, Ends, IsByRun, halt, legs-end, said-made, said-stopped}
 use Rattle.witness_build_laws.proofs.TableRows.{same-record, whole-ways}
@@ -98,7 +98,7 @@ mark-row p w r listed at =
     path-row core w path (legs-end p w pair)
     (λ known none. record { root = lasting path.root known conflict.formal; prefixes = none }) in
     let mark : mark_of core (pair_of w) path ≡ warning_mark core w =
-    sym (ap (mark_by core w) (record-of core w.entry w.access pair.first pair.of_entry.has)) in
+    sym (ap (mark_by core w) pair.of_entry.has) in
     subst (λ (x : Access). IsRow core w x.path (warning_mark core w)) (same-record core w pair r at)
     (subst (IsRow core w path) mark row)
 

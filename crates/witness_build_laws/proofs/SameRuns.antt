@@ -108,7 +108,7 @@ next-same : (core : Core) (heap : Heap) (s : State) (frame : Frame) (todo : List
 next-same core heap s frame [] there is all = tt
 next-same core heap s frame (Choice left right ∷ rest) there is all = tt
 next-same core heap s frame (Loop body ∷ rest) there is all = tt
-next-same core heap s frame (Sync place body ∷ rest) there is all = tt
+next-same core heap s frame (Sync lock body ∷ rest) there is all = tt
 next-same core heap s frame (Unlock ∷ rest) there is all = tt
 next-same core heap s frame (Op place op ∷ rest) there is all =
     get-same core heap s frame op there (λ f o get base.
@@ -137,7 +137,7 @@ own-reads : (core : Core) (store : Store) (frame : Frame) (todo : List Todo) →
 own-reads core store frame [] = tt
 own-reads core store frame (Choice left right ∷ rest) = tt
 own-reads core store frame (Loop body ∷ rest) = tt
-own-reads core store frame (Sync place body ∷ rest) = tt
+own-reads core store frame (Sync lock body ∷ rest) = tt
 own-reads core store frame (Unlock ∷ rest) = tt
 own-reads core store frame (Op place op ∷ rest) = λ f o is base. refl
 
@@ -206,7 +206,7 @@ none-at-turn core s frame [] e = absurd cc
 none-at-turn core s frame (Op place op ∷ rest) e = absurd cc
 none-at-turn core s frame (Choice left right ∷ rest) e = refl
 none-at-turn core s frame (Loop body ∷ rest) e = refl
-none-at-turn core s frame (Sync place body ∷ rest) e = absurd cc
+none-at-turn core s frame (Sync lock body ∷ rest) e = absurd cc
 none-at-turn core s frame (Unlock ∷ rest) e = absurd cc
 
 none-in-frames : (core : Core) (s : State) (frames : List Frame) →

@@ -170,7 +170,7 @@ NextReadsSame core heap store frame [] = Unit {0}
 NextReadsSame core heap store frame (Op place op ∷ rest) = ReadsSame core heap store frame op
 NextReadsSame core heap store frame (Choice left right ∷ rest) = Unit {0}
 NextReadsSame core heap store frame (Loop body ∷ rest) = Unit {0}
-NextReadsSame core heap store frame (Sync place body ∷ rest) = Unit {0}
+NextReadsSame core heap store frame (Sync lock body ∷ rest) = Unit {0}
 NextReadsSame core heap store frame (Unlock ∷ rest) = Unit {0}
 
 todo-same : (core : Core) (heap : Heap) (turn : Turn) (others : List Holder) (s : Spot) (todo : List Todo) →
@@ -180,8 +180,8 @@ todo-same core heap turn others s [] same = refl
 todo-same core heap turn others s (Op place op ∷ rest) same = operated-same core heap s rest op same
 todo-same core heap turn others s (Choice left right ∷ rest) same = refl
 todo-same core heap turn others s (Loop body ∷ rest) same = refl
-todo-same core heap turn others s (Sync place body ∷ rest) same =
-    lock-same heap others (with_todo s rest) body (monitor_of (top s.frame))
+todo-same core heap turn others s (Sync lock body ∷ rest) same =
+    lock-same heap others (with_todo s rest) body (monitor_of lock.kind (top s.frame))
 todo-same core heap turn others s (Unlock ∷ rest) same = refl
 
 -- the same of a thread

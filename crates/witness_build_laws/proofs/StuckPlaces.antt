@@ -37,8 +37,8 @@ todo-placed core turn others s [] = tt
 todo-placed core turn others s (Op at op ∷ rest) = there at (operated core s rest op)
 todo-placed core turn others s (Choice left right ∷ rest) = tt
 todo-placed core turn others s (Loop body ∷ rest) = tt
-todo-placed core turn others s (Sync at body ∷ rest) =
-    there at (lock_step others (with_todo s rest) body (top s.frame))
+todo-placed core turn others s (Sync lock body ∷ rest) =
+    there lock.place (lock_step others (with_todo s rest) lock.kind body (top s.frame))
 todo-placed core turn others s (Unlock ∷ rest) = tt
 
 abbrev place_in : List Frame → Option Place

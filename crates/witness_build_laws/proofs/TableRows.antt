@@ -10,6 +10,7 @@ use Rattle.racer_base.specs.declared.limits.TheConstants.{MAX_WAY_STEPS}
 use Rattle.access_paths.specs.declared.path.Path.{Path}
 use Rattle.access_paths.specs.Paths.{is_some_root}
 use Rattle.access_domain.specs.declared.access.Access.{Access}
+use Rattle.access_domain.specs.OutcomeRecords.{record_at}
 use Rattle.core_code.specs.declared.program.Program.{Program}
 use Rattle.core_code.specs.Core.{Core, Method}
 use Rattle.core_code.specs.Program.{core as core_of}
@@ -23,7 +24,7 @@ use Rattle.core_ways.specs.Marks.{first_halt, first_long, first_unread, is_locke
 use Rattle.core_ways.specs.Marks.{mark_by_calls, mark_by_length, mark_by_run, mark_of, objects_of, ways_in_order}
 use Rattle.core_ways.specs.Answers.{counted}
 use Rattle.core_ways.specs.Stable.{IsStable, unstable_prefix}
-use Rattle.core_ways.specs.Ways.{Trip, record_at, way_of}
+use Rattle.core_ways.specs.Ways.{Trip, way_of}
 use Rattle.race_pairs.specs.declared.warning.Warning.{Warning}
 use Rattle.race_pairs.specs.Pairs.{IsPair}
 use Rattle.race_pairs.specs.Warnings.{warnings}
@@ -33,7 +34,7 @@ use Rattle.core_ways_laws.proofs.WayEnds.{way-ends}
 use Rattle.witness_build_laws.specs.Table.{IsBlocked, IsStopped}
 use Rattle.witness_build_laws.specs.Warned.{pair_of, warning_mark}
 use Rattle.witness_build_laws.proofs.ConfirmedRun.{Conflict, conflict-parts, first-entered, full, lasting, legs_by}
-use Rattle.witness_build_laws.proofs.ConfirmedRun.{locked-is, mark_by, record-of, second-entered, unlocked-second}
+use Rattle.witness_build_laws.proofs.ConfirmedRun.{locked-is, mark_by, second-entered, unlocked-second}
 use Rattle.witness_build_laws.proofs.LegPairs.{unlocked-free}
 use Rattle.witness_build_laws.proofs.MarkParts.{by_halt, halt_in, start}
 use Rattle.witness_build_laws.proofs.StuckPlaces.{stuck-place}
@@ -156,9 +157,9 @@ by-order p w pair locked is =
     let b : Access = pair.partner in
     let f : Method = pair.of_entry.method in
     let g : Method = pair.of_partner.method in
-    let of_a : record_at core w.entry w.access ≡ Some a = record-of core w.entry w.access a pair.of_entry.has in
+    let of_a : record_at core w.entry w.access ≡ Some a = pair.of_entry.has in
     let of_b : record_at core w.partner w.partner_access ≡ Some b =
-    record-of core w.partner w.partner_access b pair.of_partner.has in
+    pair.of_partner.has in
     let conflict : Conflict a b = conflict-parts a b pair.conflict in
     let s : State = full core w in
     let zero_in = first-entered core w f pair.of_entry.is in
@@ -188,7 +189,7 @@ pub legs-end : (p : Program) (w : Warning) → IsPair (core_of p) w →
     Ends (core_of p) (legs_of (core_of p) (pair_of w)) (full (core_of p) w)
 legs-end p w pair =
     by-order p w pair (is_locked (core_of p) w.entry w.access) (sym (locked-is (core_of p) w pair.first
-    (record-of (core_of p) w.entry w.access pair.first pair.of_entry.has)))
+    pair.of_entry.has))
 
 -- ---- the rows before the last two
 
@@ -345,7 +346,7 @@ whole-ways core w p said by runs_whole =
 marked : (core : Core) (w : Warning) (pair : IsPair core w) (said : Said) → warning_mark core w ≡ said →
     mark_of core (pair_of w) pair.first.path ≡ said
 marked core w pair said is =
-    sym (ap (mark_by core w) (record-of core w.entry w.access pair.first pair.of_entry.has)) ∙ is
+    sym (ap (mark_by core w) pair.of_entry.has) ∙ is
 
 pub blocked-stuck : (p : Program) (w : Warning) (t : ℕ) (at : Place) → Contains (warnings (core_of p)) w →
     warning_mark (core_of p) w ≡ Blocked t at → IsBlocked (core_of p) w t at
@@ -365,7 +366,7 @@ pub same-record : (core : Core) (w : Warning) (pair : IsPair core w) (r : Access
     record_at core w.entry w.access ≡ Some r → pair.first ≡ r
 same-record core w pair r is =
     let both : Some pair.first ≡ Some r =
-    sym (record-of core w.entry w.access pair.first pair.of_entry.has) ∙ is in cc
+    sym pair.of_entry.has ∙ is in cc
 
 pub unnamed-some : (p : Program) (w : Warning) (r : Access) → Contains (warnings (core_of p)) w →
     record_at (core_of p) w.entry w.access ≡ Some r → warning_mark (core_of p) w ≡ Unnamed →

@@ -15,9 +15,10 @@ use Rattle.core_semantics.specs.Legs.{Leg, Ran, Came, Halted, run, runs, whole}
 use Rattle.core_semantics.specs.Runs.{begun, place}
 use Rattle.core_semantics.specs.State.{State}
 use Rattle.access_domain.specs.declared.access.Access.{Access}
+use Rattle.access_domain.specs.OutcomeRecords.{record_at}
 use Rattle.race_pairs.specs.declared.warning.Warning.{Warning}
 use Rattle.core_ways.specs.Stable.{IsStable, is_lasting_root}
-use Rattle.core_ways.specs.Ways.{Trip, way_of, record_at}
+use Rattle.core_ways.specs.Ways.{Trip, way_of}
 use Rattle.core_ways.specs.Marks.{Pair, IsWhole, Confirmed, is_locked, legs_of, ways_in_order, objects_of, mark_of}
 use Rattle.core_ways.specs.Marks.{mark_by_calls, mark_by_length, mark_by_run, first_unread, first_long, first_halt}
 use Rattle.witness_build_laws.specs.Warned.{pair_of, warning_mark}

@@ -2,12 +2,12 @@
 use Rattle.std.specs.Prelude.{◌≡◌, Some}
 use Rattle.std.specs.List.{Contains}
 use Rattle.access_domain.specs.declared.access.Access.{Access}
+use Rattle.access_domain.specs.OutcomeRecords.{record_at}
 use Rattle.core_code.specs.Core.{Core}
 use Rattle.core_semantics.specs.declared.object.Start.TheVariants.{All}
 use Rattle.core_semantics.specs.Runs.{begun}
 use Rattle.core_ways.specs.Marks.{Confirmed, IsWhole, legs_of, objects_of}
 use Rattle.core_ways.specs.Stable.{IsStable}
-use Rattle.core_ways.specs.Ways.{record_at}
 use Rattle.race_pairs.specs.declared.warning.Warning.{Warning}
 use Rattle.race_pairs.specs.Warnings.{warnings}
 use Rattle.witness_build_laws.specs.Warned.{pair_of, warning_mark}

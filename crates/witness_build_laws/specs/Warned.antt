@@ -3,7 +3,7 @@ use Rattle.std.specs.Prelude.{None, Some}
 use Rattle.core_code.specs.Core.{Core}
 use Rattle.race_pairs.specs.declared.warning.Warning.{Warning}
 use Rattle.core_ways.specs.Marks.{Pair, Said, Unnamed, mark_of}
-use Rattle.core_ways.specs.Ways.{record_at}
+use Rattle.access_domain.specs.OutcomeRecords.{record_at}
 
 -- the two records of a warning
 abbrev pub pair_of : Warning → Pair

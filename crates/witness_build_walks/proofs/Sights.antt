@@ -93,7 +93,7 @@ doing core store f None = quietly core store false
 doing core store f (Some (Op place op)) = operating core store f op
 doing core store f (Some (Choice left right)) = quietly core store true
 doing core store f (Some (Loop body)) = quietly core store true
-doing core store f (Some (Sync place body)) = quietly core store false
+doing core store f (Some (Sync lock body)) = quietly core store false
 doing core store f (Some Unlock) = quietly core store false
 
 abbrev sight_in : Core → Option Frame → Sight

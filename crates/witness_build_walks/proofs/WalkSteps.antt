@@ -40,7 +40,7 @@ todo-touches f None e = refl
 todo-touches f (Some (Op place op)) e = absurd cc
 todo-touches f (Some (Choice left right)) e = refl
 todo-touches f (Some (Loop body)) e = refl
-todo-touches f (Some (Sync place body)) e = absurd cc
+todo-touches f (Some (Sync lock body)) e = absurd cc
 todo-touches f (Some Unlock) e = absurd cc
 
 -- a choice or a loop touches nothing

@@ -19,9 +19,10 @@ use Rattle.core_code.specs.Calls.{method_at}
 use Rattle.core_code.specs.Core.{Core, Method}
 use Rattle.core_code.specs.KindCheck.{field_at}
 use Rattle.core_code.specs.Facts.{is_class, is_field_in_range, is_kind, is_method_in_range}
-use Rattle.core_code.specs.Names.{is_identifier}
+use Rattle.core_code.specs.Names.{is_field_name, is_identifier}
 use Rattle.core_code.specs.Program.{core as core_of}
 use Rattle.core_code.proofs.BoolParts.{first_part, last_part}
+use Rattle.core_code.proofs.FieldNames.{field_name-no-dot}
 use Rattle.access_paths.specs.Text.{name_at}
 use Rattle.core_semantics.specs.declared.object.Start.TheVariants.{Only}
 use Rattle.core_semantics.specs.declared.object.StartPath.{StartPath}
@@ -110,18 +111,13 @@ module _ (p : Program) (roots : Roots) where
   dotless (x ∷ xs) h = (
     subst (λ (t : List ℕ). All (λ b. is_dot b ≡ false) t)
         (sym (mapped-at (λ (y : FieldCore). y.name) (core_of p).fields x.0 h.0.0 [] h.0.1))
-        (word-no-dots h.0.0.name (identifier-word h.0.0.name
-        (passes-in (λ (y : FieldCore). is_identifier y.name) (core_of p).fields h.0.0
+        (field_name-no-dot h.0.0.name
+        (passes-in (λ (y : FieldCore). is_field_name y.name) (core_of p).fields h.0.0
         (last_part (list_all (λ (y : ClassCore). is_identifier y.name) (core_of p).classes)
-        (list_all (λ (y : FieldCore). is_identifier y.name) (core_of p).fields) p.identifiers)
-        (in-at (core_of p).fields x.0 h.0.0 h.0.1)))),
+        (list_all (λ (y : FieldCore). is_field_name y.name) (core_of p).fields) p.names_right)
+        (in-at (core_of p).fields x.0 h.0.0 h.0.1))),
     dotless xs h.1,
   )
-    where
-      identifier-word : (t : List ℕ) → is_identifier t ≡ true → is_word t ≡ true
-      identifier-word t e =
-          first_part (is_word t) (not (is_listed keywords t))
-          (first_part (is_word t && not (is_listed keywords t)) (not (is_listed fixed_words t)) e)
 
 -- ---- objects
 

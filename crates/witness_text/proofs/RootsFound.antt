@@ -15,7 +15,7 @@ use Rattle.core_code.specs.declared.parts.FieldCore.{FieldCore}
 use Rattle.core_code.specs.declared.program.Program.{Program}
 use Rattle.core_code.specs.Core.{Method}
 use Rattle.core_code.specs.Facts.{is_class}
-use Rattle.core_code.specs.Names.{is_identifier, same_text}
+use Rattle.core_code.specs.Names.{is_field_name, is_identifier, same_text}
 use Rattle.core_code.specs.Program.{core as core_of}
 use Rattle.core_code.proofs.BoolParts.{first_part}
 use Rattle.core_code.proofs.Membership.{In}
@@ -108,7 +108,7 @@ module _ (p : Program) (f g : Method) (few_f : length f.parameters < 2 ^ 64) (fe
         ap is_identifier one.2
         ∙ passes-in (λ (x : ClassCore). is_identifier x.name) (core_of p).classes one.0
         (first_part (list_all (λ (x : ClassCore). is_identifier x.name) (core_of p).classes)
-        (list_all (λ (x : FieldCore). is_identifier x.name) (core_of p).fields) p.identifiers)
+        (list_all (λ (x : FieldCore). is_field_name x.name) (core_of p).fields) p.names_right)
         (in-at (core_of p).classes c.0 one.0 one.1)
 
     this-no-class : (name : List ℕ) → is_identifier name ≡ true → codes "this" ≡ name → ⊥

@@ -7,6 +7,7 @@ use Rattle.racer_base.specs.declared.ids.Place.{Place}
 use Rattle.racer_base.specs.declared.limits.TheConstants.{MAX_WAY_STEPS}
 use Rattle.access_domain.specs.declared.access.Access.{Access}
 use Rattle.access_domain.specs.Records.{firsts}
+use Rattle.access_domain.specs.OutcomeRecords.{record_at}
 use Rattle.access_paths.specs.declared.path.Path.{Path}
 use Rattle.access_paths.specs.Paths.{is_some_root}
 use Rattle.core_code.specs.Core.{Core, Method}
@@ -21,7 +22,7 @@ use Rattle.core_ways.specs.Marks.{Pair, Said, Unnamed, Unstable, Unread, Long, C
 use Rattle.core_ways.specs.Marks.{is_locked, leg_along, legs_of, mark_by_calls, mark_by_length, mark_by_run, mark_of}
 use Rattle.core_ways.specs.Marks.{objects_of, reads, reads_of_legs, ways_in_order}
 use Rattle.core_ways.specs.Stable.{unstable_prefix}
-use Rattle.core_ways.specs.Ways.{Trip, record_at, way_of}
+use Rattle.core_ways.specs.Ways.{Trip, way_of}
 use Rattle.core_ways.proofs.Gathering.{gathered-count, gathered-firsts}
 use Rattle.race_pairs.specs.declared.warning.Warning.{Warning}
 use Rattle.race_report_parts.specs.Marks.{start_text}

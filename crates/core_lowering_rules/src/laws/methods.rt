@@ -3,7 +3,8 @@ ghost use Rattle.std.specs.Prelude.{◌≡◌, [], ◌∷◌, Some, true, false,
 ghost use Rattle.racer_base.specs.declared.ids.Kind.TheVariants.{Plain, Other};
 ghost use Rattle.java_tree.specs.declared.methods.FieldInitialiser.TheVariants.{Absent};
 ghost use Rattle.java_tree.specs.declared.methods.ResultTree.TheVariants.{Constructor, Void};
-ghost use Rattle.core_code.specs.Tree.{Sync, in_sequence};
+ghost use Rattle.core_code.specs.Pair.{own_sync};
+ghost use Rattle.core_code.specs.Tree.{in_sequence};
 ghost use Rattle.core_lowering_rules.specs.Context.{Itself, Nothing, Value};
 ghost use Rattle.core_lowering_rules.specs.Methods.{Default, Unspelled, ended, locked, field_begun, code_in};
 ghost use Rattle.core_lowering_rules.specs.PlacedTexts.{method_place, ident};
@@ -40,9 +41,9 @@ pub fn ends_of_methods()
 
 /// A synchronized method holds the lock of its object or of its class, at its own place (JLS 8.4.3.6).
 pub fn locks_of_methods()
-    ensures of_object { locked in_w true (prim ∷ []) ≡ push_this ∷ Sync method_place (in_sequence (prim ∷ [])) ∷ [] }
+    ensures of_object { locked in_w true (prim ∷ []) ≡ push_this ∷ own_sync method_place (in_sequence (prim ∷ [])) ∷ [] }
     ensures of_class { locked in_static true (prim ∷ [])
-        ≡ push_class class_a ∷ Sync method_place (in_sequence (prim ∷ [])) ∷ [] }
+        ≡ push_class class_a ∷ own_sync method_place (in_sequence (prim ∷ [])) ∷ [] }
     ensures none { locked in_w false (prim ∷ []) ≡ prim ∷ [] }
 {}
 
@@ -60,7 +61,7 @@ pub fn fields_of_objects()
         ≡ push_this ∷ prim ∷ put 0 ∷ pop ∷ push_this ∷ return_top ∷ [] }
     ensures constructor { code_in in_constructor with_fields (empty_body (codes "synchronized" ∷ []) Constructor)
         ≡ push_this ∷ prim ∷ put 0 ∷ pop
-        ∷ push_this ∷ Sync method_place (in_sequence []) ∷ push_this ∷ return_top ∷ [] }
+        ∷ push_this ∷ own_sync method_place (in_sequence []) ∷ push_this ∷ return_top ∷ [] }
     ensures method { code_in in_w with_fields (empty_body [] Void) ≡ prim ∷ return_top ∷ [] }
     ensures unspelled { code_in in_w with_fields Unspelled ≡ [] }
 {}

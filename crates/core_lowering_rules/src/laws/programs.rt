@@ -7,6 +7,7 @@ ghost use Rattle.java_parser_grammar.specs.declared.unit.HeadResult.TheVariants 
 ghost use Rattle.java_parser_grammar.specs.declared.unit.ClassTree.{ClassTree};
 ghost use Rattle.java_parser_grammar.specs.declared.unit.Member.TheVariants.{Field};
 ghost use Rattle.java_resolver.specs.NameExamples.{outside, ints, absent};
+ghost use Rattle.java_resolver.specs.Declarations.{field_info, fields_of, names_of};
 ghost use Rattle.java_resolver.specs.Refusals.{refusal};
 ghost use Rattle.core_code.specs.Chains.{flag_of};
 ghost use Rattle.core_code.specs.declared.code.Op.TheVariants.{Push, PushClass, PushPrim, Drop, Ret, Call, Unread};
@@ -17,11 +18,12 @@ ghost use Rattle.core_code.specs.Facts.{are_stacks_enough, are_parameters_few};
 ghost use Rattle.core_code.specs.CallFacts.{do_end_by_return, are_calls_right, has_ranks};
 ghost use Rattle.core_code.specs.Recursion.{all_rows, TellRecursion};
 ghost use Rattle.core_code.specs.KindCheck.{are_kinded};
-ghost use Rattle.core_code.specs.Names.{are_identifiers, do_classes_differ, do_fields_differ, do_methods_differ};
-ghost use Rattle.core_code.specs.Tree.{Skip, Seq, Choice, Loop, Sync, in_sequence};
-ghost use Rattle.core_code.specs.Pair.{at, step, pair, method_put, method_both};
+ghost use Rattle.core_code.specs.Names.{are_names_right, do_classes_differ, do_fields_differ, do_methods_differ};
+ghost use Rattle.core_code.specs.Tree.{Skip, Seq, Choice, Loop, in_sequence};
+ghost use Rattle.core_code.specs.Pair.{at, own_sync, step, pair, method_put, method_both};
 ghost use Rattle.core_lowering_rules.specs.Sites.{numbered};
 ghost use Rattle.core_lowering_rules.specs.Programs.{program_of, draft_of, in_order, call_edges};
+ghost use Rattle.core_lowering_rules.specs.ByField.{by_field};
 ghost use Rattle.core_lowering_rules.specs.Conditions.{class_places, are_in_files, are_named};
 ghost use Rattle.core_lowering_rules.specs.ProgramExamples.{placed_class, placed_unit};
 ghost use Rattle.core_lowering_rules.specs.ProgramExamples.{checked_class, empty_method, void_method, methods_of};
@@ -51,17 +53,17 @@ pub fn entries_of_programs()
 pub fn codes_of_programs()
     ensures locks { codes_of (checked_class (empty_method (codes "synchronized" ∷ []) Constructor (codes "A") 0
         ∷ empty_method (codes "static" ∷ codes "synchronized" ∷ []) Void (codes "f") 0 ∷ []))
-        ≡ in_sequence (step 0 (at 1 9) (Push (record { 0 = 0 })) ∷ Sync (at 1 9) Skip
+        ≡ in_sequence (step 0 (at 1 9) (Push (record { 0 = 0 })) ∷ own_sync (at 1 9) Skip
         ∷ step 1 (at 1 9) (Push (record { 0 = 0 })) ∷ step 2 (at 1 9) Ret ∷ [])
-        ∷ in_sequence (step 0 (at 1 9) (PushClass (record { 0 = 0 })) ∷ Sync (at 1 9) Skip
+        ∷ in_sequence (step 0 (at 1 9) (PushClass (record { 0 = 0 })) ∷ own_sync (at 1 9) Skip
         ∷ step 1 (at 1 9) PushPrim ∷ step 2 (at 1 9) Ret ∷ []) ∷ [] }
 {}
 
 /// Operations are numbered in reading order.
 pub fn sites()
-    ensures { numbered 5 (Seq (Choice (step 0 (at 1 1) Ret) (Sync (at 1 2) (step 0 (at 1 3) Drop)))
+    ensures { numbered 5 (Seq (Choice (step 0 (at 1 1) Ret) (own_sync (at 1 2) (step 0 (at 1 3) Drop)))
         (Seq (Loop (step 0 (at 1 4) Drop)) (step 0 (at 1 5) Ret)))
-        ≡ Seq (Choice (step 5 (at 1 1) Ret) (Sync (at 1 2) (step 6 (at 1 3) Drop)))
+        ≡ Seq (Choice (step 5 (at 1 1) Ret) (own_sync (at 1 2) (step 6 (at 1 3) Drop)))
         (Seq (Loop (step 7 (at 1 4) Drop)) (step 8 (at 1 5) Ret)) }
 {}
 
@@ -103,8 +105,9 @@ pub fn conditions_of_units()
 
 /// What every program of units keeps, whichever methods are taken for recursive. Whatever the units, the code of all
 /// methods is kinded, pops no empty stack and calls rightly, that of an analysed method ends by a return alone,
-/// analysed methods differ, and have few parameters. Numbers are in range where the places of the units are in the files, names are identifiers
-/// where those of the units are, and classes and fields differ where the units are not refused.
+/// analysed methods differ, and have few parameters. Numbers are in range where the places of the units are in the
+/// files, names are right where those of the units are identifiers, and classes and fields differ where the units are
+/// not refused.
 pub fn facts_of_programs()
     ensures kinded { (files : List (List ℕ)) (units : List Unit) (is_recursive : MethodId → Bool) →
         IsTrue (are_kinded (program_of files units is_recursive)) }
@@ -124,12 +127,17 @@ pub fn facts_of_programs()
         IsTrue (are_parameters_few (program_of files units is_recursive)) }
     ensures numbers { (files : List (List ℕ)) (units : List Unit) (is_recursive : MethodId → Bool) →
         IsTrue (are_in_files files units) → IsTrue (are_numbers_in_range (program_of files units is_recursive)) }
-    ensures identifiers { (files : List (List ℕ)) (units : List Unit) (is_recursive : MethodId → Bool) →
-        IsTrue (are_named units) → IsTrue (are_identifiers (program_of files units is_recursive)) }
+    ensures names_right { (files : List (List ℕ)) (units : List Unit) (is_recursive : MethodId → Bool) →
+        IsTrue (are_named units) → IsTrue (are_names_right (program_of files units is_recursive)) }
     ensures classes { (files : List (List ℕ)) (units : List Unit) (is_recursive : MethodId → Bool) →
         refusal units ≡ None → IsTrue (do_classes_differ (program_of files units is_recursive)) }
     ensures fields { (files : List (List ℕ)) (units : List Unit) (is_recursive : MethodId → Bool) →
         refusal units ≡ None → IsTrue (do_fields_differ (program_of files units is_recursive)) }
+{}
+
+/// The fields of units are what `by_field` makes of the declarations, as each list beside theirs is to be.
+pub fn fields_by_field()
+    ensures { (units : List Unit) → fields_of units ≡ by_field (field_info (names_of units)) units }
 {}
 
 /// Methods call the same methods, whichever are taken for recursive. So there are ranks where those are that are

@@ -1,4 +1,4 @@
-use Rattle.std.proofs.Common.{◌≡◌, ◌+◌, drop}
+use Rattle.std.proofs.Common.{◌≡◌, ◌+◌, drop, length}
 use Rattle.core_code.specs.Stamps.{AreBelow}
 use Rattle.core_lowering.specs.Calls.{edges}
 use Rattle.core_lowering.proofs.edges.count_edges.Given as goal
@@ -8,4 +8,5 @@ invariant-loop-row l =
     record {
       count : l.count + edges (drop l.row-index l.rows) ≡ edges l.rows;
       stamps : AreBelow l.stamps.items (l.stamp + 1);
+      many : length l.stamps.items ≡ length l.rows;
     }

@@ -15,5 +15,5 @@ returns c =
     c.requires.classes c.requires.fields c.requires.methods c.requires.sources c.as_slice.result.now
     (c.as_slice.ensures.value ∙ c.in_ok-draft.ensures
     ∙ ap (λ reasons. with_recursive (λ n. true) 0 reasons)
-    (c.requires.reasons ∙ sources-reasons (methods table) c.args.sources.now)))
+    (c.requires.reasons ∙ sources-reasons table c.args.sources.now)))
     c.rows.ensures

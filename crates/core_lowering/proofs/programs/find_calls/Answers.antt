@@ -1,9 +1,14 @@
-use Rattle.std.proofs.Common.{List, [], ap, sym, ◌∙◌}
+use Rattle.std.proofs.Common.{◌≡◌, true, List, [], ap, subst, sym, ◌∙◌}
 use Rattle.racer_base.specs.declared.ids.MethodId.{MethodId}
 use Rattle.core_lowering_rules.specs.Programs.{draft_of}
-use Rattle.core_lowering.specs.Calls.{edges}
+use Rattle.core_lowering.specs.Calls.{are_rows_low, edges}
 use Rattle.core_lowering.proofs.SameCalls.{edges-same}
 use Rattle.core_lowering.proofs.programs.find_calls.Goals as goal
+
+pub count_edges-requires : goal.count_edges-requires
+count_edges-requires c =
+    subst (λ (rows : List (List MethodId)). are_rows_low rows ≡ true)
+    (sym (c.as_slice.ensures.value ∙ c.in_ok-rows.ensures)) c.requires.low
 
 pub returns-clause-edges : goal.returns-clause-edges
 returns-clause-edges c =

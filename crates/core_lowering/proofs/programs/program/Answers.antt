@@ -1,17 +1,17 @@
 use Rattle.std.proofs.Common.{◌≡◌, ℕ, true, List, String, Global, map, subst, sym, string_bytes, ◌∙◌}
 use Rattle.core_code.specs.Chains.{flag_of}
-use Rattle.core_code.specs.Core.{Core, core_of}
+use Rattle.core_code.specs.Core.{Core}
 use Rattle.core_code.specs.Facts.{are_numbers_in_range, are_entries_analysed, are_sites_in_order, are_stacks_enough}
 use Rattle.core_code.specs.Facts.{are_parameters_few}
 use Rattle.core_code.specs.CallFacts.{do_end_by_return, are_calls_right, has_ranks}
 use Rattle.core_code.specs.KindCheck.{are_kinded}
-use Rattle.core_code.specs.Names.{are_identifiers, do_classes_differ, do_fields_differ, do_methods_differ}
+use Rattle.core_code.specs.Names.{are_names_right, do_classes_differ, do_fields_differ, do_methods_differ}
 use Rattle.core_lowering_rules.proofs.KindedPrograms.{program-kinded}
 use Rattle.core_lowering_rules.proofs.NumbersInRange.{numbers-in_range}
 use Rattle.core_lowering_rules.proofs.ProgramFacts.{stacks-enough, calls-right, sites-in_order, entries-analysed}
 use Rattle.core_lowering_rules.proofs.ProgramFacts.{ends-by_return, parameters-few}
 use Rattle.core_lowering_rules.proofs.ProgramRanks.{ranks-there}
-use Rattle.core_lowering_rules.proofs.ProgramNames.{identifiers-there, classes-differ, fields-differ, methods-differ}
+use Rattle.core_lowering_rules.proofs.ProgramNames.{names-right, classes-differ, fields-differ, methods-differ}
 use Rattle.core_lowering.proofs.programs.program.Goals as goal
 
 abbrev names_of : List (String Global) → List (List ℕ)
@@ -59,11 +59,11 @@ of-requires-clause-kinded c =
     subst P (sym c.in_ok-parts.ensures)
     (program-kinded (names_of c.args.files.now) c.args.units.now (flag_of c.args.recursive.now))
 
-pub of-requires-clause-identifiers : goal.of-requires-clause-identifiers
-of-requires-clause-identifiers c =
-    let P : Core → Type 0 = λ core. are_identifiers core ≡ true in
+pub of-requires-clause-names_right : goal.of-requires-clause-names_right
+of-requires-clause-names_right c =
+    let P : Core → Type 0 = λ core. are_names_right core ≡ true in
     subst P (sym c.in_ok-parts.ensures)
-    (identifiers-there (names_of c.args.files.now) c.args.units.now (flag_of c.args.recursive.now) c.requires.named)
+    (names-right (names_of c.args.files.now) c.args.units.now (flag_of c.args.recursive.now) c.requires.named)
 
 pub of-requires-clause-classes_differ : goal.of-requires-clause-classes_differ
 of-requires-clause-classes_differ c =

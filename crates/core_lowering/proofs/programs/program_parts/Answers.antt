@@ -17,5 +17,5 @@ returns c =
     (map (λ file. string_bytes file) c.args.files.now) (flag_of c.args.recursive.now) c.as_slice.result.now
     (c.as_slice.ensures.value ∙ c.in_ok-statuses.ensures
     ∙ ap (λ reasons. with_recursive (flag_of c.args.recursive.now) 0 reasons)
-    (c.requires.reasons ∙ sources-reasons (methods table) c.args.sources.now)))
+    (c.requires.reasons ∙ sources-reasons table c.args.sources.now)))
     c.parts.ensures

@@ -1,8 +1,10 @@
 use Rattle.std.proofs.Common.{◌≡◌, take, drop, ap, rules}
 use Rattle.core_code.specs.declared.code.Code.TheFolds.{the_lemmas}
 use Rattle.core_code.specs.declared.code.Code.TheVariants as code
+use Rattle.core_code.specs.declared.code.LockKind.TheVariants.{Own}
 use Rattle.core_code.specs.Tree.{tree_of}
 use Rattle.core_code.specs.Tree as tree
+use Rattle.core_lowering_rules.specs.Context.{own_at}
 use Rattle.core_lowering_methods.specs.Erased.{whole_of}
 use Rattle.core_lowering_methods.proofs.Pushed.{pushed}
 use Rattle.core_lowering_methods.proofs.draft.hold.Goals as goal
@@ -11,8 +13,9 @@ pub returns : goal.returns
 returns c =
     let old = c.args.parts.now.items in
     let body = c.in_ok-body.body in
-    let shape : tree_of (code.Sync c.args.place body) ≡ tree.Sync c.args.place (tree_of body.value) =
+    let lock = own_at c.args.place in
+    let shape : tree_of (code.Sync c.args.place Own body) ≡ tree.Sync lock (tree_of body.value) =
     search (rules, the_lemmas) in
-    pushed c.taken.new.parts.items c.push.new.self.items (take c.args.at old) (code.Sync c.args.place body)
-    (tree.Sync c.args.place (tree_of body.value)) (tree.Sync c.args.place (whole_of (drop c.args.at old)))
-    c.in_ok-push.ensures.items c.in_ok-body.ensures.kept shape (ap (tree.Sync c.args.place) c.in_ok-body.ensures.taken)
+    pushed c.taken.new.parts.items c.push.new.self.items (take c.args.at old) (code.Sync c.args.place Own body)
+    (tree.Sync lock (tree_of body.value)) (tree.Sync lock (whole_of (drop c.args.at old)))
+    c.in_ok-push.ensures.items c.in_ok-body.ensures.kept shape (ap (tree.Sync lock) c.in_ok-body.ensures.taken)

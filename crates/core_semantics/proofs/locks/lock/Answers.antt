@@ -12,8 +12,8 @@ returns-in-Ok-monitor_of c = λ store callers.
     let body = tree_of c.args.body.now in
     let s = behind_at store frame callers c.args.locks.now in
     let same =
-    ap monitor_of (sym c.in-Ok.ensures) ∙ sym c.monitor_of.ensures ∙ c.in-Ok-monitor_of.is in
-    along (locking others s body c.in-Ok-monitor_of.monitor) (lock_step others s body (top (frame_of frame)))
+    ap (monitor_of c.args.kind) (sym c.in-Ok.ensures) ∙ sym c.monitor_of.ensures ∙ c.in-Ok-monitor_of.is in
+    along (locking others s body c.in-Ok-monitor_of.monitor) (lock_step others s c.args.kind body (top (frame_of frame)))
     (after (spot_at store frame callers c.args.locks.now))
     (after (spot_at store c.take.new.frame callers c.take.new.locks))
     c.take.result (ap (lock_with others s body) same) (c.take.ensures store callers)
@@ -21,5 +21,5 @@ returns-in-Ok-monitor_of c = λ store callers.
 pub returns-in-Err : goal.returns-in-Err
 returns-in-Err c = λ store callers.
     let s = behind_at store c.args.frame.now callers c.args.locks.now in
-    let same = ap monitor_of (sym c.in-Ok.ensures) ∙ sym c.monitor_of.ensures ∙ c.in-Err.is in
+    let same = ap (monitor_of c.args.kind) (sym c.in-Ok.ensures) ∙ sym c.monitor_of.ensures ∙ c.in-Err.is in
     (ap (lock_with c.args.others.now s (tree_of c.args.body.now)) same, refl)

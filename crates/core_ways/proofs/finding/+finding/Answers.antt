@@ -4,7 +4,7 @@ use Rattle.std.proofs.lemmas.List.{at_drop_all}
 use Rattle.core_code.specs.declared.code.Code.{Code}
 use Rattle.core_code.specs.declared.code.Code.TheFolds.{the_lemmas}
 use Rattle.core_code.specs.declared.code.Op.{Op as CoreOp}
-use Rattle.core_code.specs.Tree.{Tree, Op, Seq, Choice, Loop, Sync, tree_of, in_sequence}
+use Rattle.core_code.specs.Tree.{LockAt, Tree, Op, Seq, Choice, Loop, Sync, tree_of, in_sequence}
 use Rattle.core_ways.specs.Paths.{op_there, path_to, path_where}
 use Rattle.core_ways.specs.Ways.{has_site}
 use Rattle.core_ways.proofs.PassedCode.{turn}
@@ -215,7 +215,8 @@ find-returns-in-Loop-clause-path t c =
 
 pub find-returns-in-Sync-clause-there : goal.find-returns-in-Sync-clause-there
 find-returns-in-Sync-clause-there t c =
-    let is : tree_of c.args.code.now ≡ Sync c.in-Sync.field-0 (tree_of c.deref-in-Sync.result.now) =
+    let lock : LockAt = record { place = c.in-Sync.field-0; kind = c.in-Sync.field-1 } in
+    let is : tree_of c.args.code.now ≡ Sync lock (tree_of c.deref-in-Sync.result.now) =
     search (rules, the_lemmas) in
     subst (λ (code : Tree). IfOk c.find-in-Sync.result
     (λ (there : Option CoreOp). there ≡ op_there code c.args.site)) (sym is)
@@ -223,7 +224,8 @@ find-returns-in-Sync-clause-there t c =
 
 pub find-returns-in-Sync-clause-path : goal.find-returns-in-Sync-clause-path
 find-returns-in-Sync-clause-path t c =
-    let is : tree_of c.args.code.now ≡ Sync c.in-Sync.field-0 (tree_of c.deref-in-Sync.result.now) =
+    let lock : LockAt = record { place = c.in-Sync.field-0; kind = c.in-Sync.field-1 } in
+    let is : tree_of c.args.code.now ≡ Sync lock (tree_of c.deref-in-Sync.result.now) =
     search (rules, the_lemmas) in
     subst (λ (code : Tree).
     OnOk c.find-in-Sync.result (c.find-in-Sync.new.path.items ≡ c.args.path.now.items ++ path_where c.args.site

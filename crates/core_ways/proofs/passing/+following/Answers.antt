@@ -2,7 +2,7 @@ use Rattle.std.proofs.Common.{◌≡◌, ◌+◌, List, Bool, [], ◌∷◌, ◌
 use Rattle.std.proofs.lemmas.List.{at_drop_all}
 use Rattle.core_code.specs.declared.code.Code.{Code}
 use Rattle.core_code.specs.declared.code.Code.TheFolds.{the_lemmas}
-use Rattle.core_code.specs.Tree.{Tree, Op, Seq, Choice, Loop, Sync, in_sequence, tree_of}
+use Rattle.core_code.specs.Tree.{LockAt, Tree, Op, Seq, Choice, Loop, Sync, in_sequence, tree_of}
 use Rattle.core_semantics.specs.declared.answer.Turn.{Turn}
 use Rattle.core_ways.specs.declared.part.WayPart.{WayPart}
 use Rattle.core_ways.specs.declared.part.WayPart.TheVariants.{Branched}
@@ -81,9 +81,10 @@ follow-returns-in-Ok-one_more t c =
     let old = c.args.parts.now.items in
     let path = c.args.path.now in
     let body = tree_of c.deref-in-Sync.result.now in
-    let is : tree_of c.args.code.now ≡ Sync c.in-Sync.field-0 body = search (rules, the_lemmas) in
+    let lock : LockAt = record { place = c.in-Sync.field-0; kind = c.in-Sync.field-1 } in
+    let is : tree_of c.args.code.now ≡ Sync lock body = search (rules, the_lemmas) in
     subst (λ (ps : List WayPart). OnOk c.follow-in-Sync.result (c.follow-in-Sync.new.parts.items ≡ ps))
-    (held-followed c.args.locks c.in-Ok-one_more.within c.in-Sync.field-0 body old c.push-in-Sync.new.self.items path
+    (held-followed c.args.locks c.in-Ok-one_more.within lock body old c.push-in-Sync.new.self.items path
     c.in-Ok-push-2.ensures.items c.in-Ok-one_more.ensures
     ∙ ap (λ (code : Tree). old ++ followed c.args.locks path code) (sym is))
     c.follow-in-Sync.ensures

@@ -3,7 +3,7 @@ use Rattle.std.proofs.Common.{IfOk, OnOk, rules, sym, ap, subst, ◌∙◌, arit
 use Rattle.std.proofs.lemmas.List.{append-nil, at_drop_all}
 use Rattle.core_code.specs.declared.code.Code.{Code}
 use Rattle.core_code.specs.declared.code.Code.TheFolds.{the_lemmas}
-use Rattle.core_code.specs.Tree.{Tree, Op, Seq, Choice, Loop, Sync, can_end, in_sequence, tree_of}
+use Rattle.core_code.specs.Tree.{LockAt, Tree, Op, Seq, Choice, Loop, Sync, can_end, in_sequence, tree_of}
 use Rattle.core_ways.specs.declared.part.WayPart.{WayPart}
 use Rattle.core_ways.specs.Ways.{passed}
 use Rattle.core_ways.proofs.PassedCode.{turn, passed-on, passed-ended, more, right-ends, left-ends, right-passed}
@@ -92,7 +92,8 @@ pass-returns-in-Loop-clause-parts t c =
 pub pass-returns-then-not-ends-clause-ends : goal.pass-returns-then-not-ends-clause-ends
 pass-returns-then-not-ends-clause-ends t c =
     let body = tree_of c.deref-in-Sync.result.now in
-    let is : tree_of c.args.code.now ≡ Sync c.in-Sync.field-0 body = search (rules, the_lemmas) in
+    let lock : LockAt = record { place = c.in-Sync.field-0; kind = c.in-Sync.field-1 } in
+    let is : tree_of c.args.code.now ≡ Sync lock body = search (rules, the_lemmas) in
     let ends : c.in-Ok-pass-2.ends ≡ false = search rules in
     sym ends ∙ c.in-Ok-pass-2.ensures.ends ∙ ap can_end (sym is)
 
@@ -100,9 +101,10 @@ pub pass-returns-then-not-ends-clause-parts : goal.pass-returns-then-not-ends-cl
 pass-returns-then-not-ends-clause-parts t c =
     let body = tree_of c.deref-in-Sync.result.now in
     let old = c.args.parts.now.items in
-    let is : tree_of c.args.code.now ≡ Sync c.in-Sync.field-0 body = search (rules, the_lemmas) in
+    let lock : LockAt = record { place = c.in-Sync.field-0; kind = c.in-Sync.field-1 } in
+    let is : tree_of c.args.code.now ≡ Sync lock body = search (rules, the_lemmas) in
     let ends : c.in-Ok-pass-2.ends ≡ false = search rules in
-    held-stays c.args.locks c.in-Ok-one_more.within c.in-Sync.field-0 body old c.push-in-Sync.new.self.items
+    held-stays c.args.locks c.in-Ok-one_more.within lock body old c.push-in-Sync.new.self.items
     c.pass-in-Sync.new.parts.items (sym c.in-Ok-pass-2.ensures.ends ∙ ends) c.in-Ok-one_more.ensures
     c.in-Ok-push.ensures.items c.in-Ok-pass-2.ensures.parts
     ∙ ap (λ (code : Tree). old ++ passed c.args.locks code) (sym is)
@@ -110,7 +112,8 @@ pass-returns-then-not-ends-clause-parts t c =
 pub pass-returns-else-not-ends-clause-ends : goal.pass-returns-else-not-ends-clause-ends
 pass-returns-else-not-ends-clause-ends t c =
     let body = tree_of c.deref-in-Sync.result.now in
-    let is : tree_of c.args.code.now ≡ Sync c.in-Sync.field-0 body = search (rules, the_lemmas) in
+    let lock : LockAt = record { place = c.in-Sync.field-0; kind = c.in-Sync.field-1 } in
+    let is : tree_of c.args.code.now ≡ Sync lock body = search (rules, the_lemmas) in
     let ends : c.in-Ok-pass-2.ends ≡ true = search rules in
     subst (λ (e : Bool). IfOk c.put-in-Sync.result (λ (b : Bool). b ≡ e))
     (sym ends ∙ c.in-Ok-pass-2.ensures.ends ∙ ap can_end (sym is)) c.put-in-Sync.ensures.ends
@@ -119,10 +122,11 @@ pub pass-returns-else-not-ends-clause-parts : goal.pass-returns-else-not-ends-cl
 pass-returns-else-not-ends-clause-parts t c =
     let body = tree_of c.deref-in-Sync.result.now in
     let old = c.args.parts.now.items in
-    let is : tree_of c.args.code.now ≡ Sync c.in-Sync.field-0 body = search (rules, the_lemmas) in
+    let lock : LockAt = record { place = c.in-Sync.field-0; kind = c.in-Sync.field-1 } in
+    let is : tree_of c.args.code.now ≡ Sync lock body = search (rules, the_lemmas) in
     let ends : c.in-Ok-pass-2.ends ≡ true = search rules in
     subst (λ (ps : List WayPart). OnOk c.put-in-Sync.result (c.put-in-Sync.new.parts.items ≡ ps))
-    (held-ends c.args.locks c.in-Ok-one_more.within c.in-Sync.field-0 body old c.push-in-Sync.new.self.items
+    (held-ends c.args.locks c.in-Ok-one_more.within lock body old c.push-in-Sync.new.self.items
     c.pass-in-Sync.new.parts.items (sym c.in-Ok-pass-2.ensures.ends ∙ ends) c.in-Ok-one_more.ensures
     c.in-Ok-push.ensures.items c.in-Ok-pass-2.ensures.parts
     ∙ ap (λ (code : Tree). old ++ passed c.args.locks code) (sym is))

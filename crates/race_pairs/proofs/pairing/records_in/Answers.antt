@@ -1,27 +1,22 @@
-use Rattle.std.proofs.Common.{◌≡◌, ℕ, ◌+◌, ◌<◌, List, [], ◌∷◌, ◌++◌, length, map, drop, sym, ap, ◌∙◌, refl, arith}
+use Rattle.std.proofs.Common.{◌≡◌, ℕ, ◌+◌, List, [], ◌∷◌, ◌++◌, map, drop, sym, ap, ◌∙◌, refl, arith}
 use Rattle.std.specs.List.{enumerate_from, flat_map}
 use Rattle.std.specs.declared.vec.Vec.{Vec}
 use Rattle.std.specs.Global.{Global}
-use Rattle.std.proofs.lemmas.List.{append-nil, length-map}
+use Rattle.std.proofs.lemmas.List.{append-nil}
 use Rattle.racer_base.specs.declared.ids.MethodId.{MethodId}
 use Rattle.core_code.specs.Core.{Method, method_of}
 use Rattle.core_code.specs.Program.{core}
 use Rattle.core_code.specs.declared.parts.MethodCore.{MethodCore}
+use Rattle.access_domain.proofs.MethodOutcomes.{known-outcome}
+use Rattle.access_domain.specs.OutcomeRecords.{records_held}
 use Rattle.race_pairs.specs.declared.method_access.MethodAccess.{MethodAccess}
 use Rattle.race_pairs.specs.Warnings.{MethodRecord, numbered_records, entry_records}
 use Rattle.race_pairs.specs.MethodRecords.{all_records}
 use Rattle.race_pairs.proofs.Turns.{rest_of, flat_map_turn, at_end}
-use Rattle.race_pairs.proofs.Known.{one_for_each, outcome_at, entry_adds, other_adds}
+use Rattle.race_pairs.proofs.Known.{entry_adds, other_adds}
 use Rattle.race_pairs.proofs.pairing.records_in.Goals as goal
 use Rattle.race_pairs.proofs.pairing.records_in.Goals.{then-is_entry_of+in_ok-number+in_ok-push_records}
 use Rattle.race_pairs.proofs.pairing.records_in.Goals.{else-is_entry_of}
-
-pub index-requires : goal.index-requires
-index-requires c =
-    let known = one_for_each (core c.args.program.now) c.args.outcomes.now.items c.requires in
-    let methods = ap length c.methods-method-items.ensures in
-    let seen = length-map c.methods-method-items.result.now method_of in
-    omega (arith, c.args.outcomes.now.ok.0)
 
 pub loop-number-preserved : goal.loop-number-preserved
 loop-number-preserved c =
@@ -41,14 +36,10 @@ loop-number-preserved c =
           let id : MethodId = record { 0 = w.in_ok-number.number } in
           let is : w.in_ok-number.number ≡ number = w.in_ok-number.ensures in
           let entry = sym c.is_entry_of.ensures ∙ w.if-is_entry_of.true in
-          let lengths = ap length c.methods-method-items.ensures in
-          let seen = length-map methods method_of in
-          let within : number < length program.methods = omega arith in
-          let known = outcome_at program c.args.outcomes.now.items number w.index.result.now c.requires within
-          w.index.ensures in
-          let adds = entry_adds program c.args.class number (method_of method) id w.index.result.now entry is known in
-          let accesses = ap (numbered_records id) w.records_held-accesses.ensures in
-          let here : List MethodRecord = numbered_records id w.records_held-accesses.result.now in
+          let known = known-outcome program c.args.outcomes.now.items id c.requires in
+          let accesses = ap (numbered_records id) (w.records_of-accesses.ensures ∙ ap records_held known) in
+          let adds = entry_adds program c.args.class number (method_of method) id entry is in
+          let here : List MethodRecord = numbered_records id w.records_of-accesses.result.now in
           let records : all_records c.if-is_entry_of.records.items ≡ had ++ here =
           ap (λ (v : Vec MethodAccess Global). all_records v.items) w.records-is ∙ w.in_ok-push_records.ensures in
           ap (λ records. records ++ flat_map made rest) records

@@ -1,4 +1,4 @@
-use Rattle.std.proofs.Common.{◌≡◌, List, take, ap, ◌∙◌}
+use Rattle.std.proofs.Common.{◌≡◌, ℕ, List, length, min, take, sym, ap, ◌∙◌}
 use Rattle.std.proofs.lemmas.List.{take_min}
 use Rattle.racer_base.specs.declared.ids.FieldId.{FieldId}
 use Rattle.access_paths.specs.declared.path.Path.{Path}
@@ -8,9 +8,11 @@ pub returns : goal.returns
 returns c =
     let all = c.as_slice-all.result.now in
     let whole : List FieldId → Path = λ fields. record { root = c.args.path.now.root; fields = fields } in
-    let kept : c.from.result ≡ take c.min-count.result all = c.from.ensures ∙ c.in_ok-from_slice.ensures.items in
+    let count : c.len.result ≡ length all =
+    c.len.ensures.count ∙ sym (ap (λ (fields : List FieldId). length fields) c.as_slice-all.ensures) in
+    let kept : c.from_vec.result ≡ take c.min-count.result all = c.from_vec.ensures ∙ c.in_ok-from_slice.ensures.items in
     ap whole
     (kept
-    ∙ ap (λ n. take n all) c.min-count.ensures
+    ∙ ap (λ (n : ℕ). take n all) (c.min-count.ensures ∙ ap (λ (n : ℕ). min c.args.fields n) count)
     ∙ take_min c.args.fields all
     ∙ ap (take c.args.fields) c.as_slice-all.ensures)

@@ -1,7 +1,7 @@
 use Rattle.core_lowering_rules.proofs.KindedPrograms.{program-kinded}
 use Rattle.core_lowering_rules.proofs.ProgramFacts.{stacks-enough, calls-right, sites-in_order, entries-analysed}
 use Rattle.core_lowering_rules.proofs.ProgramFacts.{ends-by_return, parameters-few}
-use Rattle.core_lowering_rules.proofs.ProgramNames.{identifiers-there, classes-differ, fields-differ, methods-differ}
+use Rattle.core_lowering_rules.proofs.ProgramNames.{names-right, classes-differ, fields-differ, methods-differ}
 use Rattle.core_lowering_rules.proofs.NumbersInRange.{numbers-in_range}
 use Rattle.core_lowering_rules.proofs.laws.programs.facts_of_programs.Goals as goal
 
@@ -32,8 +32,8 @@ returns-clause-parameters c files units is_recursive = parameters-few files unit
 pub returns-clause-numbers : goal.returns-clause-numbers
 returns-clause-numbers c files units is_recursive placed = numbers-in_range files units is_recursive placed
 
-pub returns-clause-identifiers : goal.returns-clause-identifiers
-returns-clause-identifiers c files units is_recursive named = identifiers-there files units is_recursive named
+pub returns-clause-names_right : goal.returns-clause-names_right
+returns-clause-names_right c files units is_recursive named = names-right files units is_recursive named
 
 pub returns-clause-classes : goal.returns-clause-classes
 returns-clause-classes c files units is_recursive accepted = classes-differ units accepted files is_recursive

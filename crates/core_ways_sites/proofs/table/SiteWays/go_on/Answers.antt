@@ -1,10 +1,8 @@
-use Rattle.std.proofs.Common.{◌≡◌, List, Option, Some, ap, sym, refl, subst, ◌∙◌}
+use Rattle.std.proofs.Common.{◌≡◌, Some, ap, refl, subst, ◌∙◌}
 use Rattle.std.specs.Option.{IfSome, option_copied}
 use Rattle.core_code.specs.Program.{core}
-use Rattle.access_domain.specs.declared.summary.Outcome.{Outcome}
-use Rattle.core_ways.specs.Going.{record_among}
-use Rattle.core_ways.specs.Ways.{record_at}
-use Rattle.core_ways.proofs.Going.{same-record}
+use Rattle.access_domain.proofs.MethodOutcomes.{known-record}
+use Rattle.access_domain.specs.OutcomeRecords.{record_at}
 use Rattle.core_ways_sites.specs.Sites.{IsSite}
 use Rattle.core_ways_sites.proofs.table.SiteWays.go_on.Goals as goal
 
@@ -14,7 +12,7 @@ returns-in-Some-reached-clause-leads c = λ whole leads.
     let m = c.args.method in
     let i = c.args.access in
     let at : record_at program m i ≡ Some c.in-Some.record.now =
-    sym (ap (λ (os : List (Option Outcome)). record_among os m i) c.requires.outcomes ∙ same-record program m i)
-    ∙ sym c.record_of.ensures ∙ ap option_copied c.in-Some.is in
+    known-record program c.args.outcomes.now.items m i (option_copied c.record_of.result) c.requires.outcomes
+    c.record_of.ensures ∙ ap option_copied c.in-Some.is in
     c.enter.ensures program m i c.in-Some.record.now whole c.args.program.now.ranks_there at refl
     (c.in-Some-reached.ensures program c.in_ok-find.ensures) leads

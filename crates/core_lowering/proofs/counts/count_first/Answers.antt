@@ -1,0 +1,17 @@
+use Rattle.std.proofs.Common.{◌+◌, Ok, Err, Result, OnOk, slice_index_or, sym, ap, ◌∙◌}
+use Rattle.core_lowering.specs.Counts.{one_at}
+use Rattle.core_lowering.proofs.Tallies.{counted-at}
+use Rattle.core_lowering.proofs.counts.count_first.Goals as goal
+
+on_ok : {T E : Type 0} (result : Result T E) (P Q : Type 0) → (P → Q) → OnOk result P → OnOk result Q
+on_ok (Ok x) P Q f h = f h
+on_ok (Err e) P Q f h = h
+
+pub returns-in-Some : goal.returns-in-Some
+returns-in-Some c =
+    let old = c.args.counts.now in
+    on_ok c.count_one.result _ _
+    (λ set n.
+    counted-at old c.count_one.new.counts c.in-Some.m (c.requires c.in-Some.m c.in-Some.is) set n
+    ∙ ap (λ o. one_at o n + slice_index_or old n 0) (sym c.in-Some.is))
+    c.count_one.ensures.counts
