@@ -3,6 +3,7 @@ pub mod Parts
 pub mod Locals
 pub mod Counts
 pub mod Reasons
+pub mod Known
 pub mod Calls
 pub mod Skipped
 pub mod Lowered

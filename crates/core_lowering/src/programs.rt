@@ -16,8 +16,8 @@ ghost use Rattle.core_lowering_rules.specs.Programs.{draft_of, IsLowered};
 ghost use Rattle.core_lowering_methods.specs.Views.{folder_of};
 ghost use Rattle.core_lowering_methods.specs.Sources.{source_of};
 ghost use Rattle.core_lowering.specs.Calls.{are_rows_low};
+ghost use Rattle.core_lowering.specs.Known.{IsKnown};
 ghost use Rattle.core_lowering.specs.Lowered.{calls_of, IsFault};
-ghost use Rattle.core_lowering.specs.Reasons.{reason_of};
 
 use crate::calls::rows;
 use crate::classes::{classes, fields, file_names};
@@ -49,11 +49,7 @@ fn draft_rows(
     reasons: &[Option<Reason>],
     sources: &[Source],
 ) -> Result<Vec<Items<MethodId>>, Memory>
-    requires classes { seen.classes table.now ≡ classes_of units.now }
-    requires fields { seen.fields table.now ≡ fields_of units.now }
-    requires methods { seen.methods table.now ≡ methods_of units.now }
-    requires sources { map source_of sources.now ≡ wanted.sources_of units.now }
-    requires reasons { reasons.now ≡ map (reason_of table.now) sources.now }
+    requires known { IsKnown table.now units.now sources.now reasons.now }
     ensures { IfOk result (λ rows. rows.items ≡ all_rows (draft_of [] units.now)) }
 {
     let draft = all_recursive(alloc, reasons)?;
@@ -68,11 +64,7 @@ fn find_calls(
     reasons: &[Option<Reason>],
     sources: &[Source],
 ) -> Result<Calls, Memory>
-    requires classes { seen.classes table.now ≡ classes_of units.now }
-    requires fields { seen.fields table.now ≡ fields_of units.now }
-    requires methods { seen.methods table.now ≡ methods_of units.now }
-    requires sources { map source_of sources.now ≡ wanted.sources_of units.now }
-    requires reasons { reasons.now ≡ map (reason_of table.now) sources.now }
+    requires known { IsKnown table.now units.now sources.now reasons.now }
     requires low { IsTrue (are_rows_low (all_rows (draft_of [] units.now))) }
     ensures rows { IfOk result (λ calls. calls.rows ≡ all_rows (draft_of [] units.now)) }
     ensures edges { IfOk result (λ calls. calls_of units.now ≡ calls.edges) }
@@ -121,11 +113,7 @@ fn program_parts(
     recursive: &[bool],
     sources: &[Source],
 ) -> Result<Parts, Memory>
-    requires classes { seen.classes table.now ≡ classes_of units.now }
-    requires fields { seen.fields table.now ≡ fields_of units.now }
-    requires methods { seen.methods table.now ≡ methods_of units.now }
-    requires sources { map source_of sources.now ≡ wanted.sources_of units.now }
-    requires reasons { reasons.now ≡ map (reason_of table.now) sources.now }
+    requires known { IsKnown table.now units.now sources.now reasons.now }
     ensures { IfOk result (λ parts. core_of parts ≡
         wanted.program_of (map (λ file. string_bytes file) files.now) units.now (flag_of recursive.now)) }
 {
@@ -143,14 +131,10 @@ fn program(
     recursive: &[bool],
     sources: &[Source],
 ) -> Result<Program, Memory>
-    requires classes { seen.classes table.now ≡ classes_of units.now }
-    requires fields { seen.fields table.now ≡ fields_of units.now }
-    requires methods { seen.methods table.now ≡ methods_of units.now }
+    requires known { IsKnown table.now units.now sources.now reasons.now }
     requires accepted { refusal units.now ≡ None }
     requires named { IsTrue (are_named units.now) }
     requires placed { IsTrue (are_in_files (map (λ file. string_bytes file) files.now) units.now) }
-    requires sources { map source_of sources.now ≡ wanted.sources_of units.now }
-    requires reasons { reasons.now ≡ map (reason_of table.now) sources.now }
     requires recursive { TellRecursion (draft_of (map (λ file. string_bytes file) files.now) units.now) recursive.now }
     ensures { IfOk result (λ made. program.core made ≡
         wanted.program_of (map (λ file. string_bytes file) files.now) units.now (flag_of recursive.now)) }
@@ -169,14 +153,10 @@ fn program_of(
     sources: &[Source],
     rows: &[Items<MethodId>],
 ) -> Result<Program, Memory>
-    requires classes { seen.classes table.now ≡ classes_of units.now }
-    requires fields { seen.fields table.now ≡ fields_of units.now }
-    requires methods { seen.methods table.now ≡ methods_of units.now }
+    requires known { IsKnown table.now units.now sources.now reasons.now }
     requires accepted { refusal units.now ≡ None }
     requires named { IsTrue (are_named units.now) }
     requires placed { IsTrue (are_in_files (map (λ file. string_bytes file) files.now) units.now) }
-    requires sources { map source_of sources.now ≡ wanted.sources_of units.now }
-    requires reasons { reasons.now ≡ map (reason_of table.now) sources.now }
     requires rows { rows.now ≡ all_rows (draft_of [] units.now) }
     ensures { IfOk result (λ made.
         IsLowered (map (λ file. string_bytes file) files.now) units.now (program.core made)) }
@@ -203,10 +183,10 @@ struct Known<'a> {
 
 /// The sources of the methods, and why they are not analysed, apart from recursion.
 fn find_known<'a>(alloc: Global, table: &'a Table, units: &'a [Unit]) -> Result<Known<'a>, Memory>
+    requires classes { seen.classes table.now ≡ classes_of units.now }
+    requires fields { seen.fields table.now ≡ fields_of units.now }
     requires methods { seen.methods table.now ≡ methods_of units.now }
-    ensures sources { IfOk result (λ known. map source_of known.sources.items ≡ wanted.sources_of units.now) }
-    ensures reasons { IfOk result (λ known.
-        known.reasons.items ≡ map (reason_of table.now) known.sources.items) }
+    ensures { IfOk result (λ known. IsKnown table.now units.now known.sources.items known.reasons.items) }
 {
     let sources = sources_of(alloc, table.methods(), units)?;
     let reasons = own_reasons(alloc, table, sources.as_slice())?;

@@ -7,6 +7,7 @@ mod ahead;
 mod answer;
 mod calls;
 mod changes;
+mod copies;
 mod frame;
 mod holder;
 mod inner;

@@ -33,6 +33,13 @@ impl<T> Stack<T> {
         }
     }
 
+    /// A stack of these elements, of which the top stands last.
+    pub(crate) fn of(items: Vec<T>) -> Stack<T>
+        ensures { result ≡ reverse items.items }
+    {
+        Stack { items }
+    }
+
     /// The elements, with the top last.
     pub(crate) fn as_slice(&self) -> &[T]
         ensures { result.now ≡ reverse self.now }

@@ -23,7 +23,6 @@ use Rattle.access_domain.specs.Summaries.{known_of}
 use Rattle.access_domain.specs.OutcomeRecords.{records_held, records_of}
 use Rattle.core_ways.specs.Alone.{locks_round}
 use Rattle.race_pairs.specs.declared.warning.Warning.{Warning}
-use Rattle.witness_build_laws.proofs.ConfirmedRun.{record-of}
 use Rattle.core_ways_laws.specs.Sites.{IsRecordOf, IsThrough, IsTouch}
 use Rattle.core_ways_laws.proofs.ProgramFacts.{IsRight, IsRightCall, is_right, known_is_analysed, lower_call, right_call}
 use Rattle.core_ways_laws.proofs.RankedTops.{IsOf, record-of as findings-of}
@@ -153,14 +152,13 @@ reaches p zero m method index a there at low =
     let some : 0 < rank_of (core_of p) m = rank-some (core_of p) m method there in absurd (omega (arith, some, low))
 reaches p (suc n) m method index a there at low =
     let core : Core = core_of p in
-    let has = record-of core m index a at in
     let g : FlowContext = given_of core (known_of core) method.main in
-    let comes : IsRecordOf g method.code false a = record-comes core p.sites_in_order m method index a there has in
+    let comes : IsRecordOf g method.code false a = record-comes core p.sites_in_order m method index a there at in
     let o : Operation = comes.operation in
     let is : operation_at core m a.site ≡ Some o =
     ap (option_and_then (λ (x : Method). op_at x.code a.site)) there ∙ comes.at in
     let locked : Bool = false || nat_lt 0 (locks_round a.site method.code) in
-    let of_m : IsOf core m index a = findings-of core m index a has in
+    let of_m : IsOf core m index a = findings-of core m index a at in
     let analysed = known_is_analysed core m method of_m.found there of_m.known in
     ⊎_elim
     (λ (touch : IsTouch o.op locked a). touch-reaches core (held_by m a) o locked n is touch)

@@ -3,6 +3,8 @@
 //!
 //! The definitions are those of `access_domain`: `specs/Flow.antt`, `specs/Operations.antt` and
 //! `specs/Summaries.antt`. A `Finished` keeps by its type that its outcome is its method's, for its program.
+//!
+//! `let Ok(..) = .. else` and `match` stand in place of `?`: what has two ways out and more is proved at less cost so.
 #![tactic(auto)]
 
 mod analysis;

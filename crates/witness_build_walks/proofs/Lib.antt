@@ -5,3 +5,4 @@ pub mod WalkSteps
 pub mod WalkTurns
 pub mod ApartWalks
 pub mod BehindWalks
+pub mod Trunks

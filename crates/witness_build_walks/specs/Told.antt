@@ -41,10 +41,12 @@ abbrev pub IsLast : Core → ℕ → Option Walk → Type 0
 IsLast core t None = Unit {0}
 IsLast core t (Some w) = IsWalk core w × (w.thread ≡ t)
 
--- the last walks of both threads
+-- the last walks of both threads, and their trunks
 pub record AreWalks (core : Core) (walks : Walks) : Type 0 where
   pub first : IsLast core 0 walks.first
   pub second : IsLast core 1 walks.second
+  pub first_trunk : IsLast core 0 walks.first_trunk
+  pub second_trunk : IsLast core 1 walks.second_trunk
 
 -- the place that a walk is at
 abbrev pub place_at : Walk → Option Place

@@ -134,3 +134,15 @@ pub record CanGoOn (w : Walk) (m : MethodId) (leg : Leg) : Type 0 where
   pub method : w.method ≡ m
   pub steps : w.steps ≤ leg.steps
   pub turns : IsFront w.turns.items leg.turns
+
+-- a walk is where another is, and knows all that the other knows
+pub record IsSame (w copy : Walk) : Type 0 where
+  pub machine : state_of copy.machine ≡ state_of w.machine
+  pub thread : copy.thread ≡ w.thread
+  pub method : copy.method ≡ w.method
+  pub steps : copy.steps ≡ w.steps
+  pub turns : copy.turns.items ≡ w.turns.items
+  pub given : copy.given ≡ gathered [] w.given
+  pub reads : (fields : List FieldId) → AreKept w.reads fields → AreKept copy.reads fields
+  pub writes : (fields : List FieldId) → AreKept w.writes fields → AreKept copy.writes fields
+  pub loud : copy.is_loud ≡ w.is_loud

@@ -4,6 +4,7 @@ ghost use Rattle.core_code.specs.Program.{core};
 ghost use Rattle.witness_build_walks.specs.Told.{IsGoneIn, IsLast};
 ghost use Rattle.witness_build_walks.specs.Walks.{CanGoOn, HasGone, IsFront, IsWalk};
 
+use crate::trunk::resumed_on;
 use crate::walk::{Walk, step_on, walk_from_entry};
 use core_code::Program;
 use core_semantics::Turn;
@@ -19,14 +20,14 @@ pub(crate) struct Course<'l> {
 }
 
 /// The turn of this number.
-fn turn_at(turns: &[Turn], number: usize) -> Option<Turn>
+pub(crate) fn turn_at(turns: &[Turn], number: usize) -> Option<Turn>
     ensures { result ≡ slice_get turns.now number }
 {
     turns.get(number).copied()
 }
 
 /// Whether two turns are there and are the same.
-fn are_same(a: Option<Turn>, b: Option<Turn>) -> bool
+pub(crate) fn are_same(a: Option<Turn>, b: Option<Turn>) -> bool
     ensures { result ≡ true → a ≡ b }
 {
     match (a, b) {
@@ -49,7 +50,7 @@ fn begin_with(turns: &[Turn], front: &[Turn]) -> bool
 }
 
 /// Whether a course goes on from where a walk is.
-fn goes_on(walk: &Walk, course: Course) -> bool
+pub(crate) fn goes_on(walk: &Walk, course: Course) -> bool
     ensures { result ≡ true → CanGoOn walk.now course.entry.method course.entry.leg.now }
 {
     walk.method.0 == course.method.0
@@ -58,7 +59,7 @@ fn goes_on(walk: &Walk, course: Course) -> bool
 }
 
 /// The walk that a course goes on from: this one, or one at the method's entry.
-fn resumed<'a>(
+pub(crate) fn resumed<'a>(
     alloc: Global,
     program: &'a Program,
     kept: Option<Walk<'a>>,
@@ -103,14 +104,17 @@ pub(crate) fn walk_along<'a>(
     alloc: Global,
     program: &'a Program,
     slot: &mut Option<Walk<'a>>,
+    trunk: &mut Option<Walk<'a>>,
     course: Course,
 ) -> Result<bool, Memory>
-    requires { IsLast (core program.now) course.leg.now.thread slot.old }
+    requires slot { IsLast (core program.now) course.leg.now.thread slot.old }
+    requires trunk { IsLast (core program.now) course.leg.now.thread trunk.old }
+    ensures trunk { OnOk result (IsLast (core program.now) course.entry.leg.now.thread trunk.new) }
     ensures last { OnOk result (IsLast (core program.now) course.entry.leg.now.thread slot.new) }
     ensures gone { IfOk result (λ all.
         IsGoneIn (core program.now) course.entry.method course.entry.leg.now all slot.new) }
 {
-    let mut walk = resumed(alloc, program, slot.take(), course)?;
+    let mut walk = resumed_on(alloc, program, slot.take(), trunk, course)?;
     let all = walk_on(program, &mut walk, course.leg)?;
     *slot = Some(walk);
     Ok(all)

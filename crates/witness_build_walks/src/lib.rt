@@ -9,6 +9,7 @@
 mod along;
 mod apart;
 mod behind;
+mod trunk;
 mod walk;
 mod walks;
 

@@ -31,12 +31,15 @@ pub enum Walked {
     Unknown,
 }
 
-/// The last walk of each thread.
+/// The last walk of each thread, and its trunk.
 #[derive(Drop)]
 pub struct Walks<'a> {
     alloc: Global,
     first: Option<Walk<'a>>,
     second: Option<Walk<'a>>,
+    /// Where the last walks of each thread left what their ways have in common.
+    first_trunk: Option<Walk<'a>>,
+    second_trunk: Option<Walk<'a>>,
 }
 
 /// Lets walks go. Each type of their parts is taken apart here, so a crate that owns walks need not show how.
@@ -113,25 +116,31 @@ fn walk_both<'a>(
     program: &'a Program,
     one: &mut Option<Walk<'a>>,
     other: &mut Option<Walk<'a>>,
+    one_trunk: &mut Option<Walk<'a>>,
+    other_trunk: &mut Option<Walk<'a>>,
     first: Course,
     second: Course,
     objects: &mut Objects,
 ) -> Result<Walked, Memory>
     requires one { IsLast (core program.now) first.leg.now.thread one.old }
     requires other { IsLast (core program.now) second.leg.now.thread other.old }
+    requires one_trunk { IsLast (core program.now) first.leg.now.thread one_trunk.old }
+    requires other_trunk { IsLast (core program.now) second.leg.now.thread other_trunk.old }
     requires threads { first.leg.now.thread + second.leg.now.thread ≡ 1 }
     requires none { objects.old ≡ [] }
     ensures one { OnOk result (IsLast (core program.now) first.entry.leg.now.thread one.new) }
     ensures other { OnOk result (IsLast (core program.now) second.entry.leg.now.thread other.new) }
+    ensures one_trunk { OnOk result (IsLast (core program.now) first.entry.leg.now.thread one_trunk.new) }
+    ensures other_trunk { OnOk result (IsLast (core program.now) second.entry.leg.now.thread other_trunk.new) }
     ensures told { (m1 m2 : MethodId) → first.entry.method ≡ entry_of first.entry.leg.now.thread m1 m2 →
         second.entry.method ≡ entry_of second.entry.leg.now.thread m1 m2 →
         IfOk result (λ walked. IsTold (core program.now) (leg_of first.entry.leg.now) (leg_of second.entry.leg.now)
         (begun (core program.now) m1 m2 All) objects.new walked) }
 {
-    if !walk_along(alloc, program, one, first)? {
+    if !walk_along(alloc, program, one, one_trunk, first)? {
         return Ok(told_of_stopped(one));
     }
-    let all = walk_along(alloc, program, other, second)?;
+    let all = walk_along(alloc, program, other, other_trunk, second)?;
     told_of(program, one, other, all, second, objects)
 }
 
@@ -144,6 +153,8 @@ impl<'a> Walks<'a> {
             alloc,
             first: None,
             second: None,
+            first_trunk: None,
+            second_trunk: None,
         }
     }
 
@@ -178,6 +189,8 @@ impl<'a> Walks<'a> {
                 program,
                 &mut self.first,
                 &mut self.second,
+                &mut self.first_trunk,
+                &mut self.second_trunk,
                 first,
                 second,
                 objects,
@@ -196,6 +209,8 @@ impl<'a> Walks<'a> {
                 program,
                 &mut self.second,
                 &mut self.first,
+                &mut self.second_trunk,
+                &mut self.first_trunk,
                 first,
                 second,
                 objects,

@@ -12,8 +12,8 @@ returns c =
     let table = c.args.table.now in
     subst (λ (all : List (List MethodId)). IfOk c.rows.result (λ rows. rows.items ≡ all))
     (rows-made c.args.units.now (classes table) (fields table) (methods table) (map source_of c.args.sources.now)
-    c.requires.classes c.requires.fields c.requires.methods c.requires.sources c.as_slice.result.now
+    c.requires.known.classes c.requires.known.fields c.requires.known.methods c.requires.known.sources c.as_slice.result.now
     (c.as_slice.ensures.value ∙ c.in_ok-draft.ensures
     ∙ ap (λ reasons. with_recursive (λ n. true) 0 reasons)
-    (c.requires.reasons ∙ sources-reasons table c.args.sources.now)))
+    (c.requires.known.reasons ∙ sources-reasons table c.args.sources.now)))
     c.rows.ensures

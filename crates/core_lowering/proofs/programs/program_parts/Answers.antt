@@ -13,9 +13,9 @@ returns c =
     let table = c.args.table.now in
     subst (λ (core : Core). IfOk c.parts.result (λ parts. core_of parts ≡ core))
     (program-made c.args.units.now (classes table) (fields table) (methods table) (map source_of c.args.sources.now)
-    c.requires.classes c.requires.fields c.requires.methods c.requires.sources
+    c.requires.known.classes c.requires.known.fields c.requires.known.methods c.requires.known.sources
     (map (λ file. string_bytes file) c.args.files.now) (flag_of c.args.recursive.now) c.as_slice.result.now
     (c.as_slice.ensures.value ∙ c.in_ok-statuses.ensures
     ∙ ap (λ reasons. with_recursive (flag_of c.args.recursive.now) 0 reasons)
-    (c.requires.reasons ∙ sources-reasons table c.args.sources.now)))
+    (c.requires.known.reasons ∙ sources-reasons table c.args.sources.now)))
     c.parts.ensures

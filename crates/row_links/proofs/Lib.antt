@@ -1,0 +1,13 @@
+mod Counting
+mod Lists
+mod Joining
+mod Ringing
+mod Seeing
+mod Starting
+mod Linking
+mod Columns
+mod Celling
+mod Splicing
+mod Moving
+mod Opening
+mod Keeping
