@@ -2,9 +2,11 @@
 ghost use Rattle.std.specs.Prelude.{◌≡◌, ℕ, List, [], ◌∷◌, ◌<◌, length, Some, None};
 ghost use Rattle.row_links.specs.Lists.{all_in, moved, spliced, front, front_taken, node_count, HasEachOnce, IsInList};
 
-/// Where each node stands once, it does so at the start and after each move, and there are as many nodes.
+/// At the start each node stands once, and there are as many as were asked for. Where each node stands once, it does so
+/// after each move, and there are as many nodes as before.
 pub fn each_stands_once()
     ensures start { (l nodes lists : ℕ) → l < lists → HasEachOnce (all_in l nodes lists) }
+    ensures start_count { (l nodes lists : ℕ) → l < lists → node_count (all_in l nodes lists) ≡ nodes }
     ensures moved { (x l : ℕ) (lists : List (List ℕ)) → HasEachOnce lists → x < node_count lists → l < length lists →
         HasEachOnce (moved x l lists) }
     ensures moved_count { (x l : ℕ) (lists : List (List ℕ)) → HasEachOnce lists → x < node_count lists →
@@ -13,6 +15,13 @@ pub fn each_stands_once()
         from < length lists → to < length lists → HasEachOnce (spliced from to lists) }
     ensures spliced_count { (from to : ℕ) (lists : List (List ℕ)) → (from ≡ to → ⊥) → from < length lists →
         to < length lists → node_count (spliced from to lists) ≡ node_count lists }
+{}
+
+/// There are as many lists at the start as were asked for, and after each move as many as before.
+pub fn lists_stay()
+    ensures start { (l nodes lists : ℕ) → length (all_in l nodes lists) ≡ lists }
+    ensures moved { (x l : ℕ) (lists : List (List ℕ)) → length (moved x l lists) ≡ length lists }
+    ensures spliced { (from to : ℕ) (lists : List (List ℕ)) → length (spliced from to lists) ≡ length lists }
 {}
 
 /// A node stands in one list.
