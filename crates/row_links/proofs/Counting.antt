@@ -21,10 +21,10 @@ times-append x (y ∷ xs) ys = let rest = times-append x xs ys in omega arith
 
 -- ---- a list without a number
 
-left_out : (x y : ℕ) (xs : List ℕ) → y ≡ x → without x (y ∷ xs) ≡ without x xs
+pub left_out : (x y : ℕ) (xs : List ℕ) → y ≡ x → without x (y ∷ xs) ≡ without x xs
 left_out x y xs e = ap (λ b. cond (not b) (y ∷ without x xs) (without x xs)) (eq-eqb y x e)
 
-left_in : (x y : ℕ) (xs : List ℕ) → (y ≡ x → ⊥) → without x (y ∷ xs) ≡ (y ∷ without x xs)
+pub left_in : (x y : ℕ) (xs : List ℕ) → (y ≡ x → ⊥) → without x (y ∷ xs) ≡ (y ∷ without x xs)
 left_in x y xs e = ap (λ b. cond (not b) (y ∷ without x xs) (without x xs)) (different y x e)
 
 pub times-without : (x : ℕ) (xs : List ℕ) → times x (without x xs) ≡ 0

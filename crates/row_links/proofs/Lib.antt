@@ -1,9 +1,9 @@
-mod Counting
-mod Lists
+pub mod Counting
+pub mod Lists
 mod Joining
 mod Ringing
 mod Seeing
-mod Starting
+pub mod Starting
 mod Linking
 mod Columns
 mod Celling

@@ -122,6 +122,15 @@ impl Rows {
         self.list_of[self.cell_of[node as usize]]
     }
 
+    /// The first node of a list, if there is one.
+    pub fn front(&self, list: u32) -> Option<u32>
+        requires { list < length self.now }
+        ensures { result ≡ front list self.now }
+    {
+        let first = self.nodes.first(list as usize)?;
+        Some(first as u32)
+    }
+
     /// Takes the node out of its list, and puts it last in this one.
     pub fn move_to(&mut self, node: u32, list: u32)
         requires node { node < node_count self.old }

@@ -1,6 +1,6 @@
 -- An event more behind the lock.
-use Rattle.std.proofs.Common.{◌≡◌, ℕ, zero, suc, ◌+◌, ◌<◌, ◌≤◌, List, [], ◌∷◌, ◌++◌, length, Bool, true, false, cond}
-use Rattle.std.proofs.Common.{Option, Some, None, refl, sym, ap, ◌∙◌, subst, arith, drop, get_or, replicate}
+use Rattle.std.proofs.Common.{◌≡◌, ℕ, zero, suc, ◌+◌, ◌<◌, List, [], ◌∷◌, ◌++◌, length, Bool, true, false, cond}
+use Rattle.std.proofs.Common.{Option, Some, None, refl, sym, ap, ◌∙◌, subst, arith, replicate}
 use Rattle.std.proofs.Common.{length-append}
 use Rattle.std.specs.Prelude.{◌==◌, slice_get, slice_set, All, IfSome, IfNone, IfOk, Result, Ok, Err, option_map}
 use Rattle.std.specs.Prelude.{◌↔◌}
@@ -9,19 +9,24 @@ use Rattle.std.proofs.lemmas.List.Elements.{All-cons, All-head, All-nil, All-tai
 use Rattle.std.proofs.lemmas.Option.{slice_get_within}
 use Rattle.core_code.proofs.BoolParts.{both, first_part, last_part}
 use Rattle.racer_base.specs.declared.ids.MethodId.{MethodId}
-use Rattle.core_code.specs.Counting.{weigh, times, IsIn}
+use Rattle.core_code.specs.Counting.{times, IsIn}
 use Rattle.core_code.specs.Chains.{row_of}
 use Rattle.summary_store.specs.declared.machine.Event.{Event}
 use Rattle.summary_store.specs.declared.machine.Event.TheVariants.{Take, Park, Publish, Leave}
 use Rattle.summary_store.specs.declared.machine.Hand.{Hand}
 use Rattle.summary_store.specs.declared.machine.Hand.TheVariants.{Free, Holds, Gone}
 use Rattle.summary_store.specs.Machine.{Setup, Machine, start, step, run, LegalAt, LegalFrom, Legal, replay, next_of}
-use Rattle.summary_store.specs.Machine.{first_of, only, without, parked_on, parked_elsewhere, idle_after, IsDone}
+use Rattle.summary_store.specs.Machine.{IsDone}
+use Rattle.row_links.specs.Lists.{moved, spliced}
+use Rattle.std.proofs.lemmas.List.{length-map}
+use Rattle.summary_store.specs.Lists.{numbered, next_front, next_taken, AreLists, IsRoused}
+use Rattle.summary_store.specs.Passes.{is_gone}
+use Rattle.summary_store.proofs.Listing.{roused, taken, leaves, next_is, rouses, puts_aside, wakes}
 use Rattle.summary_store.specs.Kept.{Kept, HasRoom, pieces_of, IsPieceOf, IsRight, has_piece}
 use Rattle.summary_store.specs.Passes.{WantsNext, MayPublish, IsRowDone, held_in}
-use Rattle.summary_store.proofs.Weights.{weigh-get, times-append, times_taken, eqb_same, eqb_yes, eqb_no, none_left}
+use Rattle.summary_store.proofs.Weights.{weigh-get, times-append, times_taken, eqb_same, eqb_yes, eqb_no}
 use Rattle.summary_store.proofs.Weights.{slice_get-set_other, length-slice_set, replicate-push}
-use Rattle.summary_store.proofs.Sound.{Sound, sound, held_here, busy_one}
+use Rattle.summary_store.proofs.Sound.{Sound, sound, held_here}
 use Rattle.summary_store.proofs.Ends.{events_bounded, takes_bounded, complete}
 
 run-push : (s : Machine) (h : List Event) (e : Event) → run s (h ++ e ∷ []) ≡ step (run s h) e
@@ -80,12 +85,6 @@ table_same [] i y low = absurd (omega arith)
 table_same (x ∷ xs) zero y low = refl
 table_same (x ∷ xs) (suc i) y low = table_same xs i y (omega arith)
 
--- the element that is read at a place
-read_get : {X : Type 0} (xs : List X) (i : ℕ) (x : X) → i < length xs → x ≡ get_or xs i x → slice_get xs i ≡ Some x
-read_get [] i x low is = absurd (omega arith)
-read_get (y ∷ ys) zero x low is = ap Some (sym is)
-read_get (y ∷ ys) (suc i) x low is = read_get ys i x (omega arith) is
-
 pub no_passes : {X : Type 0} (xs : List X) → length xs ≡ 0 → xs ≡ []
 no_passes [] none = refl
 no_passes (x ∷ xs) none = absurd (omega arith)
@@ -114,15 +113,14 @@ no_row_done rows s Gone not = ((λ e. cc), (λ none. absurd none))
 
 -- ---- what the value behind the lock keeps
 
-module _ {X : Type 0} {fits : ℕ → X → Type 0} {u : Setup} {h : List Event} {idle ready : List MethodId}
-    {parked : List (MethodId × MethodId)} {hands : List Hand} {table : List (Option X)} {total : ℕ}
-    (k : Kept fits u h idle ready parked hands table total) where
+module _ {X : Type 0} {fits : ℕ → X → Type 0} {u : Setup} {h : List Event} {lists : List (List ℕ)} {left : List Bool}
+    {table : List (Option X)} {total : ℕ} (k : Kept fits u h lists left table total) where
   pub sound_of : Sound u h (replay u h)
   sound_of = sound u k.setup.rank h k.setup.some k.setup.ranked k.legal
 
   -- a legal event finds room
-  pub room_left : (e : Event) → LegalAt u (replay u h) e → (a b c : ℕ) → HasRoom u a b c → length h < a
-  room_left e legal a b c room =
+  pub room_left : (e : Event) → LegalAt u (replay u h) e → (a : ℕ) → HasRoom u a → length h < a
+  room_left e legal a room =
       let more = events_bounded u k.setup.rank (h ++ e ∷ []) k.setup.some k.setup.ranked
       (legal-push u (start u) h e k.legal legal) in
       omega (arith, room.events, length-append h (e ∷ []))
@@ -130,24 +128,18 @@ module _ {X : Type 0} {fits : ℕ → X → Type 0} {u : Setup} {h : List Event}
   -- the value behind the lock after an event that publishes nothing
   pub keeps : (e : Event) → LegalAt u (replay u h) e
       → (h' : List Event) → h' ≡ h ++ e ∷ []
-      → (idle' : List MethodId) → idle' ≡ (step (replay u h) e).idle
-      → (ready' : List MethodId) → ready' ≡ (step (replay u h) e).ready
-      → (parked' : List (MethodId × MethodId)) → parked' ≡ (step (replay u h) e).parked
-      → (hands' : List Hand) → hands' ≡ (step (replay u h) e).hands
+      → (lists' : List (List ℕ)) (left' : List Bool) → AreLists u (step (replay u h) e) lists' left'
       → (total' : ℕ) → total' ≡ total + 1
       → (step (replay u h) e).done ≡ (replay u h).done
-      → Kept fits u h' idle' ready' parked' hands' table total'
-  keeps e legal h' h'is idle' idle_is ready' ready_is parked' parked_is hands' hands_are total' total_is done =
+      → Kept fits u h' lists' left' table total'
+  keeps e legal h' h'is lists' left' are total' total_is done =
       let after : replay u h' ≡ step (replay u h) e = ap (replay u) h'is ∙ replay-push u h e in
       let same : (replay u h').done ≡ (replay u h).done = ap (λ (s : Machine). s.done) after ∙ done in
       record {
         setup = k.setup;
         legal = (let P : List Event → Type 0 = λ l. Legal u l in
             subst P (sym h'is) (legal-push u (start u) h e k.legal legal));
-        idle_is = idle_is ∙ sym (ap (λ (s : Machine). s.idle) after);
-        ready_is = ready_is ∙ sym (ap (λ (s : Machine). s.ready) after);
-        parked_is = parked_is ∙ sym (ap (λ (s : Machine). s.parked) after);
-        hands_are = hands_are ∙ sym (ap (λ (s : Machine). s.hands) after);
+        are_lists = (let P : Machine → Type 0 = λ s. AreLists u s lists' left' in subst P (sym after) are);
         pieces = λ m x is. (let i = k.pieces m x is in
             (i.0, (let P : List MethodId → Type 0 = λ d. 0 < times m d in subst P (sym same) i.1)));
         none = λ m is. ap (times m) same ∙ k.none m is;
@@ -157,9 +149,13 @@ module _ {X : Type 0} {fits : ℕ → X → Type 0} {u : Setup} {h : List Event}
             omega (arith, k.counted, length-append h (e ∷ [])));
       }
 
+  -- there is a hand for each worker
+  pub every_number_fits : length (replay u h).hands ≡ u.workers
+  every_number_fits = (sound_of).hands
+
   -- what next_method finds is legal to take, and analysed
-  pub take_legal : (o : Option MethodId) → o ≡ first_of ready idle → o ≡ next_of (replay u h)
-  take_legal o is = is ∙ (λ i. first_of (k.ready_is i) (k.idle_is i))
+  pub take_legal : (o : Option MethodId) → o ≡ numbered (next_front lists) → o ≡ next_of (replay u h)
+  take_legal o is = is ∙ sym (next_is k.are_lists every_number_fits)
 
   pub taken_is_analysed : (m : MethodId) → next_of (replay u h) ≡ Some m → IsIn m u.methods
   taken_is_analysed m next =
@@ -168,8 +164,12 @@ module _ {X : Type 0} {fits : ℕ → X → Type 0} {u : Setup} {h : List Event}
       let s = replay u h in
       omega (arith, ok.one m.0, times_taken m.0 s.ready s.idle m next)
 
-  pub number_fits : (w : ℕ) (hand : Hand) → slice_get (replay u h).hands w ≡ Some hand → w < length hands
-  number_fits w hand is = slice_get_within _ w hand (ap (λ (l : List Hand). slice_get l w) k.hands_are ∙ is)
+  pub number_fits : (w : ℕ) (hand : Hand) → slice_get (replay u h).hands w ≡ Some hand → w < length left
+  number_fits w hand is = let low = slice_get_within (replay u h).hands w hand is in
+      let long = ap length k.are_lists.flags ∙ length-map (replay u h).hands is_gone in omega arith
+
+  pub flags_fit : length left ≡ u.workers
+  flags_fit = ap length k.are_lists.flags ∙ length-map (replay u h).hands is_gone ∙ every_number_fits
 
   -- a pass that agrees with the history that contracts see agrees with the one inside
   pub agreed : (now : List Event) (w n : ℕ) (hand is : Hand) → h ≡ now → n ≡ w →
@@ -179,36 +179,22 @@ module _ {X : Type 0} {fits : ℕ → X → Type 0} {u : Setup} {h : List Event}
 
   pub keeps_take : (w : ℕ) (m : MethodId) → LegalAt u (replay u h) (Take w m)
       → (h' : List Event) → h' ≡ h ++ Take w m ∷ []
-      → (idle' : List MethodId) → idle' ≡ idle_after ready idle
-      → (ready' : List MethodId) → ready' ≡ drop 1 ready
+      → (lists' : List (List ℕ)) → lists' ≡ next_taken w lists
       → (total' : ℕ) → total' ≡ total + 1
-      → Kept fits u h' idle' ready' parked (slice_set hands w (Holds m)) table total'
-  keeps_take w m legal h' h'is idle' idle'is ready' ready'is total' total'is =
-      keeps (Take w m) legal h' h'is
-      idle' (idle'is ∙ (λ i. idle_after (k.ready_is i) (k.idle_is i)))
-      ready' (ready'is ∙ ap (drop 1) k.ready_is)
-      _ k.parked_is
-      _ (ap (λ (l : List Hand). slice_set l w (Holds m)) k.hands_are)
-      total' total'is refl
+      → Kept fits u h' lists' left table total'
+  keeps_take w m legal h' h'is lists' lists'are total' total'is =
+      keeps (Take w m) legal h' h'is lists' left
+      (taken k.are_lists every_number_fits w m legal.0 lists' lists'are legal.1) total' total'is refl
 
   pub keeps_leave : (w : ℕ) → LegalAt u (replay u h) (Leave w)
       → (h' : List Event) → h' ≡ h ++ Leave w ∷ []
-      → (idle' : List MethodId) → idle' ≡ idle_after ready idle
-      → (ready' : List MethodId) → ready' ≡ drop 1 ready
+      → (lists' : List (List ℕ)) → lists' ≡ next_taken w lists
       → (total' : ℕ) → total' ≡ total + 1
-      → Kept fits u h' idle' ready' parked (slice_set hands w Gone) table total'
-  keeps_leave w legal h' h'is idle' idle'is ready' ready'is total' total'is =
-      let left = none_left (replay u h).ready (replay u h).idle legal.1 in
-      let r : ready ≡ [] = k.ready_is ∙ left.0 in
-      let i : idle ≡ [] = k.idle_is ∙ left.1 in
-      keeps (Leave w) legal h' h'is
-      idle' (idle'is ∙ (λ j. idle_after (r j) (i j)) ∙ sym left.1)
-      ready' (ready'is ∙ ap (drop 1) r ∙ sym left.0)
-      _ k.parked_is
-      _ (ap (λ (l : List Hand). slice_set l w Gone) k.hands_are)
-      total' total'is refl
+      → Kept fits u h' lists' (slice_set left w true) table total'
+  keeps_leave w legal h' h'is lists' lists'are total' total'is =
+      keeps (Leave w) legal h' h'is lists' (slice_set left w true)
+      (leaves k.are_lists every_number_fits w legal.0 legal.1 lists' lists'are _ refl) total' total'is refl
 
-  -- a method in a hand is analysed, in no list, and there is room to park it
   pub held_method : (w : ℕ) (m : MethodId) → slice_get (replay u h).hands w ≡ Some (Holds m) → IsIn m u.methods
   held_method w m holds = (held_here u k.setup.rank h (replay u h) w m k.setup.ranked (sound_of) holds).0
 
@@ -219,6 +205,12 @@ module _ {X : Type 0} {fits : ℕ → X → Type 0} {u : Setup} {h : List Event}
       let holds = wants_holds _ hand found c next in
       k.setup.ranked.closed (held_in hand) c (held_method w (held_in hand) (is ∙ ap Some holds))
       (callee_in_row _ hand found (held_in hand) c holds next)
+
+  pub callee_line : (w : ℕ) (hand : Hand) (found : ℕ) (m c : MethodId) →
+      slice_get (replay u h).hands w ≡ Some (Holds m) → hand ≡ Holds m → WantsNext u.rows hand found c →
+      c.0 < length u.rows
+  callee_line w hand found m c holds is next =
+      k.lines c (callee_known w hand found c (holds ∙ ap Some (sym is)) next)
 
   -- what stands in the place of a callee
   pub found_piece : {A : Type 0} →
@@ -237,37 +229,20 @@ module _ {X : Type 0} {fits : ℕ → X → Type 0} {u : Setup} {h : List Event}
       times c (replay u h).done ≡ 0
   not_done_inside now c same none = ap (λ (l : List Event). times c (replay u l).done) same ∙ none
 
-  -- room for a park
-  pub park_room : (w : ℕ) (m : MethodId) → slice_get (replay u h).hands w ≡ Some (Holds m) →
-      (length idle + length ready + length parked < length u.methods)
-  park_room w m holds =
-      let ok = sound_of in
-      let busy : 1 ≤ weigh busy_one (replay u h).hands = weigh-get busy_one (replay u h).hands w (Holds m) holds in
-      let a : length idle ≡ length (replay u h).idle = ap length k.idle_is in
-      let b : length ready ≡ length (replay u h).ready = ap length k.ready_is in
-      let d : length parked ≡ length (replay u h).parked = ap length k.parked_is in
-      omega (arith, ok.all)
+  -- the lists in which a callee was roused
+  pub are_roused : (c : MethodId) (lists' : List (List ℕ)) → IsRoused c.0 lists lists' →
+      AreLists u (roused c.0 (replay u h)) lists' left
+  are_roused c lists' r = rouses k.are_lists every_number_fits c lists' r
 
-  pub idle_once : (c : ℕ) → times c idle ≤ 1
-  idle_once c =
-      let ok = sound_of in
-      let a : times c idle ≡ times c (replay u h).idle = ap (times c) k.idle_is in
-      omega (arith, ok.one c, k.setup.ranked.apart c)
-
-  pub keeps_park : (w : ℕ) (m c : MethodId) → LegalAt u (replay u h) (Park w m c)
+  pub keeps_park : (w : ℕ) (m c : MethodId) → LegalAt u (replay u h) (Park w m c) → c.0 < length u.rows
       → (h' : List Event) → h' ≡ h ++ Park w m c ∷ []
-      → (idle' : List MethodId) → idle' ≡ without c.0 idle
-      → (ready' : List MethodId) → ready' ≡ ready ++ only c.0 idle
-      → (parked' : List (MethodId × MethodId)) → parked' ≡ parked ++ (m, c) ∷ []
+      → (woken : List (List ℕ)) → IsRoused c.0 lists woken
+      → (lists' : List (List ℕ)) → lists' ≡ moved m.0 (4 + u.workers + c.0) woken
       → (total' : ℕ) → total' ≡ total + 1
-      → Kept fits u h' idle' ready' parked' (slice_set hands w Free) table total'
-  keeps_park w m c legal h' h'is idle' idle'is ready' ready'is parked' parked'is total' total'is =
-      keeps (Park w m c) legal h' h'is
-      idle' (idle'is ∙ ap (without c.0) k.idle_is)
-      ready' (ready'is ∙ (λ i. k.ready_is i ++ only c.0 (k.idle_is i)))
-      parked' (parked'is ∙ (λ i. k.parked_is i ++ (m, c) ∷ []))
-      _ (ap (λ (l : List Hand). slice_set l w Free) k.hands_are)
-      total' total'is refl
+      → Kept fits u h' lists' left table total'
+  keeps_park w m c legal low h' h'is woken r lists' lists'are total' total'is =
+      keeps (Park w m c) legal h' h'is lists' left
+      (puts_aside (are_roused c woken r) every_number_fits w m c legal.0 low lists' lists'are) total' total'is refl
 
   pub publish_legal : (now : List Event) (w : ℕ) (hand : Hand) (m : MethodId) (piece : X) → h ≡ now →
       slice_get (replay u h).hands w ≡ Some (Holds m) → hand ≡ Holds m →
@@ -279,12 +254,11 @@ module _ {X : Type 0} {fits : ℕ → X → Type 0} {u : Setup} {h : List Event}
 
   pub keeps_publish : (w : ℕ) (m : MethodId) (piece : X) → LegalAt u (replay u h) (Publish w m) → fits m.0 piece
       → (h' : List Event) → h' ≡ h ++ Publish w m ∷ []
-      → (ready' : List MethodId) → ready' ≡ ready ++ parked_on m.0 parked
-      → (parked' : List (MethodId × MethodId)) → parked' ≡ parked_elsewhere m.0 parked
+      → (lists' : List (List ℕ)) → lists' ≡ spliced (4 + u.workers + m.0) 1 (moved m.0 2 lists)
       → (table' : List (Option X)) → table' ≡ slice_set table m.0 (Some piece)
       → (total' : ℕ) → total' ≡ total + 1
-      → Kept fits u h' idle ready' parked' (slice_set hands w Free) table' total'
-  keeps_publish w m piece legal right h' h'is ready' ready'is parked' parked'is table' table'is total' total'is =
+      → Kept fits u h' lists' left table' total'
+  keeps_publish w m piece legal right h' h'is lists' lists'are table' table'is total' total'is =
       let e = Publish w m in
       let after : replay u h' ≡ step (replay u h) e = ap (replay u) h'is ∙ replay-push u h e in
       let done : (x : ℕ) → times x (replay u h').done ≡ times x (replay u h).done + cond {A = ℕ} (m.0 == x) 1 0 =
@@ -301,11 +275,8 @@ module _ {X : Type 0} {fits : ℕ → X → Type 0} {u : Setup} {h : List Event}
         setup = k.setup;
         legal = (let P : List Event → Type 0 = λ l. Legal u l in
             subst P (sym h'is) (legal-push u (start u) h e k.legal legal));
-        idle_is = k.idle_is ∙ sym (ap (λ (s : Machine). s.idle) after);
-        ready_is = ready'is ∙ (λ i. k.ready_is i ++ parked_on m.0 (k.parked_is i))
-            ∙ sym (ap (λ (s : Machine). s.ready) after);
-        parked_is = parked'is ∙ ap (parked_elsewhere m.0) k.parked_is ∙ sym (ap (λ (s : Machine). s.parked) after);
-        hands_are = ap (λ (l : List Hand). slice_set l w Free) k.hands_are ∙ sym (ap (λ (s : Machine). s.hands) after);
+        are_lists = (let P : Machine → Type 0 = λ s. AreLists u s lists' left in subst P (sym after)
+            (wakes k.are_lists every_number_fits w m legal.0 lists' lists'are));
         pieces = λ x p is.
             (let Q : Bool → Type 0 = λ b. (m.0 == x) ≡ b → fits x p × (0 < times x (replay u h').done) in
             let f : Q (m.0 == x) = elim (m.0 == x) as Q [
@@ -334,14 +305,10 @@ module _ {X : Type 0} {fits : ℕ → X → Type 0} {u : Setup} {h : List Event}
             omega (arith, k.counted, length-append h (e ∷ [])));
       }
 
-  pub every_number_fits : length hands ≡ u.workers
-  every_number_fits = ap length k.hands_are ∙ (sound_of).hands
-
-  pub hand_seen : (now : List Event) (w n : ℕ) (hand : Hand) → h ≡ now → n ≡ w → n < length hands →
-      hand ≡ get_or hands n hand → slice_get (replay u now).hands w ≡ Some hand
-  hand_seen now w n hand same number low is =
-      (λ i. slice_get (replay u (sym same i)).hands (sym number i))
-      ∙ ap (λ (l : List Hand). slice_get l n) (sym k.hands_are) ∙ read_get hands n hand low is
+  -- the hand that contracts see is the one inside
+  pub hand_seen : (now : List Event) (w n : ℕ) (hand : Hand) → h ≡ now → n ≡ w →
+      slice_get (replay u h).hands n ≡ Some hand → slice_get (replay u now).hands w ≡ Some hand
+  hand_seen now w n hand same number is = (λ i. slice_get (replay u (sym same i)).hands (sym number i)) ∙ is
 
   -- a place with a piece is that of a method that is done
   pub there_is_done : (m : MethodId) (o : Option (Option X)) → slice_get table m.0 ≡ o → has_piece o ≡ true →
@@ -396,10 +363,9 @@ module _ {X : Type 0} {fits : ℕ → X → Type 0} {u : Setup} {h : List Event}
       subst D (sym is) (subst C same (subst B rows'are (subst A row'is base)))
 
 -- what the value behind the lock shows of its history and table
-pub right_of : {P : Type 0} {names : P → MethodId} {right : P →
-    Type 0} {u : Setup} {h : List Event} {idle ready : List MethodId} {parked : List (MethodId
-    × MethodId)} {hands : List Hand} {table : List (Option P)} {total : ℕ} {now : List Event × List (Option P)}
-    → Kept (IsPieceOf names right) u h idle ready parked hands table total →
+pub right_of : {P : Type 0} {names : P → MethodId} {right : P → Type 0} {u : Setup} {h : List Event}
+    {lists : List (List ℕ)} {left : List Bool} {table : List (Option P)} {total : ℕ}
+    {now : List Event × List (Option P)} → Kept (IsPieceOf names right) u h lists left table total →
     ◌≡◌ {A = List Event × List (Option P)} (h, table) now → IsRight names right u now.0 now.1
 right_of {P = P} {names = names} {right = right} {u = u} k same =
     let G : List Event × List (Option P) → Type 0 = λ v. IsRight names right u v.0 v.1 in

@@ -1,7 +1,19 @@
 -- The value behind the lock at the start.
 use Rattle.std.proofs.Common.{◌≡◌, ℕ, zero, suc, ◌+◌, ◌<◌, List, [], ◌∷◌, length, get_or, replicate, Option, Some}
 use Rattle.std.proofs.Common.{None, refl, sym, ap, subst, arith, length-append}
-use Rattle.std.specs.Prelude.{slice_get, All}
+use Rattle.std.specs.Prelude.{slice_get, All, ◌^◌}
+use Rattle.std.proofs.Common.{◌-◌, ◌≤◌, ◌++◌, ◌∙◌, Bool, false, map, take, append-nil, append_assoc}
+use Rattle.std.specs.List.{range_with_len}
+use Rattle.row_links.specs.Lists.{all_in, list_at, moved, without, times, node_count, HasEachOnce, IsInList}
+use Rattle.row_links.proofs.Counting.{times-append, times-in_lists, same_once, without-append, without-none, left_out}
+use Rattle.row_links.proofs.Lists.{at_most_once}
+use Rattle.row_links.proofs.Starting.{length-all_in, each-all_in, count-all_in, at-all_in, at-all_in_other}
+use Rattle.core_code.specs.Counting.{flagged}
+use Rattle.summary_store.specs.Lists.{numbers, numbers_held, AreLists, AreFirst}
+use Rattle.summary_store.specs.Machine.{start}
+use Rattle.summary_store.specs.Passes.{is_gone}
+use Rattle.summary_store.proofs.Moved.{is_moved, numbers-append}
+use Rattle.summary_store.proofs.Weights.{flagged_more}
 use Rattle.std.proofs.lemmas.List.{length-replicate}
 use Rattle.racer_base.specs.declared.ids.MethodId.{MethodId}
 use Rattle.std.proofs.Common.{true, is_none}
@@ -52,17 +64,142 @@ no_some zero m x is = cc
 no_some (suc n) zero x is = cc
 no_some (suc n) (suc m) x is = no_some n m x is
 
+-- ---- the lists at the start
+
+-- up to this number those with a flag are idle, and the others are not analysed; behind it all are idle
+pub record AreSorted (flags : List Bool) (workers number : ℕ) (lists : List (List ℕ)) : Type 0 where
+  pub each : HasEachOnce lists
+  pub nodes : node_count lists ≡ length flags
+  pub count : length lists ≡ 4 + workers + length flags
+  pub few : length lists < 2 ^ 32
+  pub idle : list_at lists 0 ≡ numbers (flagged 0 (take number flags))
+      ++ range_with_len number (length flags - number)
+  pub others : (l : ℕ) → (l ≡ 0 → ⊥) → (l ≡ 3 → ⊥) → list_at lists l ≡ []
+
+pub none_sorted : (flags : List Bool) (workers n k : ℕ) (lists : List (List ℕ)) → n ≡ length flags →
+    k ≡ 4 + workers + n → k < 2 ^ 32 → lists ≡ all_in 0 n k → AreSorted flags workers 0 lists
+none_sorted flags workers n k lists n_is k_is few is = let long = length-all_in 0 n k in
+    subst (λ (ls : List (List ℕ)). AreSorted flags workers 0 ls) (sym is) (record {
+      each = each-all_in 0 n k (omega arith);
+      nodes = count-all_in 0 n k (omega arith) ∙ n_is;
+      count = omega arith;
+      few = subst (λ (m : ℕ). m < 2 ^ 32) (sym long) few;
+      idle = at-all_in 0 n k (omega arith)
+          ∙ ap (range_with_len 0) (let e : n ≡ length flags - 0 = omega arith in e);
+      others = λ l not_idle not_analysed. at-all_in_other 0 l n k not_idle;
+    })
+
+rest-first : (i n : ℕ) → i < n → range_with_len i (n - i) ≡ i ∷ range_with_len (i + 1) (n - (i + 1))
+rest-first i n low = ap (range_with_len i) (let e : n - i ≡ suc (n - (i + 1)) = omega arith in e)
+
+without-middle : (x : ℕ) (xs ys : List ℕ) → times x (xs ++ x ∷ ys) ≤ 1 → without x (xs ++ x ∷ ys) ≡ xs ++ ys
+without-middle x xs ys few = let parts = times-append x xs (x ∷ ys) in let here = same_once x x refl in
+    without-append x xs (x ∷ ys)
+    ∙ (λ i. without-none x xs (omega arith) i ++ (left_out x x ys refl ∙ without-none x ys (omega arith)) i)
+
+module _ {flags : List Bool} {workers i : ℕ} {lists : List (List ℕ)} (k : AreSorted flags workers i lists)
+    (low : i < length flags) (b : Bool) (flag : b ≡ get_or flags i b) where
+  split : list_at lists 0 ≡ numbers (flagged 0 (take i flags)) ++ i ∷ range_with_len (i + 1) (length flags - (i + 1))
+  split = k.idle ∙ ap (λ l. numbers (flagged 0 (take i flags)) ++ l) (rest-first i (length flags) low)
+
+  more : numbers (flagged 0 (take (i + 1) flags)) ≡
+      numbers (flagged 0 (take i flags)) ++ numbers (flagged i (b ∷ []))
+  more = ap numbers (flagged_more flags i b low (sym flag))
+      ∙ numbers-append (flagged 0 (take i flags)) (flagged i (b ∷ []))
+
+  pub one_idle : b ≡ true → (then : List (List ℕ)) → then ≡ lists → AreSorted flags workers (i + 1) then
+  one_idle set then same = subst (λ (ls : List (List ℕ)). AreSorted flags workers (i + 1) ls) (sym same) (record {
+    each = k.each;
+    nodes = k.nodes;
+    count = k.count;
+    few = k.few;
+    idle = split ∙ sym (ap (λ l. l ++ range_with_len (i + 1) (length flags - (i + 1))) (more
+        ∙ ap (λ c. numbers (flagged 0 (take i flags)) ++ numbers (flagged i (c ∷ []))) set)
+        ∙ append_assoc (numbers (flagged 0 (take i flags))) (i ∷ [])
+        (range_with_len (i + 1) (length flags - (i + 1))));
+    others = k.others;
+  })
+
+  pub one_not : b ≡ false → (then : List (List ℕ)) → then ≡ moved i 3 lists → AreSorted flags workers (i + 1) then
+  one_not unset then then'is =
+      let front = numbers (flagged 0 (take i flags)) in
+      let rest = range_with_len (i + 1) (length flags - (i + 1)) in
+      let all = ap (times i) split in let parts = times-append i front (i ∷ rest) in
+      let here = same_once i i refl in let one = at_most_once lists i k.each in
+      let in_one = times-in_lists i 0 lists in
+      let there : IsInList lists i 0 = omega arith in
+      let v = is_moved lists then i 0 3 k.each there (omega (arith, k.count)) (λ e. omega arith) then'is in
+      record {
+        each = v.each;
+        nodes = v.nodes ∙ k.nodes;
+        count = v.count ∙ k.count;
+        few = (let few = k.few in omega (arith, v.count));
+        idle = v.left ∙ ap (without i) split ∙ without-middle i front rest (omega arith)
+            ∙ sym (ap (λ l. l ++ rest) (more ∙ ap (λ c. front ++ numbers (flagged i (c ∷ []))) unset
+            ∙ append-nil front));
+        others = λ l not_idle not_analysed. v.rest l not_idle not_analysed ∙ k.others l not_idle not_analysed;
+      }
+
+pub all_sorted : (flags : List Bool) (workers n : ℕ) (lists : List (List ℕ)) → AreSorted flags workers n lists →
+    n ≡ length flags → AreFirst flags workers lists
+all_sorted flags workers n lists k is = record {
+  each = k.each;
+  nodes = k.nodes;
+  count = k.count;
+  few = k.few;
+  idle = k.idle
+      ∙ ap (λ l. numbers (flagged 0 (take n flags)) ++ l)
+      (ap (range_with_len n) (let e : length flags - n ≡ 0 = omega arith in e))
+      ∙ append-nil (numbers (flagged 0 (take n flags)))
+      ∙ ap (λ l. numbers (flagged 0 l)) (ap (λ m. take m flags) is ∙ take-all flags);
+  others = k.others;
+}
+  where
+    take-all : (xs : List Bool) → take (length xs) xs ≡ xs
+    take-all [] = refl
+    take-all (x ∷ xs) = ap (λ l. x ∷ l) (take-all xs)
+
+pub first_of_program : {flags flags' : List Bool} {workers workers' : ℕ} (lists : List (List ℕ)) → flags ≡ flags' →
+    workers ≡ workers' → AreFirst flags workers lists → AreFirst flags' workers' lists
+first_of_program {flags' = flags'} {workers = workers} lists flags'are workers'are first =
+    subst (λ (n : ℕ). AreFirst flags' n lists) workers'are
+    (subst (λ (fs : List Bool). AreFirst fs workers lists) flags'are first)
+
+same_first : (n w : ℕ) (hand : Hand) → slice_get (replicate n Free) w ≡ Some hand → hand ≡ Free
+same_first zero w hand is = cc
+same_first (suc n) zero hand is = let e : Free ≡ hand = cc in sym e
+same_first (suc n) (suc w) hand is = same_first n w hand is
+
+nobody_left : (n : ℕ) → replicate n false ≡ map is_gone (replicate n Free)
+nobody_left zero = refl
+nobody_left (suc n) = ap (λ l. false ∷ l) (nobody_left n)
+
+first_lists : (p : Core) (w : ℕ) (lists : List (List ℕ)) (left : List Bool) → AreFirst (flags_of p) w lists →
+    left ≡ replicate w false → AreLists (setup_of p w) (start (setup_of p w)) lists left
+first_lists p w lists left f left'is = let rows : length (rows_of p) ≡ length (flags_of p) = count_rows p
+    ∙ sym (count_same p) in record {
+      each = f.each;
+      nodes = f.nodes ∙ sym rows;
+      count = omega (arith, f.count);
+      few = f.few;
+      idle = f.idle;
+      ready = f.others 1 (λ e. omega arith) (λ e. omega arith);
+      done = f.others 2 (λ e. omega arith) (λ e. omega arith);
+      held = λ v hand is. f.others (4 + v) (λ e. omega arith) (λ e. omega arith)
+          ∙ ap numbers_held (sym (same_first w v hand is));
+      parked = λ c low. f.others (4 + w + c) (λ e. omega arith) (λ e. omega arith);
+      flags = left'is ∙ nobody_left w;
+    }
+
 pub kept_start : {X : Type 0} (fits : ℕ → X → Type 0) (p : Core) (r : CallRows) (w : ℕ) → are_calls_right p ≡ true →
     AreRowsOf p r → 0 < w
-    → (h : List Event) → h ≡ [] → (idle : List MethodId) → idle ≡ analysed_methods p → (ready : List MethodId) →
-    ready ≡ [] → (parked : List (MethodId × MethodId)) → parked ≡ []
-    → (hands : List Hand) → hands ≡ replicate w Free → (table : List (Option X)) →
+    → (h : List Event) → h ≡ [] → (lists : List (List ℕ)) → AreFirst (flags_of p) w lists
+    → (left : List Bool) → left ≡ replicate w false → (table : List (Option X)) →
     table ≡ replicate (length (flags_of p)) None → (total : ℕ) → total ≡ 0
-    → Kept fits (setup_of p w) h idle ready parked hands table total
-kept_start {X = X} fits p r w calls same some h h'is idle idle'is ready ready'is parked parked'is hands hands'are table
-    table'is total total'is =
+    → Kept fits (setup_of p w) h lists left table total
+kept_start {X = X} fits p r w calls same some h h'is lists first left left'is table table'is total total'is =
     let u = setup_of p w in
-    let G : List Event → List (Option X) → Type 0 = λ l t. Kept fits u l idle ready parked hands t total in
+    let G : List Event → List (Option X) → Type 0 = λ l t. Kept fits u l lists left t total in
     let base : G [] (replicate (length (flags_of p)) None) = record {
       setup = record {
         some = some;
@@ -70,10 +207,7 @@ kept_start {X = X} fits p r w calls same some h h'is idle idle'is ready ready'is
         ranked = program_ranked p r w calls same;
       };
       legal = tt;
-      idle_is = idle'is;
-      ready_is = ready'is;
-      parked_is = parked'is;
-      hands_are = hands'are;
+      are_lists = first_lists p w lists left first left'is;
       pieces = λ m x is. absurd (no_some (length (flags_of p)) m x is);
       none = λ m is. refl;
       places = λ m known. (let low = (flagged_once m.0 0 (flags_of p)).1 known in

@@ -1,12 +1,10 @@
 -- What lists weigh after a change.
 use Rattle.std.proofs.Common.{◌≡◌, ℕ, zero, suc, ◌+◌, ◌<◌, ◌≤◌, List, [], ◌∷◌, ◌++◌, length, Bool, true, false, cond}
-use Rattle.std.proofs.Common.{Some, None, refl, sym, ap, ◌∙◌, arith, take, drop, get_or, length-take, append-nil}
-use Rattle.std.proofs.Common.{append_assoc}
+use Rattle.std.proofs.Common.{Some, None, refl, sym, ap, ◌∙◌, arith, take, drop, get_or}
 use Rattle.std.proofs.lemmas.List.{length-take-le}
-use Rattle.std.specs.Prelude.{◌==◌, slice_get, slice_set, replicate, filter, not}
+use Rattle.std.specs.Prelude.{◌==◌, slice_get, slice_set, replicate}
 use Rattle.std.proofs.lemmas.Bool.Decides.{nat_tests}
 use Rattle.std.proofs.lemmas.List.{take_more}
-use Rattle.std.proofs.lemmas.Option.{get_or_from_slice_get}
 use Rattle.racer_base.specs.declared.ids.MethodId.{MethodId}
 use Rattle.core_code.specs.Counting.{weigh, times, flagged}
 use Rattle.summary_store.specs.Machine.{only, without, parked_on, parked_elsewhere, first_of, idle_after}
@@ -256,51 +254,6 @@ fewer_pairs (p ∷ ps) es fits =
     let r = fewer_pairs ps (drop_pair p.0.0 p.1.0 es) (λ x y. omega (arith, fits x y, d.1 x y)) in
     omega (arith, d.0)
 
-pub only_none : (c : ℕ) (xs : List MethodId) → times c xs ≡ 0 → (only c xs ≡ []) × (without c xs ≡ xs)
-only_none c [] none = (refl, refl)
-only_none c (m ∷ ms) none =
-    let P : Bool → Type 0 = λ b. (m.0 == c) ≡ b → (cond b (m ∷ only c ms) (only c ms) ≡ [])
-    × (cond b (without c ms) (m ∷ without c ms) ≡ m ∷ ms) in
-    let f : P (m.0 == c) = elim (m.0 == c) as P [
-      | true ↦ (λ e. let z : cond {A = ℕ} (m.0 == c) 1 0 ≡ 1 = ap (λ (b : Bool). cond {A = ℕ} b 1 0) e in
-          absurd (omega arith))
-      | false ↦ (λ e. let i = only_none c ms (omega arith) in (i.0, ap (λ (l : List MethodId). m ∷ l) i.1))
-    ] in f refl
-
-pub only_one : (c : MethodId) (xs : List MethodId) (i : ℕ) → times c.0 xs ≤ 1 → slice_get xs i ≡ Some c →
-    (only c.0 xs ≡ c ∷ []) × (without c.0 xs ≡ take i xs ++ drop (suc i) xs)
-only_one c [] i few is = cc
-only_one c (m ∷ ms) zero few is =
-    let e : m ≡ c = cc in
-    let t : (m.0 == c.0) ≡ true = ap (λ (k : MethodId). k.0 == c.0) e ∙ eqb_same c.0 in
-    let z : cond {A = ℕ} (m.0 == c.0) 1 0 ≡ 1 = ap (λ (b : Bool). cond {A = ℕ} b 1 0) t in
-    let rest = only_none c.0 ms (omega arith) in (
-      (λ j. cond (t j) (m ∷ only c.0 ms) (only c.0 ms))
-          ∙ (λ j. e j ∷ rest.0 j),
-      (λ j. cond (t j) (without c.0 ms) (m ∷ without c.0 ms)) ∙ rest.1,
-    )
-only_one c (m ∷ ms) (suc i) few is =
-    let P : Bool → Type 0 = λ b. (m.0 == c.0) ≡ b →
-    (cond b (m ∷ only c.0 ms) (only c.0 ms) ≡ c ∷ [])
-    × (cond b (without c.0 ms) (m ∷ without c.0 ms) ≡ m ∷ (take i ms ++ drop (suc i) ms)) in
-    let f : P (m.0 == c.0) = elim (m.0 == c.0) as P [
-      | true ↦ (λ e. let z : cond {A = ℕ} (m.0 == c.0) 1 0 ≡ 1 = ap (λ (b : Bool). cond {A = ℕ} b 1 0) e in
-          let here : cond {A = ℕ} (c.0 == c.0) 1 0 ≡ 1 = ap (λ (b : Bool). cond {A = ℕ} b 1 0) (eqb_same c.0) in
-          let some = weigh-get (λ (k : MethodId). cond {A = ℕ} (k.0 == c.0) 1 0) ms i c is in absurd (omega arith))
-      | false ↦ (λ e. let r = only_one c ms i (omega arith) is in (r.0, ap (λ (l : List MethodId). m ∷ l) r.1))
-    ] in f refl
-
-pub parked_elsewhere_is : (c : ℕ) (ps : List (MethodId × MethodId)) →
-    parked_elsewhere c ps ≡ filter (λ p. not (p.1.0 == c)) ps
-parked_elsewhere_is c [] = refl
-parked_elsewhere_is c (p ∷ ps) =
-    elim (p.1.0 == c) as (λ b. cond b (parked_elsewhere c ps) (p ∷ parked_elsewhere c ps) ≡
-    cond (not b) (p ∷ filter (λ q. not (q.1.0 == c)) ps) (filter (λ q. not (q.1.0 == c)) ps)) [
-      | true ↦ parked_elsewhere_is c ps
-      | false ↦ ap (λ (l : List (MethodId × MethodId)). p ∷ l)
-          (parked_elsewhere_is c ps)
-    ]
-
 pub parked_on-append : (c : ℕ) (xs ys : List (MethodId × MethodId)) →
     parked_on c (xs ++ ys) ≡ parked_on c xs ++ parked_on c ys
 parked_on-append c [] ys = refl
@@ -309,47 +262,11 @@ parked_on-append c (p ∷ ps) ys =
     cond b (p.0 ∷ parked_on c ps) (parked_on c ps) ++ parked_on c ys)
     [ true ↦ ap (λ (l : List MethodId). p.0 ∷ l) (parked_on-append c ps ys) | false ↦ parked_on-append c ps ys ]
 
-pub bit_none : (a b : ℕ) → (a ≡ b → ⊥) → cond {A = ℕ} (a == b) 1 0 ≡ 0
-bit_none a b apart = grind (arith, nat_tests)
-
 pub eqb_yes_to : (a b : ℕ) → a ≡ b → (a == b) ≡ true
 eqb_yes_to a b e = grind (arith, nat_tests)
 
 pub eqb_no_to : (a b : ℕ) → (a ≡ b → ⊥) → (a == b) ≡ false
 eqb_no_to a b e = grind (arith, nat_tests)
-
-parked_on-length : (c : ℕ) (ps : List (MethodId × MethodId)) → length (parked_on c ps) ≤ length ps
-parked_on-length c ps = omega (arith, length_parked c ps)
-
-pub parked_on-le : (c : ℕ) (ps : List (MethodId × MethodId)) (i : ℕ) → length (parked_on c (take i ps)) ≤ i
-parked_on-le c ps i = omega (arith, parked_on-length c (take i ps), length-take i ps)
-
-pub parked_on_yes : (c : ℕ) (ps : List (MethodId × MethodId)) (i : ℕ) (d : MethodId × MethodId) → i < length ps →
-    (get_or ps i d).1.0 ≡ c → parked_on c (take (i + 1) ps) ≡ parked_on c (take i ps) ++ (get_or ps i d).0 ∷ []
-parked_on_yes c ps i d low is =
-    ap (parked_on c) (take_more ps i d low) ∙ parked_on-append c (take i ps) (get_or ps i d ∷ [])
-    ∙ (λ j. parked_on c (take i ps) ++ cond (eqb_yes_to _ _ is j) ((get_or ps i d).0 ∷ []) [])
-
-pub parked_on_no : (c : ℕ) (ps : List (MethodId × MethodId)) (i : ℕ) (d : MethodId × MethodId) → i < length ps →
-    ((get_or ps i d).1.0 ≡ c → ⊥) → parked_on c (take (i + 1) ps) ≡ parked_on c (take i ps)
-parked_on_no c ps i d low is =
-    ap (parked_on c) (take_more ps i d low) ∙ parked_on-append c (take i ps) (get_or ps i d ∷ [])
-    ∙ (λ j. parked_on c (take i ps) ++ cond (eqb_no_to _ _ is j) ((get_or ps i d).0 ∷ []) [])
-    ∙ append-nil (parked_on c (take i ps))
-
-pub woken_more : (front r r' : List MethodId) (x : MethodId) (a b : List MethodId) → r' ≡ r ++ x ∷ [] → r ≡ front ++ a →
-    b ≡ a ++ x ∷ [] → r' ≡ front ++ b
-woken_more front r r' x a b e f g = e ∙ ap (λ (l : List MethodId). l ++ x ∷ []) f ∙ append_assoc front a (x ∷ [])
-    ∙ ap (λ (l : List MethodId). front ++ l) (sym g)
-
-pub woken_same : (front r r' : List MethodId) (a b : List MethodId) → r' ≡ r → r ≡ front ++ a → b ≡ a → r' ≡ front ++ b
-woken_same front r r' a b e f g = e ∙ f ∙ ap (λ (l : List MethodId). front ++ l) (sym g)
-
-pub one_roused : (r : List MethodId) (x c : MethodId) (xs is : List MethodId) (i : ℕ) → times c.0 xs ≤ 1 →
-    slice_get xs i ≡ Some c → x ≡ get_or xs i x → is ≡ r ++ x ∷ [] → is ≡ r ++ only c.0 xs
-one_roused r x c xs is i few at read e =
-    let same : x ≡ c = (let g = get_or_from_slice_get xs i c x at in read ∙ g) in
-    e ∙ ap (λ (k : MethodId). r ++ k ∷ []) same ∙ ap (λ (l : List MethodId). r ++ l) (sym (only_one c xs i few at).0)
 
 pub flagged-append : (n : ℕ) (xs ys : List Bool) → flagged n (xs ++ ys) ≡ flagged n xs ++ flagged (n + length xs) ys
 flagged-append n [] ys = ap (λ (k : ℕ). flagged k ys) (let e : n ≡ n + 0 = omega arith in e)

@@ -4,10 +4,10 @@ use Rattle.std.specs.Prelude.{Some, None, slice_get}
 use Rattle.racer_base.specs.declared.ids.MethodId.{MethodId}
 use Rattle.core_code.specs.Counting.{times, IsIn}
 use Rattle.summary_store.specs.declared.machine.Event.{Event}
-use Rattle.summary_store.specs.declared.machine.Hand.{Hand}
 use Rattle.summary_store.specs.declared.machine.Hand.TheVariants.{Holds}
 use Rattle.summary_store.specs.Machine.{Setup, Legal, replay, AllGone, IsComplete}
 use Rattle.summary_store.specs.Laws.{edges, takes, IsSetup}
+use Rattle.summary_store.specs.Lists.{AreLists}
 
 -- the pieces behind the pointers of a table
 abbrev pub pieces_of : {A P : Type 0} → (A → P) → List (Option A) → List (Option P)
@@ -20,25 +20,20 @@ IsPieceOf names is_right m piece = ((names piece).0 ≡ m) × is_right piece
 -- the history is legal, the lists are those of its replay, the table has a piece exactly for the methods that are done,
 -- each piece fits its method, and the book counts the history
 pub record Kept
-    {X : Type 0} (fits : ℕ → X → Type 0) (u : Setup) (history : List Event) (idle ready : List MethodId)
-    (parked : List (MethodId × MethodId)) (hands : List Hand) (table : List (Option X)) (total : ℕ) : Type 0 where
+    {X : Type 0} (fits : ℕ → X → Type 0) (u : Setup) (history : List Event) (lists : List (List ℕ)) (left : List Bool)
+    (table : List (Option X)) (total : ℕ) : Type 0 where
   pub setup : IsSetup u
   pub legal : Legal u history
-  pub idle_is : idle ≡ (replay u history).idle
-  pub ready_is : ready ≡ (replay u history).ready
-  pub parked_is : parked ≡ (replay u history).parked
-  pub hands_are : hands ≡ (replay u history).hands
+  pub are_lists : AreLists u (replay u history) lists left
   pub pieces : (m : ℕ) (x : X) → slice_get table m ≡ Some (Some x) → fits m x × (0 < times m (replay u history).done)
   pub none : (m : ℕ) → slice_get table m ≡ Some None → times m (replay u history).done ≡ 0
   pub places : (m : MethodId) → IsIn m u.methods → m.0 < length table
   pub lines : (m : MethodId) → IsIn m u.methods → m.0 < length u.rows
   pub counted : total ≡ length history
 
--- the vectors have room for every event and move
-pub record HasRoom (u : Setup) (history ready parked : ℕ) : Type 0 where
+-- the history has room for every event
+pub record HasRoom (u : Setup) (history : ℕ) : Type 0 where
   pub events : 2 * (length u.methods + edges u) + u.workers ≤ history
-  pub waiting : length u.methods ≤ ready
-  pub waits : length u.methods ≤ parked
 
 -- the history is legal, and the table has a piece exactly for the methods that are done, each right for its method; and
 -- what the laws say of the history: what is held or done is analysed, takes are bounded, all gone is all done

@@ -2,6 +2,8 @@
 pub mod Machine
 pub mod Laws
 pub mod Setups
+pub mod Lists
 pub mod Kept
 pub mod Passes
 pub mod Demands
+pub mod Examples

@@ -15,6 +15,7 @@ ghost use Rattle.summary_store.specs.Kept.{IsPieceOf};
 ghost use Rattle.summary_store.specs.Laws.{IsSetup, takes, parks, publishes, leaves, edges};
 ghost use Rattle.summary_store.specs.Machine.{Setup, Legal, replay, next_of, NoneHeld, AllDone, AllGone};
 ghost use Rattle.summary_store.specs.Machine.{IsComplete, IsDone};
+ghost use Rattle.summary_store.specs.Examples.{two_callers, two_wait};
 ghost use Rattle.summary_store.specs.Passes.{Agrees, WantsNext, MayPublish, held_in, pass_view};
 ghost use Rattle.summary_store.specs.Setups.{state_after};
 
@@ -43,6 +44,12 @@ pub fn every_legal_history()
         length history ≤ 2 * (length u.methods + edges u) + u.workers }
 {}
 
+/// Two methods park on a third, the one that stands behind first, and are ready in that order once the third is done.
+pub fn woken_in_order()
+    ensures legal { Legal two_callers two_wait }
+    ensures ready { (replay two_callers two_wait).ready ≡ record { 0 = 1 } ∷ record { 0 = 0 } ∷ [] }
+{}
+
 /// Takes a method for this pass: the front of the ready list, else the first idle method. Where nothing is ready or
 /// idle, the pass leaves.
 pub fn take_at<P: Piece, L: StoreRun>(
@@ -61,21 +68,19 @@ pub fn take_at<P: Piece, L: StoreRun>(
 {
     let Locked {
         history,
-        idle,
-        ready,
-        hands,
+        lists,
+        left,
         book,
         ..
     } = value;
     let number = pass.number();
-    let Some(m) = next_method(ready, idle) else {
+    let Some(m) = next_method(lists, number) else {
         history.push_reserved(Event::Leave(number));
-        hands[number as usize] = Hand::Gone;
+        left[number as usize] = true;
         pass.note(book, Hand::Gone);
         return None;
     };
     history.push_reserved(Event::Take(number, m));
-    hands[number as usize] = Hand::Holds(m);
     pass.note(book, Hand::Holds(m));
     Some(m)
 }
@@ -136,16 +141,14 @@ pub fn publish_at<P: Piece, L: StoreRun>(
     };
     let Locked {
         history,
-        ready,
-        parked,
-        hands,
+        lists,
+        workers,
         table,
         book,
         ..
     } = value;
-    wake(parked, ready, m);
+    wake(lists, *workers, m);
     table[m.0 as usize] = Some(piece);
     history.push_reserved(Event::Publish(number, m));
-    hands[number as usize] = Hand::Free;
     pass.note(book, Hand::Free);
 }

@@ -14,11 +14,12 @@ ghost use Rattle.summary_store.specs.Setups.{setup_of, state_after};
 ghost use Rattle.summary_store.specs.Kept.{pieces_of, IsPieceOf, IsRight, has_piece};
 ghost use Rattle.summary_store.specs.Passes.{Agrees, WantsNext, IsRowDone, held_in, pass_view};
 
-use crate::moves::rouse;
-use crate::starting::{count, edge_count, free_hands, idle_methods, no_pieces};
+use crate::moves::{held, put_aside, rouse};
+use crate::starting::{count, edge_count, first_lists, idle_methods, no_pieces};
 use crate::{Event, Hand, Pass, StoreRun};
 use core_code::{CallRows, Piece, Program};
 use racer_base::{Memory, MethodId};
+use row_links::Rows;
 use std::alloc::Global;
 use std::marker::Model;
 use std::sync::Arc;
@@ -28,10 +29,10 @@ use std::sync::ledger::Book;
 #[derive(Drop)]
 pub struct Locked<P: Piece, L: StoreRun> {
     pub(crate) history: Vec<Event>,
-    pub(crate) idle: Vec<MethodId>,
-    pub(crate) ready: Vec<MethodId>,
-    pub(crate) parked: Vec<(MethodId, MethodId)>,
-    pub(crate) hands: Vec<Hand>,
+    pub(crate) lists: Rows,
+    /// Which workers have left.
+    pub(crate) left: Vec<bool>,
+    pub(crate) workers: u32,
     pub(crate) table: Vec<Option<Arc<P>>>,
     rows: Arc<CallRows>,
     pub(crate) book: Book<L>,
@@ -52,10 +53,10 @@ impl<P: Piece, L: StoreRun> Model for Locked<P, L> {
 
     ghost invariant = { λ v.
         Kept (IsPieceOf P.names (P.is_right L.program)) (setup_of (core L.program) L.parts) v.history.items
-        v.idle.items v.ready.items v.parked.items v.hands.items (pieces_of arc_value v.table.items) v.book.total
-        × HasRoom (setup_of (core L.program) L.parts) (vec_capacity v.history) (vec_capacity v.ready)
-        (vec_capacity v.parked)
-        × AreRowsOf (core L.program) (arc_value v.rows) };
+        v.lists v.left.items (pieces_of arc_value v.table.items) v.book.total
+        × HasRoom (setup_of (core L.program) L.parts) (vec_capacity v.history)
+        × AreRowsOf (core L.program) (arc_value v.rows)
+        × (v.workers ≡ L.parts) };
 }
 
 /// Whether a method has a piece.
@@ -123,16 +124,14 @@ impl<P: Piece, L: StoreRun> Locked<P, L> {
             return Err(Memory);
         };
         let history = Vec::with_capacity(alloc, room)?;
-        let ready = Vec::with_capacity(alloc, idle.len())?;
-        let parked = Vec::with_capacity(alloc, idle.len())?;
-        let hands = free_hands(alloc, workers)?;
+        let lists = first_lists(alloc, program, workers)?;
+        let left = vec![in alloc; false; workers as usize]?;
         let table = no_pieces(alloc, count(program))?;
         Ok(Locked {
             history,
-            idle,
-            ready,
-            parked,
-            hands,
+            lists,
+            left,
+            workers,
             table,
             rows,
             book,
@@ -143,7 +142,13 @@ impl<P: Piece, L: StoreRun> Locked<P, L> {
     fn hand_of(&self, pass: &Pass<L>) -> Hand
         ensures { slice_get (state_after L.program L.parts self.now.0).hands pass.now.number ≡ Some result }
     {
-        self.hands[pass.number as usize]
+        if self.left[pass.number as usize] {
+            return Hand::Gone;
+        }
+        match held(&self.lists, pass.number) {
+            Some(m) => Hand::Holds(m),
+            None => Hand::Free,
+        }
     }
 
     /// Whether the pass agrees with this value.
@@ -212,17 +217,14 @@ impl<P: Piece, L: StoreRun> Locked<P, L> {
         };
         let Locked {
             history,
-            idle,
-            ready,
-            parked,
-            hands,
+            lists,
+            workers,
             book,
             ..
         } = self;
-        rouse(idle, ready, callee);
-        parked.push_reserved((m, callee));
+        rouse(lists, callee);
+        put_aside(lists, *workers, m, callee);
         history.push_reserved(Event::Park(number, m, callee));
-        hands[number as usize] = Hand::Free;
         pass.note(book, Hand::Free);
     }
 }

@@ -1,74 +1,82 @@
 //! Moves of methods among the lists of the value behind the lock.
-ghost use Rattle.std.specs.Prelude.{◌≡◌, ◌+◌, ◌≤◌, ◌++◌, length, drop, Some, IfSome, IfNone, slice_get, vec_capacity};
-ghost use Rattle.core_code.specs.Counting.{times};
-ghost use Rattle.summary_store.specs.Machine.{first_of, idle_after, only, without, parked_on, parked_elsewhere};
+ghost use Rattle.std.specs.Prelude.{◌≡◌, ◌+◌, ◌^◌, ◌<◌, length};
+ghost use Rattle.row_links.specs.Lists.{moved, spliced, node_count};
+ghost use Rattle.summary_store.specs.Lists.{numbered, front_held, next_front, next_taken, IsRoused};
 
 use racer_base::MethodId;
+use row_links::Rows;
 
-/// Takes the front of the ready list; or where it is empty, the first idle method.
-pub(crate) fn next_method(ready: &mut Vec<MethodId>, idle: &mut Vec<MethodId>) -> Option<MethodId>
-    ensures next { result ≡ first_of ready.old.items idle.old.items }
-    ensures ready { ready.new.items ≡ drop 1 ready.old.items }
-    ensures idle { idle.new.items ≡ idle_after ready.old.items idle.old.items }
-    ensures room { vec_capacity ready.new ≡ vec_capacity ready.old }
+const IDLE: u32 = 0;
+
+const READY: u32 = 1;
+
+const DONE: u32 = 2;
+
+pub(crate) const NOT_ANALYSED: u32 = 3;
+
+/// The first list of what a worker holds. Behind the last of them are those of what is parked on a method.
+pub(crate) const HELD: u32 = 4;
+
+/// The list of what is parked on a method.
+fn waiting_for(workers: u32, m: MethodId) -> u32
+    requires { 4 + workers + m.0 < 2 ^ 32 }
+    ensures { result ≡ 4 + workers + m.0 }
 {
-    if !ready.is_empty() {
-        return Some(ready.remove(0));
-    }
-    if !idle.is_empty() {
-        return Some(idle.remove(0));
-    }
-    None
+    HELD + workers + m.0
 }
 
-/// The first place of a method in a list.
-fn place_of(list: &[MethodId], c: MethodId) -> Option<usize>
-    ensures some { IfSome result (λ i. slice_get list.now i ≡ Some c) }
-    ensures none { IfNone result (times c.0 list.now ≡ 0) }
+/// The method that a worker holds.
+pub(crate) fn held(lists: &Rows, worker: u32) -> Option<MethodId>
+    requires list { 4 + worker < length lists.now }
+    requires few { length lists.now < 2 ^ 32 }
+    ensures { result ≡ front_held worker lists.now }
 {
-    for i in 0..list.len() {
-        if list[i].0 == c.0 {
-            return Some(i);
-        }
+    let m = lists.front(HELD + worker)?;
+    Some(MethodId(m))
+}
+
+/// Takes the front of the ready list for a worker; or where it is empty, the first idle method.
+pub(crate) fn next_method(lists: &mut Rows, worker: u32) -> Option<MethodId>
+    requires list { 4 + worker < length lists.old }
+    requires few { length lists.old < 2 ^ 32 }
+    ensures next { result ≡ numbered (next_front lists.old) }
+    ensures lists { lists.new ≡ next_taken worker lists.old }
+{
+    if let Some(m) = lists.take_front(READY, HELD + worker) {
+        return Some(MethodId(m));
     }
-    None
+    let m = lists.take_front(IDLE, HELD + worker)?;
+    Some(MethodId(m))
 }
 
 /// Moves an idle method to the end of the ready ones.
-pub(crate) fn rouse(idle: &mut Vec<MethodId>, ready: &mut Vec<MethodId>, c: MethodId)
-    requires once { times c.0 idle.old.items ≤ 1 }
-    requires room { length idle.old.items + length ready.old.items ≤ vec_capacity ready.old }
-    ensures idle { idle.new.items ≡ without c.0 idle.old.items }
-    ensures ready { ready.new.items ≡ ready.old.items ++ only c.0 idle.old.items }
-    ensures capacity { vec_capacity ready.new ≡ vec_capacity ready.old }
+pub(crate) fn rouse(lists: &mut Rows, c: MethodId)
+    requires node { c.0 < node_count lists.old }
+    requires list { 1 < length lists.old }
+    ensures { IsRoused c.0 lists.old lists.new }
 {
-    if let Some(i) = place_of(idle.as_slice(), c) {
-        let m = idle.remove(i);
-        ready.push_reserved(m);
+    if lists.list_of(c.0) == IDLE {
+        lists.move_to(c.0, READY);
     }
 }
 
-/// Moves the methods that are parked on m to the end of the ready ones, in order.
-pub(crate) fn wake(parked: &mut Vec<(MethodId, MethodId)>, ready: &mut Vec<MethodId>, m: MethodId)
-    requires room { length parked.old.items + length ready.old.items ≤ vec_capacity ready.old }
-    ensures ready { ready.new.items ≡ ready.old.items ++ parked_on m.0 parked.old.items }
-    ensures parked { parked.new.items ≡ parked_elsewhere m.0 parked.old.items }
-    ensures ready_capacity { vec_capacity ready.new ≡ vec_capacity ready.old }
-    ensures parked_capacity { vec_capacity parked.new ≡ vec_capacity parked.old }
+/// Parks a method on a callee.
+pub(crate) fn put_aside(lists: &mut Rows, workers: u32, m: MethodId, callee: MethodId)
+    requires node { m.0 < node_count lists.old }
+    requires list { 4 + workers + callee.0 < length lists.old }
+    requires few { length lists.old < 2 ^ 32 }
+    ensures { lists.new ≡ moved m.0 (4 + workers + callee.0) lists.old }
 {
-    ready_from(parked.as_slice(), ready, m);
-    parked.retain(|p| p.1.0 != m.0);
+    lists.move_to(m.0, waiting_for(workers, callee));
 }
 
-/// Puts the methods that are parked on m behind the ready ones.
-fn ready_from(parked: &[(MethodId, MethodId)], ready: &mut Vec<MethodId>, m: MethodId)
-    requires room { length parked.now + length ready.old.items ≤ vec_capacity ready.old }
-    ensures ready { ready.new.items ≡ ready.old.items ++ parked_on m.0 parked.now }
-    ensures capacity { vec_capacity ready.new ≡ vec_capacity ready.old }
+/// Moves a method to those that are done, and the methods that are parked on it to the end of the ready ones, in order.
+pub(crate) fn wake(lists: &mut Rows, workers: u32, m: MethodId)
+    requires node { m.0 < node_count lists.old }
+    requires list { 4 + workers + m.0 < length lists.old }
+    requires few { length lists.old < 2 ^ 32 }
+    ensures { lists.new ≡ spliced (4 + workers + m.0) 1 (moved m.0 2 lists.old) }
 {
-    for i in 0..parked.len() {
-        if parked[i].1.0 == m.0 {
-            ready.push_reserved(parked[i].0);
-        }
-    }
+    lists.move_to(m.0, DONE);
+    lists.splice(waiting_for(workers, m), READY);
 }

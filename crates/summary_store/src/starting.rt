@@ -7,14 +7,15 @@ ghost use Rattle.core_code.specs.Counting.{weigh, flags_of, analysed_methods};
 ghost use Rattle.core_code.specs.Chains.{row_of};
 ghost use Rattle.core_code.specs.Program.{core};
 ghost use Rattle.core_code.specs.CalleeRows.{rows_in, AreRowsOf};
-ghost use Rattle.summary_store.specs.declared.machine.Hand.TheVariants.{Free};
 ghost use Rattle.summary_store.specs.Kept.{pieces_of};
 ghost use Rattle.summary_store.specs.Laws.{edges};
+ghost use Rattle.summary_store.specs.Lists.{AreFirst};
 ghost use Rattle.summary_store.specs.Setups.{setup_of};
 
-use crate::machine::Hand;
+use crate::moves::{HELD, NOT_ANALYSED};
 use core_code::{CallRows, Program};
 use racer_base::{Memory, MethodId};
+use row_links::Rows;
 use std::alloc::Global;
 use std::sync::Arc;
 
@@ -90,15 +91,31 @@ pub(crate) fn edge_count(rows: &CallRows, methods: &[MethodId]) -> Option<usize>
     Some(count)
 }
 
-/// Free hands for all workers.
-pub(crate) fn free_hands(alloc: Global, workers: u32) -> Result<Vec<Hand>, Memory>
-    ensures { IfOk result (λ v. v.items ≡ replicate workers Free) }
+/// All methods in lists: those that are analysed are idle, in order.
+pub(crate) fn first_lists(alloc: Global, program: &Program, workers: u32) -> Result<Rows, Memory>
+    ensures { IfOk result (λ lists. AreFirst (flags_of (core program.now)) workers lists) }
 {
-    let mut hands = Vec::with_capacity(alloc, workers as usize)?;
-    for _i in 0..workers {
-        hands.push_reserved(Hand::Free);
+    let Some((methods, lists)) = sizes(count(program), workers) else {
+        return Err(Memory);
+    };
+    let mut lists = Rows::new(alloc, methods, lists)?;
+    for m in 0..methods {
+        if !is_analysed(program, m as usize) {
+            lists.move_to(m, NOT_ANALYSED);
+        }
     }
-    Ok(hands)
+    Ok(lists)
+}
+
+/// How many methods and lists there are, if that fits.
+fn sizes(methods: usize, workers: u32) -> Option<(u32, u32)>
+    ensures { IfSome result (λ s. (s.0 ≡ methods) × (s.1 ≡ 4 + workers + methods) × (s.1 < 2 ^ 32)) }
+{
+    let Ok(methods) = u32::try_from(methods) else {
+        return None;
+    };
+    let lists = HELD.checked_add(workers)?.checked_add(methods)?;
+    Some((methods, lists))
 }
 
 /// A table without pieces.

@@ -1,4 +1,4 @@
-use Rattle.std.proofs.Common.{◌+◌, ◌<◌, length, sym, ap, ◌∙◌, subst, arith}
+use Rattle.std.proofs.Common.{◌+◌, ◌<◌, List, length, sym, ap, ◌∙◌, subst, arith}
 use Rattle.std.specs.Arc.{arc_value}
 use Rattle.core_code.specs.Counting.{analysed_methods}
 use Rattle.core_code.specs.Program.{core}
@@ -6,7 +6,9 @@ use Rattle.core_code.specs.declared.program.Program.{Program}
 use Rattle.access_domain.specs.Summaries.{outcome_of}
 use Rattle.transfer.proofs.Movable.{movable}
 use Rattle.summary_store.specs.Kept.{pieces_of}
+use Rattle.summary_store.specs.declared.machine.Event.{Event}
 use Rattle.summary_store.specs.Laws.{edges}
+use Rattle.summary_store.specs.Machine.{IsComplete}
 use Rattle.summary_store.specs.Setups.{setup_of}
 use Rattle.demand_pool.proofs.Found.{found_right}
 use Rattle.demand_pool.proofs.pool.run.Goals as goal
@@ -43,3 +45,9 @@ close-history-requires-send-P g c κs within = search movable depth 40 fits 2000
 
 pub close-history-requires-sync-P : goal.close-history-requires-sync-P
 close-history-requires-sync-P g c κs within = search movable depth 40 fits 20000
+
+pub returns-clause-complete : goal.returns-clause-complete
+returns-clause-complete g c =
+    let P : List Event → Type 0 = λ h. IsComplete (setup_of (core g.L.StoreRun.program) g.L.Ledger.parts) h in
+    subst P (sym c.close-history.ensures.history)
+    (c.close-history.ensures.right.complete c.in_ok-finish_all.ensures.gone)

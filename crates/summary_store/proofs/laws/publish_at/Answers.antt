@@ -1,19 +1,34 @@
-use Rattle.std.proofs.Common.{Some, sym, ap, ◌∙◌, arith}
+use Rattle.std.proofs.Common.{◌+◌, Some, sym, ap, ◌∙◌, arith}
 use Rattle.std.specs.Prelude.{slice_set}
 use Rattle.std.specs.Arc.{arc_value}
 use Rattle.summary_store.specs.declared.machine.Event.TheVariants.{Publish}
 use Rattle.summary_store.specs.Passes.{held_in}
-use Rattle.summary_store.proofs.Keeping.{agreed, room_left, number_fits, park_room, publish_legal, keeps_publish}
+use Rattle.summary_store.proofs.Keeping.{agreed, room_left, publish_legal, keeps_publish}
 use Rattle.summary_store.proofs.Keeping.{pieces_of-set, length-pieces_of, held_method}
+use Rattle.summary_store.proofs.Keeping.{every_number_fits}
+use Rattle.summary_store.proofs.Listing.{held_node}
+use Rattle.row_links.specs.Lists.{moved, spliced}
 use Rattle.summary_store.proofs.laws.publish_at.Goals as goal
 
-pub wake-requires : goal.wake-requires
-wake-requires g c =
+pub wake-requires-clause-node : goal.wake-requires-clause-node
+wake-requires-clause-node g c =
     let k = c.value.invariant.0 in
     let agrees = agreed k _ _ c.number-number.result _ _
     (ap (λ p. p.0) c.value.view_is) c.number-number.ensures c.requires.agrees (sym c.hand.ensures
     ∙ c.in-Holds.is) in
-    omega (arith, park_room k _ _ agrees, c.value.invariant.1.waiting)
+    held_node k.are_lists (every_number_fits k) _ _ agrees
+
+pub wake-requires-clause-list : goal.wake-requires-clause-list
+wake-requires-clause-list g c =
+    let k = c.value.invariant.0 in
+    let agrees = agreed k _ _ c.number-number.result _ _
+    (ap (λ p. p.0) c.value.view_is) c.number-number.ensures c.requires.agrees (sym c.hand.ensures
+    ∙ c.in-Holds.is) in
+    let node = held_node k.are_lists (every_number_fits k) _ _ agrees in
+    omega (arith, k.are_lists.nodes, k.are_lists.count, c.value.invariant.3)
+
+pub wake-requires-clause-few : goal.wake-requires-clause-few
+wake-requires-clause-few g c = c.value.invariant.0.are_lists.few
 
 pub index_mut-requires : goal.index_mut-requires
 index_mut-requires g c =
@@ -38,17 +53,9 @@ push_reserved-requires g c =
     ∙ c.in-Holds.is) c.requires.piece in
     omega (
       arith,
-      room_left k (Publish c.number-number.result c.in-Holds.m) legal.0 _ _ _ c.value.invariant.1,
+      room_left k (Publish c.number-number.result c.in-Holds.m) legal.0 _ c.value.invariant.1,
       c.value.inside.history.ok.0,
     )
-
-pub index_mut-requires-2 : goal.index_mut-requires-2
-index_mut-requires-2 g c =
-    let k = c.value.invariant.0 in
-    let agrees = agreed k _ _ c.number-number.result _ _
-    (ap (λ p. p.0) c.value.view_is) c.number-number.ensures c.requires.agrees (sym c.hand.ensures
-    ∙ c.in-Holds.is) in
-    omega (arith, number_fits k _ _ agrees, c.value.inside.hands.ok.0)
 
 pub invariant_of-value : goal.invariant_of-value
 invariant_of-value g c =
@@ -59,15 +66,13 @@ invariant_of-value g c =
     let legal = publish_legal k _ _ _ c.in-Holds.m _ (ap (λ p. p.0) c.value.view_is) agrees (sym c.hand.ensures
     ∙ c.in-Holds.is) c.requires.piece in (
       keeps_publish k c.number-number.result c.in-Holds.m
-          (arc_value c.args.piece) legal.0 legal.1 _ c.push_reserved.ensures.items _ c.wake.ensures.ready _
-          c.wake.ensures.parked _ (pieces_of-set arc_value c.value.inside.table.items c.in-Holds.m.0 c.args.piece) _
+          (arc_value c.args.piece) legal.0 legal.1 _ c.push_reserved.ensures.items _ (c.wake.ensures
+          ∙ ap (λ n. spliced (4 + n + c.in-Holds.m.0) 1 (moved c.in-Holds.m.0 2 c.value.inside.lists))
+          c.value.invariant.3) _ (pieces_of-set arc_value c.value.inside.table.items c.in-Holds.m.0 c.args.piece) _
           c.note.ensures.total,
-      record {
-        events = omega (arith, c.value.invariant.1.events, c.push_reserved.ensures.capacity);
-        waiting = omega (arith, c.value.invariant.1.waiting, c.wake.ensures.ready_capacity);
-        waits = omega (arith, c.value.invariant.1.waits, c.wake.ensures.parked_capacity);
-      },
+      record { events = omega (arith, c.value.invariant.1.events, c.push_reserved.ensures.capacity) },
       c.value.invariant.2,
+      c.value.invariant.3,
     )
 
 pub returns-clause-table : goal.returns-clause-table

@@ -2,7 +2,19 @@ use Rattle.std.proofs.Common.{[], ◌∷◌, ◌++◌, sym, ap, ◌∙◌, arith
 use Rattle.summary_store.specs.declared.machine.Event.TheVariants.{Take, Leave}
 use Rattle.summary_store.proofs.Keeping.{room_left, take_legal, taken_is_analysed, number_fits, agreed, keeps_take}
 use Rattle.summary_store.proofs.Keeping.{keeps_leave}
+use Rattle.summary_store.proofs.Keeping.{every_number_fits}
+use Rattle.summary_store.proofs.Listing.{held_list}
 use Rattle.summary_store.proofs.laws.take_at.Goals as goal
+
+pub next_method-requires-clause-list : goal.next_method-requires-clause-list
+next_method-requires-clause-list g c =
+    let k = c.value.invariant.0 in
+    let agrees = agreed k _ _ c.number-number.result _ _
+    (ap (λ p. p.0) c.value.view_is) c.number-number.ensures c.requires.agrees c.requires.free in
+    held_list k.are_lists (every_number_fits k) _ _ agrees
+
+pub next_method-requires-clause-few : goal.next_method-requires-clause-few
+next_method-requires-clause-few g c = c.value.invariant.0.are_lists.few
 
 pub push_reserved-requires : goal.push_reserved-requires
 push_reserved-requires g c =
@@ -12,7 +24,7 @@ push_reserved-requires g c =
     let next = sym (take_legal k _ c.next_method.ensures.next) ∙ c.in_default.is in
     omega (
       arith,
-      room_left k (Leave c.number-number.result) (agrees, next) _ _ _ c.value.invariant.1,
+      room_left k (Leave c.number-number.result) (agrees, next) _ c.value.invariant.1,
       c.value.inside.history.ok.0,
     )
 
@@ -21,7 +33,7 @@ index_mut-requires g c =
     let k = c.value.invariant.0 in
     let agrees = agreed k _ _ c.number-number.result _ _
     (ap (λ p. p.0) c.value.view_is) c.number-number.ensures c.requires.agrees c.requires.free in
-    omega (arith, number_fits k _ _ agrees, c.value.inside.hands.ok.0)
+    omega (arith, number_fits k _ _ agrees, c.value.inside.left.ok.0)
 
 pub invariant_of-value : goal.invariant_of-value
 invariant_of-value g c =
@@ -32,14 +44,10 @@ invariant_of-value g c =
       keeps_leave k c.number-number.result (
         agrees,
         next,
-      ) _ c.push_reserved.ensures.items _ c.next_method.ensures.idle _ c.next_method.ensures.ready _
-          c.note.ensures.total,
-      record {
-        events = omega (arith, c.value.invariant.1.events, c.push_reserved.ensures.capacity);
-        waiting = omega (arith, c.value.invariant.1.waiting, c.next_method.ensures.room);
-        waits = c.value.invariant.1.waits;
-      },
+      ) _ c.push_reserved.ensures.items _ c.next_method.ensures.lists _ c.note.ensures.total,
+      record { events = omega (arith, c.value.invariant.1.events, c.push_reserved.ensures.capacity) },
       c.value.invariant.2,
+      c.value.invariant.3,
     )
 
 pub push_reserved-requires-2 : goal.push_reserved-requires-2
@@ -50,16 +58,9 @@ push_reserved-requires-2 g c =
     let next = sym (take_legal k _ c.next_method.ensures.next) ∙ c.in-Some.is in
     omega (
       arith,
-      room_left k (Take c.number-number.result c.in-Some.m) (agrees, next) _ _ _ c.value.invariant.1,
+      room_left k (Take c.number-number.result c.in-Some.m) (agrees, next) _ c.value.invariant.1,
       c.value.inside.history.ok.0,
     )
-
-pub index_mut-requires-2 : goal.index_mut-requires-2
-index_mut-requires-2 g c =
-    let k = c.value.invariant.0 in
-    let agrees = agreed k _ _ c.number-number.result _ _
-    (ap (λ p. p.0) c.value.view_is) c.number-number.ensures c.requires.agrees c.requires.free in
-    omega (arith, number_fits k _ _ agrees, c.value.inside.hands.ok.0)
 
 pub invariant_of-value-2 : goal.invariant_of-value-2
 invariant_of-value-2 g c =
@@ -70,14 +71,10 @@ invariant_of-value-2 g c =
       keeps_take k c.number-number.result c.in-Some.m (
         agrees,
         next,
-      ) _ c.push_reserved-2.ensures.items _ c.next_method.ensures.idle _ c.next_method.ensures.ready _
-          c.note-2.ensures.total,
-      record {
-        events = omega (arith, c.value.invariant.1.events, c.push_reserved-2.ensures.capacity);
-        waiting = omega (arith, c.value.invariant.1.waiting, c.next_method.ensures.room);
-        waits = c.value.invariant.1.waits;
-      },
+      ) _ c.push_reserved-2.ensures.items _ c.next_method.ensures.lists _ c.note-2.ensures.total,
+      record { events = omega (arith, c.value.invariant.1.events, c.push_reserved-2.ensures.capacity) },
       c.value.invariant.2,
+      c.value.invariant.3,
     )
 
 pub returns-clause-taken : goal.returns-clause-taken
