@@ -14,7 +14,8 @@ use Rattle.wobbly_paths.specs.declared.wobbly.Adding.{Adding}
 use Rattle.wobbly_paths.specs.declared.wobbly.Adding.TheVariants.{Added, Present, Full, Memory}
 use Rattle.wobbly_paths.specs.Sets.{IsAnswer}
 use Rattle.access_domain.specs.declared.access.Access.{Access}
-use Rattle.access_domain.specs.Records.{is_write, same_flag, same_touch, same_key, first_of_keys, different_paths}
+use Rattle.core_code.specs.Touches.{is_write}
+use Rattle.access_domain.specs.Records.{same_flag, same_touch, same_key, first_of_keys, different_paths}
 use Rattle.access_domain.proofs.Different.{from_list-different}
 use Rattle.access_domain.specs.Additions.{key_added, keys_added, paths_added}
 

@@ -8,7 +8,8 @@ use Rattle.access_paths.specs.Same.{same_path-laws}
 use Rattle.access_domain.specs.declared.access.Access.{Access}
 use Rattle.access_domain.specs.declared.access.Key.{Key}
 use Rattle.access_domain.specs.Keys.{key_eq, key_of, HasKeysOf}
-use Rattle.access_domain.specs.Records.{is_write, same_flag, same_key}
+use Rattle.core_code.specs.Touches.{is_write}
+use Rattle.access_domain.specs.Records.{same_flag, same_key}
 
 pub flags_back : (a b : Bool) → beq a b ≡ same_flag b a
 flags_back true true = refl

@@ -7,7 +7,8 @@ use Rattle.indexmap.specs.IndexSet.{insert_key}
 use Rattle.access_domain.specs.declared.numbered.NumberedAccess.{NumberedAccess}
 use Rattle.access_domain.specs.declared.numbered.NumberedKey.{NumberedKey}
 use Rattle.access_domain.specs.Numbered.{numbered_key_eq, numbered_key_of, same_numbered_key, HasNumberedKeysOf}
-use Rattle.access_domain.specs.Records.{is_write, same_flag}
+use Rattle.core_code.specs.Touches.{is_write}
+use Rattle.access_domain.specs.Records.{same_flag}
 use Rattle.access_domain.proofs.KeysOfRecords.{flags_back, grouped}
 
 both_ways : (a b : Bool) → (a ≡ true → b ≡ true) → (b ≡ true → a ≡ true) → a ≡ b

@@ -54,7 +54,7 @@ numbered-append : (table : List Path) (records : List NumberedAccess) (a : Numbe
 numbered-append table [] a low last = (last, tt)
 numbered-append table (r ∷ records) a low last = (low.0, numbered-append table records a low.1 last)
 
-any-read : (table : List Path) → IsTable table → (records : List NumberedAccess) (a : NumberedAccess) →
+pub any-read : (table : List Path) → IsTable table → (records : List NumberedAccess) (a : NumberedAccess) →
     AreNumbered table records → a.path < length table →
     list_any (λ r. same_key r (read_access table a)) (read_accesses table records) ≡
     list_any (λ r. same_numbered_key r a) records

@@ -4,7 +4,7 @@ use Rattle.std.specs.Bool.{beq}
 use Rattle.access_paths.specs.Paths.{same_path}
 use Rattle.access_domain.specs.declared.access.Access.{Access}
 use Rattle.access_domain.specs.declared.access.Key.{Key}
-use Rattle.access_domain.specs.Records.{is_write}
+use Rattle.core_code.specs.Touches.{is_write}
 
 abbrev pub key_of : Access → Key
 key_of a = record { path = a.path; is_write = is_write a.kind; locked = a.locked; main = a.main }

@@ -7,7 +7,8 @@ use Rattle.access_paths.specs.Table.{path_at}
 use Rattle.access_domain.specs.declared.access.Access.{Access}
 use Rattle.access_domain.specs.declared.numbered.NumberedAccess.{NumberedAccess}
 use Rattle.access_domain.specs.declared.numbered.NumberedKey.{NumberedKey}
-use Rattle.access_domain.specs.Records.{is_write, same_flag, same_touch}
+use Rattle.core_code.specs.Touches.{is_write}
+use Rattle.access_domain.specs.Records.{same_flag, same_touch}
 
 -- the record that a numbered one is in a table
 abbrev pub read_access : List Path → NumberedAccess → Access

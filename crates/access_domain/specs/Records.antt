@@ -1,15 +1,11 @@
 -- A contract of a public call rests on this: when two access records have one key, and the first of each.
 use Rattle.std.specs.Prelude.{◌≡◌, ◌≤◌, length, Bool, true, false, ◌&&◌, not, List, [], ◌∷◌, filter}
 use Rattle.racer_base.specs.declared.ids.Touch.{Touch}
-use Rattle.racer_base.specs.declared.ids.Touch.TheVariants.{Read, Write}
 use Rattle.racer_base.specs.declared.limits.TheConstants.{MAX_SUMMARY_KEYS}
 use Rattle.access_paths.specs.declared.path.Path.{Path}
 use Rattle.access_paths.specs.Paths.{same_path}
+use Rattle.core_code.specs.Touches.{is_write}
 use Rattle.access_domain.specs.declared.access.Access.{Access}
-
-abbrev pub is_write : Touch → Bool
-is_write Read = false
-is_write Write = true
 
 abbrev pub same_flag : Bool → Bool → Bool
 same_flag true b = b

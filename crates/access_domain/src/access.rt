@@ -5,10 +5,11 @@ ghost use Rattle.std.specs.List.{list_any};
 ghost use Rattle.racer_base.specs.declared.limits.TheConstants.{MAX_SUMMARY_KEYS};
 ghost use Rattle.access_domain.specs.Keys.{key_eq, key_of};
 ghost use Rattle.indexmap.specs.IndexSet.{insert_key};
-ghost use Rattle.access_domain.specs.Records.{is_write, same_key, first_of_keys};
+ghost use Rattle.access_domain.specs.Records.{same_key, first_of_keys};
 ghost use Rattle.wobbly_paths.specs.Sets.{IsAnswer};
 
 use access_paths::Path;
+use core_code::is_write;
 use indexmap::IndexSet;
 use racer_base::{MAX_SUMMARY_KEYS, Memory, SiteId, Touch};
 use std::alloc::Global;
@@ -123,7 +124,7 @@ impl Accesses {
     {
         let key = Key {
             path: access.path,
-            is_write: writes(access.kind),
+            is_write: is_write(access.kind),
             locked: access.locked,
             main: access.main,
         };
@@ -170,20 +171,13 @@ impl Accesses {
     }
 }
 
-/// Whether an access writes.
-pub(crate) fn writes(kind: Touch) -> bool
-    ensures { result ≡ is_write kind }
-{
-    matches!(kind, Touch::Write)
-}
-
 /// The key of a record.
 fn key_of(alloc: Global, access: &Access) -> Result<Key, Memory>
     ensures { IfOk result (λ key. key ≡ key_of access.now) }
 {
     Ok(Key {
         path: access.path.copied(alloc)?,
-        is_write: writes(access.kind),
+        is_write: is_write(access.kind),
         locked: access.locked,
         main: access.main,
     })

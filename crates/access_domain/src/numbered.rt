@@ -5,7 +5,7 @@ ghost use Rattle.indexmap.specs.IndexSet.{insert_key};
 ghost use Rattle.access_domain.specs.Numbered.{same_numbered_key, numbered_key_of, numbered_key_eq};
 ghost use Rattle.wobbly_paths.specs.Sets.{IsAnswer};
 
-use crate::access::writes;
+use core_code::is_write;
 use indexmap::IndexSet;
 use racer_base::{MAX_SUMMARY_KEYS, Memory, SiteId, Touch};
 use std::alloc::Global;
@@ -104,7 +104,7 @@ fn key_of(access: NumberedAccess) -> NumberedKey
 {
     NumberedKey {
         path: access.path,
-        is_write: writes(access.kind),
+        is_write: is_write(access.kind),
         locked: access.locked,
         main: access.main,
     }

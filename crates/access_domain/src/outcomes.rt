@@ -27,7 +27,8 @@ pub fn outcome_at(outcomes: &Outcomes, number: usize) -> Option<&Outcome>
 
 /// The summary of the method of this number; none where it is not analysed, or large.
 pub fn summary_at(outcomes: &Outcomes, number: usize) -> Option<&Summary>
-    ensures { option_copied result ≡ summary_in (outcome_among (outcomes_held outcomes.now.items) (record { 0 = number })) }
+    ensures { option_copied result ≡ summary_in
+        (outcome_among (outcomes_held outcomes.now.items) (record { 0 = number })) }
 {
     match outcome_at(outcomes, number) {
         Some(Outcome::Summary(summary)) => Some(summary),

@@ -27,8 +27,8 @@ pub fn extension_composes()
         extended_along p (fs ++ gs) ≡ option_and_then (λ q. extended_along q gs) (extended_along p fs) }
 {}
 
-/// In a table two numbers are equal exactly where their paths are the same, and where a path is put in each number keeps
-/// its path.
+/// In a table two numbers are equal exactly where their paths are the same, and where a path is put in each number
+/// keeps its path.
 pub fn numbers_stand_for_paths()
     ensures same { (table : List Path) (i j : ℕ) → IsTable table → i < length table → j < length table →
         same_path (path_at table i) (path_at table j) ≡ nat_eq i j }

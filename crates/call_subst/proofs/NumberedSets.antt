@@ -76,7 +76,7 @@ set-append ps p =
     ∙ sym (set.contains-insert path_cmp-total (set.from_list {R = path_cmp} ps) p q))
 
 module _ (table : List Path) (is_table : IsTable table) (n : ℕ) (last : n < length table) where
-  any-forward : (numbers : List ℕ) → AreBelow (length table) numbers →
+  pub any-forward : (numbers : List ℕ) → AreBelow (length table) numbers →
       list_any (eq_by_cmp path_cmp (path_at table n)) (read_paths table numbers) ≡ list_any (nat_eq n) numbers
   any-forward [] low = refl
   any-forward (m ∷ rest) low =

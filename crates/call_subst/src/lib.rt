@@ -12,4 +12,5 @@ mod substitution;
 
 pub use naming::{Call, is_static, value_named};
 pub use numbered::{Replaced, substitute_numbered};
+pub use numbering::{number_access, number_value, values_of};
 pub use substitution::{record_there, substitute, substitute_value};

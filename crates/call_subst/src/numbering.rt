@@ -24,7 +24,7 @@ fn value_of(alloc: Global, table: &PathTable, value: NumberedValue) -> Result<Va
 }
 
 /// What numbered values are in a table.
-pub(crate) fn values_of(
+pub fn values_of(
     alloc: Global,
     table: &PathTable,
     values: &[NumberedValue],
@@ -40,10 +40,11 @@ pub(crate) fn values_of(
 }
 
 /// A value by the number of its path.
-pub(crate) fn number_value(table: &mut PathTable, value: Value) -> Result<NumberedValue, Memory>
+pub fn number_value(table: &mut PathTable, value: Value) -> Result<NumberedValue, Memory>
     ensures value { IfOk result (λ made. read_value table.new made ≡ value) }
     ensures range { IfOk result (λ made. IsInRange table.new made) }
     ensures table { GoesOn table.old table.new }
+    ensures each_once { IsTable table.old → IsTable table.new }
 {
     match value {
         Value::Owned => Ok(NumberedValue::Owned),
@@ -53,7 +54,7 @@ pub(crate) fn number_value(table: &mut PathTable, value: Value) -> Result<Number
 }
 
 /// A record by the number of its path.
-pub(crate) fn number_access(table: &mut PathTable, access: Access) -> Result<NumberedAccess, Memory>
+pub fn number_access(table: &mut PathTable, access: Access) -> Result<NumberedAccess, Memory>
     ensures access { IfOk result (λ made. read_access table.new made ≡ access) }
     ensures range { IfOk result (λ made. made.path < length table.new) }
     ensures table { GoesOn table.old table.new }

@@ -31,7 +31,7 @@ module _ (all : Bool) where
   callees_are (Loop body) = callees_are body
   callees_are (Sync lock body) = callees_are body
 
-all_callees : (code : Tree) → callees_of true code ≡ all_calls_in code
+pub all_callees : (code : Tree) → callees_of true code ≡ all_calls_in code
 unfolding callees_at
 all_callees code = callees_are true code
 

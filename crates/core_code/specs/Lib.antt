@@ -19,3 +19,4 @@ pub mod Stamps
 pub mod Counting
 pub mod NoProgram
 pub mod Walks
+pub mod Touches

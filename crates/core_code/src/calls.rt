@@ -1,6 +1,7 @@
 //! The calls of code, in reading order.
 ghost use Rattle.std.specs.Prelude.{◌≡◌, ◌++◌, OnOk, IfOk, map, option_to_list, true};
 ghost use Rattle.core_code.specs.Tree.{tree_of, in_sequence};
+ghost use Rattle.core_code.specs.Recursion.{all_calls_in};
 ghost use Rattle.core_code.specs.Gathered.{callees_of_op, callees_of, callee_rows};
 
 use crate::{Code, MethodCore, Op};
@@ -67,8 +68,9 @@ pub(crate) fn callees(alloc: Global, code: &Code, all: bool) -> Result<Vec<Metho
 }
 
 /// The methods that code calls, in reading order: also those that are not analysed.
+#[tactic(auto, using(crate::proofs::Gathering::all_callees))]
 pub fn all_callees(alloc: Global, code: &Code) -> Result<Vec<MethodId>, Memory>
-    ensures { IfOk result (λ made. made.items ≡ callees_of true (tree_of code.now)) }
+    ensures { IfOk result (λ made. made.items ≡ all_calls_in (tree_of code.now)) }
 {
     callees(alloc, code, true)
 }
@@ -82,7 +84,7 @@ pub(crate) fn callee_rows(
 {
     let mut rows = Vec::new(alloc);
     for method in methods {
-        rows.push(Items::from(all_callees(alloc, &method.code)?))?;
+        rows.push(Items::from(callees(alloc, &method.code, true)?))?;
     }
     Ok(rows)
 }

@@ -1,5 +1,6 @@
 //! Laws of the definitions, and their values on small programs.
-ghost use Rattle.std.specs.Prelude.{◌≡◌, ℕ, ◌<◌, true, false, [], ◌∷◌, ◌++◌, ◌&&◌, ◌+◌, length, Some, None, IsTrue, List};
+ghost use Rattle.std.specs.Prelude.{◌≡◌, ℕ, ◌<◌, true, false, [], ◌∷◌, ◌++◌, ◌&&◌, ◌+◌, length, Some, None, IsTrue};
+ghost use Rattle.std.specs.Prelude.{List};
 ghost use Rattle.std.specs.Prelude.{slice_get, Contains, map, codes, nat_eq};
 ghost use Rattle.std.specs.List.{All};
 ghost use Rattle.racer_base.specs.declared.ids.Kind.TheVariants.{Plain};
@@ -70,8 +71,8 @@ pub fn names_of_programs()
         (record pair { methods = method_put ∷ record method_put { parameters = Plain ∷ [] } ∷ [] }) ≡ true }
 {}
 
-/// The name of a field is not empty, and neither a dot (byte 46) nor a number sign (byte 35) is in it, so that it can be
-/// read back from a text where these stand round it.
+/// The name of a field is not empty, and neither a dot (byte 46) nor a number sign (byte 35) is in it, so that it can
+/// be read back from a text where these stand round it.
 pub fn field_names_stand_in_texts()
     ensures not_empty { is_field_name [] ≡ false }
     ensures no_dot { (name : List ℕ) → IsTrue (is_field_name name) → All (λ b. nat_eq b 46 ≡ false) name }

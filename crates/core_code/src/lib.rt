@@ -11,8 +11,8 @@
 //! # Methods and the methods that they call, as rows
 //!
 //! The row of a method is the list at its number, and has what it calls. Contracts see rows as a list of lists
-//! (`specs/Chains.antt`). `on_cycles` and `falling_numbers` take time linear in the methods and their calls, and call no
-//! function of their own as deep as a chain of calls.
+//! (`specs/Chains.antt`). `on_cycles` and `falling_numbers` take time linear in the methods and their calls, and call
+//! no function of their own as deep as a chain of calls.
 #![tactic(auto)]
 
 mod calls;
@@ -28,6 +28,7 @@ mod program;
 mod recursion;
 mod row_making;
 mod rows;
+mod touch;
 mod walk;
 
 pub use calls::all_callees;
@@ -40,3 +41,4 @@ pub use program::Program;
 pub use recursion::recursive;
 pub use row_making::call_rows;
 pub use rows::CallRows;
+pub use touch::is_write;

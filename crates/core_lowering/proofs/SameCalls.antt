@@ -16,24 +16,6 @@ use Rattle.core_lowering_rules.specs.Methods.{Source}
 use Rattle.core_lowering_rules.specs.Programs.{method_cores, statuses_from}
 use Rattle.core_lowering.specs.Calls.{code_in, row_in, edges}
 
-abbrev named_at : Operation → List MethodId
-named_at o = named_by o.op
-
-together : (f : Operation → List MethodId) (a b : Tree) (x y : List MethodId) → x ≡ flat_map f (steps_of a) →
-    y ≡ flat_map f (steps_of b) → x ++ y ≡ flat_map f (steps_of a ++ steps_of b)
-together f a b x y e h =
-    ap (λ (front : List MethodId). front ++ y) e
-    ∙ ap (λ (back : List MethodId). flat_map f (steps_of a) ++ back) h
-    ∙ sym (flat_map-append f (steps_of a) (steps_of b))
-
-pub all-gathered : (code : Tree) → callees_of true code ≡ all_calls_in code
-all-gathered (Op site place op) = sym (append-nil (named_by op))
-all-gathered Skip = refl
-all-gathered (Seq a b) = together named_at a b _ _ (all-gathered a) (all-gathered b)
-all-gathered (Choice a b) = together named_at a b _ _ (all-gathered a) (all-gathered b)
-all-gathered (Loop body) = all-gathered body
-all-gathered (Sync place body) = all-gathered body
-
 abbrev all_calls : Method → List MethodId
 all_calls m = all_calls_in m.code
 
@@ -43,8 +25,7 @@ pub rows-same : (folder declared : Folder) (is_recursive : MethodId → Bool) (n
     map all_calls (method_cores folder sources (statuses_from declared is_recursive n sources))
 rows-same folder declared is_recursive n [] = refl
 rows-same folder declared is_recursive n (s ∷ sources) =
-    ap (λ (row : List MethodId). row ∷ map (row_in folder) sources) (all-gathered (code_in folder s))
-    ∙ ap (λ (rows : List (List MethodId)). all_calls_in (code_in folder s) ∷ rows)
+    ap (λ (rows : List (List MethodId)). all_calls_in (code_in folder s) ∷ rows)
     (rows-same folder declared is_recursive (suc n) sources)
 
 pub edges-same : (methods : List Method) →

@@ -3,7 +3,7 @@ use Rattle.std.specs.Prelude.{ℕ, ◌+◌, Bool, true, false, List, [], ◌∷�
 use Rattle.std.specs.List.{list_all}
 use Rattle.racer_base.specs.declared.ids.MethodId.{MethodId}
 use Rattle.core_code.specs.Tree.{Tree, in_sequence}
-use Rattle.core_code.specs.Gathered.{callees_of}
+use Rattle.core_code.specs.Recursion.{all_calls_in}
 use Rattle.core_code.specs.CalleeRows.{different}
 use Rattle.core_lowering_rules.specs.Context.{Folder}
 use Rattle.core_lowering_rules.specs.Methods.{Source, method_code}
@@ -15,7 +15,7 @@ code_in folder s = numbered 0 (in_sequence (method_code folder s))
 
 -- the methods that a method calls
 abbrev pub row_in : Folder → Source → List MethodId
-row_in folder s = callees_of true (code_in folder s)
+row_in folder s = all_calls_in (code_in folder s)
 
 -- whether these are numbers below this one
 abbrev pub are_low : ℕ → List MethodId → Bool

@@ -1,9 +1,9 @@
-//! The lowering of expressions (JLS 15), of statements (JLS 14), and of the bodies of methods and constructors (JLS 8.4,
-//! 8.8, 12.5) to core code.
+//! The lowering of expressions (JLS 15), of statements (JLS 14), and of the bodies of methods and constructors (JLS
+//! 8.4, 8.8, 12.5) to core code.
 //!
-//! `code_of` of `specs/Drafts.antt` says what is seen of a `Draft`, and an `Context` is seen as that of the definition. The
-//! code of a method and the kinds of its variables are those of core_lowering_rules's `specs/Methods.antt`, for every table of
-//! names and every method (`lower_method`).
+//! `code_of` of `specs/Drafts.antt` says what is seen of a `Draft`, and an `Context` is seen as that of the definition.
+//! The code of a method and the kinds of its variables are those of core_lowering_rules's `specs/Methods.antt`, for
+//! every table of names and every method (`lower_method`).
 #![tactic(auto)]
 
 mod blocks;

@@ -76,7 +76,8 @@ pub fn lower_locals(
     locals: &LocalsTree,
     draft: &mut Draft,
 ) -> Result<(), Memory>
-    ensures context { OnOk result (context.new ≡ all_declared context.old (type_kind context.old (ty_of locals.now.kind))
+    ensures context { OnOk result (context.new
+        ≡ all_declared context.old (type_kind context.old (ty_of locals.now.kind))
         (map variable_of locals.now.variables)) }
     ensures code { OnOk result (code_of draft.new ≡ code_of draft.old
         ++ begun_all context.old (type_kind context.old (ty_of locals.now.kind))

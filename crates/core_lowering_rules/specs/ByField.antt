@@ -1,4 +1,4 @@
--- No public contract rests on this: lists that are parallel to the fields of units.
+-- A contract of a public call rests on this: lists that are parallel to the fields of units.
 use Rattle.std.specs.Prelude.{List, [], map}
 use Rattle.std.specs.List.{flat_map}
 use Rattle.racer_base.specs.declared.ids.ClassId.{ClassId}

@@ -16,6 +16,7 @@ use Rattle.core_code.specs.declared.code.Op.{Op as CoreOp}
 use Rattle.core_code.specs.declared.code.Op.TheVariants.{Get, Put}
 use Rattle.core_code.specs.Core.{Core, Method}
 use Rattle.core_code.specs.Calls.{method_at}
+use Rattle.core_code.specs.Touches.{is_write}
 use Rattle.core_semantics.specs.declared.object.Start.{Start}
 use Rattle.core_semantics.specs.declared.object.Start.TheVariants.{All, Only}
 use Rattle.core_semantics.specs.declared.object.StartPath.{StartPath}
@@ -137,12 +138,8 @@ next_value core s t = value_read core s.store (next_touch s t)
 
 -- The race: both next steps touch one field of one object, and at least one writes it.
 
-abbrev pub writes : Touch → Bool
-writes Read = false
-writes Write = true
-
 abbrev pub meet : Access → Access → Bool
-meet (o, f, k) (p, g, l) = same_object o p && same_field f g && (writes k || writes l)
+meet (o, f, k) (p, g, l) = same_object o p && same_field f g && (is_write k || is_write l)
 
 abbrev pub do_meet : Option Access → Option Access → Bool
 do_meet (Some a) (Some b) = meet a b

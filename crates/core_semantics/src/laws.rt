@@ -17,7 +17,8 @@ ghost use Rattle.core_semantics.specs.Objects.{root_path, same_monitor};
 ghost use Rattle.core_semantics.specs.Runs.{place, next_touch, wants_turn};
 ghost use Rattle.core_semantics.specs.Steps.{op_step, Sticks};
 ghost use Rattle.core_semantics.specs.Examples.{class, field, method, var, fresh, this_path, this_value};
-ghost use Rattle.core_semantics.specs.Examples.{null, gate, early, calls, two_kinds, leg, after_legs, is_race, halt_after};
+ghost use Rattle.core_semantics.specs.Examples.{null, gate, early, calls, two_kinds, leg, after_legs, is_race};
+ghost use Rattle.core_semantics.specs.Examples.{halt_after};
 ghost use Rattle.core_semantics.specs.Examples.{stack_of, vars_of, after_op, with_stack};
 
 /// What each operation leaves on the stack, which holds a plain value on `this` on an object.

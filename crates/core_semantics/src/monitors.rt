@@ -18,8 +18,8 @@ pub(crate) struct HeldMonitor {
     pub is_first: bool,
 }
 
-/// Monitors, one for each time that they are held, which contracts see as their list with the last one first. An ordered
-/// set beside the list finds them.
+/// Monitors, one for each time that they are held, which contracts see as their list with the last one first. An
+/// ordered set beside the list finds them.
 #[derive(Drop)]
 pub(crate) struct Monitors {
     alloc: Global,

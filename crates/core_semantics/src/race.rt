@@ -1,17 +1,10 @@
 //! The race of a machine.
 ghost use Rattle.std.specs.Prelude.{◌≡◌};
-ghost use Rattle.core_semantics.specs.Runs.{races, writes};
+ghost use Rattle.core_semantics.specs.Runs.{races};
 ghost use Rattle.core_semantics.specs.View.{state_of};
 
 use crate::Machine;
-use racer_base::Touch;
-
-/// Whether an access writes.
-fn writes(kind: Touch) -> bool
-    ensures { result ≡ writes kind }
-{
-    matches!(kind, Touch::Write)
-}
+use core_code::is_write;
 
 impl Machine<'_> {
     /// Whether the next steps of both threads touch one field of one object, and at least one writes it (JLS 17.4.5).
@@ -20,7 +13,7 @@ impl Machine<'_> {
     {
         match (self.next_touch(0), self.next_touch(1)) {
             (Some((o, f, kind)), Some((p, g, other))) => {
-                o == p && f == g && (writes(kind) || writes(other))
+                o == p && f == g && (is_write(kind) || is_write(other))
             }
             _ => false,
         }

@@ -4,7 +4,8 @@ ghost use Rattle.core_code.specs.Program.{core};
 ghost use Rattle.core_code.specs.Tree.{tree_of};
 ghost use Rattle.core_semantics.specs.Answers.{IsAnswer, IsAnswerOrEnd};
 ghost use Rattle.core_semantics.specs.State.{before};
-ghost use Rattle.core_semantics.specs.Steps.{Goes, after, chosen, ended_with, frame_step, operated, thread_step, todo_step};
+ghost use Rattle.core_semantics.specs.Steps.{Goes, after, chosen, ended_with, frame_step, operated, thread_step};
+ghost use Rattle.core_semantics.specs.Steps.{todo_step};
 ghost use Rattle.core_semantics.specs.View.{IsNext, ends_thread, ends_with, frame_of, seen_after, seen_of, spot_of};
 ghost use Rattle.core_semantics.specs.View.{step_of, store_of, todo_of, with_steps};
 

@@ -3,8 +3,10 @@ ghost use Rattle.std.specs.Prelude.{◌≡◌, Bool, true, false, List, [], ◌�
 ghost use Rattle.core_semantics.specs.declared.object.Object.TheVariants.{Fresh};
 ghost use Rattle.core_semantics.specs.declared.object.StartRoot.TheVariants.{Class, Param, This};
 ghost use Rattle.core_semantics.specs.declared.object.Value.TheVariants.{Null, Object as Ref, Opaque, Plain};
-ghost use Rattle.core_ways_objects.specs.Reached.{ObjectOf, TheClass, do_lead, does_lead, is_cell, is_right, reached_from};
-ghost use Rattle.core_ways_objects.specs.Examples.{box, boxes, card, card_of, from, n_of, no_field, object_from, other, owner};
+ghost use Rattle.core_ways_objects.specs.Reached.{ObjectOf, TheClass, do_lead, does_lead, is_cell, is_right};
+ghost use Rattle.core_ways_objects.specs.Reached.{reached_from};
+ghost use Rattle.core_ways_objects.specs.Examples.{box, boxes, card, card_of, from, n_of, no_field, object_from, other};
+ghost use Rattle.core_ways_objects.specs.Examples.{owner};
 ghost use Rattle.core_ways_objects.specs.Examples.{shared, taking};
 
 /// What start paths lead to. Behind an object stands a field of its class that is not static, and directly behind a

@@ -1,7 +1,7 @@
 //! The ways to the records of methods, from one pass over the code of each method.
 //!
-//! The way of a record is what `specs/Ways.antt` of `core_ways` defines. A method is gone through once, and what is gone
-//! so far is noted at each site that a record of it names.
+//! The way of a record is what `specs/Ways.antt` of `core_ways` defines. A method is gone through once, and what is
+//! gone so far is noted at each site that a record of it names.
 #![tactic(auto)]
 
 mod gone;

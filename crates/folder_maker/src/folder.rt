@@ -24,8 +24,8 @@ fn made_files(alloc: Global, number: u32) -> Result<Vec<(String, Vec<u8>)>, Memo
     Ok(files)
 }
 
-/// The folder of this number of classes, whose name is `made`. No call on it fails. The files of 800 classes have some 240 kB
-/// together.
+/// The folder of this number of classes, whose name is `made`. No call on it fails. The files of 800 classes have some
+/// 240 kB together.
 #[tactic(auto, using(crate::proofs::Names::made_names_differ))]
 pub fn made(alloc: Global, number: u32) -> Result<MemoryFolder, Memory>
     requires { number ≤ 800 }

@@ -22,8 +22,8 @@ pub fn folders_of_one_and_two()
     ) ∷ [] }
 {}
 
-/// Of eleven classes the two with the numbers 9 and 10 end a group. Beside this the text of one that ends none, and of one
-/// that ends a group and has more classes behind it.
+/// Of eleven classes the two with the numbers 9 and 10 end a group. Beside this the text of one that ends none, and of
+/// one that ends a group and has more classes behind it.
 pub fn classes_of_eleven()
     ensures last { map (is_last 11) (range_with_len 0 11)
         ≡ false ∷ false ∷ false ∷ false ∷ false ∷ false ∷ false ∷ false ∷ false ∷ true ∷ true ∷ [] }

@@ -2,7 +2,8 @@
 ghost use Rattle.std.specs.Prelude.{◌≡◌, ◌<◌, ◌≤◌, true, length, option_map, IfOk};
 ghost use Rattle.java_parser_grammar.specs.Tokens.{first_place};
 ghost use Rattle.java_parser_grammar.specs.Pieces.{items_of};
-ghost use Rattle.java_parser_grammar.specs.DeclarationWalk.{modified, seen_with, is_whole, Whole, AtSign, AnnotationName};
+ghost use Rattle.java_parser_grammar.specs.DeclarationWalk.{modified, seen_with, is_whole, Whole, AtSign};
+ghost use Rattle.java_parser_grammar.specs.DeclarationWalk.{AnnotationName};
 ghost use Rattle.java_parser.specs.FirstDeclaration.{seen_of, first_declared, IsFirst};
 
 use super::items::next_item;

@@ -33,8 +33,8 @@ pub enum Member {
     Skipped(Place),
 }
 
-/// What is kept of a method that no tree of its class spells. A constructor has the name `<new>`, and is an instance method
-/// whatever `is_static` says.
+/// What is kept of a method that no tree of its class spells. A constructor has the name `<new>`, and is an instance
+/// method whatever `is_static` says.
 #[derive(Drop)]
 pub struct OutsideHead {
     pub name: Text,

@@ -1,4 +1,4 @@
--- No public contract rests on this: what a function of the code answers, beside the reading function.
+-- A contract of a public call rests on this: what a function of the code answers, beside the reading function.
 use Rattle.std.specs.Prelude.{◌≡◌, Option, Some, None, Result, Ok, Err}
 use Rattle.java_parser_types.specs.declared.error.ReadError.{ReadError}
 use Rattle.java_parser_types.specs.declared.error.ReadError.TheVariants.{Memory, Unformed}

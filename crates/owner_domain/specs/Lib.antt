@@ -2,3 +2,4 @@
 pub mod Values
 pub mod SameValue
 pub mod Numbered
+pub mod SameNumber

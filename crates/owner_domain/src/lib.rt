@@ -11,4 +11,4 @@ mod value;
 
 pub use joining::{join, join_value};
 pub use numbered::{NumberedState, NumberedValue, join_numbered};
-pub use value::{State, Value};
+pub use value::{State, Value, along_path};

@@ -50,7 +50,7 @@ impl Value {
 }
 
 /// The value that is reached by these fields in turn from one that is named by this path.
-fn along_path(alloc: Global, path: &Path, fields: &[FieldId]) -> Result<Value, Memory>
+pub fn along_path(alloc: Global, path: &Path, fields: &[FieldId]) -> Result<Value, Memory>
     ensures { IfOk result (λ value. value ≡ along (NamedBy path.now) fields.now) }
 {
     if fields.is_empty() {

@@ -10,7 +10,8 @@ use Rattle.access_paths.specs.Paths.{same_path, is_formal}
 use Rattle.access_paths.specs.Order.{path_key}
 use Rattle.access_paths.specs.Same.{equal_of_same, same_path-key, same_path-laws}
 use Rattle.access_domain.specs.declared.access.Access.{Access}
-use Rattle.access_domain.specs.Records.{same_key, same_flag, same_touch, is_write}
+use Rattle.core_code.specs.Touches.{is_write}
+use Rattle.access_domain.specs.Records.{same_key, same_flag, same_touch}
 use Rattle.race_pairs.specs.Warnings.{MethodRecord, conflicts}
 use Rattle.race_pairs.specs.Firsts.{Groups, group_at, with_first, AddsFirst, partner_in, FindsPartners}
 use Rattle.race_pairs.proofs.WarningPairs.{both_pass}

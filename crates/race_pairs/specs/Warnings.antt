@@ -8,7 +8,7 @@ use Rattle.access_paths.specs.Paths.{same_path, is_formal}
 use Rattle.core_code.specs.Core.{Core, Method}
 use Rattle.core_code.specs.declared.parts.ClassCore.{ClassCore}
 use Rattle.access_domain.specs.declared.access.Access.{Access}
-use Rattle.access_domain.specs.Records.{is_write}
+use Rattle.core_code.specs.Touches.{is_write}
 use Rattle.access_domain.specs.OutcomeRecords.{records_of}
 use Rattle.race_pairs.specs.declared.warning.Warning.{Warning}
 

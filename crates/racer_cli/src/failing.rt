@@ -14,8 +14,8 @@ const DINNER_FAULT: Case = Case {
     ..DINNER
 };
 
-/// What comes of a call that fails while one source is read and its report of 315 bytes is written. No call is made behind
-/// these, nor any on the folder behind a refusal.
+/// What comes of a call that fails while one source is read and its report of 315 bytes is written. No call is made
+/// behind these, nor any on the folder behind a refusal.
 const CALLS: &[Case] = &[
     Case {
         folder_fails: &[0],

@@ -35,7 +35,8 @@ const MADE: Case = Case {
     ..PLAIN
 };
 
-/// Replays: what the folder's calls and the order of refusals come to. What each file is answered is data of the stored run.
+/// Replays: what the folder's calls and the order of refusals come to. What each file is answered is data of the stored
+/// run.
 const REPLAYS: &[Case] = &[
     RACES,
     Case {

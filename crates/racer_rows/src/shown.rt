@@ -74,8 +74,8 @@ fn put_file(
     Ok(())
 }
 
-/// The program of a folder; both reports on it where it stands below `report`, and the replays of its witness files where
-/// it stands below `replay`.
+/// The program of a folder; both reports on it where it stands below `report`, and the replays of its witness files
+/// where it stands below `replay`.
 fn put_accepted(
     alloc: Global,
     folder: &mut DirFolder<HostRuntime>,

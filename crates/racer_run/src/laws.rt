@@ -50,10 +50,12 @@ pub fn same_report()
 }
 
 /// A witness that a user cuts out of a JSON report, with at most 1 MiB, and puts into a folder with the same sources,
-/// replays: a call that asks for it there ends clean, and writes that the threads race. The member `witness` that is cut
-/// out is that of the report on the program that the sources of a first call are, in whichever mode that call wrote it.
+/// replays: a call that asks for it there ends clean, and writes that the threads race. The member `witness` that is
+/// cut out is that of the report on the program that the sources of a first call are, in whichever mode that call wrote
+/// it.
 pub fn cut_witnesses_replay()
-    ensures { (s t : Status) (a b : Invocation) (v w : Wrote) (from to : Told) (report : WantedReport) (replay : WantedReplay) →
+    ensures { (s t : Status) (a b : Invocation) (v w : Wrote) (from to : Told) (report : WantedReport)
+        (replay : WantedReplay) →
         IsCall (ReportOn report) from s a v → IsCall (ReplayOf replay) to t b w →
         IsCutOut from.files to.files replay.witness → (t ≡ Clean) × IsWhole w (codes "races\n") }
 {

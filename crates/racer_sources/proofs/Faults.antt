@@ -13,7 +13,13 @@ use Rattle.racer_sources.specs.declared.fault.SourceFault.TheVariants.{Refused, 
 use Rattle.racer_sources.specs.declared.found.FolderSources.{FolderSources}
 use Rattle.racer_sources.specs.Reading.{as_source_fault, MovesCount, IfRefused, IsFileFault, Counts, NeverFails}
 use Rattle.racer_sources.specs.Declaring.{IsRefusedOr}
-use Rattle.racer_sources.specs.Finding.{FailsByMemory, IsKnown}
+use Rattle.racer_sources.specs.Finding.{FailsByMemory, IsKnown, KeepsMeaning}
+
+-- what two calls on a folder leave of it, one after the other
+pub keeps_on : {F : Type 0} {tells : F → Option Told} {IsSteady : F → Type 0} {old mid new : F} →
+    KeepsMeaning tells IsSteady old mid → KeepsMeaning tells IsSteady mid new → KeepsMeaning tells IsSteady old new
+keeps_on first next =
+    record { told = next.told ∙ first.told; stays = λ steady. next.stays (first.stays steady) }
 
 by_fault : (fault : FolderFault) (old new : ℕ) → IsCause fault old new → MovesCount (as_source_fault fault) old new
 by_fault folder.Failed old new h = h

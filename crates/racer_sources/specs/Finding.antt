@@ -1,7 +1,8 @@
 -- A contract of a public call rests on this: what is found in a folder, and what calls on it say of its count of
 -- faults.
-use Rattle.std.specs.Prelude.{◌≡◌, ℕ, suc, List, [], ◌∷◌, Result, IfErr, MatchResult, None, length, map, string_bytes}
-use Rattle.racer_base.specs.Outside.{Files}
+use Rattle.std.specs.Prelude.{◌≡◌, ℕ, suc, List, [], ◌∷◌, Result, IfErr, MatchResult, Option, None, length, map}
+use Rattle.std.specs.Prelude.{string_bytes}
+use Rattle.racer_base.specs.Outside.{Files, Told}
 use Rattle.racer_base.specs.declared.outside.FolderFault.{FolderFault}
 use Rattle.racer_base.specs.declared.outside.FolderFault.TheVariants.{Memory}
 use Rattle.racer_base.specs.Causes.{IsCause}
@@ -19,6 +20,11 @@ use Rattle.racer_sources.specs.Lines.{refusal_line}
 -- the count of faults stayed, or moved as the fault says
 abbrev pub CountsFaults : {T : Type 0} → Result T FolderFault → ℕ → ℕ → Type 0
 CountsFaults result old new = MatchResult result (λ _. new ≡ old) (λ fault. IsCause fault old new)
+
+-- after calls on a folder it tells what it told, and is steady where it was
+pub record KeepsMeaning {F : Type 0} (tells : F → Option Told) (IsSteady : F → Type 0) (old new : F) : Type 0 where
+  pub told : tells new ≡ tells old
+  pub stays : IsSteady old → IsSteady new
 
 -- the only fault is want of memory
 abbrev pub FailsByMemory : {T : Type 0} → Result T FolderFault → Type 0

@@ -74,8 +74,7 @@ fn read_few<F: Folder>(
     names: &[String],
 ) -> Result<Vec<Unit>, SourceFault>
     ensures count { reading.Counts result (F.faults folder.old) (F.faults folder.new) }
-    ensures told { F.told folder.new ≡ F.told folder.old }
-    ensures stays { F.steady folder.old → F.steady folder.new }
+    ensures keeps { finding.KeepsMeaning F.told F.steady folder.old folder.new }
     ensures steady { F.steady folder.old → IfSome (F.told folder.old) (λ t.
         reading.AreThere t.files (map string_bytes names.now) → reading.NeverFails result) }
     ensures counted { IfOk result (λ units. length units.items ≡ length names.now) }
@@ -105,8 +104,7 @@ fn declared<F: Folder>(
     names: &[String],
 ) -> Result<DeclaredUnits, SourceFault>
     ensures count { reading.Counts result (F.faults folder.old) (F.faults folder.new) }
-    ensures told { F.told folder.new ≡ F.told folder.old }
-    ensures stays { F.steady folder.old → F.steady folder.new }
+    ensures keeps { finding.KeepsMeaning F.told F.steady folder.old folder.new }
     ensures steady { F.steady folder.old → IfSome (F.told folder.old) (λ t.
         reading.AreThere t.files (map string_bytes names.now) → reading.NeverFails result) }
     ensures known { IfOk result (λ d. finding.AreKnown (map string_bytes names.now) d.units.items d.table) }
@@ -155,8 +153,7 @@ pub fn sources<F: Folder>(
     name: &str,
 ) -> Result<FolderSources, FolderFault>
     ensures count { finding.CountsFaults result (F.faults folder.old) (F.faults folder.new) }
-    ensures told { F.told folder.new ≡ F.told folder.old }
-    ensures stays { F.steady folder.old → F.steady folder.new }
+    ensures keeps { finding.KeepsMeaning F.told F.steady folder.old folder.new }
     ensures steady { F.steady folder.old →
         IfSome (F.told folder.old) (λ told. name.now ≡ told.name → finding.FailsByMemory result) }
     ensures entered { OnOk result (IfSome (F.told folder.old) (λ told. name.now ≡ told.name)) }

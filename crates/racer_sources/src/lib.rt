@@ -1,5 +1,5 @@
-//! The sources of a folder, which files they are, why they are refused, and what they are read as; and their program, or
-//! the line of their refusal.
+//! The sources of a folder, which files they are, why they are refused, and what they are read as; and their program,
+//! or the line of their refusal.
 //!
 //! `specs/Sources.antt` says what the sources of a folder are, `specs/Lines.antt` the line of each refusal,
 //! `specs/Finding.antt` what is given of them, and `specs/Programs.antt` what the program is, with the last of the

@@ -1,7 +1,7 @@
 //! Which files of a folder are sources.
 ghost use Rattle.std.specs.Prelude.{◌≡◌, filter, map, string_bytes, IfOk, IfSome, OnOk};
 ghost use Rattle.racer_sources.specs.Sources.{is_java, source_names};
-ghost use Rattle.racer_sources.specs.Finding.{CountsFaults, FailsByMemory};
+ghost use Rattle.racer_sources.specs.Finding.{CountsFaults, FailsByMemory, KeepsMeaning};
 
 use racer_base::{Folder, FolderFault};
 use std::alloc::Global;
@@ -27,13 +27,12 @@ pub fn source_names<F: Folder>(
     name: &str,
 ) -> Result<Vec<String>, FolderFault>
     ensures count { CountsFaults result (F.faults folder.old) (F.faults folder.new) }
-    ensures told { F.told folder.new ≡ F.told folder.old }
+    ensures keeps { KeepsMeaning F.told F.steady folder.old folder.new }
     ensures entered { OnOk result (IfSome (F.told folder.old) (λ told. name.now ≡ told.name)) }
     ensures names { IfOk result (λ names.
         IfSome (F.told folder.old) (λ told. map string_bytes names.items ≡ source_names told.files)) }
     ensures steady { F.steady folder.old →
         IfSome (F.told folder.old) (λ told. name.now ≡ told.name → FailsByMemory result) }
-    ensures stays { F.steady folder.old → F.steady folder.new }
 {
     folder.enter(alloc, name)?;
     let mut names = folder.names(alloc)?;

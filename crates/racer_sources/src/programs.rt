@@ -44,8 +44,7 @@ pub fn folder_program<F: Folder>(
     name: &str,
 ) -> Result<FoundProgram, FolderFault>
     ensures count { finding.CountsFaults result (F.faults folder.old) (F.faults folder.new) }
-    ensures told { F.told folder.new ≡ F.told folder.old }
-    ensures stays { F.steady folder.old → F.steady folder.new }
+    ensures keeps { finding.KeepsMeaning F.told F.steady folder.old folder.new }
     ensures steady { F.steady folder.old →
         IfSome (F.told folder.old) (λ told. name.now ≡ told.name → finding.FailsByMemory result) }
     ensures entered { OnOk result (IfSome (F.told folder.old) (λ told. name.now ≡ told.name)) }

@@ -57,8 +57,7 @@ fn add_source<F: Folder>(
 ) -> Result<(), SourceFault>
     requires { read.old.sum ≤ MAX_FOLDER_BYTES }
     ensures count { reading.Counts result (F.faults folder.old) (F.faults folder.new) }
-    ensures told { F.told folder.new ≡ F.told folder.old }
-    ensures stays { F.steady folder.old → F.steady folder.new }
+    ensures keeps { finding.KeepsMeaning F.told F.steady folder.old folder.new }
     ensures steady { F.steady folder.old → IfSome (F.told folder.old) (λ t.
         reading.IsThere t.files name.now → reading.NeverFails result) }
     ensures few { OnOk result (read.new.sum ≤ MAX_FOLDER_BYTES) }
@@ -82,8 +81,7 @@ pub fn read_all<F: Folder>(
     names: &[String],
 ) -> Result<Vec<Unit>, SourceFault>
     ensures count { reading.Counts result (F.faults folder.old) (F.faults folder.new) }
-    ensures told { F.told folder.new ≡ F.told folder.old }
-    ensures stays { F.steady folder.old → F.steady folder.new }
+    ensures keeps { finding.KeepsMeaning F.told F.steady folder.old folder.new }
     ensures steady { F.steady folder.old → IfSome (F.told folder.old) (λ t.
         reading.AreThere t.files (map string_bytes names.now) → reading.NeverFails result) }
     ensures counted { IfOk result (λ units. length units.items ≡ length names.now) }

@@ -1,4 +1,4 @@
--- No public contract rests on this: what `clap` reads of words, beside what their definition says.
+-- A contract of a public call rests on this: what `clap` reads of words, beside what their definition says.
 use Rattle.std.specs.Prelude.{◌≡◌, ◌⊎◌, true, false, List, [], ◌∷◌, Some, codes, slice_get, is_some, if◌then◌else◌}
 use Rattle.std.specs.Prelude.{MatchOption}
 use Rattle.std.specs.Str.{chars}

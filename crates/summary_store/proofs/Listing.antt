@@ -1,6 +1,7 @@
 -- The lists behind the lock after an event.
 use Rattle.std.proofs.Common.{◌≡◌, ℕ, zero, suc, ◌+◌, ◌<◌, inl, inr, List, [], ◌∷◌, ◌++◌, length, Bool, true}
-use Rattle.std.proofs.Common.{false, cond, Option, Some, None, refl, sym, ap, subst, ◌∙◌, arith, drop, append-nil, get_or}
+use Rattle.std.proofs.Common.{false, cond, Option, Some, None, refl, sym}
+use Rattle.std.proofs.Common.{ap, subst, ◌∙◌, arith, drop, append-nil, get_or}
 use Rattle.std.specs.Prelude.{slice_get, slice_set}
 use Rattle.std.proofs.lemmas.Bool.{cases_eq}
 use Rattle.std.proofs.lemmas.Option.{slice_get_within}
@@ -13,7 +14,8 @@ use Rattle.row_links.proofs.Counting.{times-in_lists}
 use Rattle.summary_store.specs.declared.machine.Event.TheVariants.{Take, Publish, Leave}
 use Rattle.summary_store.specs.declared.machine.Hand.{Hand}
 use Rattle.summary_store.specs.declared.machine.Hand.TheVariants.{Free, Holds, Gone}
-use Rattle.summary_store.specs.Machine.{Setup, Machine, step, next_of, first_of, idle_after, only, parked_on, parked_elsewhere}
+use Rattle.summary_store.specs.Machine.{Setup, Machine, step, next_of}
+use Rattle.summary_store.specs.Machine.{first_of, idle_after, only, parked_on, parked_elsewhere}
 use Rattle.summary_store.specs.Machine.{without as without_of}
 use Rattle.summary_store.specs.Lists.{numbers, numbered, numbers_held, AreLists, front_held, next_front, next_taken}
 use Rattle.summary_store.specs.Lists.{IsRoused, or_else, moved_or}

@@ -5,8 +5,10 @@ use Rattle.std.specs.Prelude.{◌==◌, slice_get, slice_set, not}
 use Rattle.std.proofs.lemmas.Bool.{cases_eq, eq-eqb}
 use Rattle.racer_base.specs.declared.ids.MethodId.{MethodId}
 use Rattle.row_links.specs.Lists.{list_at, without, moved, times, node_count, HasEachOnce, IsInList}
-use Rattle.row_links.proofs.Counting.{left_out, left_in, same_once, other_never, times-in_two, times-in_lists, without-none}
-use Rattle.row_links.proofs.Lists.{moved-here, moved-other, at_most_once, is_below, each-moved, count-moved, length-moved}
+use Rattle.row_links.proofs.Counting.{left_out, left_in, same_once}
+use Rattle.row_links.proofs.Counting.{other_never, times-in_two, times-in_lists, without-none}
+use Rattle.row_links.proofs.Lists.{moved-here, moved-other, at_most_once}
+use Rattle.row_links.proofs.Lists.{is_below, each-moved, count-moved, length-moved}
 use Rattle.summary_store.specs.declared.machine.Hand.{Hand}
 use Rattle.summary_store.specs.Machine.{only, without as without_of, parked_on, parked_elsewhere}
 use Rattle.summary_store.specs.Lists.{numbers}

@@ -21,7 +21,8 @@ use Rattle.access_domain.specs.Findings.{Findings, Whole, summary_from}
 use Rattle.access_domain.specs.Flow.{both, lost_result, joined_result}
 use Rattle.access_domain.specs.Given.{FlowContext}
 use Rattle.access_domain.specs.Operations.{Effects, call_effects, found_effects, passed_from}
-use Rattle.access_domain.specs.Records.{is_write, same_flag, same_touch, same_key, first_of_keys, different_paths}
+use Rattle.core_code.specs.Touches.{is_write}
+use Rattle.access_domain.specs.Records.{same_flag, same_touch, same_key, first_of_keys, different_paths}
 use Rattle.access_domain.specs.Substitution.{Actuals, actuals_from, substituted, substituted_path, substituted_record}
 use Rattle.access_domain.proofs.AdditionLemmas.{any-push, keys_added-nil, keys_added-append, contains_added}
 use Rattle.access_domain.proofs.Different.{from_list-different}

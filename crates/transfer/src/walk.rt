@@ -35,7 +35,8 @@ pub fn walk_code(
 ) -> Result<bool, Stop>
     requires high { IsHighEnough (tree_of code.now) here.old }
     requires calls { AreFound (given frame.now) calls.old.keys found.old }
-    ensures flow { IsFlow (flow (given frame.now) (tree_of code.now) locked here.old) here.new found.old found.new result }
+    ensures flow { IsFlow (flow (given frame.now) (tree_of code.now) locked here.old)
+        here.new found.old found.new result }
     ensures calls { OnOk result (AreFound (given frame.now) calls.new.keys found.new) }
 {
     match code {
@@ -78,8 +79,8 @@ fn go_through(
 ) -> Result<bool, Stop>
     requires high { IsHighEnough (in_sequence (map tree_of parts.now)) here.old }
     requires calls { AreFound (given frame.now) calls.old.keys found.old }
-    ensures flow { IsFlow (flow (given frame.now) (in_sequence (map tree_of parts.now)) locked here.old) here.new found.old
-        found.new result }
+    ensures flow { IsFlow (flow (given frame.now) (in_sequence (map tree_of parts.now)) locked here.old)
+        here.new found.old found.new result }
     ensures calls { OnOk result (AreFound (given frame.now) calls.new.keys found.new) }
 {
     for part in parts {
@@ -105,8 +106,8 @@ fn repeat(
 ) -> Result<bool, Stop>
     requires high { IsHighEnough (Loop (tree_of body.now)) here.old }
     requires calls { AreFound (given frame.now) calls.old.keys found.old }
-    ensures flow { IsFlow (flow (given frame.now) (Loop (tree_of body.now)) locked here.old) here.new found.old found.new
-        result }
+    ensures flow { IsFlow (flow (given frame.now) (Loop (tree_of body.now)) locked here.old)
+        here.new found.old found.new result }
     ensures calls { OnOk result (AreFound (given frame.now) calls.new.keys found.new) }
 {
     match go_rounds(alloc, frame, locked, body, here, found) {

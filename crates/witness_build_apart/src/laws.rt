@@ -62,16 +62,18 @@ pub fn legs_store_little()
 
 /// What is said of two legs of which the second reads no field that the first stored in: what both do alone.
 pub fn marks_of_legs_apart()
-    ensures confirmed { (core : Core) (f g : Leg) (s to end : State) (left : List Turn) (spots : List Spot) → f.thread + g.thread ≡ 1 →
-        (thread_of s f.thread).locks ≡ [] → (thread_of to f.thread).locks ≡ [] → ArePlain core s.store →
+    ensures confirmed { (core : Core) (f g : Leg) (s to end : State) (left : List Turn) (spots : List Spot) →
+        f.thread + g.thread ≡ 1 → (thread_of s f.thread).locks ≡ [] → (thread_of to f.thread).locks ≡ [] →
+        ArePlain core s.store →
         leg_goes core f.thread f.steps f.turns s ≡ Some (to, left) →
         leg_stores core f.thread f.steps f.turns s ≡ Some spots →
         DoesAvoid core (λ o x. list_any (is_spot o x) spots) g.thread g.steps g.turns s →
         leg_end core g.thread g.steps g.turns s ≡ Past end →
         Confirmed (gathered (gathered [] (leg_reads core f.thread f.steps f.turns s))
         (leg_reads core g.thread g.steps g.turns s)) (f ∷ g ∷ []) ≡ mark_by_run core (f ∷ g ∷ []) s }
-    ensures blocked { (core : Core) (f g : Leg) (s to at : State) (left : List Turn) (spots : List Spot) → f.thread + g.thread ≡ 1 →
-        (thread_of s f.thread).locks ≡ [] → (thread_of to f.thread).locks ≡ [] → ArePlain core s.store →
+    ensures blocked { (core : Core) (f g : Leg) (s to at : State) (left : List Turn) (spots : List Spot) →
+        f.thread + g.thread ≡ 1 → (thread_of s f.thread).locks ≡ [] → (thread_of to f.thread).locks ≡ [] →
+        ArePlain core s.store →
         leg_goes core f.thread f.steps f.turns s ≡ Some (to, left) →
         leg_stores core f.thread f.steps f.turns s ≡ Some spots →
         DoesAvoid core (λ o x. list_any (is_spot o x) spots) g.thread g.steps g.turns s →
@@ -103,8 +105,8 @@ pub fn no_plain_field_is_noted()
         list_any (is_spot o f) all ≡ false }
 {}
 
-/// What two legs that are gone alone, each from the entry of its method, say of the mark by a run: that the first cannot
-/// be made; and where the second is apart from the first, that the second cannot be made, or that both can be.
+/// What two legs that are gone alone, each from the entry of its method, say of the mark by a run: that the first
+/// cannot be made; and where the second is apart from the first, that the second cannot be made, or that both can be.
 pub fn legs_gone_alone_tell_marks()
     ensures first { (core : Core) (f g : Leg) (m m1 m2 : MethodId) (at : State) → m ≡ entry_of f.thread m1 m2 →
         leg_end core f.thread f.steps f.turns (begun core m m All) ≡ Stopped at →

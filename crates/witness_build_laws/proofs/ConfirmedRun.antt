@@ -5,21 +5,20 @@ use Rattle.std.proofs.Common.{ap, subst, ◌∙◌}
 use Rattle.std.specs.List.{Contains}
 use Rattle.racer_base.specs.declared.ids.MethodId.{MethodId}
 use Rattle.racer_base.specs.declared.ids.Touch.{Touch}
-use Rattle.racer_base.specs.declared.ids.Touch.TheVariants.{Read, Write}
 use Rattle.access_paths.specs.declared.path.Path.{Path}
 use Rattle.access_paths.specs.declared.path.Root.{Root}
 use Rattle.access_paths.specs.declared.path.Root.TheVariants.{This, Class, Formal, Some as SomeOf}
 use Rattle.access_paths.specs.Paths.{is_formal, is_some_root, same_path}
 use Rattle.access_paths.specs.Same.{equal_of_same}
 use Rattle.access_domain.specs.declared.access.Access.{Access}
-use Rattle.access_domain.specs.Records.{is_write}
+use Rattle.core_code.specs.Touches.{is_write}
 use Rattle.access_domain.specs.OutcomeRecords.{record_at}
 use Rattle.core_code.specs.Calls.{method_at}
 use Rattle.core_code.specs.Core.{Core, Method}
 use Rattle.core_semantics.specs.declared.object.Start.TheVariants.{All, Only}
 use Rattle.core_semantics.specs.declared.object.StartPath.{StartPath}
 use Rattle.core_semantics.specs.Legs.{Leg, run}
-use Rattle.core_semantics.specs.Runs.{begun, given_to, is_in, thread_at, writes}
+use Rattle.core_semantics.specs.Runs.{begun, given_to, is_in, thread_at}
 use Rattle.core_semantics.specs.State.{State, Store, Thread, other_of, thread_of}
 use Rattle.core_semantics.specs.Steps.{entered}
 use Rattle.core_ways.specs.Marks.{Confirmed, Said, Unnamed, first_halt, is_locked, leg_along, mark_of}
@@ -66,16 +65,12 @@ enters core t m method is = ap (thread_by t) is
 pub record Conflict (a b : Access) : Type 0 where
   pub path : b.path ≡ a.path
   pub formal : is_formal a.path.root ≡ false
-  pub write : (writes a.kind || writes b.kind) ≡ true
+  pub write : (is_write a.kind || is_write b.kind) ≡ true
   pub locks : (a.locked && b.locked) ≡ false
 
 not-true : (b : Bool) → not b ≡ true → b ≡ false
 not-true true e = sym e
 not-true false e = refl
-
-same-write : (k : Touch) → writes k ≡ is_write k
-same-write Read = refl
-same-write Write = refl
 
 pub conflict-parts : (a b : Access) → conflicts a b ≡ true → Conflict a b
 conflict-parts a b is =
@@ -91,7 +86,7 @@ conflict-parts a b is =
     record {
       path = sym (equal_of_same a.path b.path one.0);
       formal = not-true (is_formal a.path.root) one.1;
-      write = (λ i. same-write a.kind i || same-write b.kind i) ∙ two.1;
+      write = two.1;
       locks = not-true (a.locked && b.locked) three.1;
     }
 

@@ -11,13 +11,14 @@ use Rattle.access_paths.specs.declared.path.Path.{Path}
 use Rattle.access_paths.specs.Paths.{same_field}
 use Rattle.access_domain.specs.declared.access.Access.{Access}
 use Rattle.core_code.specs.Core.{Core, Method}
+use Rattle.core_code.specs.Touches.{is_write}
 use Rattle.core_semantics.specs.declared.answer.Turn.{Turn}
 use Rattle.core_semantics.specs.declared.object.Object.{Object}
 use Rattle.core_semantics.specs.declared.object.Start.TheVariants.{All, Only}
 use Rattle.core_semantics.specs.declared.object.StartPath.{StartPath}
 use Rattle.core_semantics.specs.Legs.{Leg, Ran, Came, Halted, run, run_leg, runs, whole}
 use Rattle.core_semantics.specs.Objects.{same_object}
-use Rattle.core_semantics.specs.Runs.{begun, do_meet, given_to, is_in, races, writes}
+use Rattle.core_semantics.specs.Runs.{begun, do_meet, given_to, is_in, races}
 use Rattle.core_semantics.specs.Same.{same_object-itself}
 use Rattle.core_semantics.specs.State.{State}
 use Rattle.core_ways.specs.Marks.{first_halt, leg_along, objects_of, reads, reads_of_legs}
@@ -32,14 +33,14 @@ use Rattle.witness_build_laws.proofs.MarkParts.{first-made}
 
 -- ---- a race
 
-meets : (o : Object) (f g : FieldId) (k l : Touch) → f ≡ g → (writes k || writes l) ≡ true →
-    (same_object o o && same_field f g && (writes k || writes l)) ≡ true
+meets : (o : Object) (f g : FieldId) (k l : Touch) → f ≡ g → (is_write k || is_write l) ≡ true →
+    (same_object o o && same_field f g && (is_write k || is_write l)) ≡ true
 meets o f g k l same write =
-    ap (λ (b : Bool). b && same_field f g && (writes k || writes l)) (same_object-itself o)
-    ∙ ap (λ (b : Bool). b && (writes k || writes l)) (eq-eqb f.0 g.0 (ap (λ (h : FieldId). h.0) same))
+    ap (λ (b : Bool). b && same_field f g && (is_write k || is_write l)) (same_object-itself o)
+    ∙ ap (λ (b : Bool). b && (is_write k || is_write l)) (eq-eqb f.0 g.0 (ap (λ (h : FieldId). h.0) same))
     ∙ write
 
-pub both-race : (end : State) (p : Path) (k l : Touch) → (writes k || writes l) ≡ true → TouchesAs end 0 p k →
+pub both-race : (end : State) (p : Path) (k l : Touch) → (is_write k || is_write l) ≡ true → TouchesAs end 0 p k →
     TouchesAs end 1 p l → races end ≡ true
 both-race end p k l write one other =
     let same : one.field ≡ other.field = let both : Some one.field ≡ Some other.field = sym one.last ∙ other.last in

@@ -102,8 +102,8 @@ fn walk_up_to<'a>(
     Ok(())
 }
 
-/// The walk that a course goes on from: a copy of the trunk, which first goes on to where the course leaves it, behind so
-/// many turns.
+/// The walk that a course goes on from: a copy of the trunk, which first goes on to where the course leaves it, behind
+/// so many turns.
 fn branched<'a>(
     alloc: Global,
     program: &'a Program,

@@ -7,7 +7,8 @@ ghost use Rattle.core_semantics.specs.Changes.{next_sight};
 ghost use Rattle.core_semantics.specs.Runs.{next_value, wants_turn};
 ghost use Rattle.core_semantics.specs.Steps.{step};
 ghost use Rattle.core_semantics.specs.View.{state_of};
-ghost use Rattle.witness_build_walks.specs.Walks.{AreKept, IsAtEntry, IsMade, IsOnward, IsTurned, IsWalk, is_loud_behind, listed};
+ghost use Rattle.witness_build_walks.specs.Walks.{AreKept, IsAtEntry, IsMade, IsOnward, IsTurned, IsWalk};
+ghost use Rattle.witness_build_walks.specs.Walks.{is_loud_behind, listed};
 ghost use Rattle.witness_build_walks.specs.Walks.{written};
 
 use core_code::Program;

@@ -4,7 +4,8 @@ ghost use Rattle.serde_json.specs.Read.{read};
 ghost use Rattle.serde_json.specs.Written.{compact_text};
 ghost use Rattle.witness_text_files.specs.declared.fault.Field.TheVariants.{Version, Class, Entries, Objects, Legs};
 ghost use Rattle.witness_text_files.specs.Files.{file_of};
-ghost use Rattle.witness_text_files.specs.Examples.{AFile, Lacks, NoJson, answered, gate, gate_text, nested, with_class};
+ghost use Rattle.witness_text_files.specs.Examples.{AFile, Lacks, NoJson, answered, gate, gate_text, nested};
+ghost use Rattle.witness_text_files.specs.Examples.{with_class};
 ghost use Rattle.witness_text_files.specs.Examples.{with_entries, with_leg, with_legs, with_objects, with_version};
 ghost use Rattle.witness_text_files.specs.Written.{data_of};
 

@@ -1,6 +1,7 @@
 //! The code of assignments (JLS 15.26, 15.14.2, 15.15.1).
 ghost use Rattle.std.specs.Prelude.{◌≡◌, [], ◌∷◌, Some, codes, map};
-ghost use Rattle.core_lowering_rules.specs.Examples.{class_a, lowered, push_this, push_k, push_a, push_o, push_class, prim};
+ghost use Rattle.core_lowering_rules.specs.Examples.{class_a, lowered, push_this, push_k, push_a, push_o, push_class};
+ghost use Rattle.core_lowering_rules.specs.Examples.{prim};
 ghost use Rattle.core_lowering_rules.specs.Examples.{null, dup, pop, operator, outside, set, get, put};
 
 /// Stores to variables.

@@ -3,7 +3,8 @@ ghost use Rattle.std.specs.Prelude.{◌≡◌, [], ◌∷◌, Some, codes, map};
 ghost use Rattle.racer_base.specs.declared.ids.Kind.TheVariants.{Plain, Declared, Other};
 ghost use Rattle.core_lowering_rules.specs.ValueKinds.{Of, Null};
 ghost use Rattle.core_lowering_rules.specs.Examples.{class_a, class_b, an_a, value_of, static_value_of, kind_of_text};
-ghost use Rattle.core_lowering_rules.specs.Examples.{push, push_this, push_k, push_a, push_o, push_class, prim, null, pop};
+ghost use Rattle.core_lowering_rules.specs.Examples.{push, push_this, push_k, push_a, push_o, push_class, prim, null};
+ghost use Rattle.core_lowering_rules.specs.Examples.{pop};
 ghost use Rattle.core_lowering_rules.specs.Examples.{operator, outside, get, choice};
 
 /// Literals, `this` and classes (JLS 15.8).

@@ -8,10 +8,12 @@ ghost use Rattle.core_code.specs.Tree.{in_sequence};
 ghost use Rattle.core_lowering_rules.specs.Context.{Itself, Nothing, Value};
 ghost use Rattle.core_lowering_rules.specs.Methods.{Default, Unspelled, ended, locked, field_begun, code_in};
 ghost use Rattle.core_lowering_rules.specs.PlacedTexts.{method_place, ident};
-ghost use Rattle.core_lowering_rules.specs.Examples.{class_a, in_object, in_m, in_w, in_constructor, in_static, ended_body};
+ghost use Rattle.core_lowering_rules.specs.Examples.{class_a, in_object, in_m, in_w, in_constructor, in_static};
+ghost use Rattle.core_lowering_rules.specs.Examples.{ended_body};
 ghost use Rattle.core_lowering_rules.specs.Examples.{with_fields, empty_body, unread_field, push, push_this};
 ghost use Rattle.core_lowering_rules.specs.Examples.{push_class, prim, null, dup, pop};
-ghost use Rattle.core_lowering_rules.specs.Examples.{return_top, operator, outside, set, get, put, call, choice, repeated};
+ghost use Rattle.core_lowering_rules.specs.Examples.{return_top, operator, outside, set, get, put, call, choice};
+ghost use Rattle.core_lowering_rules.specs.Examples.{repeated};
 
 /// Two bodies, whole: `void m(A a)` and `void w()`.
 pub fn first_methods()
@@ -41,7 +43,8 @@ pub fn ends_of_methods()
 
 /// A synchronized method holds the lock of its object or of its class, at its own place (JLS 8.4.3.6).
 pub fn locks_of_methods()
-    ensures of_object { locked in_w true (prim ∷ []) ≡ push_this ∷ own_sync method_place (in_sequence (prim ∷ [])) ∷ [] }
+    ensures of_object { locked in_w true (prim ∷ [])
+        ≡ push_this ∷ own_sync method_place (in_sequence (prim ∷ [])) ∷ [] }
     ensures of_class { locked in_static true (prim ∷ [])
         ≡ push_class class_a ∷ own_sync method_place (in_sequence (prim ∷ [])) ∷ [] }
     ensures none { locked in_w false (prim ∷ []) ≡ prim ∷ [] }

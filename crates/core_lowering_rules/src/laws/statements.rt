@@ -2,7 +2,8 @@
 ghost use Rattle.std.specs.Prelude.{◌≡◌, [], ◌∷◌, Some, codes, map};
 ghost use Rattle.racer_base.specs.declared.ids.Kind.TheVariants.{Plain, Other};
 ghost use Rattle.core_lowering_rules.specs.Context.{Itself, Nothing, Value};
-ghost use Rattle.core_lowering_rules.specs.Examples.{lowered, lowered_in, in_object, push, push_this, push_k, push_a, push_o};
+ghost use Rattle.core_lowering_rules.specs.Examples.{lowered, lowered_in, in_object, push, push_this, push_k, push_a};
+ghost use Rattle.core_lowering_rules.specs.Examples.{push_o};
 ghost use Rattle.core_lowering_rules.specs.Examples.{prim, null, dup, pop, return_top, operator, outside, set, get};
 ghost use Rattle.core_lowering_rules.specs.Examples.{put, call, choice, repeated, held};
 

@@ -37,7 +37,8 @@ pub fn variable_with_a_tree()
 /// Of faults the brackets come first, then their depth.
 pub fn first_faults()
     ensures unbalanced { IsFault (line (codes "int ( [ )")) (end_of (codes "int ( [ )")) (fault.Unbalanced (at 9)) }
-    ensures unbalanced_alone { ¬ IsFault (line (codes "int ( [ )")) (end_of (codes "int ( [ )")) (fault.NotAUnit (at 1)) }
+    ensures unbalanced_alone { ¬ IsFault (line (codes "int ( [ )"))
+        (end_of (codes "int ( [ )")) (fault.NotAUnit (at 1)) }
     ensures shallow { ¬ IsFault (placed_all 1 (signs 201 (codes "("))) (at 202) (fault.TooDeep (at 201)) }
     ensures deep { IsFault (placed_all 1 (signs 201 (codes "(") ++ signs 201 (codes ")"))) (at 403)
         (fault.TooDeep (at 201)) }

@@ -25,7 +25,8 @@ pub fn skipped_types()
 
 /// The annotations of a class stand before its word, among the modifiers.
 pub fn annotations_of_classes()
-    ensures each { map shown (annotations_before (pieces_of (line (codes "@ A public @ B ( 1 ) class C { @ D int x ; }"))))
+    ensures each { map shown
+        (annotations_before (pieces_of (line (codes "@ A public @ B ( 1 ) class C { @ D int x ; }"))))
         ≡ codes "@ A" ∷ codes "@ B ( 1 )" ∷ [] }
     ensures none { map shown (annotations_before (pieces_of (line (codes "class C implements @ D E { }")))) ≡ [] }
 {}

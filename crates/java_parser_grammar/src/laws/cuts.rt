@@ -26,7 +26,8 @@ pub fn members_are_cut_once()
     ensures once { (pieces : List (List Item)) → IsCut pieces → cut_members false (joined pieces) ≡ pieces }
 {}
 
-/// A file is cut into declarations in one way, and then no token of it does not fit; where one does not, it is one alone.
+/// A file is cut into declarations in one way, and then no token of it does not fit; where one does not, it is one
+/// alone.
 pub fn declarations_are_cut_once()
     ensures once { (all : List Item) (ds es : List (List Item)) → AreDeclarations all ds → AreDeclarations all es
         → ds ≡ es }
@@ -36,8 +37,8 @@ pub fn declarations_are_cut_once()
         ⊎ ((rest : List Item) × IsMisfit all rest) }
 {}
 
-/// Of the tokens behind a field's type, two divisions in which each initialiser has a tree are one, and its variables are
-/// the same, places in these trees aside.
+/// Of the tokens behind a field's type, two divisions in which each initialiser has a tree are one, and its variables
+/// are the same, places in these trees aside.
 pub fn one_division_of_fields()
     ensures pieces { (ts : List Token) (ps qs : List (List Token)) (vs ws : List FieldVariable) → AreRead ts ps vs
         → AreRead ts qs ws → ps ≡ qs }

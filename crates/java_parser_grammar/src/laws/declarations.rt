@@ -8,10 +8,10 @@ pub fn units()
     ensures empty { is_file [] ≡ true }
     ensures nothing { is_file (file (codes ";" ∷ codes ";" ∷ [])) ≡ true }
     ensures package_alone { is_file (file (codes ";" ∷ codes "@ N ( { ; } ) package a . b ;" ∷ codes ";" ∷ [])) ≡ true }
-    ensures imports { is_file (file (codes "package a ;" ∷ codes "import c . * ;" ∷ codes ";" ∷ codes "import static d ;"
-        ∷ codes ";" ∷ [])) ≡ true }
-    ensures types { is_file (file (codes "import a ;" ∷ codes ";" ∷ codes "@ a . B public class A { int x ; }" ∷ codes ";"
-        ∷ codes "enum C { }" ∷ [])) ≡ true }
+    ensures imports { is_file (file (codes "package a ;" ∷ codes "import c . * ;" ∷ codes ";"
+        ∷ codes "import static d ;" ∷ codes ";" ∷ [])) ≡ true }
+    ensures types { is_file (file (codes "import a ;" ∷ codes ";" ∷ codes "@ a . B public class A { int x ; }"
+        ∷ codes ";" ∷ codes "enum C { }" ∷ [])) ≡ true }
     ensures no_import { is_file (file (codes "package a ;" ∷ codes "class A { }" ∷ [])) ≡ true }
     ensures bracketed { is_file (file (codes "package a ( ; ) { ; } b ;" ∷ codes "import [ ; ] ;" ∷ [])) ≡ true }
     ensures words { is_file (file (codes "public protected private static abstract final strictfp class A { }" ∷ []))

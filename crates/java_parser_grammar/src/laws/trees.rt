@@ -12,7 +12,8 @@ ghost use Rattle.java_parser_grammar.specs.UnitExamples.{line, shown};
 
 /// A constructor has the name of its class, whatever its modifiers; a method may have it too.
 pub fn methods_of_classes()
-    ensures constructor { IsMethod (codes "A") (line (codes "A ( ) { }")) (method [] NoResult (codes "A") [] [] no_stmt) }
+    ensures constructor { IsMethod (codes "A") (line (codes "A ( ) { }"))
+        (method [] NoResult (codes "A") [] [] no_stmt) }
     ensures modified { IsMethod (codes "A") (line (codes "static A ( int x ) { }")) (method (Word (codes "static") ∷ [])
         NoResult (codes "A") (formal (ints 0) ∷ []) [] no_stmt) }
     ensures other { ¬ IsMethod (codes "B") (line (codes "A ( ) { }")) (method [] NoResult (codes "A") [] [] no_stmt) }

@@ -15,7 +15,8 @@ pub fn kinds_of_types()
     ensures second { kind_of (codes "A" ∷ codes "B" ∷ []) (named_type (Bare (codes "B"))) ≡ kind.Declared (class 1) }
     ensures elsewhere { kind_of (codes "A" ∷ []) (named_type (Bare (codes "C"))) ≡ kind.Other }
     ensures array { kind_of (codes "A" ∷ []) (Typed (Named (part_then (Bare (codes "A")) no_part)) 1) ≡ kind.Other }
-    ensures generic { kind_of (codes "A" ∷ []) (named_type (Generic (codes "A") (Angled no_argument false))) ≡ kind.Other }
+    ensures generic { kind_of (codes "A" ∷ []) (named_type (Generic (codes "A") (Angled no_argument false)))
+        ≡ kind.Other }
     ensures qualified { kind_of (codes "A" ∷ []) (Typed (Named (part_then (Bare (codes "p"))
         (part_then (Bare (codes "A")) no_part))) 0) ≡ kind.Other }
 {}

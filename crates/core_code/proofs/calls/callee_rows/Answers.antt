@@ -13,7 +13,7 @@ loop-method-preserved c =
     c.loop-method.method-index c.method-item.result rows c.push.new.self.items (λ m ms. refl)
     c.loop-method-test.true c.method-item.is
     (c.in_ok-push.ensures.items
-    ∙ ap (λ (row : List MethodId). rows ++ row ∷ []) (c.from.ensures ∙ c.in_ok-all_callees.ensures))
+    ∙ ap (λ (row : List MethodId). rows ++ row ∷ []) (c.from.ensures ∙ c.in_ok-callees.ensures))
     ∙ c.loop-method.invariant
 
 pub returns : goal.returns

@@ -25,7 +25,7 @@ returns-in_ok-replayed-in-Accepted-clause-said g c =
     subst
     (λ (o : Option Told). IfSome o (λ (told : Told).
     option_map (take (MAX_FILE_BYTES + 1)) (get told.files c.as_str-in-Accepted.result.now) ≡ Some read))
-    c.folder_program.ensures.told c.in_ok-bytes-in-Accepted.ensures.bytes in
+    c.folder_program.ensures.keeps.told c.in_ok-bytes-in-Accepted.ensures.bytes in
     let file =
     subst
     (λ (name : List _). IfSome tells (λ (told : Told).

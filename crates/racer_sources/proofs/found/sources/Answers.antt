@@ -1,4 +1,4 @@
-use Rattle.std.proofs.Common.{◌≡◌, ◌∙◌, List, map, string_bytes, sym, subst, Option, String, Global}
+use Rattle.std.proofs.Common.{◌≡◌, List, map, string_bytes, sym, subst, Option, String, Global}
 use Rattle.std.specs.Option.{IfSome}
 use Rattle.racer_base.specs.Outside.{Told}
 use Rattle.racer_sources.specs.declared.fault.SourceFault.TheVariants.{Failed}
@@ -6,7 +6,7 @@ use Rattle.racer_sources.specs.Sources.{source_names}
 use Rattle.racer_sources.specs.Finding.{AreKnown}
 use Rattle.racer_sources.specs.Reading.{AreThere}
 use Rattle.racer_sources.proofs.There.{steady_sources}
-use Rattle.racer_sources.proofs.Faults.{steady_answer, refused_known, on_ok_anyhow}
+use Rattle.racer_sources.proofs.Faults.{keeps_on, steady_answer, refused_known, on_ok_anyhow}
 use Rattle.racer_sources.proofs.found.sources.Goals as goal
 
 pub returns-in-Err-clause-steady : goal.returns-in-Err-clause-steady
@@ -15,25 +15,19 @@ returns-in-Err-clause-steady g c = λ steady.
     let names = c.as_slice.result.now in
     let Never : Type 0 = c.in-Err.fault ≡ Failed → ⊥ in
     let there = subst (λ (o : Option Told). IfSome o
-    (λ (t : Told). AreThere t.files (map string_bytes names) → Never)) c.in_ok-names.ensures.told
-    (c.in-Err.ensures.steady (c.in_ok-names.ensures.stays steady)) in
+    (λ (t : Told). AreThere t.files (map string_bytes names) → Never)) c.in_ok-names.ensures.keeps.told
+    (c.in-Err.ensures.steady (c.in_ok-names.ensures.keeps.stays steady)) in
     let named = subst (λ (ns : List (String Global)). IfSome told
     (λ (t : Told). map string_bytes ns ≡ source_names t.files))
     (sym c.as_slice.ensures.value) c.in_ok-names.ensures.names in
     steady_answer _ _ c.refused.result (λ t. c.args.name.now ≡ t.name) told c.refused.ensures
     (steady_sources Never told names there named)
 
-pub returns-in-Ok-clause-told : goal.returns-in-Ok-clause-told
-returns-in-Ok-clause-told g c = c.in-Ok.ensures.told ∙ c.in_ok-names.ensures.told
+pub returns-in-Ok-clause-keeps : goal.returns-in-Ok-clause-keeps
+returns-in-Ok-clause-keeps g c = keeps_on c.in_ok-names.ensures.keeps c.in-Ok.ensures.keeps
 
-pub returns-in-Err-clause-told : goal.returns-in-Err-clause-told
-returns-in-Err-clause-told g c = c.in-Err.ensures.told ∙ c.in_ok-names.ensures.told
-
-pub returns-in-Ok-clause-stays : goal.returns-in-Ok-clause-stays
-returns-in-Ok-clause-stays g c = λ steady. c.in-Ok.ensures.stays (c.in_ok-names.ensures.stays steady)
-
-pub returns-in-Err-clause-stays : goal.returns-in-Err-clause-stays
-returns-in-Err-clause-stays g c = λ steady. c.in-Err.ensures.stays (c.in_ok-names.ensures.stays steady)
+pub returns-in-Err-clause-keeps : goal.returns-in-Err-clause-keeps
+returns-in-Err-clause-keeps g c = keeps_on c.in_ok-names.ensures.keeps c.in-Err.ensures.keeps
 
 pub returns-in-Err-clause-entered : goal.returns-in-Err-clause-entered
 returns-in-Err-clause-entered g c = on_ok_anyhow _ c.refused.result c.in_ok-names.ensures.entered

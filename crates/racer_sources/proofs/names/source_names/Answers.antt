@@ -8,8 +8,9 @@ returns-clause-names g c =
     c.enter.ensures.told c.in_ok-names.ensures.names c.sort.ensures.permutation c.in_ok-sort.ensures.sorted
     c.keep_sources.ensures
 
-pub returns-clause-told : goal.returns-clause-told
-returns-clause-told g c = c.in_ok-names.ensures.told ∙ c.enter.ensures.told
-
-pub returns-clause-stays : goal.returns-clause-stays
-returns-clause-stays g c = λ steady. c.in_ok-names.ensures.stays (c.enter.ensures.stays steady)
+pub returns-clause-keeps : goal.returns-clause-keeps
+returns-clause-keeps g c =
+    record {
+      told = c.in_ok-names.ensures.told ∙ c.enter.ensures.told;
+      stays = λ steady. c.in_ok-names.ensures.stays (c.enter.ensures.stays steady);
+    }

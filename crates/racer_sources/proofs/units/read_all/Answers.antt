@@ -5,7 +5,7 @@ use Rattle.racer_sources.specs.declared.fault.SourceFault.TheVariants.{Failed}
 use Rattle.racer_sources.specs.Sources.{bytes_of}
 use Rattle.racer_sources.specs.Reading.{IsAdded, IsNextRefused, IfRefused, AreThere}
 use Rattle.racer_sources.proofs.Added.{steady_there, counted_more, somehow_more, leads_more, read_all_told, refused_there}
-use Rattle.racer_sources.proofs.Faults.{anyhow}
+use Rattle.racer_sources.proofs.Faults.{anyhow, keeps_on}
 use Rattle.racer_sources.proofs.units.read_all.Goals as goal
 
 pub returns-in-Err-clause-steady : goal.returns-in-Err-clause-steady
@@ -13,8 +13,8 @@ returns-in-Err-clause-steady g c = λ steady.
     let name = c.name-item.result in
     steady_there (g.F.Folder.told c.args.folder.now) (g.F.Folder.told c.loop-name.folder) c.args.names.now
     c.loop-name.name-index name c.as_str.result.now (c.in-Err.fault ≡ Failed → ⊥) c.loop-name-test.true
-    (c.as_str.ensures.value ∙ ap string_bytes c.name-item.is) c.loop-name.invariant.told
-    (c.in-Err.ensures.steady (c.loop-name.invariant.stays steady))
+    (c.as_str.ensures.value ∙ ap string_bytes c.name-item.is) c.loop-name.invariant.keeps.told
+    (c.in-Err.ensures.steady (c.loop-name.invariant.keeps.stays steady))
 
 pub loop-name-preserved : goal.loop-name-preserved
 loop-name-preserved g c =
@@ -27,15 +27,14 @@ loop-name-preserved g c =
     record {
       few = after.few;
       count = after.count ∙ before.count;
-      told = after.told ∙ before.told;
-      stays = λ steady. after.stays (before.stays steady);
+      keeps = keeps_on before.keeps after.keeps;
       counted = counted_more old new c.loop-name.name-index before.counted after.any;
       any = somehow_more old new before.any after.any;
       leads = leads_more (g.F.Folder.told c.args.folder.now) c.args.names.now c.loop-name.name-index name old new
           c.loop-name-test.true before.leads
           (subst (λ (o : Option Told). IfSome o
           (λ (t : Told). IsAdded (bytes_of t.files
-          (string_bytes (get_or c.args.names.now c.loop-name.name-index name))) old new)) before.told
+          (string_bytes (get_or c.args.names.now c.loop-name.name-index name))) old new)) before.keeps.told
           (subst (λ (bytes : List ℕ). IfSome (g.F.Folder.told c.loop-name.folder)
           (λ (t : Told). IsAdded (bytes_of t.files bytes) old new)) text after.read));
     }
@@ -49,11 +48,8 @@ pub returns-clause-steady : goal.returns-clause-steady
 returns-clause-steady g c = λ _.
     anyhow (Unit {0}) (λ t. AreThere t.files (map string_bytes c.args.names.now)) (g.F.Folder.told c.args.folder.now) tt
 
-pub returns-in-Err-clause-told : goal.returns-in-Err-clause-told
-returns-in-Err-clause-told g c = c.in-Err.ensures.told ∙ c.loop-name.invariant.told
-
-pub returns-in-Err-clause-stays : goal.returns-in-Err-clause-stays
-returns-in-Err-clause-stays g c = λ steady. c.in-Err.ensures.stays (c.loop-name.invariant.stays steady)
+pub returns-in-Err-clause-keeps : goal.returns-in-Err-clause-keeps
+returns-in-Err-clause-keeps g c = keeps_on c.loop-name.invariant.keeps c.in-Err.ensures.keeps
 
 pub returns-in-Err-clause-refused : goal.returns-in-Err-clause-refused
 returns-in-Err-clause-refused g c =
@@ -66,6 +62,6 @@ returns-in-Err-clause-refused g c =
     refused_there (g.F.Folder.told c.args.folder.now) names i name read fault c.loop-name-test.true
     c.loop-name.invariant.leads
     (subst (λ (o : Option Told). IfSome o (λ (t : Told). IfRefused fault
-    (IsNextRefused (bytes_of t.files (string_bytes (get_or names i name))) read))) c.loop-name.invariant.told
+    (IsNextRefused (bytes_of t.files (string_bytes (get_or names i name))) read))) c.loop-name.invariant.keeps.told
     (subst (λ (bytes : List ℕ). IfSome (g.F.Folder.told c.loop-name.folder)
     (λ (t : Told). IfRefused fault (IsNextRefused (bytes_of t.files bytes) read))) text c.in-Err.ensures.refused))

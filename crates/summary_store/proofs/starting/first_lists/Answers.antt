@@ -7,8 +7,8 @@ use Rattle.summary_store.proofs.starting.first_lists.Goals as goal
 
 pub loop-m-init : goal.loop-m-init
 loop-m-init c = none_sorted (flags_of (core c.args.program.now)) c.args.workers c.in-Some.methods c.in-Some.lists
-    c.in_ok-lists.lists (c.in-Some.ensures.0 ∙ c.count.ensures) (omega (arith, c.in-Some.ensures.0, c.in-Some.ensures.1))
-    c.in-Some.ensures.2 c.in_ok-lists.ensures
+    c.in_ok-lists.lists (c.in-Some.ensures.0 ∙ c.count.ensures)
+    (omega (arith, c.in-Some.ensures.0, c.in-Some.ensures.1)) c.in-Some.ensures.2 c.in_ok-lists.ensures
 
 pub loop-m-preserved : goal.loop-m-preserved
 loop-m-preserved c =

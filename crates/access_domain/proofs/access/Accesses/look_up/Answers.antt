@@ -12,7 +12,7 @@ returns-clause-there c =
     c.contains-there.ensures
     ∙ ap (λ (b : Bool).
     let key : Key = record { path = access.path; is_write = b; locked = access.locked; main = access.main } in
-    list_any (key_eq key) c.self.inside.keys.keys) c.writes.ensures
+    list_any (key_eq key) c.self.inside.keys.keys) c.is_write.ensures
     ∙ ap (list_any (key_eq (key_of access))) c.self.invariant.1
     ∙ among access c.self.inside.items.items
     ∙ ap (list_any (λ r. same_key r access)) c.self.view_is

@@ -24,8 +24,8 @@ returns-in-Some g c =
     let low : c.pass.inside.number < length c.self.inside.left.items =
     omega (arith, flags_fit k, c.pass.invariant.2) in
     hand_seen k _ _ _ _ (ap (λ p. p.0) c.self.view_is) (ap (λ (p : PassView). p.number) c.pass.view_is)
-    (hand_holds k.are_lists (every_number_fits k) c.pass.inside.number _ c.in-Some.m c.pass.invariant.2 low c.index.ensures
-    c.if-index.false _ c.held.ensures c.in-Some.is)
+    (hand_holds k.are_lists (every_number_fits k) c.pass.inside.number _ c.in-Some.m c.pass.invariant.2 low
+    c.index.ensures c.if-index.false _ c.held.ensures c.in-Some.is)
 
 pub returns-in-None : goal.returns-in-None
 returns-in-None g c =
