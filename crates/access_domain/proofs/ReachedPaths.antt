@@ -9,7 +9,7 @@ use Rattle.owner_domain.specs.Values.{named_or_unnamed, field_value, along}
 use Rattle.owner_domain.proofs.Joins.{along-append}
 use Rattle.core_code.specs.Core.{Core}
 use Rattle.access_domain.specs.Findings.{Table}
-use Rattle.access_domain.specs.Given.{given_of, field_at}
+use Rattle.access_domain.specs.FlowContext.{given_of, field_at}
 use Rattle.access_domain.specs.Reached.{reached_path}
 use Rattle.access_domain.specs.Substitution.{touched}
 

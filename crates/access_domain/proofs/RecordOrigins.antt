@@ -27,7 +27,7 @@ use Rattle.core_code.proofs.Membership.{In, in_from_Contains, in_append, in_flat
 use Rattle.access_domain.specs.declared.access.Access.{Access}
 use Rattle.access_domain.specs.Records.{firsts, first_of_keys, same_key}
 use Rattle.access_domain.specs.Findings.{Findings, Known, Large, Whole, Table}
-use Rattle.access_domain.specs.Given.{FlowContext, given_of}
+use Rattle.access_domain.specs.FlowContext.{FlowContext, given_of}
 use Rattle.access_domain.specs.Substitution.{Actuals, touched, actuals_from, substituted_path, substituted_record}
 use Rattle.access_domain.specs.Substitution.{substituted}
 use Rattle.access_domain.specs.Operations.{Effects, record_of, passed_from, slot_of, top, popped, call_effects}

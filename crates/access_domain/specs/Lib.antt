@@ -3,7 +3,7 @@ pub mod Records
 pub mod Keys
 pub mod Additions
 pub mod Findings
-pub mod Given
+pub mod FlowContext
 pub mod Reached
 pub mod Substitution
 pub mod Operations

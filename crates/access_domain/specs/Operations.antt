@@ -19,7 +19,7 @@ use Rattle.owner_domain.specs.declared.value.State.{State}
 use Rattle.owner_domain.specs.Values.{names_of, field_value}
 use Rattle.access_domain.specs.declared.access.Access.{Access}
 use Rattle.access_domain.specs.Findings.{Findings, Known, Large, Whole}
-use Rattle.access_domain.specs.Given.{FlowContext}
+use Rattle.access_domain.specs.FlowContext.{FlowContext}
 use Rattle.access_domain.specs.Substitution.{touched, actuals_from, substituted}
 
 -- what a flow gives: the state at its end or none, its records in order, its wobbly paths, the join of the returned

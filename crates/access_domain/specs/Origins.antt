@@ -8,7 +8,7 @@ use Rattle.core_code.specs.declared.code.Op.TheVariants.{Get, Put, Call}
 use Rattle.core_code.specs.Tree.{Tree, Operation, steps_of}
 use Rattle.access_domain.specs.declared.access.Access.{Access}
 use Rattle.access_domain.specs.Findings.{Findings, Whole}
-use Rattle.access_domain.specs.Given.{FlowContext}
+use Rattle.access_domain.specs.FlowContext.{FlowContext}
 use Rattle.access_domain.specs.Substitution.{Actuals, substituted_path}
 
 -- how an operation touches a field itself

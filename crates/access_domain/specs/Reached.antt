@@ -6,7 +6,7 @@ use Rattle.access_paths.specs.Paths.{some_path}
 use Rattle.owner_domain.specs.declared.value.Value.{Value}
 use Rattle.owner_domain.specs.declared.value.Value.TheVariants.{Owned, Named, Unnamed}
 use Rattle.core_code.specs.Core.{Core}
-use Rattle.access_domain.specs.Given.{field_at}
+use Rattle.access_domain.specs.FlowContext.{field_at}
 
 -- none where the object is owned, and `some c . f` where the field has no name
 abbrev pub reached_path : Core → Value → FieldId → Option Path

@@ -13,7 +13,7 @@ use Rattle.owner_domain.specs.Values.{names_of, along}
 use Rattle.access_domain.specs.declared.access.Access.{Access}
 use Rattle.access_domain.specs.Records.{first_of_keys, different_paths}
 use Rattle.access_domain.specs.Findings.{Findings}
-use Rattle.access_domain.specs.Given.{FlowContext}
+use Rattle.access_domain.specs.FlowContext.{FlowContext}
 
 -- the path of field f of a value, `some c . f` where it has no name or its path would be too long, and none of an
 -- owned value

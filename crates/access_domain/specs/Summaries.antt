@@ -17,7 +17,7 @@ use Rattle.access_domain.specs.declared.summary.Outcome.{Outcome}
 use Rattle.access_domain.specs.declared.summary.Outcome.TheVariants as code
 use Rattle.access_domain.specs.Records.{first_of_keys, different_paths}
 use Rattle.access_domain.specs.Findings.{Findings, Known, Large, Whole, Table, outcome_from}
-use Rattle.access_domain.specs.Given.{given_of, is_plain}
+use Rattle.access_domain.specs.FlowContext.{given_of, is_plain}
 use Rattle.access_domain.specs.Operations.{Effects}
 use Rattle.access_domain.specs.Flow.{flow}
 

@@ -19,7 +19,7 @@ ghost use Rattle.access_domain.specs.declared.access.Access.{Access};
 ghost use Rattle.access_domain.specs.declared.summary.Outcome.TheVariants.{Summary as Held};
 ghost use Rattle.access_domain.specs.Findings.{Findings, Whole};
 ghost use Rattle.access_domain.specs.Flow.{flow};
-ghost use Rattle.access_domain.specs.Given.{FlowContext, given_of};
+ghost use Rattle.access_domain.specs.FlowContext.{FlowContext, given_of};
 ghost use Rattle.access_domain.specs.Operations.{Effects};
 ghost use Rattle.access_domain.specs.Origins.{HasOrigin};
 ghost use Rattle.access_domain.specs.Records.{different_paths, first_of_keys, same_key};

@@ -8,7 +8,7 @@
 //! - `specs/Records.antt`: keys, and the first record of each.
 //! - `specs/Numbered.antt`: records whose paths are numbers of a table, and what they are.
 //! - `specs/Findings.antt`: what is known of a method, in lists (`Known`), and the same as an `Outcome`.
-//! - `specs/Given.antt`: what a flow needs of a program (`FlowContext`), and `given_of` a program's parts.
+//! - `specs/FlowContext.antt`: what a flow needs of a program (`FlowContext`), and `given_of` a program's parts.
 //! - `specs/Reached.antt`: the path of an access, by the value of the field.
 //! - `specs/Substitution.antt`: what is found of a callee, in its caller's values.
 //! - `specs/Operations.antt`: what one operation does.

@@ -1,7 +1,7 @@
 //! Fields of a program, and the paths of accesses of them.
 ghost use Rattle.std.specs.Prelude.{◌≡◌, IfOk};
 ghost use Rattle.core_code.specs.Program.{core};
-ghost use Rattle.access_domain.specs.Given.{field_at, is_plain};
+ghost use Rattle.access_domain.specs.FlowContext.{field_at, is_plain};
 ghost use Rattle.access_domain.specs.Reached.{reached_path};
 
 use access_paths::Path;

@@ -6,7 +6,7 @@ use Rattle.access_paths.specs.declared.path.Path.{Path}
 use Rattle.access_paths.specs.Paths.{is_some_root, front_of, last_of}
 use Rattle.core_code.specs.Core.{Core}
 use Rattle.owner_domain.specs.Values.{along}
-use Rattle.access_domain.specs.Given.{FlowContext}
+use Rattle.access_domain.specs.FlowContext.{FlowContext}
 use Rattle.access_domain.specs.Reached.{reached_path}
 use Rattle.access_domain.specs.Substitution.{Actuals, touched, root_value, value_named, substituted_path}
 use Rattle.access_domain.proofs.ReachedPaths.{touched-along}

@@ -5,7 +5,7 @@ use Rattle.access_paths.specs.declared.path.Path.{Path}
 use Rattle.owner_domain.specs.Values.{names_of}
 use Rattle.core_code.specs.Program.{core}
 use Rattle.access_domain.specs.declared.access.Access.{Access}
-use Rattle.access_domain.specs.Given.{FlowContext}
+use Rattle.access_domain.specs.FlowContext.{FlowContext}
 use Rattle.access_domain.specs.Substitution.{Actuals, actuals_from, substituted_record, value_named}
 use Rattle.call_subst.specs.declared.naming.Call.{Call}
 use Rattle.call_subst.specs.Substitutes.{given_at}

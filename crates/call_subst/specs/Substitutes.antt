@@ -6,7 +6,7 @@ use Rattle.owner_domain.specs.declared.value.Value.{Value}
 use Rattle.core_code.specs.Core.{Core}
 use Rattle.access_domain.specs.declared.summary.Summary.{Summary}
 use Rattle.access_domain.specs.Findings.{Findings, summary_from}
-use Rattle.access_domain.specs.Given.{FlowContext, given_of, is_static_method}
+use Rattle.access_domain.specs.FlowContext.{FlowContext, given_of, is_static_method}
 use Rattle.access_domain.specs.Substitution.{actuals_from, substituted}
 
 -- what substitution is given of a program; what is known of methods plays no part in it

@@ -3,7 +3,7 @@ ghost use Rattle.std.specs.Prelude.{◌≡◌, ◌≤◌, Bool, length};
 ghost use Rattle.racer_base.specs.declared.ids.SiteId.{SiteId};
 ghost use Rattle.access_domain.specs.declared.summary.Summary.{Summary};
 ghost use Rattle.access_domain.specs.Findings.{Findings, summary_from};
-ghost use Rattle.access_domain.specs.Given.{FlowContext};
+ghost use Rattle.access_domain.specs.FlowContext.{FlowContext};
 ghost use Rattle.access_domain.specs.Substitution.{Actuals, substituted};
 
 /// What is found of a callee is no more in its caller's values.

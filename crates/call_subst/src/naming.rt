@@ -3,7 +3,7 @@ ghost use Rattle.std.specs.Prelude.{◌≡◌, ◌+◌, IfOk, if◌then◌else�
 ghost use Rattle.owner_domain.specs.declared.value.Value.TheVariants.{Unnamed as NotNamed};
 ghost use Rattle.owner_domain.specs.Values.{along};
 ghost use Rattle.core_code.specs.Program.{core};
-ghost use Rattle.access_domain.specs.Given.{is_static_method};
+ghost use Rattle.access_domain.specs.FlowContext.{is_static_method};
 ghost use Rattle.access_domain.specs.Substitution.{value_named, substituted_value, substituted_path};
 ghost use Rattle.call_subst.specs.Calls.{given, actuals};
 

@@ -4,7 +4,7 @@ ghost use Rattle.std.specs.Option.{option_to_list};
 ghost use Rattle.std.specs.FinSet as set;
 ghost use Rattle.racer_base.specs.declared.limits.TheConstants.{MAX_SUMMARY_KEYS};
 ghost use Rattle.core_code.specs.Program.{core};
-ghost use Rattle.access_domain.specs.Given.{is_static_method};
+ghost use Rattle.access_domain.specs.FlowContext.{is_static_method};
 ghost use Rattle.access_domain.specs.Substitution.{actuals_from, substituted_value};
 ghost use Rattle.access_domain.specs.Additions.{keys_added, paths_added};
 ghost use Rattle.access_domain.specs.Records.{first_of_keys};

@@ -12,7 +12,7 @@ use Rattle.owner_domain.specs.declared.value.Value.{Value as Called}
 use Rattle.owner_domain.specs.declared.value.Value.TheVariants.{Owned, Named, Unnamed}
 use Rattle.access_domain.specs.declared.access.Access.{Access}
 use Rattle.access_domain.specs.Findings.{Table}
-use Rattle.access_domain.specs.Given.{FlowContext, given_of}
+use Rattle.access_domain.specs.FlowContext.{FlowContext, given_of}
 use Rattle.access_domain.specs.Operations.{op_effects, record_of, slot_of, top}
 use Rattle.access_domain.specs.Substitution.{touched}
 use Rattle.core_code.specs.declared.code.Op.{Op as CoreOp}
@@ -115,16 +115,17 @@ made-record g kind locked site base f r has =
 -- ---- the access
 
 module _ (core : Core) (quiet : Quietness core) (n : Naming) (method : Method) (table : Table) (main locked : Bool)
-    (tops : Arrivals) (site : SiteId) where
+    (arrivals : Arrivals) (site : SiteId) where
   met : (kind : Touch) (f : FieldId) (kb : StackKind) (base : Called) (at : Point) (r : Access) → is_strong kb ≡ true →
       IsPlace core quiet kb (name_of n base) (base_value kind at) → IsStore core quiet at.store →
       In (record_of (given_of core table main) kind locked site base f) r →
-      IsMet core quiet n r (arrival_at core tops r.below (touching kind f) at)
+      IsMet core quiet n r (arrival_at core arrivals r.below (touching kind f) at)
   met kind f kb base at r strong place stored has =
       let of : IsRecordOf (given_of core table main) kind base f r =
       made-record (given_of core table main) kind locked site base f r has in
       let path : IsPathOf base f r.path = touched-is (given_of core table main) base f r.path of.path in
-      subst (λ (below : Option ℕ). IsMet core quiet n r (arrival_at core tops below (touching kind f) at)) of.below (
+      subst (λ (below : Option ℕ). IsMet core quiet n r (arrival_at core arrivals below (touching kind f) at))
+      of.below (
         stored,
         record {
           field = f;
@@ -140,7 +141,7 @@ module _ (core : Core) (quiet : Quietness core) (n : Naming) (method : Method) (
   get-met : (f : FieldId) (o : Option FieldCore) (kinds after : List StackKind) (s : State) (at : Point) (r : Access) →
       after_get o kinds ≡ Some after → IsFrame core quiet n method kinds s at → IsStore core quiet at.store →
       In (record_of (given_of core table main) Read locked site (top s) f) r →
-      IsMet core quiet n r (arrival_at core tops r.below (Get f) at)
+      IsMet core quiet n r (arrival_at core arrivals r.below (Get f) at)
   get-met f None kinds after s at r kinded frame stored has = absurd cc
   get-met f (Some field) [] after s at r kinded frame stored has = absurd cc
   get-met f (Some field) (kb ∷ rest) after s at r kinded frame stored has =
@@ -151,7 +152,7 @@ module _ (core : Core) (quiet : Quietness core) (n : Naming) (method : Method) (
   put-met : (f : FieldId) (o : Option FieldCore) (kinds after : List StackKind) (s : State) (at : Point) (r : Access) →
       after_put o kinds ≡ Some after → IsFrame core quiet n method kinds s at → IsStore core quiet at.store →
       In (record_of (given_of core table main) Write locked site (slot_of s 1) f) r →
-      IsMet core quiet n r (arrival_at core tops r.below (Put f) at)
+      IsMet core quiet n r (arrival_at core arrivals r.below (Put f) at)
   put-met f None kinds after s at r kinded frame stored has = absurd cc
   put-met f (Some field) [] after s at r kinded frame stored has = absurd cc
   put-met f (Some field) (kv ∷ []) after s at r kinded frame stored has = absurd cc
@@ -165,7 +166,7 @@ module _ (core : Core) (quiet : Quietness core) (n : Naming) (method : Method) (
   pub op-met : (op : CoreOp) (kinds after : List StackKind) (s : State) (at : Point) (r : Access) → called_by op ≡ [] →
       kinds_after_op core method op kinds ≡ Some after → IsFrame core quiet n method kinds s at →
       IsStore core quiet at.store → In (op_effects (given_of core table main) locked site op s).records r →
-      IsMet core quiet n r (arrival_at core tops r.below op at)
+      IsMet core quiet n r (arrival_at core arrivals r.below op at)
   op-met (Get f) kinds after s at r no_call kinded frame stored has =
       get-met f (field_at core f) kinds after s at r kinded frame stored has
   op-met (Put f) kinds after s at r no_call kinded frame stored has =

@@ -16,7 +16,7 @@ use Rattle.core_code.specs.KindCheck.{Kinds, after_call, and_then, below_fitting
 use Rattle.core_code.specs.Kinds.{StackKind, kind_of}
 use Rattle.core_code.proofs.BoolParts.{last_part}
 use Rattle.access_domain.specs.Findings.{Findings, Known, Large, Whole, Table}
-use Rattle.access_domain.specs.Given.{FlowContext, given_of, is_static_method}
+use Rattle.access_domain.specs.FlowContext.{FlowContext, given_of, is_static_method}
 use Rattle.access_domain.specs.Operations.{Effects, call_effects, found_effects, op_effects, passed_from, replaced}
 use Rattle.access_domain.specs.Substitution.{Actuals, actuals_from, substituted, substituted_value}
 use Rattle.core_semantics.specs.declared.object.Value.{Value}

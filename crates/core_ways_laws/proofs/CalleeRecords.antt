@@ -12,7 +12,7 @@ use Rattle.owner_domain.specs.declared.value.Value.TheVariants.{Named}
 use Rattle.owner_domain.specs.Values.{along}
 use Rattle.access_domain.specs.declared.access.Access.{Access}
 use Rattle.access_domain.specs.Findings.{Findings}
-use Rattle.access_domain.specs.Given.{FlowContext}
+use Rattle.access_domain.specs.FlowContext.{FlowContext}
 use Rattle.access_domain.specs.Records.{firsts, same_key}
 use Rattle.access_domain.specs.Substitution.{Actuals, root_value, substituted, substituted_path, substituted_record}
 use Rattle.access_domain.specs.Substitution.{touched}
@@ -108,9 +108,10 @@ callee-record g actuals found locked site r has =
 
 module _ (core : Core) (quiet : Quietness core) (n : Naming) (g : FlowContext) (actuals : Actuals) where
   -- the record keeps its path
-  meets-kept : (inner r : Access) (top : Arrival) → inner.kind ≡ r.kind → is_some_root inner.path.root ≡ true →
-      inner.path ≡ r.path → DoesMeet core quiet (callee_naming n actuals) inner top → DoesMeet core quiet n r top
-  meets-kept inner r top kind some path met =
+  meets-kept : (inner r : Access) (arrival : Arrival) → inner.kind ≡ r.kind → is_some_root inner.path.root ≡ true →
+      inner.path ≡ r.path → DoesMeet core quiet (callee_naming n actuals) inner arrival →
+      DoesMeet core quiet n r arrival
+  meets-kept inner r arrival kind some path met =
       let wrong : is_some_root r.path.root ≡ true = ap (λ (p : Path). is_some_root p.root) (sym path) ∙ some in
       record {
         field = met.field;
@@ -121,10 +122,10 @@ module _ (core : Core) (quiet : Quietness core) (n : Naming) (g : FlowContext) (
       }
 
   -- the record's path is put into the caller's values
-  meets-named : (inner r : Access) (top : Arrival) → inner.kind ≡ r.kind → is_some_root inner.path.root ≡ false →
-      (met : DoesMeet core quiet (callee_naming n actuals) inner top) →
-      touched g (value_named actuals (base_path inner.path)) met.field ≡ Some r.path → DoesMeet core quiet n r top
-  meets-named inner r top kind own met path =
+  meets-named : (inner r : Access) (arrival : Arrival) → inner.kind ≡ r.kind → is_some_root inner.path.root ≡ false →
+      (met : DoesMeet core quiet (callee_naming n actuals) inner arrival) →
+      touched g (value_named actuals (base_path inner.path)) met.field ≡ Some r.path → DoesMeet core quiet n r arrival
+  meets-named inner r arrival kind own met path =
       let base : Called = value_named actuals (base_path inner.path) in
       let of : IsPathOf base met.field r.path = touched-is g base met.field r.path path in
       let name : is_some_root r.path.root ≡ false →
@@ -136,25 +137,26 @@ module _ (core : Core) (quiet : Quietness core) (n : Naming) (g : FlowContext) (
         op = met.op ∙ ap (λ (k : Touch). touching k met.field) kind;
         declared = λ known q named. met.declared own q (name known ∙ named);
         base = λ known q named in_q.
-            ap (λ (k : Touch). base_value k top.at) (sym kind) ∙ met.base own q (name known ∙ named) in_q;
+            ap (λ (k : Touch). base_value k arrival.at) (sym kind) ∙ met.base own q (name known ∙ named) in_q;
       }
 
-  pub meets-through : (inner r : Access) (top : Arrival) → inner.kind ≡ r.kind →
-      substituted_path g actuals inner.path ≡ Some r.path → DoesMeet core quiet (callee_naming n actuals) inner top →
-      DoesMeet core quiet n r top
-  meets-through inner r top kind path met =
+  pub meets-through : (inner r : Access) (arrival : Arrival) → inner.kind ≡ r.kind →
+      substituted_path g actuals inner.path ≡ Some r.path →
+      DoesMeet core quiet (callee_naming n actuals) inner arrival →
+      DoesMeet core quiet n r arrival
+  meets-through inner r arrival kind path met =
       let named : Option FieldId → Option Path = λ o. elim o as (λ _. Option Path) [
         | None ↦ None
         | Some f ↦ touched g (along (root_value actuals inner.path.root) (front_of inner.path.fields)) f
       ] in
       elim (is_some_root inner.path.root) as (λ b. is_some_root inner.path.root ≡ b →
-      cond b (Some inner.path) (named (last_of inner.path.fields)) ≡ Some r.path → DoesMeet core quiet n r top) [
-        | true ↦ λ some is. let same : inner.path ≡ r.path = cc in meets-kept inner r top kind some same met
-        | false ↦ λ own is. meets-named inner r top kind own met (ap named (sym met.last) ∙ is)
+      cond b (Some inner.path) (named (last_of inner.path.fields)) ≡ Some r.path → DoesMeet core quiet n r arrival) [
+        | true ↦ λ some is. let same : inner.path ≡ r.path = cc in meets-kept inner r arrival kind some same met
+        | false ↦ λ own is. meets-named inner r arrival kind own met (ap named (sym met.last) ∙ is)
       ] refl path
 
   pub met-through : (inner r : Access) (o : Option Arrival) → inner.kind ≡ r.kind →
       substituted_path g actuals inner.path ≡ Some r.path → IsMet core quiet (callee_naming n actuals) inner o →
       IsMet core quiet n r o
   met-through inner r None kind path met = tt
-  met-through inner r (Some top) kind path met = (met.0, meets-through inner r top kind path met.1)
+  met-through inner r (Some arrival) kind path met = (met.0, meets-through inner r arrival kind path met.1)

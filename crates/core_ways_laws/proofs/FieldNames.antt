@@ -13,7 +13,7 @@ use Rattle.racer_base.specs.declared.limits.TheConstants.{MAX_PATH_FIELDS}
 use Rattle.access_paths.specs.declared.path.Path.{Path}
 use Rattle.access_paths.specs.Paths.{extended}
 use Rattle.access_domain.specs.Findings.{Table}
-use Rattle.access_domain.specs.Given.{given_of, is_plain}
+use Rattle.access_domain.specs.FlowContext.{given_of, is_plain}
 use Rattle.core_code.specs.declared.parts.FieldCore.{FieldCore}
 use Rattle.core_code.specs.Core.{Core}
 use Rattle.core_code.specs.KindCheck.{field_at}

@@ -11,7 +11,7 @@ use Rattle.core_code.specs.declared.code.Op.TheVariants.{Push, PushClass, PushPr
 use Rattle.core_code.specs.declared.code.Op.TheVariants.{Set, Prim, Outside, Call, Unread, Ret}
 use Rattle.core_code.specs.Tree.{Tree, Op, Skip, Seq, Choice, Loop, Sync, can_end, is_return}
 use Rattle.access_domain.specs.Findings.{Findings, Known, Large, Whole}
-use Rattle.access_domain.specs.Given.{FlowContext}
+use Rattle.access_domain.specs.FlowContext.{FlowContext}
 use Rattle.access_domain.specs.Operations.{Effects, popped, call_effects, op_effects}
 use Rattle.access_domain.specs.Flow.{both, after, joined_next, joined_result, flow}
 

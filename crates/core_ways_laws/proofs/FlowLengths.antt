@@ -25,7 +25,7 @@ use Rattle.core_code.specs.KindCheck.{below_fitting, field_at, variable_at, is_b
 use Rattle.core_code.proofs.BoolParts.{last_part}
 use Rattle.core_code.proofs.Membership.{In}
 use Rattle.access_domain.specs.Findings.{Known, Large, Whole, Table}
-use Rattle.access_domain.specs.Given.{FlowContext, given_of}
+use Rattle.access_domain.specs.FlowContext.{FlowContext, given_of}
 use Rattle.access_domain.specs.Operations.{Effects, popped, pushed, replaced, call_effects, op_effects}
 use Rattle.access_domain.specs.Flow.{joined_next, rounds, flow}
 use Rattle.core_ways_laws.proofs.KindFacts.{AreInTurn, AreBeside, IsWithin, then_kinds, either_kinds, loop-kinds}

@@ -9,7 +9,7 @@ use Rattle.owner_domain.specs.declared.value.Value.{Value}
 use Rattle.owner_domain.specs.declared.value.Value.TheVariants.{Owned, Named, Unnamed}
 use Rattle.owner_domain.specs.Values.{names_of}
 use Rattle.access_domain.specs.Findings.{Findings}
-use Rattle.access_domain.specs.Given.{FlowContext}
+use Rattle.access_domain.specs.FlowContext.{FlowContext}
 use Rattle.access_domain.specs.Substitution.{Actuals, value_named, substituted}
 use Rattle.core_code.specs.Core.{Core}
 use Rattle.core_ways_laws.specs.Names.{Naming, name_of, callee_naming}

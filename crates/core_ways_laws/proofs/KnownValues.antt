@@ -14,7 +14,7 @@ use Rattle.owner_domain.specs.declared.value.Value.{Value}
 use Rattle.owner_domain.specs.declared.value.Value.TheVariants.{Owned, Named, Unnamed}
 use Rattle.owner_domain.specs.Values.{along, field_value, has_known_root, joined, joined_state, joined_values}
 use Rattle.owner_domain.specs.Values.{named_or_unnamed, same_value}
-use Rattle.access_domain.specs.Given.{FlowContext, is_plain}
+use Rattle.access_domain.specs.FlowContext.{FlowContext, is_plain}
 use Rattle.access_domain.specs.Operations.{read_value}
 use Rattle.access_domain.specs.Substitution.{Actuals, actuals_from, root_value, substituted_value}
 use Rattle.access_domain.specs.Summaries.{parameter_value, parameter_values, passed_values, start_of}

@@ -9,7 +9,7 @@ use Rattle.access_paths.specs.Paths.{extended, front_of, is_some_root, last_of, 
 use Rattle.owner_domain.specs.declared.value.Value.{Value}
 use Rattle.owner_domain.specs.declared.value.Value.TheVariants.{Owned, Named, Unnamed}
 use Rattle.owner_domain.specs.Values.{along}
-use Rattle.access_domain.specs.Given.{FlowContext}
+use Rattle.access_domain.specs.FlowContext.{FlowContext}
 use Rattle.access_domain.specs.Substitution.{Actuals, root_value, substituted_path}
 use Rattle.access_domain.specs.Substitution.{touched}
 

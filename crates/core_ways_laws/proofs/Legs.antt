@@ -11,7 +11,7 @@ use Rattle.access_domain.specs.OutcomeRecords.{record_at}
 use Rattle.core_semantics.specs.Runs.{given_to}
 use Rattle.core_semantics.specs.State.{Store}
 use Rattle.core_ways.specs.Stable.{IsStable}
-use Rattle.core_ways_laws.specs.Arrivals.{Arrival, top_of}
+use Rattle.core_ways_laws.specs.Arrivals.{Arrival, arrival_of}
 use Rattle.core_ways_laws.specs.Kept.{AreMet, IsEntered, IsMet}
 use Rattle.core_ways_laws.specs.Meets.{DoesMeet, base_path, base_value}
 use Rattle.core_ways_laws.specs.Names.{entry_naming}
@@ -20,7 +20,7 @@ use Rattle.core_ways_laws.specs.Quiet.{Quietness}
 use Rattle.core_ways_laws.specs.QuietEntries.{quietness_of}
 use Rattle.core_ways_laws.proofs.Entries.{entered-entry, hush-entry}
 use Rattle.core_ways_laws.proofs.ProgramFacts.{is_right, known_is_analysed}
-use Rattle.core_ways_laws.proofs.RankedTops.{IsOf, in_at, record-of, tops-met}
+use Rattle.core_ways_laws.proofs.RankedArrivals.{IsOf, in_at, record-of, arrivals-met}
 use Rattle.core_ways_laws.proofs.ShortPaths.{short-record}
 use Rattle.core_ways_laws.proofs.StableMeets.{stable-met}
 
@@ -31,16 +31,16 @@ same-method core m x y a b = let same : Some x ≡ Some y = sym a ∙ b in cc
 -- where the way to a record leads in a leg, the invariant holds, and the access is that of the record
 pub leg-meets : (p : Program) (m1 m2 m : MethodId) (method : Method) (i : ℕ) (r : Access) (t : ℕ) →
     (m ≡ m1) ⊎ (m ≡ m2) → method_at (core p) m ≡ Some method → record_at (core p) m i ≡ Some r → (store : Store)
-    (top : Arrival) → IsStore (core p) (quietness_of (core p) m1 m2) store →
-    top_of (core p) m i (given_to t method) store ≡ Some top →
-    IsStore (core p) (quietness_of (core p) m1 m2) top.at.store ×
-    DoesMeet (core p) (quietness_of (core p) m1 m2) entry_naming r top
-leg-meets p m1 m2 m method i r t which there at store top stored leads =
+    (arrival : Arrival) → IsStore (core p) (quietness_of (core p) m1 m2) store →
+    arrival_of (core p) m i (given_to t method) store ≡ Some arrival →
+    IsStore (core p) (quietness_of (core p) m1 m2) arrival.at.store ×
+    DoesMeet (core p) (quietness_of (core p) m1 m2) entry_naming r arrival
+leg-meets p m1 m2 m method i r t which there at store arrival stored leads =
     let quiet : Quietness (core p) = quietness_of (core p) m1 m2 in
     let of : IsOf (core p) m i r = record-of (core p) m i r at in
     let analysed : is_analysed (core p) m ≡ true =
     known_is_analysed (core p) m method of.found there of.known in
-    let met : AreMet (core p) quiet m (known_of (core p) m) (top_of (core p) m) = tops-met p quiet m analysed in
+    let met : AreMet (core p) quiet m (known_of (core p) m) (arrival_of (core p) m) = arrivals-met p quiet m analysed in
     let entered : IsEntered (core p) quiet entry_naming met.method (given_to t method) store =
     subst (λ (x : Method). IsEntered (core p) quiet entry_naming x (given_to t method) store)
     (same-method (core p) m method met.method there met.there)
@@ -52,15 +52,15 @@ leg-meets p m1 m2 m method i r t which there at store top stored leads =
 -- where its path is stable, the base is the object of the path without its last field at the begin of the run
 pub leg-leads : (p : Program) (m1 m2 m : MethodId) (method : Method) (i : ℕ) (r : Access) (t : ℕ) →
     (m ≡ m1) ⊎ (m ≡ m2) → method_at (core p) m ≡ Some method → record_at (core p) m i ≡ Some r →
-    IsStable (core p) m1 m2 r.path → (store : Store) (top : Arrival) →
+    IsStable (core p) m1 m2 r.path → (store : Store) (arrival : Arrival) →
     IsStore (core p) (quietness_of (core p) m1 m2) store →
-    top_of (core p) m i (given_to t method) store ≡ Some top →
-    IsStore (core p) (quietness_of (core p) m1 m2) top.at.store ×
-    (base_value r.kind top.at ≡ start_object (base_path r.path))
-leg-leads p m1 m2 m method i r t which there at stable store top stored leads =
-    let meets = leg-meets p m1 m2 m method i r t which there at store top stored leads in
+    arrival_of (core p) m i (given_to t method) store ≡ Some arrival →
+    IsStore (core p) (quietness_of (core p) m1 m2) arrival.at.store ×
+    (base_value r.kind arrival.at ≡ start_object (base_path r.path))
+leg-leads p m1 m2 m method i r t which there at stable store arrival stored leads =
+    let meets = leg-meets p m1 m2 m method i r t which there at store arrival stored leads in
     let of : IsOf (core p) m i r = record-of (core p) m i r at in (
       meets.0,
-      stable-met (core p) m1 m2 r top meets.1 stable
+      stable-met (core p) m1 m2 r arrival meets.1 stable
           (short-record (core p) m of.found r of.known (in_at of.found.records i r of.has)),
     )

@@ -4,7 +4,7 @@ pub mod SiteOrder
 pub mod LastFields
 pub mod WaySites
 pub mod ReachedValues
-pub mod RecordTops
+pub mod RecordArrivals
 pub mod WayEnds
 pub mod Accesses
 pub mod CallKept
@@ -29,7 +29,7 @@ pub mod Passing
 pub mod PlaceLists
 pub mod ProgramFacts
 pub mod Ranked
-pub mod RankedTops
+pub mod RankedArrivals
 pub mod Reading
 pub mod RecordShapes
 pub mod RecordSites

@@ -16,7 +16,7 @@ use Rattle.owner_domain.specs.declared.value.State.{State}
 use Rattle.owner_domain.specs.declared.value.Value.{Value as Called}
 use Rattle.owner_domain.specs.declared.value.Value.TheVariants.{Owned, Named, Unnamed}
 use Rattle.access_domain.specs.Findings.{Table}
-use Rattle.access_domain.specs.Given.{given_of}
+use Rattle.access_domain.specs.FlowContext.{given_of}
 use Rattle.access_domain.specs.Operations.{Effects, op_effects, popped, pushed, read_value, replaced, slot_of, top}
 use Rattle.core_code.specs.declared.code.Op.{Op as CoreOp}
 use Rattle.core_code.specs.declared.code.Op.TheVariants.{Push, PushClass, PushPrim, PushNull, New, Dup, Drop, Get, Put}

@@ -14,7 +14,7 @@ use Rattle.core_code.specs.Tree.{Tree, Op, Skip, Seq, Choice, Loop, Sync, Operat
 use Rattle.core_code.proofs.Membership.{In}
 use Rattle.access_domain.specs.Findings.{Table}
 use Rattle.access_domain.specs.Flow.{chosen, flow, lost_next, lost_result, rounds}
-use Rattle.access_domain.specs.Given.{FlowContext, given_of}
+use Rattle.access_domain.specs.FlowContext.{FlowContext, given_of}
 use Rattle.access_domain.specs.Operations.{Effects, op_effects, popped}
 use Rattle.core_ways_laws.specs.Values.{Point, Calls, evaluate, evaluate_op, point_popped}
 use Rattle.core_ways_laws.specs.Kept.{IsGood, IsKept}

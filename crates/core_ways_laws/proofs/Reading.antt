@@ -12,7 +12,7 @@ use Rattle.owner_domain.specs.declared.value.Value.{Value as Called}
 use Rattle.owner_domain.specs.declared.value.Value.TheVariants.{Unnamed}
 use Rattle.owner_domain.specs.Values.{field_value}
 use Rattle.access_domain.specs.Findings.{Table}
-use Rattle.access_domain.specs.Given.{given_of, is_plain}
+use Rattle.access_domain.specs.FlowContext.{given_of, is_plain}
 use Rattle.access_domain.specs.Operations.{read_value}
 use Rattle.core_code.specs.declared.parts.FieldCore.{FieldCore}
 use Rattle.core_code.specs.Core.{Core}

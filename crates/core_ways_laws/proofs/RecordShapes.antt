@@ -21,7 +21,7 @@ use Rattle.owner_domain.specs.Values.{along, joined_state, lost_state}
 use Rattle.access_domain.specs.declared.access.Access.{Access}
 use Rattle.access_domain.specs.Findings.{Findings, Known, Large, Table, Whole, outcome_from}
 use Rattle.access_domain.specs.Flow.{after, both, chosen, flow, joined_next, joined_result, rounds}
-use Rattle.access_domain.specs.Given.{FlowContext, field_at, given_of}
+use Rattle.access_domain.specs.FlowContext.{FlowContext, field_at, given_of}
 use Rattle.access_domain.specs.Operations.{Effects, call_effects, op_effects, passed_from, popped, pushed, read_value}
 use Rattle.access_domain.specs.Operations.{record_of, replaced, slot_of, top}
 use Rattle.access_domain.specs.Records.{first_of_keys, same_key}
@@ -40,10 +40,11 @@ use Rattle.core_code.proofs.Membership.{In, in_append, in_flat_map}
 use Rattle.core_ways_laws.specs.Longer.{longer}
 use Rattle.core_ways_laws.specs.Shapes.{HasOneBehindSome}
 use Rattle.core_ways_laws.proofs.KnownValues.{AreKnownActuals, IsKnown, IsKnownState, known-actuals, known-along}
-use Rattle.core_ways_laws.proofs.KnownValues.{known-drop, known-join, known-passed, known-read, known-result, known-root}
+use Rattle.core_ways_laws.proofs.KnownValues.{known-drop, known-join, known-passed, known-read, known-result}
+use Rattle.core_ways_laws.proofs.KnownValues.{known-root}
 use Rattle.core_ways_laws.proofs.KnownValues.{known-set, known-slot, known-start, known-states}
 use Rattle.core_ways_laws.proofs.Members.{firsts_give}
-use Rattle.core_ways_laws.proofs.RankedTops.{in_at}
+use Rattle.core_ways_laws.proofs.RankedArrivals.{in_at}
 use Rattle.core_ways_laws.proofs.ShortPaths.{in_numbered}
 
 record IsGood (class_of : FieldId → ClassId) (p : Path) : Type 0 where

@@ -12,7 +12,7 @@ use Rattle.core_code.proofs.BoolParts.{first_part, last_part}
 use Rattle.core_code.proofs.Membership.{In, in_from_Contains, find_gives, find_has}
 use Rattle.core_code.proofs.Sites.{counts_from-append, sites_of-then}
 use Rattle.access_domain.specs.declared.access.Access.{Access}
-use Rattle.access_domain.specs.Given.{FlowContext}
+use Rattle.access_domain.specs.FlowContext.{FlowContext}
 use Rattle.access_domain.specs.Flow.{flow}
 use Rattle.access_domain.specs.Origins.{IsOwn, IsOfCallee}
 use Rattle.access_domain.proofs.RecordOrigins.{origin}

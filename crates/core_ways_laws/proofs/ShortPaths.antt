@@ -20,7 +20,7 @@ use Rattle.owner_domain.specs.Values.{along}
 use Rattle.access_domain.specs.declared.access.Access.{Access}
 use Rattle.access_domain.specs.Findings.{Findings, Known, Large, Table, Whole, outcome_from}
 use Rattle.access_domain.specs.Flow.{both, after, rounds, flow}
-use Rattle.access_domain.specs.Given.{FlowContext, given_of}
+use Rattle.access_domain.specs.FlowContext.{FlowContext, given_of}
 use Rattle.access_domain.specs.Operations.{Effects, record_of, passed_from, slot_of, top, popped, call_effects}
 use Rattle.access_domain.specs.Operations.{op_effects}
 use Rattle.access_domain.specs.Records.{first_of_keys, same_key}
@@ -38,7 +38,7 @@ use Rattle.core_code.specs.Tree.{Tree, Op, Skip, Seq, Choice, Loop, Sync}
 use Rattle.core_code.proofs.Membership.{In, in_append, in_flat_map}
 use Rattle.core_ways_laws.specs.Longer.{longer}
 use Rattle.core_ways_laws.proofs.Members.{firsts_give}
-use Rattle.core_ways_laws.proofs.RankedTops.{in_at}
+use Rattle.core_ways_laws.proofs.RankedArrivals.{in_at}
 
 record IsShort (p : Path) : Type 0 where
   limit : length p.fields ≤ MAX_PATH_FIELDS

@@ -8,7 +8,7 @@ use Rattle.owner_domain.specs.declared.value.State.{State}
 use Rattle.access_domain.specs.declared.access.Access.{Access}
 use Rattle.access_domain.specs.Findings.{Table}
 use Rattle.access_domain.specs.Flow.{after as in_turn, both, flow, lost_result, rounds}
-use Rattle.access_domain.specs.Given.{given_of}
+use Rattle.access_domain.specs.FlowContext.{given_of}
 use Rattle.access_domain.specs.Operations.{Effects, op_effects, popped}
 use Rattle.core_code.specs.declared.code.Op.{Op as CoreOp}
 use Rattle.core_code.specs.declared.code.Op.TheVariants.{Call}
@@ -38,12 +38,12 @@ use Rattle.core_ways_laws.proofs.RecordSites.{record-site, site-once, sites_firs
 
 -- what an operation of code needs of the methods that are called: the ways to the callee's records meet them
 abbrev pub IsLed : (core : Core) → Quietness core → Table → Arrivals → CoreOp → Type 0
-IsLed core quiet table tops (Call m count) = AreMet core quiet m (table m) (tops m)
-IsLed core quiet table tops op = Unit {0}
+IsLed core quiet table arrivals (Call m count) = AreMet core quiet m (table m) (arrivals m)
+IsLed core quiet table arrivals op = Unit {0}
 
 abbrev pub AreLed : (core : Core) → Quietness core → Table → Arrivals → Tree → Type 0
-AreLed core quiet table tops code =
-    (o : Operation) → In (steps_of code) o → IsLed core quiet table tops o.op
+AreLed core quiet table arrivals code =
+    (o : Operation) → In (steps_of code) o → IsLed core quiet table arrivals o.op
 
 -- ---- parts of code
 
@@ -98,7 +98,7 @@ module _ (core : Core) (quiet : Quietness core) (n : Naming) (method : Method) (
 
   lock-met : (o : Option Arrival) → Met o → Met (option_map one_lock_more o)
   lock-met None met = tt
-  lock-met (Some top) met = (
+  lock-met (Some arrival) met = (
     met.0,
     record {
       field = met.1.field;
@@ -119,29 +119,29 @@ module _ (core : Core) (quiet : Quietness core) (n : Naming) (method : Method) (
 -- ---- code
 
 module _ (core : Core) (quiet : Quietness core) (n : Naming) (method : Method) (table : Table) (main : Bool)
-    (calls : Calls) (tops : Arrivals) where
+    (calls : Calls) (arrivals : Arrivals) where
   abbrev effects : Tree → Bool → State → Effects
   effects code locked s = flow (given_of core table main) code locked s
 
   step-met : (locked : Bool) (site : SiteId) (op : CoreOp) (kinds ends : List StackKind) (s : State) (at : Point)
-      (r : Access) → is_right_call core op ≡ true → IsLed core quiet table tops op →
+      (r : Access) → is_right_call core op ≡ true → IsLed core quiet table arrivals op →
       kinds_after_op core method op kinds ≡ Some ends →
       AreHushed core quiet n (op_effects (given_of core table main) locked site op s).wobbly →
       IsFrame core quiet n method kinds s at → IsStore core quiet at.store →
       In (op_effects (given_of core table main) locked site op s).records r →
-      IsMet core quiet n r (arrival_at core tops r.below op at)
+      IsMet core quiet n r (arrival_at core arrivals r.below op at)
   step-met locked site (Call m count) kinds ends s at r right meets fits hush frame stored has =
-      call-met core quiet n method table main locked tops site m count kinds ends s at r right meets fits hush frame
+      call-met core quiet n method table main locked arrivals site m count kinds ends s at r right meets fits hush frame
       stored has
   step-met locked site op kinds ends s at r right meets fits hush frame stored has =
-      op-met core quiet n method table main locked tops site op kinds ends s at r refl fits frame stored has
+      op-met core quiet n method table main locked arrivals site op kinds ends s at r refl fits frame stored has
 
   pub towards-met : (code : Tree) → AreRight core code → AreSafe core quiet table calls code →
-      AreLed core quiet table tops code → (k : ℕ) → counts_from k (sites_of code) ≡ true → (locked : Bool)
+      AreLed core quiet table arrivals code → (k : ℕ) → counts_from k (sites_of code) ≡ true → (locked : Bool)
       (kinds ends : List StackKind) (s : State) (at : Point) (r : Access) →
       kinds_after core method code kinds ≡ Some ends → AreHushed core quiet n (effects code locked s).wobbly →
       (effects code locked s).large ≡ false → IsFrame core quiet n method kinds s at → IsStore core quiet at.store →
-      In (effects code locked s).records r → IsMet core quiet n r (to core calls tops r.site r.below code at)
+      In (effects code locked s).records r → IsMet core quiet n r (to core calls arrivals r.site r.below code at)
   towards-met (Op site place op) right safe meets k counts locked kinds ends s at r fits hush small frame stored
       has =
       let o : Operation = record { site = site; place = place; op = op } in
@@ -152,8 +152,9 @@ module _ (core : Core) (quiet : Quietness core) (n : Naming) (method : Method) (
       let right_first : AreRight core first = λ o there. right o (in_early (steps_of first) (steps_of rest) o there) in
       let safe_first : AreSafe core quiet table calls first =
       λ o there. safe o (in_early (steps_of first) (steps_of rest) o there) in
-      let one : Option Arrival = to core calls tops r.site r.below first at in
-      let two : Option Arrival = behind_first (evaluate core calls first at) (to core calls tops r.site r.below rest) in
+      let one : Option Arrival = to core calls arrivals r.site r.below first at in
+      let two : Option Arrival = behind_first (evaluate core calls first at)
+      (to core calls arrivals r.site r.below rest) in
       in-turn-met core quiet n method r (cond (has_site first r.site) one two) (effects first locked s)
       (effects rest locked) hush small has
       (λ hushed few there.
@@ -166,7 +167,7 @@ module _ (core : Core) (quiet : Quietness core) (n : Naming) (method : Method) (
       on-side core quiet n method r (has_site first r.site) false one two
       (site-once k first rest r.site counts (record-site (given_of core table main) rest locked t r there))
       (behind-met core quiet n method r parts.between (effects first locked s) t (evaluate core calls first at)
-      (to core calls tops r.site r.below rest) is
+      (to core calls arrivals r.site r.below rest) is
       (kept core quiet n method table main calls first right_first safe_first locked kinds parts.between s at
       parts.early
       hushed few frame stored)
@@ -180,8 +181,8 @@ module _ (core : Core) (quiet : Quietness core) (n : Naming) (method : Method) (
       let parts : AreBeside core method left right kinds ends = either_kinds core method left right kinds ends fits in
       let each : AreApart core quiet n method table main calls (effects left locked s) (effects right locked s) =
       apart core quiet n method table main calls (effects left locked s) (effects right locked s) hush small in
-      let one : Option Arrival = to core calls tops r.site r.below left at in
-      let two : Option Arrival = to core calls tops r.site r.below right at in
+      let one : Option Arrival = to core calls arrivals r.site r.below left at in
+      let two : Option Arrival = to core calls arrivals r.site r.below right at in
       ⊎_elim
       (λ there.
       on-side core quiet n method r (has_site left r.site) true one two
@@ -210,8 +211,8 @@ module _ (core : Core) (quiet : Quietness core) (n : Naming) (method : Method) (
       absurd cc
   towards-met (Sync lock body) right safe meets k counts locked (kind ∷ kinds) ends s at r fits hush small frame stored
       has =
-      ok-met core quiet n method r _ (option_map one_lock_more (to core calls tops r.site r.below body (point_popped
+      ok-met core quiet n method r _ (option_map one_lock_more (to core calls arrivals r.site r.below body (point_popped
       at 1)))
-      (lock-met core quiet n method r (to core calls tops r.site r.below body (point_popped at 1))
+      (lock-met core quiet n method r (to core calls arrivals r.site r.below body (point_popped at 1))
       (towards-met body right safe meets k counts true kinds ends (popped s 1) (point_popped at 1) r fits hush small
       (popped-frame core quiet n method table main calls kind kinds s at frame) stored has))

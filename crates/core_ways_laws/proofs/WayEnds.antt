@@ -18,11 +18,11 @@ use Rattle.core_ways.specs.Alone.{Alone, Came, Stuck, Broken, ComesTo, IsSeen, a
 use Rattle.core_ways.specs.Ways.{way_of}
 use Rattle.core_ways.proofs.Beside.{beside}
 use Rattle.core_ways_laws.specs.Ends.{EndsAtAccess, IsAtAccess}
-use Rattle.core_ways_laws.specs.RunValues.{IsAtTop, IsOfRecord, IsTop, at_point}
-use Rattle.core_ways_laws.specs.Arrivals.{Arrival, top_of}
+use Rattle.core_ways_laws.specs.RunValues.{IsAtArrival, IsOfRecord, IsArrival, at_point}
+use Rattle.core_ways_laws.specs.Arrivals.{Arrival, arrival_of}
 use Rattle.core_ways_laws.specs.Values.{entry_point}
-use Rattle.core_ways_laws.proofs.ReachedValues.{OnTop}
-use Rattle.core_ways_laws.proofs.RecordTops.{AreInOrder, record-goes, record-so}
+use Rattle.core_ways_laws.proofs.ReachedValues.{OnArrival}
+use Rattle.core_ways_laws.proofs.RecordArrivals.{AreInOrder, record-goes, record-so}
 
 thread-again : (s : State) (t : ℕ) (a : After) → thread_of (with_thread s t a.store a.thread) t ≡ a.thread
 thread-again s t a =
@@ -58,22 +58,23 @@ other-stays s t a =
     ]
 
 module _ (core : Core) (m : MethodId) (i : ℕ) (r : Access) (values : List Value) (s : State) (t : ℕ) where
-  at-top : (a : After) (top : Arrival) → top_of core m i values s.store ≡ Some top → IsAtTop top [] a →
-      IsOfRecord r top →
+  at-arrival : (a : After) (arrival : Arrival) → arrival_of core m i values s.store ≡ Some arrival →
+      IsAtArrival arrival [] a →
+      IsOfRecord r arrival →
       IsAtAccess core m i r values s t (with_thread s t a.store a.thread)
-  at-top a top leads at of =
+  at-arrival a arrival leads at of =
       let to : State = with_thread s t a.store a.thread in
       let frame : Frame = record {
-        vars = top.at.vars;
-        stack = top.at.stack;
-        todo = Op at.place top.op ∷ at.todo;
+        vars = arrival.at.vars;
+        stack = arrival.at.stack;
+        todo = Op at.place arrival.op ∷ at.todo;
         locked = at.locked;
       } in
       let thread : thread_of to t ≡ record { frames = frame ∷ at.callers; locks = at.monitors ++ [] } =
       thread-again s t a ∙ ap (λ (x : After). x.thread) at.is in
       record {
         other = other-stays s t a;
-        top = top;
+        arrival = arrival;
         leads = leads;
         store = store-again s t a ∙ ap (λ (x : After). x.store) at.is;
         frame = frame;
@@ -89,17 +90,17 @@ module _ (core : Core) (m : MethodId) (i : ℕ) (r : Access) (values : List Valu
         held = of.held;
       }
 
-  came-at : (a : After) (o : Option Arrival) → top_of core m i values s.store ≡ o → IsTop o [] a →
-      OnTop (IsOfRecord r) o → IsAtAccess core m i r values s t (with_thread s t a.store a.thread)
+  came-at : (a : After) (o : Option Arrival) → arrival_of core m i values s.store ≡ o → IsArrival o [] a →
+      OnArrival (IsOfRecord r) o → IsAtAccess core m i r values s t (with_thread s t a.store a.thread)
   came-at a None leads at of = absurd at
-  came-at a (Some top) leads at of = at-top a top leads at of
+  came-at a (Some arrival) leads at of = at-arrival a arrival leads at of
 
   ends-so : (alone_run : Alone) (ran : Ran) → IsSeen s t alone_run ran →
-      ComesTo (IsTop (top_of core m i values s.store) []) [] alone_run →
-      OnTop (IsOfRecord r) (top_of core m i values s.store) → EndsAtAccess core m i r values s t ran
+      ComesTo (IsArrival (arrival_of core m i values s.store) []) [] alone_run →
+      OnArrival (IsOfRecord r) (arrival_of core m i values s.store) → EndsAtAccess core m i r values s t ran
   ends-so (Came a left) ran seen comes of =
       subst (EndsAtAccess core m i r values s t) (sym seen)
-      (comes.0, came-at a (top_of core m i values s.store) refl comes.1 of)
+      (comes.0, came-at a (arrival_of core m i values s.store) refl comes.1 of)
   ends-so (Stuck why) ran seen comes of =
       subst (EndsAtAccess core m i r values s t) (sym seen.2) (why, refl)
   ends-so Broken ran seen comes of = absurd cc
@@ -119,13 +120,15 @@ way-ends p m method i r values s t there at entry free =
     let start : After = at_point (entry_point method values s.store) (before method.code []) 0 [] [] in
     let begins : part_of s t ≡ start =
     (λ k. let a : After = record { store = s.store; thread = entry k } in a) in
-    let goes : ComesTo (IsTop (top_of core m i values s.store) []) [] (alone core way.steps (way.turns ++ []) start) =
+    let goes : ComesTo (IsArrival (arrival_of core m i values s.store) []) []
+    (alone core way.steps (way.turns ++ []) start) =
     record-goes core facts (suc (rank_of core m)) m i (omega arith) method r there at values s.store [] [] [] in
     ends-so core m i r values s t (alone core way.steps way.turns (part_of s t))
     (runs core t way.steps way.turns s) (beside core t way.steps way.turns s free)
     (subst (λ (a : After).
-    ComesTo (IsTop (top_of core m i values s.store) []) [] (alone core way.steps way.turns a)) (sym begins)
+    ComesTo (IsArrival (arrival_of core m i values s.store) []) [] (alone core way.steps way.turns a)) (sym begins)
     (subst (λ (ts : List Turn).
-    ComesTo (IsTop (top_of core m i values s.store) []) [] (alone core way.steps ts start)) (append-nil way.turns)
+    ComesTo (IsArrival (arrival_of core m i values s.store) []) [] (alone core way.steps ts start))
+    (append-nil way.turns)
     goes))
     (record-so core facts (suc (rank_of core m)) m method i r (omega arith) there at values s.store)

@@ -30,7 +30,7 @@ use Rattle.core_code.proofs.Membership.{In, in_append, in_enumerate_from, in_fla
 use Rattle.access_domain.specs.declared.access.Access.{Access}
 use Rattle.access_domain.specs.Findings.{Findings, Known, Large, Table, Whole}
 use Rattle.access_domain.specs.Flow.{after, both as both_effects, flow, joined_next, rounds}
-use Rattle.access_domain.specs.Given.{FlowContext, given_of}
+use Rattle.access_domain.specs.FlowContext.{FlowContext, given_of}
 use Rattle.access_domain.specs.Operations.{Effects, call_effects, op_effects, passed_from, popped, record_of, slot_of}
 use Rattle.access_domain.specs.Operations.{top}
 use Rattle.access_domain.specs.Origins.{touch_of}

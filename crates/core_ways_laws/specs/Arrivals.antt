@@ -29,21 +29,21 @@ abbrev pub Arrivals : Type 0
 Arrivals = MethodId → ℕ → List Value → Store → Option Arrival
 
 abbrev pub one_lock_more : Arrival → Arrival
-one_lock_more top = record { op = top.op; at = top.at; locks = suc top.locks }
+one_lock_more arrival = record { op = arrival.op; at = arrival.at; locks = suc arrival.locks }
 
 -- the callee is entered towards its record of this index
 abbrev pub enter : Core → Arrivals → ℕ → CoreOp → Point → Option Arrival
-enter core tops j (Call m n) at =
+enter core arrivals j (Call m n) at =
     elim (method_at core m) [
       | None ↦ None
-      | Some method ↦ received method (values_passed at n) (tops m j (values_passed at n) at.store)
+      | Some method ↦ received method (values_passed at n) (arrivals m j (values_passed at n) at.store)
     ]
-enter core tops j op at = None
+enter core arrivals j op at = None
 
 -- the operation at the site: the access itself, or the call that leads to it
 abbrev pub arrival_at : Core → Arrivals → Option ℕ → CoreOp → Point → Option Arrival
-arrival_at core tops None op at = Some (record { op = op; at = at; locks = 0 })
-arrival_at core tops (Some j) op at = enter core tops j op at
+arrival_at core arrivals None op at = Some (record { op = op; at = at; locks = 0 })
+arrival_at core arrivals (Some j) op at = enter core arrivals j op at
 
 abbrev pub behind_first : Option End → (Point → Option Arrival) → Option Arrival
 behind_first None rest = None
@@ -52,33 +52,33 @@ behind_first (Some (Back store value)) rest = None
 
 -- where code leads towards a site
 abbrev pub to : Core → Calls → Arrivals → SiteId → Option ℕ → Tree → Point → Option Arrival
-to core calls tops site below (Op here place op) at = arrival_at core tops below op at
-to core calls tops site below Skip at = None
-to core calls tops site below (Seq first rest) at =
+to core calls arrivals site below (Op here place op) at = arrival_at core arrivals below op at
+to core calls arrivals site below Skip at = None
+to core calls arrivals site below (Seq first rest) at =
     if has_site first site
-    then to core calls tops site below first at
-    else behind_first (evaluate core calls first at) (to core calls tops site below rest)
-to core calls tops site below (Choice left right) at =
+    then to core calls arrivals site below first at
+    else behind_first (evaluate core calls first at) (to core calls arrivals site below rest)
+to core calls arrivals site below (Choice left right) at =
     if has_site left site
-    then to core calls tops site below left at
-    else to core calls tops site below right at
-to core calls tops site below (Loop body) at = to core calls tops site below body at
-to core calls tops site below (Sync lock body) at =
+    then to core calls arrivals site below left at
+    else to core calls arrivals site below right at
+to core calls arrivals site below (Loop body) at = to core calls arrivals site below body at
+to core calls arrivals site below (Sync lock body) at =
     on_ok (monitor_of lock.kind (top_value at))
-    (option_map one_lock_more (to core calls tops site below body (point_popped at 1)))
+    (option_map one_lock_more (to core calls arrivals site below body (point_popped at 1)))
 
 abbrev pub to_record : Core → Arrivals → Option Access → Method → List Value → Store → Option Arrival
-to_record core tops None method values store = None
-to_record core tops (Some r) method values store =
-    to core (call_of core) tops r.site r.below method.code (entry_point method values store)
+to_record core arrivals None method values store = None
+to_record core arrivals (Some r) method values store =
+    to core (call_of core) arrivals r.site r.below method.code (entry_point method values store)
 
-abbrev pub top_given : Core → Arrivals → Arrivals
-top_given core tops m i values store =
+abbrev pub arrival_given : Core → Arrivals → Arrivals
+arrival_given core arrivals m i values store =
     elim (method_at core m) [
       | None ↦ None
-      | Some method ↦ to_record core tops (record_at core m i) method values store
+      | Some method ↦ to_record core arrivals (record_at core m i) method values store
     ]
 
 -- where the way to a record of a method leads, from its entry with these values
-abbrev pub top_of : Core → Arrivals
-top_of core = closed_by_rank (λ i values store. None) (top_given core) core
+abbrev pub arrival_of : Core → Arrivals
+arrival_of core = closed_by_rank (λ i values store. None) (arrival_given core) core

@@ -13,7 +13,7 @@ use Rattle.core_semantics.specs.Legs.{Ran, Came, Halted, StuckFor}
 use Rattle.core_semantics.specs.Runs.{innermost, next_of}
 use Rattle.core_semantics.specs.State.{Frame, State, Op, other_of, thread_of}
 use Rattle.core_ways_laws.specs.Sites.{field_of}
-use Rattle.core_ways_laws.specs.Arrivals.{Arrival, top_of}
+use Rattle.core_ways_laws.specs.Arrivals.{Arrival, arrival_of}
 
 -- A thread has come just before the access of a record, from a state in which it was at the entry of the record's
 -- method with these values. The next operation touches the last field of the record's path in the way of its kind; the
@@ -22,19 +22,19 @@ use Rattle.core_ways_laws.specs.Arrivals.{Arrival, top_of}
 pub record IsAtAccess (core : Core) (m : MethodId) (i : ℕ) (r : Access) (values : List Value) (s : State) (t : ℕ)
     (to : State) : Type 0 where
   pub other : other_of to t ≡ other_of s t
-  pub top : Arrival
-  pub leads : top_of core m i values s.store ≡ Some top
-  pub store : to.store ≡ top.at.store
+  pub arrival : Arrival
+  pub leads : arrival_of core m i values s.store ≡ Some arrival
+  pub store : to.store ≡ arrival.at.store
   pub frame : Frame
   pub innermost : innermost to t ≡ Some frame
-  pub vars : frame.vars ≡ top.at.vars
-  pub stack : frame.stack ≡ top.at.stack
+  pub vars : frame.vars ≡ arrival.at.vars
+  pub stack : frame.stack ≡ arrival.at.stack
   pub place : Place
-  pub next : next_of frame ≡ Some (Op place top.op)
-  pub touches : touch_of top.op ≡ Some r.kind
-  pub field : field_of top.op ≡ last_of r.path.fields
-  pub locks : length (thread_of to t).locks ≡ top.locks
-  pub held : nat_lt 0 top.locks ≡ r.locked
+  pub next : next_of frame ≡ Some (Op place arrival.op)
+  pub touches : touch_of arrival.op ≡ Some r.kind
+  pub field : field_of arrival.op ≡ last_of r.path.fields
+  pub locks : length (thread_of to t).locks ≡ arrival.locks
+  pub held : nat_lt 0 arrival.locks ≡ r.locked
 
 -- the run uses all of its turns and comes just before the access, or it is stuck; it is never held, ended or short of
 -- turns

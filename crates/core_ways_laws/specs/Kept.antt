@@ -69,14 +69,14 @@ pub record IsGood (core : Core) (quiet : Quietness core) (m : MethodId) (known :
 -- where a way to a record leads, if it is not stuck, the access is that of the record
 abbrev pub IsMet : (core : Core) → Quietness core → Naming → Access → Option Arrival → Type 0
 IsMet core quiet n r None = Unit {0}
-IsMet core quiet n r (Some top) = IsStore core quiet top.at.store × DoesMeet core quiet n r top
+IsMet core quiet n r (Some arrival) = IsStore core quiet arrival.at.store × DoesMeet core quiet n r arrival
 
 -- each way to a record of a method, of which this is known, leads to the record's access
 pub record AreMet (core : Core) (quiet : Quietness core) (m : MethodId) (known : Option Known)
-    (tops : ℕ → List Value → Store → Option Arrival) : Type 0 where
+    (arrivals : ℕ → List Value → Store → Option Arrival) : Type 0 where
   pub method : Method
   pub there : method_at core m ≡ Some method
   pub begins : begins_with (taken_by method) method.variables ≡ true
   pub meets : (found : Findings) → known ≡ Some (Whole found) → (n : Naming) (values : List Value) (store : Store) →
       IsEntered core quiet n method values store → IsStore core quiet store → AreHushed core quiet n found.wobbly →
-      (j : ℕ) (r : Access) → slice_get found.records j ≡ Some r → IsMet core quiet n r (tops j values store)
+      (j : ℕ) (r : Access) → slice_get found.records j ≡ Some r → IsMet core quiet n r (arrivals j values store)

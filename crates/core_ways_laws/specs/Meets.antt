@@ -37,11 +37,11 @@ base_path p = record { root = p.root; fields = front_of p.fields }
 
 -- what comes next is the access of a record: it touches the record's field, and where the base of the record's path has
 -- a quiet name it touches the object of that name
-pub record DoesMeet (core : Core) (quiet : Quietness core) (n : Naming) (r : Access) (top : Arrival) : Type 0 where
+pub record DoesMeet (core : Core) (quiet : Quietness core) (n : Naming) (r : Access) (arrival : Arrival) : Type 0 where
   pub field : FieldId
   pub last : last_of r.path.fields ≡ Some field
-  pub op : top.op ≡ touching r.kind field
+  pub op : arrival.op ≡ touching r.kind field
   pub declared : is_some_root r.path.root ≡ false → (q : Path) → name_of n (Named (base_path r.path)) ≡ Some q →
       IsTrue (are_declared core q)
   pub base : is_some_root r.path.root ≡ false → (q : Path) → name_of n (Named (base_path r.path)) ≡ Some q →
-      quiet.IsIn q → base_value r.kind top.at ≡ start_object q
+      quiet.IsIn q → base_value r.kind arrival.at ≡ start_object q

@@ -21,7 +21,7 @@ use Rattle.core_ways.specs.Alone.{LeadsTo, here}
 use Rattle.core_ways.specs.Ways.{Trip, entered, passed, reached, trip_along, way_of}
 use Rattle.core_ways_laws.specs.Values.{Behind, Back, Calls, End, Point, entry_point, evaluate}
 use Rattle.core_ways_laws.specs.Sites.{field_of}
-use Rattle.core_ways_laws.specs.Arrivals.{Arrival, top_of}
+use Rattle.core_ways_laws.specs.Arrivals.{Arrival, arrival_of}
 
 -- a thread whose innermost frame is at a point
 abbrev pub at_point : Point → List Todo → ℕ → List Frame → List Holder → After
@@ -61,18 +61,18 @@ MethodGoes core trips calls m =
     (IsBack (calls m values store) callers locks)
 
 -- the next operation is this one, at its point, and the thread holds as many monitors more as it has gone into locks
-pub record IsAtTop (top : Arrival) (locks : List Holder) (a : After) : Type 0 where
+pub record IsAtArrival (arrival : Arrival) (locks : List Holder) (a : After) : Type 0 where
   pub place : Place
   pub todo : List Todo
   pub locked : ℕ
   pub callers : List Frame
   pub monitors : List Holder
-  pub count : length monitors ≡ top.locks
-  pub is : a ≡ at_point top.at (Op place top.op ∷ todo) locked callers (monitors ++ locks)
+  pub count : length monitors ≡ arrival.locks
+  pub is : a ≡ at_point arrival.at (Op place arrival.op ∷ todo) locked callers (monitors ++ locks)
 
-abbrev pub IsTop : Option Arrival → List Holder → After → Type 0
-IsTop None locks a = ⊥
-IsTop (Some top) locks a = IsAtTop top locks a
+abbrev pub IsArrival : Option Arrival → List Holder → After → Type 0
+IsArrival None locks a = ⊥
+IsArrival (Some arrival) locks a = IsAtArrival arrival locks a
 
 -- an operation that is gone towards leads to what comes next there
 abbrev pub Arrives : Core → (MethodId → Trip) → (MethodId → ℕ → List WayPart) → Option ℕ → CoreOp →
@@ -80,7 +80,7 @@ abbrev pub Arrives : Core → (MethodId → Trip) → (MethodId → ℕ → List
 Arrives core trips ways below op next =
     (place : Place) (locked : ℕ) (at : Point) (todo : List Todo) (callers : List Frame) (locks : List Holder) →
     LeadsTo core (trip_along trips (entered ways below op)).turns (trip_along trips (entered ways below op)).steps
-    (at_point at (Op place op ∷ todo) locked callers locks) (IsTop (next at) locks)
+    (at_point at (Op place op ∷ todo) locked callers locks) (IsArrival (next at) locks)
 
 -- code that is gone into towards a site, where this operation is, leads to what comes next there
 abbrev pub GoesTo : Core → (MethodId → Trip) → (MethodId → ℕ → List WayPart) → SiteId → Option ℕ → CoreOp → Tree →
@@ -89,7 +89,7 @@ GoesTo core trips ways site below op code next =
     (locked : ℕ) (at : Point) (todo : List Todo) (callers : List Frame) (locks : List Holder) →
     LeadsTo core (trip_along trips (reached locked site code ++ entered ways below op)).turns
     (trip_along trips (reached locked site code ++ entered ways below op)).steps
-    (at_point at (before code todo) locked callers locks) (IsTop (next at) locks)
+    (at_point at (before code todo) locked callers locks) (IsArrival (next at) locks)
 
 -- a method that is gone into towards a record leads to what comes next there
 abbrev pub RecordGoes : Core → MethodId → ℕ → Type 0
@@ -98,10 +98,10 @@ RecordGoes core m i =
     (values : List Value) (store : Store) (callers : List Frame) (locks : List Holder) →
     LeadsTo core (way_of core m i).turns (way_of core m i).steps
     (at_point (entry_point method values store) (before method.code []) 0 callers locks)
-    (IsTop (top_of core m i values store) locks)
+    (IsArrival (arrival_of core m i values store) locks)
 
 -- what comes next is the access of a record: it touches what the record says, within locks where the record is locked
-pub record IsOfRecord (r : Access) (top : Arrival) : Type 0 where
-  pub touches : touch_of top.op ≡ Some r.kind
-  pub field : field_of top.op ≡ last_of r.path.fields
-  pub held : nat_lt 0 top.locks ≡ r.locked
+pub record IsOfRecord (r : Access) (arrival : Arrival) : Type 0 where
+  pub touches : touch_of arrival.op ≡ Some r.kind
+  pub field : field_of arrival.op ≡ last_of r.path.fields
+  pub held : nat_lt 0 arrival.locks ≡ r.locked

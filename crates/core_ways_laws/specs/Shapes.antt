@@ -3,7 +3,7 @@ use Rattle.std.specs.Prelude.{◌≡◌, ◌≤◌, List, [], ◌∷◌, length}
 use Rattle.racer_base.specs.declared.ids.ClassId.{ClassId}
 use Rattle.racer_base.specs.declared.ids.FieldId.{FieldId}
 use Rattle.racer_base.specs.declared.limits.TheConstants.{MAX_PATH_FIELDS}
-use Rattle.access_domain.specs.Given.{field_at}
+use Rattle.access_domain.specs.FlowContext.{field_at}
 use Rattle.access_paths.specs.declared.path.Path.{Path}
 use Rattle.access_paths.specs.declared.path.Root.TheVariants.{Some as SomeOf}
 use Rattle.core_code.specs.Core.{Core}

@@ -9,7 +9,7 @@ use Rattle.core_code.specs.Tree.{Tree, Operation, op_at}
 use Rattle.access_paths.specs.Paths.{last_of}
 use Rattle.access_domain.specs.declared.access.Access.{Access}
 use Rattle.access_domain.specs.Findings.{Findings, Whole}
-use Rattle.access_domain.specs.Given.{FlowContext}
+use Rattle.access_domain.specs.FlowContext.{FlowContext}
 use Rattle.access_domain.specs.Origins.{touch_of}
 use Rattle.core_ways.specs.Alone.{do_end_before, locks_round}
 

@@ -10,7 +10,7 @@ ghost use Rattle.access_domain.specs.OutcomeRecords.{record_at};
 ghost use Rattle.core_semantics.specs.Runs.{given_to};
 ghost use Rattle.core_semantics.specs.State.{Store};
 ghost use Rattle.core_ways.specs.Stable.{IsStable};
-ghost use Rattle.core_ways_laws.specs.Arrivals.{Arrival, top_of};
+ghost use Rattle.core_ways_laws.specs.Arrivals.{Arrival, arrival_of};
 ghost use Rattle.core_ways_laws.specs.Meets.{DoesMeet, base_path, base_value};
 ghost use Rattle.core_ways_laws.specs.Names.{entry_naming};
 ghost use Rattle.core_ways_laws.specs.Places.{IsStore, start_object};
@@ -24,17 +24,17 @@ ghost use Rattle.core_ways_laws.specs.Shapes.{IsPath};
 pub fn legs_meet_records()
     ensures meets { (p : Program) (m1 m2 m : MethodId) (method : Method) (i : ℕ) (r : Access) (t : ℕ) →
         (m ≡ m1) ⊎ (m ≡ m2) → method_at (core p) m ≡ Some method → record_at (core p) m i ≡ Some r →
-        (store : Store) (top : Arrival) → IsStore (core p) (quietness_of (core p) m1 m2) store →
-        top_of (core p) m i (given_to t method) store ≡ Some top →
-        IsStore (core p) (quietness_of (core p) m1 m2) top.at.store
-        × DoesMeet (core p) (quietness_of (core p) m1 m2) entry_naming r top }
+        (store : Store) (arrival : Arrival) → IsStore (core p) (quietness_of (core p) m1 m2) store →
+        arrival_of (core p) m i (given_to t method) store ≡ Some arrival →
+        IsStore (core p) (quietness_of (core p) m1 m2) arrival.at.store
+        × DoesMeet (core p) (quietness_of (core p) m1 m2) entry_naming r arrival }
     ensures stable { (p : Program) (m1 m2 m : MethodId) (method : Method) (i : ℕ) (r : Access) (t : ℕ) →
         (m ≡ m1) ⊎ (m ≡ m2) → method_at (core p) m ≡ Some method → record_at (core p) m i ≡ Some r →
-        IsStable (core p) m1 m2 r.path → (store : Store) (top : Arrival) →
+        IsStable (core p) m1 m2 r.path → (store : Store) (arrival : Arrival) →
         IsStore (core p) (quietness_of (core p) m1 m2) store →
-        top_of (core p) m i (given_to t method) store ≡ Some top →
-        IsStore (core p) (quietness_of (core p) m1 m2) top.at.store
-        × (base_value r.kind top.at ≡ start_object (base_path r.path)) }
+        arrival_of (core p) m i (given_to t method) store ≡ Some arrival →
+        IsStore (core p) (quietness_of (core p) m1 m2) arrival.at.store
+        × (base_value r.kind arrival.at ≡ start_object (base_path r.path)) }
 {}
 
 /// The path of each record is a path: it has at most as many fields as a path may have, and where it begins at some

@@ -6,7 +6,7 @@ ghost use Rattle.core_code.specs.Calls.{is_analysed, method_at};
 ghost use Rattle.core_code.specs.Core.{Method};
 ghost use Rattle.core_code.specs.Program.{core};
 ghost use Rattle.access_domain.specs.declared.access.Access.{Access};
-ghost use Rattle.access_domain.specs.Given.{given_of};
+ghost use Rattle.access_domain.specs.FlowContext.{given_of};
 ghost use Rattle.access_domain.specs.Summaries.{known_of};
 ghost use Rattle.access_domain.specs.OutcomeRecords.{record_at};
 ghost use Rattle.core_semantics.specs.declared.object.Value.{Value};

@@ -243,7 +243,12 @@ impl SiteWays {
     }
 
     /// Goes the way to a record.
-    fn go(&mut self, program: &Program, outcomes: &Outcomes, target: Target) -> Result<Gone, Memory>
+    fn go_to_record(
+        &mut self,
+        program: &Program,
+        outcomes: &Outcomes,
+        target: Target,
+    ) -> Result<Gone, Memory>
         requires outcomes { AreOutcomes (core program.now) outcomes.now.items }
         requires known { IsKnown (core program.now) self.old }
         ensures known { OnOk result (IsKnown (core program.now) self.new) }
@@ -284,8 +289,8 @@ impl SiteWays {
         ensures both { IfOk result (λ both. IsWayPair (way_of (core program.now) first.method first.access)
             (way_of (core program.now) second.method second.access) both) }
     {
-        let first = self.go(program, outcomes, first)?;
-        let second = self.go(program, outcomes, second)?;
+        let first = self.go_to_record(program, outcomes, first)?;
+        let second = self.go_to_record(program, outcomes, second)?;
         both(first, second)
     }
 }

@@ -1,4 +1,4 @@
 pub mod Turns
 pub mod After
-pub mod Found
+pub mod CompleteTables
 pub mod Passing

@@ -1,5 +1,5 @@
 //! Trees with their nesting.
-ghost use Rattle.std.specs.Prelude.{◌≡◌, ◌≤◌, ◌++◌, ◌∷◌, [], Some, length, map, IfOk, IfErr};
+ghost use Rattle.std.specs.Prelude.{◌≡◌, ◌≤◌, ◌++◌, ◌∷◌, [], Some, length, map, IfOk, IfErr, OnErr};
 ghost use Rattle.java_tree.specs.KeptPlaces.{kept, expr_places, init_places};
 ghost use Rattle.java_tree.specs.Nesting.{ty_nesting, base_nesting, part_nesting, angled_nesting, argument_nesting};
 ghost use Rattle.java_tree.specs.Nesting.{expr_nesting, exprs_nesting, array_nesting, init_nesting};
@@ -79,6 +79,7 @@ impl NestedExpression {
 pub fn push_tree<T: Drop>(trees: &mut Vec<T>, tree: Box<T>) -> Result<(), ReadError>
     ensures items { IfOk result (λ _. trees.new.items ≡ trees.old.items ++ tree.value ∷ []) }
     ensures memory { IfErr result (λ e. e ≡ Memory) }
+    ensures err { OnErr result (trees.new.items ≡ trees.old.items) }
 {
     trees.push(Box::into_inner(tree))?;
     Ok(())

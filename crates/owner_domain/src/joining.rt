@@ -1,5 +1,5 @@
 //! The join of two states.
-ghost use Rattle.std.specs.Prelude.{◌≡◌, ◌++◌, IfOk, OnOk};
+ghost use Rattle.std.specs.Prelude.{◌≡◌, ◌++◌, length, take, IfOk, OnOk, OnErr};
 ghost use Rattle.owner_domain.specs.Values.{names_of, joined, lost, joined_values, lost_values, joined_state};
 ghost use Rattle.owner_domain.specs.Values.{lost_state};
 
@@ -42,6 +42,7 @@ fn join_values(
 }
 
 /// The value where two meet. Puts the paths that are lost there at the end: those that two different values name.
+/// After a refusal what was there is a front of what is there.
 pub fn join_value(
     alloc: Global,
     a: &Value,
@@ -50,6 +51,7 @@ pub fn join_value(
 ) -> Result<Value, Memory>
     ensures value { IfOk result (λ made. made ≡ joined a.now b.now) }
     ensures lost { OnOk result (names.new.items ≡ names.old.items ++ lost a.now b.now) }
+    ensures err { OnErr result (take (length names.old.items) names.new.items ≡ names.old.items) }
 {
     if a == b {
         return a.copied(alloc);
@@ -61,7 +63,8 @@ pub fn join_value(
 
 /// Puts the path of a named value at the end.
 fn lose(alloc: Global, value: &Value, names: &mut Vec<Path>) -> Result<(), Memory>
-    ensures { OnOk result (names.new.items ≡ names.old.items ++ names_of value.now) }
+    ensures lost { OnOk result (names.new.items ≡ names.old.items ++ names_of value.now) }
+    ensures err { OnErr result (names.new.items ≡ names.old.items) }
 {
     match value {
         Value::Named(path) => {

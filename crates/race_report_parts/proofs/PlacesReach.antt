@@ -1,6 +1,7 @@
 -- The places of a record end at its access: as many turns are enough as there are methods, since the rank of a method
 -- falls with each call.
-use Rattle.std.proofs.Common.{◌≡◌, ℕ, zero, suc, ◌<◌, ◌≤◌, Bool, true, false, ◌||◌, ⊎_elim, List, [], ◌∷◌, Option, None, Some}
+use Rattle.std.proofs.Common.{◌≡◌, ℕ, zero, suc, ◌<◌, ◌≤◌, Bool, true, false, ◌||◌, ⊎_elim, List, [], ◌∷◌, Option}
+use Rattle.std.proofs.Common.{None, Some}
 use Rattle.std.proofs.Common.{length, map, nat_lt, option_map, slice_get, refl, sym, ap, subst, ◌∙◌, arith}
 use Rattle.std.proofs.lemmas.Option.{slice_get_within}
 use Rattle.std.specs.List.{find}
@@ -18,17 +19,19 @@ use Rattle.core_code.specs.Tree.{Operation, op_at, steps_of}
 use Rattle.core_code.proofs.Membership.{In, find_gives}
 use Rattle.access_domain.specs.declared.access.Access.{Access}
 use Rattle.access_domain.specs.Findings.{Known, Whole, outcome_from}
-use Rattle.access_domain.specs.Given.{FlowContext, given_of}
+use Rattle.access_domain.specs.FlowContext.{FlowContext, given_of}
 use Rattle.access_domain.specs.Summaries.{known_of}
 use Rattle.access_domain.specs.OutcomeRecords.{records_held, records_of}
 use Rattle.core_ways.specs.Alone.{locks_round}
 use Rattle.race_pairs.specs.declared.warning.Warning.{Warning}
 use Rattle.core_ways_laws.specs.Sites.{IsRecordOf, IsThrough, IsTouch}
-use Rattle.core_ways_laws.proofs.ProgramFacts.{IsRight, IsRightCall, is_right, known_is_analysed, lower_call, right_call}
-use Rattle.core_ways_laws.proofs.RankedTops.{IsOf, record-of as findings-of}
+use Rattle.core_ways_laws.proofs.ProgramFacts.{IsRight, IsRightCall, is_right, known_is_analysed, lower_call}
+use Rattle.core_ways_laws.proofs.ProgramFacts.{right_call}
+use Rattle.core_ways_laws.proofs.RankedArrivals.{IsOf, record-of as findings-of}
 use Rattle.access_paths.specs.Paths.{last_of}
-use Rattle.core_ways_laws.proofs.RecordTops.{record-comes}
-use Rattle.race_report_parts.specs.Places.{OwnedRecord, callee_of, operation_at, places_of, places_within, owned_record_at, record_below}
+use Rattle.core_ways_laws.proofs.RecordArrivals.{record-comes}
+use Rattle.race_report_parts.specs.Places.{OwnedRecord, callee_of, operation_at, places_of, places_within}
+use Rattle.race_report_parts.specs.Places.{owned_record_at, record_below}
 use Rattle.race_report_parts.specs.Reaching.{DoesReach}
 use Rattle.race_report_parts.specs.Told.{Side, Sides, side_from, side_of, sides_from, sides_of}
 

@@ -10,11 +10,11 @@ use Rattle.witness_text.specs.Replaying.{DoWitnessesReplay, IsRacing}
 use Rattle.racer_sources.specs.OneReading.{OneSource}
 use Rattle.racer_sources.specs.Sources.{contents, source_names}
 use Rattle.racer_sources.specs.Programs.{Source, Accepted, IsProgram}
-use Rattle.racer_run.specs.declared.said.RunOutput.{RunOutput}
+use Rattle.racer_run.specs.declared.output.RunOutput.{RunOutput}
 use Rattle.racer_run.specs.declared.status.Status.{Status}
 use Rattle.racer_run.specs.declared.status.Status.TheVariants.{Clean}
 use Rattle.racer_run.specs.Words.{WantedReport, WantedReplay, Request, ReportOn, ReplayOf}
-use Rattle.racer_run.specs.Said.{HasReplays, SaysReport}
+use Rattle.racer_run.specs.RunOutputs.{HasReplays, SaysReport}
 use Rattle.racer_run.specs.Replays.{IsReplaySaid, SaysReplay, file_said, json_of, json_said, not_a_witness, replay_said}
 use Rattle.racer_run.specs.Replays.{verdict_said}
 use Rattle.racer_run.specs.Causes.{Invocation, Wrote, IsWhole, IsWholeAnswer}

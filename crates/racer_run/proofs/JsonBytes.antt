@@ -14,7 +14,7 @@ use Rattle.witness_text_files.specs.Files.{File, file_of}
 use Rattle.witness_text_files.specs.declared.fault.Field.{Field}
 use Rattle.witness_text.specs.Lines.{field_name}
 use Rattle.witness_text.specs.Verdicts.{verdict}
-use Rattle.racer_run.specs.declared.said.RunOutput.{RunOutput}
+use Rattle.racer_run.specs.declared.output.RunOutput.{RunOutput}
 use Rattle.std.specs.FinMap.{get}
 use Rattle.std.specs.Option.{IfSome}
 use Rattle.racer_base.specs.Outside.{Told}

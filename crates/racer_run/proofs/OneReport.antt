@@ -4,11 +4,11 @@ use Rattle.std.proofs.Common.{◌≡◌, ◌≢◌, ℕ, Bool, false, List, [], 
 use Rattle.racer_base.specs.Outside.{Told, Files, taken_and}
 use Rattle.racer_sources.specs.OneReading.{OneSource}
 use Rattle.racer_sources.specs.Programs.{Source, Refusal, Accepted}
-use Rattle.racer_run.specs.declared.said.RunOutput.{RunOutput}
+use Rattle.racer_run.specs.declared.output.RunOutput.{RunOutput}
 use Rattle.racer_run.specs.declared.status.Status.{Status}
 use Rattle.racer_run.specs.declared.status.Status.TheVariants.{Memory}
 use Rattle.racer_run.specs.Words.{WantedReport, Request, ReportOn, ReplayOf, MadeOf, request_of}
-use Rattle.racer_run.specs.Said.{IsBehind, IsTail, SaysReport, said_from}
+use Rattle.racer_run.specs.RunOutputs.{IsBehind, IsTail, SaysReport, said_from}
 use Rattle.racer_run.specs.Causes.{Invocation, Wrote, IsAnswer, IsCause, IsWhole, IsWholeAnswer}
 use Rattle.racer_run.specs.Reports.{AsksNoHistory, WroteOneReport}
 use Rattle.racer_run.proofs.OneStatus.{Due, by_usage, by_fault, by_said, due_of, usage_due}

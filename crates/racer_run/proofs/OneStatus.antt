@@ -7,12 +7,12 @@ use Rattle.racer_base.specs.Outside.{Told, Files}
 use Rattle.race_report.specs.declared.mode.Mode.{Mode}
 use Rattle.racer_sources.specs.OneReading.{OneSource}
 use Rattle.racer_sources.specs.Programs.{Source, Refusal, Accepted}
-use Rattle.racer_run.specs.declared.said.RunOutput.{RunOutput}
+use Rattle.racer_run.specs.declared.output.RunOutput.{RunOutput}
 use Rattle.racer_run.specs.declared.status.Status.{Status}
 use Rattle.racer_run.specs.declared.status.Status.TheVariants.{Clean, Warned, Usage, FolderFault, SinkFault, Refused}
 use Rattle.racer_run.specs.declared.status.Status.TheVariants.{Memory, NoRace, NotAWitness}
 use Rattle.racer_run.specs.Words.{WantedReport, WantedReplay, WantedMade, Request, ReportOn, ReplayOf, MadeOf, request_of}
-use Rattle.racer_run.specs.Said.{SaysReport, said_from, usage_text}
+use Rattle.racer_run.specs.RunOutputs.{SaysReport, said_from, usage_text}
 use Rattle.racer_run.specs.Replays.{IsReplaySaid, SaysReplay, replay_said}
 use Rattle.racer_run.specs.Made.{SaysMade, made_files, made_said}
 use Rattle.racer_run.specs.Causes.{Invocation, Wrote, IsUsage, IsFault, IsSaid, IsDue, IsAnswer, IsCut, IsCause, Says}

@@ -8,8 +8,8 @@ use Rattle.summary_store.specs.declared.machine.Event.{Event}
 use Rattle.summary_store.specs.Machine.{Legal, IsComplete}
 use Rattle.summary_store.specs.Setups.{setup_of}
 use Rattle.racer_run_history.specs.History.{history_text}
-use Rattle.racer_run.specs.declared.said.RunOutput.{RunOutput}
-use Rattle.racer_run.specs.Said.{said_from, with_tail, IsTail}
+use Rattle.racer_run.specs.declared.output.RunOutput.{RunOutput}
+use Rattle.racer_run.specs.RunOutputs.{said_from, with_tail, IsTail}
 use Rattle.racer_run.specs.Requests.{lines_of, IsSaidWith}
 use Rattle.racer_run.specs.Words.{WantedReport}
 

@@ -4,12 +4,12 @@ use Rattle.std.specs.Prelude.{List, Option, None, Some, String, length, map, tak
 use Rattle.std.specs.FinMap.{contains_key}
 use Rattle.std.specs.Global.{Global}
 use Rattle.racer_base.specs.Outside.{Told, taken_and}
-use Rattle.racer_run.specs.declared.said.RunOutput.{RunOutput}
+use Rattle.racer_run.specs.declared.output.RunOutput.{RunOutput}
 use Rattle.racer_run.specs.declared.status.Status.{Status}
 use Rattle.racer_run.specs.declared.status.Status.TheVariants.{Clean, Warned, Usage, FolderFault, SinkFault, Refused}
 use Rattle.racer_run.specs.declared.status.Status.TheVariants.{Memory, NoRace, NotAWitness}
 use Rattle.racer_run.specs.Words.{Request, ReportOn, ReplayOf, MadeOf, request_of, is_on_folder}
-use Rattle.racer_run.specs.Said.{usage_text, fault_text, SaysReport}
+use Rattle.racer_run.specs.RunOutputs.{usage_text, fault_text, SaysReport}
 use Rattle.racer_run.specs.Replays.{SaysReplay}
 use Rattle.racer_run.specs.Made.{SaysMade}
 use Rattle.racer_run.specs.Statuses.{is_report_status, is_replay_status, is_made_status}

@@ -2,7 +2,7 @@
 pub mod Number
 pub mod Statuses
 pub mod Words
-pub mod Said
+pub mod RunOutputs
 pub mod Replays
 pub mod Made
 pub mod Causes

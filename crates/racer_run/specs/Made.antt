@@ -7,8 +7,8 @@ use Rattle.race_pairs.specs.Warnings.{warnings}
 use Rattle.race_report.specs.Modes.{made_report}
 use Rattle.folder_maker.specs.Folders as maker
 use Rattle.racer_sources.specs.Programs.{IsProgram}
-use Rattle.racer_run.specs.declared.said.RunOutput.{RunOutput}
-use Rattle.racer_run.specs.Said.{report_status}
+use Rattle.racer_run.specs.declared.output.RunOutput.{RunOutput}
+use Rattle.racer_run.specs.RunOutputs.{report_status}
 use Rattle.racer_run.specs.Words.{WantedMade}
 
 -- the files of a made folder, by its number alone

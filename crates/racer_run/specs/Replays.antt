@@ -15,7 +15,7 @@ use Rattle.witness_text.specs.Lines.{field_name, verdict_line}
 use Rattle.witness_text.specs.Verdicts.{verdict}
 use Rattle.witness_text.specs.declared.verdict.Verdict.{Verdict}
 use Rattle.witness_text.specs.declared.verdict.Verdict.TheVariants.{Races, NoSuchEntry, NoSuchObject, StopsAt, NoConflict}
-use Rattle.racer_run.specs.declared.said.RunOutput.{RunOutput}
+use Rattle.racer_run.specs.declared.output.RunOutput.{RunOutput}
 use Rattle.racer_run.specs.declared.status.Status.{Status}
 use Rattle.racer_run.specs.declared.status.Status.TheVariants.{Clean, Refused, NoRace, NotAWitness}
 use Rattle.racer_run.specs.Words.{WantedReplay}

@@ -7,11 +7,11 @@ use Rattle.summary_store.specs.declared.machine.Event.{Event}
 use Rattle.racer_run_history.specs.History.{history_text}
 use Rattle.racer_run.specs.declared.request.Request.{Request}
 use Rattle.racer_run.specs.declared.request.Request.TheVariants as request
-use Rattle.racer_run.specs.declared.said.RunOutput.{RunOutput}
+use Rattle.racer_run.specs.declared.output.RunOutput.{RunOutput}
 use Rattle.racer_run.specs.declared.wanted.WantedReport.{WantedReport}
 use Rattle.racer_run.specs.declared.wanted.WantedReplay.{WantedReplay}
 use Rattle.racer_run.specs.declared.wanted.WantedMade.{WantedMade}
-use Rattle.racer_run.specs.Said.{said_from, with_tail, IsBehind}
+use Rattle.racer_run.specs.RunOutputs.{said_from, with_tail, IsBehind}
 use Rattle.racer_run.specs.Words as words
 
 -- what is seen of a wanted report

@@ -7,10 +7,10 @@ ghost use Rattle.racer_run.specs.Requests.{seen};
 ghost use Rattle.racer_run.specs.Words.{is_on_folder, LeavesFolder};
 
 use crate::made::reported_on_made;
+use crate::output::{RunOutput, line};
 use crate::replays::replayed_on;
 use crate::reports::reported_on;
 use crate::request::{Request, requested};
-use crate::said::{RunOutput, line};
 use crate::status::Status;
 use racer_base::{Folder, FolderFault, Gate, Memory};
 use std::alloc::Global;

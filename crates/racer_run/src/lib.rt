@@ -4,17 +4,17 @@
 mod answers;
 pub mod laws;
 mod made;
+mod output;
 mod replays;
 mod reports;
 mod request;
-mod said;
 mod status;
 mod wanted;
 mod whole_run;
 mod writing;
 
+pub use output::RunOutput;
 pub use replays::replayed;
 pub use reports::said_of;
-pub use said::RunOutput;
 pub use status::Status;
 pub use whole_run::run;

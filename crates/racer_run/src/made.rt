@@ -8,8 +8,8 @@ ghost use Rattle.racer_run.specs.Made.{made_files, made_said, SaysMade};
 ghost use Rattle.racer_run.specs.Requests.{made_of};
 ghost use Rattle.racer_run.specs.Statuses.{is_made_status};
 
+use crate::output::RunOutput;
 use crate::reports::{pooled, status_of};
-use crate::said::RunOutput;
 use crate::wanted::WantedMade;
 use access_domain::Outcomes;
 use core_code::Program;

@@ -13,7 +13,7 @@ ghost use Rattle.racer_run.specs.Statuses.{is_replay_status};
 ghost use Rattle.witness_text_files.specs.Answers.{seen};
 ghost use Rattle.witness_text.specs.Verdicts.{verdict};
 
-use crate::said::{RunOutput, line};
+use crate::output::{RunOutput, line};
 use crate::status::Status;
 use crate::wanted::WantedReplay;
 use core_code::Program;

@@ -7,12 +7,12 @@ ghost use Rattle.racer_sources.specs.Finding.{CountsFaults, FailsByMemory};
 ghost use Rattle.racer_sources.specs.Programs.{Accepted, source_of};
 ghost use Rattle.summary_store.specs.Machine.{IsComplete, Legal};
 ghost use Rattle.summary_store.specs.Setups.{setup_of};
-ghost use Rattle.racer_run.specs.Said.{report_status, said_from, with_tail, HasHeadline};
-ghost use Rattle.racer_run.specs.Said.{HasReplays, SaysReport};
+ghost use Rattle.racer_run.specs.RunOutputs.{report_status, said_from, with_tail, HasHeadline};
+ghost use Rattle.racer_run.specs.RunOutputs.{HasReplays, SaysReport};
 ghost use Rattle.racer_run.specs.Requests.{lines_of, wanted_of, IsSaidWith};
 ghost use Rattle.racer_run.specs.Statuses.{is_made_status, is_report_status};
 
-use crate::said::RunOutput;
+use crate::output::RunOutput;
 use crate::status::Status;
 use crate::wanted::WantedReport;
 use access_domain::Outcomes;

@@ -19,7 +19,7 @@ use Rattle.access_domain.specs.Additions.{key_added, keys_added, paths_added}
 use Rattle.access_domain.specs.declared.summary.Summary.{Summary}
 use Rattle.access_domain.specs.Findings.{Findings, Whole, summary_from}
 use Rattle.access_domain.specs.Flow.{both, lost_result, joined_result}
-use Rattle.access_domain.specs.Given.{FlowContext}
+use Rattle.access_domain.specs.FlowContext.{FlowContext}
 use Rattle.access_domain.specs.Operations.{Effects, call_effects, found_effects, passed_from}
 use Rattle.core_code.specs.Touches.{is_write}
 use Rattle.access_domain.specs.Records.{same_flag, same_touch, same_key, first_of_keys, different_paths}

@@ -18,7 +18,7 @@ use Rattle.core_code.specs.declared.code.Op.TheVariants.{Push, PushClass, PushPr
 use Rattle.core_code.specs.declared.code.Op.TheVariants.{Set, Prim, Outside, Call, Unread, Ret}
 use Rattle.core_code.specs.Program.{core}
 use Rattle.access_domain.specs.declared.access.Access.{Access}
-use Rattle.access_domain.specs.Given.{FlowContext, field_at}
+use Rattle.access_domain.specs.FlowContext.{FlowContext, field_at}
 use Rattle.access_domain.specs.Operations.{Effects, goes_on, op_effects, record_of, top, popped, slot_of}
 use Rattle.access_domain.specs.Flow.{both, after, chosen, rounds, looped, joined_next, lost_next}
 use Rattle.access_domain.proofs.ReachedPaths.{touched-reached}

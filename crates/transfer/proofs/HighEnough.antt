@@ -5,7 +5,7 @@ use Rattle.core_code.specs.Tree.{LockAt, Tree, Seq, Choice, Loop, Sync}
 use Rattle.std.specs.List.{list_all}
 use Rattle.core_code.specs.Core.{Method}
 use Rattle.core_code.specs.Facts.{height_after, is_stack_enough}
-use Rattle.access_domain.specs.Given.{FlowContext}
+use Rattle.access_domain.specs.FlowContext.{FlowContext}
 use Rattle.access_domain.specs.Operations.{popped}
 use Rattle.access_domain.specs.Flow.{flow, rounds}
 use Rattle.transfer_loops.specs.Resuming.{Heads, resumed, loops, IsSound}

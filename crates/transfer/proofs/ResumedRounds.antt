@@ -5,7 +5,7 @@ use Rattle.std.proofs.lemmas.Bool.{eqb-true, eq-eqb}
 use Rattle.std.proofs.lemmas.List.{length-set}
 use Rattle.owner_domain.specs.declared.value.State.{State}
 use Rattle.core_code.specs.Tree.{Tree, Loop}
-use Rattle.access_domain.specs.Given.{FlowContext}
+use Rattle.access_domain.specs.FlowContext.{FlowContext}
 use Rattle.transfer_loops.specs.Rounds.{round_next, same_state}
 use Rattle.transfer_loops.specs.Resuming.{Heads, resumed, loops, is_settled, iterated, put_head, kept_head, entered}
 use Rattle.transfer_loops.proofs.Settled.{same_state-equal}

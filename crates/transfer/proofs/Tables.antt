@@ -25,7 +25,7 @@ use Rattle.access_domain.specs.declared.summary.Summary.{Summary}
 use Rattle.access_domain.specs.declared.summary.Outcome.TheVariants as code
 use Rattle.access_domain.specs.Records.{first_of_keys, different_paths}
 use Rattle.access_domain.specs.Findings.{Findings, Known, Large, Whole, Table, summary_from, outcome_from}
-use Rattle.access_domain.specs.Given.{given_of}
+use Rattle.access_domain.specs.FlowContext.{given_of}
 use Rattle.access_domain.specs.Substitution.{Actuals, actuals_from, substituted, substituted_record, substituted_value}
 use Rattle.access_domain.specs.Substitution.{value_named}
 use Rattle.access_domain.specs.Operations.{Effects, passed_from, replaced, popped}

@@ -6,7 +6,7 @@ use Rattle.racer_base.specs.declared.ids.Touch.{Touch}
 use Rattle.owner_domain.specs.declared.value.Value.{Value}
 use Rattle.core_code.specs.Program.{core}
 use Rattle.access_domain.specs.declared.access.Access.{Access}
-use Rattle.access_domain.specs.Given.{FlowContext, given_of, field_at}
+use Rattle.access_domain.specs.FlowContext.{FlowContext, given_of, field_at}
 use Rattle.access_domain.specs.Reached.{reached_path}
 use Rattle.transfer.specs.declared.operations.MethodContext.{MethodContext}
 use Rattle.transfer.specs.Known.{table_of}

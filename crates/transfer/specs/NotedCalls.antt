@@ -13,7 +13,7 @@ use Rattle.owner_domain.specs.SameValue.{equal_of_same_value, same_value-itself,
 use Rattle.access_domain.specs.declared.access.Access.{Access}
 use Rattle.access_domain.specs.Additions.{paths_added}
 use Rattle.access_domain.specs.Findings.{Findings, Whole}
-use Rattle.access_domain.specs.Given.{FlowContext}
+use Rattle.access_domain.specs.FlowContext.{FlowContext}
 use Rattle.access_domain.specs.Records.{same_flag, same_key}
 use Rattle.access_domain.specs.Substitution.{Actuals, actuals_from, substituted_record, value_named}
 use Rattle.transfer.specs.declared.found.Found.{Found}

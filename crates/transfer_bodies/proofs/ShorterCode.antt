@@ -8,7 +8,7 @@ use Rattle.owner_domain.specs.declared.value.State.{State}
 use Rattle.owner_domain.specs.Values.{joined_state, lost_state}
 use Rattle.core_code.specs.Tree.{LockAt, Tree, Skip, Seq, Choice, Loop, Sync, in_sequence}
 use Rattle.core_code.specs.Facts.{same_height, height_after}
-use Rattle.access_domain.specs.Given.{FlowContext}
+use Rattle.access_domain.specs.FlowContext.{FlowContext}
 use Rattle.access_domain.specs.Operations.{Effects, popped}
 use Rattle.access_domain.specs.Flow.{flow, rounds, joined_next}
 use Rattle.transfer_loops.specs.Rounds.{round_next, round_lost, rounds_of}

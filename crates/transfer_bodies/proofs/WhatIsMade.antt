@@ -9,7 +9,7 @@ use Rattle.owner_domain.specs.declared.value.State.{State}
 use Rattle.core_code.specs.declared.code.Code.{Code}
 use Rattle.core_code.specs.Tree.{LockAt, Tree, Skip, Seq, Choice, Loop, Sync, tree_of, in_sequence}
 use Rattle.core_code.specs.Facts.{height_after}
-use Rattle.access_domain.specs.Given.{FlowContext}
+use Rattle.access_domain.specs.FlowContext.{FlowContext}
 use Rattle.access_domain.specs.Flow.{flow}
 use Rattle.transfer_loops.proofs.Heights.{then_heights, either_heights, loop_heights, held_heights}
 use Rattle.transfer_bodies.specs.declared.kept.Kept.{Kept}

@@ -3,7 +3,7 @@ ghost use Rattle.std.specs.Prelude.{◌≡◌, Bool, true, Some, []};
 ghost use Rattle.owner_domain.specs.declared.value.State.{State};
 ghost use Rattle.core_code.specs.Tree.{Tree};
 ghost use Rattle.core_code.specs.Facts.{height_after};
-ghost use Rattle.access_domain.specs.Given.{FlowContext};
+ghost use Rattle.access_domain.specs.FlowContext.{FlowContext};
 ghost use Rattle.access_domain.specs.Flow.{flow};
 ghost use Rattle.transfer_bodies.specs.Still.{is_still};
 

@@ -4,7 +4,7 @@ ghost use Rattle.owner_domain.specs.declared.value.State.{State};
 ghost use Rattle.core_code.specs.Tree.{tree_of, in_sequence};
 ghost use Rattle.core_code.specs.Tree as tree;
 ghost use Rattle.core_code.specs.Facts as heights;
-ghost use Rattle.access_domain.specs.Given.{FlowContext};
+ghost use Rattle.access_domain.specs.FlowContext.{FlowContext};
 ghost use Rattle.access_domain.specs.Flow.{flow};
 ghost use Rattle.transfer_bodies.specs.Shortening.{IsShortened};
 ghost use Rattle.transfer_bodies.specs.Still.{is_still_op};

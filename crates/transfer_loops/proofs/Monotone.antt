@@ -17,7 +17,7 @@ use Rattle.core_code.specs.Tree.{Tree, Op, Skip, Seq, Choice, Loop, Sync}
 use Rattle.core_code.specs.declared.code.Op.{Op as CoreOp}
 use Rattle.core_code.specs.declared.code.Op.TheVariants.{Push, PushClass, PushPrim, PushNull, New, Dup, Drop, Get, Put}
 use Rattle.core_code.specs.declared.code.Op.TheVariants.{Set, Prim as PrimOp, Outside, Call, Unread, Ret}
-use Rattle.access_domain.specs.Given.{FlowContext}
+use Rattle.access_domain.specs.FlowContext.{FlowContext}
 use Rattle.access_domain.specs.Findings.{Known, Large, Whole}
 use Rattle.access_domain.specs.Substitution.{root_value, substituted_value, actuals_from}
 use Rattle.access_domain.specs.Operations.{Effects, top, pushed, popped, replaced, read_value, op_effects, call_effects, passed_from}

@@ -8,7 +8,7 @@ use Rattle.owner_domain.specs.Values.{joined, joined_values, joined_state, same_
 use Rattle.owner_domain.specs.SameValue.{same_value-itself}
 use Rattle.core_code.specs.Tree.{Tree, Op, Skip, Seq, Choice, Loop, Sync}
 use Rattle.core_code.specs.Facts.{height_after}
-use Rattle.access_domain.specs.Given.{FlowContext}
+use Rattle.access_domain.specs.FlowContext.{FlowContext}
 use Rattle.access_domain.specs.Operations.{popped}
 use Rattle.access_domain.specs.Flow.{flow, rounds}
 use Rattle.transfer_loops.specs.Rounds.{round_next, same_values, same_state, rounds_of}

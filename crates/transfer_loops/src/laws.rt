@@ -3,7 +3,7 @@ ghost use Rattle.std.specs.Prelude.{◌≡◌, ℕ, length, Some};
 ghost use Rattle.owner_domain.specs.declared.value.State.{State};
 ghost use Rattle.std.specs.Prelude.{Bool};
 ghost use Rattle.core_code.specs.Tree.{Tree};
-ghost use Rattle.access_domain.specs.Given.{FlowContext};
+ghost use Rattle.access_domain.specs.FlowContext.{FlowContext};
 ghost use Rattle.access_domain.specs.Flow.{flow};
 ghost use Rattle.core_code.specs.Facts.{height_after};
 ghost use Rattle.transfer_loops.specs.Resuming.{Heads, no_heads, resumed, IsSound};

@@ -14,7 +14,7 @@ use Rattle.access_domain.specs.OutcomeRecords.{record_at}
 use Rattle.core_code.specs.Core.{Core}
 use Rattle.core_ways.specs.Stable.{is_wobbly, unstable_prefix}
 use Rattle.wobbly_paths.specs.Sets.{HasNoPrefix, IsShortestPrefix}
-use Rattle.witness_build.specs.Found.{IsLeast, holds_front, least}
+use Rattle.witness_build.specs.ShortestPrefix.{IsLeast, holds_front, least}
 use Rattle.witness_build.proofs.LeastPrefix.{either, first-prefix, least-both, wobbly-held}
 
 pub least-of-set : (paths : PathSet) (p : Path) (answer : Option ℕ) →

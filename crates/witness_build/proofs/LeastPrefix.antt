@@ -13,7 +13,7 @@ use Rattle.access_domain.specs.Summaries.{known_of, outcome_of}
 use Rattle.access_domain.specs.Outcomes.{wobbly_held}
 use Rattle.core_code.specs.Core.{Core}
 use Rattle.core_ways.specs.Stable.{counting, is_wobbly, proper_prefixes, wobbly_in}
-use Rattle.witness_build.specs.Found.{IsFirst, IsLeast, is_held, least}
+use Rattle.witness_build.specs.ShortestPrefix.{IsFirst, IsLeast, is_held, least}
 
 -- ---- the first of two tests
 

@@ -1,3 +1,3 @@
 -- A contract of a public call rests on this: the list of files.
 pub mod Replayed
-pub mod Found
+pub mod ShortestPrefix

@@ -5,7 +5,7 @@ ghost use Rattle.core_code.specs.Program.{core};
 ghost use Rattle.access_domain.specs.Outcomes.{AreOutcomes};
 ghost use Rattle.access_paths.specs.Paths.{front};
 ghost use Rattle.core_ways.specs.Stable.{unstable_prefix};
-ghost use Rattle.witness_build.specs.Found.{IsLeast, holds_front, least};
+ghost use Rattle.witness_build.specs.ShortestPrefix.{IsLeast, holds_front, least};
 
 use access_domain::{Outcomes, wobbly_of};
 use access_paths::{Path, PathFields};

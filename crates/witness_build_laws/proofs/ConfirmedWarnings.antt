@@ -41,12 +41,12 @@ ready p w objects legs found =
       conflict = found.conflict;
       ends = λ m method i r s t there at entered free.
           way-ends p m method i r (given_to t method) s t there at entered free;
-      leads_entry = λ store top good leads.
+      leads_entry = λ store arrival good leads.
           leg-leads p w.entry w.partner w.entry found.f w.access found.a 0 (inl refl) found.entry found.of_entry
-          found.stable store top good leads;
-      leads_partner = λ store top good leads.
+          found.stable store arrival good leads;
+      leads_partner = λ store arrival good leads.
           leg-leads p w.entry w.partner w.partner found.g w.partner_access found.b 1 (inr refl) found.partner
-          found.of_partner stable_partner store top good leads;
+          found.of_partner stable_partner store arrival good leads;
     }
 
 pub confirmed-warnings-race : (p : Program) (w : Warning) (objects : List StartPath) (legs : List Leg) (r : Access) →

@@ -27,7 +27,7 @@ use Rattle.core_semantics.specs.Runs.{op_touch, todo_touch}
 use Rattle.core_semantics.specs.State.{Frame, State, Store, Thread, Todo, other_of, thread_of}
 use Rattle.core_ways_laws.specs.Ends.{IsAtAccess}
 use Rattle.core_ways_laws.specs.Sites.{field_of}
-use Rattle.core_ways_laws.specs.Arrivals.{Arrival, top_of}
+use Rattle.core_ways_laws.specs.Arrivals.{Arrival, arrival_of}
 use Rattle.core_ways_laws.specs.Meets.{base_path, base_slot, base_value}
 use Rattle.core_ways_laws.specs.Places.{start_object}
 use Rattle.core_ways_laws.specs.Quiet.{start_path}
@@ -83,9 +83,9 @@ pub record TouchesAs (s : State) (t : ℕ) (p : Path) (kind : Touch) : Type 0 wh
 
 pub at-access : (core : Core) (m : MethodId) (i : ℕ) (r : Access) (values : List Value) (s : State) (t : ℕ)
     (to : State) (at : IsAtAccess core m i r values s t to) →
-    base_value r.kind at.top.at ≡ start_object (base_path r.path) → TouchesAs to t r.path r.kind
+    base_value r.kind at.arrival.at ≡ start_object (base_path r.path) → TouchesAs to t r.path r.kind
 at-access core m i r values s t to at base =
-    let op : CoreOp = at.top.op in
+    let op : CoreOp = at.arrival.op in
     let stack : slice_index_or at.frame.stack (base_slot r.kind) Null ≡ start_object (base_path r.path) =
     ap (λ (vs : List Value). slice_index_or vs (base_slot r.kind) Null) at.stack ∙ base in
     let by : TouchesBy at.frame r.path r.kind op = op-touches at.frame r.path r.kind op at.touches at.field stack in
@@ -103,9 +103,9 @@ at-access core m i r values s t to at base =
 -- where the way to a record of a method leads from a store that is as it should be, the store is so, and the base of
 -- the access is the start object of the base of the record's path
 abbrev pub LegLeads : Core → (Store → Type 0) → MethodId → ℕ → Access → Method → ℕ → Type 0
-LegLeads core Good m i r method t = (store : Store) (top : Arrival) → Good store →
-    top_of core m i (given_to t method) store ≡ Some top →
-    Good top.at.store × (base_value r.kind top.at ≡ start_object (base_path r.path))
+LegLeads core Good m i r method t = (store : Store) (arrival : Arrival) → Good store →
+    arrival_of core m i (given_to t method) store ≡ Some arrival →
+    Good arrival.at.store × (base_value r.kind arrival.at ≡ start_object (base_path r.path))
 
 none-held : (locks : List Holder) (n : ℕ) → length locks ≡ n → nat_lt 0 n ≡ false → locks ≡ []
 none-held [] n e none = refl
@@ -119,7 +119,7 @@ none-held (l ∷ locks) (suc n) e none =
 pub unlocked-free : (core : Core) (m : MethodId) (i : ℕ) (r : Access) (values : List Value) (s : State) (t : ℕ)
     (to : State) → IsAtAccess core m i r values s t to → r.locked ≡ false → (thread_of to t).locks ≡ []
 unlocked-free core m i r values s t to at unlocked =
-    none-held (thread_of to t).locks at.top.locks at.locks (at.held ∙ unlocked)
+    none-held (thread_of to t).locks at.arrival.locks at.locks (at.held ∙ unlocked)
 
 -- one thread is the other of the other
 pub record AreOthers (t u : ℕ) : Type 0 where
@@ -141,9 +141,9 @@ pub both-touch : (core : Core) (Good : Store → Type 0) (t u : ℕ) → AreOthe
     Good s.store → IsAtAccess core m i a (given_to t f) s t to → IsAtAccess core n j b (given_to u g) to u end →
     TouchesAs end t a.path a.kind × TouchesAs end u b.path b.kind
 both-touch core Good t u others m n i j a b f g s to end leads goes good first second =
-    let one = leads s.store first.top good first.leads in
+    let one = leads s.store first.arrival good first.leads in
     let between : Good to.store = subst Good (sym first.store) one.0 in
-    let two = goes to.store second.top between second.leads in
+    let two = goes to.store second.arrival between second.leads in
     let stays : thread_of end t ≡ thread_of to t =
     sym (others.second end) ∙ second.other ∙ others.second to in (
       touch-stays to end t a.path a.kind stays (at-access core m i a (given_to t f) s t to first one.1),

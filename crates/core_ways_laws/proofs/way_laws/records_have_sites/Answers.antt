@@ -1,5 +1,5 @@
 use Rattle.core_code.specs.Program.{core}
-use Rattle.core_ways_laws.proofs.RecordTops.{record-comes}
+use Rattle.core_ways_laws.proofs.RecordArrivals.{record-comes}
 use Rattle.core_ways_laws.proofs.way_laws.records_have_sites.Goals as goal
 
 pub returns : goal.returns

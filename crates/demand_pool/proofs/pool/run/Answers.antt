@@ -10,7 +10,7 @@ use Rattle.summary_store.specs.declared.machine.Event.{Event}
 use Rattle.summary_store.specs.Laws.{edges}
 use Rattle.summary_store.specs.Machine.{IsComplete}
 use Rattle.summary_store.specs.Setups.{setup_of}
-use Rattle.demand_pool.proofs.Found.{found_right}
+use Rattle.demand_pool.proofs.CompleteTables.{found_right}
 use Rattle.demand_pool.proofs.pool.run.Goals as goal
 
 pub finish_all-requires-clause-most : goal.finish_all-requires-clause-most

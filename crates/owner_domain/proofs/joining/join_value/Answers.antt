@@ -15,8 +15,8 @@ returns-clause-lost c =
     let old : List Path = c.args.names.now.items in
     let one = names_of c.args.a.now in
     let other = names_of c.args.b.now in
-    c.in_ok-lose-2.ensures
-    ∙ ap (λ (names : List Path). names ++ other) c.in_ok-lose.ensures
+    c.in_ok-lose-2.ensures.lost
+    ∙ ap (λ (names : List Path). names ++ other) c.in_ok-lose.ensures.lost
     ∙ append_assoc old one other
     ∙ ap (λ same. old ++ cond same [] (one ++ other)) c.if-eq.ensures
 

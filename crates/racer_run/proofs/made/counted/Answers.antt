@@ -2,7 +2,7 @@ use Rattle.std.proofs.Common.{◌≡◌, ap}
 use Rattle.std.specs.Arc.{arc_value}
 use Rattle.core_code.specs.declared.program.Program.{Program}
 use Rattle.core_code.specs.Program.{core}
-use Rattle.racer_run.specs.declared.said.RunOutput.{RunOutput}
+use Rattle.racer_run.specs.declared.output.RunOutput.{RunOutput}
 use Rattle.racer_run.specs.Made.{made_said}
 use Rattle.racer_run.proofs.Tails.{if_ok}
 use Rattle.racer_run.proofs.made.counted.Goals as goal

@@ -2,7 +2,7 @@ use Rattle.std.proofs.Common.{◌≡◌, codes, sym, ap, subst, ◌∙◌}
 use Rattle.core_code.specs.Program.{core}
 use Rattle.witness_text_files.specs.Answers.{IsWitnessFault, seen}
 use Rattle.witness_text.specs.Verdicts.{verdict}
-use Rattle.racer_run.specs.declared.said.RunOutput.{RunOutput}
+use Rattle.racer_run.specs.declared.output.RunOutput.{RunOutput}
 use Rattle.racer_run.specs.Replays.{json_of, json_said, not_a_witness, verdict_said}
 use Rattle.racer_run.proofs.JsonBytes.{said-file, said-no_json, said-other}
 use Rattle.racer_run.proofs.Tails.{if_ok}

@@ -1,6 +1,6 @@
 use Rattle.std.proofs.Common.{◌≡◌, true}
 use Rattle.core_code.specs.Program.{core}
-use Rattle.racer_run.specs.declared.said.RunOutput.{RunOutput}
+use Rattle.racer_run.specs.declared.output.RunOutput.{RunOutput}
 use Rattle.racer_run.specs.Replays.{json_of, json_said}
 use Rattle.racer_run.specs.Statuses.{is_replay_status}
 use Rattle.racer_run.proofs.JsonBytes.{json-status}

@@ -4,7 +4,7 @@ use Rattle.core_code.specs.declared.program.Program.{Program}
 use Rattle.core_code.specs.Program.{core}
 use Rattle.racer_sources.specs.Programs.{Accepted}
 use Rattle.summary_store.specs.declared.machine.Event.{Event}
-use Rattle.racer_run.specs.Said.{said_from, with_tail}
+use Rattle.racer_run.specs.RunOutputs.{said_from, with_tail}
 use Rattle.racer_run.specs.Requests.{lines_of, wanted_of}
 use Rattle.racer_run.proofs.Tails.{with_lines}
 use Rattle.racer_run.proofs.reports.reported.Goals as goal

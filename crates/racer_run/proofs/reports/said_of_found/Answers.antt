@@ -5,7 +5,7 @@ use Rattle.racer_sources.specs.declared.programs.FoundProgram.{FoundProgram}
 use Rattle.racer_sources.specs.declared.programs.FoundProgram.TheVariants as found
 use Rattle.racer_sources.specs.Programs.{source_of}
 use Rattle.witness_text.specs.Replaying.{DoWitnessesReplay}
-use Rattle.racer_run.specs.Said.{HasReplays}
+use Rattle.racer_run.specs.RunOutputs.{HasReplays}
 use Rattle.racer_run.proofs.reports.said_of_found.Goals as goal
 
 replays_of : (f : FoundProgram) (program : Program) → f ≡ found.Accepted program → DoWitnessesReplay (core program)

@@ -4,7 +4,7 @@ use Rattle.owner_domain.specs.declared.value.State.{State}
 use Rattle.core_code.specs.Core.{method_of}
 use Rattle.core_code.specs.Program.{core}
 use Rattle.access_domain.specs.Flow.{flow}
-use Rattle.access_domain.specs.Given.{given_of}
+use Rattle.access_domain.specs.FlowContext.{given_of}
 use Rattle.access_domain.specs.Summaries.{effects_given, start_of}
 use Rattle.transfer.specs.declared.found.Found.{Found}
 use Rattle.transfer.specs.Known.{table_of}

@@ -1,5 +1,5 @@
 use Rattle.std.proofs.Common.{Some}
-use Rattle.witness_build.specs.Found.{PassesNone, holds_front}
+use Rattle.witness_build.specs.ShortestPrefix.{PassesNone, holds_front}
 use Rattle.witness_build.proofs.prefixes.prefix_among.Given as goal
 
 -- none so far is in the set

@@ -3,7 +3,7 @@ use Rattle.core_code.specs.Program.{core}
 use Rattle.core_ways.specs.Ways.{way_of}
 use Rattle.core_ways_sites.specs.Gone.{LeadsOn}
 use Rattle.core_ways_sites.specs.Known.{IsKnown}
-use Rattle.core_ways_sites.proofs.table.SiteWays.go.Given as goal
+use Rattle.core_ways_sites.proofs.table.SiteWays.go_to_record.Given as goal
 
 -- what is gone, and then the way from here on, is the whole
 abbrev pub invariant-loop-gone : goal.invariant-loop-gone

@@ -26,7 +26,7 @@ use Rattle.core_code.proofs.ByRank.{known_below-lower}
 use Rattle.core_code.proofs.Membership.{In}
 use Rattle.access_domain.specs.declared.access.Access.{Access}
 use Rattle.access_domain.specs.Findings.{Findings, Known, Large, Table, Whole, outcome_from}
-use Rattle.access_domain.specs.Given.{FlowContext, given_of}
+use Rattle.access_domain.specs.FlowContext.{FlowContext, given_of}
 use Rattle.access_domain.specs.Origins.{touch_of}
 use Rattle.access_domain.specs.Summaries.{known_given, known_of, known_of_callees}
 use Rattle.access_domain.specs.OutcomeRecords.{record_at, records_held}
@@ -49,14 +49,16 @@ use Rattle.core_ways.specs.Ways.{towards_record, trip_along, trip_of, way_given,
 use Rattle.core_ways.proofs.Alone.{Leads, one-more}
 use Rattle.core_ways.proofs.AloneMethods.{AreRight, calls-pass, code-there, may_call}
 use Rattle.core_ways.proofs.Callees.{do_pass, lower-calls, lower-site, pass-both}
-use Rattle.core_ways_laws.specs.Values.{Calls, Point, call_of, entry_point, evaluate, on_ok, point_popped, received, top_value}
+use Rattle.core_ways_laws.specs.Values.{Calls, Point, call_of, entry_point, evaluate, on_ok, point_popped, received}
+use Rattle.core_ways_laws.specs.Values.{top_value}
 use Rattle.core_ways_laws.specs.Values.{values_passed}
-use Rattle.core_ways_laws.specs.Arrivals.{Arrival, Arrivals, behind_first, one_lock_more, to, to_record, arrival_at, top_given, top_of}
-use Rattle.core_ways_laws.specs.RunValues.{Arrives, IsOfRecord, IsTop, RecordGoes, at_point}
+use Rattle.core_ways_laws.specs.Arrivals.{Arrival, Arrivals, behind_first, one_lock_more, to, to_record, arrival_at}
+use Rattle.core_ways_laws.specs.Arrivals.{arrival_given, arrival_of}
+use Rattle.core_ways_laws.specs.RunValues.{Arrives, IsOfRecord, IsArrival, RecordGoes, at_point}
 use Rattle.core_ways_laws.specs.Sites.{IsRecordOf, IsThrough, IsTouch, field_of}
 use Rattle.core_ways_laws.proofs.CalledValues.{each-method, method-goes}
 use Rattle.core_ways_laws.proofs.PassedValues.{spot_at}
-use Rattle.core_ways_laws.proofs.ReachedValues.{OnTop, goes-to, to-has}
+use Rattle.core_ways_laws.proofs.ReachedValues.{OnArrival, goes-to, to-has}
 use Rattle.core_ways_laws.proofs.WaySites.{comes-from}
 
 -- ---- records
@@ -155,23 +157,24 @@ module _ (core : Core) (calls : Calls) (f g : Arrivals) (site : SiteId) (below :
       let inside = to-same body all in
       (λ i at. on_ok (monitor_of lock.kind (top_value at)) (option_map one_lock_more (inside i (point_popped at 1))))
 
-abbrev inner_tops : Core → MethodId → Arrivals
-inner_tops core m = known_below (λ i values store. None) (top_given core) core (rank_of core m)
+abbrev inner_arrivals : Core → MethodId → Arrivals
+inner_arrivals core m = known_below (λ i values store. None) (arrival_given core) core (rank_of core m)
 
 -- what comes next on the way to a record is what comes next there on the way to the record's site
-pub top_of-code : (core : Core) → has_ranks core ≡ true → (m : MethodId) (method : Method) (i : ℕ) (r : Access) →
+pub arrival_of-code : (core : Core) → has_ranks core ≡ true → (m : MethodId) (method : Method) (i : ℕ) (r : Access) →
     method_at core m ≡ Some method → is_analysed core m ≡ true → record_at core m i ≡ Some r →
-    ◌≡◌ {A = List Value → Store → Option Arrival} (top_of core m i)
-    (λ values store. to core (call_of core) (top_of core) r.site r.below method.code (entry_point method values store))
-top_of-code core ranks m method i r there analysed at =
+    ◌≡◌ {A = List Value → Store → Option Arrival} (arrival_of core m i)
+    (λ values store. to core (call_of core) (arrival_of core) r.site r.below method.code
+    (entry_point method values store))
+arrival_of-code core ranks m method i r there analysed at =
     (λ k values store. elim (there k) as (λ _. Option Arrival) [
       | None ↦ None
-      | Some x ↦ to_record core (inner_tops core m) (at k) x values store
+      | Some x ↦ to_record core (inner_arrivals core m) (at k) x values store
     ])
     ∙ (λ k values store.
-    to-same core (call_of core) (inner_tops core m) (top_of core) r.site r.below
+    to-same core (call_of core) (inner_arrivals core m) (arrival_of core) r.site r.below
     (λ n. nat_lt (rank_of core n) (rank_of core m))
-    (λ n low. known_below-lower (λ i values store. None) (top_given core) core (rank_of core m) n
+    (λ n low. known_below-lower (λ i values store. None) (arrival_given core) core (rank_of core m) n
     (ltb-true (rank_of core n) (rank_of core m) low)) method.code
     (lower-calls core m method.code ranks (code-there core m method there analysed)) k
     (entry_point method values store))
@@ -198,19 +201,19 @@ parts-at core m i code r o is at there =
 
 module _ (core : Core) (n : MethodId) (j : ℕ) (inner : Access) (has : record_at core n j ≡ Some inner)
     (goes : RecordGoes core n j) where
-  on-receiver : (r : Result Object Why) (top : Option Arrival) (locks : List Holder) (rest : List Turn)
-      (f : After → Alone) (next : Next After) → ComesTo (IsTop top locks) rest (onward f next) →
-      ComesTo (IsTop (on_ok r top) locks) rest (onward f (on_base r (λ o. next)))
-  on-receiver (Ok o) top locks rest f next comes = comes
-  on-receiver (Err why) top locks rest f next comes = tt
+  on-receiver : (r : Result Object Why) (arrival : Option Arrival) (locks : List Holder) (rest : List Turn)
+      (f : After → Alone) (next : Next After) → ComesTo (IsArrival arrival locks) rest (onward f next) →
+      ComesTo (IsArrival (on_ok r arrival) locks) rest (onward f (on_base r (λ o. next)))
+  on-receiver (Ok o) arrival locks rest f next comes = comes
+  on-receiver (Err why) arrival locks rest f next comes = tt
 
   enters : (count : ℕ) (at : Point) (todo : List Todo) (locked : ℕ) (callers : List Frame) (locks : List Holder)
       (rest : List Turn) (o : Option Method) → method_at core n ≡ o →
       let way = way_of core n j in
-      ComesTo (IsTop (elim o as (λ _. Option Arrival) [
+      ComesTo (IsArrival (elim o as (λ _. Option Arrival) [
         | None ↦ None
         | Some method ↦
-            received method (values_passed at count) (top_of core n j (values_passed at count) at.store)
+            received method (values_passed at count) (arrival_of core n j (values_passed at count) at.store)
       ]) locks) rest
       (onward (λ a. alone core way.steps (way.turns ++ rest) a)
       (elim o as (λ _. Next After) [
@@ -222,31 +225,31 @@ module _ (core : Core) (n : MethodId) (j : ℕ) (inner : Access) (has : record_a
       let way = way_of core n j in
       let s : Spot = spot_at at todo locked callers locks in
       let back : Frame = record { vars = at.vars; stack = drop count at.stack; todo = todo; locked = locked } in
-      let top : Option Arrival = top_of core n j (values_passed at count) at.store in
+      let arrival : Option Arrival = arrival_of core n j (values_passed at count) at.store in
       let f : After → Alone = λ a. alone core way.steps (way.turns ++ rest) a in
       let comes = goes method inner is has (values_passed at count) at.store (back ∷ callers) locks rest in
-      elim method.is_static as (λ b. ComesTo (IsTop
-      (cond b top (on_ok (base_of (slice_index_or (values_passed at count) 0 Null)) top)) locks) rest
+      elim method.is_static as (λ b. ComesTo (IsArrival
+      (cond b arrival (on_ok (base_of (slice_index_or (values_passed at count) 0 Null)) arrival)) locks) rest
       (onward f (cond b (entering s method count)
       (on_object (slice_index_or (passed_from s.frame count) 0 Null) (λ o. entering s method count))))) [
         | true ↦ comes
         | false ↦
-            on-receiver (base_of (slice_index_or (values_passed at count) 0 Null)) top locks rest f
+            on-receiver (base_of (slice_index_or (values_passed at count) 0 Null)) arrival locks rest f
             (entering s method count) comes
       ]
 
   arrives-through : (count : ℕ) →
       Arrives core (trip_of core) (way_parts core) (Some j) (Call n count)
-      (arrival_at core (top_of core) (Some j) (Call n count))
+      (arrival_at core (arrival_of core) (Some j) (Call n count))
   arrives-through count place locked at todo callers locks =
       let way = way_of core n j in
       one-more core way.turns way.steps (1 + way.steps)
       (at_point at (Op place (Call n count) ∷ todo) locked callers locks)
-      (IsTop (arrival_at core (top_of core) (Some j) (Call n count) at) locks) (omega arith)
+      (IsArrival (arrival_at core (arrival_of core) (Some j) (Call n count) at) locks) (omega arith)
       (λ rest. enters count at todo locked callers locks rest (method_at core n) refl)
 
 arrives-here : (core : Core) (op : CoreOp) →
-    Arrives core (trip_of core) (way_parts core) None op (arrival_at core (top_of core) None op)
+    Arrives core (trip_of core) (way_parts core) None op (arrival_at core (arrival_of core) None op)
 arrives-here core op place locked at todo callers locks = λ rest. (
   refl,
   record { place = place; todo = todo; locked = locked; callers = callers; monitors = []; count = refl; is = refl },
@@ -260,7 +263,7 @@ pub record AreInOrder (core : Core) : Type 0 where
   pub order : are_sites_in_order core ≡ true
 
 abbrev Reach : Core → Option ℕ → CoreOp → Type 0
-Reach core below op = Arrives core (trip_of core) (way_parts core) below op (arrival_at core (top_of core) below op)
+Reach core below op = Arrives core (trip_of core) (way_parts core) below op (arrival_at core (arrival_of core) below op)
 
 same-entered : (core : Core) (m n : MethodId) (j : ℕ) → rank_of core n < rank_of core m →
     inner_ways core m n j ≡ way_parts core n j
@@ -270,7 +273,7 @@ same-entered core m n j low =
 
 -- what a record needs of the record that it comes from
 pub record Reaches (core : Core) (m : MethodId) (below : Option ℕ) (op : CoreOp) : Type 0 where
-  pub arrives : Arrives core (trip_of core) (way_parts core) below op (arrival_at core (top_of core) below op)
+  pub arrives : Arrives core (trip_of core) (way_parts core) below op (arrival_at core (arrival_of core) below op)
   pub same : entered (inner_ways core m) below op ≡ entered (way_parts core) below op
 
 reaches-here : (core : Core) (m : MethodId) (below : Option ℕ) (op : CoreOp) → below ≡ None → Reaches core m below op
@@ -296,7 +299,7 @@ module _ (core : Core) (facts : AreInOrder core) where
       do_end_before r.site method.code ≡ true → Reaches core m r.below o.op →
       (values : List Value) (store : Store) (callers : List Frame) (locks : List Holder) →
       Leads core (way_of core m i) (at_point (entry_point method values store) (before method.code []) 0 callers locks)
-      (IsTop (top_of core m i values store) locks)
+      (IsArrival (arrival_of core m i values store) locks)
   by-site m method i r there at o is ends reaches values store callers locks =
       let f : FoundAt core m i r = found-at core m i r at in
       let analysed : is_analysed core m ≡ true = known-analysed core m method (Whole f.found) there f.known in
@@ -306,12 +309,12 @@ module _ (core : Core) (facts : AreInOrder core) where
       ∙ ap (λ (ps : List WayPart). reached 0 r.site method.code ++ ps) reaches.same in
       let p : Point = entry_point method values store in
       let a : After = at_point p (before method.code []) 0 callers locks in
-      subst (λ (top : Option Arrival). Leads core (way_of core m i) a (IsTop top locks))
+      subst (λ (arrival : Option Arrival). Leads core (way_of core m i) a (IsArrival arrival locks))
       (sym (ap (λ (t : List Value → Store → Option Arrival). t values store)
-      (top_of-code core facts.right.ranks m method i r there analysed at)))
+      (arrival_of-code core facts.right.ranks m method i r there analysed at)))
       (subst (λ (ps : List WayPart). Leads core (trip_along (trip_of core) ps) a
-      (IsTop (to core (call_of core) (top_of core) r.site r.below method.code p) locks)) (sym parts)
-      (goes-to core (trip_of core) (call_of core) (top_of core) (way_parts core) r.site r.below (may_call core m)
+      (IsArrival (to core (call_of core) (arrival_of core) r.site r.below method.code p) locks)) (sym parts)
+      (goes-to core (trip_of core) (call_of core) (arrival_of core) (way_parts core) r.site r.below (may_call core m)
       (λ n may. method-goes core facts.right (suc (rank_of core n)) n (omega arith)
       (last_part (nat_lt (rank_of core n) (rank_of core m)) (is_analysed core n) may)) o reaches.arrives method.code
       (calls-pass core facts.right m method there code) is ends 0 p [] callers locks))
@@ -340,8 +343,8 @@ module _ (core : Core) (facts : AreInOrder core) where
 
 -- a flag that counts these locks, and an operation that touches this
 abbrev IsSo : Bool → Touch → Option FieldId → ℕ → Arrival → Type 0
-IsSo flag kind field n top =
-    (nat_lt 0 top.locks ≡ (flag || nat_lt 0 n)) × (touch_of top.op ≡ Some kind) × (field_of top.op ≡ field)
+IsSo flag kind field n arrival =
+    (nat_lt 0 arrival.locks ≡ (flag || nat_lt 0 n)) × (touch_of arrival.op ≡ Some kind) × (field_of arrival.op ≡ field)
 
 or-true : (b : Bool) → (b || true) ≡ true
 or-true true = refl
@@ -351,44 +354,45 @@ or-false : (b : Bool) → b ≡ (b || false)
 or-false true = refl
 or-false false = refl
 
-one-deeper : (flag : Bool) (kind : Touch) (field : Option FieldId) (n : ℕ) (top : Arrival) →
-    IsSo flag kind field n top →
-    IsSo flag kind field (suc n) (one_lock_more top)
-one-deeper flag kind field n top so = (
-  lt-ltb 0 (suc top.locks) (omega arith)
+one-deeper : (flag : Bool) (kind : Touch) (field : Option FieldId) (n : ℕ) (arrival : Arrival) →
+    IsSo flag kind field n arrival →
+    IsSo flag kind field (suc n) (one_lock_more arrival)
+one-deeper flag kind field n arrival so = (
+  lt-ltb 0 (suc arrival.locks) (omega arith)
       ∙ sym (ap (λ (b : Bool). flag || b) (lt-ltb 0 (suc n) (omega arith)) ∙ or-true flag),
   so.1,
   so.2,
 )
 
 -- what is received has it
-received-so : (P : Arrival → Type 0) (method : Method) (values : List Value) (o : Option Arrival) → OnTop P o →
-    OnTop P (received method values o)
+received-so : (P : Arrival → Type 0) (method : Method) (values : List Value) (o : Option Arrival) → OnArrival P o →
+    OnArrival P (received method values o)
 received-so P method values o has =
-    elim method.is_static as (λ b. OnTop P (cond b o (on_ok (base_of (slice_index_or values 0 Null)) o))) [
+    elim method.is_static as (λ b. OnArrival P (cond b o (on_ok (base_of (slice_index_or values 0 Null)) o))) [
       | true ↦ has
       | false ↦
-          elim (base_of (slice_index_or values 0 Null)) as (λ r. OnTop P (on_ok r o)) [ Ok x ↦ has | Err e ↦ tt ]
+          elim (base_of (slice_index_or values 0 Null)) as (λ r. OnArrival P (on_ok r o)) [ Ok x ↦ has | Err e ↦ tt ]
     ]
 
 entered-so : (core : Core) (P : Arrival → Type 0) (n : MethodId) (j : ℕ) (values : List Value) (store : Store)
-    (o : Option Method) → OnTop P (top_of core n j values store) →
-    OnTop P (elim o as (λ _. Option Arrival) [
+    (o : Option Method) → OnArrival P (arrival_of core n j values store) →
+    OnArrival P (elim o as (λ _. Option Arrival) [
       | None ↦ None
-      | Some method ↦ received method values (top_of core n j values store)
+      | Some method ↦ received method values (arrival_of core n j values store)
     ])
 entered-so core P n j values store None has = tt
 entered-so core P n j values store (Some method) has =
-    received-so P method values (top_of core n j values store) has
+    received-so P method values (arrival_of core n j values store) has
 
-map-on : (P Q : Arrival → Type 0) (o : Option Arrival) → ((top : Arrival) → P top → Q top) → OnTop P o → OnTop Q o
+map-on : (P Q : Arrival → Type 0) (o : Option Arrival) → ((arrival : Arrival) → P arrival → Q arrival) →
+    OnArrival P o → OnArrival Q o
 map-on P Q None f has = has
-map-on P Q (Some top) f has = f top has
+map-on P Q (Some arrival) f has = f arrival has
 
 -- from what the operation at the site leads to
 abbrev Leading : Core → Bool → Touch → Option FieldId → Option ℕ → CoreOp → Type 0
 Leading core flag kind field below op =
-    (at : Point) → OnTop (IsSo flag kind field 0) (arrival_at core (top_of core) below op at)
+    (at : Point) → OnArrival (IsSo flag kind field 0) (arrival_at core (arrival_of core) below op at)
 
 leads-here : (core : Core) (kind : Touch) (field : Option FieldId) (below : Option ℕ) (op : CoreOp) → below ≡ None →
     touch_of op ≡ Some kind → field_of op ≡ field → Leading core false kind field below op
@@ -398,14 +402,14 @@ leads-here core kind field below op none touches touched =
 leads-through : (core : Core) (n : MethodId) (j count : ℕ) (inner : Access) (kind : Touch) (field : Option FieldId)
     (below : Option ℕ) (op : CoreOp) → below ≡ Some j → op ≡ Call n count → kind ≡ inner.kind →
     field ≡ last_of inner.path.fields →
-    ((values : List Value) (store : Store) → OnTop (IsOfRecord inner) (top_of core n j values store)) →
+    ((values : List Value) (store : Store) → OnArrival (IsOfRecord inner) (arrival_of core n j values store)) →
     Leading core inner.locked kind field below op
 leads-through core n j count inner kind field below op some call same same_field has =
     subst (λ (b : Option ℕ). Leading core inner.locked kind field b op) (sym some)
     (subst (λ (x : CoreOp). Leading core inner.locked kind field (Some j) x) (sym call)
     (λ at. entered-so core (IsSo inner.locked kind field 0) n j (values_passed at count) at.store (method_at core n)
-    (map-on (IsOfRecord inner) (IsSo inner.locked kind field 0) (top_of core n j (values_passed at count) at.store)
-    (λ top (of : IsOfRecord inner top).
+    (map-on (IsOfRecord inner) (IsSo inner.locked kind field 0) (arrival_of core n j (values_passed at count) at.store)
+    (λ arrival (of : IsOfRecord inner arrival).
     (of.held ∙ or-false inner.locked, of.touches ∙ ap Some (sym same), of.field ∙ sym same_field))
     (has (values_passed at count) at.store))))
 
@@ -414,32 +418,33 @@ module _ (core : Core) (facts : AreInOrder core) where
       (at : record_at core m i ≡ Some r) (o : Operation) (flag : Bool) → op_at method.code r.site ≡ Some o →
       Leading core flag r.kind (last_of r.path.fields) r.below o.op →
       r.locked ≡ (flag || nat_lt 0 (locks_round r.site method.code)) →
-      (values : List Value) (store : Store) → OnTop (IsOfRecord r) (top_of core m i values store)
+      (values : List Value) (store : Store) → OnArrival (IsOfRecord r) (arrival_of core m i values store)
   so-at m method i r there at o flag is leading held values store =
       let f : FoundAt core m i r = found-at core m i r at in
       let analysed : is_analysed core m ≡ true = known-analysed core m method (Whole f.found) there f.known in
       let field : Option FieldId = last_of r.path.fields in
       let n : ℕ = locks_round r.site method.code in
-      subst (λ (top : Option Arrival). OnTop (IsOfRecord r) top)
+      subst (λ (arrival : Option Arrival). OnArrival (IsOfRecord r) arrival)
       (sym (ap (λ (t : List Value → Store → Option Arrival). t values store)
-      (top_of-code core facts.right.ranks m method i r there analysed at)))
+      (arrival_of-code core facts.right.ranks m method i r there analysed at)))
       (map-on (IsSo flag r.kind field n) (IsOfRecord r)
-      (to core (call_of core) (top_of core) r.site r.below method.code (entry_point method values store))
-      (λ top so. record { held = so.0 ∙ sym held; touches = so.1; field = so.2 })
-      (to-has core (call_of core) (top_of core) r.site r.below o (IsSo flag r.kind field) (one-deeper flag r.kind field)
+      (to core (call_of core) (arrival_of core) r.site r.below method.code (entry_point method values store))
+      (λ arrival so. record { held = so.0 ∙ sym held; touches = so.1; field = so.2 })
+      (to-has core (call_of core) (arrival_of core) r.site r.below o (IsSo flag r.kind field)
+      (one-deeper flag r.kind field)
       leading method.code is (entry_point method values store)))
 
   of-callee : (m : MethodId) (i : ℕ) (r : Access) → record_at core m i ≡ Some r →
       ((method : Method) → method_at core m ≡ Some method → (values : List Value) (store : Store) →
-      OnTop (IsOfRecord r) (top_of core m i values store)) →
+      OnArrival (IsOfRecord r) (arrival_of core m i values store)) →
       (o : Option Method) → method_at core m ≡ o → (values : List Value) (store : Store) →
-      OnTop (IsOfRecord r) (top_of core m i values store)
+      OnArrival (IsOfRecord r) (arrival_of core m i values store)
   of-callee m i r at so None there = absurd (unknown core m i r there at)
   of-callee m i r at so (Some method) there = so method there
 
   pub record-so : (k : ℕ) (m : MethodId) (method : Method) (i : ℕ) (r : Access) → rank_of core m < k →
       method_at core m ≡ Some method → record_at core m i ≡ Some r → (values : List Value) (store : Store) →
-      OnTop (IsOfRecord r) (top_of core m i values store)
+      OnArrival (IsOfRecord r) (arrival_of core m i values store)
   record-so zero m method i r low there at = absurd (omega arith)
   record-so (suc k) m method i r low there at =
       let f : FoundAt core m i r = found-at core m i r at in

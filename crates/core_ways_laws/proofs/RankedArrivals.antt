@@ -20,14 +20,15 @@ use Rattle.access_domain.specs.Summaries.{effects_given, known_of, known_of_call
 use Rattle.access_domain.specs.OutcomeRecords.{record_at, records_held}
 use Rattle.core_semantics.specs.declared.object.Value.{Value}
 use Rattle.core_semantics.specs.State.{Store}
-use Rattle.core_ways_laws.specs.Arrivals.{Arrival, Arrivals, to, to_record, top_given, top_of}
+use Rattle.core_ways_laws.specs.Arrivals.{Arrival, Arrivals, to, to_record, arrival_given, arrival_of}
 use Rattle.core_ways_laws.specs.Values.{call_of, entry_point}
 use Rattle.core_ways_laws.specs.Kept.{AreMet, IsEntered, IsMet}
 use Rattle.core_ways_laws.specs.Names.{Naming}
 use Rattle.core_ways_laws.specs.Places.{AreHushed, IsFrame, IsStore}
 use Rattle.core_ways_laws.specs.Quiet.{Quietness}
 use Rattle.core_ways_laws.proofs.Members.{firsts_give, hush-different}
-use Rattle.core_ways_laws.proofs.ProgramFacts.{IsRight, IsRightCall, IsWhole, callee_known, is_right, is_whole, lower_call}
+use Rattle.core_ways_laws.proofs.ProgramFacts.{IsRight, IsRightCall, IsWhole, callee_known, is_right, is_whole}
+use Rattle.core_ways_laws.proofs.ProgramFacts.{lower_call}
 use Rattle.core_ways_laws.proofs.ProgramFacts.{right_call}
 use Rattle.core_ways_laws.proofs.Ranked.{good-callees}
 use Rattle.core_ways_laws.proofs.Towards.{AreLed, IsLed, towards-met}
@@ -61,25 +62,26 @@ record-of core m i r is = of_known core m i r (known_of core m) refl is
 
 -- ---- ways to records, from those of methods of smaller ranks
 
-abbrev inner_tops : Core → MethodId → Arrivals
-inner_tops core m = known_below (λ i values store. None) (top_given core) core (rank_of core m)
+abbrev inner_arrivals : Core → MethodId → Arrivals
+inner_arrivals core m = known_below (λ i values store. None) (arrival_given core) core (rank_of core m)
 
-top-is : (core : Core) (m : MethodId) (method : Method) (i : ℕ) (r : Access) (values : List Value) (store : Store) →
+arrival-is : (core : Core) (m : MethodId) (method : Method) (i : ℕ) (r : Access) (values : List Value) (store : Store) →
     method_at core m ≡ Some method → record_at core m i ≡ Some r →
-    top_of core m i values store ≡
-    to core (call_of core) (inner_tops core m) r.site r.below method.code (entry_point method values store)
-top-is core m method i r values store there has =
+    arrival_of core m i values store ≡
+    to core (call_of core) (inner_arrivals core m) r.site r.below method.code (entry_point method values store)
+arrival-is core m method i r values store there has =
     ap (λ (o : Option Method). elim o as (λ _. Option Arrival) [
       | None ↦ None
-      | Some x ↦ to_record core (inner_tops core m) (record_at core m i) x values store
+      | Some x ↦ to_record core (inner_arrivals core m) (record_at core m i) x values store
     ]) there
-    ∙ ap (λ (o : Option Access). to_record core (inner_tops core m) o method values store) has
+    ∙ ap (λ (o : Option Access). to_record core (inner_arrivals core m) o method values store) has
 
-meeting-op : (core : Core) (quiet : Quietness core) (table : Table) (tops : Arrivals) (op : CoreOp) →
-    ((callee : MethodId) (count : ℕ) → op ≡ Call callee count → AreMet core quiet callee (table callee) (tops callee)) →
-    IsLed core quiet table tops op
-meeting-op core quiet table tops (Call callee count) each = each callee count refl
-meeting-op core quiet table tops op each = tt
+meeting-op : (core : Core) (quiet : Quietness core) (table : Table) (arrivals : Arrivals) (op : CoreOp) →
+    ((callee : MethodId) (count : ℕ) → op ≡ Call callee count →
+    AreMet core quiet callee (table callee) (arrivals callee)) →
+    IsLed core quiet table arrivals op
+meeting-op core quiet table arrivals (Call callee count) each = each callee count refl
+meeting-op core quiet table arrivals op each = tt
 
 method-there : (core : Core) (m : MethodId) → is_analysed core m ≡ true →
     (method : Method) × (method_at core m ≡ Some method)
@@ -95,33 +97,33 @@ method-there core m analysed =
 callees-met : (p : Program) (quiet : Quietness (core p)) (m : MethodId) (method : Method) →
     method_at (core p) m ≡ Some method → is_analysed (core p) m ≡ true →
     ((callee : MethodId) → rank_of (core p) callee < rank_of (core p) m → is_analysed (core p) callee ≡ true →
-    AreMet (core p) quiet callee (known_of (core p) callee) (top_of (core p) callee)) →
-    AreLed (core p) quiet (known_of_callees (core p) m) (inner_tops (core p) m) method.code
+    AreMet (core p) quiet callee (known_of (core p) callee) (arrival_of (core p) callee)) →
+    AreLed (core p) quiet (known_of_callees (core p) m) (inner_arrivals (core p) m) method.code
 callees-met p quiet m method there analysed lower o stands =
     let right : IsRight (core p) method = is_right p m method there analysed in
-    meeting-op (core p) quiet (known_of_callees (core p) m) (inner_tops (core p) m) o.op
+    meeting-op (core p) quiet (known_of_callees (core p) m) (inner_arrivals (core p) m) o.op
     (λ callee count is.
     let low : rank_of (core p) callee < rank_of (core p) m =
     lower_call p m method there analysed o stands callee count is in
     let call : IsRightCall (core p) callee count = right_call (core p) callee count
     (subst (λ (op : CoreOp). is_right_call (core p) op ≡ true) is (right.calls o stands)) in
-    let met : AreMet (core p) quiet callee (known_of (core p) callee) (top_of (core p) callee) =
+    let met : AreMet (core p) quiet callee (known_of (core p) callee) (arrival_of (core p) callee) =
     lower callee low call.analysed in
-    let same : inner_tops (core p) m callee ≡ top_of (core p) callee =
-    known_below-lower (λ i values store. None) (top_given (core p)) (core p) (rank_of (core p) m) callee low in
-    subst (λ (k : Option Known). AreMet (core p) quiet callee k (inner_tops (core p) m callee))
+    let same : inner_arrivals (core p) m callee ≡ arrival_of (core p) callee =
+    known_below-lower (λ i values store. None) (arrival_given (core p)) (core p) (rank_of (core p) m) callee low in
+    subst (λ (k : Option Known). AreMet (core p) quiet callee k (inner_arrivals (core p) m callee))
     (sym (callee_known (core p) m callee low))
-    (subst (λ (tops : ℕ → List Value → Store → Option Arrival).
-    AreMet (core p) quiet callee (known_of (core p) callee) tops) (sym same) met))
+    (subst (λ (arrivals : ℕ → List Value → Store → Option Arrival).
+    AreMet (core p) quiet callee (known_of (core p) callee) arrivals) (sym same) met))
 
 -- the way to a record of a method
 method-met : (p : Program) (quiet : Quietness (core p)) (m : MethodId) (method : Method) →
     method_at (core p) m ≡ Some method → is_analysed (core p) m ≡ true →
-    AreLed (core p) quiet (known_of_callees (core p) m) (inner_tops (core p) m) method.code →
+    AreLed (core p) quiet (known_of_callees (core p) m) (inner_arrivals (core p) m) method.code →
     (found : Findings) → known_of (core p) m ≡ Some (Whole found) → (n : Naming) (values : List Value)
     (store : Store) → IsEntered (core p) quiet n method values store → IsStore (core p) quiet store →
     AreHushed (core p) quiet n found.wobbly → (i : ℕ) (r : Access) → slice_get found.records i ≡ Some r →
-    IsMet (core p) quiet n r (top_of (core p) m i values store)
+    IsMet (core p) quiet n r (arrival_of (core p) m i values store)
 method-met p quiet m method there analysed meets found known n values store entered stored hush i r has =
     let right : IsRight (core p) method = is_right p m method there analysed in
     let table : Table = known_of_callees (core p) m in
@@ -134,13 +136,13 @@ method-met p quiet m method there analysed meets found known n values store ente
     let frame : IsFrame (core p) quiet n method [] (start_of method) (entry_point method values store) =
     record { vars = entered; stack = tt } in
     subst (λ (o : Option Arrival). IsMet (core p) quiet n r o)
-    (sym (top-is (core p) m method i r values store there (record-there (core p) m found i r known has)))
-    (towards-met (core p) quiet n method table method.main (call_of (core p)) (inner_tops (core p) m) method.code
+    (sym (arrival-is (core p) m method i r values store there (record-there (core p) m found i r known has)))
+    (towards-met (core p) quiet n method table method.main (call_of (core p)) (inner_arrivals (core p) m) method.code
     right.calls (good-callees p quiet m method there analysed) meets 0 right.sites false [] right.kinds
     (start_of method) (entry_point method values store) r right.kinded hushed whole.small frame stored among)
 
 met-below : (p : Program) (quiet : Quietness (core p)) (k : ℕ) (m : MethodId) → rank_of (core p) m < k →
-    is_analysed (core p) m ≡ true → AreMet (core p) quiet m (known_of (core p) m) (top_of (core p) m)
+    is_analysed (core p) m ≡ true → AreMet (core p) quiet m (known_of (core p) m) (arrival_of (core p) m)
 met-below p quiet zero m low analysed = absurd (omega arith)
 met-below p quiet (suc k) m low analysed =
     let method = method-there (core p) m analysed in
@@ -154,6 +156,6 @@ met-below p quiet (suc k) m low analysed =
     }
 
 -- each way to a record of an analysed method leads to the record's access
-pub tops-met : (p : Program) (quiet : Quietness (core p)) (m : MethodId) → is_analysed (core p) m ≡ true →
-    AreMet (core p) quiet m (known_of (core p) m) (top_of (core p) m)
-tops-met p quiet m analysed = met-below p quiet (suc (rank_of (core p) m)) m (omega arith) analysed
+pub arrivals-met : (p : Program) (quiet : Quietness (core p)) (m : MethodId) → is_analysed (core p) m ≡ true →
+    AreMet (core p) quiet m (known_of (core p) m) (arrival_of (core p) m)
+arrivals-met p quiet m analysed = met-below p quiet (suc (rank_of (core p) m)) m (omega arith) analysed

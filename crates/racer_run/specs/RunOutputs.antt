@@ -13,7 +13,7 @@ use Rattle.summary_store.specs.declared.machine.Event.{Event}
 use Rattle.summary_store.specs.Machine.{Legal, IsComplete}
 use Rattle.summary_store.specs.Setups.{setup_of}
 use Rattle.racer_run_history.specs.History.{history_text}
-use Rattle.racer_run.specs.declared.said.RunOutput.{RunOutput}
+use Rattle.racer_run.specs.declared.output.RunOutput.{RunOutput}
 use Rattle.racer_run.specs.declared.status.Status.{Status}
 use Rattle.racer_run.specs.declared.status.Status.TheVariants.{Clean, Warned, Refused}
 use Rattle.racer_run.specs.Words.{WantedReport}
