@@ -1,9 +1,10 @@
 //! The ways to the sites of a method, noted in one pass over its code.
-ghost use Rattle.std.specs.Prelude.{◌≡◌, ℕ, suc, map, IfOk, OnOk};
+ghost use Rattle.std.specs.Prelude.{◌≡◌, ℕ, suc, ◌∷◌, [], true, map, IfOk, OnOk};
 ghost use Rattle.core_code.specs.Core.{Core};
 ghost use Rattle.core_code.specs.Program.{core};
 ghost use Rattle.core_code.specs.Tree.{Tree, in_sequence, tree_of};
 ghost use Rattle.core_code.specs.Tree as tree;
+ghost use Rattle.core_ways.specs.declared.part.WayPart.TheVariants.{Step};
 ghost use Rattle.core_ways.specs.Passings.{IsTable};
 ghost use Rattle.core_ways.specs.Ways.{Trip, joined, passed, trip_along, trip_of};
 ghost use Rattle.core_semantics.specs.declared.answer.Turn.TheVariants.{Left};
@@ -96,8 +97,19 @@ fn deeper(locks: u32) -> Result<u32, Memory>
     locks.checked_add(1).ok_or(Memory)
 }
 
-/// Passes a piece of code within so many locks.
-fn past(
+/// Whether passing a piece of code is one step that takes no turn.
+fn is_one_step(code: &Code) -> bool
+    ensures { (locks : ℕ) → result ≡ true → passed locks (tree_of code.now) ≡ Step ∷ [] }
+{
+    match code {
+        Code::Op(_, _, Op::Ret | Op::Call(_, _) | Op::Unread(_, _)) => false,
+        Code::Op(_, _, _) => true,
+        Code::Seq(_) | Code::Choice(_, _) | Code::Loop(_) | Code::Sync(_, _, _) => false,
+    }
+}
+
+/// Passes the parts of a piece of code within so many locks.
+fn past_parts(
     alloc: Global,
     program: &Program,
     table: &mut Passings,
@@ -119,6 +131,30 @@ fn past(
         return Err(Memory);
     };
     along(alloc, program, table, turns, count, parts.as_slice())
+}
+
+/// Passes a piece of code within so many locks.
+fn past(
+    alloc: Global,
+    program: &Program,
+    table: &mut Passings,
+    turns: &mut Vec<Turn>,
+    locks: u32,
+    count: Count,
+    code: &Code,
+) -> Result<Count, Memory>
+    requires { IsTable (core program.now) table.old }
+    ensures table { OnOk result (IsTable (core program.now) table.new) }
+    ensures longer { OnOk result (IsLonger turns.old.items turns.new.items) }
+    ensures leads { (rest whole : Trip) →
+        LeadsOn count turns.old.items
+        (joined (trip_along (trip_of (core program.now)) (passed locks (tree_of code.now))) rest) whole →
+        IfOk result (λ now. LeadsOn now turns.new.items rest whole) }
+{
+    if is_one_step(code) {
+        return Ok(step(count));
+    }
+    past_parts(alloc, program, table, turns, locks, count, code)
 }
 
 /// Goes into a piece of code within so many locks, and notes what is gone up to each site that is still to be found.

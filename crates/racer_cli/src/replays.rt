@@ -109,6 +109,11 @@ const FOLDERS: &[Case] = &[
         ..MADE
     },
     Case {
+        words: &["--made", "100", "--workers", "2"],
+        text: b"made 100\nfiles 100 classes 100 methods 490\nwarnings 580 confirmed 480\n",
+        ..MADE
+    },
+    Case {
         words: &["--made", "100", "--workers", "64"],
         text: b"made 100\nfiles 100 classes 100 methods 490\nwarnings 580 confirmed 480\n",
         ..MADE

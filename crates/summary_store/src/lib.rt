@@ -20,8 +20,15 @@
 //! `Store::take`, `Store::demand` and `Store::publish` take the lock, see that pass and value agree, and make the
 //! call of `laws`. What a clause says of them it says of the pass, since the value is another thread's as soon as the
 //! lock is free.
+//!
+//! # Cells
+//!
+//! Beside the lock each method has a cell, which is set once, to a copy of the piece that was published, where there is
+//! memory for it. `Store::demand` looks there first, and takes no lock where the callee's piece is found. That it is
+//! right is kept by the type of what a cell holds; no proof rests on a cell's being set.
 #![tactic(auto)]
 
+mod cells;
 mod closing;
 mod demand;
 pub mod laws;

@@ -50,9 +50,7 @@ pub(crate) fn idle_methods(alloc: Global, program: &Program) -> Result<Vec<Metho
 {
     let mut methods = Vec::with_capacity(alloc, count(program))?;
     for place in 0..count(program) {
-        let Ok(m) = numbered(place) else {
-            return Err(Memory);
-        };
+        let m = numbered(place)?;
         if is_analysed(program, place) {
             methods.push_reserved(m);
         }

@@ -10,8 +10,10 @@ ghost use Rattle.summary_store.specs.Kept.{pieces_of, IsPieceOf, IsRight};
 ghost use Rattle.summary_store.specs.Passes.{WantsNext, MayHand, pass_view, first_passes};
 ghost use Rattle.summary_store.specs.Setups.{setup_of};
 
+use crate::cells::Cells;
 use crate::laws::{demand_at, publish_at, take_at};
-use crate::{Closed, Demand, Locked, Pass, StoreRun};
+use crate::starting::count;
+use crate::{Closed, Demand, Hand, Locked, Pass, StoreRun};
 use core_code::{CallRows, Piece, Program};
 use racer_base::{Memory, MethodId};
 use std::alloc::Global;
@@ -21,6 +23,7 @@ use std::sync::{Arc, Mutex, Wait};
 /// The store that threads share. Its calls wait for the lock alone.
 #[derive(Drop)]
 pub struct Store<P: Piece, L: StoreRun> {
+    cells: Cells<P, L>,
     locked: Mutex<Locked<P, L>>,
 }
 
@@ -45,9 +48,11 @@ impl<P: Piece, L: StoreRun> Store<P, L> {
         let mut book = book;
         let mut share = share;
         book.audit(&mut share);
+        let cells = Cells::empty(alloc, count(program))?;
         let locked = Locked::start(alloc, program, rows, workers, book)?;
         let passes = Pass::deal(alloc, share, workers)?;
         let store = Store {
+            cells,
             locked: Mutex::new(locked),
         };
         Ok((store, passes))
@@ -70,9 +75,32 @@ impl<P: Piece, L: StoreRun> Store<P, L> {
         unreachable!()
     }
 
-    /// Gives a callee's piece, or parks the method that this pass holds until the callee is done: `demand_at` under the
-    /// lock. Memory is answered as there.
+    /// Gives a callee's piece from its cell, without the lock. Where the cell has none: `demand_at` under the lock, which
+    /// gives the piece too, or parks the method that this pass holds until the callee is done. Memory is answered where
+    /// the piece can't be copied, or one more would be too many to count.
     pub fn demand<R: Wait>(&self, rt: &R, pass: &mut Pass<L>, callee: MethodId) -> Demand<P>
+        requires next { WantsNext (rows_of (core L.program)) pass.old.hand pass.old.found callee }
+        ensures found { IfFound result (λ piece. IsPieceOf P.names (P.is_right L.program) callee.0 piece) }
+        ensures found_pass { IfFound result (λ piece.
+            pass.new ≡ pass_view pass.old.number pass.old.hand (pass.old.found + 1) pass.old.made) }
+        ensures parked { IfParked result (pass.new ≡ pass_view pass.old.number Free 0 (pass.old.made + 1)) }
+        ensures memory { IfMemory result (pass.new ≡ pass.old) }
+    {
+        let Ok(kept) = self.cells.copy_for(callee) else {
+            return Demand::Memory;
+        };
+        let Some(piece) = kept else {
+            return self.demand_locked(rt, pass, callee);
+        };
+        let Some(found) = pass.found().checked_add(1) else {
+            return Demand::Memory;
+        };
+        pass.find(found);
+        Demand::Found(piece)
+    }
+
+    /// `demand_at` under the lock.
+    fn demand_locked<R: Wait>(&self, rt: &R, pass: &mut Pass<L>, callee: MethodId) -> Demand<P>
         requires next { WantsNext (rows_of (core L.program)) pass.old.hand pass.old.found callee }
         ensures found { IfFound result (λ piece. IsPieceOf P.names (P.is_right L.program) callee.0 piece) }
         ensures found_pass { IfFound result (λ piece.
@@ -91,8 +119,24 @@ impl<P: Piece, L: StoreRun> Store<P, L> {
     }
 
     /// Publishes the piece of the method that this pass holds, all of whose row it has found: `publish_at` under the
-    /// lock.
+    /// lock. Behind the lock the method's cell gets a copy, where there is memory for one.
     pub fn publish<R: Wait>(&self, rt: &R, pass: &mut Pass<L>, piece: Arc<P>)
+        requires piece { MayHand (IsPieceOf P.names (P.is_right L.program)) (rows_of (core L.program))
+            pass.old.hand pass.old.found (arc_value piece) }
+        ensures { pass.new ≡ pass_view pass.old.number Free 0 (pass.old.made + 1) }
+    {
+        let Hand::Holds(m) = pass.hand() else {
+            unreachable!();
+        };
+        let copy: Result<_, _> = piece.clone();
+        self.publish_locked(rt, pass, piece);
+        if let Ok(copy) = copy {
+            self.cells.keep(m, copy);
+        }
+    }
+
+    /// `publish_at` under the lock.
+    fn publish_locked<R: Wait>(&self, rt: &R, pass: &mut Pass<L>, piece: Arc<P>)
         requires piece { MayHand (IsPieceOf P.names (P.is_right L.program)) (rows_of (core L.program))
             pass.old.hand pass.old.found (arc_value piece) }
         ensures { pass.new ≡ pass_view pass.old.number Free 0 (pass.old.made + 1) }
@@ -110,7 +154,7 @@ impl<P: Piece, L: StoreRun> Store<P, L> {
 
     /// The value that the lock kept.
     pub fn into_locked(self) -> Locked<P, L> {
-        let Store { locked } = self;
+        let Store { locked, .. } = self;
         locked.into_inner()
     }
 

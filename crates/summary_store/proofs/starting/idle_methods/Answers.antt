@@ -29,7 +29,7 @@ loop-place-preserved c =
         items = flagged_step (flags_of (core c.args.program.now)) c.loop-place.place true c.loop-place.methods.items _
             low w.if-is_analysed.ensures c.loop-place.invariant.items (ap (λ v. v.items) w.methods-is
             ∙ w.push_reserved.ensures.items ∙ ap (λ (k : MethodId). c.loop-place.methods.items ++ k ∷ [])
-            (same_number c.in-Ok.m (record { 0 = c.loop-place.place }) c.in-Ok.ensures));
+            (same_number c.in_ok-m.m (record { 0 = c.loop-place.place }) c.in_ok-m.ensures));
         room = (let e = ap vec_capacity w.methods-is in
             omega (arith, w.push_reserved.ensures.capacity, c.loop-place.invariant.room));
       }
