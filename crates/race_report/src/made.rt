@@ -4,7 +4,7 @@ ghost use Rattle.core_code.specs.Program.{core};
 ghost use Rattle.race_pairs.specs.Warnings as pairs;
 ghost use Rattle.core_ways.specs.Marks.{said_by};
 ghost use Rattle.witness_build_laws.specs.Warned.{warning_mark};
-ghost use Rattle.race_report_parts.specs.Written.{Lasts, Puts};
+ghost use Rattle.race_report_parts.specs.Written.{Puts};
 ghost use Rattle.race_report.specs.Modes.{made_report};
 
 use crate::marks::push_last;
@@ -19,8 +19,7 @@ use std::alloc::Global;
 fn push_made(text: &mut Written, number: u32, program: &Program, found: &[Warning], marks: &[Mark])
     requires found { found.now ≡ pairs.warnings (core program.now) }
     requires marks { map said_by marks.now ≡ map (warning_mark (core program.now)) found.now }
-    ensures lasts { Lasts text.old text.new }
-    ensures puts { Puts (made_report number (core program.now)) text.old text.new }
+    ensures { Puts (made_report number (core program.now)) text.old text.new }
 {
     push_text(text, "made ");
     push_number(text, number);

@@ -3,7 +3,7 @@ ghost use Rattle.std.specs.Prelude.{◌≡◌, count_by, map};
 ghost use Rattle.core_code.specs.Program.{core};
 ghost use Rattle.core_ways.specs.Marks.{said_by};
 ghost use Rattle.witness_build_laws.specs.Warned.{warning_mark};
-ghost use Rattle.race_report_parts.specs.Written.{Lasts, Puts};
+ghost use Rattle.race_report_parts.specs.Written.{Puts};
 ghost use Rattle.race_report_parts.specs.Report as said;
 
 use core_code::Program;
@@ -35,8 +35,7 @@ fn confirmed(program: &Program, found: &[Warning], marks: &[Mark]) -> usize
 /// `warnings N confirmed N`
 pub(crate) fn push_last(text: &mut Written, program: &Program, found: &[Warning], marks: &[Mark])
     requires { map said_by marks.now ≡ map (warning_mark (core program.now)) found.now }
-    ensures lasts { Lasts text.old text.new }
-    ensures puts { Puts (said.last_line (core program.now) found.now) text.old text.new }
+    ensures { Puts (said.last_line (core program.now) found.now) text.old text.new }
 {
     push_text(text, "warnings ");
     push_count(text, found.len());

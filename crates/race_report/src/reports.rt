@@ -6,7 +6,7 @@ ghost use Rattle.access_domain.specs.Outcomes.{AreOutcomes};
 ghost use Rattle.race_pairs.specs.Warnings as pairs;
 ghost use Rattle.core_ways.specs.Marks.{said_by};
 ghost use Rattle.witness_build_laws.specs.Warned.{warning_mark};
-ghost use Rattle.race_report_parts.specs.Written.{Lasts, Puts};
+ghost use Rattle.race_report_parts.specs.Written.{Puts};
 ghost use Rattle.race_report_parts.specs.Json.{report_value};
 ghost use Rattle.race_report.specs.Modes as said;
 ghost use Rattle.race_report_parts.specs.Report as lines;
@@ -27,8 +27,7 @@ use std::alloc::Global;
 /// Puts the lines of the summaries behind a text, where they are asked for.
 fn push_asked(text: &mut Written, summaries: bool, program: &Program, outcomes: &Outcomes)
     requires { AreOutcomes (core program.now) outcomes.now.items }
-    ensures lasts { Lasts text.old text.new }
-    ensures puts { Puts (lines.summaries_lines summaries (core program.now)) text.old text.new }
+    ensures { Puts (lines.summaries_lines summaries (core program.now)) text.old text.new }
 {
     if summaries {
         push_summaries(text, program, outcomes)
@@ -37,8 +36,7 @@ fn push_asked(text: &mut Written, summaries: bool, program: &Program, outcomes: 
 
 /// Puts the first lines behind a text.
 fn push_head(text: &mut Written, program: &Program)
-    ensures lasts { Lasts text.old text.new }
-    ensures puts { Puts (lines.head_lines (core program.now)) text.old text.new }
+    ensures { Puts (lines.head_lines (core program.now)) text.old text.new }
 {
     push_text(text, "racer report 1\n");
     push_counts(text, program)
@@ -47,8 +45,7 @@ fn push_head(text: &mut Written, program: &Program)
 /// Puts the lines on places and methods behind a text.
 fn push_methods(text: &mut Written, summaries: bool, program: &Program, outcomes: &Outcomes)
     requires { AreOutcomes (core program.now) outcomes.now.items }
-    ensures lasts { Lasts text.old text.new }
-    ensures puts { Puts (lines.method_lines summaries (core program.now)) text.old text.new }
+    ensures { Puts (lines.method_lines summaries (core program.now)) text.old text.new }
 {
     push_skipped(text, program);
     push_not_analysed(text, program, outcomes);
@@ -67,8 +64,7 @@ fn push_lines(
     requires outcomes { AreOutcomes (core program.now) outcomes.now.items }
     requires found { found.now ≡ pairs.warnings (core program.now) }
     requires marks { map said_by marks.now ≡ map (warning_mark (core program.now)) found.now }
-    ensures lasts { Lasts text.old text.new }
-    ensures puts { Puts (lines.report_text summaries (core program.now)) text.old text.new }
+    ensures { Puts (lines.report_text summaries (core program.now)) text.old text.new }
 {
     push_head(text, program);
     push_methods(text, summaries, program, outcomes);
@@ -88,8 +84,7 @@ fn push_object(
     requires outcomes { AreOutcomes (core program.now) outcomes.now.items }
     requires found { found.now ≡ pairs.warnings (core program.now) }
     requires marks { map said_by marks.now ≡ map (warning_mark (core program.now)) found.now }
-    ensures lasts { Lasts text.old text.new }
-    ensures puts { Puts (lines.line (compact_text (report_value summaries (core program.now)))) text.old text.new }
+    ensures { Puts (lines.line (compact_text (report_value summaries (core program.now)))) text.old text.new }
 {
     race_report_parts::push_report(text, summaries, program, outcomes, found, marks);
     push_end(text)
@@ -107,8 +102,7 @@ fn push_report(
     requires outcomes { AreOutcomes (core program.now) outcomes.now.items }
     requires found { found.now ≡ pairs.warnings (core program.now) }
     requires marks { map said_by marks.now ≡ map (warning_mark (core program.now)) found.now }
-    ensures lasts { Lasts text.old text.new }
-    ensures puts { Puts (said.report mode (core program.now)) text.old text.new }
+    ensures { Puts (said.report mode (core program.now)) text.old text.new }
 {
     if mode.json {
         push_object(text, mode.summaries, program, outcomes, found, marks)

@@ -6,7 +6,7 @@ ghost use Rattle.access_domain.specs.Outcomes.{AreOutcomes};
 ghost use Rattle.race_report_parts.specs.Sides.{sides_told};
 ghost use Rattle.race_report_parts.specs.Sites.{AreSites};
 ghost use Rattle.race_report_parts.specs.Told as told;
-ghost use Rattle.race_report_parts.specs.Written.{Lasts, Puts};
+ghost use Rattle.race_report_parts.specs.Written.{Puts};
 ghost use Rattle.core_ways.specs.Marks.{said_by};
 ghost use Rattle.witness_build_laws.specs.Warned.{warning_mark};
 ghost use Rattle.race_report_parts.specs.Report as said;
@@ -21,8 +21,7 @@ use race_report_parts::{
 
 /// The lines of the two records of a warning.
 fn push_sides(text: &mut Written, program: &Program, sides: &Sides<'_>)
-    ensures lasts { Lasts text.old text.new }
-    ensures puts { Puts (said.sides_lines (core program.now) (Some (sides_told sides.now))) text.old text.new }
+    ensures { Puts (said.sides_lines (core program.now) (Some (sides_told sides.now))) text.old text.new }
 {
     push_text(text, "warning ");
     push_side(text, program, &sides.first);
@@ -40,8 +39,7 @@ fn push_sides_of(
 )
     requires outcomes { AreOutcomes (core program.now) outcomes.now.items }
     requires sites { AreSites (core program.now) sites.now }
-    ensures lasts { Lasts text.old text.new }
-    ensures puts { Puts
+    ensures { Puts
         (said.sides_lines (core program.now) (told.sides_of (core program.now) warning)) text.old text.new }
 {
     match sides_of(text.alloc, program, outcomes, sites, warning) {
@@ -62,8 +60,7 @@ fn push_warning(
     requires outcomes { AreOutcomes (core program.now) outcomes.now.items }
     requires sites { AreSites (core program.now) sites.now }
     requires mark { said_by mark.now ≡ warning_mark (core program.now) warning }
-    ensures lasts { Lasts text.old text.new }
-    ensures puts { Puts (said.warning_lines (core program.now) warning) text.old text.new }
+    ensures { Puts (said.warning_lines (core program.now) warning) text.old text.new }
 {
     push_sides_of(text, program, outcomes, sites, warning);
     push_mark_lines(text, program, mark)
@@ -80,8 +77,7 @@ fn push_found_warnings(
     requires outcomes { AreOutcomes (core program.now) outcomes.now.items }
     requires sites { AreSites (core program.now) sites.now }
     requires marks { map said_by marks.now ≡ map (warning_mark (core program.now)) found.now }
-    ensures lasts { Lasts text.old text.new }
-    ensures puts { Puts (flat_map (said.warning_lines (core program.now)) found.now) text.old text.new }
+    ensures { Puts (flat_map (said.warning_lines (core program.now)) found.now) text.old text.new }
 {
     for (number, warning) in found.iter().enumerate() {
         let mark = mark_at(marks, number);
@@ -98,8 +94,7 @@ pub(crate) fn push_warnings(
 )
     requires outcomes { AreOutcomes (core program.now) outcomes.now.items }
     requires marks { map said_by marks.now ≡ map (warning_mark (core program.now)) found.now }
-    ensures lasts { Lasts text.old text.new }
-    ensures puts { Puts (flat_map (said.warning_lines (core program.now)) found.now) text.old text.new }
+    ensures { Puts (flat_map (said.warning_lines (core program.now)) found.now) text.old text.new }
 {
     if found.is_empty() {
         return;

@@ -13,7 +13,7 @@ use Rattle.race_report_parts.specs.declared.written.Written.{Written}
 use Rattle.race_report_parts.specs.Marks.{mark_word}
 use Rattle.race_report_parts.specs.Texts.{place_text, method_text, path_text, touch_text, value_text}
 use Rattle.race_report_parts.specs.Told.{access_text, wobbly_texts, Side, Sides}
-use Rattle.race_report_parts.specs.Written.{Lasts, Puts}
+use Rattle.race_report_parts.specs.Written.{Puts}
 use Rattle.race_report_parts.specs.Json.{texts, reason_values, found_values, side_members, mark_value, marked_values}
 use Rattle.race_report_parts.specs.Json.{count, place_value}
 use Rattle.race_report_parts.specs.Pieces.{PutsItems, reason_object, summary_object, detail_text, side_first, side_last}
@@ -27,14 +27,18 @@ IsItem items text = (later : Bool) (rest : List Data) →
 
 -- an item was put, and before it a comma, where a value stands there
 pub one_item : (items : List Data) (text : List ℕ) (later : Bool) (old mid new : Written) → IsItem items text →
-    Puts (comma_if later) old mid → Lasts mid new → Puts text mid new → PutsItems later true items old new
-one_item items text later old mid new is comma last put = λ h rest.
-    let before : List ℕ = string_bytes old.so_far in
-    let behind : List ℕ = items_text true (items_of rest) in
-    ap (λ t. t ++ behind) (put h ∙ ap (λ t. t ++ text) (comma (last h)))
-    ∙ append_assoc (before ++ comma_if later) text behind
-    ∙ append_assoc before (comma_if later) (text ++ behind)
-    ∙ ap (λ t. before ++ t) (sym (is later rest))
+    Puts (comma_if later) old mid → Puts text mid new → PutsItems later true items old new
+one_item items text later old mid new is comma put =
+    record {
+      lasts = λ h. comma.lasts (put.lasts h);
+      text = λ h rest.
+          let before : List ℕ = string_bytes old.so_far in
+          let behind : List ℕ = items_text true (items_of rest) in
+          ap (λ t. t ++ behind) (put.text h ∙ ap (λ t. t ++ text) (comma.text (put.lasts h)))
+          ∙ append_assoc (before ++ comma_if later) text behind
+          ∙ append_assoc before (comma_if later) (text ++ behind)
+          ∙ ap (λ t. before ++ t) (sym (is later rest));
+    }
 
 -- the same pieces, each name with its value
 

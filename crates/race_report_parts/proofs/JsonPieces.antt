@@ -13,7 +13,7 @@ use Rattle.race_pairs.specs.declared.warning.Warning.{Warning}
 use Rattle.race_pairs.specs.Warnings.{warnings}
 use Rattle.race_report_parts.specs.declared.written.Written.{Written}
 use Rattle.race_report_parts.specs.Texts.{place_text}
-use Rattle.race_report_parts.specs.Written.{Lasts, Puts}
+use Rattle.race_report_parts.specs.Written.{Puts}
 use Rattle.race_report_parts.specs.Json.{report_value, values, texts, count, with_summaries, not_analysed_values}
 use Rattle.race_report_parts.specs.Json.{place_value, warning_values, summary_values}
 use Rattle.race_report_parts.specs.Pieces.{PutsMembers, counts_text, first_text, last_text, not_analysed_text, places_strings}
@@ -64,13 +64,19 @@ grouped_first core rest =
 
 -- the member of the summaries
 pub summaries_told : (core : Core) (old named new : Written) → Puts (codes ",\"summaries\":") old named →
-    Lasts named new → Puts (summaries_text core) named new → PutsMembers (with_summaries true core) old new
-summaries_told core old named new first last is = λ h others.
+    Puts (summaries_text core) named new → PutsMembers (with_summaries true core) old new
+summaries_told core old named new first is =
     let all : Data = values (flat_map (summary_values core) (enumerate_from 0 core.methods)) in
-    ap (λ t. t ++ members_text true others) (is h ∙ ap (λ t. t ++ compact_text all) (first (last h)))
-    ∙ append_assoc (string_bytes old.so_far ++ codes ",\"summaries\":") (compact_text all) (members_text true others)
-    ∙ append_assoc (string_bytes old.so_far) (codes ",\"summaries\":") (compact_text all ++ members_text true others)
-    ∙ ap (λ t. string_bytes old.so_far ++ t) (sym (summaries_pieces all others))
+    let name = codes ",\"summaries\":" in
+    record {
+      lasts = λ h. first.lasts (is.lasts h);
+      text = λ h others.
+          ap (λ t. t ++ members_text true others)
+          (is.text h ∙ ap (λ t. t ++ compact_text all) (first.text (is.lasts h)))
+          ∙ append_assoc (string_bytes old.so_far ++ name) (compact_text all) (members_text true others)
+          ∙ append_assoc (string_bytes old.so_far) name (compact_text all ++ members_text true others)
+          ∙ ap (λ t. string_bytes old.so_far ++ t) (sym (summaries_pieces all others));
+    }
 
 -- the texts of the whole object: the first members, the summaries where they are asked for, the last member
 whole_texts : (core : Core) (summaries : Bool) (found : List Warning) (old start two new : List ℕ) →
@@ -99,9 +105,14 @@ whole_texts core summaries found old start two new all first asked last =
     ∙ ap whole (each_place core core.skipped))
 
 pub whole_told : (core : Core) (summaries : Bool) (found : List Warning) (old start two new : Written) →
-    found ≡ warnings core → Puts (first_text core) old start → Lasts start two →
-    PutsMembers (with_summaries summaries core) start two → Lasts two new → Puts (last_text core found) two new →
+    found ≡ warnings core → Puts (first_text core) old start →
+    PutsMembers (with_summaries summaries core) start two → Puts (last_text core found) two new →
     Puts (compact_text (report_value summaries core)) old new
-whole_told core summaries found old start two new all first last_two asked last_new end = λ h.
-    whole_texts core summaries found (string_bytes old.so_far) (string_bytes start.so_far) (string_bytes two.so_far)
-    (string_bytes new.so_far) all (first (last_two (last_new h))) (asked (last_new h)) (end h)
+whole_told core summaries found old start two new all first asked end =
+    record {
+      lasts = λ h. first.lasts (asked.lasts (end.lasts h));
+      text = λ h.
+          whole_texts core summaries found (string_bytes old.so_far) (string_bytes start.so_far)
+          (string_bytes two.so_far) (string_bytes new.so_far) all (first.text (asked.lasts (end.lasts h)))
+          (asked.text (end.lasts h)) (end.text h);
+    }

@@ -17,15 +17,15 @@ pub begins : (whole : List Data) (old new : Written) → Puts (codes "[") old ne
     LeavesItems [] whole false whole old new
 begins whole old new bracket = λ h.
     let behind : List ℕ = items_text false (items_of whole) in
-    ap (λ t. t ++ behind) (bracket h) ∙ append_assoc (string_bytes old.so_far) (codes "[") behind
+    ap (λ t. t ++ behind) (bracket.text h) ∙ append_assoc (string_bytes old.so_far) (codes "[") behind
 
 -- the same behind what stands before the array
 pub begins_behind : (before : List ℕ) (whole : List Data) (old mid new : Written) → Puts before old mid →
-    Lasts mid new → Puts (codes "[") mid new → LeavesItems before whole false whole old new
-begins_behind before whole old mid new put last bracket = λ h.
+    Puts (codes "[") mid new → LeavesItems before whole false whole old new
+begins_behind before whole old mid new put bracket = λ h.
     let behind : List ℕ = items_text false (items_of whole) in
     begins whole mid new bracket h
-    ∙ ap (λ t. t ++ (codes "[" ++ behind)) (put (last h))
+    ∙ ap (λ t. t ++ (codes "[" ++ behind)) (put.text (bracket.lasts h))
     ∙ append_assoc (string_bytes old.so_far) before (codes "[" ++ behind)
 
 -- an element that was read, and those behind it
@@ -36,34 +36,38 @@ read_next xs i x within is = drop_more xs i x within ∙ ap (λ y. y ∷ drop (i
 -- one text more
 pub more_texts : {X : Type 0} (text : X → List ℕ) (before : List ℕ) (whole : List Data) (left rest : List X) (x : X)
     (later : Bool) (comma : List ℕ) (old mid new : Written) → left ≡ x ∷ rest → comma ≡ comma_if later →
-    LeavesItems before whole later (map string (map text left)) old mid → Lasts mid new →
+    LeavesItems before whole later (map string (map text left)) old mid →
     Puts (comma ++ compact_text (string (text x))) mid new →
     LeavesItems before whole true (map string (map text rest)) old new
-more_texts text before whole left rest x later comma old mid new is same leaves last put = λ h.
+more_texts text before whole left rest x later comma old mid new is same leaves put = λ h.
     let so_far : List ℕ = string_bytes mid.so_far in
     let one : List ℕ = compact_text (string (text x)) in
     let behind : List ℕ = items_text true (items_of (map string (map text rest))) in
-    ap (λ t. t ++ behind) (put h ∙ ap (λ t. so_far ++ (t ++ one)) same)
+    ap (λ t. t ++ behind) (put.text h ∙ ap (λ t. so_far ++ (t ++ one)) same)
     ∙ append_assoc so_far (comma_if later ++ one) behind
     ∙ ap (λ t. so_far ++ t) (append_assoc (comma_if later) one behind)
     ∙ ap (λ xs. so_far ++ items_text later (items_of (map string (map text xs)))) (sym is)
-    ∙ leaves (last h)
+    ∙ leaves (put.lasts h)
 
 -- the items of one thing more
 pub more_items : {X : Type 0} (items : X → List Data) (whole : List Data) (left rest : List X) (x : X)
     (later behind : Bool) (old mid new : Written) → left ≡ x ∷ rest →
-    LeavesItems [] whole later (flat_map items left) old mid → Lasts mid new →
-    PutsItems later behind (items x) mid new → LeavesItems [] whole behind (flat_map items rest) old new
-more_items items whole left rest x later behind old mid new is leaves last put = λ h.
-    put h (flat_map items rest)
+    LeavesItems [] whole later (flat_map items left) old mid → PutsItems later behind (items x) mid new →
+    LeavesItems [] whole behind (flat_map items rest) old new
+more_items items whole left rest x later behind old mid new is leaves put = λ h.
+    put.text h (flat_map items rest)
     ∙ ap (λ xs. string_bytes mid.so_far ++ items_text later (items_of (flat_map items xs))) (sym is)
-    ∙ leaves (last h)
+    ∙ leaves (put.lasts h)
 
 -- the bracket behind all items
 pub ends : (before : List ℕ) (whole left : List Data) (later : Bool) (old mid new : Written) → left ≡ [] →
-    LeavesItems before whole later left old mid → Lasts mid new → Puts (codes "]") mid new →
+    Lasts old mid → LeavesItems before whole later left old mid → Puts (codes "]") mid new →
     Puts (before ++ compact_text (values whole)) old new
-ends before whole left later old mid new none leaves last bracket = λ h.
-    bracket h
-    ∙ ap (λ (ds : List Data). string_bytes mid.so_far ++ items_text later (items_of ds)) (sym none)
-    ∙ leaves (last h)
+ends before whole left later old mid new none lasts leaves bracket =
+    record {
+      lasts = λ h. lasts (bracket.lasts h);
+      text = λ h.
+          bracket.text h
+          ∙ ap (λ (ds : List Data). string_bytes mid.so_far ++ items_text later (items_of ds)) (sym none)
+          ∙ leaves (bracket.lasts h);
+    }

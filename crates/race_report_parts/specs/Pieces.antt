@@ -17,6 +17,7 @@ use Rattle.core_semantics.specs.declared.object.StartPath.{StartPath}
 use Rattle.core_semantics.specs.Legs.{Leg}
 use Rattle.core_ways.specs.Marks.{Said, Unstable, Unread, Long, Blocked, Confirmed}
 use Rattle.race_report_parts.specs.declared.written.Written.{Written}
+use Rattle.race_report_parts.specs.Written.{Lasts}
 use Rattle.race_report_parts.specs.Marks.{mark_word, start_text, turn_text}
 use Rattle.race_report_parts.specs.Texts.{class_names, place_text, method_text, path_text, touch_text, value_text}
 use Rattle.race_report_parts.specs.Told.{access_text, Side, Sides}
@@ -25,17 +26,17 @@ use Rattle.race_report_parts.specs.Json.{values, not_analysed_values, summary_va
 
 -- Items of an array were put, where no piece was left out: `later` says whether one stands before them, and `behind`
 -- whether one stands before what follows.
-abbrev pub PutsItems : (later behind : Bool) → List Data → Written → Written → Type 0
-PutsItems later behind items old new =
-    new.is_cut ≡ false → (rest : List Data) →
-    string_bytes new.so_far ++ items_text behind (items_of rest) ≡
-    string_bytes old.so_far ++ items_text later (items_of (items ++ rest))
+pub record PutsItems (later behind : Bool) (items : List Data) (old new : Written) : Type 0 where
+  pub lasts : Lasts old new
+  pub text : new.is_cut ≡ false → (rest : List Data) →
+      string_bytes new.so_far ++ items_text behind (items_of rest) ≡
+      string_bytes old.so_far ++ items_text later (items_of (items ++ rest))
 
 -- members were put before others, where no piece was left out
-abbrev pub PutsMembers : (Members → Members) → Written → Written → Type 0
-PutsMembers more old new =
-    new.is_cut ≡ false → (others : Members) →
-    string_bytes new.so_far ++ members_text true others ≡ string_bytes old.so_far ++ members_text true (more others)
+pub record PutsMembers (more : Members → Members) (old new : Written) : Type 0 where
+  pub lasts : Lasts old new
+  pub text : new.is_cut ≡ false → (others : Members) →
+      string_bytes new.so_far ++ members_text true others ≡ string_bytes old.so_far ++ members_text true (more others)
 
 -- of a whole array and what stands before it, the items that are left, where no piece was left out so far
 abbrev pub LeavesItems : (before : List ℕ) (whole : List Data) (later : Bool) (left : List Data) → Written → Written →

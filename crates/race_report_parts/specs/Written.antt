@@ -7,8 +7,9 @@ abbrev pub Lasts : Text → Text → Type 0
 Lasts old new = new.is_cut ≡ false → old.is_cut ≡ false
 
 -- this piece was put, where none was left out
-abbrev pub Puts : List ℕ → Text → Text → Type 0
-Puts piece old new = new.is_cut ≡ false → string_bytes new.so_far ≡ string_bytes old.so_far ++ piece
+pub record Puts (piece : List ℕ) (old new : Text) : Type 0 where
+  pub lasts : Lasts old new
+  pub text : new.is_cut ≡ false → string_bytes new.so_far ≡ string_bytes old.so_far ++ piece
 
 -- of a whole, what is left to put, where no piece was left out so far
 abbrev pub Leaves : (whole left : List ℕ) → Text → Text → Type 0

@@ -11,7 +11,7 @@ ghost use Rattle.witness_build_laws.specs.Warned.{warning_mark};
 ghost use Rattle.race_report_parts.specs.Sides.{sides_told};
 ghost use Rattle.race_report_parts.specs.Sites.{AreSites};
 ghost use Rattle.race_report_parts.specs.Told as told;
-ghost use Rattle.race_report_parts.specs.Written.{Lasts, Puts};
+ghost use Rattle.race_report_parts.specs.Written.{Puts};
 ghost use Rattle.race_pairs.specs.Warnings as pairs;
 ghost use Rattle.race_report_parts.specs.Json as said;
 ghost use Rattle.race_report_parts.specs.Pieces as pieces;
@@ -37,8 +37,7 @@ fn push_reason_item(
     method: &MethodCore,
     reason: &str,
 )
-    ensures lasts { Lasts text.old text.new }
-    ensures puts { PutsItems later true (said.reason_values (core program.now) (method_of method.now) (Some reason.now))
+    ensures { PutsItems later true (said.reason_values (core program.now) (method_of method.now) (Some reason.now))
         text.old text.new }
 {
     push_comma(text, later);
@@ -55,8 +54,7 @@ fn push_not_analysed_item(
     method: &MethodCore,
 ) -> bool
     requires { AreOutcomes (core program.now) outcomes.now.items }
-    ensures lasts { Lasts text.old text.new }
-    ensures puts { PutsItems later result (said.not_analysed_values (core program.now) (number, method_of method.now))
+    ensures { PutsItems later result (said.not_analysed_values (core program.now) (number, method_of method.now))
         text.old text.new }
 {
     match reason_of(program, outcomes, number, method) {
@@ -70,8 +68,7 @@ fn push_not_analysed_item(
 
 fn push_not_analysed(text: &mut Written, program: &Program, outcomes: &Outcomes)
     requires { AreOutcomes (core program.now) outcomes.now.items }
-    ensures lasts { Lasts text.old text.new }
-    ensures puts { Puts (pieces.not_analysed_text (core program.now)) text.old text.new }
+    ensures { Puts (pieces.not_analysed_text (core program.now)) text.old text.new }
 {
     push_text(text, "[");
     let mut later = false;
@@ -95,8 +92,7 @@ fn push_summary_item(
     requires sites { AreSites (core program.now) sites.now }
     requires is { option_map summary_from (told.found_of (core program.now) (record { 0 = number }))
         ≡ Some summary.now }
-    ensures lasts { Lasts text.old text.new }
-    ensures puts { PutsItems later true (said.summary_values (core program.now) (number, method_of method.now))
+    ensures { PutsItems later true (said.summary_values (core program.now) (number, method_of method.now))
         text.old text.new }
 {
     push_comma(text, later);
@@ -121,8 +117,7 @@ fn push_summary(
 ) -> bool
     requires outcomes { AreOutcomes (core program.now) outcomes.now.items }
     requires sites { AreSites (core program.now) sites.now }
-    ensures lasts { Lasts text.old text.new }
-    ensures puts { PutsItems later result (said.summary_values (core program.now) (number, method_of method.now))
+    ensures { PutsItems later result (said.summary_values (core program.now) (number, method_of method.now))
         text.old text.new }
 {
     match summary_of(program, outcomes, number) {
@@ -143,8 +138,7 @@ fn push_found_summaries(
 )
     requires outcomes { AreOutcomes (core program.now) outcomes.now.items }
     requires sites { AreSites (core program.now) sites.now }
-    ensures lasts { Lasts text.old text.new }
-    ensures puts { Puts (pieces.summaries_text (core program.now)) text.old text.new }
+    ensures { Puts (pieces.summaries_text (core program.now)) text.old text.new }
 {
     push_text(text, "[");
     let mut later = false;
@@ -158,8 +152,7 @@ fn push_found_summaries(
 /// The summaries of all methods that have one.
 fn push_summaries(text: &mut Written, program: &Program, outcomes: &Outcomes)
     requires { AreOutcomes (core program.now) outcomes.now.items }
-    ensures lasts { Lasts text.old text.new }
-    ensures puts { Puts (pieces.summaries_text (core program.now)) text.old text.new }
+    ensures { Puts (pieces.summaries_text (core program.now)) text.old text.new }
 {
     match sites(text.alloc, program) {
         Ok(sites) => push_found_summaries(text, program, outcomes, sites.as_slice()),
@@ -175,8 +168,7 @@ fn push_marked_item(
     sides: &Sides<'_>,
     mark: &Mark,
 )
-    ensures lasts { Lasts text.old text.new }
-    ensures puts { PutsItems later true
+    ensures { PutsItems later true
         (said.marked_values (core program.now) (said_by mark.now) (Some (sides_told sides.now))) text.old text.new }
 {
     push_comma(text, later);
@@ -196,8 +188,7 @@ fn push_warning(
     requires outcomes { AreOutcomes (core program.now) outcomes.now.items }
     requires sites { AreSites (core program.now) sites.now }
     requires mark { said_by mark.now ≡ warning_mark (core program.now) warning }
-    ensures lasts { Lasts text.old text.new }
-    ensures puts { PutsItems later result (said.warning_values (core program.now) warning) text.old text.new }
+    ensures { PutsItems later result (said.warning_values (core program.now) warning) text.old text.new }
 {
     match sides_of(text.alloc, program, outcomes, sites, warning) {
         Ok(None) => later,
@@ -224,8 +215,7 @@ fn push_found_warnings(
     requires outcomes { AreOutcomes (core program.now) outcomes.now.items }
     requires sites { AreSites (core program.now) sites.now }
     requires marks { map said_by marks.now ≡ map (warning_mark (core program.now)) found.now }
-    ensures lasts { Lasts text.old text.new }
-    ensures puts { Puts (pieces.warnings_text (core program.now) found.now) text.old text.new }
+    ensures { Puts (pieces.warnings_text (core program.now) found.now) text.old text.new }
 {
     push_text(text, "[");
     let mut later = false;
@@ -245,8 +235,7 @@ fn push_warnings(
 )
     requires outcomes { AreOutcomes (core program.now) outcomes.now.items }
     requires marks { map said_by marks.now ≡ map (warning_mark (core program.now)) found.now }
-    ensures lasts { Lasts text.old text.new }
-    ensures puts { Puts (pieces.warnings_text (core program.now) found.now) text.old text.new }
+    ensures { Puts (pieces.warnings_text (core program.now) found.now) text.old text.new }
 {
     match sites(text.alloc, program) {
         Ok(sites) => push_found_warnings(text, program, outcomes, sites.as_slice(), found, marks),
@@ -256,8 +245,7 @@ fn push_warnings(
 
 /// The counts.
 fn push_counts(text: &mut Written, program: &Program)
-    ensures lasts { Lasts text.old text.new }
-    ensures puts { Puts (pieces.counts_text (core program.now)) text.old text.new }
+    ensures { Puts (pieces.counts_text (core program.now)) text.old text.new }
 {
     push_text(text, "{\"classes\":");
     push_count(text, program.classes().len());
@@ -270,8 +258,7 @@ fn push_counts(text: &mut Written, program: &Program)
 /// The members before the summaries.
 fn push_first(text: &mut Written, program: &Program, outcomes: &Outcomes)
     requires { AreOutcomes (core program.now) outcomes.now.items }
-    ensures lasts { Lasts text.old text.new }
-    ensures puts { Puts (pieces.first_text (core program.now)) text.old text.new }
+    ensures { Puts (pieces.first_text (core program.now)) text.old text.new }
 {
     push_counts(text, program);
     push_text(text, ",\"not_analysed\":");
@@ -283,8 +270,7 @@ fn push_first(text: &mut Written, program: &Program, outcomes: &Outcomes)
 /// The member of the summaries.
 fn push_summaries_member(text: &mut Written, program: &Program, outcomes: &Outcomes)
     requires { AreOutcomes (core program.now) outcomes.now.items }
-    ensures lasts { Lasts text.old text.new }
-    ensures puts { PutsMembers (said.with_summaries true (core program.now)) text.old text.new }
+    ensures { PutsMembers (said.with_summaries true (core program.now)) text.old text.new }
 {
     push_text(text, ",\"summaries\":");
     push_summaries(text, program, outcomes)
@@ -293,8 +279,7 @@ fn push_summaries_member(text: &mut Written, program: &Program, outcomes: &Outco
 /// The member of the summaries, where they are asked for.
 fn push_asked(text: &mut Written, summaries: bool, program: &Program, outcomes: &Outcomes)
     requires { AreOutcomes (core program.now) outcomes.now.items }
-    ensures lasts { Lasts text.old text.new }
-    ensures puts { PutsMembers (said.with_summaries summaries (core program.now)) text.old text.new }
+    ensures { PutsMembers (said.with_summaries summaries (core program.now)) text.old text.new }
 {
     if summaries {
         push_summaries_member(text, program, outcomes)
@@ -311,8 +296,7 @@ fn push_last(
 )
     requires outcomes { AreOutcomes (core program.now) outcomes.now.items }
     requires marks { map said_by marks.now ≡ map (warning_mark (core program.now)) found.now }
-    ensures lasts { Lasts text.old text.new }
-    ensures puts { Puts (pieces.last_text (core program.now) found.now) text.old text.new }
+    ensures { Puts (pieces.last_text (core program.now) found.now) text.old text.new }
 {
     push_text(text, ",\"warnings\":");
     push_warnings(text, program, outcomes, found, marks);
@@ -331,8 +315,7 @@ pub fn push_report(
     requires outcomes { AreOutcomes (core program.now) outcomes.now.items }
     requires found { found.now ≡ pairs.warnings (core program.now) }
     requires marks { map said_by marks.now ≡ map (warning_mark (core program.now)) found.now }
-    ensures lasts { Lasts text.old text.new }
-    ensures puts { Puts (compact_text (said.report_value summaries (core program.now))) text.old text.new }
+    ensures { Puts (compact_text (said.report_value summaries (core program.now))) text.old text.new }
 {
     push_first(text, program, outcomes);
     push_asked(text, summaries, program, outcomes);

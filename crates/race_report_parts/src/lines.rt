@@ -5,7 +5,7 @@ ghost use Rattle.core_code.specs.Core.{method_of};
 ghost use Rattle.core_code.specs.Program.{core};
 ghost use Rattle.access_domain.specs.Outcomes.{AreOutcomes};
 ghost use Rattle.race_report_parts.specs.Sides.{side_told};
-ghost use Rattle.race_report_parts.specs.Written.{Lasts, Puts};
+ghost use Rattle.race_report_parts.specs.Written.{Puts};
 ghost use Rattle.race_report_parts.specs.Report as said;
 
 use crate::{
@@ -18,8 +18,7 @@ use racer_base::Place;
 
 /// `files N classes N methods N`
 pub fn push_counts(text: &mut Written, program: &Program)
-    ensures lasts { Lasts text.old text.new }
-    ensures puts { Puts (said.counts_line (core program.now)) text.old text.new }
+    ensures { Puts (said.counts_line (core program.now)) text.old text.new }
 {
     push_text(text, "files ");
     push_count(text, program.files().len());
@@ -32,8 +31,7 @@ pub fn push_counts(text: &mut Written, program: &Program)
 
 /// `skipped PLACE`
 fn push_skipped_line(text: &mut Written, program: &Program, place: Place)
-    ensures lasts { Lasts text.old text.new }
-    ensures puts { Puts (said.skipped_line (core program.now) place) text.old text.new }
+    ensures { Puts (said.skipped_line (core program.now) place) text.old text.new }
 {
     push_text(text, "skipped ");
     push_place(text, program, place);
@@ -42,8 +40,7 @@ fn push_skipped_line(text: &mut Written, program: &Program, place: Place)
 
 /// `skipped PLACE` for each member that is skipped
 pub fn push_skipped(text: &mut Written, program: &Program)
-    ensures lasts { Lasts text.old text.new }
-    ensures puts { Puts
+    ensures { Puts
         (flat_map (said.skipped_line (core program.now)) (core program.now).skipped) text.old text.new }
 {
     for place in program.skipped() {
@@ -53,8 +50,7 @@ pub fn push_skipped(text: &mut Written, program: &Program)
 
 /// `METHOD PLACE`
 fn push_method_place(text: &mut Written, program: &Program, method: &MethodCore)
-    ensures lasts { Lasts text.old text.new }
-    ensures puts { Puts (said.method_place (core program.now) (method_of method.now)) text.old text.new }
+    ensures { Puts (said.method_place (core program.now) (method_of method.now)) text.old text.new }
 {
     push_method(text, program, method);
     push_space(text);
@@ -63,8 +59,7 @@ fn push_method_place(text: &mut Written, program: &Program, method: &MethodCore)
 
 /// `not analysed METHOD PLACE REASON`
 fn push_reason(text: &mut Written, program: &Program, method: &MethodCore, reason: &str)
-    ensures lasts { Lasts text.old text.new }
-    ensures puts { Puts
+    ensures { Puts
         (said.reason_line (core program.now) (method_of method.now) (Some reason.now)) text.old text.new }
 {
     push_text(text, "not analysed ");
@@ -83,8 +78,7 @@ fn push_not_analysed_line(
     method: &MethodCore,
 )
     requires { AreOutcomes (core program.now) outcomes.now.items }
-    ensures lasts { Lasts text.old text.new }
-    ensures puts { Puts (said.not_analysed_line (core program.now) (number, method_of method.now)) text.old text.new }
+    ensures { Puts (said.not_analysed_line (core program.now) (number, method_of method.now)) text.old text.new }
 {
     match reason_of(program, outcomes, number, method) {
         None => {}
@@ -95,8 +89,7 @@ fn push_not_analysed_line(
 /// `not analysed METHOD PLACE REASON` for each method that has no summary
 pub fn push_not_analysed(text: &mut Written, program: &Program, outcomes: &Outcomes)
     requires { AreOutcomes (core program.now) outcomes.now.items }
-    ensures lasts { Lasts text.old text.new }
-    ensures puts { Puts (flat_map (said.not_analysed_line (core program.now))
+    ensures { Puts (flat_map (said.not_analysed_line (core program.now))
         (enumerate_from 0 (core program.now).methods)) text.old text.new }
 {
     let methods = program.methods();
@@ -107,8 +100,7 @@ pub fn push_not_analysed(text: &mut Written, program: &Program, outcomes: &Outco
 
 /// ` at PLACE`
 fn push_at(text: &mut Written, program: &Program, place: Place)
-    ensures lasts { Lasts text.old text.new }
-    ensures puts { Puts (said.at_line (core program.now) place) text.old text.new }
+    ensures { Puts (said.at_line (core program.now) place) text.old text.new }
 {
     push_text(text, " at ");
     push_place(text, program, place);
@@ -116,8 +108,7 @@ fn push_at(text: &mut Written, program: &Program, place: Place)
 }
 
 fn push_places(text: &mut Written, program: &Program, places: &[Place])
-    ensures lasts { Lasts text.old text.new }
-    ensures puts { Puts (flat_map (said.at_line (core program.now)) places.now) text.old text.new }
+    ensures { Puts (flat_map (said.at_line (core program.now)) places.now) text.old text.new }
 {
     for place in places {
         push_at(text, program, *place)
@@ -126,8 +117,7 @@ fn push_places(text: &mut Written, program: &Program, places: &[Place])
 
 /// `METHOD RECORD`, and below it the places from the record's site down to its access.
 pub fn push_side(text: &mut Written, program: &Program, side: &Side<'_>)
-    ensures lasts { Lasts text.old text.new }
-    ensures puts { Puts (said.side_lines (core program.now) (side_told side.now)) text.old text.new }
+    ensures { Puts (said.side_lines (core program.now) (side_told side.now)) text.old text.new }
 {
     push_method(text, program, side.method);
     push_space(text);

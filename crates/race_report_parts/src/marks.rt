@@ -6,7 +6,7 @@ ghost use Rattle.core_code.specs.Program.{core};
 ghost use Rattle.core_ways.specs.Marks.{leg_of, said_by};
 ghost use Rattle.race_report_parts.specs.Marks as said;
 ghost use Rattle.race_report_parts.specs.Texts.{path_text, place_text};
-ghost use Rattle.race_report_parts.specs.Written.{Lasts, Puts};
+ghost use Rattle.race_report_parts.specs.Written.{Puts};
 
 use crate::texts::{class_name, push_fields, push_formal, push_path, push_place};
 use crate::written::{Written, push_number, push_space, push_text};
@@ -32,8 +32,7 @@ pub fn mark_word(mark: &Mark) -> &'static str
 
 /// Puts a space and a path behind a text.
 fn push_unstable(text: &mut Written, program: &Program, path: &Path)
-    ensures lasts { Lasts text.old text.new }
-    ensures puts { Puts (codes " " ++ path_text (core program.now) path.now) text.old text.new }
+    ensures { Puts (codes " " ++ path_text (core program.now) path.now) text.old text.new }
 {
     push_space(text);
     push_path(text, program, path)
@@ -41,8 +40,7 @@ fn push_unstable(text: &mut Written, program: &Program, path: &Path)
 
 /// Puts a space and a place behind a text.
 fn push_at(text: &mut Written, program: &Program, place: Place)
-    ensures lasts { Lasts text.old text.new }
-    ensures puts { Puts (codes " " ++ place_text (core program.now) place) text.old text.new }
+    ensures { Puts (codes " " ++ place_text (core program.now) place) text.old text.new }
 {
     push_space(text);
     push_place(text, program, place)
@@ -50,8 +48,7 @@ fn push_at(text: &mut Written, program: &Program, place: Place)
 
 /// Puts a space and a number behind a text.
 fn push_spaced(text: &mut Written, number: u32)
-    ensures lasts { Lasts text.old text.new }
-    ensures puts { Puts (codes " " ++ decimal number) text.old text.new }
+    ensures { Puts (codes " " ++ decimal number) text.old text.new }
 {
     push_space(text);
     push_number(text, number)
@@ -59,8 +56,7 @@ fn push_spaced(text: &mut Written, number: u32)
 
 /// Puts what stands behind the word of a mark behind a text.
 fn push_detail(text: &mut Written, program: &Program, mark: &Mark)
-    ensures lasts { Lasts text.old text.new }
-    ensures puts { Puts (said.detail_text (core program.now) (said_by mark.now)) text.old text.new }
+    ensures { Puts (said.detail_text (core program.now) (said_by mark.now)) text.old text.new }
 {
     match mark {
         Mark::Unnamed | Mark::Confirmed(_) => {}
@@ -76,8 +72,7 @@ fn push_detail(text: &mut Written, program: &Program, mark: &Mark)
 
 /// Puts a mark behind a text.
 pub fn push_mark(text: &mut Written, program: &Program, mark: &Mark)
-    ensures lasts { Lasts text.old text.new }
-    ensures puts { Puts (said.mark_text (core program.now) (said_by mark.now)) text.old text.new }
+    ensures { Puts (said.mark_text (core program.now) (said_by mark.now)) text.old text.new }
 {
     push_text(text, mark_word(mark));
     push_detail(text, program, mark)
@@ -85,8 +80,7 @@ pub fn push_mark(text: &mut Written, program: &Program, mark: &Mark)
 
 /// Puts `this`, a class's name or `t#i` behind a text.
 fn push_start_root(text: &mut Written, program: &Program, root: StartRoot)
-    ensures lasts { Lasts text.old text.new }
-    ensures puts { Puts (said.start_root_text (core program.now) root) text.old text.new }
+    ensures { Puts (said.start_root_text (core program.now) root) text.old text.new }
 {
     match root {
         StartRoot::This => push_text(text, "this"),
@@ -100,8 +94,7 @@ fn push_start_root(text: &mut Written, program: &Program, root: StartRoot)
 
 /// Puts a start path behind a text: its root, and `.f` for each field.
 pub fn push_start(text: &mut Written, program: &Program, start: &StartPath)
-    ensures lasts { Lasts text.old text.new }
-    ensures puts { Puts (said.start_text (core program.now) start.now) text.old text.new }
+    ensures { Puts (said.start_text (core program.now) start.now) text.old text.new }
 {
     push_start_root(text, program, start.root);
     push_fields(text, program, start.fields.as_slice())
@@ -118,8 +111,7 @@ fn turn_text(turn: Turn) -> &'static str
 
 /// Puts `L` and `R` behind a text.
 pub(crate) fn push_letters(text: &mut Written, turns: &[Turn])
-    ensures lasts { Lasts text.old text.new }
-    ensures puts { Puts (flat_map said.turn_text turns.now) text.old text.new }
+    ensures { Puts (flat_map said.turn_text turns.now) text.old text.new }
 {
     for turn in turns {
         push_text(text, turn_text(*turn))
@@ -128,8 +120,7 @@ pub(crate) fn push_letters(text: &mut Written, turns: &[Turn])
 
 /// Puts `L` and `R`, or `-` for no turn, behind a text.
 fn push_turns(text: &mut Written, turns: &[Turn])
-    ensures lasts { Lasts text.old text.new }
-    ensures puts { Puts (said.turns_text turns.now) text.old text.new }
+    ensures { Puts (said.turns_text turns.now) text.old text.new }
 {
     if turns.is_empty() {
         push_text(text, "-")
@@ -140,8 +131,7 @@ fn push_turns(text: &mut Written, turns: &[Turn])
 
 /// Puts `THREAD turns TURNS steps N` behind a text.
 pub fn push_leg(text: &mut Written, leg: &Leg)
-    ensures lasts { Lasts text.old text.new }
-    ensures puts { Puts (said.leg_text (leg_of leg.now)) text.old text.new }
+    ensures { Puts (said.leg_text (leg_of leg.now)) text.old text.new }
 {
     push_number(text, leg.thread);
     push_text(text, " turns ");

@@ -7,7 +7,7 @@ ghost use Rattle.core_code.specs.Program.{core};
 ghost use Rattle.race_report_parts.specs.Sites.{AreSites};
 ghost use Rattle.race_report_parts.specs.Texts as parts;
 ghost use Rattle.race_report_parts.specs.Told as told;
-ghost use Rattle.race_report_parts.specs.Written.{Lasts, Puts};
+ghost use Rattle.race_report_parts.specs.Written.{Puts};
 ghost use Rattle.race_report_parts.specs.Pieces as pieces;
 
 use crate::texts::class_name;
@@ -31,8 +31,7 @@ pub(crate) fn comma(later: bool) -> &'static str
 
 /// A comma, where a value stands before.
 pub(crate) fn push_comma(text: &mut Written, later: bool)
-    ensures lasts { Lasts text.old text.new }
-    ensures puts { Puts (comma_if later) text.old text.new }
+    ensures { Puts (comma_if later) text.old text.new }
 {
     push_text(text, comma(later))
 }
@@ -45,8 +44,7 @@ fn flag_text(flag: bool) -> &'static str
 
 /// `true` or `false`
 pub(crate) fn push_flag(text: &mut Written, before: &str, flag: bool)
-    ensures lasts { Lasts text.old text.new }
-    ensures puts { Puts (before.now ++ compact_text (boolean flag)) text.old text.new }
+    ensures { Puts (before.now ++ compact_text (boolean flag)) text.old text.new }
 {
     push_text(text, before);
     push_text(text, flag_text(flag))
@@ -61,8 +59,7 @@ fn quoted(alloc: Global, text: &str) -> Result<String, Memory>
 
 /// A text.
 pub(crate) fn push_string(text: &mut Written, before: &str, piece: &str)
-    ensures lasts { Lasts text.old text.new }
-    ensures puts { Puts (before.now ++ compact_text (string piece.now)) text.old text.new }
+    ensures { Puts (before.now ++ compact_text (string piece.now)) text.old text.new }
 {
     push_text(text, before);
     match quoted(text.alloc, piece) {
@@ -74,7 +71,6 @@ pub(crate) fn push_string(text: &mut Written, before: &str, piece: &str)
 /// A text that was written.
 pub(crate) fn push_written(text: &mut Written, before: &str, inner: &Written)
     ensures inner { text.new.is_cut ≡ false → inner.now.is_cut ≡ false }
-    ensures lasts { Lasts text.old text.new }
     ensures puts { Puts (before.now ++ compact_text (string (string_bytes inner.now.so_far))) text.old text.new }
 {
     if inner.is_cut {
@@ -86,8 +82,7 @@ pub(crate) fn push_written(text: &mut Written, before: &str, inner: &Written)
 
 /// `FILE:LINE:COLUMN`
 pub(crate) fn push_place_string(text: &mut Written, before: &str, program: &Program, place: Place)
-    ensures lasts { Lasts text.old text.new }
-    ensures puts { Puts (before.now ++ compact_text (string (parts.place_text (core program.now) place)))
+    ensures { Puts (before.now ++ compact_text (string (parts.place_text (core program.now) place)))
         text.old text.new }
 {
     let mut inner = Written::new(text.alloc);
@@ -102,8 +97,7 @@ pub(crate) fn push_method_string(
     program: &Program,
     method: &MethodCore,
 )
-    ensures lasts { Lasts text.old text.new }
-    ensures puts { Puts (before.now ++ pieces.method_string (core program.now) (method_of method.now))
+    ensures { Puts (before.now ++ pieces.method_string (core program.now) (method_of method.now))
         text.old text.new }
 {
     let mut inner = Written::new(text.alloc);
@@ -113,15 +107,13 @@ pub(crate) fn push_method_string(
 
 /// The name of a class.
 pub(crate) fn push_class_string(text: &mut Written, before: &str, program: &Program, class: ClassId)
-    ensures lasts { Lasts text.old text.new }
-    ensures puts { Puts (before.now ++ pieces.class_string (core program.now) class) text.old text.new }
+    ensures { Puts (before.now ++ pieces.class_string (core program.now) class) text.old text.new }
 {
     push_string(text, before, class_name(program, class))
 }
 
 pub(crate) fn push_path_string(text: &mut Written, before: &str, program: &Program, path: &Path)
-    ensures lasts { Lasts text.old text.new }
-    ensures puts { Puts (before.now ++ compact_text (string (parts.path_text (core program.now) path.now)))
+    ensures { Puts (before.now ++ compact_text (string (parts.path_text (core program.now) path.now)))
         text.old text.new }
 {
     let mut inner = Written::new(text.alloc);
@@ -136,8 +128,7 @@ pub(crate) fn push_result_string(
     program: &Program,
     returned: &Returned,
 )
-    ensures lasts { Lasts text.old text.new }
-    ensures puts { Puts (before.now ++ compact_text (string (parts.value_text (core program.now) returned.now)))
+    ensures { Puts (before.now ++ compact_text (string (parts.value_text (core program.now) returned.now)))
         text.old text.new }
 {
     let mut inner = Written::new(text.alloc);
@@ -155,8 +146,7 @@ fn push_access_string(
     access: &Access,
 )
     requires { AreSites (core program.now) sites.now }
-    ensures lasts { Lasts text.old text.new }
-    ensures puts { Puts (before.now
+    ensures { Puts (before.now
         ++ compact_text (string (told.access_text (core program.now) (record { 0 = number }) access.now)))
         text.old text.new }
 {
@@ -173,8 +163,7 @@ pub(crate) fn push_place_strings(
     program: &Program,
     places: &[Place],
 )
-    ensures lasts { Lasts text.old text.new }
-    ensures puts { Puts (before.now ++ pieces.places_strings (core program.now) places.now) text.old text.new }
+    ensures { Puts (before.now ++ pieces.places_strings (core program.now) places.now) text.old text.new }
 {
     push_text(text, before);
     push_text(text, "[");
@@ -196,8 +185,7 @@ pub(crate) fn push_access_strings(
     accesses: &[Access],
 )
     requires { AreSites (core program.now) sites.now }
-    ensures lasts { Lasts text.old text.new }
-    ensures puts { Puts (before.now ++ pieces.records_strings (core program.now) number accesses.now)
+    ensures { Puts (before.now ++ pieces.records_strings (core program.now) number accesses.now)
         text.old text.new }
 {
     push_text(text, before);
@@ -212,8 +200,7 @@ pub(crate) fn push_access_strings(
 
 /// An array of texts.
 pub(crate) fn push_strings(text: &mut Written, before: &str, strings: &[String])
-    ensures lasts { Lasts text.old text.new }
-    ensures puts { Puts (before.now ++ pieces.strings (map string_bytes strings.now)) text.old text.new }
+    ensures { Puts (before.now ++ pieces.strings (map string_bytes strings.now)) text.old text.new }
 {
     push_text(text, before);
     push_text(text, "[");

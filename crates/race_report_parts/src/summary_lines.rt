@@ -8,7 +8,7 @@ ghost use Rattle.access_domain.specs.Outcomes.{AreOutcomes};
 ghost use Rattle.race_report_parts.specs.Sites.{AreSites};
 ghost use Rattle.race_report_parts.specs.Texts.{method_text, value_text};
 ghost use Rattle.race_report_parts.specs.Told as told;
-ghost use Rattle.race_report_parts.specs.Written.{Lasts, Puts};
+ghost use Rattle.race_report_parts.specs.Written.{Puts};
 ghost use Rattle.race_report_parts.specs.Report as said;
 
 use crate::{
@@ -28,8 +28,7 @@ fn push_access_line(
     access: &Access,
 )
     requires { AreSites (core program.now) sites.now }
-    ensures lasts { Lasts text.old text.new }
-    ensures puts { Puts (said.access_line (core program.now) (record { 0 = number }) access.now) text.old text.new }
+    ensures { Puts (said.access_line (core program.now) (record { 0 = number }) access.now) text.old text.new }
 {
     push_space(text);
     push_access(
@@ -49,8 +48,7 @@ fn push_accesses(
     accesses: &[Access],
 )
     requires { AreSites (core program.now) sites.now }
-    ensures lasts { Lasts text.old text.new }
-    ensures puts { Puts
+    ensures { Puts
         (flat_map (said.access_line (core program.now) (record { 0 = number })) accesses.now) text.old text.new }
 {
     for access in accesses {
@@ -60,8 +58,7 @@ fn push_accesses(
 
 /// ` wobbly PATH`
 fn push_wobbly_line(text: &mut Written, path: &str)
-    ensures lasts { Lasts text.old text.new }
-    ensures puts { Puts (said.wobbly_line path.now) text.old text.new }
+    ensures { Puts (said.wobbly_line path.now) text.old text.new }
 {
     push_text(text, " wobbly ");
     push_text(text, path);
@@ -70,8 +67,7 @@ fn push_wobbly_line(text: &mut Written, path: &str)
 
 /// ` wobbly PATH` for each
 fn push_wobbly(text: &mut Written, paths: &[String])
-    ensures lasts { Lasts text.old text.new }
-    ensures puts { Puts (flat_map said.wobbly_line (map string_bytes paths.now)) text.old text.new }
+    ensures { Puts (flat_map said.wobbly_line (map string_bytes paths.now)) text.old text.new }
 {
     for path in paths {
         push_wobbly_line(text, path.as_str())
@@ -80,8 +76,7 @@ fn push_wobbly(text: &mut Written, paths: &[String])
 
 /// `summary METHOD`
 fn push_summary_head(text: &mut Written, program: &Program, method: &MethodCore)
-    ensures lasts { Lasts text.old text.new }
-    ensures puts { Puts
+    ensures { Puts
         (said.line (codes "summary " ++ method_text (core program.now) (method_of method.now))) text.old text.new }
 {
     push_text(text, "summary ");
@@ -91,8 +86,7 @@ fn push_summary_head(text: &mut Written, program: &Program, method: &MethodCore)
 
 /// ` result VALUE`
 fn push_result(text: &mut Written, program: &Program, value: &Value)
-    ensures lasts { Lasts text.old text.new }
-    ensures puts { Puts (said.line (codes " result " ++ value_text (core program.now) value.now)) text.old text.new }
+    ensures { Puts (said.line (codes " result " ++ value_text (core program.now) value.now)) text.old text.new }
 {
     push_text(text, " result ");
     push_value(text, program, value);
@@ -110,8 +104,7 @@ fn push_found(
     wobbly: &[String],
 )
     requires { AreSites (core program.now) sites.now }
-    ensures lasts { Lasts text.old text.new }
-    ensures puts { Puts (said.summary_text (core program.now) (number, method_of method.now) summary.now.accesses
+    ensures { Puts (said.summary_text (core program.now) (number, method_of method.now) summary.now.accesses
         (map string_bytes wobbly.now) summary.now.result) text.old text.new }
 {
     push_summary_head(text, program, method);
@@ -132,8 +125,7 @@ fn push_summary(
     requires sites { AreSites (core program.now) sites.now }
     requires is { option_map summary_from (told.found_of (core program.now) (record { 0 = number }))
         ≡ Some summary.now }
-    ensures lasts { Lasts text.old text.new }
-    ensures puts { Puts (said.summary_lines (core program.now) (number, method_of method.now)) text.old text.new }
+    ensures { Puts (said.summary_lines (core program.now) (number, method_of method.now)) text.old text.new }
 {
     match wobbly_texts(text.alloc, program, number, summary) {
         Ok(wobbly) => {
@@ -155,8 +147,7 @@ fn push_summary_of(
 )
     requires outcomes { AreOutcomes (core program.now) outcomes.now.items }
     requires sites { AreSites (core program.now) sites.now }
-    ensures lasts { Lasts text.old text.new }
-    ensures puts { Puts (said.summary_lines (core program.now) (number, method_of method.now)) text.old text.new }
+    ensures { Puts (said.summary_lines (core program.now) (number, method_of method.now)) text.old text.new }
 {
     match summary_of(program, outcomes, number) {
         None => {}
@@ -173,8 +164,7 @@ fn push_found_summaries(
 )
     requires outcomes { AreOutcomes (core program.now) outcomes.now.items }
     requires sites { AreSites (core program.now) sites.now }
-    ensures lasts { Lasts text.old text.new }
-    ensures puts { Puts (flat_map (said.summary_lines (core program.now))
+    ensures { Puts (flat_map (said.summary_lines (core program.now))
         (enumerate_from 0 (core program.now).methods)) text.old text.new }
 {
     let methods = program.methods();
@@ -186,8 +176,7 @@ fn push_found_summaries(
 /// The lines of all summaries.
 pub fn push_summaries(text: &mut Written, program: &Program, outcomes: &Outcomes)
     requires { AreOutcomes (core program.now) outcomes.now.items }
-    ensures lasts { Lasts text.old text.new }
-    ensures puts { Puts (flat_map (said.summary_lines (core program.now))
+    ensures { Puts (flat_map (said.summary_lines (core program.now))
         (enumerate_from 0 (core program.now).methods)) text.old text.new }
 {
     match sites(text.alloc, program) {

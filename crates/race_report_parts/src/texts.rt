@@ -6,7 +6,7 @@ ghost use Rattle.core_code.specs.Program.{core};
 ghost use Rattle.access_paths.specs.Text as paths;
 ghost use Rattle.race_report_parts.specs.Texts as said;
 ghost use Rattle.race_report_parts.specs.Told as told;
-ghost use Rattle.race_report_parts.specs.Written.{Lasts, Puts};
+ghost use Rattle.race_report_parts.specs.Written.{Puts};
 
 use crate::written::{Written, push_count, push_number, push_space, push_text};
 use access_domain::Access;
@@ -45,24 +45,21 @@ fn field_name(program: &Program, field: FieldId) -> &str
 
 /// Puts a colon behind a text.
 fn push_colon(text: &mut Written)
-    ensures lasts { Lasts text.old text.new }
-    ensures puts { Puts (codes ":") text.old text.new }
+    ensures { Puts (codes ":") text.old text.new }
 {
     push_text(text, ":")
 }
 
 /// Puts a point behind a text.
 fn push_point(text: &mut Written)
-    ensures lasts { Lasts text.old text.new }
-    ensures puts { Puts (codes ".") text.old text.new }
+    ensures { Puts (codes ".") text.old text.new }
 {
     push_text(text, ".")
 }
 
 /// Puts `LINE:COLUMN` behind a text.
 pub fn push_line(text: &mut Written, place: Place)
-    ensures lasts { Lasts text.old text.new }
-    ensures puts { Puts (said.line_text place) text.old text.new }
+    ensures { Puts (said.line_text place) text.old text.new }
 {
     push_number(text, place.line);
     push_colon(text);
@@ -71,8 +68,7 @@ pub fn push_line(text: &mut Written, place: Place)
 
 /// Puts `FILE:LINE:COLUMN` behind a text.
 pub fn push_place(text: &mut Written, program: &Program, place: Place)
-    ensures lasts { Lasts text.old text.new }
-    ensures puts { Puts (said.place_text (core program.now) place) text.old text.new }
+    ensures { Puts (said.place_text (core program.now) place) text.old text.new }
 {
     push_text(text, name_at(program.files(), place.file.0));
     push_colon(text);
@@ -81,8 +77,7 @@ pub fn push_place(text: &mut Written, program: &Program, place: Place)
 
 /// Puts `CLASS.NAME/PARAMETERS` behind a text.
 pub fn push_method(text: &mut Written, program: &Program, method: &MethodCore)
-    ensures lasts { Lasts text.old text.new }
-    ensures puts { Puts (said.method_text (core program.now) (method_of method.now)) text.old text.new }
+    ensures { Puts (said.method_text (core program.now) (method_of method.now)) text.old text.new }
 {
     push_text(text, class_name(program, method.class));
     push_point(text);
@@ -93,8 +88,7 @@ pub fn push_method(text: &mut Written, program: &Program, method: &MethodCore)
 
 /// Puts `#` and a number behind a text.
 pub(crate) fn push_formal(text: &mut Written, number: u32)
-    ensures lasts { Lasts text.old text.new }
-    ensures puts { Puts (codes "#" ++ decimal number) text.old text.new }
+    ensures { Puts (codes "#" ++ decimal number) text.old text.new }
 {
     push_text(text, "#");
     push_number(text, number)
@@ -102,8 +96,7 @@ pub(crate) fn push_formal(text: &mut Written, number: u32)
 
 /// Puts `some` and the name of a class behind a text.
 fn push_some(text: &mut Written, class: &str)
-    ensures lasts { Lasts text.old text.new }
-    ensures puts { Puts (codes "some " ++ class.now) text.old text.new }
+    ensures { Puts (codes "some " ++ class.now) text.old text.new }
 {
     push_text(text, "some ");
     push_text(text, class)
@@ -111,8 +104,7 @@ fn push_some(text: &mut Written, class: &str)
 
 /// Puts `this`, a class's name, `#i` or `some C` behind a text.
 fn push_root(text: &mut Written, program: &Program, root: Root)
-    ensures lasts { Lasts text.old text.new }
-    ensures puts { Puts (paths.root_text (said.class_names (core program.now)) root) text.old text.new }
+    ensures { Puts (paths.root_text (said.class_names (core program.now)) root) text.old text.new }
 {
     match root {
         Root::This => push_text(text, "this"),
@@ -124,8 +116,7 @@ fn push_root(text: &mut Written, program: &Program, root: Root)
 
 /// Puts `.f` for each of these fields behind a text.
 pub(crate) fn push_fields(text: &mut Written, program: &Program, fields: &[FieldId])
-    ensures lasts { Lasts text.old text.new }
-    ensures puts { Puts (paths.fields_text (said.field_names (core program.now)) fields.now) text.old text.new }
+    ensures { Puts (paths.fields_text (said.field_names (core program.now)) fields.now) text.old text.new }
 {
     for field in fields {
         push_point(text);
@@ -135,8 +126,7 @@ pub(crate) fn push_fields(text: &mut Written, program: &Program, fields: &[Field
 
 /// Puts a root and `.f` for each field behind a text.
 pub fn push_path(text: &mut Written, program: &Program, path: &Path)
-    ensures lasts { Lasts text.old text.new }
-    ensures puts { Puts (said.path_text (core program.now) path.now) text.old text.new }
+    ensures { Puts (said.path_text (core program.now) path.now) text.old text.new }
 {
     push_root(text, program, path.root);
     push_fields(text, program, path.fields.as_slice())
@@ -165,8 +155,7 @@ fn main_text(main: bool) -> &'static str
 
 /// Puts `KIND PATH`, and then `locked` and `main` where the record is, behind a text.
 pub fn push_record(text: &mut Written, program: &Program, access: &Access)
-    ensures lasts { Lasts text.old text.new }
-    ensures puts { Puts (said.record_text (core program.now) access.now) text.old text.new }
+    ensures { Puts (said.record_text (core program.now) access.now) text.old text.new }
 {
     push_text(text, touch_text(access.kind));
     push_space(text);
@@ -177,8 +166,7 @@ pub fn push_record(text: &mut Written, program: &Program, access: &Access)
 
 /// Puts ` at LINE:COLUMN` behind a text, nothing where there is no place.
 fn push_site(text: &mut Written, place: Option<Place>)
-    ensures lasts { Lasts text.old text.new }
-    ensures puts { Puts (told.site_text place) text.old text.new }
+    ensures { Puts (told.site_text place) text.old text.new }
 {
     match place {
         None => {}
@@ -191,8 +179,7 @@ fn push_site(text: &mut Written, place: Option<Place>)
 
 /// Puts `RECORD at LINE:COLUMN` behind a text; the place is that of the record's site.
 pub fn push_access(text: &mut Written, program: &Program, access: &Access, site: Option<Place>)
-    ensures lasts { Lasts text.old text.new }
-    ensures puts { Puts (said.record_text (core program.now) access.now ++ told.site_text site) text.old text.new }
+    ensures { Puts (said.record_text (core program.now) access.now ++ told.site_text site) text.old text.new }
 {
     push_record(text, program, access);
     push_site(text, site)
@@ -200,8 +187,7 @@ pub fn push_access(text: &mut Written, program: &Program, access: &Access, site:
 
 /// Puts what a method returns behind a text.
 pub fn push_value(text: &mut Written, program: &Program, value: &Value)
-    ensures lasts { Lasts text.old text.new }
-    ensures puts { Puts (said.value_text (core program.now) value.now) text.old text.new }
+    ensures { Puts (said.value_text (core program.now) value.now) text.old text.new }
 {
     match value {
         Value::Owned => push_text(text, "owned"),

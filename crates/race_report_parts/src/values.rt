@@ -5,7 +5,7 @@ ghost use Rattle.core_code.specs.Program.{core};
 ghost use Rattle.core_ways.specs.Marks.{said_by};
 ghost use Rattle.race_report_parts.specs.Sides.{side_told, sides_told};
 ghost use Rattle.race_report_parts.specs.Sites.{AreSites};
-ghost use Rattle.race_report_parts.specs.Written.{Lasts, Puts};
+ghost use Rattle.race_report_parts.specs.Written.{Puts};
 ghost use Rattle.race_report_parts.specs.Pieces as pieces;
 
 use crate::strings::{
@@ -22,8 +22,7 @@ use racer_base::Place;
 
 /// The object of a method that has no summary.
 pub(crate) fn push_reason(text: &mut Written, program: &Program, method: &MethodCore, reason: &str)
-    ensures lasts { Lasts text.old text.new }
-    ensures puts { Puts (pieces.reason_object (core program.now) (method_of method.now) reason.now) text.old text.new }
+    ensures { Puts (pieces.reason_object (core program.now) (method_of method.now) reason.now) text.old text.new }
 {
     push_method_string(text, "{\"method\":", program, method);
     push_place_string(text, ",\"place\":", program, method.place);
@@ -42,8 +41,7 @@ pub(crate) fn push_found(
     wobbly: &[String],
 )
     requires { AreSites (core program.now) sites.now }
-    ensures lasts { Lasts text.old text.new }
-    ensures puts { Puts (pieces.summary_object (core program.now) (number, method_of method.now) summary.now.accesses
+    ensures { Puts (pieces.summary_object (core program.now) (number, method_of method.now) summary.now.accesses
         (map string_bytes wobbly.now) summary.now.result) text.old text.new }
 {
     push_access_strings(
@@ -62,8 +60,7 @@ pub(crate) fn push_found(
 
 /// The members of one of the two records of a warning that stand before its mark.
 fn push_side_first(text: &mut Written, program: &Program, side: &Side<'_>)
-    ensures lasts { Lasts text.old text.new }
-    ensures puts { Puts (pieces.side_first (core program.now) (side_told side.now)) text.old text.new }
+    ensures { Puts (pieces.side_first (core program.now) (side_told side.now)) text.old text.new }
 {
     push_place_strings(text, "{\"at\":", program, side.places.as_slice());
     push_string(text, ",\"kind\":", touch_text(side.access.kind));
@@ -73,8 +70,7 @@ fn push_side_first(text: &mut Written, program: &Program, side: &Side<'_>)
 
 /// The members of one of the two records of a warning that stand behind its mark.
 fn push_side_last(text: &mut Written, program: &Program, side: &Side<'_>)
-    ensures lasts { Lasts text.old text.new }
-    ensures puts { Puts (pieces.side_last (core program.now) (side_told side.now)) text.old text.new }
+    ensures { Puts (pieces.side_last (core program.now) (side_told side.now)) text.old text.new }
 {
     push_method_string(text, ",\"method\":", program, side.method);
     push_path_string(text, ",\"path\":", program, &side.access.path)
@@ -82,8 +78,7 @@ fn push_side_last(text: &mut Written, program: &Program, side: &Side<'_>)
 
 /// The path of a mark.
 fn push_mark_path(text: &mut Written, program: &Program, path: &Path)
-    ensures lasts { Lasts text.old text.new }
-    ensures puts { Puts (pieces.path_member (core program.now) path.now) text.old text.new }
+    ensures { Puts (pieces.path_member (core program.now) path.now) text.old text.new }
 {
     push_path_string(text, "\"path\":", program, path);
     push_text(text, ",")
@@ -91,8 +86,7 @@ fn push_mark_path(text: &mut Written, program: &Program, path: &Path)
 
 /// The place of a mark.
 fn push_mark_place(text: &mut Written, program: &Program, place: Place)
-    ensures lasts { Lasts text.old text.new }
-    ensures puts { Puts (pieces.place_member (core program.now) place) text.old text.new }
+    ensures { Puts (pieces.place_member (core program.now) place) text.old text.new }
 {
     push_place_string(text, "\"place\":", program, place);
     push_text(text, ",")
@@ -100,8 +94,7 @@ fn push_mark_place(text: &mut Written, program: &Program, place: Place)
 
 /// A member of this name that is a number.
 fn push_mark_number(text: &mut Written, name: &str, number: u32)
-    ensures lasts { Lasts text.old text.new }
-    ensures puts { Puts (pieces.number_member name.now number) text.old text.new }
+    ensures { Puts (pieces.number_member name.now number) text.old text.new }
 {
     push_text(text, name);
     push_number(text, number);
@@ -110,8 +103,7 @@ fn push_mark_number(text: &mut Written, name: &str, number: u32)
 
 /// The members of a mark before its word.
 fn push_detail(text: &mut Written, program: &Program, sides: &Sides<'_>, mark: &Mark)
-    ensures lasts { Lasts text.old text.new }
-    ensures puts { Puts (pieces.detail_text (core program.now) (sides_told sides.now) (said_by mark.now))
+    ensures { Puts (pieces.detail_text (core program.now) (sides_told sides.now) (said_by mark.now))
         text.old text.new }
 {
     match mark {
@@ -129,8 +121,7 @@ fn push_detail(text: &mut Written, program: &Program, sides: &Sides<'_>, mark: &
 
 /// The mark of a warning.
 fn push_mark(text: &mut Written, program: &Program, sides: &Sides<'_>, mark: &Mark)
-    ensures lasts { Lasts text.old text.new }
-    ensures puts { Puts (pieces.mark_member (core program.now) (sides_told sides.now) (said_by mark.now))
+    ensures { Puts (pieces.mark_member (core program.now) (sides_told sides.now) (said_by mark.now))
         text.old text.new }
 {
     push_text(text, ",\"mark\":{");
@@ -141,8 +132,7 @@ fn push_mark(text: &mut Written, program: &Program, sides: &Sides<'_>, mark: &Ma
 
 /// The partner of a warning, and the end of its object.
 fn push_partner(text: &mut Written, program: &Program, side: &Side<'_>)
-    ensures lasts { Lasts text.old text.new }
-    ensures puts { Puts (pieces.partner_member (core program.now) (side_told side.now)) text.old text.new }
+    ensures { Puts (pieces.partner_member (core program.now) (side_told side.now)) text.old text.new }
 {
     push_text(text, ",\"with\":");
     push_side_first(text, program, side);
@@ -152,8 +142,7 @@ fn push_partner(text: &mut Written, program: &Program, side: &Side<'_>)
 
 /// The object of a warning with this mark.
 pub(crate) fn push_marked(text: &mut Written, program: &Program, sides: &Sides<'_>, mark: &Mark)
-    ensures lasts { Lasts text.old text.new }
-    ensures puts { Puts (pieces.warning_object (core program.now) (said_by mark.now) (sides_told sides.now))
+    ensures { Puts (pieces.warning_object (core program.now) (said_by mark.now) (sides_told sides.now))
         text.old text.new }
 {
     push_side_first(text, program, &sides.first);

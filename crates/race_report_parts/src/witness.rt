@@ -9,7 +9,7 @@ ghost use Rattle.core_ways.specs.Marks.{leg_of};
 ghost use Rattle.race_report_parts.specs.Marks as said;
 ghost use Rattle.race_report_parts.specs.Sides.{sides_told};
 ghost use Rattle.race_report_parts.specs.WitnessFiles.{entry_text};
-ghost use Rattle.race_report_parts.specs.Written.{Lasts, Puts};
+ghost use Rattle.race_report_parts.specs.Written.{Puts};
 ghost use Rattle.race_report_parts.specs.Pieces as pieces;
 
 use crate::marks::push_letters;
@@ -21,8 +21,7 @@ use core_ways::{Leg, Witness};
 
 /// Puts `NAME/PARAMETERS` behind a text.
 fn push_entry(text: &mut Written, method: &MethodCore)
-    ensures lasts { Lasts text.old text.new }
-    ensures puts { Puts (entry_text (method_of method.now)) text.old text.new }
+    ensures { Puts (entry_text (method_of method.now)) text.old text.new }
 {
     push_text(text, method.name.as_str());
     push_text(text, "/");
@@ -31,8 +30,7 @@ fn push_entry(text: &mut Written, method: &MethodCore)
 
 /// `NAME/PARAMETERS`
 fn push_entry_string(text: &mut Written, before: &str, method: &MethodCore)
-    ensures lasts { Lasts text.old text.new }
-    ensures puts { Puts (before.now ++ pieces.entry_string (method_of method.now)) text.old text.new }
+    ensures { Puts (before.now ++ pieces.entry_string (method_of method.now)) text.old text.new }
 {
     let mut inner = Written::new(text.alloc);
     push_entry(&mut inner, method);
@@ -41,8 +39,7 @@ fn push_entry_string(text: &mut Written, before: &str, method: &MethodCore)
 
 /// `L` and `R`
 fn push_letters_string(text: &mut Written, before: &str, turns: &[Turn])
-    ensures lasts { Lasts text.old text.new }
-    ensures puts { Puts (before.now ++ compact_text (string (flat_map said.turn_text turns.now))) text.old text.new }
+    ensures { Puts (before.now ++ compact_text (string (flat_map said.turn_text turns.now))) text.old text.new }
 {
     let mut inner = Written::new(text.alloc);
     push_letters(&mut inner, turns);
@@ -51,8 +48,7 @@ fn push_letters_string(text: &mut Written, before: &str, turns: &[Turn])
 
 /// A start path: its root, and `.f` for each field.
 fn push_start_string(text: &mut Written, before: &str, program: &Program, start: &StartPath)
-    ensures lasts { Lasts text.old text.new }
-    ensures puts { Puts (before.now ++ compact_text (string (said.start_text (core program.now) start.now)))
+    ensures { Puts (before.now ++ compact_text (string (said.start_text (core program.now) start.now)))
         text.old text.new }
 {
     let mut inner = Written::new(text.alloc);
@@ -62,8 +58,7 @@ fn push_start_string(text: &mut Written, before: &str, program: &Program, start:
 
 /// An array of start paths.
 fn push_start_strings(text: &mut Written, before: &str, program: &Program, objects: &[StartPath])
-    ensures lasts { Lasts text.old text.new }
-    ensures puts { Puts (before.now ++ pieces.starts_strings (core program.now) objects.now) text.old text.new }
+    ensures { Puts (before.now ++ pieces.starts_strings (core program.now) objects.now) text.old text.new }
 {
     push_text(text, before);
     push_text(text, "[");
@@ -77,8 +72,7 @@ fn push_start_strings(text: &mut Written, before: &str, program: &Program, objec
 
 /// The numbers of a leg: its steps and its thread.
 fn push_leg_numbers(text: &mut Written, leg: &Leg)
-    ensures lasts { Lasts text.old text.new }
-    ensures puts { Puts (pieces.leg_numbers (leg_of leg.now)) text.old text.new }
+    ensures { Puts (pieces.leg_numbers (leg_of leg.now)) text.old text.new }
 {
     push_text(text, "{\"steps\":");
     push_number(text, leg.steps);
@@ -88,8 +82,7 @@ fn push_leg_numbers(text: &mut Written, leg: &Leg)
 
 /// The object of a leg.
 fn push_leg_object(text: &mut Written, before: &str, leg: &Leg)
-    ensures lasts { Lasts text.old text.new }
-    ensures puts { Puts (before.now ++ pieces.leg_object (leg_of leg.now)) text.old text.new }
+    ensures { Puts (before.now ++ pieces.leg_object (leg_of leg.now)) text.old text.new }
 {
     push_text(text, before);
     push_leg_numbers(text, leg);
@@ -99,8 +92,7 @@ fn push_leg_object(text: &mut Written, before: &str, leg: &Leg)
 
 /// The entries of thread 0 and of thread 1.
 fn push_entries(text: &mut Written, first: &MethodCore, second: &MethodCore)
-    ensures lasts { Lasts text.old text.new }
-    ensures puts { Puts (pieces.entries_member (method_of first.now) (method_of second.now)) text.old text.new }
+    ensures { Puts (pieces.entries_member (method_of first.now) (method_of second.now)) text.old text.new }
 {
     push_entry_string(text, ",\"entries\":[", first);
     push_entry_string(text, ",", second);
@@ -109,8 +101,7 @@ fn push_entries(text: &mut Written, first: &MethodCore, second: &MethodCore)
 
 /// Two legs in running order.
 fn push_legs(text: &mut Written, first: &Leg, second: &Leg)
-    ensures lasts { Lasts text.old text.new }
-    ensures puts { Puts (pieces.legs_member (leg_of first.now) (leg_of second.now)) text.old text.new }
+    ensures { Puts (pieces.legs_member (leg_of first.now) (leg_of second.now)) text.old text.new }
 {
     push_leg_object(text, ",\"legs\":[", first);
     push_leg_object(text, ",", second);
@@ -124,8 +115,7 @@ pub(crate) fn push_witness_member(
     sides: &Sides<'_>,
     witness: &Witness,
 )
-    ensures lasts { Lasts text.old text.new }
-    ensures puts { Puts (pieces.witness_member (core program.now) (sides_told sides.now) witness.now.objects
+    ensures { Puts (pieces.witness_member (core program.now) (sides_told sides.now) witness.now.objects
         (leg_of witness.now.first) (leg_of witness.now.second)) text.old text.new }
 {
     let class = sides.first.method.class;

@@ -1,7 +1,7 @@
 //! A text that is written piece by piece.
 ghost use Rattle.std.specs.Prelude.{◌≡◌, [], IfOk, codes, false, string_bytes};
 ghost use Rattle.std.specs.Fmt.{decimal};
-ghost use Rattle.race_report_parts.specs.Written.{Lasts, Puts};
+ghost use Rattle.race_report_parts.specs.Written.{Puts};
 
 use racer_base::Memory;
 use std::alloc::Global;
@@ -43,8 +43,7 @@ impl Written {
 
 /// Puts a piece behind a text, unless one before it was left out.
 pub fn push_text(text: &mut Written, piece: &str)
-    ensures lasts { Lasts text.old text.new }
-    ensures puts { Puts piece.now text.old text.new }
+    ensures { Puts piece.now text.old text.new }
 {
     if !text.is_cut {
         match text.so_far.push_str(piece) {
@@ -56,8 +55,7 @@ pub fn push_text(text: &mut Written, piece: &str)
 
 /// Puts the digits of a number behind a text, unless a piece before them was left out.
 pub fn push_number(text: &mut Written, number: u32)
-    ensures lasts { Lasts text.old text.new }
-    ensures puts { Puts (decimal number) text.old text.new }
+    ensures { Puts (decimal number) text.old text.new }
 {
     if !text.is_cut {
         match write!(text.so_far, "{number}") {
@@ -69,8 +67,7 @@ pub fn push_number(text: &mut Written, number: u32)
 
 /// Puts the digits of a count behind a text, unless a piece before them was left out.
 pub fn push_count(text: &mut Written, count: usize)
-    ensures lasts { Lasts text.old text.new }
-    ensures puts { Puts (decimal count) text.old text.new }
+    ensures { Puts (decimal count) text.old text.new }
 {
     if !text.is_cut {
         match write!(text.so_far, "{count}") {
@@ -82,16 +79,14 @@ pub fn push_count(text: &mut Written, count: usize)
 
 /// Puts a space behind a text.
 pub fn push_space(text: &mut Written)
-    ensures lasts { Lasts text.old text.new }
-    ensures puts { Puts (codes " ") text.old text.new }
+    ensures { Puts (codes " ") text.old text.new }
 {
     push_text(text, " ")
 }
 
 /// Puts the end of a line behind a text.
 pub fn push_end(text: &mut Written)
-    ensures lasts { Lasts text.old text.new }
-    ensures puts { Puts (codes "\n") text.old text.new }
+    ensures { Puts (codes "\n") text.old text.new }
 {
     push_text(text, "\n")
 }

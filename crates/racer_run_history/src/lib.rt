@@ -5,7 +5,7 @@ ghost use Rattle.std.specs.Fmt.{decimal};
 ghost use Rattle.std.specs.List.{flat_map};
 ghost use Rattle.std.specs.Prelude.{◌≡◌, ◌++◌, codes};
 ghost use Rattle.core_code.specs.Program.{core};
-ghost use Rattle.race_report_parts.specs.Written.{Lasts, Puts};
+ghost use Rattle.race_report_parts.specs.Written.{Puts};
 ghost use Rattle.racer_run_history.specs.History as wanted;
 
 use core_code::Program;
@@ -15,8 +15,7 @@ use summary_store::Event;
 
 /// Puts a space and `CLASS.NAME/PARAMETERS` of the method of a number behind a text.
 fn push_named(text: &mut Written, program: &Program, m: MethodId)
-    ensures lasts { Lasts text.old text.new }
-    ensures puts { Puts (wanted.method_word (core program.now) m) text.old text.new }
+    ensures { Puts (wanted.method_word (core program.now) m) text.old text.new }
 {
     push_space(text);
     match program.methods().get(m.0 as usize) {
@@ -27,8 +26,7 @@ fn push_named(text: &mut Written, program: &Program, m: MethodId)
 
 /// Puts the line of an event behind a text.
 fn push_event(text: &mut Written, program: &Program, event: Event)
-    ensures lasts { Lasts text.old text.new }
-    ensures puts { Puts (wanted.event_line (core program.now) event) text.old text.new }
+    ensures { Puts (wanted.event_line (core program.now) event) text.old text.new }
 {
     match event {
         Event::Take(worker, m) => {
@@ -60,8 +58,7 @@ fn push_event(text: &mut Written, program: &Program, event: Event)
 
 /// Puts the lines of a history behind a text.
 pub fn push_history(text: &mut Written, program: &Program, history: &[Event])
-    ensures lasts { Lasts text.old text.new }
-    ensures puts { Puts (wanted.history_text (core program.now) history.now) text.old text.new }
+    ensures { Puts (wanted.history_text (core program.now) history.now) text.old text.new }
 {
     for event in history {
         push_event(text, program, *event)

@@ -21,8 +21,8 @@ use Rattle.access_domain.specs.Findings.{Findings, Whole, summary_from}
 use Rattle.access_domain.specs.Flow.{both, lost_result, joined_result}
 use Rattle.access_domain.specs.FlowContext.{FlowContext}
 use Rattle.access_domain.specs.Operations.{Effects, call_effects, found_effects, passed_from}
-use Rattle.core_code.specs.Touches.{is_write}
 use Rattle.access_domain.specs.Records.{same_flag, same_touch, same_key, first_of_keys, different_paths}
+use Rattle.core_code.specs.Touches.{is_write}
 use Rattle.access_domain.specs.Substitution.{Actuals, actuals_from, substituted, substituted_path, substituted_record}
 use Rattle.access_domain.proofs.AdditionLemmas.{any-push, keys_added-nil, keys_added-append, contains_added}
 use Rattle.access_domain.proofs.Different.{from_list-different}
@@ -33,7 +33,9 @@ use Rattle.transfer.specs.declared.noted_calls.NotedCall.{NotedCall}
 use Rattle.call_subst.proofs.SameSets.{from_list-items}
 use Rattle.transfer.specs.Known.{findings_in}
 use Rattle.transfer.specs.Marks.{marks, added, paths_after, is_many, IsNoted, IsStopped, IsMarked}
-use Rattle.transfer.specs.NotedCalls.{same_call, equal_of_same_call, call_records, call_names, ArePresent, IsFound, AreFound}
+use Rattle.transfer.specs.NotedCalls.{same_call, equal_of_same_call, call_records, call_names, ArePresent, IsFound}
+use Rattle.transfer.specs.NotedCalls.{AreFound, PassingCall}
+use Rattle.transfer.specs.Numbered.{read_call, read_calls}
 use Rattle.transfer.specs.Walks.{IsFlow, call_marks}
 use Rattle.transfer.proofs.Adding.{paths-same}
 use Rattle.transfer.proofs.EarlyEnds.{added_again}
@@ -214,7 +216,7 @@ absorbed w ps ns same =
 
 -- ---- what was found stays found
 
-found-kept : (g : FlowContext) (c : NotedCall) (old : Found) (e : Effects) → IsFound g c old → IsFound g c (added old e)
+found-kept : (g : FlowContext) (c : PassingCall) (old : Found) (e : Effects) → IsFound g c old → IsFound g c (added old e)
 found-kept g c old e h = λ f known.
     let all = h f known in
     let names = call_names g c f.wobbly in
@@ -223,47 +225,51 @@ found-kept g c old e h = λ f known.
       absorbed mid (lost_result old.result e.result) names (absorbed old.wobbly e.wobbly names all.1),
     )
 
-pub all-kept : (g : FlowContext) (calls : List NotedCall) (old : Found) (e : Effects) → AreFound g calls old →
+pub all-kept : (g : FlowContext) (calls : List PassingCall) (old : Found) (e : Effects) → AreFound g calls old →
     AreFound g calls (added old e)
 all-kept g [] old e h = tt
 all-kept g (c ∷ calls) old e h = (found-kept g c old e h.0, all-kept g calls old e h.1)
 
-pub noted-found : (g : FlowContext) (calls : List NotedCall) (old new : Found) (e : Effects) → IsNoted old e new →
+pub noted-found : (g : FlowContext) (calls : List PassingCall) (old new : Found) (e : Effects) → IsNoted old e new →
     AreFound g calls old → AreFound g calls new
 noted-found g calls old new e m h = subst (AreFound g calls) (sym m.0) (all-kept g calls old e h)
 
-pub marked-found : {X : Type 0} (g : FlowContext) (calls : List NotedCall) (old new : Found) (e : Effects)
+pub marked-found : {X : Type 0} (g : FlowContext) (calls : List PassingCall) (old new : Found) (e : Effects)
     (r : Result X Stop) →
     IsMarked old e new r → AreFound g calls old → OnOk r (AreFound g calls new)
 marked-found g calls old new e (Ok x) m h = noted-found g calls old new e m h
 marked-found g calls old new e (Err stop) m h = tt
 
-pub flow-found : (g : FlowContext) (calls : List NotedCall) (here : State) (old new : Found) (e : Effects)
+pub flow-found : (g : FlowContext) (calls : List PassingCall) (here : State) (old new : Found) (e : Effects)
     (r : Result Bool Stop) → IsFlow e here old new r → AreFound g calls old → OnOk r (AreFound g calls new)
 flow-found g calls here old new e r m h = marked-found g calls old new e r (marked-flow e here old new r m) h
 
 -- ---- one more call
 
-pub found-among : (g : FlowContext) (calls : List NotedCall) (c : NotedCall) (found : Found) →
-    list_any (same_call c) calls ≡ true → AreFound g calls found → IsFound g c found
-found-among g [] c found there h = cc
-found-among g (x ∷ calls) c found there h =
-    elim (same_call c x) as (λ b. same_call c x ≡ b → (b || list_any (same_call c) calls) ≡ true → IsFound g c found) [
-      | true ↦ λ e _. subst (λ (d : NotedCall). IsFound g d found) (sym (equal_of_same_call c x e)) h.0
-      | false ↦ λ e later. found-among g calls c found later h.1
+pub found-among : (g : FlowContext) (table : List Path) (calls : List NotedCall) (c : NotedCall) (found : Found) →
+    list_any (same_call c) calls ≡ true → AreFound g (read_calls table calls) found → IsFound g (read_call table c) found
+found-among g table [] c found there h = cc
+found-among g table (x ∷ calls) c found there h =
+    elim (same_call c x) as (λ b. same_call c x ≡ b → (b || list_any (same_call c) calls) ≡ true →
+    IsFound g (read_call table c) found) [
+      | true ↦ λ e _.
+          subst (λ (d : NotedCall). IsFound g (read_call table d) found) (sym (equal_of_same_call c x e)) h.0
+      | false ↦ λ e later. found-among g table calls c found later h.1
     ] refl there
 
-one-more : (g : FlowContext) (calls : List NotedCall) (c : NotedCall) (found : Found) → AreFound g calls found →
-    IsFound g c found → AreFound g (calls ++ c ∷ []) found
-one-more g [] c found h one = (one, tt)
-one-more g (x ∷ calls) c found h one = (h.0, one-more g calls c found h.1 one)
+one-more : (g : FlowContext) (table : List Path) (calls : List NotedCall) (c : NotedCall) (found : Found) →
+    AreFound g (read_calls table calls) found → IsFound g (read_call table c) found →
+    AreFound g (read_calls table (calls ++ c ∷ [])) found
+one-more g table [] c found h one = (one, tt)
+one-more g table (x ∷ calls) c found h one = (h.0, one-more g table calls c found h.1 one)
 
-pub found-put : (g : FlowContext) (calls : List NotedCall) (c : NotedCall) (found : Found) → AreFound g calls found →
-    IsFound g c found → AreFound g (insert_key same_call calls c) found
-found-put g calls c found h one =
-    elim (list_any (same_call c) calls) as (λ b. AreFound g (cond b calls (calls ++ c ∷ [])) found) [
+pub found-put : (g : FlowContext) (table : List Path) (calls : List NotedCall) (c : NotedCall) (found : Found) →
+    AreFound g (read_calls table calls) found → IsFound g (read_call table c) found →
+    AreFound g (read_calls table (insert_key same_call calls c)) found
+found-put g table calls c found h one =
+    elim (list_any (same_call c) calls) as (λ b. AreFound g (read_calls table (cond b calls (calls ++ c ∷ []))) found) [
       | true ↦ h
-      | false ↦ one-more g calls c found h one
+      | false ↦ one-more g table calls c found h one
     ]
 
 -- the findings that a summary holds are its own
@@ -298,7 +304,7 @@ marked-firsts old new raw ws vs (Ok x) same m = (m.0 ∙ added-firsts old raw ws
 marked-firsts old new raw ws vs (Err Large) same m = sym (many-firsts old raw ws vs same) ∙ m
 marked-firsts old new raw ws vs (Err Memory) same m = tt
 
-module _ (g : FlowContext) (c : NotedCall) (f : Findings) (site : SiteId) (names : List Path)
+module _ (g : FlowContext) (c : PassingCall) (f : Findings) (site : SiteId) (names : List Path)
     (same : set.from_list {R = path_cmp} names ≡ set.from_list (call_names g c f.wobbly)) where
   to_different : set.from_list {R = path_cmp} names ≡ set.from_list (different_paths (call_names g c f.wobbly))
   to_different = same ∙ sym (from_list-different (call_names g c f.wobbly))
@@ -326,7 +332,7 @@ module _ (g : FlowContext) (c : NotedCall) (f : Findings) (site : SiteId) (names
       (stopped-first old (marks raw []) (marks [] names) stop m)))
 
 -- what stops the marks stops the call
-pub stopped-call : (g : FlowContext) (c : NotedCall) (f : Findings) (site : SiteId) (n : ℕ) (s : State) (old : Found)
+pub stopped-call : (g : FlowContext) (c : PassingCall) (f : Findings) (site : SiteId) (n : ℕ) (s : State) (old : Found)
     (stop : Stop) → c.actuals ≡ passed_from s n → IsStopped old (call_marks g c f site) stop →
     IsStopped old (call_effects g c.locked site c.callee n s (Some (Whole f))) stop
 stopped-call g c f site n s old Large same m =
@@ -335,7 +341,7 @@ stopped-call g c f site n s old Large same m =
 stopped-call g c f site n s old Memory same m = tt
 
 -- a call that was noted before notes nothing
-pub noted-before : (g : FlowContext) (c : NotedCall) (f : Findings) (site : SiteId) (found : Found) →
+pub noted-before : (g : FlowContext) (c : PassingCall) (f : Findings) (site : SiteId) (found : Found) →
     IsFound g c found →
     g.known_of c.callee ≡ Some (Whole f) → IsNoted found (call_marks g c f site) found
 noted-before g c f site found h known =
@@ -357,7 +363,7 @@ noted-before g c f site found h known =
     )
 
 -- one that is noted is found from then on
-pub found-then : (g : FlowContext) (c : NotedCall) (f : Findings) (site : SiteId) (old new : Found) →
+pub found-then : (g : FlowContext) (c : PassingCall) (f : Findings) (site : SiteId) (old new : Found) →
     g.known_of c.callee ≡ Some (Whole f) → IsNoted old (call_marks g c f site) new → IsFound g c new
 found-then g c f site old new known m = λ h is.
     let same : f ≡ h = cc in

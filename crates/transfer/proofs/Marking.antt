@@ -149,7 +149,7 @@ full-record old x fresh full =
     ap (λ (b : Bool). b || nat_lt MAX_SUMMARY_KEYS (set.len (paths_after old (marks (x ∷ []) [])))) many
 
 pub full-path : (old : Found) (p : Path) → set.contains old.wobbly p ≡ false →
-    set.len old.wobbly ≡ MAX_SUMMARY_KEYS → IsStopped old (marks [] (p ∷ [])) Large
+    MAX_SUMMARY_KEYS ≤ set.len old.wobbly → IsStopped old (marks [] (p ∷ [])) Large
 full-path old p fresh full =
     let count : set.len (set.insert old.wobbly p) ≡ set.len old.wobbly + 1 =
     set.len-insert path_cmp-total old.wobbly p

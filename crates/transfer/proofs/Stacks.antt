@@ -6,8 +6,8 @@ use Rattle.std.proofs.Math.Seq.{drop-append_seam, take-append_seam}
 use Rattle.std.proofs.lemmas.Bool.{ltb-true, ltb-false}
 use Rattle.std.proofs.lemmas.List.{drop_all, take_all, length-reverse, length-drop}
 use Rattle.std.proofs.lemmas.List.{take-append-drop, reverse-append, reverse-reverse}
-use Rattle.owner_domain.specs.declared.value.Value.{Value}
-use Rattle.owner_domain.specs.declared.value.State.{State}
+use Rattle.owner_domain.specs.declared.numbered.NumberedValue.{NumberedValue}
+use Rattle.owner_domain.specs.declared.numbered.NumberedState.{NumberedState}
 
 -- so many taken from the top
 pub drop-reverse : {X : Type 0} (xs : List X) (n : ℕ) → drop n (reverse xs) ≡ reverse (take (length xs - n) xs)
@@ -63,7 +63,7 @@ pub taken-rest : {X : Type 0} (xs : List X) (n kept : ℕ) → kept ≡ length x
     reverse (take kept xs) ≡ drop n (reverse xs)
 taken-rest xs n kept e = ap (λ (k : ℕ). reverse (take k xs)) e ∙ sym (drop-reverse xs n)
 
-abbrev pub stack_of : List Value → List Value → State
+abbrev pub stack_of : List NumberedValue → List NumberedValue → NumberedState
 stack_of vars stack = record { vars = vars; stack = stack }
 
 -- one more value behind the same that are left

@@ -5,11 +5,14 @@ use Rattle.std.specs.Cmp.{IsPartialEquivalence, IsEquivalence, equiv}
 use Rattle.std.specs.Cmp.Lexicographic.{pointwise}
 use Rattle.std.specs.Hash as fed
 use Rattle.std.specs.List.{list_any, enumerate_from, flat_map}
+use Rattle.racer_base.specs.declared.ids.MethodId.{MethodId}
 use Rattle.racer_base.specs.declared.ids.SiteId.{SiteId}
 use Rattle.access_paths.specs.declared.path.Path.{Path}
 use Rattle.owner_domain.specs.declared.value.Value.{Value}
-use Rattle.owner_domain.specs.Values.{names_of, same_value}
-use Rattle.owner_domain.specs.SameValue.{equal_of_same_value, same_value-itself, value_input}
+use Rattle.owner_domain.specs.Values.{names_of}
+use Rattle.owner_domain.specs.declared.numbered.NumberedValue.{NumberedValue}
+use Rattle.owner_domain.specs.Numbered.{same_number}
+use Rattle.owner_domain.specs.SameNumber.{equal_of_same_number, same_number-itself, number_input}
 use Rattle.access_domain.specs.declared.access.Access.{Access}
 use Rattle.access_domain.specs.Additions.{paths_added}
 use Rattle.access_domain.specs.Findings.{Findings, Whole}
@@ -21,7 +24,7 @@ use Rattle.transfer.specs.declared.noted_calls.NotedCall.{NotedCall}
 
 abbrev pub same_call : NotedCall → NotedCall → Bool
 same_call a b =
-    nat_eq a.callee.0 b.callee.0 && same_flag a.locked b.locked && pointwise same_value a.actuals b.actuals
+    nat_eq a.callee.0 b.callee.0 && same_flag a.locked b.locked && pointwise same_number a.actuals b.actuals
 
 both : (a b : Bool) → (a && b) ≡ true → (a ≡ true) × (b ≡ true)
 both true true e = (refl, refl)
@@ -38,22 +41,22 @@ flag-itself : (a : Bool) → same_flag a a ≡ true
 flag-itself true = refl
 flag-itself false = refl
 
-values : (xs ys : List Value) → pointwise same_value xs ys ≡ true → xs ≡ ys
+values : (xs ys : List NumberedValue) → pointwise same_number xs ys ≡ true → xs ≡ ys
 values [] [] e = refl
 values [] (y ∷ ys) e = cc
 values (x ∷ xs) [] e = cc
 values (x ∷ xs) (y ∷ ys) e =
-    let same = both (same_value x y) (pointwise same_value xs ys) e in
-    (λ i. equal_of_same_value x y same.0 i ∷ values xs ys same.1 i)
+    let same = both (same_number x y) (pointwise same_number xs ys) e in
+    (λ i. equal_of_same_number x y same.0 i ∷ values xs ys same.1 i)
 
-values-themselves : (xs : List Value) → pointwise same_value xs xs ≡ true
+values-themselves : (xs : List NumberedValue) → pointwise same_number xs xs ≡ true
 values-themselves [] = refl
-values-themselves (x ∷ xs) = (λ i. same_value-itself x i && values-themselves xs i)
+values-themselves (x ∷ xs) = (λ i. same_number-itself x i && values-themselves xs i)
 
 pub equal_of_same_call : (a b : NotedCall) → same_call a b ≡ true → a ≡ b
 equal_of_same_call a b e =
     let all = both (nat_eq a.callee.0 b.callee.0 && same_flag a.locked b.locked)
-    (pointwise same_value a.actuals b.actuals)
+    (pointwise same_number a.actuals b.actuals)
     e in
     let first = both (nat_eq a.callee.0 b.callee.0) (same_flag a.locked b.locked) all.0 in
     (λ i. record {
@@ -87,21 +90,27 @@ same_call-equivalence = equiv same_call-laws same_call-itself
 
 -- what a call feeds a hasher
 abbrev pub call_input : NotedCall → fed.HashWrites
-call_input c = fed.u32 c.callee.0 ++ fed.bool c.locked ++ fed.slice value_input c.actuals
+call_input c = fed.u32 c.callee.0 ++ fed.bool c.locked ++ fed.slice number_input c.actuals
 
 pub call_input-respects : (a b : NotedCall) → IsTrue (same_call a b) → call_input a ≡ call_input b
 call_input-respects a b same = ap call_input (equal_of_same_call a b same)
 
 -- ---- what is noted of them
 
-abbrev pub passed_by : FlowContext → NotedCall → Actuals
+-- such a call in paths
+pub record PassingCall : Type 0 where
+  pub callee : MethodId
+  pub locked : Bool
+  pub actuals : List Value
+
+abbrev pub passed_by : FlowContext → PassingCall → Actuals
 passed_by g c = actuals_from (g.is_static c.callee) c.actuals
 
 -- the records of a callee with these findings at such a call at this site, and the wobbly paths
-abbrev pub call_records : FlowContext → NotedCall → Findings → SiteId → List Access
+abbrev pub call_records : FlowContext → PassingCall → Findings → SiteId → List Access
 call_records g c f site = flat_map (substituted_record g (passed_by g c) c.locked site) (enumerate_from 0 f.records)
 
-abbrev pub call_names : FlowContext → NotedCall → List Path → List Path
+abbrev pub call_names : FlowContext → PassingCall → List Path → List Path
 call_names g c paths = flat_map (λ p. names_of (value_named (passed_by g c) p)) paths
 
 -- each of the second records has the key of one of the first
@@ -110,11 +119,11 @@ ArePresent kept [] = Unit {0}
 ArePresent kept (x ∷ xs) = (list_any (λ r. same_key r x) kept ≡ true) × ArePresent kept xs
 
 -- what such a call finds was found before, whatever its site
-abbrev pub IsFound : FlowContext → NotedCall → Found → Type 0
+abbrev pub IsFound : FlowContext → PassingCall → Found → Type 0
 IsFound g c found = (f : Findings) → g.known_of c.callee ≡ Some (Whole f) →
     ((site : SiteId) → ArePresent found.records (call_records g c f site))
     × (paths_added found.wobbly (call_names g c f.wobbly) ≡ found.wobbly)
 
-abbrev pub AreFound : FlowContext → List NotedCall → Found → Type 0
+abbrev pub AreFound : FlowContext → List PassingCall → Found → Type 0
 AreFound g [] found = Unit {0}
 AreFound g (c ∷ calls) found = IsFound g c found × AreFound g calls found

@@ -18,8 +18,7 @@ use Rattle.access_domain.specs.Flow.{rounds}
 use Rattle.access_domain.specs.Operations.{Effects, goes_on, top, pushed, popped, replaced}
 use Rattle.transfer.specs.declared.found.Found.{Found}
 use Rattle.transfer.specs.declared.found.Stop.{Stop}
-use Rattle.transfer.specs.declared.noted_calls.NotedCall.{NotedCall}
-use Rattle.transfer.specs.NotedCalls.{passed_by}
+use Rattle.transfer.specs.NotedCalls.{PassingCall, passed_by}
 use Rattle.transfer.specs.Marks.{IsNoted, IsStopped, IsMarked, marks}
 use Rattle.transfer_loops.specs.Rounds.{rounds_of}
 
@@ -66,7 +65,7 @@ is_call (Call m n) = true
 is_call _ = false
 
 -- what is found of a callee at such a call, in the caller's values
-abbrev pub call_marks : FlowContext → NotedCall → Findings → SiteId → Effects
+abbrev pub call_marks : FlowContext → PassingCall → Findings → SiteId → Effects
 call_marks g c f site =
     marks (substituted g (passed_by g c) f c.locked site).records (substituted g (passed_by g c) f c.locked site).wobbly
 

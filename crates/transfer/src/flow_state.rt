@@ -1,31 +1,29 @@
 //! The values of a method's variables, and those on its operand stack.
 ghost use Rattle.std.specs.Prelude.{◌≡◌, ◌+◌, [], not, IfOk, OnOk, length, slice_index_or, slice_set};
-ghost use Rattle.owner_domain.specs.Values.{joined_state, lost_state};
-ghost use Rattle.owner_domain.specs.declared.value.Value.TheVariants.{Unnamed as NotNamed};
-ghost use Rattle.access_domain.specs.Operations.{top, pushed, popped, replaced, passed_from};
-ghost use Rattle.transfer_loops.specs.Rounds.{same_state};
+ghost use Rattle.owner_domain.specs.declared.numbered.NumberedValue.TheVariants.{Unnamed as NotNamed};
+ghost use Rattle.transfer.specs.Slots.{top_number, pushed_number, popped_numbers, replaced_numbers, passed_numbers};
+ghost use Rattle.transfer.specs.Slots.{met_numbers, lost_by, same_numbered};
 
-use crate::meeting::{lose_values, meet_values};
-use access_paths::Path;
-use owner_domain::Value;
+use crate::meeting::{lose_tops, lose_values, meet_tops, meet_values};
+use owner_domain::NumberedValue;
 use racer_base::{Memory, VarId};
 use std::alloc::Global;
 use std::marker::Model;
 
-/// The values at a place of the code, which contracts see as a `State`.
+/// The values at a place of the code, their paths by their numbers, which contracts see as a `NumberedState`.
 #[derive(Drop)]
 pub struct FlowState {
-    vars: Vec<Value>,
+    vars: Vec<NumberedValue>,
     /// The top stands last.
-    stack: Vec<Value>,
+    stack: Vec<NumberedValue>,
 }
 
 impl Model for FlowState {
     ghost use Rattle.std.specs.Prelude.{reverse};
-    ghost use Rattle.owner_domain.specs.declared.value.State.{State};
-    ghost use Rattle.owner_domain.specs.contracts.value.State as state;
+    ghost use Rattle.owner_domain.specs.declared.numbered.NumberedState.{NumberedState};
+    ghost use Rattle.owner_domain.specs.contracts.numbered.NumberedState as state;
 
-    ghost Value = { State };
+    ghost Value = { NumberedState };
 
     ghost coded = { state.the_row.coded };
 
@@ -34,7 +32,7 @@ impl Model for FlowState {
 
 impl FlowState {
     /// These variables, and nothing on the stack.
-    pub fn new(alloc: Global, vars: Vec<Value>) -> FlowState
+    pub fn new(alloc: Global, vars: Vec<NumberedValue>) -> FlowState
         ensures { result ≡ record { vars = vars.items; stack = [] } }
     {
         FlowState {
@@ -58,17 +56,17 @@ impl FlowState {
     }
 
     /// The value of a variable, `Unnamed` where there is none of this number.
-    fn variable(&self, alloc: Global, variable: VarId) -> Result<Value, Memory>
-        ensures { IfOk result (λ value. value ≡ slice_index_or self.now.vars variable.0 NotNamed) }
+    fn variable(&self, variable: VarId) -> NumberedValue
+        ensures { result ≡ slice_index_or self.now.vars variable.0 NotNamed }
     {
         match self.vars.as_slice().get(variable.0 as usize) {
-            Some(value) => value.copied(alloc),
-            None => Ok(Value::Unnamed),
+            Some(value) => *value,
+            None => NumberedValue::Unnamed,
         }
     }
 
     /// Gives a variable this value, where there is one of this number.
-    pub fn set(&mut self, variable: VarId, value: Value)
+    pub fn set(&mut self, variable: VarId, value: NumberedValue)
         ensures { self.new ≡ record { vars = slice_set self.old.vars variable.0 value; stack = self.old.stack } }
     {
         let variable = variable.0 as usize;
@@ -77,8 +75,8 @@ impl FlowState {
         }
     }
 
-    pub fn push(&mut self, value: Value) -> Result<(), Memory>
-        ensures { OnOk result (self.new ≡ pushed self.old value) }
+    pub fn push(&mut self, value: NumberedValue) -> Result<(), Memory>
+        ensures { OnOk result (self.new ≡ pushed_number self.old value) }
     {
         let Ok(()) = self.stack.push(value) else {
             return Err(Memory);
@@ -87,58 +85,52 @@ impl FlowState {
     }
 
     /// Takes the top, or `Unnamed` where there is none.
-    pub fn pop(&mut self) -> Value
-        ensures value { result ≡ top self.old }
-        ensures rest { self.new ≡ popped self.old 1 }
+    pub fn pop(&mut self) -> NumberedValue
+        ensures value { result ≡ top_number self.old }
+        ensures rest { self.new ≡ popped_numbers self.old 1 }
     {
         match self.stack.pop() {
             Some(value) => value,
-            None => Value::Unnamed,
+            None => NumberedValue::Unnamed,
         }
     }
 
-    /// Pushes a value that is equal to that of a variable, `Unnamed` where there is none of this number.
-    pub fn push_variable(&mut self, alloc: Global, variable: VarId) -> Result<(), Memory>
-        ensures { OnOk result (self.new ≡ pushed self.old (slice_index_or self.old.vars variable.0 NotNamed)) }
+    /// Pushes the value of a variable, `Unnamed` where there is none of this number.
+    pub fn push_variable(&mut self, variable: VarId) -> Result<(), Memory>
+        ensures { OnOk result (self.new ≡ pushed_number self.old (slice_index_or self.old.vars variable.0 NotNamed)) }
     {
-        let Ok(value) = self.variable(alloc, variable) else {
-            return Err(Memory);
-        };
-        self.push(value)
+        self.push(self.variable(variable))
     }
 
-    /// Pushes a value that is equal to the top.
-    pub fn push_top(&mut self, alloc: Global) -> Result<(), Memory>
-        ensures { OnOk result (self.new ≡ pushed self.old (top self.old)) }
+    /// Pushes the top once more.
+    pub fn push_top(&mut self) -> Result<(), Memory>
+        ensures { OnOk result (self.new ≡ pushed_number self.old (top_number self.old)) }
     {
-        let Ok(value) = self.top(alloc) else {
-            return Err(Memory);
-        };
-        self.push(value)
+        self.push(self.top())
     }
 
-    /// A value that is equal to the top.
-    pub fn top(&self, alloc: Global) -> Result<Value, Memory>
-        ensures { IfOk result (λ value. value ≡ top self.now) }
+    /// The top, or `Unnamed` where there is none.
+    pub fn top(&self) -> NumberedValue
+        ensures { result ≡ top_number self.now }
     {
         match self.stack.as_slice().last() {
-            Some(value) => value.copied(alloc),
-            None => Ok(Value::Unnamed),
+            Some(value) => *value,
+            None => NumberedValue::Unnamed,
         }
     }
 
     /// Takes so many values, in the order in which they were pushed.
-    pub fn take(&mut self, count: u32) -> Result<Vec<Value>, Memory>
-        ensures values { IfOk result (λ values. values.items ≡ passed_from self.old count) }
-        ensures rest { OnOk result (self.new ≡ popped self.old count) }
+    pub fn take(&mut self, count: u32) -> Result<Vec<NumberedValue>, Memory>
+        ensures values { IfOk result (λ values. values.items ≡ passed_numbers self.old count) }
+        ensures rest { OnOk result (self.new ≡ popped_numbers self.old count) }
     {
         let kept = self.stack.len().saturating_sub(count as usize);
         Ok(self.stack.split_off(kept)?)
     }
 
     /// Takes so many values, and pushes one.
-    pub fn replace(&mut self, count: u32, value: Value) -> Result<(), Memory>
-        ensures { OnOk result (self.new ≡ replaced self.old count value) }
+    pub fn replace(&mut self, count: u32, value: NumberedValue) -> Result<(), Memory>
+        ensures { OnOk result (self.new ≡ replaced_numbers self.old count value) }
     {
         let kept = self.stack.len().saturating_sub(count as usize);
         self.stack.truncate(kept);
@@ -149,10 +141,10 @@ impl FlowState {
     pub fn copied(&self, alloc: Global) -> Result<FlowState, Memory>
         ensures { IfOk result (λ copy. copy ≡ self.now) }
     {
-        let Ok(vars) = copies(alloc, self.vars.as_slice()) else {
+        let Ok(vars) = Vec::from_slice(alloc, self.vars.as_slice()) else {
             return Err(Memory);
         };
-        let Ok(stack) = copies(alloc, self.stack.as_slice()) else {
+        let Ok(stack) = Vec::from_slice(alloc, self.stack.as_slice()) else {
             return Err(Memory);
         };
         Ok(FlowState { vars, stack })
@@ -160,63 +152,27 @@ impl FlowState {
 
     /// Joins the values with others; whether that changed them.
     pub fn meet(&mut self, other: FlowState) -> bool
-        ensures state { self.new ≡ joined_state self.old other }
-        ensures changed { result ≡ not (same_state self.new self.old) }
+        ensures state { self.new ≡ met_numbers self.old other }
+        ensures changed { result ≡ not (same_numbered self.new self.old) }
     {
-        let mut others = other.stack;
-        others.reverse();
-        self.stack.reverse();
         let vars = meet_values(&mut self.vars, other.vars.as_slice());
-        let stack = meet_values(&mut self.stack, others.as_slice());
-        self.stack.reverse();
+        let stack = meet_tops(&mut self.stack, other.stack);
         vars || stack
     }
 
-    /// Joins the values with others; whether that changed them, and the paths that are lost, in order of slots.
+    /// Joins the values with others; whether that changed them, and the numbers that are lost, in order of slots.
     pub fn meet_losing(
         &mut self,
         alloc: Global,
-        mut other: FlowState,
-    ) -> Result<(bool, Vec<Path>), Memory>
-        ensures state { OnOk result (self.new ≡ joined_state self.old other) }
-        ensures changed { IfOk result (λ made. made.0 ≡ not (same_state self.new self.old)) }
-        ensures lost { IfOk result (λ made. made.1.items ≡ lost_state self.old other) }
+        other: FlowState,
+    ) -> Result<(bool, Vec<u32>), Memory>
+        ensures state { OnOk result (self.new ≡ met_numbers self.old other) }
+        ensures changed { IfOk result (λ made. made.0 ≡ not (same_numbered self.new self.old)) }
+        ensures lost { IfOk result (λ made. made.1.items ≡ lost_by self.old other) }
     {
         let mut lost = Vec::new(alloc);
-        lose_values(
-            alloc,
-            self.vars.as_slice(),
-            other.vars.as_slice(),
-            &mut lost,
-        )?;
-        self.stack.reverse();
-        other.stack.reverse();
-        lose_values(
-            alloc,
-            self.stack.as_slice(),
-            other.stack.as_slice(),
-            &mut lost,
-        )?;
-        self.stack.reverse();
-        other.stack.reverse();
+        lose_values(self.vars.as_slice(), other.vars.as_slice(), &mut lost)?;
+        lose_tops(self.stack.as_slice(), other.stack.as_slice(), &mut lost)?;
         Ok((self.meet(other), lost))
     }
-}
-
-/// Values that are equal to these, in order.
-fn copies(alloc: Global, values: &[Value]) -> Result<Vec<Value>, Memory>
-    ensures { IfOk result (λ copies. copies.items ≡ values.now) }
-{
-    let Ok(mut copies) = Vec::with_capacity(alloc, values.len()) else {
-        return Err(Memory);
-    };
-    for value in values {
-        let Ok(copy) = value.copied(alloc) else {
-            return Err(Memory);
-        };
-        let Ok(()) = copies.push(copy) else {
-            return Err(Memory);
-        };
-    }
-    Ok(copies)
 }

@@ -1,7 +1,7 @@
 //! Calls whose callee's findings were noted.
 ghost use Rattle.std.specs.Prelude.{◌≡◌};
 
-use owner_domain::Value;
+use owner_domain::NumberedValue;
 use racer_base::{Items, MethodId};
 use std::hash::{Hash, Hasher};
 
@@ -10,7 +10,7 @@ use std::hash::{Hash, Hasher};
 pub struct NotedCall {
     pub callee: MethodId,
     pub locked: bool,
-    pub actuals: Items<Value>,
+    pub actuals: Items<NumberedValue>,
 }
 
 impl PartialEq for NotedCall {

@@ -1,25 +1,33 @@
 //! Operations.
-ghost use Rattle.std.specs.Prelude.{◌≡◌, ◌++◌, IfOk, OnOk, [], true, false, if◌then◌else◌};
+ghost use Rattle.std.specs.Prelude.{◌≡◌, ◌++◌, List, IfOk, OnOk, [], Bool, length, option_map, false, if◌then◌else◌};
 ghost use Rattle.racer_base.specs.declared.ids.SiteId.{SiteId as Site};
-ghost use Rattle.std.specs.Prelude.{Bool};
-ghost use Rattle.owner_domain.specs.declared.value.Value.TheVariants.{Unnamed as NotNamed};
+ghost use Rattle.access_paths.specs.declared.path.Path.{Path as TablePath};
+ghost use Rattle.access_paths.specs.Table.{IsTable, GoesOn, path_at};
+ghost use Rattle.owner_domain.specs.declared.numbered.NumberedValue.TheVariants.{Unnamed as NotNamed};
+ghost use Rattle.owner_domain.specs.Numbered.{read_value, read_state, IsInRange, AreInRange};
 ghost use Rattle.owner_domain.specs.Values.{field_value, names_of};
 ghost use Rattle.core_code.specs.declared.code.Op.TheVariants.{Get, Put};
+ghost use Rattle.core_code.specs.Program.{core};
 ghost use Rattle.access_domain.specs.Operations.{op_effects, popped, top};
+ghost use Rattle.access_domain.specs.Reached.{reached_path};
 ghost use Rattle.transfer.specs.Frames.{given, record_reached};
 ghost use Rattle.transfer.specs.Marks.{IsMarked, marks, returns_of};
 ghost use Rattle.transfer.specs.NotedCalls.{AreFound};
+ghost use Rattle.transfer.specs.Numbered.{read_found, read_calls, AreFoundNumbers, AreCallNumbers, IsBelow, IsFlowOf};
+ghost use Rattle.transfer.specs.Slots.{popped_numbers};
 ghost use Rattle.transfer.specs.Walks.{IsFlow, is_call, is_quiet, moved, next_of, set_effects};
 
 use crate::calls::{Callee, call, move_call};
 use crate::flow_state::FlowState;
-use crate::found::{Found, Stop};
+use crate::found::Stop;
 use crate::noted_calls::NotedCall;
-use access_domain::{Access, path_reached, touched_field};
-use access_paths::{Path, Root};
+use crate::numbered_found::NumberedFound;
+use access_domain::{NumberedAccess, touched_field};
+use access_paths::{Path, PathTable, Root};
+use call_subst::number_value;
 use core_code::{Op, Program};
 use indexmap::IndexSet;
-use owner_domain::Value;
+use owner_domain::{NumberedValue, along_path};
 use racer_base::{FieldId, Memory, SiteId, Touch, VarId};
 use std::alloc::Global;
 use std::mem;
@@ -44,23 +52,57 @@ fn is_quiet(op: Op) -> bool
 }
 
 /// Does an operation that finds nothing and goes on.
-fn move_on(alloc: Global, op: Op, here: &mut FlowState) -> Result<(), Memory>
-    ensures { OnOk result (here.new ≡ moved op here.old) }
+fn move_on(alloc: Global, op: Op, here: &mut FlowState, table: &mut PathTable) -> Result<(), Memory>
+    requires numbers { AreInRange table.old here.old }
+    requires once { IsTable table.old }
+    ensures next { OnOk result (read_state table.new here.new ≡ moved op (read_state table.old here.old)) }
+    ensures numbers { OnOk result (AreInRange table.new here.new) }
+    ensures once { OnOk result (IsTable table.new) }
+    ensures table { OnOk result (GoesOn table.old table.new) }
 {
     match op {
-        Op::Push(variable) => here.push_variable(alloc, variable),
-        Op::PushClass(class) => here.push(Value::Named(Path::alone(alloc, Root::Class(class)))),
-        Op::PushPrim => here.push(Value::Unnamed),
-        Op::PushNull | Op::New(_) => here.push(Value::Owned),
-        Op::Dup => here.push_top(alloc),
+        Op::Push(variable) => here.push_variable(variable),
+        Op::PushClass(class) => {
+            let number = table.number_of(Path::alone(alloc, Root::Class(class)))?;
+            here.push(NumberedValue::Named(number))
+        }
+        Op::PushPrim => here.push(NumberedValue::Unnamed),
+        Op::PushNull | Op::New(_) => here.push(NumberedValue::Owned),
+        Op::Dup => here.push_top(),
         Op::Drop => {
             mem::drop(here.pop());
             Ok(())
         }
         Op::Prim(count) | Op::Outside(count) | Op::Unread(_, count) => {
-            here.replace(count, Value::Unnamed)
+            here.replace(count, NumberedValue::Unnamed)
         }
         Op::Get(_) | Op::Put(_) | Op::Set(_) | Op::Call(_, _) | Op::Ret => Ok(()),
+    }
+}
+
+/// The number of the path of an access of a field that has this value: none where its object is owned.
+fn number_reached(
+    alloc: Global,
+    program: &Program,
+    value: NumberedValue,
+    f: FieldId,
+    table: &mut PathTable,
+) -> Result<Option<u32>, Memory>
+    requires value { IsInRange table.old value }
+    requires once { IsTable table.old }
+    ensures path { IfOk result (λ reached. option_map (path_at table.new) reached ≡
+        reached_path (core program.now) (read_value table.old value) f) }
+    ensures number { IfOk result (λ reached. IsBelow (length table.new) reached) }
+    ensures once { OnOk result (IsTable table.new) }
+    ensures table { OnOk result (GoesOn table.old table.new) }
+{
+    match value {
+        NumberedValue::Owned => Ok(None),
+        NumberedValue::Named(number) => Ok(Some(number)),
+        NumberedValue::Unnamed => {
+            let path = Path::of_some(alloc, touched_field(program, f).class, f)?;
+            Ok(Some(table.number_of(path)?))
+        }
     }
 }
 
@@ -71,25 +113,31 @@ fn note_access(
     kind: Touch,
     locked: bool,
     site: SiteId,
-    value: &Value,
+    value: NumberedValue,
     f: FieldId,
-    found: &mut Found,
+    table: &mut PathTable,
+    found: &mut NumberedFound,
 ) -> Result<(), Stop>
-    ensures { IsMarked found.old (marks (record_reached frame.now kind locked site value.now f) []) found.new result }
+    requires value { IsInRange table.old value }
+    requires once { IsTable table.old }
+    requires numbers { AreFoundNumbers table.old found.old }
+    ensures found { IsMarked (read_found table.old found.old) (marks (record_reached frame.now kind locked site
+        (read_value table.old value) f) [])
+        (read_found table.new found.new) result }
+    ensures numbers { OnOk result (AreFoundNumbers table.new found.new) }
+    ensures once { OnOk result (IsTable table.new) }
+    ensures table { OnOk result (GoesOn table.old table.new) }
 {
     if !touched_field(frame.program, f).recorded {
         return Ok(());
     }
-    let Ok(value) = value.copied(alloc) else {
-        return Err(Stop::Memory);
-    };
-    let Ok(reached) = path_reached(alloc, frame.program, value, f) else {
+    let Ok(reached) = number_reached(alloc, frame.program, value, f, table) else {
         return Err(Stop::Memory);
     };
     let Some(path) = reached else {
         return Ok(());
     };
-    found.note_record(Access {
+    found.note_record(NumberedAccess {
         path,
         kind,
         locked,
@@ -100,18 +148,35 @@ fn note_access(
 }
 
 /// What a read gives of a field that has this value.
-fn value_read(plain: bool, value: Value) -> Value
+fn value_read(plain: bool, value: NumberedValue) -> NumberedValue
     ensures { result ≡ (if plain then NotNamed else value) }
 {
-    if plain { Value::Unnamed } else { value }
+    if plain { NumberedValue::Unnamed } else { value }
 }
 
 /// Takes the top, and gives the value of its field.
-fn pop_field(alloc: Global, here: &mut FlowState, f: FieldId) -> Result<Value, Memory>
-    ensures value { IfOk result (λ value. value ≡ field_value (top here.old) f) }
-    ensures rest { here.new ≡ popped here.old 1 }
+fn pop_field(
+    alloc: Global,
+    here: &mut FlowState,
+    f: FieldId,
+    table: &mut PathTable,
+) -> Result<NumberedValue, Memory>
+    requires numbers { AreInRange table.old here.old }
+    requires once { IsTable table.old }
+    ensures value { IfOk result (λ value. read_value table.new value ≡
+        field_value (top (read_state table.old here.old)) f) }
+    ensures range { IfOk result (λ value. IsInRange table.new value) }
+    ensures rest { here.new ≡ popped_numbers here.old 1 }
+    ensures once { OnOk result (IsTable table.new) }
+    ensures table { OnOk result (GoesOn table.old table.new) }
 {
-    here.pop().along(alloc, &[f])
+    match here.pop() {
+        NumberedValue::Named(number) => {
+            let value = along_path(alloc, table.path_of(number), &[f])?;
+            number_value(table, value)
+        }
+        other => Ok(other),
+    }
 }
 
 /// Reads a field of the top.
@@ -122,14 +187,30 @@ fn get(
     site: SiteId,
     f: FieldId,
     here: &mut FlowState,
-    found: &mut Found,
+    table: &mut PathTable,
+    found: &mut NumberedFound,
 ) -> Result<bool, Stop>
-    ensures { IsFlow (op_effects (given frame.now) locked site (Get f) here.old) here.new found.old found.new result }
+    requires numbers { IsFlowOf table.old here.old found.old }
+    ensures flow { IsFlow (op_effects (given frame.now) locked site (Get f) (read_state table.old here.old))
+        (read_state table.new here.new)
+        (read_found table.old found.old) (read_found table.new found.new) result }
+    ensures numbers { OnOk result (IsFlowOf table.new here.new found.new) }
+    ensures table { OnOk result (GoesOn table.old table.new) }
 {
-    let Ok(value) = pop_field(alloc, here, f) else {
+    let Ok(value) = pop_field(alloc, here, f, table) else {
         return Err(Stop::Memory);
     };
-    match note_access(alloc, frame, Touch::Read, locked, site, &value, f, found) {
+    match note_access(
+        alloc,
+        frame,
+        Touch::Read,
+        locked,
+        site,
+        value,
+        f,
+        table,
+        found,
+    ) {
         Ok(()) => {}
         Err(stop) => return Err(stop),
     }
@@ -141,12 +222,19 @@ fn get(
 }
 
 /// Notes the names of a field that a value is stored in, and of the value.
-fn note_store(alloc: Global, field: Value, value: &Value, found: &mut Found) -> Result<(), Stop>
-    ensures { IsMarked found.old (marks [] (names_of field ++ names_of value.now)) found.new result }
+fn note_store(
+    field: NumberedValue,
+    value: NumberedValue,
+    found: &mut NumberedFound,
+) -> Result<(), Stop>
+    ensures found { (table : List TablePath) → IsTable table → AreFoundNumbers table found.old → IsInRange table
+        field →
+        IsInRange table value → IsMarked (read_found table found.old)
+        (marks [] (names_of (read_value table field) ++ names_of (read_value table value)))
+        (read_found table found.new) result }
+    ensures numbers { OnOk result ((table : List TablePath) → IsTable table → AreFoundNumbers table found.old →
+        IsInRange table field → IsInRange table value → AreFoundNumbers table found.new) }
 {
-    let Ok(value) = value.copied(alloc) else {
-        return Err(Stop::Memory);
-    };
     match found.note_name(field) {
         Ok(()) => {}
         Err(stop) => return Err(stop),
@@ -162,19 +250,35 @@ fn put(
     site: SiteId,
     f: FieldId,
     here: &mut FlowState,
-    found: &mut Found,
+    table: &mut PathTable,
+    found: &mut NumberedFound,
 ) -> Result<bool, Stop>
-    ensures { IsFlow (op_effects (given frame.now) locked site (Put f) here.old) here.new found.old found.new result }
+    requires numbers { IsFlowOf table.old here.old found.old }
+    ensures flow { IsFlow (op_effects (given frame.now) locked site (Put f) (read_state table.old here.old))
+        (read_state table.new here.new)
+        (read_found table.old found.old) (read_found table.new found.new) result }
+    ensures numbers { OnOk result (IsFlowOf table.new here.new found.new) }
+    ensures table { OnOk result (GoesOn table.old table.new) }
 {
     let value = here.pop();
-    let Ok(field) = pop_field(alloc, here, f) else {
+    let Ok(field) = pop_field(alloc, here, f, table) else {
         return Err(Stop::Memory);
     };
-    match note_access(alloc, frame, Touch::Write, locked, site, &field, f, found) {
+    match note_access(
+        alloc,
+        frame,
+        Touch::Write,
+        locked,
+        site,
+        field,
+        f,
+        table,
+        found,
+    ) {
         Ok(()) => {}
         Err(stop) => return Err(stop),
     }
-    match note_store(alloc, field, &value, found) {
+    match note_store(field, value, found) {
         Ok(()) => {}
         Err(stop) => return Err(stop),
     }
@@ -185,21 +289,15 @@ fn put(
 }
 
 /// Stores the top in a variable, and leaves it on the stack.
-fn set(
-    alloc: Global,
-    variable: VarId,
-    here: &mut FlowState,
-    found: &mut Found,
-) -> Result<bool, Stop>
-    ensures { IsFlow (set_effects variable here.old) here.new found.old found.new result }
+fn set(variable: VarId, here: &mut FlowState, found: &mut NumberedFound) -> Result<bool, Stop>
+    ensures flow { (table : List TablePath) → IsFlowOf table here.old found.old →
+        IsFlow (set_effects variable (read_state table here.old)) (read_state table here.new)
+        (read_found table found.old) (read_found table found.new) result }
+    ensures numbers { OnOk result ((table : List TablePath) → IsFlowOf table here.old found.old →
+        IsFlowOf table here.new found.new) }
 {
-    let Ok(name) = here.top(alloc) else {
-        return Err(Stop::Memory);
-    };
-    let Ok(value) = here.top(alloc) else {
-        return Err(Stop::Memory);
-    };
-    match found.note_name(name) {
+    let value = here.top();
+    match found.note_name(value) {
         Ok(()) => {}
         Err(stop) => return Err(stop),
     }
@@ -208,8 +306,12 @@ fn set(
 }
 
 /// Returns the top.
-fn give_back(alloc: Global, here: &mut FlowState, found: &mut Found) -> Result<bool, Stop>
-    ensures { IsFlow (returns_of (top here.old)) here.new found.old found.new result }
+fn give_back(alloc: Global, here: &mut FlowState, found: &mut NumberedFound) -> Result<bool, Stop>
+    ensures flow { (table : List TablePath) → IsFlowOf table here.old found.old →
+        IsFlow (returns_of (top (read_state table here.old))) (read_state table here.new)
+        (read_found table found.old) (read_found table found.new) result }
+    ensures numbers { OnOk result ((table : List TablePath) → IsFlowOf table here.old found.old →
+        IsFlowOf table here.new found.new) }
 {
     let value = here.pop();
     match found.note_result(alloc, value) {
@@ -226,16 +328,22 @@ fn find_out(
     site: SiteId,
     op: Op,
     here: &mut FlowState,
-    found: &mut Found,
+    table: &mut PathTable,
+    found: &mut NumberedFound,
 ) -> Result<bool, Stop>
     requires quiet { is_quiet op ≡ false }
     requires call { is_call op ≡ false }
-    ensures { IsFlow (op_effects (given frame.now) locked site op here.old) here.new found.old found.new result }
+    requires numbers { IsFlowOf table.old here.old found.old }
+    ensures flow { IsFlow (op_effects (given frame.now) locked site op (read_state table.old here.old)) (read_state
+        table.new here.new)
+        (read_found table.old found.old) (read_found table.new found.new) result }
+    ensures numbers { OnOk result (IsFlowOf table.new here.new found.new) }
+    ensures table { OnOk result (GoesOn table.old table.new) }
 {
     match op {
-        Op::Get(f) => get(alloc, frame, locked, site, f, here, found),
-        Op::Put(f) => put(alloc, frame, locked, site, f, here, found),
-        Op::Set(variable) => set(alloc, variable, here, found),
+        Op::Get(f) => get(alloc, frame, locked, site, f, here, table, found),
+        Op::Put(f) => put(alloc, frame, locked, site, f, here, table, found),
+        Op::Set(variable) => set(variable, here, found),
         Op::Ret => give_back(alloc, here, found),
         _ => unreachable!(),
     }
@@ -249,15 +357,21 @@ fn step(
     site: SiteId,
     op: Op,
     here: &mut FlowState,
-    found: &mut Found,
+    table: &mut PathTable,
+    found: &mut NumberedFound,
 ) -> Result<bool, Stop>
-    requires { is_call op ≡ false }
-    ensures { IsFlow (op_effects (given frame.now) locked site op here.old) here.new found.old found.new result }
+    requires call { is_call op ≡ false }
+    requires numbers { IsFlowOf table.old here.old found.old }
+    ensures flow { IsFlow (op_effects (given frame.now) locked site op (read_state table.old here.old)) (read_state
+        table.new here.new)
+        (read_found table.old found.old) (read_found table.new found.new) result }
+    ensures numbers { OnOk result (IsFlowOf table.new here.new found.new) }
+    ensures table { OnOk result (GoesOn table.old table.new) }
 {
     if !is_quiet(op) {
-        return find_out(alloc, frame, locked, site, op, here, found);
+        return find_out(alloc, frame, locked, site, op, here, table, found);
     }
-    let Ok(()) = move_on(alloc, op, here) else {
+    let Ok(()) = move_on(alloc, op, here, table) else {
         return Err(Stop::Memory);
     };
     Ok(true)
@@ -271,20 +385,30 @@ pub fn operate(
     site: SiteId,
     op: Op,
     here: &mut FlowState,
+    table: &mut PathTable,
     calls: &mut IndexSet<NotedCall>,
-    found: &mut Found,
+    found: &mut NumberedFound,
 ) -> Result<bool, Stop>
-    requires { AreFound (given frame.now) calls.old.keys found.old }
-    ensures flow { IsFlow (op_effects (given frame.now) locked site op here.old) here.new found.old found.new result }
-    ensures calls { OnOk result (AreFound (given frame.now) calls.new.keys found.new) }
+    requires numbers { IsFlowOf table.old here.old found.old }
+    requires called { AreCallNumbers table.old calls.old.keys }
+    requires calls { AreFound (given frame.now) (read_calls table.old calls.old.keys) (read_found table.old
+        found.old) }
+    ensures flow { IsFlow (op_effects (given frame.now) locked site op (read_state table.old here.old)) (read_state
+        table.new here.new)
+        (read_found table.old found.old) (read_found table.new found.new) result }
+    ensures numbers { OnOk result (IsFlowOf table.new here.new found.new) }
+    ensures called { OnOk result (AreCallNumbers table.new calls.new.keys) }
+    ensures calls { OnOk result (AreFound (given frame.now) (read_calls table.new calls.new.keys)
+        (read_found table.new found.new)) }
+    ensures table { OnOk result (GoesOn table.old table.new) }
 {
     match op {
         Op::Call(method, count) => {
             call(
-                alloc, frame, locked, site, method, count, here, calls, found,
+                alloc, frame, locked, site, method, count, here, table, calls, found,
             )
         }
-        _ => step(alloc, frame, locked, site, op, here, found),
+        _ => step(alloc, frame, locked, site, op, here, table, found),
     }
 }
 
@@ -294,13 +418,20 @@ pub fn move_any(
     frame: &MethodContext,
     op: Op,
     here: &mut FlowState,
+    table: &mut PathTable,
 ) -> Result<bool, Memory>
-    ensures { IfOk result (λ goes_on. (locked : Bool) (site : Site) →
-        (op_effects (given frame.now) locked site op here.old).next ≡ next_of goes_on here.new) }
+    requires numbers { AreInRange table.old here.old }
+    requires once { IsTable table.old }
+    ensures next { IfOk result (λ goes_on. (locked : Bool) (site : Site) →
+        (op_effects (given frame.now) locked site op (read_state table.old here.old)).next ≡
+        next_of goes_on (read_state table.new here.new)) }
+    ensures numbers { OnOk result (AreInRange table.new here.new) }
+    ensures once { OnOk result (IsTable table.new) }
+    ensures table { OnOk result (GoesOn table.old table.new) }
 {
     match op {
         Op::Get(f) => {
-            let value = pop_field(alloc, here, f)?;
+            let value = pop_field(alloc, here, f, table)?;
             let plain = touched_field(frame.program, f).plain;
             here.push(value_read(plain, value))?;
             Ok(true)
@@ -312,17 +443,17 @@ pub fn move_any(
             Ok(true)
         }
         Op::Set(variable) => {
-            let value = here.top(alloc)?;
+            let value = here.top();
             here.set(variable, value);
             Ok(true)
         }
         Op::Call(method, count) => {
-            move_call(alloc, frame, method, count, here)?;
+            move_call(alloc, frame, method, count, here, table)?;
             Ok(true)
         }
         Op::Ret => Ok(false),
         _ => {
-            move_on(alloc, op, here)?;
+            move_on(alloc, op, here, table)?;
             Ok(true)
         }
     }

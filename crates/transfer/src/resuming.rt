@@ -1,17 +1,19 @@
 //! Code gone through for the state at its end alone, with the states in which its loops were left.
-ghost use Rattle.std.specs.Prelude.{◌≡◌, ◌+◌, ◌≤◌, Bool, false, map, length, IfOk, OnOk};
-ghost use Rattle.racer_base.specs.declared.ids.SiteId.{SiteId as Site};
+ghost use Rattle.std.specs.Prelude.{◌≡◌, ◌+◌, ◌≤◌, List, false, map, option_map, length, IfOk, OnOk};
+ghost use Rattle.access_paths.specs.declared.path.Path.{Path as TablePath};
+ghost use Rattle.access_paths.specs.Table.{IsTable, GoesOn};
+ghost use Rattle.owner_domain.specs.Numbered.{read_state, AreInRange};
 ghost use Rattle.core_code.specs.Tree.{tree_of, in_sequence, Loop};
 ghost use Rattle.access_domain.specs.Flow.{joined_next};
-ghost use Rattle.access_domain.specs.Operations.{op_effects};
-ghost use Rattle.transfer_loops.specs.Rounds.{same_state};
 ghost use Rattle.transfer_loops.specs.Resuming.{loops, entered};
 ghost use Rattle.transfer.specs.Resumes.{heads_in, IsResumed, IsRound, AreResumedRounds};
 ghost use Rattle.transfer.specs.Frames.{given};
+ghost use Rattle.transfer.specs.Numbered.{read_heads, IsResumedIn, IsHeadInRange};
 ghost use Rattle.transfer.specs.Walks.{next_of};
 
 use crate::flow_state::FlowState;
 use crate::operations::{MethodContext, move_any};
+use access_paths::PathTable;
 use core_code::Code;
 use racer_base::Memory;
 use std::alloc::Global;
@@ -88,14 +90,19 @@ pub fn resume(
     code: &Code,
     first: usize,
     here: &mut FlowState,
+    table: &mut PathTable,
     heads: &mut Vec<Option<FlowState>>,
 ) -> Result<Passed, Memory>
-    requires { first + loops (tree_of code.now) ≤ length heads.old.items }
-    ensures { IsResumed (given frame.now) (tree_of code.now) locked first here.old here.new heads.old.items
-        heads.new.items result }
+    requires room { first + loops (tree_of code.now) ≤ length heads.old.items }
+    requires numbers { IsResumedIn table.old here.old heads.old.items }
+    ensures resumed { IsResumed (given frame.now) (tree_of code.now) locked first (read_state table.old here.old)
+        (read_state table.new here.new)
+        (read_heads table.old heads.old.items) (read_heads table.new heads.new.items) result }
+    ensures numbers { OnOk result (IsResumedIn table.new here.new heads.new.items) }
+    ensures table { OnOk result (GoesOn table.old table.new) }
 {
     match code {
-        Code::Op(_, _, op) => match move_any(alloc, frame, *op, here) {
+        Code::Op(_, _, op) => match move_any(alloc, frame, *op, here, table) {
             Ok(goes_on) => Ok(Passed {
                 next: first,
                 goes_on,
@@ -103,16 +110,27 @@ pub fn resume(
             Err(memory) => Err(memory),
         },
         Code::Seq(parts) => {
-            resume_through(alloc, frame, locked, parts.as_slice(), first, here, heads)
+            resume_through(
+                alloc,
+                frame,
+                locked,
+                parts.as_slice(),
+                first,
+                here,
+                table,
+                heads,
+            )
         }
         Code::Choice(left, right) => {
             let Ok(mut other) = here.copied(alloc) else {
                 return Err(Memory);
             };
-            let Ok(one) = resume(alloc, frame, locked, left, first, here, heads) else {
+            let Ok(one) = resume(alloc, frame, locked, left, first, here, table, heads) else {
                 return Err(Memory);
             };
-            let Ok(two) = resume(alloc, frame, locked, right, one.next, &mut other, heads) else {
+            let Ok(two) = resume(
+                alloc, frame, locked, right, one.next, &mut other, table, heads,
+            ) else {
                 return Err(Memory);
             };
             Ok(Passed {
@@ -120,10 +138,10 @@ pub fn resume(
                 goes_on: meet_ends(one.goes_on, two.goes_on, here, other),
             })
         }
-        Code::Loop(body) => resume_loop(alloc, frame, locked, body, first, here, heads),
+        Code::Loop(body) => resume_loop(alloc, frame, locked, body, first, here, table, heads),
         Code::Sync(_, _, body) => {
             mem::drop(here.pop());
-            resume(alloc, frame, true, body, first, here, heads)
+            resume(alloc, frame, true, body, first, here, table, heads)
         }
     }
 }
@@ -137,15 +155,29 @@ fn resume_through(
     parts: &[Code],
     first: usize,
     here: &mut FlowState,
+    table: &mut PathTable,
     heads: &mut Vec<Option<FlowState>>,
 ) -> Result<Passed, Memory>
-    requires { first + loops (in_sequence (map tree_of parts.now)) ≤ length heads.old.items }
-    ensures { IsResumed (given frame.now) (in_sequence (map tree_of parts.now)) locked first here.old here.new
-        heads.old.items heads.new.items result }
+    requires room { first + loops (in_sequence (map tree_of parts.now)) ≤ length heads.old.items }
+    requires numbers { IsResumedIn table.old here.old heads.old.items }
+    ensures resumed { IsResumed (given frame.now) (in_sequence (map tree_of parts.now)) locked first (read_state
+        table.old here.old) (read_state table.new here.new)
+        (read_heads table.old heads.old.items) (read_heads table.new heads.new.items) result }
+    ensures numbers { OnOk result (IsResumedIn table.new here.new heads.new.items) }
+    ensures table { OnOk result (GoesOn table.old table.new) }
 {
     let mut number = first;
     for index in 0..parts.len() {
-        let Ok(passed) = resume(alloc, frame, locked, &parts[index], number, here, heads) else {
+        let Ok(passed) = resume(
+            alloc,
+            frame,
+            locked,
+            &parts[index],
+            number,
+            here,
+            table,
+            heads,
+        ) else {
             return Err(Memory);
         };
         number = passed.next;
@@ -186,18 +218,31 @@ fn resume_loop(
     body: &Code,
     first: usize,
     here: &mut FlowState,
+    table: &mut PathTable,
     heads: &mut Vec<Option<FlowState>>,
 ) -> Result<Passed, Memory>
-    requires { first + loops (Loop (tree_of body.now)) ≤ length heads.old.items }
-    ensures { IsResumed (given frame.now) (Loop (tree_of body.now)) locked first here.old here.new heads.old.items
-        heads.new.items result }
+    requires room { first + loops (Loop (tree_of body.now)) ≤ length heads.old.items }
+    requires numbers { IsResumedIn table.old here.old heads.old.items }
+    ensures resumed { IsResumed (given frame.now) (Loop (tree_of body.now)) locked first (read_state table.old
+        here.old) (read_state table.new here.new)
+        (read_heads table.old heads.old.items) (read_heads table.new heads.new.items) result }
+    ensures numbers { OnOk result (IsResumedIn table.new here.new heads.new.items) }
+    ensures table { OnOk result (GoesOn table.old table.new) }
 {
     let rounds = here.rounds();
     let Ok(()) = go_on(alloc, &heads[first], here) else {
         return Err(Memory);
     };
-    let Ok((next, changed)) = resume_round(alloc, frame, locked, body, first + 1, here, heads)
-    else {
+    let Ok((next, changed)) = resume_round(
+        alloc,
+        frame,
+        locked,
+        body,
+        first + 1,
+        here,
+        table,
+        heads,
+    ) else {
         return Err(Memory);
     };
     if !changed {
@@ -214,6 +259,7 @@ fn resume_loop(
         first + 1,
         rounds - 1,
         here,
+        table,
         heads,
     ) else {
         return Err(Memory);
@@ -238,14 +284,20 @@ fn resume_rounds(
     first: usize,
     rounds: usize,
     here: &mut FlowState,
+    table: &mut PathTable,
     heads: &mut Vec<Option<FlowState>>,
 ) -> Result<(), Memory>
-    requires { first + loops (tree_of body.now) ≤ length heads.old.items }
-    ensures { AreResumedRounds (given frame.now) (tree_of body.now) locked first rounds here.old here.new
-        heads.old.items heads.new.items result }
+    requires room { first + loops (tree_of body.now) ≤ length heads.old.items }
+    requires numbers { IsResumedIn table.old here.old heads.old.items }
+    ensures resumed { AreResumedRounds (given frame.now) (tree_of body.now) locked first rounds
+        (read_state table.old here.old) (read_state table.new here.new)
+        (read_heads table.old heads.old.items) (read_heads table.new heads.new.items) result }
+    ensures numbers { OnOk result (IsResumedIn table.new here.new heads.new.items) }
+    ensures table { OnOk result (GoesOn table.old table.new) }
 {
     for round in 0..rounds {
-        let Ok((_, changed)) = resume_round(alloc, frame, locked, body, first, here, heads) else {
+        let Ok((_, changed)) = resume_round(alloc, frame, locked, body, first, here, table, heads)
+        else {
             return Err(Memory);
         };
         if !changed {
@@ -264,16 +316,21 @@ fn resume_round(
     body: &Code,
     first: usize,
     here: &mut FlowState,
+    table: &mut PathTable,
     heads: &mut Vec<Option<FlowState>>,
 ) -> Result<(usize, bool), Memory>
-    requires { first + loops (tree_of body.now) ≤ length heads.old.items }
-    ensures { IsRound (given frame.now) (tree_of body.now) locked first here.old here.new heads.old.items
-        heads.new.items result }
+    requires room { first + loops (tree_of body.now) ≤ length heads.old.items }
+    requires numbers { IsResumedIn table.old here.old heads.old.items }
+    ensures resumed { IsRound (given frame.now) (tree_of body.now) locked first (read_state table.old here.old)
+        (read_state table.new here.new)
+        (read_heads table.old heads.old.items) (read_heads table.new heads.new.items) result }
+    ensures numbers { OnOk result (IsResumedIn table.new here.new heads.new.items) }
+    ensures table { OnOk result (GoesOn table.old table.new) }
 {
     let Ok(mut end) = here.copied(alloc) else {
         return Err(Memory);
     };
-    let Ok(passed) = resume(alloc, frame, locked, body, first, &mut end, heads) else {
+    let Ok(passed) = resume(alloc, frame, locked, body, first, &mut end, table, heads) else {
         return Err(Memory);
     };
     if !passed.goes_on {
@@ -290,7 +347,12 @@ fn meet_ends(
     here: &mut FlowState,
     other: FlowState,
 ) -> bool
-    ensures { next_of result here.new ≡ joined_next (next_of left_goes_on here.old) (next_of right_goes_on other) }
+    ensures next { (table : List TablePath) → IsTable table → AreInRange table here.old → AreInRange table other →
+        next_of result (read_state table here.new) ≡
+        joined_next (next_of left_goes_on (read_state table here.old)) (next_of right_goes_on (read_state table
+        other)) }
+    ensures numbers { (table : List TablePath) → IsTable table → AreInRange table here.old → AreInRange table other →
+        AreInRange table here.new }
 {
     if !right_goes_on {
         return left_goes_on;
@@ -305,7 +367,12 @@ fn meet_ends(
 
 /// Joins the state in which a loop was left, if it was, with the values here.
 fn go_on(alloc: Global, left: &Option<FlowState>, here: &mut FlowState) -> Result<(), Memory>
-    ensures { OnOk result (here.new ≡ entered left.now here.old) }
+    ensures next { OnOk result ((table : List TablePath) → IsTable table → AreInRange table here.old → IsHeadInRange
+        table left.now →
+        read_state table here.new ≡
+        entered (option_map (read_state table) left.now) (read_state table here.old)) }
+    ensures numbers { OnOk result ((table : List TablePath) → IsTable table → AreInRange table here.old →
+        IsHeadInRange table left.now → AreInRange table here.new) }
 {
     if let Some(left) = left {
         here.meet(left.copied(alloc)?);

@@ -1,20 +1,27 @@
 //! Code, from its beginning to its end.
-ghost use Rattle.std.specs.Prelude.{◌≡◌, map, replicate, IfOk, OnOk, [], None, true, false};
+ghost use Rattle.std.specs.Prelude.{◌≡◌, List, map, replicate, IfOk, OnOk, [], None, false};
+ghost use Rattle.access_paths.specs.declared.path.Path.{Path as TablePath};
+ghost use Rattle.access_paths.specs.Table.{GoesOn};
 ghost use Rattle.owner_domain.specs.Values.{joined_state, lost_state};
+ghost use Rattle.owner_domain.specs.Numbered.{read_state, AreInRange};
 ghost use Rattle.core_code.specs.Tree.{tree_of, in_sequence, Loop};
 ghost use Rattle.access_domain.specs.Flow.{flow, joined_next, lost_next};
 ghost use Rattle.transfer.specs.Frames.{given};
 ghost use Rattle.transfer.specs.Marks.{IsMarked, marks};
 ghost use Rattle.transfer_loops.specs.Rounds.{round_next, round_lost};
 ghost use Rattle.transfer.specs.NotedCalls.{AreFound};
+ghost use Rattle.transfer.specs.Numbered.{read_found, read_calls, read_heads};
+ghost use Rattle.transfer.specs.Numbered.{AreCallNumbers, AreHeadsInRange, IsFlowOf};
 ghost use Rattle.transfer.specs.Walks.{IsFlow, AreRoundsDone, next_of};
 ghost use Rattle.transfer.specs.Heights.{IsHighEnough, AreSound};
 
 use crate::flow_state::FlowState;
-use crate::found::{Found, Stop};
+use crate::found::Stop;
 use crate::noted_calls::NotedCall;
+use crate::numbered_found::NumberedFound;
 use crate::operations::{MethodContext, operate};
 use crate::resuming::{count_loops, resume};
+use access_paths::PathTable;
 use core_code::Code;
 use indexmap::IndexSet;
 use racer_base::Memory;
@@ -30,38 +37,60 @@ pub fn walk_code(
     locked: bool,
     code: &Code,
     here: &mut FlowState,
+    table: &mut PathTable,
     calls: &mut IndexSet<NotedCall>,
-    found: &mut Found,
+    found: &mut NumberedFound,
 ) -> Result<bool, Stop>
-    requires high { IsHighEnough (tree_of code.now) here.old }
-    requires calls { AreFound (given frame.now) calls.old.keys found.old }
-    ensures flow { IsFlow (flow (given frame.now) (tree_of code.now) locked here.old)
-        here.new found.old found.new result }
-    ensures calls { OnOk result (AreFound (given frame.now) calls.new.keys found.new) }
+    requires high { IsHighEnough (tree_of code.now) (read_state table.old here.old) }
+    requires numbers { IsFlowOf table.old here.old found.old }
+    requires called { AreCallNumbers table.old calls.old.keys }
+    requires calls { AreFound (given frame.now) (read_calls table.old calls.old.keys) (read_found table.old
+        found.old) }
+    ensures flow { IsFlow (flow (given frame.now) (tree_of code.now) locked (read_state table.old here.old))
+        (read_state table.new here.new)
+        (read_found table.old found.old) (read_found table.new found.new) result }
+    ensures numbers { OnOk result (IsFlowOf table.new here.new found.new) }
+    ensures called { OnOk result (AreCallNumbers table.new calls.new.keys) }
+    ensures calls { OnOk result (AreFound (given frame.now) (read_calls table.new calls.new.keys)
+        (read_found table.new found.new)) }
+    ensures table { OnOk result (GoesOn table.old table.new) }
 {
     match code {
-        Code::Op(site, _, op) => operate(alloc, frame, locked, *site, *op, here, calls, found),
-        Code::Seq(parts) => go_through(alloc, frame, locked, parts.as_slice(), here, calls, found),
+        Code::Op(site, _, op) => operate(
+            alloc, frame, locked, *site, *op, here, table, calls, found,
+        ),
+        Code::Seq(parts) => go_through(
+            alloc,
+            frame,
+            locked,
+            parts.as_slice(),
+            here,
+            table,
+            calls,
+            found,
+        ),
         Code::Choice(left, right) => {
             let Ok(mut other) = here.copied(alloc) else {
                 return Err(Stop::Memory);
             };
-            let left_goes_on = match walk_code(alloc, frame, locked, left, here, calls, found) {
+            let left_goes_on = match walk_code(
+                alloc, frame, locked, left, here, table, calls, found,
+            ) {
                 Ok(goes_on) => goes_on,
                 Err(stop) => return Err(stop),
             };
             let right_goes_on = match walk_code(
-                alloc, frame, locked, right, &mut other, calls, found,
+                alloc, frame, locked, right, &mut other, table, calls, found,
             ) {
                 Ok(goes_on) => goes_on,
                 Err(stop) => return Err(stop),
             };
             join_ends(alloc, left_goes_on, right_goes_on, here, other, found)
         }
-        Code::Loop(body) => repeat(alloc, frame, locked, body, here, calls, found),
+        Code::Loop(body) => repeat(alloc, frame, locked, body, here, table, calls, found),
         Code::Sync(_, _, body) => {
             mem::drop(here.pop());
-            walk_code(alloc, frame, true, body, here, calls, found)
+            walk_code(alloc, frame, true, body, here, table, calls, found)
         }
     }
 }
@@ -74,17 +103,26 @@ fn go_through(
     locked: bool,
     parts: &[Code],
     here: &mut FlowState,
+    table: &mut PathTable,
     calls: &mut IndexSet<NotedCall>,
-    found: &mut Found,
+    found: &mut NumberedFound,
 ) -> Result<bool, Stop>
-    requires high { IsHighEnough (in_sequence (map tree_of parts.now)) here.old }
-    requires calls { AreFound (given frame.now) calls.old.keys found.old }
-    ensures flow { IsFlow (flow (given frame.now) (in_sequence (map tree_of parts.now)) locked here.old)
-        here.new found.old found.new result }
-    ensures calls { OnOk result (AreFound (given frame.now) calls.new.keys found.new) }
+    requires high { IsHighEnough (in_sequence (map tree_of parts.now)) (read_state table.old here.old) }
+    requires numbers { IsFlowOf table.old here.old found.old }
+    requires called { AreCallNumbers table.old calls.old.keys }
+    requires calls { AreFound (given frame.now) (read_calls table.old calls.old.keys) (read_found table.old
+        found.old) }
+    ensures flow { IsFlow (flow (given frame.now) (in_sequence (map tree_of parts.now)) locked (read_state table.old
+        here.old)) (read_state table.new here.new)
+        (read_found table.old found.old) (read_found table.new found.new) result }
+    ensures numbers { OnOk result (IsFlowOf table.new here.new found.new) }
+    ensures called { OnOk result (AreCallNumbers table.new calls.new.keys) }
+    ensures calls { OnOk result (AreFound (given frame.now) (read_calls table.new calls.new.keys)
+        (read_found table.new found.new)) }
+    ensures table { OnOk result (GoesOn table.old table.new) }
 {
     for part in parts {
-        match walk_code(alloc, frame, locked, part, here, calls, found) {
+        match walk_code(alloc, frame, locked, part, here, table, calls, found) {
             Ok(true) => {}
             Ok(false) => return Ok(false),
             Err(stop) => return Err(stop),
@@ -101,23 +139,32 @@ fn repeat(
     locked: bool,
     body: &Code,
     here: &mut FlowState,
+    table: &mut PathTable,
     calls: &mut IndexSet<NotedCall>,
-    found: &mut Found,
+    found: &mut NumberedFound,
 ) -> Result<bool, Stop>
-    requires high { IsHighEnough (Loop (tree_of body.now)) here.old }
-    requires calls { AreFound (given frame.now) calls.old.keys found.old }
-    ensures flow { IsFlow (flow (given frame.now) (Loop (tree_of body.now)) locked here.old)
-        here.new found.old found.new result }
-    ensures calls { OnOk result (AreFound (given frame.now) calls.new.keys found.new) }
+    requires high { IsHighEnough (Loop (tree_of body.now)) (read_state table.old here.old) }
+    requires numbers { IsFlowOf table.old here.old found.old }
+    requires called { AreCallNumbers table.old calls.old.keys }
+    requires calls { AreFound (given frame.now) (read_calls table.old calls.old.keys) (read_found table.old
+        found.old) }
+    ensures flow { IsFlow (flow (given frame.now) (Loop (tree_of body.now)) locked (read_state table.old here.old))
+        (read_state table.new here.new)
+        (read_found table.old found.old) (read_found table.new found.new) result }
+    ensures numbers { OnOk result (IsFlowOf table.new here.new found.new) }
+    ensures called { OnOk result (AreCallNumbers table.new calls.new.keys) }
+    ensures calls { OnOk result (AreFound (given frame.now) (read_calls table.new calls.new.keys)
+        (read_found table.new found.new)) }
+    ensures table { OnOk result (GoesOn table.old table.new) }
 {
-    match go_rounds(alloc, frame, locked, body, here, found) {
+    match go_rounds(alloc, frame, locked, body, here, table, found) {
         Ok(()) => {}
         Err(stop) => return Err(stop),
     }
     let Ok(mut end) = here.copied(alloc) else {
         return Err(Stop::Memory);
     };
-    let ended = walk_code(alloc, frame, locked, body, &mut end, calls, found);
+    let ended = walk_code(alloc, frame, locked, body, &mut end, table, calls, found);
     mem::drop(end);
     match ended {
         Ok(_) => Ok(true),
@@ -132,17 +179,22 @@ fn go_rounds(
     locked: bool,
     body: &Code,
     here: &mut FlowState,
-    found: &mut Found,
+    table: &mut PathTable,
+    found: &mut NumberedFound,
 ) -> Result<(), Stop>
-    requires high { IsHighEnough (Loop (tree_of body.now)) here.old }
-    ensures rounds { AreRoundsDone (flow (given frame.now) (tree_of body.now) locked) here.old here.new found.old
-        found.new result }
-    ensures high { OnOk result (IsHighEnough (Loop (tree_of body.now)) here.new) }
+    requires high { IsHighEnough (Loop (tree_of body.now)) (read_state table.old here.old) }
+    requires numbers { IsFlowOf table.old here.old found.old }
+    ensures rounds { AreRoundsDone (flow (given frame.now) (tree_of body.now) locked) (read_state table.old here.old)
+        (read_state table.new here.new)
+        (read_found table.old found.old) (read_found table.new found.new) result }
+    ensures high { OnOk result (IsHighEnough (Loop (tree_of body.now)) (read_state table.new here.new)) }
+    ensures numbers { OnOk result (IsFlowOf table.new here.new found.new) }
+    ensures table { OnOk result (GoesOn table.old table.new) }
 {
     let Ok(short) = shortened(alloc, body, here.height()) else {
         return Err(Stop::Memory);
     };
-    let done = go_through_rounds(alloc, frame, locked, &short, here, found);
+    let done = go_through_rounds(alloc, frame, locked, &short, here, table, found);
     mem::drop(short);
     done
 }
@@ -154,11 +206,16 @@ fn go_through_rounds(
     locked: bool,
     body: &Code,
     here: &mut FlowState,
-    found: &mut Found,
+    table: &mut PathTable,
+    found: &mut NumberedFound,
 ) -> Result<(), Stop>
-    requires high { IsHighEnough (Loop (tree_of body.now)) here.old }
-    ensures { AreRoundsDone (flow (given frame.now) (tree_of body.now) locked) here.old here.new found.old
-        found.new result }
+    requires high { IsHighEnough (Loop (tree_of body.now)) (read_state table.old here.old) }
+    requires numbers { IsFlowOf table.old here.old found.old }
+    ensures rounds { AreRoundsDone (flow (given frame.now) (tree_of body.now) locked) (read_state table.old here.old)
+        (read_state table.new here.new)
+        (read_found table.old found.old) (read_found table.new found.new) result }
+    ensures numbers { OnOk result (IsFlowOf table.new here.new found.new) }
+    ensures table { OnOk result (GoesOn table.old table.new) }
 {
     let Ok(count) = count_loops(body) else {
         return Err(Stop::Memory);
@@ -167,7 +224,7 @@ fn go_through_rounds(
         return Err(Stop::Memory);
     };
     for round in 0..here.rounds() {
-        match go_round(alloc, frame, locked, body, here, &mut heads, found) {
+        match go_round(alloc, frame, locked, body, here, table, &mut heads, found) {
             Ok(true) => {}
             Ok(false) => return Ok(()),
             Err(stop) => return Err(stop),
@@ -196,24 +253,35 @@ fn go_round(
     locked: bool,
     body: &Code,
     here: &mut FlowState,
+    table: &mut PathTable,
     heads: &mut Vec<Option<FlowState>>,
-    found: &mut Found,
+    found: &mut NumberedFound,
 ) -> Result<bool, Stop>
-    requires high { IsHighEnough (Loop (tree_of body.now)) here.old }
-    requires sound { AreSound (given frame.now) (tree_of body.now) locked heads.old.items here.old }
-    ensures state { OnOk result (here.new
-        ≡ round_next here.old (flow (given frame.now) (tree_of body.now) locked here.old).next) }
-    ensures unchanged { IfOk result (λ changed. changed ≡ false → here.new ≡ here.old) }
-    ensures found { IsMarked found.old
-        (marks [] (round_lost here.old (flow (given frame.now) (tree_of body.now) locked here.old).next)) found.new
-        result }
-    ensures sound { OnOk result (AreSound (given frame.now) (tree_of body.now) locked heads.new.items here.new) }
-    ensures high { OnOk result (IsHighEnough (Loop (tree_of body.now)) here.new) }
+    requires high { IsHighEnough (Loop (tree_of body.now)) (read_state table.old here.old) }
+    requires numbers { IsFlowOf table.old here.old found.old }
+    requires heads { AreHeadsInRange table.old heads.old.items }
+    requires sound { AreSound (given frame.now) (tree_of body.now) locked (read_heads table.old heads.old.items)
+        (read_state table.old here.old) }
+    ensures state { OnOk result (read_state table.new here.new ≡
+        round_next (read_state table.old here.old) (flow (given frame.now) (tree_of body.now) locked (read_state
+        table.old here.old)).next) }
+    ensures unchanged { IfOk result (λ changed. changed ≡ false →
+        read_state table.new here.new ≡ read_state table.old here.old) }
+    ensures found { IsMarked (read_found table.old found.old) (marks [] (round_lost (read_state table.old here.old)
+        (flow (given frame.now) (tree_of body.now) locked (read_state table.old here.old)).next))
+        (read_found table.new found.new) result }
+    ensures sound { OnOk result (AreSound (given frame.now) (tree_of body.now) locked (read_heads table.new
+        heads.new.items)
+        (read_state table.new here.new)) }
+    ensures high { OnOk result (IsHighEnough (Loop (tree_of body.now)) (read_state table.new here.new)) }
+    ensures numbers { OnOk result (IsFlowOf table.new here.new found.new) }
+    ensures heads { OnOk result (AreHeadsInRange table.new heads.new.items) }
+    ensures table { OnOk result (GoesOn table.old table.new) }
 {
     let Ok(mut end) = here.copied(alloc) else {
         return Err(Stop::Memory);
     };
-    let Ok(passed) = resume(alloc, frame, locked, body, 0, &mut end, heads) else {
+    let Ok(passed) = resume(alloc, frame, locked, body, 0, &mut end, table, heads) else {
         return Err(Stop::Memory);
     };
     if !passed.goes_on {
@@ -229,12 +297,19 @@ fn join_ends(
     right_goes_on: bool,
     here: &mut FlowState,
     other: FlowState,
-    found: &mut Found,
+    found: &mut NumberedFound,
 ) -> Result<bool, Stop>
-    ensures state { IfOk result (λ goes_on. next_of goes_on here.new
-        ≡ joined_next (next_of left_goes_on here.old) (next_of right_goes_on other)) }
-    ensures found { IsMarked found.old
-        (marks [] (lost_next (next_of left_goes_on here.old) (next_of right_goes_on other))) found.new result }
+    ensures state { IfOk result (λ goes_on. (table : List TablePath) → IsFlowOf table here.old found.old → AreInRange
+        table other →
+        next_of goes_on (read_state table here.new) ≡ joined_next (next_of left_goes_on (read_state table here.old))
+        (next_of right_goes_on (read_state table other))) }
+    ensures found { (table : List TablePath) → IsFlowOf table here.old found.old → AreInRange table other →
+        IsMarked (read_found table found.old) (marks [] (lost_next (next_of left_goes_on (read_state table here.old))
+        (next_of right_goes_on (read_state table other))))
+        (read_found table found.new) result }
+    ensures numbers { OnOk result ((table : List TablePath) → IsFlowOf table here.old found.old → AreInRange table
+        other →
+        IsFlowOf table here.new found.new) }
 {
     if !right_goes_on {
         return Ok(left_goes_on);
@@ -254,16 +329,24 @@ fn meet(
     alloc: Global,
     here: &mut FlowState,
     other: FlowState,
-    found: &mut Found,
+    found: &mut NumberedFound,
 ) -> Result<bool, Stop>
-    ensures state { OnOk result (here.new ≡ joined_state here.old other) }
+    ensures state { OnOk result ((table : List TablePath) → IsFlowOf table here.old found.old → AreInRange table
+        other →
+        read_state table here.new ≡ joined_state (read_state table here.old) (read_state table other)) }
     ensures unchanged { IfOk result (λ changed. changed ≡ false → here.new ≡ here.old) }
-    ensures found { IsMarked found.old (marks [] (lost_state here.old other)) found.new result }
+    ensures found { (table : List TablePath) → IsFlowOf table here.old found.old → AreInRange table other →
+        IsMarked (read_found table found.old)
+        (marks [] (lost_state (read_state table here.old) (read_state table other)))
+        (read_found table found.new) result }
+    ensures numbers { OnOk result ((table : List TablePath) → IsFlowOf table here.old found.old → AreInRange table
+        other →
+        IsFlowOf table here.new found.new) }
 {
     let Ok((changed, lost)) = here.meet_losing(alloc, other) else {
         return Err(Stop::Memory);
     };
-    match found.note_paths(lost) {
+    match found.note_numbers(lost.as_slice()) {
         Ok(()) => Ok(changed),
         Err(stop) => Err(stop),
     }

@@ -1,5 +1,6 @@
 //! The outcomes of all methods of a program.
-ghost use Rattle.std.specs.Prelude.{◌≡◌, ◌<◌, IfOk, IsTrue, OnOk, option_map, length, slice_set, replicate, None, Some};
+ghost use Rattle.std.specs.Prelude.{◌≡◌, ◌<◌, IfOk, IsTrue, OnOk};
+ghost use Rattle.std.specs.Prelude.{option_map, length, slice_set, replicate, None, Some};
 ghost use Rattle.std.specs.Arc.{arc_value};
 ghost use Rattle.core_code.specs.Calls.{is_analysed};
 ghost use Rattle.core_code.specs.Program.{core, methods};

@@ -1,6 +1,6 @@
 //! The lines of verdicts.
 ghost use Rattle.std.specs.Prelude.{◌≡◌, IfOk, string_bytes};
-ghost use Rattle.race_report_parts.specs.Written.{Lasts, Puts};
+ghost use Rattle.race_report_parts.specs.Written.{Puts};
 ghost use Rattle.witness_text.specs.Lines as said;
 
 use crate::Verdict;
@@ -24,8 +24,7 @@ pub fn field_name(field: Field) -> &'static str
 
 /// `stops at leg L step S`
 fn push_stop(text: &mut Written, leg: u32, step: u32)
-    ensures lasts { Lasts text.old text.new }
-    ensures puts { Puts (said.stop_text leg step) text.old text.new }
+    ensures { Puts (said.stop_text leg step) text.old text.new }
 {
     push_text(text, "stops at leg ");
     push_number(text, leg);
@@ -35,8 +34,7 @@ fn push_stop(text: &mut Written, leg: u32, step: u32)
 
 /// `no such object I`
 fn push_no_object(text: &mut Written, index: u32)
-    ensures lasts { Lasts text.old text.new }
-    ensures puts { Puts (said.no_object_text index) text.old text.new }
+    ensures { Puts (said.no_object_text index) text.old text.new }
 {
     push_text(text, "no such object ");
     push_number(text, index)
@@ -44,8 +42,7 @@ fn push_no_object(text: &mut Written, index: u32)
 
 /// Puts what a verdict says behind a text.
 fn push_verdict(text: &mut Written, verdict: Verdict)
-    ensures lasts { Lasts text.old text.new }
-    ensures puts { Puts (said.verdict_text verdict) text.old text.new }
+    ensures { Puts (said.verdict_text verdict) text.old text.new }
 {
     match verdict {
         Verdict::Races => push_text(text, "races"),
@@ -58,8 +55,7 @@ fn push_verdict(text: &mut Written, verdict: Verdict)
 
 /// Puts the line of a verdict behind a text.
 fn push_verdict_line(text: &mut Written, verdict: Verdict)
-    ensures lasts { Lasts text.old text.new }
-    ensures puts { Puts (said.verdict_line verdict) text.old text.new }
+    ensures { Puts (said.verdict_line verdict) text.old text.new }
 {
     push_verdict(text, verdict);
     push_end(text)

@@ -9,5 +9,5 @@ loop-event-preserved c =
       lasts = λ h. c.loop-event.invariant.lasts (c.push_event.ensures.lasts h);
       leaves = put_next (wanted.event_line (core c.args.program.now)) _ c.loop-event.event-index _ _
           c.args.text.now c.loop-event.text c.push_event.new.text c.loop-event-test.true
-          c.loop-event.invariant.leaves c.push_event.ensures.lasts c.push_event.ensures.puts;
+          c.loop-event.invariant.leaves c.push_event.ensures;
     }

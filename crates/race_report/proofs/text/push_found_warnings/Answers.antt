@@ -23,10 +23,11 @@ loop-number-preserved c =
       lasts = λ h. c.loop-number.invariant.lasts (c.push_warning.ensures.lasts h);
       leaves = put_next (said.warning_lines (core c.args.program.now)) c.args.found.now c.loop-number.number _ _
           c.args.text.now c.loop-number.text c.push_warning.new.text c.loop-number-test.true
-          c.loop-number.invariant.leaves c.push_warning.ensures.lasts c.push_warning.ensures.puts;
+          c.loop-number.invariant.leaves c.push_warning.ensures;
     }
 
-pub returns-clause-puts : goal.returns-clause-puts
-returns-clause-puts c =
+pub returns : goal.returns
+returns c =
     put_all (flat_map (said.warning_lines (core c.args.program.now))) c.args.found.now c.loop-number.number _
-    c.args.text.now c.loop-number.text refl c.loop-number-test.false c.loop-number.invariant.leaves
+    c.args.text.now c.loop-number.text refl c.loop-number-test.false c.loop-number.invariant.lasts
+    c.loop-number.invariant.leaves

@@ -18,12 +18,12 @@ loop-number-preserved c =
           (ap (λ (left : List MethodCore). enumerate_from c.loop-number.number (map method_of left))
           (read_next _ c.loop-number.number c.index-methods-number.result c.loop-number-test.true
           c.index-methods-number.is))
-          c.loop-number.invariant.leaves c.push_summary-later.ensures.lasts c.push_summary-later.ensures.puts;
+          c.loop-number.invariant.leaves c.push_summary-later.ensures;
     }
 
-pub returns-clause-puts : goal.returns-clause-puts
-returns-clause-puts c =
-    ends [] _ _ c.loop-number.later c.args.text.now c.loop-number.text c.push_text-2.new.text
-    (at_drop_all (λ (left : List MethodCore). flat_map (summary_values (core c.args.program.now))
-    (enumerate_from c.loop-number.number (map method_of left))) _ c.loop-number.number c.loop-number-test.false)
-    c.loop-number.invariant.leaves c.push_text-2.ensures.lasts c.push_text-2.ensures.puts
+pub returns : goal.returns
+returns c =
+    ends [] _ _ c.loop-number.later c.args.text.now c.loop-number.text c.push_text-2.new.text (at_drop_all (λ (left :
+    List MethodCore). flat_map (summary_values (core c.args.program.now)) (enumerate_from c.loop-number.number (map
+    method_of left))) _ c.loop-number.number c.loop-number-test.false) c.loop-number.invariant.lasts
+    c.loop-number.invariant.leaves c.push_text-2.ensures

@@ -21,7 +21,7 @@ pub loop-number-init : goal.loop-number-init
 loop-number-init c =
     record {
       lasts = c.push_text.ensures.lasts;
-      leaves = begins _ c.args.text.now c.push_text.new.text c.push_text.ensures.puts;
+      leaves = begins _ c.args.text.now c.push_text.new.text c.push_text.ensures;
     }
 
 pub loop-number-preserved : goal.loop-number-preserved
@@ -31,12 +31,11 @@ loop-number-preserved c =
       leaves = more_items (warning_values (core c.args.program.now)) _ (drop c.loop-number.number c.args.found.now) _ _
           c.loop-number.later c.push_warning-later.result c.args.text.now c.loop-number.text
           c.push_warning-later.new.text (drop_more c.args.found.now c.loop-number.number _ c.loop-number-test.true)
-          c.loop-number.invariant.leaves c.push_warning-later.ensures.lasts c.push_warning-later.ensures.puts;
+          c.loop-number.invariant.leaves c.push_warning-later.ensures;
     }
 
-pub returns-clause-puts : goal.returns-clause-puts
-returns-clause-puts c =
-    ends [] _ _ c.loop-number.later c.args.text.now c.loop-number.text c.push_text-2.new.text
-    (at_drop_all (flat_map (warning_values (core c.args.program.now))) c.args.found.now c.loop-number.number
-    c.loop-number-test.false)
-    c.loop-number.invariant.leaves c.push_text-2.ensures.lasts c.push_text-2.ensures.puts
+pub returns : goal.returns
+returns c =
+    ends [] _ _ c.loop-number.later c.args.text.now c.loop-number.text c.push_text-2.new.text (at_drop_all (flat_map
+    (warning_values (core c.args.program.now))) c.args.found.now c.loop-number.number c.loop-number-test.false)
+    c.loop-number.invariant.lasts c.loop-number.invariant.leaves c.push_text-2.ensures

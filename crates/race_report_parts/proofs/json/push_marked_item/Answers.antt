@@ -7,11 +7,11 @@ use Rattle.race_report_parts.specs.Pieces.{warning_object}
 use Rattle.race_report_parts.proofs.JsonItems.{one_item, marked_item}
 use Rattle.race_report_parts.proofs.json.push_marked_item.Goals as goal
 
-pub returns-clause-puts : goal.returns-clause-puts
-returns-clause-puts c =
+pub returns : goal.returns
+returns c =
     let program = core c.args.program.now in
     let mark = said_by c.args.mark.now in
     let sides = sides_told c.args.sides.now in
     one_item (marked_values program mark (Some sides)) (warning_object program mark sides) c.args.later c.args.text.now
-    c.push_comma.new.text c.push_marked.new.text (marked_item program mark sides) c.push_comma.ensures.puts
-    c.push_marked.ensures.lasts c.push_marked.ensures.puts
+    c.push_comma.new.text c.push_marked.new.text (marked_item program mark sides) c.push_comma.ensures
+    c.push_marked.ensures

@@ -6,11 +6,10 @@ use Rattle.race_report_parts.specs.Pieces.{reason_object}
 use Rattle.race_report_parts.proofs.JsonItems.{one_item, reason_item}
 use Rattle.race_report_parts.proofs.json.push_reason_item.Goals as goal
 
-pub returns-clause-puts : goal.returns-clause-puts
-returns-clause-puts c =
+pub returns : goal.returns
+returns c =
     let program = core c.args.program.now in
     let method = method_of c.args.method.now in
     one_item (reason_values program method (Some c.args.reason.now)) (reason_object program method c.args.reason.now)
-    c.args.later c.args.text.now c.push_comma.new.text c.push_reason.new.text
-    (reason_item program method c.args.reason.now) c.push_comma.ensures.puts c.push_reason.ensures.lasts
-    c.push_reason.ensures.puts
+    c.args.later c.args.text.now c.push_comma.new.text c.push_reason.new.text (reason_item program method
+    c.args.reason.now) c.push_comma.ensures c.push_reason.ensures

@@ -2,7 +2,7 @@ use Rattle.core_code.specs.Program.{core}
 use Rattle.race_report_parts.proofs.JsonPieces.{summaries_told}
 use Rattle.race_report_parts.proofs.json.push_summaries_member.Goals as goal
 
-pub returns-clause-puts : goal.returns-clause-puts
-returns-clause-puts c =
+pub returns : goal.returns
+returns c =
     summaries_told (core c.args.program.now) c.args.text.now c.push_text.new.text c.push_summaries.new.text
-    c.push_text.ensures.puts c.push_summaries.ensures.lasts c.push_summaries.ensures.puts
+    c.push_text.ensures c.push_summaries.ensures

@@ -15,13 +15,13 @@ loop-number-preserved c =
           c.index-methods-number.result _
           c.args.text.now c.loop-number.text c.push_not_analysed_line.new.text c.loop-number-test.true
           c.index-methods-number.is
-          c.loop-number.invariant.leaves c.push_not_analysed_line.ensures.lasts c.push_not_analysed_line.ensures.puts;
+          c.loop-number.invariant.leaves c.push_not_analysed_line.ensures;
     }
 
-pub returns-clause-puts : goal.returns-clause-puts
-returns-clause-puts c =
+pub returns : goal.returns
+returns c =
     let left = λ (methods : List MethodCore).
     flat_map (said.not_analysed_line (core c.args.program.now))
     (enumerate_from c.loop-number.number (map method_of methods)) in
     put_all left _ c.loop-number.number _ c.args.text.now c.loop-number.text refl c.loop-number-test.false
-    c.loop-number.invariant.leaves
+    c.loop-number.invariant.lasts c.loop-number.invariant.leaves

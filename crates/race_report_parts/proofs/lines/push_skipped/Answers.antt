@@ -9,5 +9,5 @@ loop-place-preserved c =
       lasts = λ h. c.loop-place.invariant.lasts (c.push_skipped_line.ensures.lasts h);
       leaves = put_next (said.skipped_line (core c.args.program.now)) _ c.loop-place.place-index _ _
           c.args.text.now c.loop-place.text c.push_skipped_line.new.text c.loop-place-test.true
-          c.loop-place.invariant.leaves c.push_skipped_line.ensures.lasts c.push_skipped_line.ensures.puts;
+          c.loop-place.invariant.leaves c.push_skipped_line.ensures;
     }

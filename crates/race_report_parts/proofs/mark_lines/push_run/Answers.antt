@@ -6,7 +6,7 @@ use Rattle.race_report_parts.specs.Written.{Puts}
 use Rattle.race_report_parts.specs.Report.{run_lines}
 use Rattle.race_report_parts.proofs.mark_lines.push_run.Goals as goal
 
-pub returns-in-Confirmed-clause-puts : goal.returns-in-Confirmed-clause-puts
-returns-in-Confirmed-clause-puts c =
+pub returns-in-Confirmed : goal.returns-in-Confirmed
+returns-in-Confirmed c =
     subst (λ (mark : Mark). Puts (run_lines (core c.args.program.now) (said_by mark)) c.args.text.now
-    c.push_witness.new.text) (sym c.in-Confirmed.is) c.push_witness.ensures.puts
+    c.push_witness.new.text) (sym c.in-Confirmed.is) c.push_witness.ensures

@@ -1,4 +1,4 @@
-use Rattle.std.proofs.Common.{◌∙◌, ◌++◌, ℕ, List, ap, codes, string_bytes}
+use Rattle.std.proofs.Common.{◌++◌, ℕ, List, ap, codes}
 use Rattle.std.specs.List.{flat_map}
 use Rattle.core_code.specs.Program.{core}
 use Rattle.core_semantics.specs.declared.object.StartPath.{StartPath}
@@ -9,17 +9,11 @@ use Rattle.race_report_parts.proofs.PutChains.{three, same_piece}
 use Rattle.race_report_parts.proofs.RunLines.{behind_nothing}
 use Rattle.race_report_parts.proofs.mark_lines.push_witness.Goals as goal
 
-pub returns-clause-puts : goal.returns-clause-puts
-returns-clause-puts c =
+pub returns : goal.returns
+returns c =
     let witness = c.args.witness.now in
     let objects : List StartPath → List ℕ = λ all. flat_map (object_line (core c.args.program.now)) all in
     let first = codes " first " ++ leg_text (leg_of witness.first) in
     let second = codes " second " ++ leg_text (leg_of witness.second) in
-    λ h.
-    (three (objects witness.objects) (line first) (line second) c.args.text.now c.push_objects.new.text
-    c.push_leg_line.new.text c.push_leg_line-2.new.text (same_piece (objects c.as_slice.result.now) (objects
-    witness.objects) c.args.text.now c.push_objects.new.text c.push_objects.ensures.puts (ap objects
-    c.as_slice.ensures)) c.push_leg_line.ensures.lasts c.push_leg_line.ensures.puts c.push_leg_line-2.ensures.lasts
-    c.push_leg_line-2.ensures.puts) h
-    ∙ ap (λ t. string_bytes c.args.text.now.so_far ++ t)
-    (behind_nothing (objects witness.objects) (line first) (line second))
+    same_piece (three (same_piece c.push_objects.ensures (ap objects c.as_slice.ensures)) c.push_leg_line.ensures
+    c.push_leg_line-2.ensures) (behind_nothing (objects witness.objects) (line first) (line second))

@@ -12,7 +12,7 @@ loop-access-init c =
     record {
       lasts = λ h. c.push_text.ensures.lasts (c.push_text-2.ensures.lasts h);
       leaves = begins_behind c.args.before.now _ c.args.text.now c.push_text.new.text c.push_text-2.new.text
-          c.push_text.ensures.puts c.push_text-2.ensures.lasts c.push_text-2.ensures.puts;
+          c.push_text.ensures c.push_text-2.ensures;
     }
 
 pub loop-access-preserved : goal.loop-access-preserved
@@ -23,14 +23,13 @@ loop-access-preserved c =
           _ _ _ _ c.loop-access.later c.comma.result.now
           c.args.text.now c.loop-access.text c.push_access_string.new.text
           (read_next _ c.loop-access.access-index c.access-item.result c.loop-access-test.true c.access-item.is)
-          c.comma.ensures c.loop-access.invariant.leaves c.push_access_string.ensures.lasts
-          c.push_access_string.ensures.puts;
+          c.comma.ensures c.loop-access.invariant.leaves c.push_access_string.ensures;
     }
 
-pub returns-clause-puts : goal.returns-clause-puts
-returns-clause-puts c =
+pub returns : goal.returns
+returns c =
     ends c.args.before.now _ _ c.loop-access.later c.args.text.now c.loop-access.text c.push_text-3.new.text
     (at_drop_all (λ (left : List Access).
     map string (map (access_text (core c.args.program.now) (record { 0 = c.args.number })) left)) _
     c.loop-access.access-index c.loop-access-test.false)
-    c.loop-access.invariant.leaves c.push_text-3.ensures.lasts c.push_text-3.ensures.puts
+    c.loop-access.invariant.lasts c.loop-access.invariant.leaves c.push_text-3.ensures

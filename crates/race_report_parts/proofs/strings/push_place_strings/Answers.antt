@@ -12,7 +12,7 @@ loop-place-init c =
     record {
       lasts = λ h. c.push_text.ensures.lasts (c.push_text-2.ensures.lasts h);
       leaves = begins_behind c.args.before.now _ c.args.text.now c.push_text.new.text c.push_text-2.new.text
-          c.push_text.ensures.puts c.push_text-2.ensures.lasts c.push_text-2.ensures.puts;
+          c.push_text.ensures c.push_text-2.ensures;
     }
 
 pub loop-place-preserved : goal.loop-place-preserved
@@ -23,13 +23,11 @@ loop-place-preserved c =
           _ _ _ _ c.loop-place.later c.comma.result.now
           c.args.text.now c.loop-place.text c.push_place_string.new.text
           (drop_more _ c.loop-place.place-index _ c.loop-place-test.true)
-          c.comma.ensures c.loop-place.invariant.leaves c.push_place_string.ensures.lasts
-          c.push_place_string.ensures.puts;
+          c.comma.ensures c.loop-place.invariant.leaves c.push_place_string.ensures;
     }
 
-pub returns-clause-puts : goal.returns-clause-puts
-returns-clause-puts c =
-    ends c.args.before.now _ _ c.loop-place.later c.args.text.now c.loop-place.text c.push_text-3.new.text
-    (at_drop_all (λ (left : List Place). map string (map (place_text (core c.args.program.now)) left)) _
-    c.loop-place.place-index c.loop-place-test.false)
-    c.loop-place.invariant.leaves c.push_text-3.ensures.lasts c.push_text-3.ensures.puts
+pub returns : goal.returns
+returns c =
+    ends c.args.before.now _ _ c.loop-place.later c.args.text.now c.loop-place.text c.push_text-3.new.text (at_drop_all
+    (λ (left : List Place). map string (map (place_text (core c.args.program.now)) left)) _ c.loop-place.place-index
+    c.loop-place-test.false) c.loop-place.invariant.lasts c.loop-place.invariant.leaves c.push_text-3.ensures

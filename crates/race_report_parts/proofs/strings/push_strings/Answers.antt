@@ -12,7 +12,7 @@ loop-string-init c =
     record {
       lasts = λ h. c.push_text.ensures.lasts (c.push_text-2.ensures.lasts h);
       leaves = begins_behind c.args.before.now _ c.args.text.now c.push_text.new.text c.push_text-2.new.text
-          c.push_text.ensures.puts c.push_text-2.ensures.lasts c.push_text-2.ensures.puts;
+          c.push_text.ensures c.push_text-2.ensures;
     }
 
 pub loop-string-preserved : goal.loop-string-preserved
@@ -23,15 +23,12 @@ loop-string-preserved c =
           _ _ _ _ c.loop-string.later c.comma.result.now
           c.args.text.now c.loop-string.text c.push_string.new.text
           (read_next _ c.loop-string.string-index c.string-item.result c.loop-string-test.true c.string-item.is)
-          c.comma.ensures c.loop-string.invariant.leaves c.push_string.ensures.lasts
-          (same_piece (c.comma.result.now ++ compact_text (string c.as_str.result.now)) _ c.loop-string.text
-          c.push_string.new.text c.push_string.ensures.puts
+          c.comma.ensures c.loop-string.invariant.leaves (same_piece c.push_string.ensures
           (ap (λ t. c.comma.result.now ++ compact_text (string t)) c.as_str.ensures.value));
     }
 
-pub returns-clause-puts : goal.returns-clause-puts
-returns-clause-puts c =
+pub returns : goal.returns
+returns c =
     ends c.args.before.now _ _ c.loop-string.later c.args.text.now c.loop-string.text c.push_text-3.new.text
-    (at_drop_all (λ (left : List (String Global)). map string (map string_bytes left)) _
-    c.loop-string.string-index c.loop-string-test.false)
-    c.loop-string.invariant.leaves c.push_text-3.ensures.lasts c.push_text-3.ensures.puts
+    (at_drop_all (λ (left : List (String Global)). map string (map string_bytes left)) _ c.loop-string.string-index
+    c.loop-string-test.false) c.loop-string.invariant.lasts c.loop-string.invariant.leaves c.push_text-3.ensures

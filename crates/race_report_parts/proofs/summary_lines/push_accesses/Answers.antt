@@ -13,11 +13,11 @@ loop-access-preserved c =
           c.loop-access.access-index
           c.access-item.result _
           c.args.text.now c.loop-access.text c.push_access_line.new.text c.loop-access-test.true c.access-item.is
-          c.loop-access.invariant.leaves c.push_access_line.ensures.lasts c.push_access_line.ensures.puts;
+          c.loop-access.invariant.leaves c.push_access_line.ensures;
     }
 
-pub returns-clause-puts : goal.returns-clause-puts
-returns-clause-puts c =
+pub returns : goal.returns
+returns c =
     put_all (flat_map (said.access_line (core c.args.program.now) (record { 0 = c.args.number }))) _
     c.loop-access.access-index _ c.args.text.now c.loop-access.text refl c.loop-access-test.false
-    c.loop-access.invariant.leaves
+    c.loop-access.invariant.lasts c.loop-access.invariant.leaves

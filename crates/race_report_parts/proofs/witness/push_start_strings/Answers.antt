@@ -12,7 +12,7 @@ loop-start-init c =
     record {
       lasts = λ h. c.push_text.ensures.lasts (c.push_text-2.ensures.lasts h);
       leaves = begins_behind c.args.before.now _ c.args.text.now c.push_text.new.text c.push_text-2.new.text
-          c.push_text.ensures.puts c.push_text-2.ensures.lasts c.push_text-2.ensures.puts;
+          c.push_text.ensures c.push_text-2.ensures;
     }
 
 pub loop-start-preserved : goal.loop-start-preserved
@@ -23,13 +23,11 @@ loop-start-preserved c =
           _ _ _ _ c.loop-start.later c.comma.result.now
           c.args.text.now c.loop-start.text c.push_start_string.new.text
           (read_next _ c.loop-start.start-index c.start-item.result c.loop-start-test.true c.start-item.is)
-          c.comma.ensures c.loop-start.invariant.leaves c.push_start_string.ensures.lasts
-          c.push_start_string.ensures.puts;
+          c.comma.ensures c.loop-start.invariant.leaves c.push_start_string.ensures;
     }
 
-pub returns-clause-puts : goal.returns-clause-puts
-returns-clause-puts c =
-    ends c.args.before.now _ _ c.loop-start.later c.args.text.now c.loop-start.text c.push_text-3.new.text
-    (at_drop_all (λ (left : List StartPath). map string (map (start_text (core c.args.program.now)) left)) _
-    c.loop-start.start-index c.loop-start-test.false)
-    c.loop-start.invariant.leaves c.push_text-3.ensures.lasts c.push_text-3.ensures.puts
+pub returns : goal.returns
+returns c =
+    ends c.args.before.now _ _ c.loop-start.later c.args.text.now c.loop-start.text c.push_text-3.new.text (at_drop_all
+    (λ (left : List StartPath). map string (map (start_text (core c.args.program.now)) left)) _ c.loop-start.start-index
+    c.loop-start-test.false) c.loop-start.invariant.lasts c.loop-start.invariant.leaves c.push_text-3.ensures

@@ -9,8 +9,8 @@ pub returns : goal.returns
 returns c =
     let report = c.as_str.result.now in
     let lines = history_text (core c.args.program.now) c.args.history.now in
-    let put = two report lines c.new-text.result c.push_text.new.text c.push_history.new.text c.push_text.ensures.puts
-    c.push_history.ensures.lasts c.push_history.ensures.puts c.in_ok-finished.ensures.is_whole in
+    let both = two c.push_text.ensures c.push_history.ensures in
+    let put = both.text c.in_ok-finished.ensures.is_whole in
     let asked : c.args.asked ≡ true = search rules in
     behind c.args.asked c.args.said (core c.args.program.now) c.args.history.now c.from.result asked
     (c.from.ensures ∙ c.in_ok-finished.ensures.text ∙ put ∙ ap (λ front. front ++ (report ++ lines)) c.new-text.ensures

@@ -1,8 +1,7 @@
 use Rattle.std.proofs.Common.{◌≡◌, ℕ, ◌++◌, List, drop, sym, ap, ◌∙◌, arith}
 use Rattle.std.proofs.lemmas.List.{append-nil}
-use Rattle.access_paths.specs.declared.path.Path.{Path}
-use Rattle.owner_domain.specs.Values.{lost_values}
-use Rattle.owner_domain.proofs.Shorter.{shorter, lost-rest}
+use Rattle.owner_domain.specs.Numbered.{lost_numbers}
+use Rattle.owner_domain.proofs.NumbersJoined.{shorter, lost-rest}
 use Rattle.transfer.proofs.meeting.lose_values.Goals as goal
 
 pub returns : goal.returns
@@ -11,6 +10,6 @@ returns c =
     let others = c.args.others.now in
     let end : c.loop-slot.slot ≡ shorter mine others = omega arith in
     sym (append-nil c.loop-slot.lost.items)
-    ∙ ap (λ (rest : List Path). c.loop-slot.lost.items ++ rest)
-    (sym (ap (λ (n : ℕ). lost_values (drop n mine) (drop n others)) end ∙ lost-rest mine others))
+    ∙ ap (λ (rest : List ℕ). c.loop-slot.lost.items ++ rest)
+    (sym (ap (λ (n : ℕ). lost_numbers (drop n mine) (drop n others)) end ∙ lost-rest mine others))
     ∙ c.loop-slot.invariant

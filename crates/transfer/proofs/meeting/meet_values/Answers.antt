@@ -1,9 +1,9 @@
 use Rattle.std.proofs.Common.{◌≡◌, ◌≤◌, ◌||◌, not, List, length, take, drop, nat_lt, sym, ap, ◌∙◌, arith}
 use Rattle.std.proofs.lemmas.Bool.{ltb-true, ltb-false}
 use Rattle.std.proofs.lemmas.List.{drop_all}
-use Rattle.owner_domain.specs.declared.value.Value.{Value}
-use Rattle.owner_domain.specs.Values.{joined_values}
-use Rattle.transfer_loops.specs.Rounds.{same_values}
+use Rattle.owner_domain.specs.declared.numbered.NumberedValue.{NumberedValue}
+use Rattle.owner_domain.specs.Numbered.{joined_numbers}
+use Rattle.transfer.specs.Slots.{same_numbers}
 use Rattle.transfer.proofs.MetValues.{changed_slots, changed-is, cut-joined, cut-changed, cut-long, made-all, or_none}
 use Rattle.transfer.proofs.meeting.meet_values.Goals as goal
 
@@ -15,9 +15,9 @@ loop-slot-init c =
     let cut : c.truncate.new.self.items ≡ take (length others) old = c.truncate.ensures.items in
     let count : c.len.result ≡ length old = c.len.ensures ∙ c.args.mine.now.ok.0 in
     record {
-      values = ap (λ (xs : List Value). joined_values xs others) cut ∙ cut-joined old others;
+      values = ap (λ (xs : List NumberedValue). joined_numbers xs others) cut ∙ cut-joined old others;
       changed =
-          ap (λ (xs : List Value). longer || changed_slots xs others) cut
+          ap (λ (xs : List NumberedValue). longer || changed_slots xs others) cut
           ∙ cut-changed old others longer
           (λ e. let l = ltb-true (length others) c.len.result e in omega arith)
           (λ e. let l = ltb-false (length others) c.len.result e in omega arith);
@@ -34,11 +34,11 @@ returns-clause-changed c =
     let old = c.args.mine.now.items in
     let others = c.args.others.now in
     let long : length at.mine.items ≤ at.slot = omega arith in
-    let whole : at.mine.items ≡ joined_values old others =
+    let whole : at.mine.items ≡ joined_numbers old others =
     sym (made-all at.mine.items others at.slot long) ∙ at.invariant.values in
     sym (or_none at.changed)
-    ∙ sym (ap (λ (xs : List Value). at.changed || changed_slots xs (drop at.slot others))
+    ∙ sym (ap (λ (xs : List NumberedValue). at.changed || changed_slots xs (drop at.slot others))
     (drop_all at.slot at.mine.items long))
     ∙ at.invariant.changed
     ∙ changed-is old others
-    ∙ sym (ap (λ (xs : List Value). not (same_values xs old)) whole)
+    ∙ sym (ap (λ (xs : List NumberedValue). not (same_numbers xs old)) whole)

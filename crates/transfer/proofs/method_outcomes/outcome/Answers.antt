@@ -1,30 +1,91 @@
-use Rattle.std.proofs.Common.{◌≡◌, List, [], false, ap, subst, ◌∙◌}
+use Rattle.std.proofs.Common.{◌≡◌, List, false, sym, ap, subst, ◌∙◌}
 use Rattle.owner_domain.specs.declared.value.Value.{Value}
 use Rattle.owner_domain.specs.declared.value.State.{State}
+use Rattle.owner_domain.specs.declared.numbered.NumberedState.{NumberedState}
+use Rattle.owner_domain.specs.Numbered.{read_state, AreInRange}
 use Rattle.core_code.specs.Core.{method_of}
 use Rattle.core_code.specs.Program.{core}
 use Rattle.access_domain.specs.Flow.{flow}
 use Rattle.access_domain.specs.FlowContext.{given_of}
 use Rattle.access_domain.specs.Summaries.{effects_given, start_of}
 use Rattle.transfer.specs.declared.found.Found.{Found}
+use Rattle.transfer.specs.declared.noted_calls.NotedCall.{NotedCall}
 use Rattle.transfer.specs.Known.{table_of}
 use Rattle.transfer.specs.Marks.{nothing}
+use Rattle.transfer.specs.NotedCalls.{AreFound}
+use Rattle.transfer.specs.Numbered.{read_found, read_calls, AreCallNumbers, AreFoundNumbers, IsFlowOf}
 use Rattle.transfer.specs.Walks.{IsFlow}
+use Rattle.transfer.proofs.Beginnings.{found-firsts}
 use Rattle.transfer.proofs.Flows.{marked-flow}
-use Rattle.transfer.proofs.Stacks.{stack_of}
+use Rattle.transfer.proofs.HighEnough.{high_start, on_ok_then}
+use Rattle.transfer.proofs.Beginnings.{stack_of_values}
 use Rattle.transfer.proofs.method_outcomes.outcome.Goals as goal
+
+pub walk_code-walked-requires-clause-high : goal.walk_code-walked-requires-clause-high
+walk_code-walked-requires-clause-high c =
+    let table = c.start.new.table in
+    high_start (method_of c.args.method.now).code (read_state table c.new-here.result)
+    (ap (λ (s : NumberedState). (read_state table s).stack) c.new-here.ensures) c.requires
+
+pub walk_code-walked-requires-clause-numbers : goal.walk_code-walked-requires-clause-numbers
+walk_code-walked-requires-clause-numbers c =
+    let table = c.start.new.table in
+    record {
+      once = c.in-Ok.ensures.once;
+      state = subst (AreInRange table) (sym c.new-here.ensures) (c.in-Ok.ensures.range, tt);
+      noted = c.nothing-found.ensures.numbers table;
+    }
+
+pub walk_code-walked-requires-clause-called : goal.walk_code-walked-requires-clause-called
+walk_code-walked-requires-clause-called c =
+    subst (AreCallNumbers c.start.new.table) (sym c.new-calls.ensures.empty) tt
+
+pub walk_code-walked-requires-clause-calls : goal.walk_code-walked-requires-clause-calls
+walk_code-walked-requires-clause-calls c =
+    let method = method_of c.args.method.now in
+    let g = given_of (core c.args.program.now) (table_of c.args.callees.now) method.main in
+    let table = c.start.new.table in
+    subst (λ (calls : List NotedCall). AreFound g (read_calls table calls) (read_found table c.nothing-found.result))
+    (sym c.new-calls.ensures.empty) tt
+
+pub outcome_found-requires-clause-numbers : goal.outcome_found-requires-clause-numbers
+outcome_found-requires-clause-numbers c =
+    let walked = c.walk_code-walked in
+    on_ok_then walked.result (IsFlowOf walked.new.table walked.new.here walked.new.found)
+    (AreFoundNumbers walked.new.table walked.new.found) walked.ensures.numbers (λ all. all.noted)
+
+pub outcome_found-requires-clause-firsts : goal.outcome_found-requires-clause-firsts
+outcome_found-requires-clause-firsts c =
+    let method = method_of c.args.method.now in
+    let g = given_of (core c.args.program.now) (table_of c.args.callees.now) method.main in
+    let table = c.start.new.table in
+    let walked = c.walk_code-walked in
+    let start : read_state table c.new-here.result ≡ start_of method =
+    ap (read_state table) c.new-here.ensures
+    ∙ ap (λ (vars : List Value). stack_of_values vars) c.in-Ok.ensures.values in
+    let e = effects_given (core c.args.program.now) (table_of c.args.callees.now) method in
+    let end = read_state walked.new.table walked.new.here in
+    let found = read_found walked.new.table walked.new.found in
+    found-firsts e found walked.result
+    (marked-flow e end nothing found walked.result
+    (subst (λ (s : State). IsFlow (flow g method.code false s) end nothing found walked.result) start
+    (subst (λ (f : Found). IsFlow (flow g method.code false (read_state table c.new-here.result)) end f found
+    walked.result) (c.nothing-found.ensures.found table) walked.ensures.flow)))
 
 pub returns : goal.returns
 returns c =
     let method = method_of c.args.method.now in
     let g = given_of (core c.args.program.now) (table_of c.args.callees.now) method.main in
+    let table = c.start.new.table in
     let walked = c.walk_code-walked in
-    let start : c.new-here.result ≡ start_of method =
-    c.new-here.ensures ∙ ap (λ (vars : List Value). stack_of vars []) c.in-Ok.ensures in
+    let start : read_state table c.new-here.result ≡ start_of method =
+    ap (read_state table) c.new-here.ensures
+    ∙ ap (λ (vars : List Value). stack_of_values vars) c.in-Ok.ensures.values in
     let e = effects_given (core c.args.program.now) (table_of c.args.callees.now) method in
+    let end = read_state walked.new.table walked.new.here in
+    let found = read_found walked.new.table walked.new.found in
     c.outcome_found.ensures e
-    (marked-flow e walked.new.here nothing walked.new.found walked.result
-    (subst (λ (s : State). IsFlow (flow g method.code false s) walked.new.here nothing walked.new.found walked.result)
-    start
-    (subst (λ (f : Found). IsFlow (flow g method.code false c.new-here.result) walked.new.here f walked.new.found
-    walked.result) c.nothing-found.ensures walked.ensures.flow)))
+    (marked-flow e end nothing found walked.result
+    (subst (λ (s : State). IsFlow (flow g method.code false s) end nothing found walked.result) start
+    (subst (λ (f : Found). IsFlow (flow g method.code false (read_state table c.new-here.result)) end f found
+    walked.result) (c.nothing-found.ensures.found table) walked.ensures.flow)))

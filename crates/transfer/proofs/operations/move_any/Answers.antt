@@ -1,10 +1,52 @@
-use Rattle.std.proofs.Common.{ap, ◌∙◌}
+use Rattle.std.proofs.Common.{Some, sym, ap, ◌∙◌}
+use Rattle.access_paths.proofs.Numbers.{goes_on-same}
 use Rattle.core_code.specs.declared.code.Op.{Op as CoreOp}
+use Rattle.owner_domain.specs.Numbered.{read_state}
 use Rattle.access_domain.specs.Operations.{op_effects}
 use Rattle.transfer.specs.Frames.{given}
+use Rattle.transfer.specs.Slots.{pushed_number}
+use Rattle.transfer.proofs.NumberedSteps.{get-state, get-in, set-state, set-state-in}
 use Rattle.transfer.proofs.operations.move_any.Goals as goal
 
-pub returns-in_ok-move_call-in-Call : goal.returns-in_ok-move_call-in-Call
-returns-in_ok-move_call-in-Call c = λ locked site. ap
-    (λ (op : CoreOp). (op_effects (given c.args.frame.now) locked site op c.args.here.now).next) c.in-Call.is
-    ∙ c.in_ok-move_call-in-Call.ensures locked site
+pub returns-in_ok-move_call-in-Call-clause-next : goal.returns-in_ok-move_call-in-Call-clause-next
+returns-in_ok-move_call-in-Call-clause-next c = λ locked site. ap
+    (λ (op : CoreOp). (op_effects (given c.args.frame.now) locked site op
+    (read_state c.args.table.now c.args.here.now)).next) c.in-Call.is
+    ∙ c.in_ok-move_call-in-Call.ensures.next locked site
+
+pub returns-in_ok-push-in-Get-clause-next : goal.returns-in_ok-push-in-Get-clause-next
+returns-in_ok-push-in-Get-clause-next c = λ locked site.
+    let t0 = c.args.table.now in
+    let t1 = c.pop_field.new.table in
+    let value = c.in_ok-value-in-Get in
+    ap (λ (op : CoreOp). (op_effects (given c.args.frame.now) locked site op (read_state t0 c.args.here.now)).next)
+    c.in-Get.is
+    ∙ ap Some (sym
+    (get-state c.args.frame.now c.in-Get.f t0 t1 t1 value.ensures.table (goes_on-same t1) c.args.here.now
+    c.requires.numbers value.value value.ensures.range value.ensures.value c.touched_field-plain.result.plain
+    c.touched_field-plain.ensures.plain c.push.new.self
+    (c.in_ok-push-in-Get.ensures
+    ∙ (λ i. pushed_number (c.pop_field.ensures.rest i) (c.value_read.ensures i)))))
+
+pub returns-in_ok-push-in-Get-clause-numbers : goal.returns-in_ok-push-in-Get-clause-numbers
+returns-in_ok-push-in-Get-clause-numbers c =
+    let t1 = c.pop_field.new.table in
+    let value = c.in_ok-value-in-Get in
+    get-in c.args.frame.now c.in-Get.f c.args.table.now t1 t1 value.ensures.table (goes_on-same t1) c.args.here.now
+    c.requires.numbers value.value value.ensures.range value.ensures.value c.touched_field-plain.result.plain
+    c.touched_field-plain.ensures.plain c.push.new.self
+    (c.in_ok-push-in-Get.ensures
+    ∙ (λ i. pushed_number (c.pop_field.ensures.rest i) (c.value_read.ensures i)))
+
+pub returns-in-Set-clause-next : goal.returns-in-Set-clause-next
+returns-in-Set-clause-next c = λ locked site.
+    let table = c.args.table.now in
+    let here = c.args.here.now in
+    ap (λ (op : CoreOp). (op_effects (given c.args.frame.now) locked site op (read_state table here)).next) c.in-Set.is
+    ∙ ap Some (sym
+    (set-state table here c.top-value.result c.top-value.ensures c.in-Set.variable c.set.new.self c.set.ensures))
+
+pub returns-in-Set-clause-numbers : goal.returns-in-Set-clause-numbers
+returns-in-Set-clause-numbers c =
+    set-state-in c.args.table.now c.args.here.now c.top-value.result c.top-value.ensures c.in-Set.variable
+    c.set.new.self c.set.ensures c.requires.numbers

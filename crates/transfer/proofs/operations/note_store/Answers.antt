@@ -1,17 +1,23 @@
-use Rattle.std.proofs.Common.{[], ◌++◌, subst}
-use Rattle.owner_domain.specs.declared.value.Value.{Value}
 use Rattle.owner_domain.specs.Values.{names_of}
-use Rattle.transfer.specs.Marks.{IsMarked, marks}
+use Rattle.owner_domain.specs.Numbered.{read_value}
+use Rattle.transfer.specs.Numbered.{read_found}
 use Rattle.transfer.proofs.Flows.{stopped-names, marked-names}
+use Rattle.transfer.proofs.NumberedSteps.{names-kept}
 use Rattle.transfer.proofs.operations.note_store.Goals as goal
 
-pub returns-in-Err : goal.returns-in-Err
-returns-in-Err c =
-    stopped-names c.args.found.now (names_of c.args.field) (names_of c.args.value.now) c.in-Err.stop c.in-Err.ensures
+pub returns-in-Err-clause-found : goal.returns-in-Err-clause-found
+returns-in-Err-clause-found c = λ table once low field value.
+    stopped-names (read_found table c.args.found.now) (names_of (read_value table c.args.field))
+    (names_of (read_value table c.args.value)) c.in-Err.stop (c.in-Err.ensures.found table once low field)
 
-pub returns : goal.returns
-returns c =
-    subst (λ (v : Value). IsMarked c.args.found.now (marks [] (names_of c.args.field ++ names_of v))
-    c.note_name-2.new.self c.note_name-2.result) c.in-Ok.ensures
-    (marked-names c.args.found.now c.note_name.new.self c.note_name-2.new.self (names_of c.args.field)
-    (names_of c.in-Ok.value) c.note_name-2.result c.in-Ok-note_name.ensures c.note_name-2.ensures)
+pub returns-clause-found : goal.returns-clause-found
+returns-clause-found c = λ table once low field value.
+    marked-names (read_found table c.args.found.now) (read_found table c.note_name.new.self)
+    (read_found table c.note_name-2.new.self) (names_of (read_value table c.args.field))
+    (names_of (read_value table c.args.value)) c.note_name-2.result (c.in-Ok.ensures.found table once low field)
+    (c.note_name-2.ensures.found table once (c.in-Ok.ensures.numbers table once low field) value)
+
+pub returns-clause-numbers : goal.returns-clause-numbers
+returns-clause-numbers c =
+    names-kept c.note_name-2.result c.args.found.now c.note_name.new.self c.note_name-2.new.self c.args.field
+    c.args.value c.in-Ok.ensures.numbers c.note_name-2.ensures.numbers

@@ -1,65 +1,100 @@
-use Rattle.std.proofs.Common.{◌≡◌, Some, ◌++◌, sym, ap, ◌∙◌}
-use Rattle.std.specs.FinSet as set
-use Rattle.racer_base.specs.declared.ids.Touch.TheVariants.{Write}
-use Rattle.access_paths.specs.Order.{path_cmp}
-use Rattle.owner_domain.specs.declared.value.Value.{Value}
-use Rattle.owner_domain.specs.Values.{names_of, field_value}
-use Rattle.owner_domain.specs.declared.value.State.{State}
-use Rattle.access_domain.specs.Operations.{popped, pushed, record_of, slot_of, stored_paths, top}
-use Rattle.transfer.specs.Frames.{given, record_reached}
-use Rattle.transfer.proofs.Flows.{record-reached, slot-below, popped-twice, noted-parts, stopped-records, stopped-paths}
+use Rattle.std.proofs.Common.{sym, ap, subst, ◌∙◌}
+use Rattle.access_paths.proofs.Numbers.{goes_on-trans}
+use Rattle.owner_domain.specs.declared.numbered.NumberedState.{NumberedState}
+use Rattle.owner_domain.specs.Numbered.{read_state, AreInRange}
+use Rattle.owner_domain.specs.Values.{field_value}
+use Rattle.access_domain.specs.Operations.{top}
+use Rattle.transfer.specs.Numbered.{read_found}
+use Rattle.transfer.specs.Slots.{pushed_number, popped_numbers}
+use Rattle.transfer.proofs.Readings.{found-still, range-longer}
+use Rattle.transfer.proofs.SlotsRead.{popped-in}
+use Rattle.transfer.proofs.NumberedSteps.{store-stopped, names-stopped, store-flows, put-in, top-range}
 use Rattle.transfer.proofs.operations.put.Goals as goal
 
-pub returns-in-Err : goal.returns-in-Err
-returns-in-Err c =
-    let here = c.args.here.now in
-    let frame = c.args.frame.now in
-    let f = c.args.f in
-    let field : c.in-Ok.field ≡ field_value (slot_of here 1) f =
-    c.in-Ok.ensures.value ∙ ap (λ (b : Value). field_value b f) (ap top c.pop-value.ensures.rest ∙ slot-below here) in
-    stopped-records c.args.found.now (record_reached frame Write c.args.locked c.args.site c.in-Ok.field f)
-    (record_of (given frame) Write c.args.locked c.args.site (slot_of here 1) f)
-    (stored_paths (slot_of here 1) f (top here)) c.in-Err.stop
-    (ap (λ (v : Value). record_reached frame Write c.args.locked c.args.site v f) field
-    ∙ record-reached frame Write c.args.locked c.args.site (slot_of here 1) f)
-    c.in-Err.ensures
+pub pop_field-requires-clause-numbers : goal.pop_field-requires-clause-numbers
+pop_field-requires-clause-numbers c =
+    subst (AreInRange c.args.table.now) (sym c.pop-value.ensures.rest)
+    (popped-in c.args.table.now c.args.here.now 1 c.requires.numbers.state)
 
-pub returns-in-Err-note_store : goal.returns-in-Err-note_store
-returns-in-Err-note_store c =
-    let here = c.args.here.now in
-    let frame = c.args.frame.now in
-    let f = c.args.f in
-    let field : c.in-Ok.field ≡ field_value (slot_of here 1) f =
-    c.in-Ok.ensures.value ∙ ap (λ (b : Value). field_value b f) (ap top c.pop-value.ensures.rest ∙ slot-below here) in
-    stopped-paths c.args.found.now c.note_access.new.found
-    (record_reached frame Write c.args.locked c.args.site c.in-Ok.field f)
-    (record_of (given frame) Write c.args.locked c.args.site (slot_of here 1) f)
-    (names_of c.in-Ok.field ++ names_of c.pop-value.result)
-    (stored_paths (slot_of here 1) f (top here)) c.in-Err-note_store.stop
-    (ap (λ (v : Value). record_reached frame Write c.args.locked c.args.site v f) field
-    ∙ record-reached frame Write c.args.locked c.args.site (slot_of here 1) f)
-    (λ i. set.from_list {R = path_cmp} (names_of (field i) ++ names_of (c.pop-value.ensures.value i)))
-    c.in-Ok-note_access.ensures c.in-Err-note_store.ensures
+pub note_access-requires-clause-numbers : goal.note_access-requires-clause-numbers
+note_access-requires-clause-numbers c =
+    found-still c.args.table.now c.pop_field.new.table c.in-Ok.ensures.table c.args.found.now c.requires.numbers.noted
 
-pub returns : goal.returns
-returns c =
+pub returns-in-Err-clause-flow : goal.returns-in-Err-clause-flow
+returns-in-Err-clause-flow c =
+    store-stopped c.args.frame.now c.args.locked c.args.site c.args.f c.args.table.now c.pop_field.new.table
+    c.in-Ok.ensures.table c.args.here.now c.args.found.now c.requires.numbers c.in-Ok.field
+    (c.in-Ok.ensures.value
+    ∙ ap (λ (s : NumberedState). field_value (top (read_state c.args.table.now s)) c.args.f)
+    c.pop-value.ensures.rest)
+    (read_found c.args.table.now c.args.found.now) c.in-Err.stop c.in-Err.ensures.found
+
+pub returns-in-Err-note_store-clause-flow : goal.returns-in-Err-note_store-clause-flow
+returns-in-Err-note_store-clause-flow c =
+    let t0 = c.args.table.now in
+    let t1 = c.pop_field.new.table in
+    let t2 = c.note_access.new.table in
     let here = c.args.here.now in
-    let frame = c.args.frame.now in
-    let f = c.args.f in
-    let field : c.in-Ok.field ≡ field_value (slot_of here 1) f =
-    c.in-Ok.ensures.value ∙ ap (λ (b : Value). field_value b f) (ap top c.pop-value.ensures.rest ∙ slot-below here) in (
-      ap Some (sym
+    let value = c.pop-value.result in
+    let accessed = c.in-Ok-note_access.ensures in
+    names-stopped c.args.frame.now c.args.locked c.args.site c.args.f t0 t1
+    c.in-Ok.ensures.table here c.args.found.now c.requires.numbers c.in-Ok.field
+    (c.in-Ok.ensures.value
+    ∙ ap (λ (s : NumberedState). field_value (top (read_state t0 s)) c.args.f) c.pop-value.ensures.rest)
+    t2 accessed.table value c.pop-value.ensures.value c.in-Ok.ensures.range c.note_access.new.found accessed.found
+    c.in-Err-note_store.stop
+    (c.in-Err-note_store.ensures.found t2 accessed.once accessed.numbers
+    (range-longer t1 t2 accessed.table c.in-Ok.field c.in-Ok.ensures.range)
+    (range-longer t0 t2 (goes_on-trans t0 t1 t2 c.in-Ok.ensures.table accessed.table) value
+    (top-range t0 here value c.pop-value.ensures.value c.requires.numbers.state)))
+
+pub returns-clause-flow : goal.returns-clause-flow
+returns-clause-flow c =
+    let t0 = c.args.table.now in
+    let t1 = c.pop_field.new.table in
+    let t2 = c.note_access.new.table in
+    let here = c.args.here.now in
+    let value = c.pop-value.result in
+    let accessed = c.in-Ok-note_access.ensures in
+    store-flows c.args.frame.now c.args.locked c.args.site c.args.f t0 t1
+    c.in-Ok.ensures.table here c.args.found.now c.requires.numbers c.in-Ok.field
+    (c.in-Ok.ensures.value
+    ∙ ap (λ (s : NumberedState). field_value (top (read_state t0 s)) c.args.f) c.pop-value.ensures.rest)
+    t2 accessed.table value c.pop-value.ensures.value c.in-Ok.ensures.range c.note_access.new.found accessed.found
+    c.push.new.self
+    (c.in-Ok-push.ensures
+    ∙ ap (λ (s : NumberedState). pushed_number s value)
+    (c.pop_field.ensures.rest ∙ ap (λ (s : NumberedState). popped_numbers s 1) c.pop-value.ensures.rest))
+    (read_found t2 c.note_store.new.found)
+    (c.in-Ok-note_store.ensures.found t2 accessed.once accessed.numbers
+    (range-longer t1 t2 accessed.table c.in-Ok.field c.in-Ok.ensures.range)
+    (range-longer t0 t2 (goes_on-trans t0 t1 t2 c.in-Ok.ensures.table accessed.table) value
+    (top-range t0 here value c.pop-value.ensures.value c.requires.numbers.state)))
+
+pub returns-clause-numbers : goal.returns-clause-numbers
+returns-clause-numbers c =
+    let t0 = c.args.table.now in
+    let t1 = c.pop_field.new.table in
+    let t2 = c.note_access.new.table in
+    let here = c.args.here.now in
+    let value = c.pop-value.result in
+    let accessed = c.in-Ok-note_access.ensures in
+    record {
+      once = accessed.once;
+      state =
+          put-in t0 t1 t2 c.in-Ok.ensures.table accessed.table here c.requires.numbers.state value c.pop-value.ensures.value
+          c.push.new.self
           (c.in-Ok-push.ensures
-          ∙ (λ i. pushed (c.pop_field.ensures.rest i) (c.pop-value.ensures.value i))
-          ∙ ap (λ (s : State). pushed (popped s 1) (top here)) c.pop-value.ensures.rest
-          ∙ ap (λ (s : State). pushed s (top here)) (popped-twice here))),
-      noted-parts c.args.found.now c.note_access.new.found c.note_store.new.found
-          (record_reached frame Write c.args.locked c.args.site c.in-Ok.field f)
-          (record_of (given frame) Write c.args.locked c.args.site (slot_of here 1) f)
-          (names_of c.in-Ok.field ++ names_of c.pop-value.result)
-          (stored_paths (slot_of here 1) f (top here))
-          (ap (λ (v : Value). record_reached frame Write c.args.locked c.args.site v f) field
-          ∙ record-reached frame Write c.args.locked c.args.site (slot_of here 1) f)
-          (λ i. set.from_list {R = path_cmp} (names_of (field i) ++ names_of (c.pop-value.ensures.value i)))
-          c.in-Ok-note_access.ensures c.in-Ok-note_store.ensures,
-    )
+          ∙ ap (λ (s : NumberedState). pushed_number s value)
+          (c.pop_field.ensures.rest ∙ ap (λ (s : NumberedState). popped_numbers s 1) c.pop-value.ensures.rest));
+      noted =
+          c.in-Ok-note_store.ensures.numbers t2 accessed.once accessed.numbers
+          (range-longer t1 t2 accessed.table c.in-Ok.field c.in-Ok.ensures.range)
+          (range-longer t0 t2 (goes_on-trans t0 t1 t2 c.in-Ok.ensures.table accessed.table) value
+          (top-range t0 here value c.pop-value.ensures.value c.requires.numbers.state));
+    }
+
+pub returns-clause-table : goal.returns-clause-table
+returns-clause-table c =
+    goes_on-trans c.args.table.now c.pop_field.new.table c.note_access.new.table c.in-Ok.ensures.table
+    c.in-Ok-note_access.ensures.table

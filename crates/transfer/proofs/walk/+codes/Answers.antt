@@ -1,23 +1,29 @@
-use Rattle.std.proofs.Common.{◌≡◌, ℕ, ◌+◌, ◌<◌, get_or, List, [], map, drop, length, Bool}
+use Rattle.std.proofs.Common.{◌≡◌, ℕ, ◌+◌, ◌<◌, get_or, List, map, drop, length, Bool}
 use Rattle.std.proofs.Common.{true, false, Ok, Err, refl, sym, ap}
 use Rattle.std.proofs.Common.{subst, ◌∙◌, arith, rules}
 use Rattle.std.proofs.lemmas.List.{at_drop_more, at_drop_all}
-use Rattle.owner_domain.specs.declared.value.State.{State}
+use Rattle.access_paths.specs.Table.{GoesOn}
+use Rattle.access_paths.proofs.Numbers.{goes_on-same, goes_on-trans}
+use Rattle.owner_domain.specs.declared.numbered.NumberedState.{NumberedState}
+use Rattle.owner_domain.specs.Numbered.{read_state}
 use Rattle.core_code.specs.declared.code.Code.{Code}
 use Rattle.core_code.specs.declared.code.Code.TheFolds.{the_lemmas}
-use Rattle.core_code.specs.Tree.{Tree, Op, Seq, Choice, Loop, tree_of, in_sequence}
-use Rattle.access_domain.specs.Flow.{flow, rounds, lost_next}
-use Rattle.transfer_loops.specs.Rounds.{rounds_of}
+use Rattle.core_code.proofs.code.Code.TheLaws.{the_size}
+use borrow.Author.Sizes.{sizes}
+use Rattle.core_code.specs.Tree.{LockAt, Tree, Op, Seq, Choice, Loop, Sync, tree_of, in_sequence}
+use Rattle.access_domain.specs.Flow.{flow}
 use Rattle.transfer.specs.Frames.{given}
-use Rattle.transfer.specs.Marks.{IsNoted, IsStopped, marks}
+use Rattle.transfer.specs.Marks.{IsStopped}
+use Rattle.transfer.specs.Numbered.{read_found, AreCallNumbers}
 use Rattle.transfer.specs.Walks.{IsFlow, next_of}
-use Rattle.transfer.proofs.Callees.{marked-found, noted-found}
-use Rattle.transfer.proofs.Flows.{flow-then, flow-ended, stopped-after, flow-chosen, stopped-left, stopped-right}
-use Rattle.transfer.proofs.Flows.{rounds-ended, last-stopped, stopped_lost}
+use Rattle.transfer.proofs.Flows.{flow-then, flow-ended, stopped-after, stopped-left, stopped_lost}
 use Rattle.transfer.specs.Heights.{IsHighEnough}
-use Rattle.transfer.proofs.HighEnough.{high_rest, high_body}
-use Rattle.transfer.proofs.Rounding.{rounds-left}
+use Rattle.transfer.proofs.HighEnough.{high_rest, high_right}
 use Rattle.transfer.proofs.Marking.{noted-nothing}
+use Rattle.transfer.proofs.CallsRead.{calls-still}
+use Rattle.transfer.proofs.WalkedNumbers.{copied-high, copied-ready, held-flow}
+use Rattle.transfer.proofs.WalkedNumbers.{right-stopped, ways-met, ways-numbers, ways-called, always}
+use Rattle.transfer.proofs.WalkedNumbers.{body-high, body-ready, body-found, loop-done, loop-stopped, loop-numbers}
 use Rattle.transfer.proofs.walk.+codes.Goals as goal
 
 pub walk_code-returns-in-Err : goal.walk_code-returns-in-Err
@@ -25,15 +31,18 @@ walk_code-returns-in-Err t c =
     let g = given c.args.frame.now in
     let left = tree_of c.deref.result.now in
     let right = tree_of c.in-Choice.right.value in
-    let here = c.args.here.now in
+    let here = read_state c.args.table.now c.args.here.now in
+    let found = read_found c.args.table.now c.args.found.now in
     let sides : tree_of c.args.code.now ≡ Choice left right = search (rules, the_lemmas) in
     record {
       flow =
-          subst (λ (code : Tree). IsStopped c.args.found.now (flow g code c.args.locked here) c.in-Err.stop) (sym sides)
-          (stopped-left (flow g left c.args.locked here)
-          (flow g right c.args.locked here) c.args.found.now c.in-Err.stop
+          subst (λ (code : Tree). IsStopped found (flow g code c.args.locked here) c.in-Err.stop) (sym sides)
+          (stopped-left (flow g left c.args.locked here) (flow g right c.args.locked here) found c.in-Err.stop
           c.in-Err.ensures.flow);
+      numbers = tt;
+      called = tt;
       calls = tt;
+      table = tt;
     }
 
 pub walk_code-returns-in-Err-walk_code : goal.walk_code-returns-in-Err-walk_code
@@ -41,17 +50,21 @@ walk_code-returns-in-Err-walk_code t c =
     let g = given c.args.frame.now in
     let left = tree_of c.deref.result.now in
     let right = tree_of c.deref-in-Choice.result.now in
-    let here = c.args.here.now in
+    let t0 = c.args.table.now in
+    let one = c.walk_code.new in
     let stop = c.in-Err-walk_code.stop in
     let sides : tree_of c.args.code.now ≡ Choice left right = search (rules, the_lemmas) in
     record {
       flow =
-          subst (λ (code : Tree). IsStopped c.args.found.now (flow g code c.args.locked here) stop) (sym sides)
-          (stopped-right (flow g left c.args.locked here) (flow g right c.args.locked here) c.args.found.now
-          c.walk_code.new.found stop c.in-Ok-walk_code.ensures.flow.1
-          (subst (λ (s : State). IsStopped c.walk_code.new.found (flow g right c.args.locked s) stop) c.in-Ok.ensures
-          c.in-Err-walk_code.ensures.flow));
+          subst (λ (code : Tree). IsStopped (read_found t0 c.args.found.now)
+          (flow g code c.args.locked (read_state t0 c.args.here.now)) stop) (sym sides)
+          (right-stopped g left right c.args.locked t0 one.table c.in-Ok-walk_code.ensures.table c.args.here.now
+          c.in-Ok.other c.args.found.now one.found c.in-Ok.ensures c.requires.numbers.state stop
+          c.in-Ok-walk_code.ensures.flow.1 c.in-Err-walk_code.ensures.flow);
+      numbers = tt;
+      called = tt;
       calls = tt;
+      table = tt;
     }
 
 pub walk_code-returns-in-Ok-walk_code-2 : goal.walk_code-returns-in-Ok-walk_code-2
@@ -59,38 +72,85 @@ walk_code-returns-in-Ok-walk_code-2 t c =
     let g = given c.args.frame.now in
     let left = tree_of c.deref.result.now in
     let right = tree_of c.deref-in-Choice.result.now in
-    let here = c.args.here.now in
-    let other = c.walk_code-in-Choice in
-    let left_end = next_of c.in-Ok-walk_code.goes_on c.walk_code.new.here in
-    let right_end = next_of c.in-Ok-walk_code-2.goes_on other.new.here in
+    let locked = c.args.locked in
+    let t0 = c.args.table.now in
+    let start = c.args.here.now in
+    let f0 = c.args.found.now in
+    let one = c.walk_code.new in
+    let two = c.walk_code-in-Choice.new in
+    let end = c.join_ends in
+    let l = c.in-Ok-walk_code.ensures in
+    let r = c.in-Ok-walk_code-2.ensures in
+    let low = c.requires.numbers.state in
     let sides : tree_of c.args.code.now ≡ Choice left right = search (rules, the_lemmas) in
-    let done : IsFlow (flow g right c.args.locked here) other.new.here c.walk_code.new.found other.new.found
-    (Ok c.in-Ok-walk_code-2.goes_on) =
-    subst (λ (s : State). IsFlow (flow g right c.args.locked s) other.new.here c.walk_code.new.found other.new.found
-    (Ok c.in-Ok-walk_code-2.goes_on)) c.in-Ok.ensures c.in-Ok-walk_code-2.ensures.flow in
     record {
       flow =
-          subst (λ (code : Tree). IsFlow (flow g code c.args.locked here) c.join_ends.new.here c.args.found.now
-          c.join_ends.new.found c.join_ends.result) (sym sides)
-          (flow-chosen (flow g left c.args.locked here) (flow g right c.args.locked here) left_end right_end
-          c.join_ends.new.here c.args.found.now c.walk_code.new.found other.new.found c.join_ends.new.found
-          c.join_ends.result
-          c.in-Ok-walk_code.ensures.flow.0 done.0 c.in-Ok-walk_code.ensures.flow.1 done.1 c.join_ends.ensures.state
-          c.join_ends.ensures.found);
+          subst (λ (code : Tree). IsFlow (flow g code locked (read_state t0 start))
+          (read_state two.table end.new.here) (read_found t0 f0) (read_found two.table end.new.found) end.result)
+          (sym sides)
+          (ways-met g left right locked t0 one.table l.table start c.in-Ok.other f0 one.found c.in-Ok.ensures low
+          two.table r.table one.here two.here end.new.here two.found end.new.found c.in-Ok-walk_code.goes_on
+          c.in-Ok-walk_code-2.goes_on end.result l.numbers r.numbers l.flow r.flow end.ensures.state
+          end.ensures.found);
+      numbers =
+          ways-numbers g left right locked t0 one.table l.table start c.in-Ok.other f0 one.found c.in-Ok.ensures low
+          two.table r.table one.here two.here end.new.here two.found end.new.found c.in-Ok-walk_code.goes_on
+          c.in-Ok-walk_code-2.goes_on end.result l.numbers r.numbers end.ensures.numbers;
+      called = always end.result (AreCallNumbers two.table two.calls.keys) r.called;
       calls =
-          marked-found g other.new.calls.keys other.new.found c.join_ends.new.found
-          (marks [] (lost_next left_end right_end)) c.join_ends.result c.join_ends.ensures.found
-          c.in-Ok-walk_code-2.ensures.calls;
+          ways-called g left right locked t0 one.table l.table start c.in-Ok.other f0 one.found c.in-Ok.ensures low
+          two.table r.table one.here two.here end.new.here two.found end.new.found c.in-Ok-walk_code.goes_on
+          c.in-Ok-walk_code-2.goes_on end.result l.numbers r.numbers two.calls.keys r.calls end.ensures.found;
+      table = always end.result (GoesOn t0 two.table) (goes_on-trans t0 one.table two.table l.table r.table);
     }
 
 pub walk_code-returns-in-Loop : goal.walk_code-returns-in-Loop
 walk_code-returns-in-Loop t c =
+    let table = c.args.table.now in
+    let new = c.repeat.new in
     let looped : tree_of c.args.code.now ≡ Loop (tree_of c.deref-in-Loop.result.now) = search (rules, the_lemmas) in
     record {
       flow =
-          subst (λ (code : Tree). IsFlow (flow (given c.args.frame.now) code c.args.locked c.args.here.now)
-          c.repeat.new.here c.args.found.now c.repeat.new.found c.repeat.result) (sym looped) c.repeat.ensures.flow;
+          subst (λ (code : Tree). IsFlow (flow (given c.args.frame.now) code c.args.locked
+          (read_state table c.args.here.now)) (read_state new.table new.here) (read_found table c.args.found.now)
+          (read_found new.table new.found) c.repeat.result) (sym looped) c.repeat.ensures.flow;
+      numbers = c.repeat.ensures.numbers;
+      called = c.repeat.ensures.called;
       calls = c.repeat.ensures.calls;
+      table = c.repeat.ensures.table;
+    }
+
+pub walk_code-returns-in-Op : goal.walk_code-returns-in-Op
+walk_code-returns-in-Op t c =
+    let table = c.args.table.now in
+    let new = c.operate.new in
+    let is : tree_of c.args.code.now ≡ Op c.in-Op.site c.in-Op.field-1 c.in-Op.op = search (rules, the_lemmas) in
+    record {
+      flow =
+          subst (λ (code : Tree). IsFlow (flow (given c.args.frame.now) code c.args.locked
+          (read_state table c.args.here.now)) (read_state new.table new.here) (read_found table c.args.found.now)
+          (read_found new.table new.found) c.operate.result) (sym is) c.operate.ensures.flow;
+      numbers = c.operate.ensures.numbers;
+      called = c.operate.ensures.called;
+      calls = c.operate.ensures.calls;
+      table = c.operate.ensures.table;
+    }
+
+pub walk_code-returns-in-Seq : goal.walk_code-returns-in-Seq
+walk_code-returns-in-Seq t c =
+    let table = c.args.table.now in
+    let new = c.go_through.new in
+    let is : tree_of c.args.code.now ≡ in_sequence (map tree_of c.as_slice.result.now) =
+    search (rules, the_lemmas) in
+    record {
+      flow =
+          subst (λ (code : Tree). IsFlow (flow (given c.args.frame.now) code c.args.locked
+          (read_state table c.args.here.now)) (read_state new.table new.here) (read_found table c.args.found.now)
+          (read_found new.table new.found) c.go_through.result) (sym is) c.go_through.ensures.flow;
+      numbers = c.go_through.ensures.numbers;
+      called = c.go_through.ensures.called;
+      calls = c.go_through.ensures.calls;
+      table = c.go_through.ensures.table;
     }
 
 turn : (parts : List Code) (i : ℕ) (part : Code) → i < length parts → part ≡ get_or parts i part →
@@ -98,24 +158,41 @@ turn : (parts : List Code) (i : ℕ) (part : Code) → i < length parts → part
 turn parts i part within is = at_drop_more (λ ps. in_sequence (map tree_of ps)) parts i part within
     ∙ ap (λ (p : Code). Seq (tree_of p) (in_sequence (map tree_of (drop (i + 1) parts)))) (sym is)
 
+pub go_through-loop-part-init : goal.go_through-loop-part-init
+go_through-loop-part-init t c =
+    record {
+      high = c.requires.high;
+      leads = λ here new r flows. flows;
+      numbers = c.requires.numbers;
+      called = c.requires.called;
+      calls = c.requires.calls;
+      on = goes_on-same c.args.table.now;
+    }
+
 pub go_through-returns-in-Ok-false : goal.go_through-returns-in-Ok-false
 go_through-returns-in-Ok-false t c =
     let g = given c.args.frame.now in
     let at = c.loop-part in
     let i = at.part-index in
     let parts = c.args.parts.now in
-    let here = c.walk_code.new.here in
-    let new = c.walk_code.new.found in
+    let last = c.walk_code.new in
+    let here = read_state at.table at.here in
+    let found = read_found at.table at.found in
+    let end = read_state last.table last.here in
+    let new = read_found last.table last.found in
+    let m = c.in-Ok-false.ensures in
     record {
       flow =
-          at.invariant.1 here new (Ok false)
-          (subst (λ (code : Tree). IsFlow (flow g code c.args.locked at.here) here at.found new (Ok false))
+          at.invariant.leads end new (Ok false)
+          (subst (λ (code : Tree). IsFlow (flow g code c.args.locked here) end found new (Ok false))
           (sym (turn parts i c.part-item.result c.loop-part-test.true c.part-item.is))
-          (flow-ended (flow g (tree_of c.part-item.result) c.args.locked at.here)
-          (flow g (in_sequence (map tree_of (drop (i + 1) parts))) c.args.locked) here at.found new
-          (c.in-Ok-false.ensures.flow.0 ∙ ap (λ (b : Bool). next_of b here) c.in-Ok-false.field-0-test)
-          c.in-Ok-false.ensures.flow.1));
-      calls = c.in-Ok-false.ensures.calls;
+          (flow-ended (flow g (tree_of c.part-item.result) c.args.locked here)
+          (flow g (in_sequence (map tree_of (drop (i + 1) parts))) c.args.locked) end found new
+          (m.flow.0 ∙ ap (λ (b : Bool). next_of b end) c.in-Ok-false.field-0-test) m.flow.1));
+      numbers = m.numbers;
+      called = m.called;
+      calls = m.calls;
+      table = goes_on-trans c.args.table.now at.table last.table at.invariant.on m.table;
     }
 
 pub go_through-returns-in-Err : goal.go_through-returns-in-Err
@@ -124,15 +201,20 @@ go_through-returns-in-Err t c =
     let at = c.loop-part in
     let i = at.part-index in
     let parts = c.args.parts.now in
+    let here = read_state at.table at.here in
+    let found = read_found at.table at.found in
     record {
       flow =
-          at.invariant.1 at.here c.walk_code.new.found (Err c.in-Err.stop)
-          (subst (λ (code : Tree). IsStopped at.found (flow g code c.args.locked at.here) c.in-Err.stop)
+          at.invariant.leads here (read_found c.walk_code.new.table c.walk_code.new.found) (Err c.in-Err.stop)
+          (subst (λ (code : Tree). IsStopped found (flow g code c.args.locked here) c.in-Err.stop)
           (sym (turn parts i c.part-item.result c.loop-part-test.true c.part-item.is))
-          (stopped-after (flow g (tree_of c.part-item.result) c.args.locked at.here)
-          (flow g (in_sequence (map tree_of (drop (i + 1) parts))) c.args.locked) at.found c.in-Err.stop
+          (stopped-after (flow g (tree_of c.part-item.result) c.args.locked here)
+          (flow g (in_sequence (map tree_of (drop (i + 1) parts))) c.args.locked) found c.in-Err.stop
           c.in-Err.ensures.flow));
+      numbers = tt;
+      called = tt;
       calls = tt;
+      table = tt;
     }
 
 pub go_through-loop-part-preserved : goal.go_through-loop-part-preserved
@@ -141,109 +223,174 @@ go_through-loop-part-preserved t c =
     let at = c.loop-part in
     let i = at.part-index in
     let parts = c.args.parts.now in
+    let last = c.walk_code.new in
+    let here = read_state at.table at.here in
+    let found = read_found at.table at.found in
+    let next_here = read_state last.table last.here in
+    let next_found = read_found last.table last.found in
     let first = tree_of c.part-item.result in
     let rest = in_sequence (map tree_of (drop (i + 1) parts)) in
     let same : in_sequence (map tree_of (drop i parts)) ≡ Seq first rest =
     turn parts i c.part-item.result c.loop-part-test.true c.part-item.is in
-    let m = c.in-Ok-true.ensures.flow in
-    let next = m.0 ∙ ap (λ (b : Bool). next_of b c.walk_code.new.here) c.in-Ok-true.field-0-test in (
-      high_rest g first rest c.args.locked at.here c.walk_code.new.here
-          (subst (λ (code : Tree). IsHighEnough code at.here) same at.invariant.0) next,
-      λ here new r k.
-          at.invariant.1 here new r
-          (subst (λ (code : Tree). IsFlow (flow g code c.args.locked at.here) here at.found new r) (sym same)
-          (flow-then (flow g first c.args.locked at.here) (flow g rest c.args.locked) c.walk_code.new.here here at.found
-          c.walk_code.new.found new r next m.1 k)),
-      c.in-Ok-true.ensures.calls,
-    )
+    let m = c.in-Ok-true.ensures in
+    let next = m.flow.0 ∙ ap (λ (b : Bool). next_of b next_here) c.in-Ok-true.field-0-test in
+    record {
+      high =
+          high_rest g first rest c.args.locked here next_here
+          (subst (λ (code : Tree). IsHighEnough code here) same at.invariant.high) next;
+      leads = λ end new r k.
+          at.invariant.leads end new r
+          (subst (λ (code : Tree). IsFlow (flow g code c.args.locked here) end found new r) (sym same)
+          (flow-then (flow g first c.args.locked here) (flow g rest c.args.locked) next_here end found next_found new r
+          next m.flow.1 k));
+      numbers = m.numbers;
+      called = m.called;
+      calls = m.calls;
+      on = goes_on-trans c.args.table.now at.table last.table at.invariant.on m.table;
+    }
 
 pub go_through-returns : goal.go_through-returns
 go_through-returns t c =
     let g = given c.args.frame.now in
     let at = c.loop-part in
     let parts = c.args.parts.now in
+    let here = read_state at.table at.here in
+    let found = read_found at.table at.found in
     record {
       flow =
-          at.invariant.1 at.here at.found (Ok true)
-          (subst (λ (code : Tree). IsFlow (flow g code c.args.locked at.here) at.here at.found at.found (Ok true))
+          at.invariant.leads here found (Ok true)
+          (subst (λ (code : Tree). IsFlow (flow g code c.args.locked here) here found found (Ok true))
           (sym (at_drop_all (λ ps. in_sequence (map tree_of ps)) parts at.part-index (omega arith)))
-          (refl, noted-nothing at.found at.here));
-      calls = at.invariant.2;
+          (refl, noted-nothing found here));
+      numbers = at.invariant.numbers;
+      called = at.invariant.called;
+      calls = at.invariant.calls;
+      table = at.invariant.on;
     }
 
 pub repeat-returns-in-Err : goal.repeat-returns-in-Err
 repeat-returns-in-Err t c =
+    let table = c.args.table.now in
     record {
       flow =
-          stopped_lost (flow (given c.args.frame.now) (tree_of c.args.body.now) c.args.locked) c.args.here.now
-          c.args.found.now c.in-Err.stop c.in-Err.ensures.rounds.1;
+          stopped_lost (flow (given c.args.frame.now) (tree_of c.args.body.now) c.args.locked)
+          (read_state table c.args.here.now) (read_found table c.args.found.now) c.in-Err.stop
+          c.in-Err.ensures.rounds.1;
+      numbers = tt;
+      called = tt;
       calls = tt;
+      table = tt;
     }
 
 pub repeat-walk_code-ended-requires : goal.repeat-walk_code-ended-requires
 repeat-walk_code-ended-requires t c =
     let g = given c.args.frame.now in
     let body = tree_of c.args.body.now in
-    let start = c.args.here.now in
-    let now = c.go_rounds.new in (
+    let t0 = c.args.table.now in
+    let now = c.go_rounds.new in
+    let m = c.in-Ok.ensures in
+    let end = c.in-Ok-copied.end in (
       search rules,
       (
-        subst (IsHighEnough body) (sym c.in-Ok-copied.ensures) (high_body body now.here c.in-Ok.ensures.high),
-        noted-found g c.args.calls.now.keys c.args.found.now now.found
-            (marks [] (rounds (flow g body c.args.locked) (rounds_of start) start).1) c.in-Ok.ensures.rounds.1
-            c.requires.calls,
+        body-high g body c.args.locked t0 now.table m.table c.args.here.now now.here end c.args.found.now now.found
+            c.in-Ok-copied.ensures m.rounds m.numbers m.high,
+        (
+          body-ready g body c.args.locked t0 now.table m.table c.args.here.now now.here end c.args.found.now now.found
+              c.in-Ok-copied.ensures m.rounds m.numbers,
+          (
+            calls-still t0 now.table m.table c.args.calls.now.keys c.requires.called,
+            body-found g body c.args.locked t0 now.table m.table c.args.here.now now.here end c.args.found.now
+                now.found c.in-Ok-copied.ensures m.rounds m.numbers c.args.calls.now.keys c.requires.called
+                c.requires.calls,
+          ),
+        ),
       ),
     )
 
 pub repeat-returns-in-Ok-ended : goal.repeat-returns-in-Ok-ended
 repeat-returns-in-Ok-ended t c =
-    let start = c.args.here.now in
-    let body = flow (given c.args.frame.now) (tree_of c.args.body.now) c.args.locked in
+    let g = given c.args.frame.now in
+    let body = tree_of c.args.body.now in
+    let t0 = c.args.table.now in
     let now = c.go_rounds.new in
+    let m = c.in-Ok.ensures in
+    let k = c.in-Ok-ended.ensures in
+    let last = c.walk_code-ended.new in
     record {
       flow =
-          rounds-ended body 0 start now.here c.args.found.now now.found c.walk_code-ended.new.found refl
-          (rounds-left body start now.here c.args.found.now now.found c.in-Ok.ensures.rounds)
-          (subst (λ (s : State). IsNoted now.found (body s) c.walk_code-ended.new.found) c.in-Ok-copied.ensures
-          c.in-Ok-ended.ensures.flow.1);
-      calls = c.in-Ok-ended.ensures.calls;
+          loop-done g body c.args.locked t0 now.table m.table c.args.here.now now.here c.in-Ok-copied.end
+          c.args.found.now now.found c.in-Ok-copied.ensures m.rounds m.numbers last.table k.table last.found k.flow.1;
+      numbers =
+          loop-numbers g body c.args.locked t0 now.table m.table c.args.here.now now.here c.in-Ok-copied.end
+          c.args.found.now now.found c.in-Ok-copied.ensures m.rounds m.numbers last.table k.table last.found last.here
+          k.numbers;
+      called = k.called;
+      calls = k.calls;
+      table = goes_on-trans t0 now.table last.table m.table k.table;
     }
 
 pub repeat-returns-in-Err-ended : goal.repeat-returns-in-Err-ended
 repeat-returns-in-Err-ended t c =
-    let start = c.args.here.now in
-    let body = flow (given c.args.frame.now) (tree_of c.args.body.now) c.args.locked in
+    let g = given c.args.frame.now in
+    let body = tree_of c.args.body.now in
+    let t0 = c.args.table.now in
     let now = c.go_rounds.new in
+    let m = c.in-Ok.ensures in
     record {
       flow =
-          last-stopped body 0 start now.here c.args.found.now now.found c.in-Err-ended.stop refl
-          (rounds-left body start now.here c.args.found.now now.found c.in-Ok.ensures.rounds)
-          (subst (λ (s : State). IsStopped now.found (body s) c.in-Err-ended.stop) c.in-Ok-copied.ensures
-          c.in-Err-ended.ensures.flow);
+          loop-stopped g body c.args.locked t0 now.table m.table c.args.here.now now.here c.in-Ok-copied.end
+          c.args.found.now now.found c.in-Ok-copied.ensures m.rounds m.numbers c.in-Err-ended.stop
+          c.in-Err-ended.ensures.flow;
+      numbers = tt;
+      called = tt;
       calls = tt;
+      table = tt;
     }
 
-pub walk_code-returns-in-Op : goal.walk_code-returns-in-Op
-walk_code-returns-in-Op t c =
-    let is : tree_of c.args.code.now ≡ Op c.in-Op.site c.in-Op.field-1 c.in-Op.op = search (rules, the_lemmas) in
+pub walk_code-walk_code-requires-in-Choice : goal.walk_code-walk_code-requires-in-Choice
+walk_code-walk_code-requires-in-Choice t c =
+    let left = tree_of c.deref.result.now in
+    let right = tree_of c.deref-in-Choice.result.now in
+    let t0 = c.args.table.now in
+    let start = c.args.here.now in
+    let one = c.walk_code.new in
+    let l = c.in-Ok-walk_code.ensures in
+    let low = c.requires.numbers.state in
+    let sides : tree_of c.args.code.now ≡ Choice left right = search (rules, the_lemmas) in (
+      search (rules, sizes, the_size, the_lemmas, c.in-Choice.is, c.deref-in-Choice.ensures, c.decreases),
+      (
+        copied-high t0 one.table l.table start c.in-Ok.other c.in-Ok.ensures low right
+            (high_right left right (read_state t0 start)
+            (subst (λ (code : Tree). IsHighEnough code (read_state t0 start)) sides c.requires.high)),
+        (
+          copied-ready t0 one.table l.table start c.in-Ok.other c.in-Ok.ensures low one.here one.found l.numbers,
+          (l.called, l.calls),
+        ),
+      ),
+    )
+
+pub walk_code-returns-in-Sync : goal.walk_code-returns-in-Sync
+walk_code-returns-in-Sync t c =
+    let g = given c.args.frame.now in
+    let table = c.args.table.now in
+    let start = c.args.here.now in
+    let found = c.args.found.now in
+    let lock : LockAt = record { place = c.in-Sync.field-0; kind = c.in-Sync.field-1 } in
+    let body = tree_of c.deref-in-Sync.result.now in
+    let is : tree_of c.args.code.now ≡ Sync lock body = search (rules, the_lemmas) in
+    let walked = c.walk_code-in-Sync in
+    let end = read_state walked.new.table walked.new.here in
+    let later = read_found walked.new.table walked.new.found in
+    let m = walked.ensures in
     record {
       flow =
-          subst (λ (code : Tree). IsFlow (flow (given c.args.frame.now) code c.args.locked c.args.here.now)
-          c.operate.new.here c.args.found.now c.operate.new.found c.operate.result) (sym is) c.operate.ensures.flow;
-      calls = c.operate.ensures.calls;
+          subst (λ (code : Tree). IsFlow (flow g code c.args.locked (read_state table start)) end
+          (read_found table found) later walked.result) (sym is)
+          (held-flow table start found c.requires.numbers g lock body c.args.locked end later walked.result
+          (subst (λ (s : NumberedState). IsFlow (flow g body true (read_state table s)) end (read_found table found)
+          later walked.result) c.pop.ensures.rest m.flow));
+      numbers = m.numbers;
+      called = m.called;
+      calls = m.calls;
+      table = m.table;
     }
-
-pub walk_code-returns-in-Seq : goal.walk_code-returns-in-Seq
-walk_code-returns-in-Seq t c =
-    let is : tree_of c.args.code.now ≡ in_sequence (map tree_of c.as_slice.result.now) =
-    search (rules, the_lemmas) in
-    record {
-      flow =
-          subst (λ (code : Tree). IsFlow (flow (given c.args.frame.now) code c.args.locked c.args.here.now)
-          c.go_through.new.here c.args.found.now c.go_through.new.found c.go_through.result) (sym is)
-          c.go_through.ensures.flow;
-      calls = c.go_through.ensures.calls;
-    }
-
-pub go_through-loop-part-init : goal.go_through-loop-part-init
-go_through-loop-part-init t c = (c.requires.high, λ here new r flows. flows, c.requires.calls)

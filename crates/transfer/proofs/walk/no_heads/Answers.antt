@@ -1,8 +1,8 @@
 use Rattle.std.proofs.Common.{◌++◌, ◌∷◌, [], None, Option, List, ap, ◌∙◌}
-use Rattle.owner_domain.specs.declared.value.State.{State}
-use Rattle.transfer.proofs.HighEnough.{one_more_none}
+use Rattle.owner_domain.specs.declared.numbered.NumberedState.{NumberedState}
+use Rattle.transfer.proofs.HeadsRead.{one_more_left}
 use Rattle.transfer.proofs.walk.no_heads.Goals as goal
 
 pub loop-loops-preserved : goal.loop-loops-preserved
 loop-loops-preserved c = c.in-Ok.ensures.items
-    ∙ ap (λ (xs : List (Option State)). xs ++ None ∷ []) c.loop-loops.invariant ∙ one_more_none c.loop-loops.loops
+    ∙ ap (λ (xs : List (Option NumberedState)). xs ++ None ∷ []) c.loop-loops.invariant ∙ one_more_left c.loop-loops.loops

@@ -1,6 +1,6 @@
 use Rattle.std.proofs.Common.{◌≡◌, ◌-◌, length, reverse, ap, ◌∙◌, arith}
-use Rattle.owner_domain.specs.declared.value.State.{State}
-use Rattle.access_domain.specs.Operations.{popped, passed_from}
+use Rattle.owner_domain.specs.declared.numbered.NumberedState.{NumberedState}
+use Rattle.transfer.specs.Slots.{popped_numbers, passed_numbers}
 use Rattle.transfer.proofs.Stacks.{taken-values, taken-rest, stack_of}
 use Rattle.transfer.proofs.flow_state.FlowState.take.Goals as goal
 
@@ -10,7 +10,7 @@ returns-clause-values c =
     let kept : c.saturating_sub-kept.result ≡ length items - c.args.count = omega arith in
     c.in_ok-split_off.ensures.tail
     ∙ taken-values items c.args.count c.saturating_sub-kept.result kept
-    ∙ ap (λ (s : State). passed_from s c.args.count) c.self.view_is
+    ∙ ap (λ (s : NumberedState). passed_numbers s c.args.count) c.self.view_is
 
 pub returns-clause-rest : goal.returns-clause-rest
 returns-clause-rest c =
@@ -18,4 +18,4 @@ returns-clause-rest c =
     let kept : c.saturating_sub-kept.result ≡ length items - c.args.count = omega arith in
     ap (stack_of c.self.inside.vars.items)
     (ap reverse c.in_ok-split_off.ensures.items ∙ taken-rest items c.args.count c.saturating_sub-kept.result kept)
-    ∙ ap (λ (s : State). popped s c.args.count) c.self.view_is
+    ∙ ap (λ (s : NumberedState). popped_numbers s c.args.count) c.self.view_is

@@ -1,0 +1,144 @@
+-- A call over numbers does what the operation says in paths.
+use Rattle.std.proofs.Common.{◌≡◌, ℕ, Bool, true, List, Option, None, Some, option_map, refl, sym, ap, subst, ◌∙◌}
+use Rattle.std.specs.Prelude.{Ok}
+use Rattle.racer_base.specs.declared.ids.MethodId.{MethodId}
+use Rattle.racer_base.specs.declared.ids.SiteId.{SiteId}
+use Rattle.access_paths.specs.declared.path.Path.{Path}
+use Rattle.access_paths.specs.Table.{GoesOn}
+use Rattle.owner_domain.specs.declared.value.State.{State}
+use Rattle.owner_domain.specs.declared.value.Value.{Value}
+use Rattle.owner_domain.specs.declared.value.Value.TheVariants.{Unnamed}
+use Rattle.owner_domain.specs.declared.numbered.NumberedState.{NumberedState}
+use Rattle.owner_domain.specs.declared.numbered.NumberedValue.TheVariants as number
+use Rattle.owner_domain.specs.Numbered.{read_state, AllInRange, AreInRange}
+use Rattle.core_code.specs.declared.code.Op.TheVariants.{Call}
+use Rattle.access_domain.specs.Findings.{Findings, Known, Large, Whole}
+use Rattle.access_domain.specs.FlowContext.{FlowContext}
+use Rattle.access_domain.specs.Operations.{op_effects, call_effects, found_effects, passed_from, replaced}
+use Rattle.access_domain.specs.Substitution.{actuals_from, substituted, substituted_value}
+use Rattle.call_subst.specs.Numbered.{read_values}
+use Rattle.transfer.specs.declared.found.Found.{Found}
+use Rattle.transfer.specs.declared.found.Stop.{Stop}
+use Rattle.transfer.specs.declared.found.Stop.TheVariants as stop
+use Rattle.transfer.specs.declared.noted_calls.NotedCall.{NotedCall}
+use Rattle.transfer.specs.declared.numbered_found.NumberedFound.{NumberedFound}
+use Rattle.access_domain.specs.declared.summary.Outcome.{Outcome}
+use Rattle.transfer.specs.declared.calls.Callee.{Callee}
+use Rattle.transfer.specs.Known.{known_in, callee_outcome, table_of}
+use Rattle.transfer.specs.Marks.{IsNoted, IsStopped}
+use Rattle.transfer.specs.Numbered.{read_found, read_call, IsFlowOf}
+use Rattle.transfer.specs.NotedCalls.{PassingCall}
+use Rattle.transfer.specs.Slots.{passed_numbers, replaced_numbers}
+use Rattle.transfer.specs.Walks.{IsFlow, call_marks}
+use Rattle.transfer.proofs.Callees.{stopped-call}
+use Rattle.transfer.proofs.Longer.{passed-in, passed-read}
+use Rattle.transfer.proofs.Marking.{noted-nothing}
+use Rattle.transfer.proofs.Readings.{values-longer, all-longer, state-longer, found-longer}
+use Rattle.transfer.proofs.SlotsRead.{replaced-read, replaced-in}
+
+-- ---- a method of which nothing is known
+
+module _ (g : FlowContext) (locked : Bool) (site : SiteId) (m : MethodId) (n : ℕ) (table : List Path)
+    (s here : NumberedState) (is : here ≡ replaced_numbers s n number.Unnamed) where
+  unread-state : read_state table here ≡ replaced (read_state table s) n Unnamed
+  unread-state = ap (read_state table) is ∙ replaced-read table s n number.Unnamed
+
+  pub unread-flow : (f : NumberedFound) → g.known_of m ≡ None →
+      IsFlow (op_effects g locked site (Call m n) (read_state table s)) (read_state table here) (read_found table f)
+      (read_found table f) (Ok true)
+  unread-flow f known =
+      subst (λ (k : Option Known). IsFlow (call_effects g locked site m n (read_state table s) k)
+      (read_state table here) (read_found table f) (read_found table f) (Ok true)) (sym known)
+      (ap Some (sym unread-state), noted-nothing (read_found table f) (replaced (read_state table s) n Unnamed))
+
+  pub unread-in : AreInRange table s → AreInRange table here
+  unread-in low = subst (AreInRange table) (sym is) (replaced-in table s n number.Unnamed low tt)
+
+  pub unread-numbers : (f : NumberedFound) → IsFlowOf table s f → IsFlowOf table here f
+  unread-numbers f low = record { once = low.once; state = unread-in low.state; noted = low.noted }
+
+  pub unread-next : g.known_of m ≡ None →
+      (op_effects g locked site (Call m n) (read_state table s)).next ≡ Some (read_state table here)
+  unread-next known =
+      ap (λ (o : Option Known). (call_effects g locked site m n (read_state table s) o).next) known
+      ∙ ap Some (sym unread-state)
+
+  -- the state behind a call of a method that has too much
+  pub large-next : g.known_of m ≡ Some Large →
+      (op_effects g locked site (Call m n) (read_state table s)).next ≡ Some (read_state table here)
+  large-next known =
+      ap (λ (o : Option Known). (call_effects g locked site m n (read_state table s) o).next) known
+      ∙ ap Some (sym unread-state)
+
+pub large-call : (g : FlowContext) (locked : Bool) (site : SiteId) (m : MethodId) (n : ℕ) (s : State) (old : Found) →
+    g.known_of m ≡ Some Large → IsStopped old (op_effects g locked site (Call m n) s) stop.Large
+large-call g locked site m n s old known =
+    subst (λ (k : Option Known). IsStopped old (call_effects g locked site m n s k) stop.Large) (sym known) refl
+
+-- ---- a method of which all is known
+
+module _ (g : FlowContext) (m : MethodId) (f : Findings) (known : g.known_of m ≡ Some (Whole f)) (locked : Bool)
+    (n : ℕ) (t0 t1 : List Path) (first : GoesOn t0 t1) (s : NumberedState) (made : NotedCall) (low : AreInRange t0 s)
+    (is : made ≡ record { callee = m; locked = locked; actuals = passed_numbers s n }) where
+  pub made-known : g.known_of made.callee ≡ Some (Whole f)
+  made-known = ap (λ (c : NotedCall). g.known_of c.callee) is ∙ known
+
+  pub made-in : AllInRange t1 made.actuals
+  made-in =
+      subst (λ (c : NotedCall). AllInRange t1 c.actuals) (sym is)
+      (all-longer t0 t1 first (passed_numbers s n) (passed-in t0 s n low))
+
+  passed-longer : read_values t1 (passed_numbers s n) ≡ passed_from (read_state t0 s) n
+  passed-longer = values-longer t0 t1 first (passed_numbers s n) (passed-in t0 s n low) ∙ passed-read t0 s n
+
+  -- the call that was made, in paths
+  abbrev of_call : PassingCall
+  of_call = record { callee = m; locked = locked; actuals = read_values t1 (passed_numbers s n) }
+
+  call-is : read_call t1 made ≡ of_call
+  call-is = ap (read_call t1) is
+
+  pub call-ended : (f0 : NumberedFound) (site : SiteId) (why : Stop) → IsFlowOf t0 s f0 →
+      IsStopped (read_found t1 f0) (call_marks g (read_call t1 made) f site) why →
+      IsStopped (read_found t0 f0) (op_effects g locked site (Call m n) (read_state t0 s)) why
+  call-ended f0 site why numbers k =
+      subst (λ (o : Option Known). IsStopped (read_found t0 f0) (call_effects g locked site m n (read_state t0 s) o) why)
+      (sym known)
+      (stopped-call g of_call f site n (read_state t0 s) (read_found t0 f0) why passed-longer
+      (subst (λ (c : PassingCall). IsStopped (read_found t0 f0) (call_marks g c f site) why) call-is
+      (subst (λ (x : Found). IsStopped x (call_marks g (read_call t1 made) f site) why)
+      (found-longer t0 t1 first f0 numbers.noted) k)))
+
+  pub call-done : (t2 : List Path) → GoesOn t1 t2 → (here : NumberedState) (f0 f2 : NumberedFound) (site : SiteId) →
+      IsFlowOf t0 s f0 → AreInRange t1 here →
+      read_state t1 here ≡ replaced (read_state t0 s) n
+      (substituted_value (actuals_from (g.is_static m) (passed_from (read_state t0 s) n)) f.result) →
+      IsNoted (read_found t1 f0) (call_marks g (read_call t1 made) f site) (read_found t2 f2) →
+      IsFlow (op_effects g locked site (Call m n) (read_state t0 s)) (read_state t2 here) (read_found t0 f0)
+      (read_found t2 f2) (Ok true)
+  call-done t2 second here f0 f2 site numbers within next k =
+      let start = read_state t0 s in
+      let noted : IsNoted (read_found t0 f0) (call_marks g of_call f site) (read_found t2 f2) =
+      subst (λ (c : PassingCall). IsNoted (read_found t0 f0) (call_marks g c f site) (read_found t2 f2)) call-is
+      (subst (λ (x : Found). IsNoted x (call_marks g (read_call t1 made) f site) (read_found t2 f2))
+      (found-longer t0 t1 first f0 numbers.noted) k) in
+      subst (λ (o : Option Known). IsFlow (call_effects g locked site m n start o) (read_state t2 here)
+      (read_found t0 f0) (read_found t2 f2) (Ok true)) (sym known) (
+        ap Some (sym (state-longer t1 t2 second here within ∙ next)),
+        subst (λ (vs : List Value). IsNoted (read_found t0 f0)
+            (found_effects (substituted g (actuals_from (g.is_static m) vs) f locked site) start n) (read_found t2 f2))
+            passed-longer noted,
+      )
+
+-- the state behind a call of a method of which all is known
+pub whole-next : (g : FlowContext) (m : MethodId) (f : Findings) (locked : Bool) (site : SiteId) (n : ℕ) (s here : State) →
+    g.known_of m ≡ Some (Whole f) →
+    here ≡ replaced s n (substituted_value (actuals_from (g.is_static m) (passed_from s n)) f.result) →
+    (op_effects g locked site (Call m n) s).next ≡ Some here
+whole-next g m f locked site n s here known is =
+    ap (λ (o : Option Known). (call_effects g locked site m n s o).next) known ∙ ap Some (sym is)
+
+-- what is known of a method whose outcome is handed in
+pub known-of : (callees : List Callee) (m : MethodId) (o : Option Outcome) → o ≡ callee_outcome callees m →
+    table_of callees m ≡ option_map known_in o
+known-of callees m o is = ap (option_map known_in) (sym is)

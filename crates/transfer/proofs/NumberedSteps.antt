@@ -1,0 +1,443 @@
+-- Operations over the numbers of a table are those that `Operations.antt` of `access_domain` says in paths.
+use Rattle.std.proofs.Common.{◌≡◌, ℕ, ◌<◌, Bool, true, false, not, cond, List, [], ◌∷◌, ◌++◌, Option, None, Some}
+use Rattle.std.proofs.Common.{length, map, refl, sym, ap, subst, ◌∙◌, slice_get}
+use Rattle.std.specs.FinSet as set
+use Rattle.std.specs.Prelude.{Result, Ok, Err, IfOk, OnOk, slice_set}
+use Rattle.racer_base.specs.declared.ids.FieldId.{FieldId}
+use Rattle.racer_base.specs.declared.ids.SiteId.{SiteId}
+use Rattle.racer_base.specs.declared.ids.VarId.{VarId}
+use Rattle.racer_base.specs.declared.ids.Touch.{Touch}
+use Rattle.racer_base.specs.declared.ids.Touch.TheVariants.{Write}
+use Rattle.access_paths.specs.declared.path.Path.{Path}
+use Rattle.access_paths.specs.Order.{path_cmp}
+use Rattle.access_paths.specs.Table.{IsTable, GoesOn, path_at}
+use Rattle.access_paths.proofs.Numbers.{goes_on-trans, number-at, number-below}
+use Rattle.transfer.proofs.Longer.{marked-longer}
+use Rattle.transfer.proofs.Marking.{noted-nothing}
+use Rattle.owner_domain.specs.declared.value.Value.{Value}
+use Rattle.owner_domain.specs.declared.value.Value.TheVariants as value
+use Rattle.owner_domain.specs.declared.value.State.{State}
+use Rattle.owner_domain.specs.declared.numbered.NumberedValue.{NumberedValue}
+use Rattle.owner_domain.specs.declared.numbered.NumberedValue.TheVariants.{Owned, Named, Unnamed}
+use Rattle.owner_domain.specs.declared.numbered.NumberedState.{NumberedState}
+use Rattle.owner_domain.specs.Numbered.{read_value, read_state, IsInRange, AreInRange}
+use Rattle.owner_domain.specs.Values.{names_of, field_value}
+use Rattle.core_code.specs.declared.code.Op.{Op as CoreOp}
+use Rattle.core_code.specs.declared.code.Op.TheVariants.{Put}
+use Rattle.core_code.specs.Program.{core}
+use Rattle.access_domain.specs.declared.access.Access.{Access}
+use Rattle.access_domain.specs.declared.numbered.NumberedAccess.{NumberedAccess}
+use Rattle.access_domain.specs.FlowContext.{field_at}
+use Rattle.access_domain.specs.Numbered.{read_access}
+use Rattle.access_domain.specs.Operations.{Effects, op_effects, record_of, stored_paths, slot_of, top, popped, pushed, replaced, read_value as value_read}
+use Rattle.access_domain.specs.Reached.{reached_path}
+use Rattle.transfer.specs.declared.found.Found.{Found}
+use Rattle.transfer.specs.declared.found.Stop.{Stop}
+use Rattle.transfer.specs.declared.numbered_found.NumberedFound.{NumberedFound}
+use Rattle.transfer.specs.declared.operations.MethodContext.{MethodContext}
+use Rattle.transfer.specs.Frames.{given, record_reached}
+use Rattle.transfer.specs.Marks.{marks, IsMarked, IsNoted, IsStopped}
+use Rattle.transfer.specs.Numbered.{read_found, AreFoundNumbers, IsFlowOf}
+use Rattle.access_domain.specs.Flow.{joined_next, lost_next}
+use Rattle.owner_domain.specs.Values.{joined_state, lost_state}
+use Rattle.call_subst.specs.Numbered.{AreBelow, read_paths}
+use Rattle.transfer.specs.Slots.{top_number, pushed_number, popped_numbers, replaced_numbers, met_numbers, lost_by}
+use Rattle.transfer.specs.Walks.{IsFlow, moved, next_of}
+use Rattle.transfer.proofs.Flows.{record-reached, slot-below, popped-twice, noted-parts, stopped-records, stopped-paths}
+use Rattle.transfer.proofs.Readings.{met-read, lost-read, value-longer, range-longer, state-longer, state-still, found-longer}
+use Rattle.transfer.proofs.SlotsRead.{slot-in, top-read, popped-read, popped-in, replaced-read, set-read, set-in, met-in, lost-below}
+
+-- ---- through a longer table
+
+pub flow-longer : (old new : List Path) (on : GoesOn old new) (found : NumberedFound) → AreFoundNumbers old found →
+    (e : Effects) (here : State) (later : Found) (r : Result Bool Stop) →
+    IsFlow e here (read_found new found) later r → IsFlow e here (read_found old found) later r
+flow-longer old new on found numbers e here later r m =
+    subst (λ (f : Found). IsFlow e here f later r) (found-longer old new on found numbers) m
+
+-- ---- answers that say something where they are `Ok`
+
+module _ {X E : Type 0} where
+  pub where_ok : {P Q : Type 0} (r : Result X E) → (P → Q) → OnOk r P → OnOk r Q
+  where_ok (Ok x) f p = f p
+  where_ok (Err e) f p = tt
+
+-- ---- operations that find nothing
+
+module _ {X E : Type 0} (r : Result X E) (table : List Path) (op : CoreOp) (old made new : NumberedState) where
+  pub moved-to : read_state table made ≡ moved op (read_state table old) → OnOk r (new ≡ made) →
+      OnOk r (read_state table new ≡ moved op (read_state table old))
+  moved-to is made_so =
+      where_ok {P = new ≡ made} {Q = read_state table new ≡ moved op (read_state table old)} r
+      (λ e. ap (read_state table) e ∙ is) made_so
+
+  pub moved-in : AreInRange table made → OnOk r (new ≡ made) → OnOk r (AreInRange table new)
+  moved-in low made_so =
+      where_ok {P = new ≡ made} {Q = AreInRange table new} r (λ e. subst (AreInRange table) (sym e) low) made_so
+
+pub replaced-to : {X E : Type 0} (r : Result X E) (table : List Path) (old new : NumberedState) (n : ℕ)
+    (v : NumberedValue) → OnOk r (new ≡ replaced_numbers old n v) →
+    OnOk r (read_state table new ≡ replaced (read_state table old) n (read_value table v))
+replaced-to r table old new n v made =
+    where_ok {P = new ≡ replaced_numbers old n v}
+    {Q = read_state table new ≡ replaced (read_state table old) n (read_value table v)} r
+    (λ e. ap (read_state table) e ∙ replaced-read table old n v) made
+
+-- ---- the field of the top
+
+pub top-in : (table : List Path) (s : NumberedState) → AreInRange table s → IsInRange table (top_number s)
+top-in table s low = slot-in table s.stack 0 low.1
+
+-- the number of the top is one of the table's
+pub top-below : (table : List Path) (s : NumberedState) (v : NumberedValue) (n : ℕ) → AreInRange table s →
+    v ≡ top_number s → v ≡ Named n → n < length table
+top-below table s v n low is named = subst (IsInRange table) (sym is ∙ named) (top-in table s low)
+
+pub field-of_named : (table : List Path) (s : NumberedState) (v : NumberedValue) (n : ℕ) (p : Path) (f : FieldId) →
+    v ≡ top_number s → v ≡ Named n → slice_get table n ≡ Some p →
+    field_value (value.Named p) f ≡ field_value (top (read_state table s)) f
+field-of_named table s v n p f is named at =
+    ap (λ (q : Path). field_value (value.Named q) f) (sym (number-at table n p at))
+    ∙ ap (λ (w : NumberedValue). field_value (read_value table w) f) (sym named ∙ is)
+    ∙ ap (λ (w : Value). field_value w f) (top-read table s)
+
+pub field-of_owned : (table : List Path) (s : NumberedState) (v : NumberedValue) (f : FieldId) → v ≡ top_number s →
+    v ≡ Owned → value.Owned ≡ field_value (top (read_state table s)) f
+field-of_owned table s v f is owned =
+    ap (λ (w : NumberedValue). field_value (read_value table w) f) (sym owned ∙ is)
+    ∙ ap (λ (w : Value). field_value w f) (top-read table s)
+
+pub field-of_unnamed : (table : List Path) (s : NumberedState) (v : NumberedValue) (f : FieldId) → v ≡ top_number s →
+    v ≡ Unnamed → value.Unnamed ≡ field_value (top (read_state table s)) f
+field-of_unnamed table s v f is unnamed =
+    ap (λ (w : NumberedValue). field_value (read_value table w) f) (sym unnamed ∙ is)
+    ∙ ap (λ (w : Value). field_value w f) (top-read table s)
+
+-- ---- accesses
+
+pub by_not : (b : Bool) → not b ≡ false → b ≡ true
+by_not true e = refl
+by_not false e = cc
+
+module _ (frame : MethodContext) (kind : Touch) (locked : Bool) (site : SiteId) (f : FieldId) where
+  abbrev pub records_at : Bool → Option Path → List Access
+  records_at recorded reached = cond recorded (elim reached as (λ _. List Access) [
+    | None ↦ []
+    | Some p ↦ record { path = p; kind = kind; locked = locked; main = frame.main; site = site; below = None } ∷ []
+  ]) []
+
+  none_in : (recorded : Bool) → records_at recorded None ≡ []
+  none_in true = refl
+  none_in false = refl
+
+  pub not-recorded : (v : Value) → (field_at (core frame.program.now) f).recorded ≡ false →
+      record_reached frame kind locked site v f ≡ []
+  not-recorded v e = ap (λ (b : Bool). records_at b (reached_path (core frame.program.now) v f)) e
+
+  pub not-reached : (v : Value) → reached_path (core frame.program.now) v f ≡ None →
+      record_reached frame kind locked site v f ≡ []
+  not-reached v e =
+      let recorded = (field_at (core frame.program.now) f).recorded in
+      ap (records_at recorded) e ∙ none_in recorded
+
+  abbrev pub access_of : ℕ → NumberedAccess
+  access_of n = record { path = n; kind = kind; locked = locked; main = frame.main; site = site; below = None }
+
+  pub reached-at : (table : List Path) (v : Value) (n : ℕ) → (field_at (core frame.program.now) f).recorded ≡ true →
+      reached_path (core frame.program.now) v f ≡ Some (path_at table n) →
+      record_reached frame kind locked site v f ≡ read_access table (access_of n) ∷ []
+  reached-at table v n recorded reached = λ i. records_at (recorded i) (reached i)
+
+  -- the record of an access, by the value of the field that was read from another one
+  module _ (t0 t1 : List Path) (on : GoesOn t0 t1) (found : NumberedFound) (numbers : AreFoundNumbers t0 found)
+      (field : NumberedValue) (base : Value) (reads : read_value t1 field ≡ field_value base f) where
+    pub same_records : record_reached frame kind locked site (read_value t1 field) f ≡
+        record_of (given frame) kind locked site base f
+    same_records =
+        ap (λ (v : Value). record_reached frame kind locked site v f) reads
+        ∙ record-reached frame kind locked site base f
+
+    pub access-marked : {X : Type 0} (later : Found) (r : Result X Stop) →
+        IsMarked (read_found t1 found)
+        (marks (record_reached frame kind locked site (read_value t1 field) f) []) later r →
+        IsMarked (read_found t0 found) (marks (record_of (given frame) kind locked site base f) []) later r
+    access-marked later r m =
+        marked-longer t0 t1 on found (marks (record_of (given frame) kind locked site base f) []) later r numbers
+        (subst (λ (records : List Access). IsMarked (read_found t1 found) (marks records []) later r) same_records m)
+
+-- ---- reads
+
+plain-read : (table : List Path) (plain : Bool) (v : NumberedValue) →
+    read_value table (cond plain Unnamed v) ≡ cond plain value.Unnamed (read_value table v)
+plain-read table true v = refl
+plain-read table false v = refl
+
+pub plain-in : (table : List Path) (plain : Bool) (v : NumberedValue) → IsInRange table v →
+    IsInRange table (cond plain Unnamed v)
+plain-in table true v low = tt
+plain-in table false v low = low
+
+module _ (frame : MethodContext) (f : FieldId) (t0 t1 t2 : List Path) (on1 : GoesOn t0 t1) (on2 : GoesOn t1 t2)
+    (here : NumberedState) (low : AreInRange t0 here) (field : NumberedValue) (field_low : IsInRange t1 field)
+    (reads : read_value t1 field ≡ field_value (top (read_state t0 here)) f)
+    (plain : Bool) (is_plain : plain ≡ (given frame).is_plain_field f)
+    (new : NumberedState) (is : new ≡ pushed_number (popped_numbers here 1) (cond plain Unnamed field)) where
+  rest_low : AreInRange t0 (popped_numbers here 1)
+  rest_low = popped-in t0 here 1 low
+
+  on : GoesOn t0 t2
+  on = goes_on-trans t0 t1 t2 on1 on2
+
+  pub get-state : read_state t2 new ≡
+      replaced (read_state t0 here) 1 (value_read (given frame) (top (read_state t0 here)) f)
+  get-state =
+      ap (read_state t2) is
+      ∙ (λ i. pushed (state-longer t0 t2 on (popped_numbers here 1) rest_low i) (plain-read t2 plain field i))
+      ∙ (λ i. pushed (popped-read t0 here 1 i)
+      (cond (is_plain i) value.Unnamed ((value-longer t1 t2 on2 field field_low ∙ reads) i)))
+
+  pub get-in : AreInRange t2 new
+  get-in =
+      let rest = state-still t0 t2 on (popped_numbers here 1) rest_low in
+      subst (AreInRange t2) (sym is)
+      (rest.0, (plain-in t2 plain field (range-longer t1 t2 on2 field field_low), rest.1))
+
+-- ---- stores
+
+-- the field of the slot below the top
+pub put-base : (t0 t1 : List Path) (here : NumberedState) (f : FieldId) (field : NumberedValue) →
+    read_value t1 field ≡ field_value (top (read_state t0 (popped_numbers here 1))) f →
+    read_value t1 field ≡ field_value (slot_of (read_state t0 here) 1) f
+put-base t0 t1 here f field reads =
+    reads
+    ∙ ap (λ (s : State). field_value (top s) f) (popped-read t0 here 1)
+    ∙ ap (λ (v : Value). field_value v f) (slot-below (read_state t0 here))
+
+module _ (t0 t1 t2 : List Path) (on1 : GoesOn t0 t1) (on2 : GoesOn t1 t2) (here : NumberedState)
+    (low : AreInRange t0 here) where
+  pub put-names : (f : FieldId) (field : NumberedValue) → IsInRange t1 field →
+      read_value t1 field ≡ field_value (slot_of (read_state t0 here) 1) f → (v : NumberedValue) →
+      v ≡ top_number here →
+      names_of (read_value t2 field) ++ names_of (read_value t2 v) ≡
+      stored_paths (slot_of (read_state t0 here) 1) f (top (read_state t0 here))
+  put-names f field field_low reads v is =
+      let on = goes_on-trans t0 t1 t2 on1 on2 in
+      let first = value-longer t1 t2 on2 field field_low ∙ reads in
+      let second : read_value t2 v ≡ top (read_state t0 here) =
+      ap (read_value t2) is ∙ value-longer t0 t2 on (top_number here) (top-in t0 here low) ∙ top-read t0 here in
+      (λ i. names_of (first i) ++ names_of (second i))
+
+  module _ (v : NumberedValue) (is : v ≡ top_number here) (new : NumberedState)
+      (made : new ≡ pushed_number (popped_numbers (popped_numbers here 1) 1) v) where
+    pub put-state : read_state t2 new ≡ replaced (read_state t0 here) 2 (top (read_state t0 here))
+    put-state =
+        let on = goes_on-trans t0 t1 t2 on1 on2 in
+        let rest : NumberedState = popped_numbers (popped_numbers here 1) 1 in
+        let rest_low : AreInRange t0 rest = popped-in t0 (popped_numbers here 1) 1 (popped-in t0 here 1 low) in
+        let value : read_value t2 v ≡ top (read_state t0 here) =
+        ap (read_value t2) is ∙ value-longer t0 t2 on (top_number here) (top-in t0 here low) ∙ top-read t0 here in
+        let state : read_state t2 rest ≡ popped (read_state t0 here) 2 =
+        state-longer t0 t2 on rest rest_low
+        ∙ popped-read t0 (popped_numbers here 1) 1
+        ∙ ap (λ (s : State). popped s 1) (popped-read t0 here 1)
+        ∙ popped-twice (read_state t0 here) in
+        ap (read_state t2) made ∙ (λ i. pushed (state i) (value i))
+
+    pub put-in : AreInRange t2 new
+    put-in =
+        let on = goes_on-trans t0 t1 t2 on1 on2 in
+        let rest : NumberedState = popped_numbers (popped_numbers here 1) 1 in
+        let rest_low : AreInRange t0 rest = popped-in t0 (popped_numbers here 1) 1 (popped-in t0 here 1 low) in
+        let still = state-still t0 t2 on rest rest_low in
+        let top_low : IsInRange t2 v =
+        subst (IsInRange t2) (sym is) (range-longer t0 t2 on (top_number here) (top-in t0 here low)) in
+        subst (AreInRange t2) (sym made) (still.0, (top_low, still.1))
+
+-- ---- variables, and what is returned
+
+module _ (table : List Path) (here : NumberedState) (v : NumberedValue) (is : v ≡ top_number here) where
+  pub top-value : read_value table v ≡ top (read_state table here)
+  top-value = ap (read_value table) is ∙ top-read table here
+
+  pub top-range : AreInRange table here → IsInRange table v
+  top-range low = subst (IsInRange table) (sym is) (top-in table here low)
+
+  module _ (variable : VarId) (new : NumberedState)
+      (made : new ≡ record { vars = slice_set here.vars variable.0 v; stack = here.stack }) where
+    pub set-state : read_state table new ≡
+        (record {
+          vars = slice_set (read_state table here).vars variable.0 (top (read_state table here));
+          stack = (read_state table here).stack;
+        })
+    set-state =
+        ap (read_state table) made
+        ∙ (λ i. record {
+          vars = set-read table here.vars variable.0 v i;
+          stack = map (read_value table) here.stack;
+        })
+        ∙ (λ i. record {
+          vars = slice_set (map (read_value table) here.vars) variable.0 (top-value i);
+          stack = map (read_value table) here.stack;
+        })
+
+    pub set-state-in : AreInRange table here → AreInRange table new
+    set-state-in low =
+        subst (AreInRange table) (sym made) (set-in table here.vars variable.0 v low.0 (top-range low), low.1)
+
+-- ---- states that meet
+
+module _ (table : List Path) (once : IsTable table) (here other : NumberedState) (low : AreInRange table here)
+    (other_low : AreInRange table other) where
+  pub met-state : (new : NumberedState) → new ≡ met_numbers here other →
+      read_state table new ≡ joined_state (read_state table here) (read_state table other)
+  met-state new is = ap (read_state table) is ∙ met-read table once here other low other_low
+
+  pub met-state-in : (new : NumberedState) → new ≡ met_numbers here other → AreInRange table new
+  met-state-in new is = subst (AreInRange table) (sym is) (met-in table here other low)
+
+  pub met-below : (lost : List ℕ) → lost ≡ lost_by here other → AreBelow (length table) lost
+  met-below lost is = subst (AreBelow (length table)) (sym is) (lost-below table here other low other_low)
+
+  pub met-marked : {X : Type 0} (found later : Found) (lost : List ℕ) (r : Result X Stop) → lost ≡ lost_by here other →
+      IsMarked found (marks [] (read_paths table lost)) later r →
+      IsMarked found (marks [] (lost_state (read_state table here) (read_state table other))) later r
+  met-marked found later lost r is m =
+      subst (λ (ps : List Path). IsMarked found (marks [] ps) later r)
+      (ap (read_paths table) is ∙ lost-read table once here other low other_low) m
+
+pub joined-left : (left : Bool) (s t : State) → next_of left s ≡ joined_next (next_of left s) (next_of false t)
+joined-left true s t = refl
+joined-left false s t = refl
+
+pub lost-left : (left : Bool) (s t : State) → lost_next (next_of left s) (next_of false t) ≡ []
+lost-left true s t = refl
+lost-left false s t = refl
+
+-- ---- a store, whole
+
+module _ (frame : MethodContext) (locked : Bool) (site : SiteId) (f : FieldId) (t0 t1 : List Path)
+    (on1 : GoesOn t0 t1) (here : NumberedState) (found : NumberedFound) (is : IsFlowOf t0 here found)
+    (field : NumberedValue)
+    (reads : read_value t1 field ≡ field_value (top (read_state t0 (popped_numbers here 1))) f) where
+  abbrev base : Value
+  base = slot_of (read_state t0 here) 1
+
+  abbrev records : List Access
+  records = record_of (given frame) Write locked site base f
+
+  base_reads : read_value t1 field ≡ field_value base f
+  base_reads = put-base t0 t1 here f field reads
+
+  pub store-stopped : (last : Found) (stop : Stop) →
+      IsStopped (read_found t1 found) (marks (record_reached frame Write locked site (read_value t1 field) f) []) stop →
+      IsStopped (read_found t0 found) (op_effects (given frame) locked site (Put f) (read_state t0 here)) stop
+  store-stopped last stop m =
+      stopped-records (read_found t0 found) records records (stored_paths base f (top (read_state t0 here))) stop refl
+      (access-marked frame Write locked site f t0 t1 on1 found is.noted field base base_reads {X = Unit {0}} last
+      (Err stop) m)
+
+  module _ (t2 : List Path) (on2 : GoesOn t1 t2) (v : NumberedValue) (is_top : v ≡ top_number here)
+      (field_low : IsInRange t1 field) (later : NumberedFound)
+      (noted : IsNoted (read_found t1 found)
+      (marks (record_reached frame Write locked site (read_value t1 field) f) []) (read_found t2 later)) where
+    first : IsNoted (read_found t0 found) (marks records []) (read_found t2 later)
+    first =
+        access-marked frame Write locked site f t0 t1 on1 found is.noted field base base_reads {X = Unit {0}}
+        (read_found t2 later) (Ok (tt {0})) noted
+
+    abbrev names : List Path
+    names = names_of (read_value t2 field) ++ names_of (read_value t2 v)
+
+    paths : names ≡ stored_paths base f (top (read_state t0 here))
+    paths = put-names t0 t1 t2 on1 on2 here is.state f field field_low base_reads v is_top
+
+    pub names-stopped : (stop : Stop) → IsStopped (read_found t2 later) (marks [] names) stop →
+        IsStopped (read_found t0 found) (op_effects (given frame) locked site (Put f) (read_state t0 here)) stop
+    names-stopped stop k =
+        stopped-paths (read_found t0 found) (read_found t2 later) records records names
+        (stored_paths base f (top (read_state t0 here))) stop refl
+        (ap (λ (ps : List Path). set.from_list {R = path_cmp} ps) paths) first k
+
+    pub store-flows : (new : NumberedState) → new ≡ pushed_number (popped_numbers (popped_numbers here 1) 1) v →
+        (last : Found) → IsNoted (read_found t2 later) (marks [] names) last →
+        IsFlow (op_effects (given frame) locked site (Put f) (read_state t0 here)) (read_state t2 new)
+        (read_found t0 found) last (Ok true)
+    store-flows new made last k = (
+      ap Some (sym (put-state t0 t1 t2 on1 on2 here is.state v is_top new made)),
+      noted-parts (read_found t0 found) (read_found t2 later) last records records names
+          (stored_paths base f (top (read_state t0 here))) refl
+          (ap (λ (ps : List Path). set.from_list {R = path_cmp} ps) paths) first k,
+    )
+
+-- ---- what is noted of a store, and what is returned
+
+pub names-kept : {X E : Type 0} (r : Result X E) (old now new : NumberedFound) (a b : NumberedValue) →
+    ((table : List Path) → IsTable table → AreFoundNumbers table old → IsInRange table a →
+    AreFoundNumbers table now) →
+    OnOk r ((table : List Path) → IsTable table → AreFoundNumbers table now → IsInRange table b →
+    AreFoundNumbers table new) →
+    OnOk r ((table : List Path) → IsTable table → AreFoundNumbers table old → IsInRange table a → IsInRange table b →
+    AreFoundNumbers table new)
+names-kept (Ok x) old now new a b f g = λ table once low a_low b_low. g table once (f table once low a_low) b_low
+names-kept (Err e) old now new a b f g = tt
+
+-- the numbers of what is here and of what was found, in a table of the numbers before
+pub flow-kept : {X E : Type 0} (r : Result X E) (table : List Path) (here new : NumberedState)
+    (found later : NumberedFound) → IsFlowOf table here found →
+    OnOk r ((t : List Path) → IsFlowOf t here found → IsFlowOf t new later) → OnOk r (IsFlowOf table new later)
+flow-kept (Ok x) table here new found later is f = f table is
+flow-kept (Err e) table here new found later is f = tt
+
+pub same-field : {E : Type 0} (r : Result NumberedValue E) (table : List Path) (v w : Value) →
+    IfOk r (λ made. read_value table made ≡ v) → v ≡ w → IfOk r (λ made. read_value table made ≡ w)
+same-field (Ok made) table v w is same = is ∙ same
+same-field (Err e) table v w is same = tt
+
+-- ---- the number of an access
+
+module _ (frame : MethodContext) (kind : Touch) (locked : Bool) (site : SiteId) (f : FieldId) (t0 t1 : List Path)
+    (on : GoesOn t0 t1) (found : NumberedFound) (numbers : AreFoundNumbers t0 found) (v : Value) where
+  pub none-noted : reached_path (core frame.program.now) v f ≡ None →
+      IsNoted (read_found t0 found) (marks (record_reached frame kind locked site v f) []) (read_found t1 found)
+  none-noted none =
+      subst (λ (records : List Access). IsNoted (read_found t0 found) (marks records []) (read_found t1 found))
+      (sym (not-reached frame kind locked site f v none)) (
+        found-longer t0 t1 on found numbers
+            ∙ (noted-nothing (read_found t0 found) (record { vars = []; stack = [] })).0,
+        refl,
+      )
+
+  pub access-noted : {X : Type 0} (n : ℕ) (later : Found) (r : Result X Stop) →
+      (field_at (core frame.program.now) f).recorded ≡ true →
+      reached_path (core frame.program.now) v f ≡ Some (path_at t1 n) →
+      IsMarked (read_found t1 found)
+      (marks (read_access t1 (access_of frame kind locked site f n) ∷ []) []) later r →
+      IsMarked (read_found t0 found) (marks (record_reached frame kind locked site v f) []) later r
+  access-noted n later r recorded reached m =
+      marked-longer t0 t1 on found (marks (record_reached frame kind locked site v f) []) later r numbers
+      (subst (λ (records : List Access). IsMarked (read_found t1 found) (marks records []) later r)
+      (sym (reached-at frame kind locked site f t1 v n recorded reached)) m)
+
+pub at-table : {X E : Type 0} (r : Result X E) (table : List Path) (old new : NumberedFound) (n : ℕ) →
+    OnOk r ((t : List Path) → IsTable t → AreFoundNumbers t old → n < length t → AreFoundNumbers t new) →
+    IsTable table → AreFoundNumbers table old → n < length table → OnOk r (AreFoundNumbers table new)
+at-table (Ok x) table old new n f once numbers low = f table once numbers low
+at-table (Err e) table old new n f once numbers low = tt
+
+-- ---- a root that is pushed
+
+module _ {X E : Type 0} (r : Result X E) (t0 t1 : List Path) (on : GoesOn t0 t1) (here new : NumberedState)
+    (low : AreInRange t0 here) (n : ℕ) (made : OnOk r (new ≡ pushed_number here (Named n))) where
+  pub root-pushed : (p : Path) → slice_get t1 n ≡ Some p →
+      OnOk r (read_state t1 new ≡ pushed (read_state t0 here) (value.Named p))
+  root-pushed p at =
+      where_ok {P = new ≡ pushed_number here (Named n)}
+      {Q = read_state t1 new ≡ pushed (read_state t0 here) (value.Named p)} r
+      (λ e. ap (read_state t1) e
+      ∙ (λ i. pushed (state-longer t0 t1 on here low i) (value.Named (number-at t1 n p at i)))) made
+
+  pub root-in : (p : Path) → slice_get t1 n ≡ Some p → OnOk r (AreInRange t1 new)
+  root-in p at =
+      where_ok {P = new ≡ pushed_number here (Named n)} {Q = AreInRange t1 new} r
+      (λ e. let still = state-still t0 t1 on here low in
+      subst (AreInRange t1) (sym e) (still.0, (number-below t1 n p at, still.1))) made
