@@ -4,22 +4,35 @@ ghost use Rattle.java_parser_grammar.specs.Brackets.{is_opening, is_closing, is_
 ghost use Rattle.java_parser_grammar.specs.Brackets.{unbalanced, too_deep};
 ghost use Rattle.java_parser.specs.OpenBrackets.{open_onto, IsOpened, IsBalanced, IsBracketFault};
 
-use java_lexer::Token;
+use java_lexer::{Token, TokenKind};
 use java_parser_grammar::ParseFault;
 use java_parser_types::look::is_sign;
 use racer_base::{MAX_BRACKET_NESTING, Memory, Place};
 use std::alloc::Global;
 
+/// Whether the token is an opening bracket. Each token of a file is asked, so its byte is looked at: comparing its text
+/// with each of the three took a sixth of a run on plain statements.
 pub fn is_opening(token: &Token) -> bool
     ensures { result ≡ is_opening token.now }
 {
-    is_sign(token, "(") || is_sign(token, "[") || is_sign(token, "{")
+    matches!(token.kind, TokenKind::Sign)
+        && !token.glued
+        && match token.text.as_str().as_bytes() {
+            [byte] => *byte == b'(' || *byte == b'[' || *byte == b'{',
+            _ => false,
+        }
 }
 
+/// Whether the token is a closing bracket, by its byte too.
 pub fn is_closing(token: &Token) -> bool
     ensures { result ≡ is_closing token.now }
 {
-    is_sign(token, ")") || is_sign(token, "]") || is_sign(token, "}")
+    matches!(token.kind, TokenKind::Sign)
+        && !token.glued
+        && match token.text.as_str().as_bytes() {
+            [byte] => *byte == b')' || *byte == b']' || *byte == b'}',
+            _ => false,
+        }
 }
 
 /// Whether the second bracket closes the first.

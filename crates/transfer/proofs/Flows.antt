@@ -25,7 +25,7 @@ use Rattle.access_domain.proofs.ReachedPaths.{touched-reached}
 use Rattle.transfer.specs.declared.found.Found.{Found}
 use Rattle.transfer.specs.declared.found.Stop.{Stop}
 use Rattle.transfer.specs.declared.operations.MethodContext.{MethodContext}
-use Rattle.transfer.specs.Frames.{given, record_reached}
+use Rattle.transfer.specs.Contexts.{given, record_reached}
 use Rattle.transfer.specs.Known.{table_of}
 use Rattle.transfer.specs.Marks.{marks, IsNoted, IsStopped, IsMarked, LeadsTo}
 use Rattle.transfer_loops.specs.Rounds.{round_next, round_lost, rounds_of}
@@ -166,15 +166,15 @@ flow-quiet g locked site op s here found quiet e =
     (ap Some (sym e), noted-nothing found (moved op s))
 
 -- the record of an access, by the value of the field
-pub record-reached : (frame : MethodContext) (kind : Touch) (locked : Bool) (site : SiteId) (base : Value)
+pub record-reached : (context : MethodContext) (kind : Touch) (locked : Bool) (site : SiteId) (base : Value)
     (f : FieldId) →
-    record_reached frame kind locked site (field_value base f) f ≡ record_of (given frame) kind locked site base f
-record-reached frame kind locked site base f =
-    let program = core frame.program.now in
+    record_reached context kind locked site (field_value base f) f ≡ record_of (given context) kind locked site base f
+record-reached context kind locked site base f =
+    let program = core context.program.now in
     ap (λ (o : Option Path). cond (field_at program f).recorded (elim o as (λ _. List Access) [
       | None ↦ []
-      | Some p ↦ record { path = p; kind = kind; locked = locked; main = frame.main; site = site; below = None } ∷ []
-    ]) []) (sym (touched-reached program (table_of frame.callees.now) frame.main base f))
+      | Some p ↦ record { path = p; kind = kind; locked = locked; main = context.main; site = site; below = None } ∷ []
+    ]) []) (sym (touched-reached program (table_of context.callees.now) context.main base f))
 
 below : (xs : List Value) → slice_index_or (drop 1 xs) 0 Unnamed ≡ slice_index_or xs 1 Unnamed
 below [] = refl

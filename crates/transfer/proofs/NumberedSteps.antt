@@ -35,7 +35,7 @@ use Rattle.transfer.specs.declared.found.Found.{Found}
 use Rattle.transfer.specs.declared.found.Stop.{Stop}
 use Rattle.transfer.specs.declared.numbered_found.NumberedFound.{NumberedFound}
 use Rattle.transfer.specs.declared.operations.MethodContext.{MethodContext}
-use Rattle.transfer.specs.Frames.{given, record_reached}
+use Rattle.transfer.specs.Contexts.{given, record_reached}
 use Rattle.transfer.specs.Marks.{marks, IsMarked, IsNoted, IsStopped}
 use Rattle.transfer.specs.Numbered.{read_found, AreFoundNumbers, IsFlowOf}
 use Rattle.access_domain.specs.Flow.{joined_next, lost_next}
@@ -119,50 +119,50 @@ pub by_not : (b : Bool) → not b ≡ false → b ≡ true
 by_not true e = refl
 by_not false e = cc
 
-module _ (frame : MethodContext) (kind : Touch) (locked : Bool) (site : SiteId) (f : FieldId) where
+module _ (context : MethodContext) (kind : Touch) (locked : Bool) (site : SiteId) (f : FieldId) where
   abbrev pub records_at : Bool → Option Path → List Access
   records_at recorded reached = cond recorded (elim reached as (λ _. List Access) [
     | None ↦ []
-    | Some p ↦ record { path = p; kind = kind; locked = locked; main = frame.main; site = site; below = None } ∷ []
+    | Some p ↦ record { path = p; kind = kind; locked = locked; main = context.main; site = site; below = None } ∷ []
   ]) []
 
   none_in : (recorded : Bool) → records_at recorded None ≡ []
   none_in true = refl
   none_in false = refl
 
-  pub not-recorded : (v : Value) → (field_at (core frame.program.now) f).recorded ≡ false →
-      record_reached frame kind locked site v f ≡ []
-  not-recorded v e = ap (λ (b : Bool). records_at b (reached_path (core frame.program.now) v f)) e
+  pub not-recorded : (v : Value) → (field_at (core context.program.now) f).recorded ≡ false →
+      record_reached context kind locked site v f ≡ []
+  not-recorded v e = ap (λ (b : Bool). records_at b (reached_path (core context.program.now) v f)) e
 
-  pub not-reached : (v : Value) → reached_path (core frame.program.now) v f ≡ None →
-      record_reached frame kind locked site v f ≡ []
+  pub not-reached : (v : Value) → reached_path (core context.program.now) v f ≡ None →
+      record_reached context kind locked site v f ≡ []
   not-reached v e =
-      let recorded = (field_at (core frame.program.now) f).recorded in
+      let recorded = (field_at (core context.program.now) f).recorded in
       ap (records_at recorded) e ∙ none_in recorded
 
   abbrev pub access_of : ℕ → NumberedAccess
-  access_of n = record { path = n; kind = kind; locked = locked; main = frame.main; site = site; below = None }
+  access_of n = record { path = n; kind = kind; locked = locked; main = context.main; site = site; below = None }
 
-  pub reached-at : (table : List Path) (v : Value) (n : ℕ) → (field_at (core frame.program.now) f).recorded ≡ true →
-      reached_path (core frame.program.now) v f ≡ Some (path_at table n) →
-      record_reached frame kind locked site v f ≡ read_access table (access_of n) ∷ []
+  pub reached-at : (table : List Path) (v : Value) (n : ℕ) → (field_at (core context.program.now) f).recorded ≡ true →
+      reached_path (core context.program.now) v f ≡ Some (path_at table n) →
+      record_reached context kind locked site v f ≡ read_access table (access_of n) ∷ []
   reached-at table v n recorded reached = λ i. records_at (recorded i) (reached i)
 
   -- the record of an access, by the value of the field that was read from another one
   module _ (t0 t1 : List Path) (on : GoesOn t0 t1) (found : NumberedFound) (numbers : AreFoundNumbers t0 found)
       (field : NumberedValue) (base : Value) (reads : read_value t1 field ≡ field_value base f) where
-    pub same_records : record_reached frame kind locked site (read_value t1 field) f ≡
-        record_of (given frame) kind locked site base f
+    pub same_records : record_reached context kind locked site (read_value t1 field) f ≡
+        record_of (given context) kind locked site base f
     same_records =
-        ap (λ (v : Value). record_reached frame kind locked site v f) reads
-        ∙ record-reached frame kind locked site base f
+        ap (λ (v : Value). record_reached context kind locked site v f) reads
+        ∙ record-reached context kind locked site base f
 
     pub access-marked : {X : Type 0} (later : Found) (r : Result X Stop) →
         IsMarked (read_found t1 found)
-        (marks (record_reached frame kind locked site (read_value t1 field) f) []) later r →
-        IsMarked (read_found t0 found) (marks (record_of (given frame) kind locked site base f) []) later r
+        (marks (record_reached context kind locked site (read_value t1 field) f) []) later r →
+        IsMarked (read_found t0 found) (marks (record_of (given context) kind locked site base f) []) later r
     access-marked later r m =
-        marked-longer t0 t1 on found (marks (record_of (given frame) kind locked site base f) []) later r numbers
+        marked-longer t0 t1 on found (marks (record_of (given context) kind locked site base f) []) later r numbers
         (subst (λ (records : List Access). IsMarked (read_found t1 found) (marks records []) later r) same_records m)
 
 -- ---- reads
@@ -177,10 +177,10 @@ pub plain-in : (table : List Path) (plain : Bool) (v : NumberedValue) → IsInRa
 plain-in table true v low = tt
 plain-in table false v low = low
 
-module _ (frame : MethodContext) (f : FieldId) (t0 t1 t2 : List Path) (on1 : GoesOn t0 t1) (on2 : GoesOn t1 t2)
+module _ (context : MethodContext) (f : FieldId) (t0 t1 t2 : List Path) (on1 : GoesOn t0 t1) (on2 : GoesOn t1 t2)
     (here : NumberedState) (low : AreInRange t0 here) (field : NumberedValue) (field_low : IsInRange t1 field)
     (reads : read_value t1 field ≡ field_value (top (read_state t0 here)) f)
-    (plain : Bool) (is_plain : plain ≡ (given frame).is_plain_field f)
+    (plain : Bool) (is_plain : plain ≡ (given context).is_plain_field f)
     (new : NumberedState) (is : new ≡ pushed_number (popped_numbers here 1) (cond plain Unnamed field)) where
   rest_low : AreInRange t0 (popped_numbers here 1)
   rest_low = popped-in t0 here 1 low
@@ -189,7 +189,7 @@ module _ (frame : MethodContext) (f : FieldId) (t0 t1 t2 : List Path) (on1 : Goe
   on = goes_on-trans t0 t1 t2 on1 on2
 
   pub get-state : read_state t2 new ≡
-      replaced (read_state t0 here) 1 (value_read (given frame) (top (read_state t0 here)) f)
+      replaced (read_state t0 here) 1 (value_read (given context) (top (read_state t0 here)) f)
   get-state =
       ap (read_state t2) is
       ∙ (λ i. pushed (state-longer t0 t2 on (popped_numbers here 1) rest_low i) (plain-read t2 plain field i))
@@ -315,7 +315,7 @@ lost-left false s t = refl
 
 -- ---- a store, whole
 
-module _ (frame : MethodContext) (locked : Bool) (site : SiteId) (f : FieldId) (t0 t1 : List Path)
+module _ (context : MethodContext) (locked : Bool) (site : SiteId) (f : FieldId) (t0 t1 : List Path)
     (on1 : GoesOn t0 t1) (here : NumberedState) (found : NumberedFound) (is : IsFlowOf t0 here found)
     (field : NumberedValue)
     (reads : read_value t1 field ≡ field_value (top (read_state t0 (popped_numbers here 1))) f) where
@@ -323,26 +323,26 @@ module _ (frame : MethodContext) (locked : Bool) (site : SiteId) (f : FieldId) (
   base = slot_of (read_state t0 here) 1
 
   abbrev records : List Access
-  records = record_of (given frame) Write locked site base f
+  records = record_of (given context) Write locked site base f
 
   base_reads : read_value t1 field ≡ field_value base f
   base_reads = put-base t0 t1 here f field reads
 
   pub store-stopped : (last : Found) (stop : Stop) →
-      IsStopped (read_found t1 found) (marks (record_reached frame Write locked site (read_value t1 field) f) []) stop →
-      IsStopped (read_found t0 found) (op_effects (given frame) locked site (Put f) (read_state t0 here)) stop
+      IsStopped (read_found t1 found) (marks (record_reached context Write locked site (read_value t1 field) f) []) stop →
+      IsStopped (read_found t0 found) (op_effects (given context) locked site (Put f) (read_state t0 here)) stop
   store-stopped last stop m =
       stopped-records (read_found t0 found) records records (stored_paths base f (top (read_state t0 here))) stop refl
-      (access-marked frame Write locked site f t0 t1 on1 found is.noted field base base_reads {X = Unit {0}} last
+      (access-marked context Write locked site f t0 t1 on1 found is.noted field base base_reads {X = Unit {0}} last
       (Err stop) m)
 
   module _ (t2 : List Path) (on2 : GoesOn t1 t2) (v : NumberedValue) (is_top : v ≡ top_number here)
       (field_low : IsInRange t1 field) (later : NumberedFound)
       (noted : IsNoted (read_found t1 found)
-      (marks (record_reached frame Write locked site (read_value t1 field) f) []) (read_found t2 later)) where
+      (marks (record_reached context Write locked site (read_value t1 field) f) []) (read_found t2 later)) where
     first : IsNoted (read_found t0 found) (marks records []) (read_found t2 later)
     first =
-        access-marked frame Write locked site f t0 t1 on1 found is.noted field base base_reads {X = Unit {0}}
+        access-marked context Write locked site f t0 t1 on1 found is.noted field base base_reads {X = Unit {0}}
         (read_found t2 later) (Ok (tt {0})) noted
 
     abbrev names : List Path
@@ -352,7 +352,7 @@ module _ (frame : MethodContext) (locked : Bool) (site : SiteId) (f : FieldId) (
     paths = put-names t0 t1 t2 on1 on2 here is.state f field field_low base_reads v is_top
 
     pub names-stopped : (stop : Stop) → IsStopped (read_found t2 later) (marks [] names) stop →
-        IsStopped (read_found t0 found) (op_effects (given frame) locked site (Put f) (read_state t0 here)) stop
+        IsStopped (read_found t0 found) (op_effects (given context) locked site (Put f) (read_state t0 here)) stop
     names-stopped stop k =
         stopped-paths (read_found t0 found) (read_found t2 later) records records names
         (stored_paths base f (top (read_state t0 here))) stop refl
@@ -360,7 +360,7 @@ module _ (frame : MethodContext) (locked : Bool) (site : SiteId) (f : FieldId) (
 
     pub store-flows : (new : NumberedState) → new ≡ pushed_number (popped_numbers (popped_numbers here 1) 1) v →
         (last : Found) → IsNoted (read_found t2 later) (marks [] names) last →
-        IsFlow (op_effects (given frame) locked site (Put f) (read_state t0 here)) (read_state t2 new)
+        IsFlow (op_effects (given context) locked site (Put f) (read_state t0 here)) (read_state t2 new)
         (read_found t0 found) last (Ok true)
     store-flows new made last k = (
       ap Some (sym (put-state t0 t1 t2 on1 on2 here is.state v is_top new made)),
@@ -395,28 +395,28 @@ same-field (Err e) table v w is same = tt
 
 -- ---- the number of an access
 
-module _ (frame : MethodContext) (kind : Touch) (locked : Bool) (site : SiteId) (f : FieldId) (t0 t1 : List Path)
+module _ (context : MethodContext) (kind : Touch) (locked : Bool) (site : SiteId) (f : FieldId) (t0 t1 : List Path)
     (on : GoesOn t0 t1) (found : NumberedFound) (numbers : AreFoundNumbers t0 found) (v : Value) where
-  pub none-noted : reached_path (core frame.program.now) v f ≡ None →
-      IsNoted (read_found t0 found) (marks (record_reached frame kind locked site v f) []) (read_found t1 found)
+  pub none-noted : reached_path (core context.program.now) v f ≡ None →
+      IsNoted (read_found t0 found) (marks (record_reached context kind locked site v f) []) (read_found t1 found)
   none-noted none =
       subst (λ (records : List Access). IsNoted (read_found t0 found) (marks records []) (read_found t1 found))
-      (sym (not-reached frame kind locked site f v none)) (
+      (sym (not-reached context kind locked site f v none)) (
         found-longer t0 t1 on found numbers
             ∙ (noted-nothing (read_found t0 found) (record { vars = []; stack = [] })).0,
         refl,
       )
 
   pub access-noted : {X : Type 0} (n : ℕ) (later : Found) (r : Result X Stop) →
-      (field_at (core frame.program.now) f).recorded ≡ true →
-      reached_path (core frame.program.now) v f ≡ Some (path_at t1 n) →
+      (field_at (core context.program.now) f).recorded ≡ true →
+      reached_path (core context.program.now) v f ≡ Some (path_at t1 n) →
       IsMarked (read_found t1 found)
-      (marks (read_access t1 (access_of frame kind locked site f n) ∷ []) []) later r →
-      IsMarked (read_found t0 found) (marks (record_reached frame kind locked site v f) []) later r
+      (marks (read_access t1 (access_of context kind locked site f n) ∷ []) []) later r →
+      IsMarked (read_found t0 found) (marks (record_reached context kind locked site v f) []) later r
   access-noted n later r recorded reached m =
-      marked-longer t0 t1 on found (marks (record_reached frame kind locked site v f) []) later r numbers
+      marked-longer t0 t1 on found (marks (record_reached context kind locked site v f) []) later r numbers
       (subst (λ (records : List Access). IsMarked (read_found t1 found) (marks records []) later r)
-      (sym (reached-at frame kind locked site f t1 v n recorded reached)) m)
+      (sym (reached-at context kind locked site f t1 v n recorded reached)) m)
 
 pub at-table : {X E : Type 0} (r : Result X E) (table : List Path) (old new : NumberedFound) (n : ℕ) →
     OnOk r ((t : List Path) → IsTable t → AreFoundNumbers t old → n < length t → AreFoundNumbers t new) →

@@ -1,7 +1,7 @@
 -- A contract of a public call rests on this: the list of files.
 pub mod Known
 pub mod Marks
-pub mod Frames
+pub mod Contexts
 pub mod NotedCalls
 pub mod Walks
 pub mod Callees

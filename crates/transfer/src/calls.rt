@@ -10,7 +10,7 @@ ghost use Rattle.access_domain.specs.Operations.{op_effects, passed_from, replac
 ghost use Rattle.access_domain.specs.Substitution.{actuals_from, substituted_value};
 ghost use Rattle.call_subst.specs.Calls.{records_at, paths_at, substituted_at, name_at};
 ghost use Rattle.call_subst.specs.Numbered.{read_values};
-ghost use Rattle.transfer.specs.Frames.{given};
+ghost use Rattle.transfer.specs.Contexts.{given};
 ghost use Rattle.transfer.specs.Known.{findings_in, callee_outcome};
 ghost use Rattle.transfer.specs.Marks.{IsMarked, marks};
 ghost use Rattle.transfer.specs.NotedCalls.{AreFound};
@@ -58,42 +58,42 @@ fn callee_outcome<'a>(callees: &'a [Callee], method: MethodId) -> Option<&'a Out
 /// Calls a method with so many values.
 pub fn call(
     alloc: Global,
-    frame: &MethodContext,
+    context: &MethodContext,
     locked: bool,
     site: SiteId,
     method: MethodId,
     count: u32,
-    here: &mut FlowState,
+    state: &mut FlowState,
     table: &mut PathTable,
     calls: &mut IndexSet<NotedCall>,
     found: &mut NumberedFound,
 ) -> Result<bool, Stop>
-    requires numbers { IsFlowOf table.old here.old found.old }
+    requires numbers { IsFlowOf table.old state.old found.old }
     requires called { AreCallNumbers table.old calls.old.keys }
-    requires calls { AreFound (given frame.now) (read_calls table.old calls.old.keys) (read_found table.old
+    requires calls { AreFound (given context.now) (read_calls table.old calls.old.keys) (read_found table.old
         found.old) }
-    ensures flow { IsFlow (op_effects (given frame.now) locked site (CallOf method count) (read_state table.old
-        here.old)) (read_state table.new here.new)
+    ensures flow { IsFlow (op_effects (given context.now) locked site (CallOf method count) (read_state table.old
+        state.old)) (read_state table.new state.new)
         (read_found table.old found.old) (read_found table.new found.new) result }
-    ensures numbers { OnOk result (IsFlowOf table.new here.new found.new) }
+    ensures numbers { OnOk result (IsFlowOf table.new state.new found.new) }
     ensures called { OnOk result (AreCallNumbers table.new calls.new.keys) }
-    ensures calls { OnOk result (AreFound (given frame.now) (read_calls table.new calls.new.keys)
+    ensures calls { OnOk result (AreFound (given context.now) (read_calls table.new calls.new.keys)
         (read_found table.new found.new)) }
     ensures table { OnOk result (GoesOn table.old table.new) }
 {
-    match callee_outcome(frame.callees, method) {
+    match callee_outcome(context.callees, method) {
         None => {
-            let Ok(()) = here.replace(count, NumberedValue::Unnamed) else {
+            let Ok(()) = state.replace(count, NumberedValue::Unnamed) else {
                 return Err(Stop::Memory);
             };
             Ok(true)
         }
         Some(Outcome::Large) => Err(Stop::Large),
         Some(Outcome::Summary(summary)) => {
-            let Ok(made) = pass(alloc, frame, locked, method, count, summary, here, table) else {
+            let Ok(made) = pass(alloc, context, locked, method, count, summary, state, table) else {
                 return Err(Stop::Memory);
             };
-            match note_call(alloc, frame, made, site, summary, table, calls, found) {
+            match note_call(alloc, context, made, site, summary, table, calls, found) {
                 Ok(()) => Ok(true),
                 Err(stop) => Err(stop),
             }
@@ -104,39 +104,39 @@ pub fn call(
 /// Takes the values that a call passes, and pushes what it returns.
 fn pass(
     alloc: Global,
-    frame: &MethodContext,
+    context: &MethodContext,
     locked: bool,
     method: MethodId,
     count: u32,
     summary: &Summary,
-    here: &mut FlowState,
+    state: &mut FlowState,
     table: &mut PathTable,
 ) -> Result<NotedCall, Memory>
-    requires numbers { AreInRange table.old here.old }
+    requires numbers { AreInRange table.old state.old }
     requires once { IsTable table.old }
     ensures call { IfOk result (λ made. made ≡ record {
       callee = method;
       locked = locked;
-      actuals = passed_numbers here.old count;
+      actuals = passed_numbers state.old count;
     }) }
-    ensures next { OnOk result (read_state table.new here.new ≡
-        replaced (read_state table.old here.old) count (substituted_value
-        (actuals_from ((given frame.now).is_static method) (passed_from (read_state table.old here.old) count))
+    ensures next { OnOk result (read_state table.new state.new ≡
+        replaced (read_state table.old state.old) count (substituted_value
+        (actuals_from ((given context.now).is_static method) (passed_from (read_state table.old state.old) count))
         summary.now.result)) }
-    ensures numbers { OnOk result (AreInRange table.new here.new) }
+    ensures numbers { OnOk result (AreInRange table.new state.new) }
     ensures once { OnOk result (IsTable table.new) }
     ensures table { OnOk result (GoesOn table.old table.new) }
 {
-    let actuals = here.take(count)?;
+    let actuals = state.take(count)?;
     let value = value_returned(
         alloc,
-        frame,
+        context,
         method,
         actuals.as_slice(),
         &summary.result,
         table,
     )?;
-    here.push(value)?;
+    state.push(value)?;
     Ok(NotedCall {
         callee: method,
         locked,
@@ -147,7 +147,7 @@ fn pass(
 /// A result of a method that is called with these values, in its caller.
 fn value_returned(
     alloc: Global,
-    frame: &MethodContext,
+    context: &MethodContext,
     method: MethodId,
     actuals: &[NumberedValue],
     value: &Value,
@@ -156,7 +156,7 @@ fn value_returned(
     requires actuals { AllInRange table.old actuals.now }
     requires once { IsTable table.old }
     ensures value { IfOk result (λ made. read_value table.new made ≡ substituted_value
-        (actuals_from ((given frame.now).is_static method) (read_values table.old actuals.now)) value.now) }
+        (actuals_from ((given context.now).is_static method) (read_values table.old actuals.now)) value.now) }
     ensures range { IfOk result (λ made. IsInRange table.new made) }
     ensures once { OnOk result (IsTable table.new) }
     ensures table { OnOk result (GoesOn table.old table.new) }
@@ -166,7 +166,7 @@ fn value_returned(
         Value::Unnamed => Ok(NumberedValue::Unnamed),
         Value::Named(_) => {
             let values = values_of(alloc, table, actuals)?;
-            let value = substitute_value(alloc, frame.program, method, values.as_slice(), value)?;
+            let value = substitute_value(alloc, context.program, method, values.as_slice(), value)?;
             number_value(table, value)
         }
     }
@@ -175,7 +175,7 @@ fn value_returned(
 /// Notes what a call of a method with this summary finds, unless one like it was noted before.
 fn note_call(
     alloc: Global,
-    frame: &MethodContext,
+    context: &MethodContext,
     made: NotedCall,
     site: SiteId,
     summary: &Summary,
@@ -183,19 +183,19 @@ fn note_call(
     calls: &mut IndexSet<NotedCall>,
     found: &mut NumberedFound,
 ) -> Result<(), Stop>
-    requires known { (given frame.now).known_of made.callee ≡ Some (Whole (findings_in summary.now)) }
+    requires known { (given context.now).known_of made.callee ≡ Some (Whole (findings_in summary.now)) }
     requires actuals { AllInRange table.old made.actuals }
     requires once { IsTable table.old }
     requires numbers { AreFoundNumbers table.old found.old }
     requires called { AreCallNumbers table.old calls.old.keys }
-    requires calls { AreFound (given frame.now) (read_calls table.old calls.old.keys) (read_found table.old
+    requires calls { AreFound (given context.now) (read_calls table.old calls.old.keys) (read_found table.old
         found.old) }
-    ensures found { IsMarked (read_found table.old found.old) (call_marks (given frame.now) (read_call table.old
+    ensures found { IsMarked (read_found table.old found.old) (call_marks (given context.now) (read_call table.old
         made) (findings_in summary.now) site)
         (read_found table.new found.new) result }
     ensures numbers { OnOk result (AreFoundNumbers table.new found.new) }
     ensures called { OnOk result (AreCallNumbers table.new calls.new.keys) }
-    ensures calls { OnOk result (AreFound (given frame.now) (read_calls table.new calls.new.keys)
+    ensures calls { OnOk result (AreFound (given context.now) (read_calls table.new calls.new.keys)
         (read_found table.new found.new)) }
     ensures once { OnOk result (IsTable table.new) }
     ensures table { OnOk result (GoesOn table.old table.new) }
@@ -203,7 +203,7 @@ fn note_call(
     if calls.contains(&made) {
         return Ok(());
     }
-    match note_callee(alloc, frame, &made, site, summary, table, found) {
+    match note_callee(alloc, context, &made, site, summary, table, found) {
         Ok(()) => {}
         Err(stop) => return Err(stop),
     }
@@ -216,7 +216,7 @@ fn note_call(
 /// Notes the records and the wobbly paths of a callee, in the caller's values.
 fn note_callee(
     alloc: Global,
-    frame: &MethodContext,
+    context: &MethodContext,
     made: &NotedCall,
     site: SiteId,
     summary: &Summary,
@@ -226,7 +226,7 @@ fn note_callee(
     requires actuals { AllInRange table.old made.now.actuals }
     requires once { IsTable table.old }
     requires numbers { AreFoundNumbers table.old found.old }
-    ensures found { IsMarked (read_found table.old found.old) (call_marks (given frame.now) (read_call table.old
+    ensures found { IsMarked (read_found table.old found.old) (call_marks (given context.now) (read_call table.old
         made.now) (findings_in summary.now) site)
         (read_found table.new found.new) result }
     ensures numbers { OnOk result (AreFoundNumbers table.new found.new) }
@@ -237,11 +237,11 @@ fn note_callee(
         return Err(Stop::Memory);
     };
     let call = Call {
-        program: frame.program,
-        is_static: is_static(frame.program, made.callee),
+        program: context.program,
+        is_static: is_static(context.program, made.callee),
         actuals: actuals.as_slice(),
         locked: made.locked,
-        main: frame.main,
+        main: context.main,
         site,
     };
     let Ok(paths) = summary.wobbly.paths(alloc) else {
@@ -361,35 +361,35 @@ fn note_name(
 /// Takes the values that a call passes, and pushes what it returns.
 pub fn move_call(
     alloc: Global,
-    frame: &MethodContext,
+    context: &MethodContext,
     method: MethodId,
     count: u32,
-    here: &mut FlowState,
+    state: &mut FlowState,
     table: &mut PathTable,
 ) -> Result<(), Memory>
-    requires numbers { AreInRange table.old here.old }
+    requires numbers { AreInRange table.old state.old }
     requires once { IsTable table.old }
     ensures next { OnOk result ((locked : Bool) (site : Site) →
-        (op_effects (given frame.now) locked site (CallOf method count) (read_state table.old here.old)).next ≡
-        Some (read_state table.new here.new)) }
-    ensures numbers { OnOk result (AreInRange table.new here.new) }
+        (op_effects (given context.now) locked site (CallOf method count) (read_state table.old state.old)).next ≡
+        Some (read_state table.new state.new)) }
+    ensures numbers { OnOk result (AreInRange table.new state.new) }
     ensures once { OnOk result (IsTable table.new) }
     ensures table { OnOk result (GoesOn table.old table.new) }
 {
-    match callee_outcome(frame.callees, method) {
-        None => here.replace(count, NumberedValue::Unnamed),
-        Some(Outcome::Large) => here.replace(count, NumberedValue::Unnamed),
+    match callee_outcome(context.callees, method) {
+        None => state.replace(count, NumberedValue::Unnamed),
+        Some(Outcome::Large) => state.replace(count, NumberedValue::Unnamed),
         Some(Outcome::Summary(summary)) => {
-            let actuals = here.take(count)?;
+            let actuals = state.take(count)?;
             let value = value_returned(
                 alloc,
-                frame,
+                context,
                 method,
                 actuals.as_slice(),
                 &summary.result,
                 table,
             )?;
-            here.push(value)
+            state.push(value)
         }
     }
 }

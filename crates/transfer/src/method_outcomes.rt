@@ -167,7 +167,7 @@ pub fn outcome(
     ensures { IfOk result (λ found.
         found ≡ outcome_from (known_given (core program.now) (table_of callees.now) (method_of method.now))) }
 {
-    let frame = MethodContext {
+    let context = MethodContext {
         program,
         main: method.main,
         callees,
@@ -176,19 +176,19 @@ pub fn outcome(
     let Ok(values) = start(alloc, method, &mut table) else {
         return Err(Memory);
     };
-    let mut here = FlowState::new(alloc, values);
+    let mut state = FlowState::new(alloc, values);
     let mut found = NumberedFound::nothing(alloc);
     let mut calls = IndexSet::new(alloc);
     let walked = walk_code(
         alloc,
-        &frame,
+        &context,
         false,
         &method.code,
-        &mut here,
+        &mut state,
         &mut table,
         &mut calls,
         &mut found,
     );
-    mem::drop(here);
+    mem::drop(state);
     outcome_found(alloc, walked, &table, found)
 }

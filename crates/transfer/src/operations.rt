@@ -10,7 +10,7 @@ ghost use Rattle.core_code.specs.declared.code.Op.TheVariants.{Get, Put};
 ghost use Rattle.core_code.specs.Program.{core};
 ghost use Rattle.access_domain.specs.Operations.{op_effects, popped, top};
 ghost use Rattle.access_domain.specs.Reached.{reached_path};
-ghost use Rattle.transfer.specs.Frames.{given, record_reached};
+ghost use Rattle.transfer.specs.Contexts.{given, record_reached};
 ghost use Rattle.transfer.specs.Marks.{IsMarked, marks, returns_of};
 ghost use Rattle.transfer.specs.NotedCalls.{AreFound};
 ghost use Rattle.transfer.specs.Numbered.{read_found, read_calls, AreFoundNumbers, AreCallNumbers, IsBelow, IsFlowOf};
@@ -52,29 +52,34 @@ fn is_quiet(op: Op) -> bool
 }
 
 /// Does an operation that finds nothing and goes on.
-fn move_on(alloc: Global, op: Op, here: &mut FlowState, table: &mut PathTable) -> Result<(), Memory>
-    requires numbers { AreInRange table.old here.old }
+fn move_on(
+    alloc: Global,
+    op: Op,
+    state: &mut FlowState,
+    table: &mut PathTable,
+) -> Result<(), Memory>
+    requires numbers { AreInRange table.old state.old }
     requires once { IsTable table.old }
-    ensures next { OnOk result (read_state table.new here.new ≡ moved op (read_state table.old here.old)) }
-    ensures numbers { OnOk result (AreInRange table.new here.new) }
+    ensures next { OnOk result (read_state table.new state.new ≡ moved op (read_state table.old state.old)) }
+    ensures numbers { OnOk result (AreInRange table.new state.new) }
     ensures once { OnOk result (IsTable table.new) }
     ensures table { OnOk result (GoesOn table.old table.new) }
 {
     match op {
-        Op::Push(variable) => here.push_variable(variable),
+        Op::Push(variable) => state.push_variable(variable),
         Op::PushClass(class) => {
             let number = table.number_of(Path::alone(alloc, Root::Class(class)))?;
-            here.push(NumberedValue::Named(number))
+            state.push(NumberedValue::Named(number))
         }
-        Op::PushPrim => here.push(NumberedValue::Unnamed),
-        Op::PushNull | Op::New(_) => here.push(NumberedValue::Owned),
-        Op::Dup => here.push_top(),
+        Op::PushPrim => state.push(NumberedValue::Unnamed),
+        Op::PushNull | Op::New(_) => state.push(NumberedValue::Owned),
+        Op::Dup => state.push_top(),
         Op::Drop => {
-            mem::drop(here.pop());
+            mem::drop(state.pop());
             Ok(())
         }
         Op::Prim(count) | Op::Outside(count) | Op::Unread(_, count) => {
-            here.replace(count, NumberedValue::Unnamed)
+            state.replace(count, NumberedValue::Unnamed)
         }
         Op::Get(_) | Op::Put(_) | Op::Set(_) | Op::Call(_, _) | Op::Ret => Ok(()),
     }
@@ -109,7 +114,7 @@ fn number_reached(
 /// Notes the access of a field that has this value.
 fn note_access(
     alloc: Global,
-    frame: &MethodContext,
+    context: &MethodContext,
     kind: Touch,
     locked: bool,
     site: SiteId,
@@ -121,17 +126,17 @@ fn note_access(
     requires value { IsInRange table.old value }
     requires once { IsTable table.old }
     requires numbers { AreFoundNumbers table.old found.old }
-    ensures found { IsMarked (read_found table.old found.old) (marks (record_reached frame.now kind locked site
+    ensures found { IsMarked (read_found table.old found.old) (marks (record_reached context.now kind locked site
         (read_value table.old value) f) [])
         (read_found table.new found.new) result }
     ensures numbers { OnOk result (AreFoundNumbers table.new found.new) }
     ensures once { OnOk result (IsTable table.new) }
     ensures table { OnOk result (GoesOn table.old table.new) }
 {
-    if !touched_field(frame.program, f).recorded {
+    if !touched_field(context.program, f).recorded {
         return Ok(());
     }
-    let Ok(reached) = number_reached(alloc, frame.program, value, f, table) else {
+    let Ok(reached) = number_reached(alloc, context.program, value, f, table) else {
         return Err(Stop::Memory);
     };
     let Some(path) = reached else {
@@ -141,7 +146,7 @@ fn note_access(
         path,
         kind,
         locked,
-        main: frame.main,
+        main: context.main,
         site,
         below: None,
     })
@@ -157,20 +162,20 @@ fn value_read(plain: bool, value: NumberedValue) -> NumberedValue
 /// Takes the top, and gives the value of its field.
 fn pop_field(
     alloc: Global,
-    here: &mut FlowState,
+    state: &mut FlowState,
     f: FieldId,
     table: &mut PathTable,
 ) -> Result<NumberedValue, Memory>
-    requires numbers { AreInRange table.old here.old }
+    requires numbers { AreInRange table.old state.old }
     requires once { IsTable table.old }
     ensures value { IfOk result (λ value. read_value table.new value ≡
-        field_value (top (read_state table.old here.old)) f) }
+        field_value (top (read_state table.old state.old)) f) }
     ensures range { IfOk result (λ value. IsInRange table.new value) }
-    ensures rest { here.new ≡ popped_numbers here.old 1 }
+    ensures rest { state.new ≡ popped_numbers state.old 1 }
     ensures once { OnOk result (IsTable table.new) }
     ensures table { OnOk result (GoesOn table.old table.new) }
 {
-    match here.pop() {
+    match state.pop() {
         NumberedValue::Named(number) => {
             let value = along_path(alloc, table.path_of(number), &[f])?;
             number_value(table, value)
@@ -182,27 +187,27 @@ fn pop_field(
 /// Reads a field of the top.
 fn get(
     alloc: Global,
-    frame: &MethodContext,
+    context: &MethodContext,
     locked: bool,
     site: SiteId,
     f: FieldId,
-    here: &mut FlowState,
+    state: &mut FlowState,
     table: &mut PathTable,
     found: &mut NumberedFound,
 ) -> Result<bool, Stop>
-    requires numbers { IsFlowOf table.old here.old found.old }
-    ensures flow { IsFlow (op_effects (given frame.now) locked site (Get f) (read_state table.old here.old))
-        (read_state table.new here.new)
+    requires numbers { IsFlowOf table.old state.old found.old }
+    ensures flow { IsFlow (op_effects (given context.now) locked site (Get f) (read_state table.old state.old))
+        (read_state table.new state.new)
         (read_found table.old found.old) (read_found table.new found.new) result }
-    ensures numbers { OnOk result (IsFlowOf table.new here.new found.new) }
+    ensures numbers { OnOk result (IsFlowOf table.new state.new found.new) }
     ensures table { OnOk result (GoesOn table.old table.new) }
 {
-    let Ok(value) = pop_field(alloc, here, f, table) else {
+    let Ok(value) = pop_field(alloc, state, f, table) else {
         return Err(Stop::Memory);
     };
     match note_access(
         alloc,
-        frame,
+        context,
         Touch::Read,
         locked,
         site,
@@ -214,8 +219,8 @@ fn get(
         Ok(()) => {}
         Err(stop) => return Err(stop),
     }
-    let plain = touched_field(frame.program, f).plain;
-    let Ok(()) = here.push(value_read(plain, value)) else {
+    let plain = touched_field(context.program, f).plain;
+    let Ok(()) = state.push(value_read(plain, value)) else {
         return Err(Stop::Memory);
     };
     Ok(true)
@@ -245,28 +250,28 @@ fn note_store(
 /// Stores the top in a field of the object below it, and leaves it on the stack.
 fn put(
     alloc: Global,
-    frame: &MethodContext,
+    context: &MethodContext,
     locked: bool,
     site: SiteId,
     f: FieldId,
-    here: &mut FlowState,
+    state: &mut FlowState,
     table: &mut PathTable,
     found: &mut NumberedFound,
 ) -> Result<bool, Stop>
-    requires numbers { IsFlowOf table.old here.old found.old }
-    ensures flow { IsFlow (op_effects (given frame.now) locked site (Put f) (read_state table.old here.old))
-        (read_state table.new here.new)
+    requires numbers { IsFlowOf table.old state.old found.old }
+    ensures flow { IsFlow (op_effects (given context.now) locked site (Put f) (read_state table.old state.old))
+        (read_state table.new state.new)
         (read_found table.old found.old) (read_found table.new found.new) result }
-    ensures numbers { OnOk result (IsFlowOf table.new here.new found.new) }
+    ensures numbers { OnOk result (IsFlowOf table.new state.new found.new) }
     ensures table { OnOk result (GoesOn table.old table.new) }
 {
-    let value = here.pop();
-    let Ok(field) = pop_field(alloc, here, f, table) else {
+    let value = state.pop();
+    let Ok(field) = pop_field(alloc, state, f, table) else {
         return Err(Stop::Memory);
     };
     match note_access(
         alloc,
-        frame,
+        context,
         Touch::Write,
         locked,
         site,
@@ -282,38 +287,38 @@ fn put(
         Ok(()) => {}
         Err(stop) => return Err(stop),
     }
-    let Ok(()) = here.push(value) else {
+    let Ok(()) = state.push(value) else {
         return Err(Stop::Memory);
     };
     Ok(true)
 }
 
 /// Stores the top in a variable, and leaves it on the stack.
-fn set(variable: VarId, here: &mut FlowState, found: &mut NumberedFound) -> Result<bool, Stop>
-    ensures flow { (table : List TablePath) → IsFlowOf table here.old found.old →
-        IsFlow (set_effects variable (read_state table here.old)) (read_state table here.new)
+fn set(variable: VarId, state: &mut FlowState, found: &mut NumberedFound) -> Result<bool, Stop>
+    ensures flow { (table : List TablePath) → IsFlowOf table state.old found.old →
+        IsFlow (set_effects variable (read_state table state.old)) (read_state table state.new)
         (read_found table found.old) (read_found table found.new) result }
-    ensures numbers { OnOk result ((table : List TablePath) → IsFlowOf table here.old found.old →
-        IsFlowOf table here.new found.new) }
+    ensures numbers { OnOk result ((table : List TablePath) → IsFlowOf table state.old found.old →
+        IsFlowOf table state.new found.new) }
 {
-    let value = here.top();
+    let value = state.top();
     match found.note_name(value) {
         Ok(()) => {}
         Err(stop) => return Err(stop),
     }
-    here.set(variable, value);
+    state.set(variable, value);
     Ok(true)
 }
 
 /// Returns the top.
-fn give_back(alloc: Global, here: &mut FlowState, found: &mut NumberedFound) -> Result<bool, Stop>
-    ensures flow { (table : List TablePath) → IsFlowOf table here.old found.old →
-        IsFlow (returns_of (top (read_state table here.old))) (read_state table here.new)
+fn give_back(alloc: Global, state: &mut FlowState, found: &mut NumberedFound) -> Result<bool, Stop>
+    ensures flow { (table : List TablePath) → IsFlowOf table state.old found.old →
+        IsFlow (returns_of (top (read_state table state.old))) (read_state table state.new)
         (read_found table found.old) (read_found table found.new) result }
-    ensures numbers { OnOk result ((table : List TablePath) → IsFlowOf table here.old found.old →
-        IsFlowOf table here.new found.new) }
+    ensures numbers { OnOk result ((table : List TablePath) → IsFlowOf table state.old found.old →
+        IsFlowOf table state.new found.new) }
 {
-    let value = here.pop();
+    let value = state.pop();
     match found.note_result(alloc, value) {
         Ok(()) => Ok(false),
         Err(stop) => Err(stop),
@@ -323,28 +328,28 @@ fn give_back(alloc: Global, here: &mut FlowState, found: &mut NumberedFound) -> 
 /// Does an operation that finds something, or returns.
 fn find_out(
     alloc: Global,
-    frame: &MethodContext,
+    context: &MethodContext,
     locked: bool,
     site: SiteId,
     op: Op,
-    here: &mut FlowState,
+    state: &mut FlowState,
     table: &mut PathTable,
     found: &mut NumberedFound,
 ) -> Result<bool, Stop>
     requires quiet { is_quiet op ≡ false }
     requires call { is_call op ≡ false }
-    requires numbers { IsFlowOf table.old here.old found.old }
-    ensures flow { IsFlow (op_effects (given frame.now) locked site op (read_state table.old here.old)) (read_state
-        table.new here.new)
+    requires numbers { IsFlowOf table.old state.old found.old }
+    ensures flow { IsFlow (op_effects (given context.now) locked site op (read_state table.old state.old)) (read_state
+        table.new state.new)
         (read_found table.old found.old) (read_found table.new found.new) result }
-    ensures numbers { OnOk result (IsFlowOf table.new here.new found.new) }
+    ensures numbers { OnOk result (IsFlowOf table.new state.new found.new) }
     ensures table { OnOk result (GoesOn table.old table.new) }
 {
     match op {
-        Op::Get(f) => get(alloc, frame, locked, site, f, here, table, found),
-        Op::Put(f) => put(alloc, frame, locked, site, f, here, table, found),
-        Op::Set(variable) => set(variable, here, found),
-        Op::Ret => give_back(alloc, here, found),
+        Op::Get(f) => get(alloc, context, locked, site, f, state, table, found),
+        Op::Put(f) => put(alloc, context, locked, site, f, state, table, found),
+        Op::Set(variable) => set(variable, state, found),
+        Op::Ret => give_back(alloc, state, found),
         _ => unreachable!(),
     }
 }
@@ -352,26 +357,26 @@ fn find_out(
 /// Does one operation that is no call; whether the code goes on behind it.
 fn step(
     alloc: Global,
-    frame: &MethodContext,
+    context: &MethodContext,
     locked: bool,
     site: SiteId,
     op: Op,
-    here: &mut FlowState,
+    state: &mut FlowState,
     table: &mut PathTable,
     found: &mut NumberedFound,
 ) -> Result<bool, Stop>
     requires call { is_call op ≡ false }
-    requires numbers { IsFlowOf table.old here.old found.old }
-    ensures flow { IsFlow (op_effects (given frame.now) locked site op (read_state table.old here.old)) (read_state
-        table.new here.new)
+    requires numbers { IsFlowOf table.old state.old found.old }
+    ensures flow { IsFlow (op_effects (given context.now) locked site op (read_state table.old state.old)) (read_state
+        table.new state.new)
         (read_found table.old found.old) (read_found table.new found.new) result }
-    ensures numbers { OnOk result (IsFlowOf table.new here.new found.new) }
+    ensures numbers { OnOk result (IsFlowOf table.new state.new found.new) }
     ensures table { OnOk result (GoesOn table.old table.new) }
 {
     if !is_quiet(op) {
-        return find_out(alloc, frame, locked, site, op, here, table, found);
+        return find_out(alloc, context, locked, site, op, state, table, found);
     }
-    let Ok(()) = move_on(alloc, op, here, table) else {
+    let Ok(()) = move_on(alloc, op, state, table) else {
         return Err(Stop::Memory);
     };
     Ok(true)
@@ -380,80 +385,80 @@ fn step(
 /// Does one operation; whether the code goes on behind it.
 pub fn operate(
     alloc: Global,
-    frame: &MethodContext,
+    context: &MethodContext,
     locked: bool,
     site: SiteId,
     op: Op,
-    here: &mut FlowState,
+    state: &mut FlowState,
     table: &mut PathTable,
     calls: &mut IndexSet<NotedCall>,
     found: &mut NumberedFound,
 ) -> Result<bool, Stop>
-    requires numbers { IsFlowOf table.old here.old found.old }
+    requires numbers { IsFlowOf table.old state.old found.old }
     requires called { AreCallNumbers table.old calls.old.keys }
-    requires calls { AreFound (given frame.now) (read_calls table.old calls.old.keys) (read_found table.old
+    requires calls { AreFound (given context.now) (read_calls table.old calls.old.keys) (read_found table.old
         found.old) }
-    ensures flow { IsFlow (op_effects (given frame.now) locked site op (read_state table.old here.old)) (read_state
-        table.new here.new)
+    ensures flow { IsFlow (op_effects (given context.now) locked site op (read_state table.old state.old)) (read_state
+        table.new state.new)
         (read_found table.old found.old) (read_found table.new found.new) result }
-    ensures numbers { OnOk result (IsFlowOf table.new here.new found.new) }
+    ensures numbers { OnOk result (IsFlowOf table.new state.new found.new) }
     ensures called { OnOk result (AreCallNumbers table.new calls.new.keys) }
-    ensures calls { OnOk result (AreFound (given frame.now) (read_calls table.new calls.new.keys)
+    ensures calls { OnOk result (AreFound (given context.now) (read_calls table.new calls.new.keys)
         (read_found table.new found.new)) }
     ensures table { OnOk result (GoesOn table.old table.new) }
 {
     match op {
         Op::Call(method, count) => {
             call(
-                alloc, frame, locked, site, method, count, here, table, calls, found,
+                alloc, context, locked, site, method, count, state, table, calls, found,
             )
         }
-        _ => step(alloc, frame, locked, site, op, here, table, found),
+        _ => step(alloc, context, locked, site, op, state, table, found),
     }
 }
 
 /// Does one operation for the state behind it alone; whether the code goes on behind it.
 pub fn move_any(
     alloc: Global,
-    frame: &MethodContext,
+    context: &MethodContext,
     op: Op,
-    here: &mut FlowState,
+    state: &mut FlowState,
     table: &mut PathTable,
 ) -> Result<bool, Memory>
-    requires numbers { AreInRange table.old here.old }
+    requires numbers { AreInRange table.old state.old }
     requires once { IsTable table.old }
     ensures next { IfOk result (λ goes_on. (locked : Bool) (site : Site) →
-        (op_effects (given frame.now) locked site op (read_state table.old here.old)).next ≡
-        next_of goes_on (read_state table.new here.new)) }
-    ensures numbers { OnOk result (AreInRange table.new here.new) }
+        (op_effects (given context.now) locked site op (read_state table.old state.old)).next ≡
+        next_of goes_on (read_state table.new state.new)) }
+    ensures numbers { OnOk result (AreInRange table.new state.new) }
     ensures once { OnOk result (IsTable table.new) }
     ensures table { OnOk result (GoesOn table.old table.new) }
 {
     match op {
         Op::Get(f) => {
-            let value = pop_field(alloc, here, f, table)?;
-            let plain = touched_field(frame.program, f).plain;
-            here.push(value_read(plain, value))?;
+            let value = pop_field(alloc, state, f, table)?;
+            let plain = touched_field(context.program, f).plain;
+            state.push(value_read(plain, value))?;
             Ok(true)
         }
         Op::Put(_) => {
-            let value = here.pop();
-            mem::drop(here.pop());
-            here.push(value)?;
+            let value = state.pop();
+            mem::drop(state.pop());
+            state.push(value)?;
             Ok(true)
         }
         Op::Set(variable) => {
-            let value = here.top();
-            here.set(variable, value);
+            let value = state.top();
+            state.set(variable, value);
             Ok(true)
         }
         Op::Call(method, count) => {
-            move_call(alloc, frame, method, count, here, table)?;
+            move_call(alloc, context, method, count, state, table)?;
             Ok(true)
         }
         Op::Ret => Ok(false),
         _ => {
-            move_on(alloc, op, here, table)?;
+            move_on(alloc, op, state, table)?;
             Ok(true)
         }
     }

@@ -7,7 +7,7 @@ ghost use Rattle.core_code.specs.Tree.{tree_of, in_sequence, Loop};
 ghost use Rattle.access_domain.specs.Flow.{joined_next};
 ghost use Rattle.transfer_loops.specs.Resuming.{loops, entered};
 ghost use Rattle.transfer.specs.Resumes.{heads_in, IsResumed, IsRound, AreResumedRounds};
-ghost use Rattle.transfer.specs.Frames.{given};
+ghost use Rattle.transfer.specs.Contexts.{given};
 ghost use Rattle.transfer.specs.Numbered.{read_heads, IsResumedIn, IsHeadInRange};
 ghost use Rattle.transfer.specs.Walks.{next_of};
 
@@ -85,24 +85,24 @@ fn sum(a: usize, b: usize) -> Result<usize, Memory>
 #[cycle(resumes)]
 pub fn resume(
     alloc: Global,
-    frame: &MethodContext,
+    context: &MethodContext,
     locked: bool,
     code: &Code,
     first: usize,
-    here: &mut FlowState,
+    state: &mut FlowState,
     table: &mut PathTable,
     heads: &mut Vec<Option<FlowState>>,
 ) -> Result<Passed, Memory>
     requires room { first + loops (tree_of code.now) ≤ length heads.old.items }
-    requires numbers { IsResumedIn table.old here.old heads.old.items }
-    ensures resumed { IsResumed (given frame.now) (tree_of code.now) locked first (read_state table.old here.old)
-        (read_state table.new here.new)
+    requires numbers { IsResumedIn table.old state.old heads.old.items }
+    ensures resumed { IsResumed (given context.now) (tree_of code.now) locked first (read_state table.old state.old)
+        (read_state table.new state.new)
         (read_heads table.old heads.old.items) (read_heads table.new heads.new.items) result }
-    ensures numbers { OnOk result (IsResumedIn table.new here.new heads.new.items) }
+    ensures numbers { OnOk result (IsResumedIn table.new state.new heads.new.items) }
     ensures table { OnOk result (GoesOn table.old table.new) }
 {
     match code {
-        Code::Op(_, _, op) => match move_any(alloc, frame, *op, here, table) {
+        Code::Op(_, _, op) => match move_any(alloc, context, *op, state, table) {
             Ok(goes_on) => Ok(Passed {
                 next: first,
                 goes_on,
@@ -112,36 +112,36 @@ pub fn resume(
         Code::Seq(parts) => {
             resume_through(
                 alloc,
-                frame,
+                context,
                 locked,
                 parts.as_slice(),
                 first,
-                here,
+                state,
                 table,
                 heads,
             )
         }
         Code::Choice(left, right) => {
-            let Ok(mut other) = here.copied(alloc) else {
+            let Ok(mut other) = state.copied(alloc) else {
                 return Err(Memory);
             };
-            let Ok(one) = resume(alloc, frame, locked, left, first, here, table, heads) else {
+            let Ok(one) = resume(alloc, context, locked, left, first, state, table, heads) else {
                 return Err(Memory);
             };
             let Ok(two) = resume(
-                alloc, frame, locked, right, one.next, &mut other, table, heads,
+                alloc, context, locked, right, one.next, &mut other, table, heads,
             ) else {
                 return Err(Memory);
             };
             Ok(Passed {
                 next: two.next,
-                goes_on: meet_ends(one.goes_on, two.goes_on, here, other),
+                goes_on: meet_ends(one.goes_on, two.goes_on, state, other),
             })
         }
-        Code::Loop(body) => resume_loop(alloc, frame, locked, body, first, here, table, heads),
+        Code::Loop(body) => resume_loop(alloc, context, locked, body, first, state, table, heads),
         Code::Sync(_, _, body) => {
-            mem::drop(here.pop());
-            resume(alloc, frame, true, body, first, here, table, heads)
+            mem::drop(state.pop());
+            resume(alloc, context, true, body, first, state, table, heads)
         }
     }
 }
@@ -150,31 +150,31 @@ pub fn resume(
 #[cycle(resumes)]
 fn resume_through(
     alloc: Global,
-    frame: &MethodContext,
+    context: &MethodContext,
     locked: bool,
     parts: &[Code],
     first: usize,
-    here: &mut FlowState,
+    state: &mut FlowState,
     table: &mut PathTable,
     heads: &mut Vec<Option<FlowState>>,
 ) -> Result<Passed, Memory>
     requires room { first + loops (in_sequence (map tree_of parts.now)) ≤ length heads.old.items }
-    requires numbers { IsResumedIn table.old here.old heads.old.items }
-    ensures resumed { IsResumed (given frame.now) (in_sequence (map tree_of parts.now)) locked first (read_state
-        table.old here.old) (read_state table.new here.new)
+    requires numbers { IsResumedIn table.old state.old heads.old.items }
+    ensures resumed { IsResumed (given context.now) (in_sequence (map tree_of parts.now)) locked first (read_state
+        table.old state.old) (read_state table.new state.new)
         (read_heads table.old heads.old.items) (read_heads table.new heads.new.items) result }
-    ensures numbers { OnOk result (IsResumedIn table.new here.new heads.new.items) }
+    ensures numbers { OnOk result (IsResumedIn table.new state.new heads.new.items) }
     ensures table { OnOk result (GoesOn table.old table.new) }
 {
     let mut number = first;
     for index in 0..parts.len() {
         let Ok(passed) = resume(
             alloc,
-            frame,
+            context,
             locked,
             &parts[index],
             number,
-            here,
+            state,
             table,
             heads,
         ) else {
@@ -213,33 +213,33 @@ fn pass_over(first: usize, parts: &[Code]) -> Result<Passed, Memory>
 #[cycle(resumes)]
 fn resume_loop(
     alloc: Global,
-    frame: &MethodContext,
+    context: &MethodContext,
     locked: bool,
     body: &Code,
     first: usize,
-    here: &mut FlowState,
+    state: &mut FlowState,
     table: &mut PathTable,
     heads: &mut Vec<Option<FlowState>>,
 ) -> Result<Passed, Memory>
     requires room { first + loops (Loop (tree_of body.now)) ≤ length heads.old.items }
-    requires numbers { IsResumedIn table.old here.old heads.old.items }
-    ensures resumed { IsResumed (given frame.now) (Loop (tree_of body.now)) locked first (read_state table.old
-        here.old) (read_state table.new here.new)
+    requires numbers { IsResumedIn table.old state.old heads.old.items }
+    ensures resumed { IsResumed (given context.now) (Loop (tree_of body.now)) locked first (read_state table.old
+        state.old) (read_state table.new state.new)
         (read_heads table.old heads.old.items) (read_heads table.new heads.new.items) result }
-    ensures numbers { OnOk result (IsResumedIn table.new here.new heads.new.items) }
+    ensures numbers { OnOk result (IsResumedIn table.new state.new heads.new.items) }
     ensures table { OnOk result (GoesOn table.old table.new) }
 {
-    let rounds = here.rounds();
-    let Ok(()) = go_on(alloc, &heads[first], here) else {
+    let rounds = state.rounds();
+    let Ok(()) = go_on(alloc, &heads[first], state) else {
         return Err(Memory);
     };
     let Ok((next, changed)) = resume_round(
         alloc,
-        frame,
+        context,
         locked,
         body,
         first + 1,
-        here,
+        state,
         table,
         heads,
     ) else {
@@ -253,18 +253,18 @@ fn resume_loop(
     }
     let Ok(()) = resume_rounds(
         alloc,
-        frame,
+        context,
         locked,
         body,
         first + 1,
         rounds - 1,
-        here,
+        state,
         table,
         heads,
     ) else {
         return Err(Memory);
     };
-    let Ok(left) = here.copied(alloc) else {
+    let Ok(left) = state.copied(alloc) else {
         return Err(Memory);
     };
     heads[first] = Some(left);
@@ -278,26 +278,27 @@ fn resume_loop(
 #[cycle(resumes)]
 fn resume_rounds(
     alloc: Global,
-    frame: &MethodContext,
+    context: &MethodContext,
     locked: bool,
     body: &Code,
     first: usize,
     rounds: usize,
-    here: &mut FlowState,
+    state: &mut FlowState,
     table: &mut PathTable,
     heads: &mut Vec<Option<FlowState>>,
 ) -> Result<(), Memory>
     requires room { first + loops (tree_of body.now) ≤ length heads.old.items }
-    requires numbers { IsResumedIn table.old here.old heads.old.items }
-    ensures resumed { AreResumedRounds (given frame.now) (tree_of body.now) locked first rounds
-        (read_state table.old here.old) (read_state table.new here.new)
+    requires numbers { IsResumedIn table.old state.old heads.old.items }
+    ensures resumed { AreResumedRounds (given context.now) (tree_of body.now) locked first rounds
+        (read_state table.old state.old) (read_state table.new state.new)
         (read_heads table.old heads.old.items) (read_heads table.new heads.new.items) result }
-    ensures numbers { OnOk result (IsResumedIn table.new here.new heads.new.items) }
+    ensures numbers { OnOk result (IsResumedIn table.new state.new heads.new.items) }
     ensures table { OnOk result (GoesOn table.old table.new) }
 {
     for round in 0..rounds {
-        let Ok((_, changed)) = resume_round(alloc, frame, locked, body, first, here, table, heads)
-        else {
+        let Ok((_, changed)) = resume_round(
+            alloc, context, locked, body, first, state, table, heads,
+        ) else {
             return Err(Memory);
         };
         if !changed {
@@ -311,32 +312,32 @@ fn resume_rounds(
 #[cycle(resumes)]
 fn resume_round(
     alloc: Global,
-    frame: &MethodContext,
+    context: &MethodContext,
     locked: bool,
     body: &Code,
     first: usize,
-    here: &mut FlowState,
+    state: &mut FlowState,
     table: &mut PathTable,
     heads: &mut Vec<Option<FlowState>>,
 ) -> Result<(usize, bool), Memory>
     requires room { first + loops (tree_of body.now) ≤ length heads.old.items }
-    requires numbers { IsResumedIn table.old here.old heads.old.items }
-    ensures resumed { IsRound (given frame.now) (tree_of body.now) locked first (read_state table.old here.old)
-        (read_state table.new here.new)
+    requires numbers { IsResumedIn table.old state.old heads.old.items }
+    ensures resumed { IsRound (given context.now) (tree_of body.now) locked first (read_state table.old state.old)
+        (read_state table.new state.new)
         (read_heads table.old heads.old.items) (read_heads table.new heads.new.items) result }
-    ensures numbers { OnOk result (IsResumedIn table.new here.new heads.new.items) }
+    ensures numbers { OnOk result (IsResumedIn table.new state.new heads.new.items) }
     ensures table { OnOk result (GoesOn table.old table.new) }
 {
-    let Ok(mut end) = here.copied(alloc) else {
+    let Ok(mut end) = state.copied(alloc) else {
         return Err(Memory);
     };
-    let Ok(passed) = resume(alloc, frame, locked, body, first, &mut end, table, heads) else {
+    let Ok(passed) = resume(alloc, context, locked, body, first, &mut end, table, heads) else {
         return Err(Memory);
     };
     if !passed.goes_on {
         return Ok((passed.next, false));
     }
-    let changed = here.meet(end);
+    let changed = state.meet(end);
     Ok((passed.next, changed))
 }
 
@@ -344,38 +345,38 @@ fn resume_round(
 fn meet_ends(
     left_goes_on: bool,
     right_goes_on: bool,
-    here: &mut FlowState,
+    state: &mut FlowState,
     other: FlowState,
 ) -> bool
-    ensures next { (table : List TablePath) → IsTable table → AreInRange table here.old → AreInRange table other →
-        next_of result (read_state table here.new) ≡
-        joined_next (next_of left_goes_on (read_state table here.old)) (next_of right_goes_on (read_state table
+    ensures next { (table : List TablePath) → IsTable table → AreInRange table state.old → AreInRange table other →
+        next_of result (read_state table state.new) ≡
+        joined_next (next_of left_goes_on (read_state table state.old)) (next_of right_goes_on (read_state table
         other)) }
-    ensures numbers { (table : List TablePath) → IsTable table → AreInRange table here.old → AreInRange table other →
-        AreInRange table here.new }
+    ensures numbers { (table : List TablePath) → IsTable table → AreInRange table state.old → AreInRange table other →
+        AreInRange table state.new }
 {
     if !right_goes_on {
         return left_goes_on;
     }
     if left_goes_on {
-        here.meet(other);
+        state.meet(other);
     } else {
-        *here = other;
+        *state = other;
     }
     true
 }
 
 /// Joins the state in which a loop was left, if it was, with the values here.
-fn go_on(alloc: Global, left: &Option<FlowState>, here: &mut FlowState) -> Result<(), Memory>
-    ensures next { OnOk result ((table : List TablePath) → IsTable table → AreInRange table here.old → IsHeadInRange
+fn go_on(alloc: Global, left: &Option<FlowState>, state: &mut FlowState) -> Result<(), Memory>
+    ensures next { OnOk result ((table : List TablePath) → IsTable table → AreInRange table state.old → IsHeadInRange
         table left.now →
-        read_state table here.new ≡
-        entered (option_map (read_state table) left.now) (read_state table here.old)) }
-    ensures numbers { OnOk result ((table : List TablePath) → IsTable table → AreInRange table here.old →
-        IsHeadInRange table left.now → AreInRange table here.new) }
+        read_state table state.new ≡
+        entered (option_map (read_state table) left.now) (read_state table state.old)) }
+    ensures numbers { OnOk result ((table : List TablePath) → IsTable table → AreInRange table state.old →
+        IsHeadInRange table left.now → AreInRange table state.new) }
 {
     if let Some(left) = left {
-        here.meet(left.copied(alloc)?);
+        state.meet(left.copied(alloc)?);
     }
     Ok(())
 }

@@ -6,7 +6,7 @@ ghost use Rattle.owner_domain.specs.Values.{joined_state, lost_state};
 ghost use Rattle.owner_domain.specs.Numbered.{read_state, AreInRange};
 ghost use Rattle.core_code.specs.Tree.{tree_of, in_sequence, Loop};
 ghost use Rattle.access_domain.specs.Flow.{flow, joined_next, lost_next};
-ghost use Rattle.transfer.specs.Frames.{given};
+ghost use Rattle.transfer.specs.Contexts.{given};
 ghost use Rattle.transfer.specs.Marks.{IsMarked, marks};
 ghost use Rattle.transfer_loops.specs.Rounds.{round_next, round_lost};
 ghost use Rattle.transfer.specs.NotedCalls.{AreFound};
@@ -33,64 +33,64 @@ use transfer_bodies::shortened;
 #[cycle(codes)]
 pub fn walk_code(
     alloc: Global,
-    frame: &MethodContext,
+    context: &MethodContext,
     locked: bool,
     code: &Code,
-    here: &mut FlowState,
+    state: &mut FlowState,
     table: &mut PathTable,
     calls: &mut IndexSet<NotedCall>,
     found: &mut NumberedFound,
 ) -> Result<bool, Stop>
-    requires high { IsHighEnough (tree_of code.now) (read_state table.old here.old) }
-    requires numbers { IsFlowOf table.old here.old found.old }
+    requires high { IsHighEnough (tree_of code.now) (read_state table.old state.old) }
+    requires numbers { IsFlowOf table.old state.old found.old }
     requires called { AreCallNumbers table.old calls.old.keys }
-    requires calls { AreFound (given frame.now) (read_calls table.old calls.old.keys) (read_found table.old
+    requires calls { AreFound (given context.now) (read_calls table.old calls.old.keys) (read_found table.old
         found.old) }
-    ensures flow { IsFlow (flow (given frame.now) (tree_of code.now) locked (read_state table.old here.old))
-        (read_state table.new here.new)
+    ensures flow { IsFlow (flow (given context.now) (tree_of code.now) locked (read_state table.old state.old))
+        (read_state table.new state.new)
         (read_found table.old found.old) (read_found table.new found.new) result }
-    ensures numbers { OnOk result (IsFlowOf table.new here.new found.new) }
+    ensures numbers { OnOk result (IsFlowOf table.new state.new found.new) }
     ensures called { OnOk result (AreCallNumbers table.new calls.new.keys) }
-    ensures calls { OnOk result (AreFound (given frame.now) (read_calls table.new calls.new.keys)
+    ensures calls { OnOk result (AreFound (given context.now) (read_calls table.new calls.new.keys)
         (read_found table.new found.new)) }
     ensures table { OnOk result (GoesOn table.old table.new) }
 {
     match code {
         Code::Op(site, _, op) => operate(
-            alloc, frame, locked, *site, *op, here, table, calls, found,
+            alloc, context, locked, *site, *op, state, table, calls, found,
         ),
         Code::Seq(parts) => go_through(
             alloc,
-            frame,
+            context,
             locked,
             parts.as_slice(),
-            here,
+            state,
             table,
             calls,
             found,
         ),
         Code::Choice(left, right) => {
-            let Ok(mut other) = here.copied(alloc) else {
+            let Ok(mut other) = state.copied(alloc) else {
                 return Err(Stop::Memory);
             };
             let left_goes_on = match walk_code(
-                alloc, frame, locked, left, here, table, calls, found,
+                alloc, context, locked, left, state, table, calls, found,
             ) {
                 Ok(goes_on) => goes_on,
                 Err(stop) => return Err(stop),
             };
             let right_goes_on = match walk_code(
-                alloc, frame, locked, right, &mut other, table, calls, found,
+                alloc, context, locked, right, &mut other, table, calls, found,
             ) {
                 Ok(goes_on) => goes_on,
                 Err(stop) => return Err(stop),
             };
-            join_ends(alloc, left_goes_on, right_goes_on, here, other, found)
+            join_ends(alloc, left_goes_on, right_goes_on, state, other, found)
         }
-        Code::Loop(body) => repeat(alloc, frame, locked, body, here, table, calls, found),
+        Code::Loop(body) => repeat(alloc, context, locked, body, state, table, calls, found),
         Code::Sync(_, _, body) => {
-            mem::drop(here.pop());
-            walk_code(alloc, frame, true, body, here, table, calls, found)
+            mem::drop(state.pop());
+            walk_code(alloc, context, true, body, state, table, calls, found)
         }
     }
 }
@@ -99,30 +99,30 @@ pub fn walk_code(
 #[cycle(codes)]
 fn go_through(
     alloc: Global,
-    frame: &MethodContext,
+    context: &MethodContext,
     locked: bool,
     parts: &[Code],
-    here: &mut FlowState,
+    state: &mut FlowState,
     table: &mut PathTable,
     calls: &mut IndexSet<NotedCall>,
     found: &mut NumberedFound,
 ) -> Result<bool, Stop>
-    requires high { IsHighEnough (in_sequence (map tree_of parts.now)) (read_state table.old here.old) }
-    requires numbers { IsFlowOf table.old here.old found.old }
+    requires high { IsHighEnough (in_sequence (map tree_of parts.now)) (read_state table.old state.old) }
+    requires numbers { IsFlowOf table.old state.old found.old }
     requires called { AreCallNumbers table.old calls.old.keys }
-    requires calls { AreFound (given frame.now) (read_calls table.old calls.old.keys) (read_found table.old
+    requires calls { AreFound (given context.now) (read_calls table.old calls.old.keys) (read_found table.old
         found.old) }
-    ensures flow { IsFlow (flow (given frame.now) (in_sequence (map tree_of parts.now)) locked (read_state table.old
-        here.old)) (read_state table.new here.new)
+    ensures flow { IsFlow (flow (given context.now) (in_sequence (map tree_of parts.now)) locked (read_state table.old
+        state.old)) (read_state table.new state.new)
         (read_found table.old found.old) (read_found table.new found.new) result }
-    ensures numbers { OnOk result (IsFlowOf table.new here.new found.new) }
+    ensures numbers { OnOk result (IsFlowOf table.new state.new found.new) }
     ensures called { OnOk result (AreCallNumbers table.new calls.new.keys) }
-    ensures calls { OnOk result (AreFound (given frame.now) (read_calls table.new calls.new.keys)
+    ensures calls { OnOk result (AreFound (given context.now) (read_calls table.new calls.new.keys)
         (read_found table.new found.new)) }
     ensures table { OnOk result (GoesOn table.old table.new) }
 {
     for part in parts {
-        match walk_code(alloc, frame, locked, part, here, table, calls, found) {
+        match walk_code(alloc, context, locked, part, state, table, calls, found) {
             Ok(true) => {}
             Ok(false) => return Ok(false),
             Err(stop) => return Err(stop),
@@ -135,36 +135,36 @@ fn go_through(
 #[cycle(codes)]
 fn repeat(
     alloc: Global,
-    frame: &MethodContext,
+    context: &MethodContext,
     locked: bool,
     body: &Code,
-    here: &mut FlowState,
+    state: &mut FlowState,
     table: &mut PathTable,
     calls: &mut IndexSet<NotedCall>,
     found: &mut NumberedFound,
 ) -> Result<bool, Stop>
-    requires high { IsHighEnough (Loop (tree_of body.now)) (read_state table.old here.old) }
-    requires numbers { IsFlowOf table.old here.old found.old }
+    requires high { IsHighEnough (Loop (tree_of body.now)) (read_state table.old state.old) }
+    requires numbers { IsFlowOf table.old state.old found.old }
     requires called { AreCallNumbers table.old calls.old.keys }
-    requires calls { AreFound (given frame.now) (read_calls table.old calls.old.keys) (read_found table.old
+    requires calls { AreFound (given context.now) (read_calls table.old calls.old.keys) (read_found table.old
         found.old) }
-    ensures flow { IsFlow (flow (given frame.now) (Loop (tree_of body.now)) locked (read_state table.old here.old))
-        (read_state table.new here.new)
+    ensures flow { IsFlow (flow (given context.now) (Loop (tree_of body.now)) locked (read_state table.old state.old))
+        (read_state table.new state.new)
         (read_found table.old found.old) (read_found table.new found.new) result }
-    ensures numbers { OnOk result (IsFlowOf table.new here.new found.new) }
+    ensures numbers { OnOk result (IsFlowOf table.new state.new found.new) }
     ensures called { OnOk result (AreCallNumbers table.new calls.new.keys) }
-    ensures calls { OnOk result (AreFound (given frame.now) (read_calls table.new calls.new.keys)
+    ensures calls { OnOk result (AreFound (given context.now) (read_calls table.new calls.new.keys)
         (read_found table.new found.new)) }
     ensures table { OnOk result (GoesOn table.old table.new) }
 {
-    match go_rounds(alloc, frame, locked, body, here, table, found) {
+    match go_rounds(alloc, context, locked, body, state, table, found) {
         Ok(()) => {}
         Err(stop) => return Err(stop),
     }
-    let Ok(mut end) = here.copied(alloc) else {
+    let Ok(mut end) = state.copied(alloc) else {
         return Err(Stop::Memory);
     };
-    let ended = walk_code(alloc, frame, locked, body, &mut end, table, calls, found);
+    let ended = walk_code(alloc, context, locked, body, &mut end, table, calls, found);
     mem::drop(end);
     match ended {
         Ok(_) => Ok(true),
@@ -175,26 +175,26 @@ fn repeat(
 /// The rounds of a loop, without the parts of its body that leave the values as they were.
 fn go_rounds(
     alloc: Global,
-    frame: &MethodContext,
+    context: &MethodContext,
     locked: bool,
     body: &Code,
-    here: &mut FlowState,
+    state: &mut FlowState,
     table: &mut PathTable,
     found: &mut NumberedFound,
 ) -> Result<(), Stop>
-    requires high { IsHighEnough (Loop (tree_of body.now)) (read_state table.old here.old) }
-    requires numbers { IsFlowOf table.old here.old found.old }
-    ensures rounds { AreRoundsDone (flow (given frame.now) (tree_of body.now) locked) (read_state table.old here.old)
-        (read_state table.new here.new)
+    requires high { IsHighEnough (Loop (tree_of body.now)) (read_state table.old state.old) }
+    requires numbers { IsFlowOf table.old state.old found.old }
+    ensures rounds { AreRoundsDone (flow (given context.now) (tree_of body.now) locked) (read_state table.old state.old)
+        (read_state table.new state.new)
         (read_found table.old found.old) (read_found table.new found.new) result }
-    ensures high { OnOk result (IsHighEnough (Loop (tree_of body.now)) (read_state table.new here.new)) }
-    ensures numbers { OnOk result (IsFlowOf table.new here.new found.new) }
+    ensures high { OnOk result (IsHighEnough (Loop (tree_of body.now)) (read_state table.new state.new)) }
+    ensures numbers { OnOk result (IsFlowOf table.new state.new found.new) }
     ensures table { OnOk result (GoesOn table.old table.new) }
 {
-    let Ok(short) = shortened(alloc, body, here.height()) else {
+    let Ok(short) = shortened(alloc, body, state.height()) else {
         return Err(Stop::Memory);
     };
-    let done = go_through_rounds(alloc, frame, locked, &short, here, table, found);
+    let done = go_through_rounds(alloc, context, locked, &short, state, table, found);
     mem::drop(short);
     done
 }
@@ -202,19 +202,19 @@ fn go_rounds(
 /// The rounds of a loop with this body, up to the first that leaves the values as they were.
 fn go_through_rounds(
     alloc: Global,
-    frame: &MethodContext,
+    context: &MethodContext,
     locked: bool,
     body: &Code,
-    here: &mut FlowState,
+    state: &mut FlowState,
     table: &mut PathTable,
     found: &mut NumberedFound,
 ) -> Result<(), Stop>
-    requires high { IsHighEnough (Loop (tree_of body.now)) (read_state table.old here.old) }
-    requires numbers { IsFlowOf table.old here.old found.old }
-    ensures rounds { AreRoundsDone (flow (given frame.now) (tree_of body.now) locked) (read_state table.old here.old)
-        (read_state table.new here.new)
+    requires high { IsHighEnough (Loop (tree_of body.now)) (read_state table.old state.old) }
+    requires numbers { IsFlowOf table.old state.old found.old }
+    ensures rounds { AreRoundsDone (flow (given context.now) (tree_of body.now) locked) (read_state table.old state.old)
+        (read_state table.new state.new)
         (read_found table.old found.old) (read_found table.new found.new) result }
-    ensures numbers { OnOk result (IsFlowOf table.new here.new found.new) }
+    ensures numbers { OnOk result (IsFlowOf table.new state.new found.new) }
     ensures table { OnOk result (GoesOn table.old table.new) }
 {
     let Ok(count) = count_loops(body) else {
@@ -223,8 +223,10 @@ fn go_through_rounds(
     let Ok(mut heads) = no_heads(alloc, count) else {
         return Err(Stop::Memory);
     };
-    for round in 0..here.rounds() {
-        match go_round(alloc, frame, locked, body, here, table, &mut heads, found) {
+    for round in 0..state.rounds() {
+        match go_round(
+            alloc, context, locked, body, state, table, &mut heads, found,
+        ) {
             Ok(true) => {}
             Ok(false) => return Ok(()),
             Err(stop) => return Err(stop),
@@ -249,45 +251,45 @@ fn no_heads(alloc: Global, count: usize) -> Result<Vec<Option<FlowState>>, Memor
 /// One round of a loop, of which the lost paths alone are noted; whether it changed the values.
 fn go_round(
     alloc: Global,
-    frame: &MethodContext,
+    context: &MethodContext,
     locked: bool,
     body: &Code,
-    here: &mut FlowState,
+    state: &mut FlowState,
     table: &mut PathTable,
     heads: &mut Vec<Option<FlowState>>,
     found: &mut NumberedFound,
 ) -> Result<bool, Stop>
-    requires high { IsHighEnough (Loop (tree_of body.now)) (read_state table.old here.old) }
-    requires numbers { IsFlowOf table.old here.old found.old }
+    requires high { IsHighEnough (Loop (tree_of body.now)) (read_state table.old state.old) }
+    requires numbers { IsFlowOf table.old state.old found.old }
     requires heads { AreHeadsInRange table.old heads.old.items }
-    requires sound { AreSound (given frame.now) (tree_of body.now) locked (read_heads table.old heads.old.items)
-        (read_state table.old here.old) }
-    ensures state { OnOk result (read_state table.new here.new ≡
-        round_next (read_state table.old here.old) (flow (given frame.now) (tree_of body.now) locked (read_state
-        table.old here.old)).next) }
+    requires sound { AreSound (given context.now) (tree_of body.now) locked (read_heads table.old heads.old.items)
+        (read_state table.old state.old) }
+    ensures state { OnOk result (read_state table.new state.new ≡
+        round_next (read_state table.old state.old) (flow (given context.now) (tree_of body.now) locked (read_state
+        table.old state.old)).next) }
     ensures unchanged { IfOk result (λ changed. changed ≡ false →
-        read_state table.new here.new ≡ read_state table.old here.old) }
-    ensures found { IsMarked (read_found table.old found.old) (marks [] (round_lost (read_state table.old here.old)
-        (flow (given frame.now) (tree_of body.now) locked (read_state table.old here.old)).next))
+        read_state table.new state.new ≡ read_state table.old state.old) }
+    ensures found { IsMarked (read_found table.old found.old) (marks [] (round_lost (read_state table.old state.old)
+        (flow (given context.now) (tree_of body.now) locked (read_state table.old state.old)).next))
         (read_found table.new found.new) result }
-    ensures sound { OnOk result (AreSound (given frame.now) (tree_of body.now) locked (read_heads table.new
+    ensures sound { OnOk result (AreSound (given context.now) (tree_of body.now) locked (read_heads table.new
         heads.new.items)
-        (read_state table.new here.new)) }
-    ensures high { OnOk result (IsHighEnough (Loop (tree_of body.now)) (read_state table.new here.new)) }
-    ensures numbers { OnOk result (IsFlowOf table.new here.new found.new) }
+        (read_state table.new state.new)) }
+    ensures high { OnOk result (IsHighEnough (Loop (tree_of body.now)) (read_state table.new state.new)) }
+    ensures numbers { OnOk result (IsFlowOf table.new state.new found.new) }
     ensures heads { OnOk result (AreHeadsInRange table.new heads.new.items) }
     ensures table { OnOk result (GoesOn table.old table.new) }
 {
-    let Ok(mut end) = here.copied(alloc) else {
+    let Ok(mut end) = state.copied(alloc) else {
         return Err(Stop::Memory);
     };
-    let Ok(passed) = resume(alloc, frame, locked, body, 0, &mut end, table, heads) else {
+    let Ok(passed) = resume(alloc, context, locked, body, 0, &mut end, table, heads) else {
         return Err(Stop::Memory);
     };
     if !passed.goes_on {
         return Ok(false);
     }
-    meet(alloc, here, end, found)
+    meet(alloc, state, end, found)
 }
 
 /// Goes on from the ends of two ways, those that have one; whether there is one.
@@ -295,30 +297,30 @@ fn join_ends(
     alloc: Global,
     left_goes_on: bool,
     right_goes_on: bool,
-    here: &mut FlowState,
+    state: &mut FlowState,
     other: FlowState,
     found: &mut NumberedFound,
 ) -> Result<bool, Stop>
-    ensures state { IfOk result (λ goes_on. (table : List TablePath) → IsFlowOf table here.old found.old → AreInRange
+    ensures state { IfOk result (λ goes_on. (table : List TablePath) → IsFlowOf table state.old found.old → AreInRange
         table other →
-        next_of goes_on (read_state table here.new) ≡ joined_next (next_of left_goes_on (read_state table here.old))
+        next_of goes_on (read_state table state.new) ≡ joined_next (next_of left_goes_on (read_state table state.old))
         (next_of right_goes_on (read_state table other))) }
-    ensures found { (table : List TablePath) → IsFlowOf table here.old found.old → AreInRange table other →
-        IsMarked (read_found table found.old) (marks [] (lost_next (next_of left_goes_on (read_state table here.old))
+    ensures found { (table : List TablePath) → IsFlowOf table state.old found.old → AreInRange table other →
+        IsMarked (read_found table found.old) (marks [] (lost_next (next_of left_goes_on (read_state table state.old))
         (next_of right_goes_on (read_state table other))))
         (read_found table found.new) result }
-    ensures numbers { OnOk result ((table : List TablePath) → IsFlowOf table here.old found.old → AreInRange table
+    ensures numbers { OnOk result ((table : List TablePath) → IsFlowOf table state.old found.old → AreInRange table
         other →
-        IsFlowOf table here.new found.new) }
+        IsFlowOf table state.new found.new) }
 {
     if !right_goes_on {
         return Ok(left_goes_on);
     }
     if !left_goes_on {
-        *here = other;
+        *state = other;
         return Ok(true);
     }
-    match meet(alloc, here, other, found) {
+    match meet(alloc, state, other, found) {
         Ok(_) => Ok(true),
         Err(stop) => Err(stop),
     }
@@ -327,23 +329,23 @@ fn join_ends(
 /// Joins the values here with others, and notes the paths that are lost; whether that changed the values.
 fn meet(
     alloc: Global,
-    here: &mut FlowState,
+    state: &mut FlowState,
     other: FlowState,
     found: &mut NumberedFound,
 ) -> Result<bool, Stop>
-    ensures state { OnOk result ((table : List TablePath) → IsFlowOf table here.old found.old → AreInRange table
+    ensures state { OnOk result ((table : List TablePath) → IsFlowOf table state.old found.old → AreInRange table
         other →
-        read_state table here.new ≡ joined_state (read_state table here.old) (read_state table other)) }
-    ensures unchanged { IfOk result (λ changed. changed ≡ false → here.new ≡ here.old) }
-    ensures found { (table : List TablePath) → IsFlowOf table here.old found.old → AreInRange table other →
+        read_state table state.new ≡ joined_state (read_state table state.old) (read_state table other)) }
+    ensures unchanged { IfOk result (λ changed. changed ≡ false → state.new ≡ state.old) }
+    ensures found { (table : List TablePath) → IsFlowOf table state.old found.old → AreInRange table other →
         IsMarked (read_found table found.old)
-        (marks [] (lost_state (read_state table here.old) (read_state table other)))
+        (marks [] (lost_state (read_state table state.old) (read_state table other)))
         (read_found table found.new) result }
-    ensures numbers { OnOk result ((table : List TablePath) → IsFlowOf table here.old found.old → AreInRange table
+    ensures numbers { OnOk result ((table : List TablePath) → IsFlowOf table state.old found.old → AreInRange table
         other →
-        IsFlowOf table here.new found.new) }
+        IsFlowOf table state.new found.new) }
 {
-    let Ok((changed, lost)) = here.meet_losing(alloc, other) else {
+    let Ok((changed, lost)) = state.meet_losing(alloc, other) else {
         return Err(Stop::Memory);
     };
     match found.note_numbers(lost.as_slice()) {

@@ -1,6 +1,6 @@
 use Rattle.std.proofs.Common.{List, sym, subst, ◌∙◌}
 use Rattle.transfer.specs.declared.noted_calls.NotedCall.{NotedCall}
-use Rattle.transfer.specs.Frames.{given}
+use Rattle.transfer.specs.Contexts.{given}
 use Rattle.transfer.specs.Known.{findings_in}
 use Rattle.transfer.specs.NotedCalls.{AreFound, IsFound, PassingCall}
 use Rattle.transfer.specs.Numbered.{read_call, read_calls, read_found, AreCallNumbers}
@@ -12,7 +12,7 @@ use Rattle.transfer.proofs.calls.note_call.Goals as goal
 
 pub returns-then-contains-clause-found : goal.returns-then-contains-clause-found
 returns-then-contains-clause-found c =
-    let g = given c.args.frame.now in
+    let g = given c.args.context.now in
     let table = c.args.table.now in
     let calls = c.args.calls.now.keys in
     let found = read_found table c.args.found.now in
@@ -32,7 +32,7 @@ returns-clause-called c =
 
 pub returns-clause-calls : goal.returns-clause-calls
 returns-clause-calls c =
-    let g = given c.args.frame.now in
+    let g = given c.args.context.now in
     let table = c.args.table.now in
     let new = c.note_callee.new.table in
     let on = c.in-Ok.ensures.table in

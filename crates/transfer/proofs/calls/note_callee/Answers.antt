@@ -10,7 +10,7 @@ use Rattle.std.specs.List.{flat_map, enumerate_from}
 use Rattle.owner_domain.specs.declared.value.Value.{Value}
 use Rattle.call_subst.specs.Numbered.{read_values}
 use Rattle.call_subst.proofs.SameSets.{flat_map-same_set, from_list-items}
-use Rattle.transfer.specs.Frames.{given}
+use Rattle.transfer.specs.Contexts.{given}
 use Rattle.transfer.specs.Known.{findings_in}
 use Rattle.transfer.specs.NotedCalls.{call_names}
 use Rattle.transfer.specs.Numbered.{read_call, read_found}
@@ -19,7 +19,7 @@ use Rattle.transfer.proofs.calls.note_callee.Goals as goal
 
 pub returns-in-Err-clause-found : goal.returns-in-Err-clause-found
 returns-in-Err-clause-found c =
-    let g = given c.args.frame.now in
+    let g = given c.args.context.now in
     let table = c.args.table.now in
     let made = read_call table c.args.made.now in
     let summary = c.args.summary.now in
@@ -36,7 +36,7 @@ returns-in-Err-clause-found c =
 
 pub returns-clause-found : goal.returns-clause-found
 returns-clause-found c =
-    let g = given c.args.frame.now in
+    let g = given c.args.context.now in
     let table = c.args.table.now in
     let made = read_call table c.args.made.now in
     let summary = c.args.summary.now in

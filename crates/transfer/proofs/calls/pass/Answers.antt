@@ -5,7 +5,7 @@ use Rattle.owner_domain.specs.Numbered.{read_state, AllInRange, AreInRange}
 use Rattle.access_domain.specs.Operations.{replaced}
 use Rattle.access_domain.specs.Substitution.{actuals_from, substituted_value}
 use Rattle.call_subst.specs.Numbered.{read_values}
-use Rattle.transfer.specs.Frames.{given}
+use Rattle.transfer.specs.Contexts.{given}
 use Rattle.transfer.specs.Slots.{pushed_number}
 use Rattle.transfer.proofs.CallNotes.{replaced-longer, replaced-still}
 use Rattle.transfer.proofs.Longer.{passed-in, passed-read}
@@ -14,15 +14,15 @@ use Rattle.transfer.proofs.calls.pass.Goals as goal
 pub value_returned-requires-clause-actuals : goal.value_returned-requires-clause-actuals
 value_returned-requires-clause-actuals c =
     subst (AllInRange c.args.table.now) (sym (c.as_slice.ensures.value ∙ c.in_ok-actuals.ensures.values))
-    (passed-in c.args.table.now c.args.here.now c.args.count c.requires.numbers)
+    (passed-in c.args.table.now c.args.state.now c.args.count c.requires.numbers)
 
 pub returns-clause-next : goal.returns-clause-next
 returns-clause-next c =
     let table = c.args.table.now in
-    let start = c.args.here.now in
+    let start = c.args.state.now in
     let made = c.in_ok-value in
     let value : List Value → Value =
-    λ vs. substituted_value (actuals_from ((given c.args.frame.now).is_static c.args.method) vs)
+    λ vs. substituted_value (actuals_from ((given c.args.context.now).is_static c.args.method) vs)
     c.args.summary.now.result in
     ap (read_state c.value_returned.new.table)
     (c.in_ok-push.ensures ∙ ap (λ (s : NumberedState). pushed_number s made.value) c.in_ok-actuals.ensures.rest)
@@ -39,5 +39,5 @@ returns-clause-numbers c =
     subst (AreInRange c.value_returned.new.table)
     (sym (c.in_ok-push.ensures
     ∙ ap (λ (s : NumberedState). pushed_number s made.value) c.in_ok-actuals.ensures.rest))
-    (replaced-still c.args.table.now c.value_returned.new.table made.ensures.table c.args.here.now c.args.count
+    (replaced-still c.args.table.now c.value_returned.new.table made.ensures.table c.args.state.now c.args.count
     made.value c.requires.numbers made.ensures.range)

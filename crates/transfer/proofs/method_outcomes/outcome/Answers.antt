@@ -24,15 +24,15 @@ use Rattle.transfer.proofs.method_outcomes.outcome.Goals as goal
 pub walk_code-walked-requires-clause-high : goal.walk_code-walked-requires-clause-high
 walk_code-walked-requires-clause-high c =
     let table = c.start.new.table in
-    high_start (method_of c.args.method.now).code (read_state table c.new-here.result)
-    (ap (λ (s : NumberedState). (read_state table s).stack) c.new-here.ensures) c.requires
+    high_start (method_of c.args.method.now).code (read_state table c.new-state.result)
+    (ap (λ (s : NumberedState). (read_state table s).stack) c.new-state.ensures) c.requires
 
 pub walk_code-walked-requires-clause-numbers : goal.walk_code-walked-requires-clause-numbers
 walk_code-walked-requires-clause-numbers c =
     let table = c.start.new.table in
     record {
       once = c.in-Ok.ensures.once;
-      state = subst (AreInRange table) (sym c.new-here.ensures) (c.in-Ok.ensures.range, tt);
+      state = subst (AreInRange table) (sym c.new-state.ensures) (c.in-Ok.ensures.range, tt);
       noted = c.nothing-found.ensures.numbers table;
     }
 
@@ -51,7 +51,7 @@ walk_code-walked-requires-clause-calls c =
 pub outcome_found-requires-clause-numbers : goal.outcome_found-requires-clause-numbers
 outcome_found-requires-clause-numbers c =
     let walked = c.walk_code-walked in
-    on_ok_then walked.result (IsFlowOf walked.new.table walked.new.here walked.new.found)
+    on_ok_then walked.result (IsFlowOf walked.new.table walked.new.state walked.new.found)
     (AreFoundNumbers walked.new.table walked.new.found) walked.ensures.numbers (λ all. all.noted)
 
 pub outcome_found-requires-clause-firsts : goal.outcome_found-requires-clause-firsts
@@ -60,16 +60,16 @@ outcome_found-requires-clause-firsts c =
     let g = given_of (core c.args.program.now) (table_of c.args.callees.now) method.main in
     let table = c.start.new.table in
     let walked = c.walk_code-walked in
-    let start : read_state table c.new-here.result ≡ start_of method =
-    ap (read_state table) c.new-here.ensures
+    let start : read_state table c.new-state.result ≡ start_of method =
+    ap (read_state table) c.new-state.ensures
     ∙ ap (λ (vars : List Value). stack_of_values vars) c.in-Ok.ensures.values in
     let e = effects_given (core c.args.program.now) (table_of c.args.callees.now) method in
-    let end = read_state walked.new.table walked.new.here in
+    let end = read_state walked.new.table walked.new.state in
     let found = read_found walked.new.table walked.new.found in
     found-firsts e found walked.result
     (marked-flow e end nothing found walked.result
     (subst (λ (s : State). IsFlow (flow g method.code false s) end nothing found walked.result) start
-    (subst (λ (f : Found). IsFlow (flow g method.code false (read_state table c.new-here.result)) end f found
+    (subst (λ (f : Found). IsFlow (flow g method.code false (read_state table c.new-state.result)) end f found
     walked.result) (c.nothing-found.ensures.found table) walked.ensures.flow)))
 
 pub returns : goal.returns
@@ -78,14 +78,14 @@ returns c =
     let g = given_of (core c.args.program.now) (table_of c.args.callees.now) method.main in
     let table = c.start.new.table in
     let walked = c.walk_code-walked in
-    let start : read_state table c.new-here.result ≡ start_of method =
-    ap (read_state table) c.new-here.ensures
+    let start : read_state table c.new-state.result ≡ start_of method =
+    ap (read_state table) c.new-state.ensures
     ∙ ap (λ (vars : List Value). stack_of_values vars) c.in-Ok.ensures.values in
     let e = effects_given (core c.args.program.now) (table_of c.args.callees.now) method in
-    let end = read_state walked.new.table walked.new.here in
+    let end = read_state walked.new.table walked.new.state in
     let found = read_found walked.new.table walked.new.found in
     c.outcome_found.ensures e
     (marked-flow e end nothing found walked.result
     (subst (λ (s : State). IsFlow (flow g method.code false s) end nothing found walked.result) start
-    (subst (λ (f : Found). IsFlow (flow g method.code false (read_state table c.new-here.result)) end f found
+    (subst (λ (f : Found). IsFlow (flow g method.code false (read_state table c.new-state.result)) end f found
     walked.result) (c.nothing-found.ensures.found table) walked.ensures.flow)))

@@ -3,15 +3,15 @@ use Rattle.access_paths.proofs.Numbers.{goes_on-same}
 use Rattle.core_code.specs.declared.code.Op.{Op as CoreOp}
 use Rattle.owner_domain.specs.Numbered.{read_state}
 use Rattle.access_domain.specs.Operations.{op_effects}
-use Rattle.transfer.specs.Frames.{given}
+use Rattle.transfer.specs.Contexts.{given}
 use Rattle.transfer.specs.Slots.{pushed_number}
 use Rattle.transfer.proofs.NumberedSteps.{get-state, get-in, set-state, set-state-in}
 use Rattle.transfer.proofs.operations.move_any.Goals as goal
 
 pub returns-in_ok-move_call-in-Call-clause-next : goal.returns-in_ok-move_call-in-Call-clause-next
 returns-in_ok-move_call-in-Call-clause-next c = λ locked site. ap
-    (λ (op : CoreOp). (op_effects (given c.args.frame.now) locked site op
-    (read_state c.args.table.now c.args.here.now)).next) c.in-Call.is
+    (λ (op : CoreOp). (op_effects (given c.args.context.now) locked site op
+    (read_state c.args.table.now c.args.state.now)).next) c.in-Call.is
     ∙ c.in_ok-move_call-in-Call.ensures.next locked site
 
 pub returns-in_ok-push-in-Get-clause-next : goal.returns-in_ok-push-in-Get-clause-next
@@ -19,10 +19,10 @@ returns-in_ok-push-in-Get-clause-next c = λ locked site.
     let t0 = c.args.table.now in
     let t1 = c.pop_field.new.table in
     let value = c.in_ok-value-in-Get in
-    ap (λ (op : CoreOp). (op_effects (given c.args.frame.now) locked site op (read_state t0 c.args.here.now)).next)
+    ap (λ (op : CoreOp). (op_effects (given c.args.context.now) locked site op (read_state t0 c.args.state.now)).next)
     c.in-Get.is
     ∙ ap Some (sym
-    (get-state c.args.frame.now c.in-Get.f t0 t1 t1 value.ensures.table (goes_on-same t1) c.args.here.now
+    (get-state c.args.context.now c.in-Get.f t0 t1 t1 value.ensures.table (goes_on-same t1) c.args.state.now
     c.requires.numbers value.value value.ensures.range value.ensures.value c.touched_field-plain.result.plain
     c.touched_field-plain.ensures.plain c.push.new.self
     (c.in_ok-push-in-Get.ensures
@@ -32,7 +32,7 @@ pub returns-in_ok-push-in-Get-clause-numbers : goal.returns-in_ok-push-in-Get-cl
 returns-in_ok-push-in-Get-clause-numbers c =
     let t1 = c.pop_field.new.table in
     let value = c.in_ok-value-in-Get in
-    get-in c.args.frame.now c.in-Get.f c.args.table.now t1 t1 value.ensures.table (goes_on-same t1) c.args.here.now
+    get-in c.args.context.now c.in-Get.f c.args.table.now t1 t1 value.ensures.table (goes_on-same t1) c.args.state.now
     c.requires.numbers value.value value.ensures.range value.ensures.value c.touched_field-plain.result.plain
     c.touched_field-plain.ensures.plain c.push.new.self
     (c.in_ok-push-in-Get.ensures
@@ -41,12 +41,12 @@ returns-in_ok-push-in-Get-clause-numbers c =
 pub returns-in-Set-clause-next : goal.returns-in-Set-clause-next
 returns-in-Set-clause-next c = λ locked site.
     let table = c.args.table.now in
-    let here = c.args.here.now in
-    ap (λ (op : CoreOp). (op_effects (given c.args.frame.now) locked site op (read_state table here)).next) c.in-Set.is
+    let here = c.args.state.now in
+    ap (λ (op : CoreOp). (op_effects (given c.args.context.now) locked site op (read_state table here)).next) c.in-Set.is
     ∙ ap Some (sym
     (set-state table here c.top-value.result c.top-value.ensures c.in-Set.variable c.set.new.self c.set.ensures))
 
 pub returns-in-Set-clause-numbers : goal.returns-in-Set-clause-numbers
 returns-in-Set-clause-numbers c =
-    set-state-in c.args.table.now c.args.here.now c.top-value.result c.top-value.ensures c.in-Set.variable
+    set-state-in c.args.table.now c.args.state.now c.top-value.result c.top-value.ensures c.in-Set.variable
     c.set.new.self c.set.ensures c.requires.numbers

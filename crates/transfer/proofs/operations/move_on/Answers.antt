@@ -15,7 +15,7 @@ use Rattle.transfer.proofs.operations.move_on.Goals as goal
 pub returns-in-Push-clause-numbers : goal.returns-in-Push-clause-numbers
 returns-in-Push-clause-numbers c =
     let table = c.args.table.now in
-    let here = c.args.here.now in
+    let here = c.args.state.now in
     let variable = slice_index_or here.vars c.in-Push.variable.0 Unnamed in
     moved-in c.push_variable.result table c.args.op here (pushed_number here variable) c.push_variable.new.self
     (pushed-in table here variable c.requires.numbers
@@ -25,7 +25,7 @@ pub returns-in_ok-number-in-PushClass-clause-next : goal.returns-in_ok-number-in
 returns-in_ok-number-in-PushClass-clause-next c =
     let t0 = c.args.table.now in
     let t1 = c.number_of.new.self in
-    let here = c.args.here.now in
+    let here = c.args.state.now in
     let given = c.in_ok-number-in-PushClass in
     subst (λ (s : State). OnOk c.push.result (read_state t1 c.push.new.self ≡ s))
     (sym (ap (λ (op : CoreOp). moved op (read_state t0 here)) c.in-PushClass.is))
@@ -35,13 +35,13 @@ returns-in_ok-number-in-PushClass-clause-next c =
 pub returns-in_ok-number-in-PushClass-clause-numbers : goal.returns-in_ok-number-in-PushClass-clause-numbers
 returns-in_ok-number-in-PushClass-clause-numbers c =
     let given = c.in_ok-number-in-PushClass in
-    root-in c.push.result c.args.table.now c.number_of.new.self c.number_of.ensures.goes_on c.args.here.now
+    root-in c.push.result c.args.table.now c.number_of.new.self c.number_of.ensures.goes_on c.args.state.now
     c.push.new.self c.requires.numbers given.number c.push.ensures c.alone.result given.ensures.number
 
 pub returns-in-Prim-clause-next : goal.returns-in-Prim-clause-next
 returns-in-Prim-clause-next c =
     let table = c.args.table.now in
-    let here = c.args.here.now in
+    let here = c.args.state.now in
     let start = read_state table here in
     let same : replaced start c.in-Prim.count NoName ≡ moved c.args.op start = search rules in
     subst (λ (s : State). OnOk c.replace.result (read_state table c.replace.new.self ≡ s)) same
@@ -50,6 +50,6 @@ returns-in-Prim-clause-next c =
 pub returns-in-Prim-clause-numbers : goal.returns-in-Prim-clause-numbers
 returns-in-Prim-clause-numbers c =
     let table = c.args.table.now in
-    let here = c.args.here.now in
+    let here = c.args.state.now in
     moved-in c.replace.result table c.args.op here (replaced_numbers here c.in-Prim.count Unnamed) c.replace.new.self
     (replaced-in table here c.in-Prim.count Unnamed c.requires.numbers tt) c.replace.ensures

@@ -9,7 +9,7 @@ use Rattle.transfer.proofs.operations.note_access.Goals as goal
 pub returns-in_default-reached-clause-found : goal.returns-in_default-reached-clause-found
 returns-in_default-reached-clause-found c =
     let t1 = c.number_reached.new.table in
-    none-noted c.args.frame.now c.args.kind c.args.locked c.args.site c.args.f c.args.table.now t1
+    none-noted c.args.context.now c.args.kind c.args.locked c.args.site c.args.f c.args.table.now t1
     c.in-Ok.ensures.table c.args.found.now c.requires.numbers (read_value c.args.table.now c.args.value)
     (sym c.in-Ok.ensures.path ∙ ap (option_map (path_at t1)) c.in_default-reached.is)
 
@@ -22,7 +22,7 @@ pub returns-clause-found : goal.returns-clause-found
 returns-clause-found c =
     let t0 = c.args.table.now in
     let t1 = c.number_reached.new.table in
-    access-noted c.args.frame.now c.args.kind c.args.locked c.args.site c.args.f t0 t1 c.in-Ok.ensures.table
+    access-noted c.args.context.now c.args.kind c.args.locked c.args.site c.args.f t0 t1 c.in-Ok.ensures.table
     c.args.found.now c.requires.numbers (read_value t0 c.args.value) c.in-Some.path
     (read_found t1 c.note_record.new.self) c.note_record.result
     (sym c.touched_field.ensures.recorded

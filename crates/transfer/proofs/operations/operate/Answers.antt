@@ -1,4 +1,4 @@
-use Rattle.transfer.specs.Frames.{given}
+use Rattle.transfer.specs.Contexts.{given}
 use Rattle.owner_domain.specs.Numbered.{read_state}
 use Rattle.access_domain.specs.Operations.{op_effects}
 use Rattle.transfer.proofs.WalkedNumbers.{step-called, step-calls}
@@ -6,7 +6,7 @@ use Rattle.transfer.proofs.operations.operate.Goals as goal
 
 pub returns-in_default : goal.returns-in_default
 returns-in_default c =
-    let g = given c.args.frame.now in
+    let g = given c.args.context.now in
     let table = c.args.table.now in
     let new = c.step.new in
     let m = c.step.ensures in
@@ -16,7 +16,7 @@ returns-in_default c =
       called = step-called table new.table c.args.calls.now.keys c.requires.called c.step.result m.table;
       calls =
           step-calls table new.table c.args.calls.now.keys c.requires.called c.step.result m.table g
-          (op_effects g c.args.locked c.args.site c.args.op (read_state table c.args.here.now))
-          (read_state new.table new.here) c.args.found.now new.found m.flow c.requires.calls;
+          (op_effects g c.args.locked c.args.site c.args.op (read_state table c.args.state.now))
+          (read_state new.table new.state) c.args.found.now new.found m.flow c.requires.calls;
       table = m.table;
     }

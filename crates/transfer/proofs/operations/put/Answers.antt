@@ -14,7 +14,7 @@ use Rattle.transfer.proofs.operations.put.Goals as goal
 pub pop_field-requires-clause-numbers : goal.pop_field-requires-clause-numbers
 pop_field-requires-clause-numbers c =
     subst (AreInRange c.args.table.now) (sym c.pop-value.ensures.rest)
-    (popped-in c.args.table.now c.args.here.now 1 c.requires.numbers.state)
+    (popped-in c.args.table.now c.args.state.now 1 c.requires.numbers.state)
 
 pub note_access-requires-clause-numbers : goal.note_access-requires-clause-numbers
 note_access-requires-clause-numbers c =
@@ -22,8 +22,8 @@ note_access-requires-clause-numbers c =
 
 pub returns-in-Err-clause-flow : goal.returns-in-Err-clause-flow
 returns-in-Err-clause-flow c =
-    store-stopped c.args.frame.now c.args.locked c.args.site c.args.f c.args.table.now c.pop_field.new.table
-    c.in-Ok.ensures.table c.args.here.now c.args.found.now c.requires.numbers c.in-Ok.field
+    store-stopped c.args.context.now c.args.locked c.args.site c.args.f c.args.table.now c.pop_field.new.table
+    c.in-Ok.ensures.table c.args.state.now c.args.found.now c.requires.numbers c.in-Ok.field
     (c.in-Ok.ensures.value
     ∙ ap (λ (s : NumberedState). field_value (top (read_state c.args.table.now s)) c.args.f)
     c.pop-value.ensures.rest)
@@ -34,10 +34,10 @@ returns-in-Err-note_store-clause-flow c =
     let t0 = c.args.table.now in
     let t1 = c.pop_field.new.table in
     let t2 = c.note_access.new.table in
-    let here = c.args.here.now in
+    let here = c.args.state.now in
     let value = c.pop-value.result in
     let accessed = c.in-Ok-note_access.ensures in
-    names-stopped c.args.frame.now c.args.locked c.args.site c.args.f t0 t1
+    names-stopped c.args.context.now c.args.locked c.args.site c.args.f t0 t1
     c.in-Ok.ensures.table here c.args.found.now c.requires.numbers c.in-Ok.field
     (c.in-Ok.ensures.value
     ∙ ap (λ (s : NumberedState). field_value (top (read_state t0 s)) c.args.f) c.pop-value.ensures.rest)
@@ -53,10 +53,10 @@ returns-clause-flow c =
     let t0 = c.args.table.now in
     let t1 = c.pop_field.new.table in
     let t2 = c.note_access.new.table in
-    let here = c.args.here.now in
+    let here = c.args.state.now in
     let value = c.pop-value.result in
     let accessed = c.in-Ok-note_access.ensures in
-    store-flows c.args.frame.now c.args.locked c.args.site c.args.f t0 t1
+    store-flows c.args.context.now c.args.locked c.args.site c.args.f t0 t1
     c.in-Ok.ensures.table here c.args.found.now c.requires.numbers c.in-Ok.field
     (c.in-Ok.ensures.value
     ∙ ap (λ (s : NumberedState). field_value (top (read_state t0 s)) c.args.f) c.pop-value.ensures.rest)
@@ -76,7 +76,7 @@ returns-clause-numbers c =
     let t0 = c.args.table.now in
     let t1 = c.pop_field.new.table in
     let t2 = c.note_access.new.table in
-    let here = c.args.here.now in
+    let here = c.args.state.now in
     let value = c.pop-value.result in
     let accessed = c.in-Ok-note_access.ensures in
     record {

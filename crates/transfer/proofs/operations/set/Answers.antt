@@ -8,7 +8,7 @@ use Rattle.transfer.proofs.operations.set.Goals as goal
 
 pub returns-clause-flow : goal.returns-clause-flow
 returns-clause-flow c = λ table is.
-    let here = c.args.here.now in
+    let here = c.args.state.now in
     let value = c.top-value.result in (
       ap Some (sym (set-state table here value c.top-value.ensures c.args.variable c.set.new.self c.set.ensures)),
       subst (λ (v : Value). IsNoted (read_found table c.args.found.now) (marks [] (names_of v))
@@ -18,7 +18,7 @@ returns-clause-flow c = λ table is.
 
 pub returns-clause-numbers : goal.returns-clause-numbers
 returns-clause-numbers c = λ table is.
-    let here = c.args.here.now in
+    let here = c.args.state.now in
     let value = c.top-value.result in
     record {
       once = is.once;

@@ -13,7 +13,7 @@ use Rattle.core_code.proofs.code.Code.TheLaws.{the_size}
 use borrow.Author.Sizes.{sizes}
 use Rattle.core_code.specs.Tree.{LockAt, Tree, Op, Seq, Choice, Loop, Sync, tree_of, in_sequence}
 use Rattle.transfer_loops.specs.Resuming.{Heads, resumed, loops, iterated}
-use Rattle.transfer.specs.Frames.{given}
+use Rattle.transfer.specs.Contexts.{given}
 use Rattle.transfer.specs.Numbered.{read_heads, IsResumedIn}
 use Rattle.transfer.specs.Resumes.{heads_in, IsResumed}
 use Rattle.transfer.proofs.HeadsRead.{long-back, long-read, heads-long, heads-still, rounds-read}
@@ -38,13 +38,13 @@ resume_round-returns-then-not-passed t c =
     let ends = is_no c.in-Ok-resume.passed.goes_on c.if-not-passed.true in
     record {
       resumed =
-          round-kept (given c.args.frame.now) (tree_of c.args.body.now) c.args.locked c.args.first t0 new.table m.table
-          c.args.here.now c.in-Ok.end new.here c.args.heads.now.items new.heads.items c.in-Ok-resume.passed
+          round-kept (given c.args.context.now) (tree_of c.args.body.now) c.args.locked c.args.first t0 new.table m.table
+          c.args.state.now c.in-Ok.end new.state c.args.heads.now.items new.heads.items c.in-Ok-resume.passed
           c.in-Ok.ensures c.requires.numbers.state m.resumed ends;
       numbers =
           record {
             once = m.numbers.once;
-            state = state-still t0 new.table m.table c.args.here.now c.requires.numbers.state;
+            state = state-still t0 new.table m.table c.args.state.now c.requires.numbers.state;
             left = m.numbers.left;
           };
       table = m.table;
@@ -54,13 +54,13 @@ resume_round-returns-then-not-passed t c =
 
 pub resume_rounds-loop-round-init : goal.resume_rounds-loop-round-init
 resume_rounds-loop-round-init t c =
-    let go = resumed (given c.args.frame.now) (tree_of c.args.body.now) c.args.locked c.args.first in
+    let go = resumed (given c.args.context.now) (tree_of c.args.body.now) c.args.locked c.args.first in
     let table = c.args.table.now in
     let all : c.args.rounds - 0 ≡ c.args.rounds = omega arith in
     record {
       same =
           ap (λ (n : ℕ). iterated go n (heads_in (read_heads table c.args.heads.now.items))
-          (read_state table c.args.here.now)) all;
+          (read_state table c.args.state.now)) all;
       long = refl;
       numbers = c.requires.numbers;
       on = goes_on-same table;
@@ -68,7 +68,7 @@ resume_rounds-loop-round-init t c =
 
 pub resume_rounds-returns-then-not-changed : goal.resume_rounds-returns-then-not-changed
 resume_rounds-returns-then-not-changed t c =
-    let go = resumed (given c.args.frame.now) (tree_of c.args.body.now) c.args.locked c.args.first in
+    let go = resumed (given c.args.context.now) (tree_of c.args.body.now) c.args.locked c.args.first in
     let t0 = c.args.table.now in
     let at = c.loop-round in
     let new = c.resume_round.new in
@@ -80,7 +80,7 @@ resume_rounds-returns-then-not-changed t c =
     let later = read_heads new.table new.heads.items in
     let ends =
     round_ends go (c.args.rounds - (at.round + 1)) (c.args.rounds - at.round) (heads_in hs) (heads_in later)
-    (read_state at.table at.here) (read_state new.table new.here) c.in-Ok.changed left m.0 m.1 m.3.0
+    (read_state at.table at.state) (read_state new.table new.state) c.in-Ok.changed left m.0 m.1 m.3.0
     c.if-not-changed.true in
     record {
       resumed = (
@@ -96,7 +96,7 @@ resume_rounds-returns-then-not-changed t c =
 
 pub resume_rounds-loop-round-preserved : goal.resume_rounds-loop-round-preserved
 resume_rounds-loop-round-preserved t c =
-    let go = resumed (given c.args.frame.now) (tree_of c.args.body.now) c.args.locked c.args.first in
+    let go = resumed (given c.args.context.now) (tree_of c.args.body.now) c.args.locked c.args.first in
     let t0 = c.args.table.now in
     let at = c.loop-round in
     let new = c.resume_round.new in
@@ -109,7 +109,7 @@ resume_rounds-loop-round-preserved t c =
     record {
       same =
           round_goes_on go (c.args.rounds - (at.round + 1)) (c.args.rounds - at.round) (heads_in hs) (heads_in later)
-          (read_state at.table at.here) (read_state new.table new.here) c.in-Ok.changed left m.0 m.1 m.3.0
+          (read_state at.table at.state) (read_state new.table new.state) c.in-Ok.changed left m.0 m.1 m.3.0
           c.if-not-changed.false
           ∙ at.invariant.same;
       long = long-back at.table new.table at.heads.items new.heads.items m.3.1 ∙ at.invariant.long;
@@ -119,11 +119,11 @@ resume_rounds-loop-round-preserved t c =
 
 pub resume_rounds-returns : goal.resume_rounds-returns
 resume_rounds-returns t c =
-    let go = resumed (given c.args.frame.now) (tree_of c.args.body.now) c.args.locked c.args.first in
+    let go = resumed (given c.args.context.now) (tree_of c.args.body.now) c.args.locked c.args.first in
     let at = c.loop-round in
     let none : c.args.rounds - at.round ≡ 0 = omega (arith, c.loop-round-test.false) in
     let hs = heads_in (read_heads at.table at.heads.items) in
-    let here = read_state at.table at.here in
+    let here = read_state at.table at.state in
     let all = sym (ap (λ (n : ℕ). iterated go n hs here) none) ∙ at.invariant.same in
     record {
       resumed = (
@@ -163,11 +163,11 @@ resume_loop-resume_round-requires t c =
 
 pub resume_loop-returns-then-not-changed : goal.resume_loop-returns-then-not-changed
 resume_loop-returns-then-not-changed t c =
-    let g = given c.args.frame.now in
+    let g = given c.args.context.now in
     let body = tree_of c.args.body.now in
     let t0 = c.args.table.now in
     let old = c.args.heads.now.items in
-    let start = c.args.here.now in
+    let start = c.args.state.now in
     let first = c.args.first in
     let left = c.index.result.now in
     let low : first < length old =
@@ -179,10 +179,10 @@ resume_loop-returns-then-not-changed t c =
     record {
       resumed =
           loop_kept g body c.args.locked first c.in-Ok-resume_round.next c.rounds-rounds.result (read_state t0 start)
-          (read_state t0 c.go_on.new.here) (read_state new.table new.here) (read_heads t0 old)
+          (read_state t0 c.go_on.new.state) (read_state new.table new.state) (read_heads t0 old)
           (read_heads new.table new.heads.items) c.in-Ok-resume_round.changed
           (rounds-read t0 start c.rounds-rounds.result c.rounds-rounds.ensures)
-          (loop-begun t0 old first ready.left left start c.go_on.new.here low is
+          (loop-begun t0 old first ready.left left start c.go_on.new.state low is
           (c.in-Ok.ensures.next t0 ready.once ready.state (left-in t0 old first ready.left left low is)))
           k.resumed c.if-not-changed.true;
       numbers = k.numbers;
@@ -191,11 +191,11 @@ resume_loop-returns-then-not-changed t c =
 
 pub resume_loop-returns : goal.resume_loop-returns
 resume_loop-returns t c =
-    let g = given c.args.frame.now in
+    let g = given c.args.context.now in
     let body = tree_of c.args.body.now in
     let t0 = c.args.table.now in
     let old = c.args.heads.now.items in
-    let start = c.args.here.now in
+    let start = c.args.state.now in
     let first = c.args.first in
     let left = c.index.result.now in
     let low : first < length old =
@@ -211,16 +211,16 @@ resume_loop-returns t c =
     record {
       resumed =
           loop_left g body c.args.locked first c.in-Ok-resume_round.next c.rounds-rounds.result (read_state t0 start)
-          (read_state t0 c.go_on.new.here) (read_state mid.table mid.here) (read_state now.table now.here)
+          (read_state t0 c.go_on.new.state) (read_state mid.table mid.state) (read_state now.table now.state)
           (read_heads t0 old) (read_heads mid.table mid.heads.items) (read_heads now.table now.heads.items)
           (read_heads now.table (slice_set now.heads.items first (Some end))) c.in-Ok-resume_round.changed
           (rounds-read t0 start c.rounds-rounds.result c.rounds-rounds.ensures) within
-          (loop-begun t0 old first ready.left left start c.go_on.new.here low is
+          (loop-begun t0 old first ready.left left start c.go_on.new.state low is
           (c.in-Ok.ensures.next t0 ready.once ready.state (left-in t0 old first ready.left left low is)))
           k.resumed c.if-not-changed.false m.resumed
-          (loop-put now.table now.heads.items first m.numbers.left now.here end c.in-Ok-copied.ensures);
+          (loop-put now.table now.heads.items first m.numbers.left now.state end c.in-Ok-copied.ensures);
       numbers =
-          loop-in now.table now.heads.items first m.numbers.left now.here end m.numbers.once m.numbers.state
+          loop-in now.table now.heads.items first m.numbers.left now.state end m.numbers.once m.numbers.state
           c.in-Ok-copied.ensures;
       table = goes_on-trans t0 mid.table now.table k.table m.table;
     }
@@ -232,19 +232,19 @@ resume_round-returns t c =
     let m = c.in-Ok-resume.ensures in
     let goes = is_yes c.in-Ok-resume.passed.goes_on c.if-not-passed.false in
     let met = c.meet-changed in
-    let start = c.args.here.now in
+    let start = c.args.state.now in
     let still = state-still t0 new.table m.table start c.requires.numbers.state in
     record {
       resumed =
-          round-met (given c.args.frame.now) (tree_of c.args.body.now) c.args.locked c.args.first t0 new.table m.table
-          start c.in-Ok.end new.here c.args.heads.now.items new.heads.items c.in-Ok-resume.passed
+          round-met (given c.args.context.now) (tree_of c.args.body.now) c.args.locked c.args.first t0 new.table m.table
+          start c.in-Ok.end new.state c.args.heads.now.items new.heads.items c.in-Ok-resume.passed
           c.in-Ok.ensures c.requires.numbers.state m.resumed m.numbers.once m.numbers.state met.new.self met.result goes
           met.ensures.state met.ensures.changed;
       numbers =
           record {
             once = m.numbers.once;
             state =
-                subst (AreInRange new.table) (sym met.ensures.state) (met-in new.table start new.here still);
+                subst (AreInRange new.table) (sym met.ensures.state) (met-in new.table start new.state still);
             left = m.numbers.left;
           };
       table = m.table;
@@ -269,7 +269,7 @@ resume_through-loop-index-init t c =
 
 pub resume_through-loop-index-preserved : goal.resume_through-loop-index-preserved
 resume_through-loop-index-preserved t c =
-    let g = given c.args.frame.now in
+    let g = given c.args.context.now in
     let at = c.loop-index in
     let i = at.index in
     let parts = c.args.parts.now in
@@ -279,7 +279,7 @@ resume_through-loop-index-preserved t c =
     let t0 = c.args.table.now in
     let new = c.resume.new in
     let begin = read_heads t0 c.args.heads.now.items in
-    let start = read_state t0 c.args.here.now in
+    let start = read_state t0 c.args.state.now in
     let k = c.in-Ok.ensures in
     let p = c.in-Ok.passed in
     let hs = read_heads at.table at.heads.items in
@@ -288,12 +288,12 @@ resume_through-loop-index-preserved t c =
     let same : whole ≡ Seq (tree_of part) rest = turn parts i part c.loop-index-test.true c.index-parts-index.is in
     record {
       same =
-          through-more g (tree_of part) rest whole c.args.locked at.number c.args.first (read_state at.table at.here)
-          (read_state new.table new.here) start hs later begin p same k.resumed all
+          through-more g (tree_of part) rest whole c.args.locked at.number c.args.first (read_state at.table at.state)
+          (read_state new.table new.state) start hs later begin p same k.resumed all
           (is_yes p.goes_on c.if-not-passed.false) at.invariant.same;
       number =
-          through-number g (tree_of part) rest whole c.args.locked at.number c.args.first (read_state at.table at.here)
-          (read_state new.table new.here) start hs later begin p same k.resumed all at.invariant.number;
+          through-number g (tree_of part) rest whole c.args.locked at.number c.args.first (read_state at.table at.state)
+          (read_state new.table new.state) start hs later begin p same k.resumed all at.invariant.number;
       long =
           long-back at.table new.table at.heads.items new.heads.items k.resumed.2.1 ∙ at.invariant.long;
       numbers = k.numbers;
@@ -302,7 +302,7 @@ resume_through-loop-index-preserved t c =
 
 pub resume_through-returns-then-not-passed : goal.resume_through-returns-then-not-passed
 resume_through-returns-then-not-passed t c =
-    let g = given c.args.frame.now in
+    let g = given c.args.context.now in
     let at = c.loop-index in
     let i = at.index in
     let parts = c.args.parts.now in
@@ -317,14 +317,14 @@ resume_through-returns-then-not-passed t c =
     let same : whole ≡ Seq (tree_of part) rest = turn parts i part c.loop-index-test.true c.index-parts-index.is in
     record {
       resumed =
-          through-passed g all c.args.locked at.number c.args.first (read_state at.table at.here)
-          (read_state t0 c.args.here.now) (read_heads at.table at.heads.items) (read_heads t0 c.args.heads.now.items)
-          (tree_of part) rest whole (read_state new.table new.here) (read_heads new.table new.heads.items) p
+          through-passed g all c.args.locked at.number c.args.first (read_state at.table at.state)
+          (read_state t0 c.args.state.now) (read_heads at.table at.heads.items) (read_heads t0 c.args.heads.now.items)
+          (tree_of part) rest whole (read_state new.table new.state) (read_heads new.table new.heads.items) p
           c.pass_over.result same k.resumed (is_no p.goes_on c.if-not-passed.true) at.invariant.number
           (long-read t0 at.table c.args.heads.now.items at.heads.items at.invariant.long) at.invariant.same
           (passed-behind _ (drop (i + 1) parts) p.next c.pass_over.result c.pass_over.ensures
           (take_all (length parts - (i + 1)) (drop (i + 1) parts) (omega (arith, length-drop (i + 1) parts))));
-      numbers = always c.pass_over.result (IsResumedIn new.table new.here new.heads.items) k.numbers;
+      numbers = always c.pass_over.result (IsResumedIn new.table new.state new.heads.items) k.numbers;
       table =
           always c.pass_over.result (GoesOn t0 new.table)
           (goes_on-trans t0 at.table new.table at.invariant.on k.table);
@@ -339,8 +339,8 @@ resume_through-returns t c =
     let rest = in_sequence (map tree_of (drop at.index parts)) in
     record {
       resumed =
-          through-done (given c.args.frame.now) all c.args.locked at.number c.args.first (read_state at.table at.here)
-          (read_state t0 c.args.here.now) (read_heads at.table at.heads.items) (read_heads t0 c.args.heads.now.items)
+          through-done (given c.args.context.now) all c.args.locked at.number c.args.first (read_state at.table at.state)
+          (read_state t0 c.args.state.now) (read_heads at.table at.heads.items) (read_heads t0 c.args.heads.now.items)
           rest (at_drop_all (λ ps. in_sequence (map tree_of ps)) parts at.index (omega arith)) at.invariant.same
           at.invariant.number
           (long-read t0 at.table c.args.heads.now.items at.heads.items at.invariant.long);
@@ -360,11 +360,11 @@ resume-returns-in-Ok t c =
     let ready = c.requires.numbers in
     record {
       resumed =
-          subst (λ (code : Tree). IsResumed (given c.args.frame.now) code c.args.locked c.args.first
-          (read_state t0 c.args.here.now) (read_state new.table new.here) (read_heads t0 hs) (read_heads new.table hs)
+          subst (λ (code : Tree). IsResumed (given c.args.context.now) code c.args.locked c.args.first
+          (read_state t0 c.args.state.now) (read_state new.table new.state) (read_heads t0 hs) (read_heads new.table hs)
           (Ok (record { next = c.args.first; goes_on = c.in-Ok.goes_on }))) (sym is)
-          (op-resumed (given c.args.frame.now) c.in-Op.field-0 c.in-Op.field-1 c.in-Op.op c.args.locked c.args.first t0
-          new.table c.args.here.now new.here hs c.in-Ok.goes_on k.table ready.left k.next);
+          (op-resumed (given c.args.context.now) c.in-Op.field-0 c.in-Op.field-1 c.in-Op.op c.args.locked c.args.first t0
+          new.table c.args.state.now new.state hs c.in-Ok.goes_on k.table ready.left k.next);
       numbers = record { once = k.once; state = k.numbers; left = heads-still t0 new.table k.table hs ready.left };
       table = k.table;
     }
@@ -387,7 +387,7 @@ resume-resume-requires-in-Choice t c =
             (long-back t0 one.table hs one.heads.items l.resumed.2.1),
         record {
           once = l.numbers.once;
-          state = copied-in t0 one.table l.table c.args.here.now c.in-Ok-copied.other c.in-Ok-copied.ensures
+          state = copied-in t0 one.table l.table c.args.state.now c.in-Ok-copied.other c.in-Ok-copied.ensures
               c.requires.numbers.state;
           left = l.numbers.left;
         },
@@ -396,11 +396,11 @@ resume-resume-requires-in-Choice t c =
 
 pub resume-returns-in-Ok-resume-2 : goal.resume-returns-in-Ok-resume-2
 resume-returns-in-Ok-resume-2 t c =
-    let g = given c.args.frame.now in
+    let g = given c.args.context.now in
     let left = tree_of c.deref.result.now in
     let right = tree_of c.deref-in-Choice.result.now in
     let t0 = c.args.table.now in
-    let start = c.args.here.now in
+    let start = c.args.state.now in
     let hs = c.args.heads.now.items in
     let one = c.resume.new in
     let two = c.resume-in-Choice.new in
@@ -409,15 +409,15 @@ resume-returns-in-Ok-resume-2 t c =
     let r = c.in-Ok-resume-2.ensures in
     let p = c.in-Ok-resume.one in
     let q = c.in-Ok-resume-2.two in
-    let still = state-still one.table two.table r.table one.here l.numbers.state in
+    let still = state-still one.table two.table r.table one.state l.numbers.state in
     let sides : tree_of c.args.code.now ≡ Choice left right = search (rules, the_lemmas) in
     record {
       resumed =
           subst (λ (code : Tree). IsResumed g code c.args.locked c.args.first (read_state t0 start)
-          (read_state two.table end.new.here) (read_heads t0 hs) (read_heads two.table two.heads.items)
+          (read_state two.table end.new.state) (read_heads t0 hs) (read_heads two.table two.heads.items)
           (Ok (record { next = q.next; goes_on = end.result }))) (sym sides)
           (choice-resumed g left right c.args.locked c.args.first t0 one.table two.table l.table r.table start
-          c.in-Ok-copied.other one.here two.here end.new.here hs one.heads.items two.heads.items p q end.result
+          c.in-Ok-copied.other one.state two.state end.new.state hs one.heads.items two.heads.items p q end.result
           c.in-Ok-copied.ensures c.requires.numbers.state l.numbers.state l.resumed r.resumed
           (end.ensures.next two.table r.numbers.once still r.numbers.state));
       numbers =
@@ -431,14 +431,14 @@ resume-returns-in-Ok-resume-2 t c =
 
 pub resume-returns-in-Sync : goal.resume-returns-in-Sync
 resume-returns-in-Sync t c =
-    let g = given c.args.frame.now in
+    let g = given c.args.context.now in
     let table = c.args.table.now in
-    let start = c.args.here.now in
+    let start = c.args.state.now in
     let lock : LockAt = record { place = c.in-Sync.field-0; kind = c.in-Sync.field-1 } in
     let body = tree_of c.deref-in-Sync.result.now in
     let is : tree_of c.args.code.now ≡ Sync lock body = search (rules, the_lemmas) in
     let done = c.resume-in-Sync in
-    let here = read_state done.new.table done.new.here in
+    let here = read_state done.new.table done.new.state in
     let hs = read_heads table c.args.heads.now.items in
     let later = read_heads done.new.table done.new.heads.items in
     let m = done.ensures in
@@ -461,8 +461,8 @@ resume-returns-in-Seq t c =
     let is : tree_of c.args.code.now ≡ in_sequence (map tree_of c.as_slice.result.now) = search (rules, the_lemmas) in
     record {
       resumed =
-          subst (λ (code : Tree). IsResumed (given c.args.frame.now) code c.args.locked c.args.first
-          (read_state t0 c.args.here.now) (read_state new.table new.here) (read_heads t0 c.args.heads.now.items)
+          subst (λ (code : Tree). IsResumed (given c.args.context.now) code c.args.locked c.args.first
+          (read_state t0 c.args.state.now) (read_state new.table new.state) (read_heads t0 c.args.heads.now.items)
           (read_heads new.table new.heads.items) c.resume_through.result) (sym is) m.resumed;
       numbers = m.numbers;
       table = m.table;
@@ -476,8 +476,8 @@ resume-returns-in-Loop t c =
     let is : tree_of c.args.code.now ≡ Loop (tree_of c.deref-in-Loop.result.now) = search (rules, the_lemmas) in
     record {
       resumed =
-          subst (λ (code : Tree). IsResumed (given c.args.frame.now) code c.args.locked c.args.first
-          (read_state t0 c.args.here.now) (read_state new.table new.here) (read_heads t0 c.args.heads.now.items)
+          subst (λ (code : Tree). IsResumed (given c.args.context.now) code c.args.locked c.args.first
+          (read_state t0 c.args.state.now) (read_state new.table new.state) (read_heads t0 c.args.heads.now.items)
           (read_heads new.table new.heads.items) c.resume_loop.result) (sym is) m.resumed;
       numbers = m.numbers;
       table = m.table;

@@ -9,7 +9,7 @@ use Rattle.transfer.proofs.resuming.go_on.Goals as goal
 
 pub returns-in_ok-copied-clause-next : goal.returns-in_ok-copied-clause-next
 returns-in_ok-copied-clause-next c = λ table once low head.
-    let here = c.args.here.now in
+    let here = c.args.state.now in
     let left = c.in-Some.left in
     met-state table once here left low (subst (IsHeadInRange table) c.in-Some.is head) c.meet.new.self
     (c.meet.ensures.state ∙ ap (met_numbers here) c.in_ok-copied.ensures)
@@ -18,7 +18,7 @@ returns-in_ok-copied-clause-next c = λ table once low head.
 
 pub returns-in_ok-copied-clause-numbers : goal.returns-in_ok-copied-clause-numbers
 returns-in_ok-copied-clause-numbers c = λ table once low head.
-    let here = c.args.here.now in
+    let here = c.args.state.now in
     let left = c.in-Some.left in
     met-state-in table once here left low (subst (IsHeadInRange table) c.in-Some.is head) c.meet.new.self
     (c.meet.ensures.state ∙ ap (met_numbers here) c.in_ok-copied.ensures)

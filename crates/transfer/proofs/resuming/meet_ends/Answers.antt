@@ -7,7 +7,7 @@ use Rattle.transfer.proofs.resuming.meet_ends.Goals as goal
 
 pub returns-then-left_goes_on-clause-next : goal.returns-then-left_goes_on-clause-next
 returns-then-left_goes_on-clause-next c = λ table once low other_low.
-    let here = c.args.here.now in
+    let here = c.args.state.now in
     let other = c.args.other in
     ap Some (met-state table once here other low other_low c.meet.new.self c.meet.ensures.state)
     ∙ sym (λ i. joined_next (next_of (c.if-left_goes_on.true i) (read_state table here))
@@ -15,4 +15,4 @@ returns-then-left_goes_on-clause-next c = λ table once low other_low.
 
 pub returns-then-left_goes_on-clause-numbers : goal.returns-then-left_goes_on-clause-numbers
 returns-then-left_goes_on-clause-numbers c = λ table once low other_low.
-    met-state-in table once c.args.here.now c.args.other low other_low c.meet.new.self c.meet.ensures.state
+    met-state-in table once c.args.state.now c.args.other low other_low c.meet.new.self c.meet.ensures.state

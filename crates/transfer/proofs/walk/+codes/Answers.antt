@@ -12,7 +12,7 @@ use Rattle.core_code.proofs.code.Code.TheLaws.{the_size}
 use borrow.Author.Sizes.{sizes}
 use Rattle.core_code.specs.Tree.{LockAt, Tree, Op, Seq, Choice, Loop, Sync, tree_of, in_sequence}
 use Rattle.access_domain.specs.Flow.{flow}
-use Rattle.transfer.specs.Frames.{given}
+use Rattle.transfer.specs.Contexts.{given}
 use Rattle.transfer.specs.Marks.{IsStopped}
 use Rattle.transfer.specs.Numbered.{read_found, AreCallNumbers}
 use Rattle.transfer.specs.Walks.{IsFlow, next_of}
@@ -28,10 +28,10 @@ use Rattle.transfer.proofs.walk.+codes.Goals as goal
 
 pub walk_code-returns-in-Err : goal.walk_code-returns-in-Err
 walk_code-returns-in-Err t c =
-    let g = given c.args.frame.now in
+    let g = given c.args.context.now in
     let left = tree_of c.deref.result.now in
     let right = tree_of c.in-Choice.right.value in
-    let here = read_state c.args.table.now c.args.here.now in
+    let here = read_state c.args.table.now c.args.state.now in
     let found = read_found c.args.table.now c.args.found.now in
     let sides : tree_of c.args.code.now ≡ Choice left right = search (rules, the_lemmas) in
     record {
@@ -47,7 +47,7 @@ walk_code-returns-in-Err t c =
 
 pub walk_code-returns-in-Err-walk_code : goal.walk_code-returns-in-Err-walk_code
 walk_code-returns-in-Err-walk_code t c =
-    let g = given c.args.frame.now in
+    let g = given c.args.context.now in
     let left = tree_of c.deref.result.now in
     let right = tree_of c.deref-in-Choice.result.now in
     let t0 = c.args.table.now in
@@ -57,8 +57,8 @@ walk_code-returns-in-Err-walk_code t c =
     record {
       flow =
           subst (λ (code : Tree). IsStopped (read_found t0 c.args.found.now)
-          (flow g code c.args.locked (read_state t0 c.args.here.now)) stop) (sym sides)
-          (right-stopped g left right c.args.locked t0 one.table c.in-Ok-walk_code.ensures.table c.args.here.now
+          (flow g code c.args.locked (read_state t0 c.args.state.now)) stop) (sym sides)
+          (right-stopped g left right c.args.locked t0 one.table c.in-Ok-walk_code.ensures.table c.args.state.now
           c.in-Ok.other c.args.found.now one.found c.in-Ok.ensures c.requires.numbers.state stop
           c.in-Ok-walk_code.ensures.flow.1 c.in-Err-walk_code.ensures.flow);
       numbers = tt;
@@ -69,12 +69,12 @@ walk_code-returns-in-Err-walk_code t c =
 
 pub walk_code-returns-in-Ok-walk_code-2 : goal.walk_code-returns-in-Ok-walk_code-2
 walk_code-returns-in-Ok-walk_code-2 t c =
-    let g = given c.args.frame.now in
+    let g = given c.args.context.now in
     let left = tree_of c.deref.result.now in
     let right = tree_of c.deref-in-Choice.result.now in
     let locked = c.args.locked in
     let t0 = c.args.table.now in
-    let start = c.args.here.now in
+    let start = c.args.state.now in
     let f0 = c.args.found.now in
     let one = c.walk_code.new in
     let two = c.walk_code-in-Choice.new in
@@ -86,20 +86,20 @@ walk_code-returns-in-Ok-walk_code-2 t c =
     record {
       flow =
           subst (λ (code : Tree). IsFlow (flow g code locked (read_state t0 start))
-          (read_state two.table end.new.here) (read_found t0 f0) (read_found two.table end.new.found) end.result)
+          (read_state two.table end.new.state) (read_found t0 f0) (read_found two.table end.new.found) end.result)
           (sym sides)
           (ways-met g left right locked t0 one.table l.table start c.in-Ok.other f0 one.found c.in-Ok.ensures low
-          two.table r.table one.here two.here end.new.here two.found end.new.found c.in-Ok-walk_code.goes_on
+          two.table r.table one.state two.state end.new.state two.found end.new.found c.in-Ok-walk_code.goes_on
           c.in-Ok-walk_code-2.goes_on end.result l.numbers r.numbers l.flow r.flow end.ensures.state
           end.ensures.found);
       numbers =
           ways-numbers g left right locked t0 one.table l.table start c.in-Ok.other f0 one.found c.in-Ok.ensures low
-          two.table r.table one.here two.here end.new.here two.found end.new.found c.in-Ok-walk_code.goes_on
+          two.table r.table one.state two.state end.new.state two.found end.new.found c.in-Ok-walk_code.goes_on
           c.in-Ok-walk_code-2.goes_on end.result l.numbers r.numbers end.ensures.numbers;
       called = always end.result (AreCallNumbers two.table two.calls.keys) r.called;
       calls =
           ways-called g left right locked t0 one.table l.table start c.in-Ok.other f0 one.found c.in-Ok.ensures low
-          two.table r.table one.here two.here end.new.here two.found end.new.found c.in-Ok-walk_code.goes_on
+          two.table r.table one.state two.state end.new.state two.found end.new.found c.in-Ok-walk_code.goes_on
           c.in-Ok-walk_code-2.goes_on end.result l.numbers r.numbers two.calls.keys r.calls end.ensures.found;
       table = always end.result (GoesOn t0 two.table) (goes_on-trans t0 one.table two.table l.table r.table);
     }
@@ -111,8 +111,8 @@ walk_code-returns-in-Loop t c =
     let looped : tree_of c.args.code.now ≡ Loop (tree_of c.deref-in-Loop.result.now) = search (rules, the_lemmas) in
     record {
       flow =
-          subst (λ (code : Tree). IsFlow (flow (given c.args.frame.now) code c.args.locked
-          (read_state table c.args.here.now)) (read_state new.table new.here) (read_found table c.args.found.now)
+          subst (λ (code : Tree). IsFlow (flow (given c.args.context.now) code c.args.locked
+          (read_state table c.args.state.now)) (read_state new.table new.state) (read_found table c.args.found.now)
           (read_found new.table new.found) c.repeat.result) (sym looped) c.repeat.ensures.flow;
       numbers = c.repeat.ensures.numbers;
       called = c.repeat.ensures.called;
@@ -127,8 +127,8 @@ walk_code-returns-in-Op t c =
     let is : tree_of c.args.code.now ≡ Op c.in-Op.site c.in-Op.field-1 c.in-Op.op = search (rules, the_lemmas) in
     record {
       flow =
-          subst (λ (code : Tree). IsFlow (flow (given c.args.frame.now) code c.args.locked
-          (read_state table c.args.here.now)) (read_state new.table new.here) (read_found table c.args.found.now)
+          subst (λ (code : Tree). IsFlow (flow (given c.args.context.now) code c.args.locked
+          (read_state table c.args.state.now)) (read_state new.table new.state) (read_found table c.args.found.now)
           (read_found new.table new.found) c.operate.result) (sym is) c.operate.ensures.flow;
       numbers = c.operate.ensures.numbers;
       called = c.operate.ensures.called;
@@ -144,8 +144,8 @@ walk_code-returns-in-Seq t c =
     search (rules, the_lemmas) in
     record {
       flow =
-          subst (λ (code : Tree). IsFlow (flow (given c.args.frame.now) code c.args.locked
-          (read_state table c.args.here.now)) (read_state new.table new.here) (read_found table c.args.found.now)
+          subst (λ (code : Tree). IsFlow (flow (given c.args.context.now) code c.args.locked
+          (read_state table c.args.state.now)) (read_state new.table new.state) (read_found table c.args.found.now)
           (read_found new.table new.found) c.go_through.result) (sym is) c.go_through.ensures.flow;
       numbers = c.go_through.ensures.numbers;
       called = c.go_through.ensures.called;
@@ -171,14 +171,14 @@ go_through-loop-part-init t c =
 
 pub go_through-returns-in-Ok-false : goal.go_through-returns-in-Ok-false
 go_through-returns-in-Ok-false t c =
-    let g = given c.args.frame.now in
+    let g = given c.args.context.now in
     let at = c.loop-part in
     let i = at.part-index in
     let parts = c.args.parts.now in
     let last = c.walk_code.new in
-    let here = read_state at.table at.here in
+    let here = read_state at.table at.state in
     let found = read_found at.table at.found in
-    let end = read_state last.table last.here in
+    let end = read_state last.table last.state in
     let new = read_found last.table last.found in
     let m = c.in-Ok-false.ensures in
     record {
@@ -197,11 +197,11 @@ go_through-returns-in-Ok-false t c =
 
 pub go_through-returns-in-Err : goal.go_through-returns-in-Err
 go_through-returns-in-Err t c =
-    let g = given c.args.frame.now in
+    let g = given c.args.context.now in
     let at = c.loop-part in
     let i = at.part-index in
     let parts = c.args.parts.now in
-    let here = read_state at.table at.here in
+    let here = read_state at.table at.state in
     let found = read_found at.table at.found in
     record {
       flow =
@@ -219,14 +219,14 @@ go_through-returns-in-Err t c =
 
 pub go_through-loop-part-preserved : goal.go_through-loop-part-preserved
 go_through-loop-part-preserved t c =
-    let g = given c.args.frame.now in
+    let g = given c.args.context.now in
     let at = c.loop-part in
     let i = at.part-index in
     let parts = c.args.parts.now in
     let last = c.walk_code.new in
-    let here = read_state at.table at.here in
+    let here = read_state at.table at.state in
     let found = read_found at.table at.found in
-    let next_here = read_state last.table last.here in
+    let next_here = read_state last.table last.state in
     let next_found = read_found last.table last.found in
     let first = tree_of c.part-item.result in
     let rest = in_sequence (map tree_of (drop (i + 1) parts)) in
@@ -251,10 +251,10 @@ go_through-loop-part-preserved t c =
 
 pub go_through-returns : goal.go_through-returns
 go_through-returns t c =
-    let g = given c.args.frame.now in
+    let g = given c.args.context.now in
     let at = c.loop-part in
     let parts = c.args.parts.now in
-    let here = read_state at.table at.here in
+    let here = read_state at.table at.state in
     let found = read_found at.table at.found in
     record {
       flow =
@@ -273,8 +273,8 @@ repeat-returns-in-Err t c =
     let table = c.args.table.now in
     record {
       flow =
-          stopped_lost (flow (given c.args.frame.now) (tree_of c.args.body.now) c.args.locked)
-          (read_state table c.args.here.now) (read_found table c.args.found.now) c.in-Err.stop
+          stopped_lost (flow (given c.args.context.now) (tree_of c.args.body.now) c.args.locked)
+          (read_state table c.args.state.now) (read_found table c.args.found.now) c.in-Err.stop
           c.in-Err.ensures.rounds.1;
       numbers = tt;
       called = tt;
@@ -284,7 +284,7 @@ repeat-returns-in-Err t c =
 
 pub repeat-walk_code-ended-requires : goal.repeat-walk_code-ended-requires
 repeat-walk_code-ended-requires t c =
-    let g = given c.args.frame.now in
+    let g = given c.args.context.now in
     let body = tree_of c.args.body.now in
     let t0 = c.args.table.now in
     let now = c.go_rounds.new in
@@ -292,14 +292,14 @@ repeat-walk_code-ended-requires t c =
     let end = c.in-Ok-copied.end in (
       search rules,
       (
-        body-high g body c.args.locked t0 now.table m.table c.args.here.now now.here end c.args.found.now now.found
+        body-high g body c.args.locked t0 now.table m.table c.args.state.now now.state end c.args.found.now now.found
             c.in-Ok-copied.ensures m.rounds m.numbers m.high,
         (
-          body-ready g body c.args.locked t0 now.table m.table c.args.here.now now.here end c.args.found.now now.found
+          body-ready g body c.args.locked t0 now.table m.table c.args.state.now now.state end c.args.found.now now.found
               c.in-Ok-copied.ensures m.rounds m.numbers,
           (
             calls-still t0 now.table m.table c.args.calls.now.keys c.requires.called,
-            body-found g body c.args.locked t0 now.table m.table c.args.here.now now.here end c.args.found.now
+            body-found g body c.args.locked t0 now.table m.table c.args.state.now now.state end c.args.found.now
                 now.found c.in-Ok-copied.ensures m.rounds m.numbers c.args.calls.now.keys c.requires.called
                 c.requires.calls,
           ),
@@ -309,7 +309,7 @@ repeat-walk_code-ended-requires t c =
 
 pub repeat-returns-in-Ok-ended : goal.repeat-returns-in-Ok-ended
 repeat-returns-in-Ok-ended t c =
-    let g = given c.args.frame.now in
+    let g = given c.args.context.now in
     let body = tree_of c.args.body.now in
     let t0 = c.args.table.now in
     let now = c.go_rounds.new in
@@ -318,11 +318,11 @@ repeat-returns-in-Ok-ended t c =
     let last = c.walk_code-ended.new in
     record {
       flow =
-          loop-done g body c.args.locked t0 now.table m.table c.args.here.now now.here c.in-Ok-copied.end
+          loop-done g body c.args.locked t0 now.table m.table c.args.state.now now.state c.in-Ok-copied.end
           c.args.found.now now.found c.in-Ok-copied.ensures m.rounds m.numbers last.table k.table last.found k.flow.1;
       numbers =
-          loop-numbers g body c.args.locked t0 now.table m.table c.args.here.now now.here c.in-Ok-copied.end
-          c.args.found.now now.found c.in-Ok-copied.ensures m.rounds m.numbers last.table k.table last.found last.here
+          loop-numbers g body c.args.locked t0 now.table m.table c.args.state.now now.state c.in-Ok-copied.end
+          c.args.found.now now.found c.in-Ok-copied.ensures m.rounds m.numbers last.table k.table last.found last.state
           k.numbers;
       called = k.called;
       calls = k.calls;
@@ -331,14 +331,14 @@ repeat-returns-in-Ok-ended t c =
 
 pub repeat-returns-in-Err-ended : goal.repeat-returns-in-Err-ended
 repeat-returns-in-Err-ended t c =
-    let g = given c.args.frame.now in
+    let g = given c.args.context.now in
     let body = tree_of c.args.body.now in
     let t0 = c.args.table.now in
     let now = c.go_rounds.new in
     let m = c.in-Ok.ensures in
     record {
       flow =
-          loop-stopped g body c.args.locked t0 now.table m.table c.args.here.now now.here c.in-Ok-copied.end
+          loop-stopped g body c.args.locked t0 now.table m.table c.args.state.now now.state c.in-Ok-copied.end
           c.args.found.now now.found c.in-Ok-copied.ensures m.rounds m.numbers c.in-Err-ended.stop
           c.in-Err-ended.ensures.flow;
       numbers = tt;
@@ -352,7 +352,7 @@ walk_code-walk_code-requires-in-Choice t c =
     let left = tree_of c.deref.result.now in
     let right = tree_of c.deref-in-Choice.result.now in
     let t0 = c.args.table.now in
-    let start = c.args.here.now in
+    let start = c.args.state.now in
     let one = c.walk_code.new in
     let l = c.in-Ok-walk_code.ensures in
     let low = c.requires.numbers.state in
@@ -363,7 +363,7 @@ walk_code-walk_code-requires-in-Choice t c =
             (high_right left right (read_state t0 start)
             (subst (λ (code : Tree). IsHighEnough code (read_state t0 start)) sides c.requires.high)),
         (
-          copied-ready t0 one.table l.table start c.in-Ok.other c.in-Ok.ensures low one.here one.found l.numbers,
+          copied-ready t0 one.table l.table start c.in-Ok.other c.in-Ok.ensures low one.state one.found l.numbers,
           (l.called, l.calls),
         ),
       ),
@@ -371,15 +371,15 @@ walk_code-walk_code-requires-in-Choice t c =
 
 pub walk_code-returns-in-Sync : goal.walk_code-returns-in-Sync
 walk_code-returns-in-Sync t c =
-    let g = given c.args.frame.now in
+    let g = given c.args.context.now in
     let table = c.args.table.now in
-    let start = c.args.here.now in
+    let start = c.args.state.now in
     let found = c.args.found.now in
     let lock : LockAt = record { place = c.in-Sync.field-0; kind = c.in-Sync.field-1 } in
     let body = tree_of c.deref-in-Sync.result.now in
     let is : tree_of c.args.code.now ≡ Sync lock body = search (rules, the_lemmas) in
     let walked = c.walk_code-in-Sync in
-    let end = read_state walked.new.table walked.new.here in
+    let end = read_state walked.new.table walked.new.state in
     let later = read_found walked.new.table walked.new.found in
     let m = walked.ensures in
     record {

@@ -6,15 +6,15 @@ use Rattle.transfer.proofs.walk.meet.Goals as goal
 
 pub returns-in-Ok-note_numbers-clause-unchanged : goal.returns-in-Ok-note_numbers-clause-unchanged
 returns-in-Ok-note_numbers-clause-unchanged c =
-    λ same. kept-numbered c.in-Ok.changed c.meet_losing.new.self c.args.here.now c.in-Ok.ensures.changed same
+    λ same. kept-numbered c.in-Ok.changed c.meet_losing.new.self c.args.state.now c.in-Ok.ensures.changed same
 
 pub returns-in-Ok-note_numbers-clause-state : goal.returns-in-Ok-note_numbers-clause-state
 returns-in-Ok-note_numbers-clause-state c = λ table is low.
-    met-state table is.once c.args.here.now c.args.other is.state low c.meet_losing.new.self c.in-Ok.ensures.state
+    met-state table is.once c.args.state.now c.args.other is.state low c.meet_losing.new.self c.in-Ok.ensures.state
 
 pub returns-in-Ok-note_numbers-clause-found : goal.returns-in-Ok-note_numbers-clause-found
 returns-in-Ok-note_numbers-clause-found c = λ table is low.
-    let here = c.args.here.now in
+    let here = c.args.state.now in
     let other = c.args.other in
     let lost = c.as_slice.ensures.value ∙ c.in-Ok.ensures.lost in
     met-marked table is.once here other is.state low (read_found table c.args.found.now)
@@ -24,7 +24,7 @@ returns-in-Ok-note_numbers-clause-found c = λ table is low.
 
 pub returns-in-Ok-note_numbers-clause-numbers : goal.returns-in-Ok-note_numbers-clause-numbers
 returns-in-Ok-note_numbers-clause-numbers c = λ table is low.
-    let here = c.args.here.now in
+    let here = c.args.state.now in
     let other = c.args.other in
     let lost = c.as_slice.ensures.value ∙ c.in-Ok.ensures.lost in
     record {
@@ -37,7 +37,7 @@ returns-in-Ok-note_numbers-clause-numbers c = λ table is low.
 
 pub returns-clause-found : goal.returns-clause-found
 returns-clause-found c = λ table is low.
-    let here = c.args.here.now in
+    let here = c.args.state.now in
     let other = c.args.other in
     let lost = c.as_slice.ensures.value ∙ c.in-Ok.ensures.lost in
     met-marked table is.once here other is.state low {X = Unit {0}} (read_found table c.args.found.now)

@@ -12,14 +12,14 @@ use Rattle.transfer.specs.declared.operations.MethodContext.{MethodContext}
 use Rattle.transfer.specs.Known.{table_of}
 
 abbrev pub given : MethodContext → FlowContext
-given frame = given_of (core frame.program.now) (table_of frame.callees.now) frame.main
+given context = given_of (core context.program.now) (table_of context.callees.now) context.main
 
 -- the record of an access of a field that has this value
 abbrev pub record_reached : MethodContext → Touch → Bool → SiteId → Value → FieldId → List Access
-record_reached frame kind locked site value f =
-    if (field_at (core frame.program.now) f).recorded
-    then (elim (reached_path (core frame.program.now) value f) [
+record_reached context kind locked site value f =
+    if (field_at (core context.program.now) f).recorded
+    then (elim (reached_path (core context.program.now) value f) [
       | None ↦ []
-      | Some p ↦ record { path = p; kind = kind; locked = locked; main = frame.main; site = site; below = None } ∷ []
+      | Some p ↦ record { path = p; kind = kind; locked = locked; main = context.main; site = site; below = None } ∷ []
     ])
     else []
