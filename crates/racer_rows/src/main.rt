@@ -21,7 +21,7 @@ fn main(rt: HostRuntime) -> io::Result<()> {
     let alloc = rt.alloc();
     let mut folder = DirFolder::new(rt.clone()?);
     for word in env::args(&rt)?.skip(1) {
-        let text = shown(alloc, &mut folder, word.as_str())?;
+        let text = shown(&rt, alloc, &mut folder, word.as_str())?;
         print!(rt; "{text}")?;
     }
     Ok(())

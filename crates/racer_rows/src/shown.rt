@@ -77,6 +77,7 @@ fn put_file(
 /// The program of a folder; both reports on it where it stands below `report`, and the replays of its witness files
 /// where it stands below `replay`.
 fn put_accepted(
+    rt: &HostRuntime,
     alloc: Global,
     folder: &mut DirFolder<HostRuntime>,
     page: &mut Page,
@@ -84,7 +85,7 @@ fn put_accepted(
     program: Program,
 ) -> Result<(), FolderFault> {
     if name.starts_with("report/") {
-        return Ok(put_reports(alloc, page, program)?);
+        return Ok(put_reports(rt, alloc, page, program)?);
     }
     if name.starts_with("replay/") {
         return put_replays(alloc, folder, page, &program);
@@ -95,13 +96,14 @@ fn put_accepted(
 
 /// What is shown of the folder of this name, or the line of its refusal.
 fn put_folder(
+    rt: &HostRuntime,
     alloc: Global,
     folder: &mut DirFolder<HostRuntime>,
     page: &mut Page,
     name: &str,
 ) -> Result<(), FolderFault> {
     match folder_program(alloc, folder, name)? {
-        FoundProgram::Accepted(program) => put_accepted(alloc, folder, page, name, program),
+        FoundProgram::Accepted(program) => put_accepted(rt, alloc, folder, page, name, program),
         FoundProgram::Refused(line) => {
             page.put(line.as_str());
             Ok(())
@@ -110,14 +112,19 @@ fn put_folder(
 }
 
 /// The word, and below it what is read there.
-pub fn shown(alloc: Global, folder: &mut DirFolder<HostRuntime>, word: &str) -> io::Result<String> {
+pub fn shown(
+    rt: &HostRuntime,
+    alloc: Global,
+    folder: &mut DirFolder<HostRuntime>,
+    word: &str,
+) -> io::Result<String> {
     let mut page = Page::new(alloc);
     page.put_after("== ", word);
     page.put("\n");
     let put = match word {
         "tokens.rows" => put_file(alloc, folder, &mut page, Shows::Tokens, word),
         "units.rows" => put_file(alloc, folder, &mut page, Shows::Units, word),
-        name => put_folder(alloc, folder, &mut page, name),
+        name => put_folder(rt, alloc, folder, &mut page, name),
     };
     if let Err(fault) = put {
         page.note(fault);

@@ -18,11 +18,11 @@ use folder_maker::made;
 use race_pairs::warnings;
 use race_report::made_text;
 use racer_base::{FolderFault, Gate, Memory, Text};
+use racer_run_marks::marks_in_threads;
 use racer_sources::{FoundProgram, folder_program};
 use std::alloc::Global;
 use std::sync::{Arc, Wait};
 use std::thread::Threads;
-use witness_build::marks_of;
 
 /// The program of the folder that is made of so many classes.
 ///
@@ -41,7 +41,8 @@ fn made_program(alloc: Global, number: u32) -> Result<Program, Memory>
 }
 
 /// The report on a folder made of so many classes, whose methods have these outcomes.
-fn said_of_made(
+fn said_of_made<R: Threads + Sync>(
+    rt: &R,
     alloc: Global,
     number: u32,
     program: &Program,
@@ -52,7 +53,7 @@ fn said_of_made(
     ensures said { IfOk result (λ said. said ≡ made_said number (core program.now)) }
 {
     let found = warnings(alloc, program, outcomes)?;
-    let marks = marks_of(alloc, program, outcomes, found.as_slice())?;
+    let marks = marks_in_threads(rt, alloc, program, outcomes, found.as_slice())?;
     let text = made_text(alloc, number, program, found.as_slice(), marks.as_slice())?;
     Ok(RunOutput {
         status: status_of(found.as_slice()),
@@ -72,7 +73,7 @@ fn counted<R: Threads + Wait + Sync, G: Gate + Sync>(
     ensures said { IfOk result (λ said. said ≡ made_said wanted.now.number (core (arc_value program.now))) }
 {
     let Pooled { outcomes, .. } = pooled(rt, alloc, program, wanted.workers, gate)?;
-    said_of_made(alloc, wanted.number, &**program, &outcomes)
+    said_of_made(rt, alloc, wanted.number, &**program, &outcomes)
 }
 
 /// What is said to one who wants a made folder.

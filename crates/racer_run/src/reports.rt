@@ -23,12 +23,12 @@ use race_report::{Mode, report_text};
 use race_report_parts::{Written, push_text};
 use racer_base::{Folder, FolderFault, Gate, Memory, Text};
 use racer_run_history::push_history;
+use racer_run_marks::marks_in_threads;
 use racer_sources::{FoundProgram, folder_program};
 use std::alloc::Global;
 use std::sync::{Arc, Wait};
 use std::thread::Threads;
 use summary_store::Event;
-use witness_build::marks_of;
 use witness_build_laws::laws::whole_warnings_race;
 use witness_text::laws::witnesses_in_reports_replay;
 
@@ -46,7 +46,8 @@ pub fn status_of(found: &[Warning]) -> Status
 }
 
 /// The report on a program whose methods have these outcomes, with its status.
-pub fn said_of(
+pub fn said_of<R: Threads + Sync>(
+    rt: &R,
     alloc: Global,
     mode: Mode,
     program: &Program,
@@ -57,7 +58,7 @@ pub fn said_of(
     ensures said { IfOk result (λ said. said ≡ said_from mode (Accepted (core program.now))) }
 {
     let found = warnings(alloc, program, outcomes)?;
-    let marks = marks_of(alloc, program, outcomes, found.as_slice())?;
+    let marks = marks_in_threads(rt, alloc, program, outcomes, found.as_slice())?;
     let text = report_text(
         alloc,
         mode,
@@ -103,7 +104,7 @@ fn reported<R: Threads + Wait + Sync, G: Gate + Sync>(
         IsSaidWith (wanted_of wanted.now) (Accepted (core (arc_value program.now))) said) }
 {
     let Pooled { history, outcomes } = pooled(rt, alloc, program, wanted.workers, gate)?;
-    let said = said_of(alloc, wanted.mode, &**program, &outcomes)?;
+    let said = said_of(rt, alloc, wanted.mode, &**program, &outcomes)?;
     with_history(alloc, wanted.history, said, &**program, history.as_slice())
 }
 

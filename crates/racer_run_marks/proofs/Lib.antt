@@ -1,0 +1,2 @@
+pub mod GroupMarks
+pub mod Movable
