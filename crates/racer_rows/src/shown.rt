@@ -12,6 +12,7 @@ use racer_disk::DirFolder;
 use racer_sources::{FoundProgram, folder_program};
 use std::alloc::Global;
 use std::io;
+use std::thread::Threads;
 
 /// More bytes than any file of rows has.
 const MOST: usize = 1_048_576;
@@ -76,8 +77,8 @@ fn put_file(
 
 /// The program of a folder; both reports on it where it stands below `report`, and the replays of its witness files
 /// where it stands below `replay`.
-fn put_accepted(
-    rt: &HostRuntime,
+fn put_accepted<R: Threads + Sync>(
+    rt: &R,
     alloc: Global,
     folder: &mut DirFolder<HostRuntime>,
     page: &mut Page,
@@ -95,8 +96,8 @@ fn put_accepted(
 }
 
 /// What is shown of the folder of this name, or the line of its refusal.
-fn put_folder(
-    rt: &HostRuntime,
+fn put_folder<R: Threads + Sync>(
+    rt: &R,
     alloc: Global,
     folder: &mut DirFolder<HostRuntime>,
     page: &mut Page,
@@ -112,8 +113,8 @@ fn put_folder(
 }
 
 /// The word, and below it what is read there.
-pub fn shown(
-    rt: &HostRuntime,
+pub fn shown<R: Threads + Sync>(
+    rt: &R,
     alloc: Global,
     folder: &mut DirFolder<HostRuntime>,
     word: &str,

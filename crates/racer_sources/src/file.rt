@@ -74,13 +74,8 @@ pub fn file_unit(alloc: Global, file: FileId, sum: usize, bytes: &[u8]) -> Resul
     ensures read { IfOk result (λ u. IsRead file sum bytes.now u) }
     ensures fault { IfErr result (IsFileFault file sum bytes.now) }
 {
-    if let Err(fault) = check_size(file, bytes, sum) {
-        return Err(fault);
-    }
-    let lexed = match file_tokens(alloc, file, sum, bytes) {
-        Ok(lexed) => lexed,
-        Err(fault) => return Err(fault),
-    };
+    check_size(file, bytes, sum)?;
+    let lexed = file_tokens(alloc, file, sum, bytes)?;
     match parse_unit(alloc, &lexed) {
         Ok(unit) => Ok(unit),
         Err(fault) => Err(unit_fault(fault)),

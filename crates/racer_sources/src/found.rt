@@ -113,10 +113,7 @@ fn declared<F: Folder>(
     ensures refused { IfErr result (λ fault. IfSome (F.told folder.old) (λ t. reading.IfRefused fault
         (sources.AreRefused (reading.bytes_of_all t.files (map string_bytes names.now))))) }
 {
-    let units = match read_few(alloc, folder, names) {
-        Ok(units) => units,
-        Err(fault) => return Err(fault),
-    };
+    let units = read_few(alloc, folder, names)?;
     match table_of(alloc, units.as_slice()) {
         Ok(table) => Ok(DeclaredUnits { units, table }),
         Err(fault) => {

@@ -1,6 +1,6 @@
 //! The sources of a folder, read one after the other.
-ghost use Rattle.std.specs.Prelude.{◌≡◌, ◌+◌, ◌≤◌, length, map, string_bytes, IfOk, IfErr, IfSome, OnOk};
-ghost use Rattle.racer_base.specs.declared.limits.TheConstants.{MAX_FILE_BYTES, MAX_FOLDER_BYTES};
+ghost use Rattle.std.specs.Prelude.{◌≡◌, ◌+◌, ◌<◌, ◌≤◌, length, map, string_bytes, IfOk, IfErr, IfSome, OnOk};
+ghost use Rattle.racer_base.specs.declared.limits.TheConstants.{MAX_FILES, MAX_FILE_BYTES, MAX_FOLDER_BYTES};
 ghost use Rattle.racer_sources.specs.Sources as sources;
 ghost use Rattle.racer_sources.specs.Reading as reading;
 ghost use Rattle.racer_sources.specs.Finding as finding;
@@ -9,7 +9,7 @@ use crate::fault::SourceFault;
 use crate::file::file_unit;
 use java_parser::{let_all_go, put_unit};
 use java_parser_grammar::Unit;
-use racer_base::{FileId, Folder, MAX_FILE_BYTES, Memory};
+use racer_base::{FileId, Folder, MAX_FILE_BYTES};
 use std::alloc::Global;
 
 /// The units of the sources that were read, and how many bytes these have together.
@@ -20,30 +20,26 @@ struct ReadSources {
 }
 
 /// The file of this index.
-fn file_at(index: usize) -> Result<FileId, Memory>
-    ensures { IfOk result (λ file. file.0 ≡ index) }
+fn file_at(index: usize) -> FileId
+    requires { index ≤ MAX_FILES }
+    ensures { result.0 ≡ index }
 {
-    match u32::try_from(index) {
-        Ok(number) => Ok(FileId(number)),
-        Err(_) => Err(Memory),
-    }
+    FileId(index as u32)
 }
 
 /// Reads one more source, of these bytes.
 fn add_bytes(alloc: Global, bytes: &[u8], read: &mut ReadSources) -> Result<(), SourceFault>
     requires few { read.old.sum ≤ MAX_FOLDER_BYTES }
     requires most { length bytes.now ≤ MAX_FILE_BYTES + 1 }
+    requires files { length read.old.units.items < MAX_FILES }
     ensures few { OnOk result (read.new.sum ≤ MAX_FOLDER_BYTES) }
     ensures added { OnOk result (reading.IsAdded bytes.now read.old read.new) }
     ensures fault { IfErr result
         (reading.IsFileFault (reading.next_file read.old) (read.old.sum + length bytes.now) bytes.now) }
 {
-    let file = file_at(read.units.len())?;
+    let file = file_at(read.units.len());
     let sum = read.sum + bytes.len();
-    let unit = match file_unit(alloc, file, sum, bytes) {
-        Ok(unit) => unit,
-        Err(fault) => return Err(fault),
-    };
+    let unit = file_unit(alloc, file, sum, bytes)?;
     read.sum = sum;
     Ok(put_unit(&mut read.units, unit)?)
 }
@@ -55,7 +51,8 @@ fn add_source<F: Folder>(
     name: &str,
     read: &mut ReadSources,
 ) -> Result<(), SourceFault>
-    requires { read.old.sum ≤ MAX_FOLDER_BYTES }
+    requires few { read.old.sum ≤ MAX_FOLDER_BYTES }
+    requires files { length read.old.units.items < MAX_FILES }
     ensures count { reading.Counts result (F.faults folder.old) (F.faults folder.new) }
     ensures keeps { finding.KeepsMeaning F.told F.steady folder.old folder.new }
     ensures steady { F.steady folder.old → IfSome (F.told folder.old) (λ t.
@@ -67,10 +64,7 @@ fn add_source<F: Folder>(
     ensures refused { IfErr result (λ fault. IfSome (F.told folder.old) (λ t. reading.IfRefused fault
         (reading.IsNextRefused (sources.bytes_of t.files name.now) read.old))) }
 {
-    let bytes = match folder.read(alloc, name, MAX_FILE_BYTES + 1) {
-        Ok(bytes) => bytes,
-        Err(fault) => return Err(SourceFault::from(fault)),
-    };
+    let bytes = folder.read(alloc, name, MAX_FILE_BYTES + 1)?;
     add_bytes(alloc, bytes.as_slice(), read)
 }
 
@@ -80,6 +74,7 @@ pub fn read_all<F: Folder>(
     folder: &mut F,
     names: &[String],
 ) -> Result<Vec<Unit>, SourceFault>
+    requires { length names.now ≤ MAX_FILES }
     ensures count { reading.Counts result (F.faults folder.old) (F.faults folder.new) }
     ensures keeps { finding.KeepsMeaning F.told F.steady folder.old folder.new }
     ensures steady { F.steady folder.old → IfSome (F.told folder.old) (λ t.

@@ -33,3 +33,10 @@ returns-in_ok-replayed-in-Accepted-clause-said g c =
     c.as_str-in-Accepted.ensures bytes in
     replay-says tells wanted program c.in_ok-replayed-in-Accepted.field-0 read source file
     (c.in_ok-replayed-in-Accepted.ensures.said ∙ ap (replay_said program) c.as_slice.ensures.value)
+
+pub returns-in_ok-replayed-in-Accepted-clause-entered :
+    goal.returns-in_ok-replayed-in-Accepted-clause-entered
+returns-in_ok-replayed-in-Accepted-clause-entered g c =
+    let tells = g.F.Folder.told c.args.folder.now in
+    subst (λ (name : List _). IfSome tells (λ (told : Told). name ≡ told.name)) c.as_str.ensures
+    c.in_ok-program.ensures.entered

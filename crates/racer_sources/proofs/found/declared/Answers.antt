@@ -7,23 +7,25 @@ use Rattle.racer_sources.specs.Declaring.{IsDeclaredFault}
 use Rattle.racer_sources.proofs.Together.{declared_there, accepted_there}
 use Rattle.racer_sources.proofs.found.declared.Goals as goal
 
-pub returns-in-Ok-table_of-clause-known : goal.returns-in-Ok-table_of-clause-known
-returns-in-Ok-table_of-clause-known g c =
+pub returns-in-Ok-clause-known : goal.returns-in-Ok-clause-known
+returns-in-Ok-clause-known g c =
     let same = c.as_slice.ensures.value in
     record {
-      counted = c.in-Ok.ensures.counted ∙ sym (length-map c.args.names.now string_bytes);
-      table = subst (λ (us : List unit.Unit). IsTableOf us c.in-Ok-table_of.table) same c.in-Ok-table_of.ensures.table;
-      none = subst (λ (us : List unit.Unit). refusal us ≡ None) same c.in-Ok-table_of.ensures.none;
-      read = c.in-Ok.ensures.any;
+      counted = c.in_ok-units.ensures.counted ∙ sym (length-map c.args.names.now string_bytes);
+      table = subst (λ (us : List unit.Unit). IsTableOf us c.in-Ok.table) same c.in-Ok.ensures.table;
+      none = subst (λ (us : List unit.Unit). refusal us ≡ None) same c.in-Ok.ensures.none;
+      read = c.in_ok-units.ensures.any;
     }
 
-pub returns-in-Ok-table_of-clause-read : goal.returns-in-Ok-table_of-clause-read
-returns-in-Ok-table_of-clause-read g c =
-    accepted_there (g.F.Folder.told c.args.folder.now) c.args.names.now c.in-Ok.units.items c.in-Ok.ensures.read
-    (subst (λ (us : List unit.Unit). refusal us ≡ None) c.as_slice.ensures.value c.in-Ok-table_of.ensures.none)
+pub returns-in-Ok-clause-read : goal.returns-in-Ok-clause-read
+returns-in-Ok-clause-read g c =
+    accepted_there (g.F.Folder.told c.args.folder.now) c.args.names.now c.in_ok-units.units.items
+    c.in_ok-units.ensures.read
+    (subst (λ (us : List unit.Unit). refusal us ≡ None) c.as_slice.ensures.value c.in-Ok.ensures.none)
 
-pub returns-in-Err-table_of-clause-refused : goal.returns-in-Err-table_of-clause-refused
-returns-in-Err-table_of-clause-refused g c =
-    let fault = c.in-Err-table_of.fault in
-    declared_there (g.F.Folder.told c.args.folder.now) c.args.names.now c.in-Ok.units.items fault c.in-Ok.ensures.read
-    (subst (λ (us : List unit.Unit). IsDeclaredFault us fault) c.as_slice.ensures.value c.in-Err-table_of.ensures.fault)
+pub returns-in-Err-clause-refused : goal.returns-in-Err-clause-refused
+returns-in-Err-clause-refused g c =
+    let fault = c.in-Err.fault in
+    declared_there (g.F.Folder.told c.args.folder.now) c.args.names.now c.in_ok-units.units.items fault
+    c.in_ok-units.ensures.read
+    (subst (λ (us : List unit.Unit). IsDeclaredFault us fault) c.as_slice.ensures.value c.in-Err.ensures.fault)

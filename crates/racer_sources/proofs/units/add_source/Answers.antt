@@ -10,7 +10,7 @@ use Rattle.racer_sources.proofs.units.add_source.Goals as goal
 
 pub returns-clause-count : goal.returns-clause-count
 returns-clause-count g c = file_counts (next_file c.args.read.now) _ _ c.add_bytes.result _ _
-    c.add_bytes.ensures.fault c.in-Ok.ensures.count
+    c.add_bytes.ensures.fault c.in_ok-bytes.ensures.count
 
 pub returns-clause-steady : goal.returns-clause-steady
 returns-clause-steady g c = λ _.
@@ -27,7 +27,7 @@ returns-clause-read g c =
     let told = g.F.Folder.told c.args.folder.now in
     let read = subst (λ (bytes : List ℕ). IfSome told
     (λ (t : Told). option_map (take (MAX_FILE_BYTES + 1)) (get t.files c.args.name.now) ≡ Some bytes))
-    (sym c.as_slice.ensures.value) c.in-Ok.ensures.bytes in
+    (sym c.as_slice.ensures.value) c.in_ok-bytes.ensures.bytes in
     added_told told c.args.name.now c.as_slice.result.now read c.args.read.now c.add_bytes.new.read c.add_bytes.result
     c.add_bytes.ensures.added
 
@@ -36,6 +36,6 @@ returns-clause-refused g c =
     let told = g.F.Folder.told c.args.folder.now in
     let read = subst (λ (bytes : List ℕ). IfSome told
     (λ (t : Told). option_map (take (MAX_FILE_BYTES + 1)) (get t.files c.args.name.now) ≡ Some bytes))
-    (sym c.as_slice.ensures.value) c.in-Ok.ensures.bytes in
+    (sym c.as_slice.ensures.value) c.in_ok-bytes.ensures.bytes in
     refused_told told c.args.name.now c.as_slice.result.now read (next_file c.args.read.now) c.args.read.now.sum
     c.add_bytes.result c.add_bytes.ensures.fault
