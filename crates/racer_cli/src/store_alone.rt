@@ -22,7 +22,7 @@ use summary_store::{Closed, Store, StoreRun, takes_bound};
 use transfer::{Finished, outcomes};
 
 /// Ten methods, of which several call the same ones, and some are on the way to each other.
-const TEN: Case = Case {
+pub(crate) const TEN: Case = Case {
     files: &[(
         "Ten.java",
         b"class P { P f; int v; }\n\
@@ -42,7 +42,7 @@ const TEN: Case = Case {
 };
 
 /// The program of a row's folder.
-fn program(alloc: Global, row: &Case) -> Result<Arc<Program>, Fail> {
+pub(crate) fn program(alloc: Global, row: &Case) -> Result<Arc<Program>, Fail> {
     let mut folder = folder(alloc, row)?;
     match folder_program(alloc, &mut folder, "src") {
         Ok(FoundProgram::Accepted(program)) => Ok(Arc::new(alloc, program)?),

@@ -63,10 +63,7 @@ fn advance<'a, 't>(
     ensures { IfOk result (λ rest. IsAdvance (one_step (core program.now) thread turns.now (state_of machine.old))
         (state_of machine.old) (state_of machine.new) rest) }
 {
-    let Ok(look) = machine.look(thread) else {
-        return Err(Memory);
-    };
-    match look {
+    match machine.look(thread)? {
         Look::Turn => take_turn(program, machine, thread, turns),
         Look::Read => take_step(program, machine, thread, Turn::Right, turns),
         Look::Other => take_step(program, machine, thread, Turn::Right, turns),

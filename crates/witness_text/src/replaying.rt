@@ -33,9 +33,7 @@ fn run_verdict(
         (begun (core program.now) first.entry.number second.entry.number (Only objects))) }
 {
     let start = Start::Only(objects);
-    let Ok(mut machine) = begin(alloc, program, first.number, second.number, start) else {
-        return Err(Memory);
-    };
+    let mut machine = begin(alloc, program, first.number, second.number, start)?;
     let verdict = legs_verdict(program, &mut machine, file);
     let_go(machine);
     verdict
