@@ -6,6 +6,8 @@
 
 mod kept;
 pub mod laws;
+mod reaching;
 mod shortening;
 
+pub use reaching::is_within;
 pub use shortening::shortened;

@@ -15,7 +15,7 @@ use racer_base::{Memory, Place, SiteId};
 use std::alloc::Global;
 
 /// How many values an operation pops.
-fn pops(op: Op) -> usize
+pub fn pops(op: Op) -> usize
     ensures { result ≡ heights.pops op }
 {
     match op {
@@ -28,7 +28,7 @@ fn pops(op: Op) -> usize
 }
 
 /// How many values an operation pushes then.
-fn pushes(op: Op) -> usize
+pub fn pushes(op: Op) -> usize
     ensures { result ≡ heights.pushes op }
 {
     match op {
