@@ -33,3 +33,4 @@ pub mod Tables
 pub mod Handed
 pub mod Every
 pub mod Movable
+pub mod Lowered

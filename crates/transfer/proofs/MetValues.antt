@@ -1,15 +1,18 @@
 -- Lists of values that meet others, slot by slot.
-use Rattle.std.proofs.Common.{◌≡◌, ℕ, zero, suc, ◌+◌, ◌<◌, ◌≤◌, Bool, true, false, not, ◌||◌, ◌&&◌, List, [], ◌∷◌, ◌++◌, length, get_or, take, drop, refl, sym, ap, ◌∙◌, arith}
+use Rattle.std.proofs.Common.{◌≡◌, ℕ, zero, suc, ◌+◌, ◌<◌, ◌≤◌, Bool, true, false, not, ◌||◌, ◌&&◌, List, [], ◌∷◌, ◌++◌, length, get_or, take, drop, cond, refl, sym, ap, ◌∙◌, arith}
 use Rattle.std.proofs.lemmas.List.{at_drop_more, append_assoc, append-nil, drop_all, take_all, take_more_set, drop-set-lt}
 use Rattle.std.proofs.lemmas.List.{reverse-append, reverse-reverse, length-reverse, get_or-reverse}
 use Rattle.std.proofs.Common.{reverse, ◌-◌}
 use Rattle.std.specs.Cmp.{both_ways}
+use Rattle.std.specs.Cmp.Lexicographic.{pointwise}
 use Rattle.std.specs.Prelude.{slice_set}
 use Rattle.owner_domain.specs.declared.numbered.NumberedValue.{NumberedValue}
+use Rattle.owner_domain.specs.declared.numbered.NumberedValue.TheVariants.{Unnamed}
 use Rattle.owner_domain.specs.Numbered.{joined_number, joined_numbers, lost_number, lost_numbers, same_number}
+use Rattle.owner_domain.specs.Numbered.{numbers_of}
 use Rattle.owner_domain.specs.SameNumber.{same_number-itself, equal_of_same_number}
 use Rattle.owner_domain.specs.declared.numbered.NumberedState.{NumberedState}
-use Rattle.transfer.specs.Slots.{same_numbers, same_numbered}
+use Rattle.transfer.specs.Slots.{same_numbers, same_numbered, met_numbers, lost_by}
 
 -- whether a value is another one where it meets this one
 abbrev pub changed_value : NumberedValue → NumberedValue → Bool
@@ -204,3 +207,38 @@ kept-numbered changed new old test same =
     by_not : (a b : Bool) → a ≡ not b → a ≡ false → b ≡ true
     by_not a true e same = refl
     by_not a false e same = cc
+
+-- ---- a state that meets itself
+
+pub equal-numbers : (xs ys : List NumberedValue) → pointwise same_number xs ys ≡ true → ys ≡ xs
+equal-numbers [] [] e = refl
+equal-numbers [] (y ∷ ys) e = cc
+equal-numbers (x ∷ xs) [] e = cc
+equal-numbers (x ∷ xs) (y ∷ ys) e =
+    let same = both_same (same_number x y) (pointwise same_number xs ys) e in
+    (λ i. sym (equal_of_same_number x y same.0) i ∷ equal-numbers xs ys same.1 i)
+  where
+    both_same : (a b : Bool) → (a && b) ≡ true → (a ≡ true) × (b ≡ true)
+    both_same true true e = (refl, refl)
+    both_same true false e = cc
+    both_same false b e = cc
+
+joined-itself : (xs : List NumberedValue) → joined_numbers xs xs ≡ xs
+joined-itself [] = refl
+joined-itself (x ∷ xs) = (λ i. cond (same_number-itself x i) x Unnamed ∷ joined-itself xs i)
+
+lost-itself : (xs : List NumberedValue) → lost_numbers xs xs ≡ []
+lost-itself [] = refl
+lost-itself (x ∷ xs) = (λ i. cond (same_number-itself x i) [] (numbers_of x ++ numbers_of x) ++ lost-itself xs i)
+
+pub met-itself : (s t : NumberedState) → t ≡ s → s ≡ met_numbers s t
+met-itself s t same =
+    sym (ap (met_numbers s) same
+    ∙ (λ i. record { vars = joined-itself s.vars i; stack = joined-itself s.stack i }))
+
+pub unchanged-itself : (s : NumberedState) → false ≡ not (same_numbered s s)
+unchanged-itself s = (λ i. not (sym (same_numbers-itself s.vars) i && sym (same_numbers-itself s.stack) i))
+
+pub lost-by_itself : (s t : NumberedState) (lost : List ℕ) → t ≡ s → lost ≡ [] → lost ≡ lost_by s t
+lost-by_itself s t lost same none =
+    none ∙ sym (ap (lost_by s) same ∙ (λ i. lost-itself s.vars i ++ lost-itself s.stack i))

@@ -10,3 +10,4 @@ pub mod Resumes
 pub mod Heights
 pub mod Slots
 pub mod Numbered
+pub mod Lifts

@@ -1,14 +1,17 @@
 //! The values of a method's variables, and those on its operand stack.
-ghost use Rattle.std.specs.Prelude.{◌≡◌, ◌+◌, [], not, IfOk, OnOk, length, slice_index_or, slice_set};
+ghost use Rattle.std.specs.Prelude.{◌≡◌, ◌+◌, [], not, true, IfOk, OnOk, length, take, drop, reverse};
+ghost use Rattle.std.specs.Prelude.{slice_index_or, slice_set};
 ghost use Rattle.owner_domain.specs.declared.numbered.NumberedValue.TheVariants.{Unnamed as NotNamed};
 ghost use Rattle.transfer.specs.Slots.{top_number, pushed_number, popped_numbers, replaced_numbers, passed_numbers};
 ghost use Rattle.transfer.specs.Slots.{met_numbers, lost_by, same_numbered};
+ghost use Rattle.transfer.specs.Lifts.{numbers_above};
 
 use crate::meeting::{lose_tops, lose_values, meet_tops, meet_values};
 use owner_domain::NumberedValue;
 use racer_base::{Memory, VarId};
 use std::alloc::Global;
 use std::marker::Model;
+use std::mem;
 
 /// The values at a place of the code, their paths by their numbers, which contracts see as a `NumberedState`.
 #[derive(Drop)]
@@ -137,6 +140,30 @@ impl FlowState {
         self.push(value)
     }
 
+    /// Takes the values of the stack that lie below so many on top.
+    pub fn lift(&mut self, height: usize) -> Result<Vec<NumberedValue>, Memory>
+        ensures under { IfOk result (λ under. reverse under.items ≡ drop height self.old.stack) }
+        ensures rest { OnOk result (self.new ≡ record { vars = self.old.vars; stack = take height self.old.stack }) }
+    {
+        let below = self.stack.len().saturating_sub(height);
+        let top = self.stack.split_off(below)?;
+        Ok(mem::replace(&mut self.stack, top))
+    }
+
+    /// Puts values below the stack.
+    pub fn lower(&mut self, under: Vec<NumberedValue>) -> Result<(), Memory>
+        ensures { OnOk result (self.new ≡ numbers_above (reverse under.items) self.old) }
+    {
+        if under.is_empty() {
+            return Ok(());
+        }
+        let top = mem::replace(&mut self.stack, under);
+        let Ok(()) = self.stack.extend_from_slice(top.as_slice()) else {
+            return Err(Memory);
+        };
+        Ok(())
+    }
+
     /// Equal values.
     pub fn copied(&self, alloc: Global) -> Result<FlowState, Memory>
         ensures { IfOk result (λ copy. copy ≡ self.now) }
@@ -160,6 +187,14 @@ impl FlowState {
         vars || stack
     }
 
+    /// Whether others are the same.
+    fn is_same(&self, other: &FlowState) -> bool
+        ensures { result ≡ true → other.now ≡ self.now }
+    {
+        self.vars.as_slice() == other.vars.as_slice()
+            && self.stack.as_slice() == other.stack.as_slice()
+    }
+
     /// Joins the values with others; whether that changed them, and the numbers that are lost, in order of slots.
     pub fn meet_losing(
         &mut self,
@@ -171,6 +206,9 @@ impl FlowState {
         ensures lost { IfOk result (λ made. made.1.items ≡ lost_by self.old other) }
     {
         let mut lost = Vec::new(alloc);
+        if self.is_same(&other) {
+            return Ok((false, lost));
+        }
         lose_values(self.vars.as_slice(), other.vars.as_slice(), &mut lost)?;
         lose_tops(self.stack.as_slice(), other.stack.as_slice(), &mut lost)?;
         Ok((self.meet(other), lost))

@@ -13,6 +13,7 @@ mod finished;
 mod flow_state;
 mod found;
 pub mod laws;
+mod lifting;
 mod meeting;
 mod method_outcomes;
 mod noted_calls;

@@ -12,6 +12,7 @@ ghost use Rattle.transfer.specs.Numbered.{read_heads, IsResumedIn, IsHeadInRange
 ghost use Rattle.transfer.specs.Walks.{next_of};
 
 use crate::flow_state::FlowState;
+use crate::lifting::lifted;
 use crate::operations::{MethodContext, move_any};
 use access_paths::PathTable;
 use core_code::Code;
@@ -110,18 +111,13 @@ pub fn resume(
             Err(memory) => Err(memory),
         },
         Code::Seq(parts) => {
-            resume_through(
-                alloc,
-                context,
-                locked,
-                parts.as_slice(),
-                first,
-                state,
-                table,
-                heads,
-            )
+            let parts = parts.as_slice();
+            resume_through(alloc, context, locked, parts, first, state, table, heads)
         }
         Code::Choice(left, right) => {
+            let Ok(under) = lifted(alloc, code, state) else {
+                return Err(Memory);
+            };
             let Ok(mut other) = state.copied(alloc) else {
                 return Err(Memory);
             };
@@ -133,9 +129,13 @@ pub fn resume(
             ) else {
                 return Err(Memory);
             };
+            let goes_on = meet_ends(one.goes_on, two.goes_on, state, other);
+            let Ok(()) = state.lower(under) else {
+                return Err(Memory);
+            };
             Ok(Passed {
                 next: two.next,
-                goes_on: meet_ends(one.goes_on, two.goes_on, state, other),
+                goes_on,
             })
         }
         Code::Loop(body) => resume_loop(alloc, context, locked, body, first, state, table, heads),

@@ -17,6 +17,7 @@ ghost use Rattle.transfer.specs.Heights.{IsHighEnough, AreSound};
 
 use crate::flow_state::FlowState;
 use crate::found::Stop;
+use crate::lifting::{lifted, lowered};
 use crate::noted_calls::NotedCall;
 use crate::numbered_found::NumberedFound;
 use crate::operations::{MethodContext, operate};
@@ -59,17 +60,14 @@ pub fn walk_code(
         Code::Op(site, _, op) => operate(
             alloc, context, locked, *site, *op, state, table, calls, found,
         ),
-        Code::Seq(parts) => go_through(
-            alloc,
-            context,
-            locked,
-            parts.as_slice(),
-            state,
-            table,
-            calls,
-            found,
-        ),
+        Code::Seq(parts) => {
+            let parts = parts.as_slice();
+            go_through(alloc, context, locked, parts, state, table, calls, found)
+        }
         Code::Choice(left, right) => {
+            let Ok(under) = lifted(alloc, code, state) else {
+                return Err(Stop::Memory);
+            };
             let Ok(mut other) = state.copied(alloc) else {
                 return Err(Stop::Memory);
             };
@@ -85,7 +83,8 @@ pub fn walk_code(
                 Ok(goes_on) => goes_on,
                 Err(stop) => return Err(stop),
             };
-            join_ends(alloc, left_goes_on, right_goes_on, state, other, found)
+            let joined = join_ends(alloc, left_goes_on, right_goes_on, state, other, found);
+            lowered(joined, under, state)
         }
         Code::Loop(body) => repeat(alloc, context, locked, body, state, table, calls, found),
         Code::Sync(_, _, body) => {

@@ -1,4 +1,4 @@
-use Rattle.std.proofs.Common.{◌≡◌, ◌+◌, ◌-◌, suc, ℕ, ◌≤◌, ◌<◌, List, Some, length, get_or, map, drop}
+use Rattle.std.proofs.Common.{◌≡◌, ◌+◌, ◌-◌, suc, ℕ, ◌≤◌, ◌<◌, List, Some, length, get_or, map, drop, reverse}
 use Rattle.std.proofs.Common.{true, Ok, refl, sym, ap, subst, ◌∙◌, arith, rules}
 use Rattle.std.proofs.lemmas.List.{at_drop_more, at_drop_all, take_all, length-drop}
 use Rattle.std.specs.Prelude.{slice_set}
@@ -13,6 +13,7 @@ use Rattle.core_code.proofs.code.Code.TheLaws.{the_size}
 use borrow.Author.Sizes.{sizes}
 use Rattle.core_code.specs.Tree.{LockAt, Tree, Op, Seq, Choice, Loop, Sync, tree_of, in_sequence}
 use Rattle.transfer_loops.specs.Resuming.{Heads, resumed, loops, iterated}
+use Rattle.transfer.specs.declared.resuming.Passed.{Passed}
 use Rattle.transfer.specs.Contexts.{given}
 use Rattle.transfer.specs.Numbered.{read_heads, IsResumedIn}
 use Rattle.transfer.specs.Resumes.{heads_in, IsResumed}
@@ -26,6 +27,7 @@ use Rattle.transfer.proofs.Resumptions.{through-more, through-number}
 use Rattle.transfer.proofs.ResumedParts.{passed-behind, through-done, through-passed, room-right}
 use Rattle.transfer.proofs.SlotsRead.{met-in}
 use Rattle.transfer.proofs.WalkedNumbers.{copied-in, always}
+use Rattle.transfer.proofs.Lowered.{lifted-in, lowered-in, lowered-resumed}
 use Rattle.transfer.proofs.resuming.+resumes.Goals as goal
 
 -- ---- one round
@@ -369,64 +371,105 @@ resume-returns-in-Ok t c =
       table = k.table;
     }
 
+pub resume-resume-requires : goal.resume-resume-requires
+resume-resume-requires t c =
+    let code = tree_of c.args.code.now in
+    let left = tree_of c.deref.result.now in
+    let right = tree_of c.in-Choice.right.value in
+    let t0 = c.args.table.now in
+    let hs = c.args.heads.now.items in
+    let ready = c.requires.numbers in
+    let sides : code ≡ Choice left right = search (rules, the_lemmas) in
+    let room : c.args.first + (loops left + loops right) ≤ length hs =
+    subst (λ (part : Tree). c.args.first + loops part ≤ length hs) sides c.requires.room in
+    let enough : c.args.first + loops left ≤ length hs = omega arith in (
+      search (rules, sizes, the_size, the_lemmas, c.in-Choice.is, c.deref.ensures, c.decreases),
+      (
+        enough,
+        record {
+          once = ready.once;
+          state = lifted-in code (reverse c.in-Ok-lifted.under.items) c.args.state.now c.lifted.new.state
+              c.in-Ok-lifted.ensures t0 ready.state;
+          left = ready.left;
+        },
+      ),
+    )
+
 pub resume-resume-requires-in-Choice : goal.resume-resume-requires-in-Choice
 resume-resume-requires-in-Choice t c =
+    let code = tree_of c.args.code.now in
     let left = tree_of c.deref.result.now in
     let right = tree_of c.deref-in-Choice.result.now in
     let t0 = c.args.table.now in
+    let low = c.lifted.new.state in
+    let in_low =
+    lifted-in code (reverse c.in-Ok-lifted.under.items) c.args.state.now low c.in-Ok-lifted.ensures t0
+    c.requires.numbers.state in
     let hs = c.args.heads.now.items in
     let one = c.resume.new in
     let l = c.in-Ok-resume.ensures in
     let p = c.in-Ok-resume.one in
-    let sides : tree_of c.args.code.now ≡ Choice left right = search (rules, the_lemmas) in
+    let sides : code ≡ Choice left right = search (rules, the_lemmas) in
     let room : c.args.first + (loops left + loops right) ≤ length hs =
-    subst (λ (code : Tree). c.args.first + loops code ≤ length hs) sides c.requires.room in (
+    subst (λ (part : Tree). c.args.first + loops part ≤ length hs) sides c.requires.room in (
       search (rules, sizes, the_size, the_lemmas, c.in-Choice.is, c.deref-in-Choice.ensures, c.decreases),
       (
         room-right c.args.first (loops left) (loops right) (length hs) p.next (length one.heads.items) room l.resumed.1
             (long-back t0 one.table hs one.heads.items l.resumed.2.1),
         record {
           once = l.numbers.once;
-          state = copied-in t0 one.table l.table c.args.state.now c.in-Ok-copied.other c.in-Ok-copied.ensures
-              c.requires.numbers.state;
+          state = copied-in t0 one.table l.table low c.in-Ok-copied.other c.in-Ok-copied.ensures in_low;
           left = l.numbers.left;
         },
       ),
     )
 
-pub resume-returns-in-Ok-resume-2 : goal.resume-returns-in-Ok-resume-2
-resume-returns-in-Ok-resume-2 t c =
+pub resume-returns-in-Ok-lower : goal.resume-returns-in-Ok-lower
+resume-returns-in-Ok-lower t c =
     let g = given c.args.context.now in
+    let code = tree_of c.args.code.now in
     let left = tree_of c.deref.result.now in
     let right = tree_of c.deref-in-Choice.result.now in
     let t0 = c.args.table.now in
     let start = c.args.state.now in
+    let low = c.lifted.new.state in
+    let under = reverse c.in-Ok-lifted.under.items in
+    let ready = c.requires.numbers.state in
+    let in_low = lifted-in code under start low c.in-Ok-lifted.ensures t0 ready in
     let hs = c.args.heads.now.items in
     let one = c.resume.new in
     let two = c.resume-in-Choice.new in
-    let end = c.meet_ends in
+    let end = c.meet_ends-goes_on in
+    let last = c.lower.new.self in
     let l = c.in-Ok-resume.ensures in
     let r = c.in-Ok-resume-2.ensures in
     let p = c.in-Ok-resume.one in
     let q = c.in-Ok-resume-2.two in
+    let made : Passed = record { next = q.next; goes_on = end.result } in
     let still = state-still one.table two.table r.table one.state l.numbers.state in
-    let sides : tree_of c.args.code.now ≡ Choice left right = search (rules, the_lemmas) in
+    let on = goes_on-trans t0 one.table two.table l.table r.table in
+    let sides : code ≡ Choice left right = search (rules, the_lemmas) in
     record {
       resumed =
-          subst (λ (code : Tree). IsResumed g code c.args.locked c.args.first (read_state t0 start)
-          (read_state two.table end.new.state) (read_heads t0 hs) (read_heads two.table two.heads.items)
-          (Ok (record { next = q.next; goes_on = end.result }))) (sym sides)
-          (choice-resumed g left right c.args.locked c.args.first t0 one.table two.table l.table r.table start
+          lowered-resumed code under start low c.in-Ok-lifted.ensures t0 ready two.table on end.new.state last g
+          c.args.locked c.args.first (read_heads t0 hs) (read_heads two.table two.heads.items) made
+          (subst (λ (part : Tree). IsResumed g part c.args.locked c.args.first (read_state t0 low)
+          (read_state two.table end.new.state) (read_heads t0 hs) (read_heads two.table two.heads.items) (Ok made))
+          (sym sides)
+          (choice-resumed g left right c.args.locked c.args.first t0 one.table two.table l.table r.table low
           c.in-Ok-copied.other one.state two.state end.new.state hs one.heads.items two.heads.items p q end.result
-          c.in-Ok-copied.ensures c.requires.numbers.state l.numbers.state l.resumed r.resumed
-          (end.ensures.next two.table r.numbers.once still r.numbers.state));
+          c.in-Ok-copied.ensures in_low l.numbers.state l.resumed r.resumed
+          (end.ensures.next two.table r.numbers.once still r.numbers.state)))
+          c.in-Ok-lower.ensures;
       numbers =
           record {
             once = r.numbers.once;
-            state = end.ensures.numbers two.table r.numbers.once still r.numbers.state;
+            state =
+                lowered-in code under start low c.in-Ok-lifted.ensures t0 ready two.table on end.new.state last
+                (end.ensures.numbers two.table r.numbers.once still r.numbers.state) c.in-Ok-lower.ensures;
             left = r.numbers.left;
           };
-      table = goes_on-trans t0 one.table two.table l.table r.table;
+      table = on;
     }
 
 pub resume-returns-in-Sync : goal.resume-returns-in-Sync
@@ -458,7 +501,7 @@ resume-returns-in-Seq t c =
     let t0 = c.args.table.now in
     let new = c.resume_through.new in
     let m = c.resume_through.ensures in
-    let is : tree_of c.args.code.now ≡ in_sequence (map tree_of c.as_slice.result.now) = search (rules, the_lemmas) in
+    let is : tree_of c.args.code.now ≡ in_sequence (map tree_of c.as_slice-parts.result.now) = search (rules, the_lemmas) in
     record {
       resumed =
           subst (λ (code : Tree). IsResumed (given c.args.context.now) code c.args.locked c.args.first

@@ -1,4 +1,4 @@
-use Rattle.std.proofs.Common.{◌≡◌, ℕ, ◌+◌, ◌<◌, get_or, List, map, drop, length, Bool}
+use Rattle.std.proofs.Common.{◌≡◌, ℕ, ◌+◌, ◌<◌, get_or, List, map, drop, length, reverse, Bool}
 use Rattle.std.proofs.Common.{true, false, Ok, Err, refl, sym, ap}
 use Rattle.std.proofs.Common.{subst, ◌∙◌, arith, rules}
 use Rattle.std.proofs.lemmas.List.{at_drop_more, at_drop_all}
@@ -14,16 +14,19 @@ use Rattle.core_code.specs.Tree.{LockAt, Tree, Op, Seq, Choice, Loop, Sync, tree
 use Rattle.access_domain.specs.Flow.{flow}
 use Rattle.transfer.specs.Contexts.{given}
 use Rattle.transfer.specs.Marks.{IsStopped}
-use Rattle.transfer.specs.Numbered.{read_found, AreCallNumbers}
+use Rattle.transfer.specs.NotedCalls.{AreFound}
+use Rattle.transfer.specs.Numbered.{read_found, read_calls, AreCallNumbers}
 use Rattle.transfer.specs.Walks.{IsFlow, next_of}
 use Rattle.transfer.proofs.Flows.{flow-then, flow-ended, stopped-after, stopped-left, stopped_lost}
 use Rattle.transfer.specs.Heights.{IsHighEnough}
-use Rattle.transfer.proofs.HighEnough.{high_rest, high_right}
+use Rattle.transfer.proofs.HighEnough.{high_rest, high_left, high_right}
 use Rattle.transfer.proofs.Marking.{noted-nothing}
 use Rattle.transfer.proofs.CallsRead.{calls-still}
 use Rattle.transfer.proofs.WalkedNumbers.{copied-high, copied-ready, held-flow}
 use Rattle.transfer.proofs.WalkedNumbers.{right-stopped, ways-met, ways-numbers, ways-called, always}
 use Rattle.transfer.proofs.WalkedNumbers.{body-high, body-ready, body-found, loop-done, loop-stopped, loop-numbers}
+use Rattle.transfer.proofs.Lowered.{lifted-in, lifted-ready, lifted-stopped}
+use Rattle.transfer.proofs.Lowered.{lowered-flow, lowered-numbers, lowered-same}
 use Rattle.transfer.proofs.walk.+codes.Goals as goal
 
 pub walk_code-returns-in-Err : goal.walk_code-returns-in-Err
@@ -31,14 +34,18 @@ walk_code-returns-in-Err t c =
     let g = given c.args.context.now in
     let left = tree_of c.deref.result.now in
     let right = tree_of c.in-Choice.right.value in
-    let here = read_state c.args.table.now c.args.state.now in
-    let found = read_found c.args.table.now c.args.found.now in
+    let t0 = c.args.table.now in
+    let low = c.lifted.new.state in
+    let found = read_found t0 c.args.found.now in
     let sides : tree_of c.args.code.now ≡ Choice left right = search (rules, the_lemmas) in
     record {
       flow =
-          subst (λ (code : Tree). IsStopped found (flow g code c.args.locked here) c.in-Err.stop) (sym sides)
-          (stopped-left (flow g left c.args.locked here) (flow g right c.args.locked here) found c.in-Err.stop
-          c.in-Err.ensures.flow);
+          lifted-stopped (tree_of c.args.code.now) (reverse c.in-Ok.under.items) c.args.state.now low c.in-Ok.ensures t0
+          c.requires.numbers.state g c.args.locked found c.in-Err.stop
+          (subst (λ (code : Tree). IsStopped found (flow g code c.args.locked (read_state t0 low)) c.in-Err.stop)
+          (sym sides)
+          (stopped-left (flow g left c.args.locked (read_state t0 low)) (flow g right c.args.locked (read_state t0 low))
+          found c.in-Err.stop c.in-Err.ensures.flow));
       numbers = tt;
       called = tt;
       calls = tt;
@@ -48,19 +55,26 @@ walk_code-returns-in-Err t c =
 pub walk_code-returns-in-Err-walk_code : goal.walk_code-returns-in-Err-walk_code
 walk_code-returns-in-Err-walk_code t c =
     let g = given c.args.context.now in
+    let code = tree_of c.args.code.now in
     let left = tree_of c.deref.result.now in
     let right = tree_of c.deref-in-Choice.result.now in
     let t0 = c.args.table.now in
+    let start = c.args.state.now in
+    let low = c.lifted.new.state in
+    let under = reverse c.in-Ok.under.items in
+    let ready = c.requires.numbers.state in
+    let found = read_found t0 c.args.found.now in
     let one = c.walk_code.new in
     let stop = c.in-Err-walk_code.stop in
-    let sides : tree_of c.args.code.now ≡ Choice left right = search (rules, the_lemmas) in
+    let sides : code ≡ Choice left right = search (rules, the_lemmas) in
     record {
       flow =
-          subst (λ (code : Tree). IsStopped (read_found t0 c.args.found.now)
-          (flow g code c.args.locked (read_state t0 c.args.state.now)) stop) (sym sides)
-          (right-stopped g left right c.args.locked t0 one.table c.in-Ok-walk_code.ensures.table c.args.state.now
-          c.in-Ok.other c.args.found.now one.found c.in-Ok.ensures c.requires.numbers.state stop
-          c.in-Ok-walk_code.ensures.flow.1 c.in-Err-walk_code.ensures.flow);
+          lifted-stopped code under start low c.in-Ok.ensures t0 ready g c.args.locked found stop
+          (subst (λ (part : Tree). IsStopped found (flow g part c.args.locked (read_state t0 low)) stop) (sym sides)
+          (right-stopped g left right c.args.locked t0 one.table c.in-Ok-walk_code.ensures.table low
+          c.in-Ok-copied.other c.args.found.now one.found c.in-Ok-copied.ensures
+          (lifted-in code under start low c.in-Ok.ensures t0 ready) stop c.in-Ok-walk_code.ensures.flow.1
+          c.in-Err-walk_code.ensures.flow));
       numbers = tt;
       called = tt;
       calls = tt;
@@ -70,38 +84,53 @@ walk_code-returns-in-Err-walk_code t c =
 pub walk_code-returns-in-Ok-walk_code-2 : goal.walk_code-returns-in-Ok-walk_code-2
 walk_code-returns-in-Ok-walk_code-2 t c =
     let g = given c.args.context.now in
+    let code = tree_of c.args.code.now in
     let left = tree_of c.deref.result.now in
     let right = tree_of c.deref-in-Choice.result.now in
     let locked = c.args.locked in
     let t0 = c.args.table.now in
     let start = c.args.state.now in
+    let low = c.lifted.new.state in
+    let under = reverse c.in-Ok.under.items in
     let f0 = c.args.found.now in
     let one = c.walk_code.new in
     let two = c.walk_code-in-Choice.new in
-    let end = c.join_ends in
+    let end = c.join_ends-joined in
     let l = c.in-Ok-walk_code.ensures in
     let r = c.in-Ok-walk_code-2.ensures in
-    let low = c.requires.numbers.state in
-    let sides : tree_of c.args.code.now ≡ Choice left right = search (rules, the_lemmas) in
+    let ready = c.requires.numbers.state in
+    let in_low = lifted-in code under start low c.in-Ok.ensures t0 ready in
+    let other = c.in-Ok-copied.other in
+    let same = c.in-Ok-copied.ensures in
+    let on : GoesOn t0 two.table = goes_on-trans t0 one.table two.table l.table r.table in
+    let last = c.lowered.new.state in
+    let sides : code ≡ Choice left right = search (rules, the_lemmas) in
     record {
       flow =
-          subst (λ (code : Tree). IsFlow (flow g code locked (read_state t0 start))
+          lowered-flow code under start low c.in-Ok.ensures t0 ready two.table on end.new.state last end.result
+          c.lowered.result c.lowered.ensures g locked (read_found t0 f0) (read_found two.table end.new.found)
+          (subst (λ (part : Tree). IsFlow (flow g part locked (read_state t0 low))
           (read_state two.table end.new.state) (read_found t0 f0) (read_found two.table end.new.found) end.result)
           (sym sides)
-          (ways-met g left right locked t0 one.table l.table start c.in-Ok.other f0 one.found c.in-Ok.ensures low
-          two.table r.table one.state two.state end.new.state two.found end.new.found c.in-Ok-walk_code.goes_on
+          (ways-met g left right locked t0 one.table l.table low other f0 one.found same in_low two.table r.table
+          one.state two.state end.new.state two.found end.new.found c.in-Ok-walk_code.goes_on
           c.in-Ok-walk_code-2.goes_on end.result l.numbers r.numbers l.flow r.flow end.ensures.state
-          end.ensures.found);
+          end.ensures.found));
       numbers =
-          ways-numbers g left right locked t0 one.table l.table start c.in-Ok.other f0 one.found c.in-Ok.ensures low
-          two.table r.table one.state two.state end.new.state two.found end.new.found c.in-Ok-walk_code.goes_on
-          c.in-Ok-walk_code-2.goes_on end.result l.numbers r.numbers end.ensures.numbers;
-      called = always end.result (AreCallNumbers two.table two.calls.keys) r.called;
+          lowered-numbers code under start low c.in-Ok.ensures t0 ready two.table on end.new.state last end.result
+          c.lowered.result c.lowered.ensures end.new.found
+          (ways-numbers g left right locked t0 one.table l.table low other f0 one.found same in_low two.table r.table
+          one.state two.state end.new.state two.found end.new.found c.in-Ok-walk_code.goes_on
+          c.in-Ok-walk_code-2.goes_on end.result l.numbers r.numbers end.ensures.numbers);
+      called = always c.lowered.result (AreCallNumbers two.table two.calls.keys) r.called;
       calls =
-          ways-called g left right locked t0 one.table l.table start c.in-Ok.other f0 one.found c.in-Ok.ensures low
-          two.table r.table one.state two.state end.new.state two.found end.new.found c.in-Ok-walk_code.goes_on
-          c.in-Ok-walk_code-2.goes_on end.result l.numbers r.numbers two.calls.keys r.calls end.ensures.found;
-      table = always end.result (GoesOn t0 two.table) (goes_on-trans t0 one.table two.table l.table r.table);
+          lowered-same code under start low c.in-Ok.ensures t0 ready two.table on end.new.state last end.result
+          c.lowered.result c.lowered.ensures
+          (AreFound g (read_calls two.table two.calls.keys) (read_found two.table end.new.found))
+          (ways-called g left right locked t0 one.table l.table low other f0 one.found same in_low two.table r.table
+          one.state two.state end.new.state two.found end.new.found c.in-Ok-walk_code.goes_on
+          c.in-Ok-walk_code-2.goes_on end.result l.numbers r.numbers two.calls.keys r.calls end.ensures.found);
+      table = always c.lowered.result (GoesOn t0 two.table) on;
     }
 
 pub walk_code-returns-in-Loop : goal.walk_code-returns-in-Loop
@@ -140,7 +169,7 @@ pub walk_code-returns-in-Seq : goal.walk_code-returns-in-Seq
 walk_code-returns-in-Seq t c =
     let table = c.args.table.now in
     let new = c.go_through.new in
-    let is : tree_of c.args.code.now ≡ in_sequence (map tree_of c.as_slice.result.now) =
+    let is : tree_of c.args.code.now ≡ in_sequence (map tree_of c.as_slice-parts.result.now) =
     search (rules, the_lemmas) in
     record {
       flow =
@@ -347,23 +376,49 @@ repeat-returns-in-Err-ended t c =
       table = tt;
     }
 
+pub walk_code-walk_code-requires : goal.walk_code-walk_code-requires
+walk_code-walk_code-requires t c =
+    let code = tree_of c.args.code.now in
+    let left = tree_of c.deref.result.now in
+    let right = tree_of c.in-Choice.right.value in
+    let t0 = c.args.table.now in
+    let low = c.lifted.new.state in
+    let sides : code ≡ Choice left right = search (rules, the_lemmas) in (
+      search (rules, sizes, the_size, the_lemmas, c.in-Choice.is, c.deref.ensures, c.decreases),
+      (
+        high_left left right (read_state t0 low)
+            (subst (λ (part : Tree). IsHighEnough part (read_state t0 low)) sides
+            (c.in-Ok.ensures.high t0 c.requires.high)),
+        (
+          lifted-ready code (reverse c.in-Ok.under.items) c.args.state.now low c.in-Ok.ensures t0
+              c.requires.numbers.state c.args.found.now c.requires.numbers,
+          (c.requires.called, c.requires.calls),
+        ),
+      ),
+    )
+
 pub walk_code-walk_code-requires-in-Choice : goal.walk_code-walk_code-requires-in-Choice
 walk_code-walk_code-requires-in-Choice t c =
+    let code = tree_of c.args.code.now in
     let left = tree_of c.deref.result.now in
     let right = tree_of c.deref-in-Choice.result.now in
     let t0 = c.args.table.now in
-    let start = c.args.state.now in
+    let low = c.lifted.new.state in
     let one = c.walk_code.new in
     let l = c.in-Ok-walk_code.ensures in
-    let low = c.requires.numbers.state in
-    let sides : tree_of c.args.code.now ≡ Choice left right = search (rules, the_lemmas) in (
+    let in_low =
+    lifted-in code (reverse c.in-Ok.under.items) c.args.state.now low c.in-Ok.ensures t0 c.requires.numbers.state in
+    let other = c.in-Ok-copied.other in
+    let same = c.in-Ok-copied.ensures in
+    let sides : code ≡ Choice left right = search (rules, the_lemmas) in (
       search (rules, sizes, the_size, the_lemmas, c.in-Choice.is, c.deref-in-Choice.ensures, c.decreases),
       (
-        copied-high t0 one.table l.table start c.in-Ok.other c.in-Ok.ensures low right
-            (high_right left right (read_state t0 start)
-            (subst (λ (code : Tree). IsHighEnough code (read_state t0 start)) sides c.requires.high)),
+        copied-high t0 one.table l.table low other same in_low right
+            (high_right left right (read_state t0 low)
+            (subst (λ (part : Tree). IsHighEnough part (read_state t0 low)) sides
+            (c.in-Ok.ensures.high t0 c.requires.high))),
         (
-          copied-ready t0 one.table l.table start c.in-Ok.other c.in-Ok.ensures low one.state one.found l.numbers,
+          copied-ready t0 one.table l.table low other same in_low one.state one.found l.numbers,
           (l.called, l.calls),
         ),
       ),
