@@ -1,5 +1,5 @@
 """Runs of racer on folders that a bench makes, beside those of another program, as rows of a table."""
-import argparse, os, resource, shlex, shutil, sys, tempfile
+import argparse, hashlib, os, resource, shlex, shutil, sys, tempfile
 from pathlib import Path
 
 TOP = Path(__file__).resolve().parent.parent
@@ -7,7 +7,7 @@ PROGRAM = TOP / "crates/racer_cli/out/racer_cli"
 
 
 def run_once(words, folder, limit):
-    """Processor seconds (None where it was stopped), megabytes held, and what it printed."""
+    """Processor seconds on one processor (None where it was stopped), megabytes held, and what it printed."""
     read, write = os.pipe()
     child = os.fork()
     if child == 0:
@@ -15,6 +15,7 @@ def run_once(words, folder, limit):
         os.dup2(os.open(os.devnull, os.O_WRONLY), 2)
         os.close(read)
         resource.setrlimit(resource.RLIMIT_CPU, (limit, limit + 1))
+        os.sched_setaffinity(0, {max(os.sched_getaffinity(0))})
         os.execv(words[0], words + [str(folder)])
     os.close(write)
     with os.fdopen(read, "rb") as text:
@@ -22,6 +23,16 @@ def run_once(words, folder, limit):
     _, status, usage = os.wait4(child, 0)
     seconds = usage.ru_utime + usage.ru_stime
     return (None if os.WIFSIGNALED(status) else seconds), usage.ru_maxrss / 1024, printed
+
+
+def summed(run):
+    """The run, with a sum in place of what it printed, which would count as memory of the next one."""
+    return (*run[:2], hashlib.sha256(run[2]).digest())
+
+
+def middle(runs):
+    """The middle one of these runs by their seconds, those without end last."""
+    return sorted(runs, key=lambda run: float("inf") if run[0] is None else run[0])[len(runs) // 2]
 
 
 def told(seconds):
@@ -40,11 +51,13 @@ def row(name, text, times, options):
     folder = Path(tempfile.mkdtemp(prefix="racer_bench_"))
     try:
         (folder / "A.java").write_text(text)
-        seconds, held, printed = run_once([str(options.program)], folder, options.limit)
+        programs = [[str(options.program)], *([shlex.split(options.beside)] if options.beside else [])]
+        turns = [[summed(run_once(words, folder, options.limit)) for words in programs] for _ in range(options.turns)]
+        seconds, held, printed = middle([turn[0] for turn in turns])
         line = "%-52s %7.2f %8s %8.0f" % (name, len(text) / 1e6, told(seconds), held)
         faults = []
         if options.beside:
-            other, other_held, other_printed = run_once(shlex.split(options.beside), folder, options.limit)
+            other, other_held, other_printed = middle([turn[1] for turn in turns])
             if seconds is not None and other is not None and printed != other_printed:
                 faults.append("another report")
             if is_over(seconds, other, times):
@@ -62,6 +75,7 @@ def main(text, folders):
     parser.add_argument("words", nargs="*")
     parser.add_argument("--beside")
     parser.add_argument("--limit", type=int, default=30)
+    parser.add_argument("--turns", type=int, default=1)
     parser.add_argument("--program", type=Path, default=PROGRAM)
     options = parser.parse_args()
     if not options.program.exists():
