@@ -7,3 +7,4 @@ pub mod ReachedPaths
 pub mod NumberedKeys
 pub mod NumberedReading
 pub mod MethodOutcomes
+pub mod KeysOfFronts

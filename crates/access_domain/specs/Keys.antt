@@ -1,5 +1,5 @@
 -- No public contract rests on this: the keys of records.
-use Rattle.std.specs.Prelude.{◌≡◌, Bool, ◌&&◌, List, map}
+use Rattle.std.specs.Prelude.{◌≡◌, Bool, ◌&&◌, List, length, map, take}
 use Rattle.std.specs.Bool.{beq}
 use Rattle.access_paths.specs.Paths.{same_path}
 use Rattle.access_domain.specs.declared.access.Access.{Access}
@@ -16,3 +16,7 @@ key_eq k l =
 -- the keys are those of the records, in order
 abbrev pub HasKeysOf : List Key → List Access → Type 0
 HasKeysOf keys records = keys ≡ map key_of records
+
+-- the keys are those of the first so many records, in order
+abbrev pub HasKeysOfFront : List Key → List Access → Type 0
+HasKeysOfFront keys records = HasKeysOf keys (take (length keys) records)

@@ -3,9 +3,9 @@ ghost use Rattle.std.specs.Prelude.{◌≡◌, ◌≤◌, ◌<◌, [], ◌∷◌
 ghost use Rattle.std.specs.Prelude.{IfOk, OnOk, OnErr, is_ok, if◌then◌else◌};
 ghost use Rattle.std.specs.List.{list_any};
 ghost use Rattle.racer_base.specs.declared.limits.TheConstants.{MAX_SUMMARY_KEYS};
-ghost use Rattle.access_domain.specs.Keys.{key_eq, key_of};
+ghost use Rattle.access_domain.specs.Keys.{key_eq, key_of, HasKeysOf, HasKeysOfFront};
 ghost use Rattle.indexmap.specs.IndexSet.{insert_key};
-ghost use Rattle.access_domain.specs.Records.{same_key, first_of_keys};
+ghost use Rattle.access_domain.specs.Records.{same_key, first_of_keys, IsWithin};
 ghost use Rattle.wobbly_paths.specs.Sets.{IsAnswer};
 
 use access_paths::Path;
@@ -57,7 +57,7 @@ struct Key {
 pub struct Accesses {
     alloc: Global,
     items: Vec<Access>,
-    /// The keys of the records.
+    /// The keys of the first so many records: of all of them where one was added.
     keys: IndexSet<Key>,
 }
 
@@ -67,13 +67,13 @@ impl Model for Accesses {
 
     ghost Value = { List Access };
 
-    ghost use Rattle.access_domain.specs.Keys.{HasKeysOf};
+    ghost use Rattle.access_domain.specs.Keys.{HasKeysOfFront};
     ghost use Rattle.access_domain.specs.Records.{IsWithin};
 
     ghost view = { λ accesses. accesses.items.items };
 
     ghost invariant = { λ accesses.
-        IsWithin accesses.items.items × HasKeysOf accesses.keys.keys accesses.items.items };
+        IsWithin accesses.items.items × HasKeysOfFront accesses.keys.keys accesses.items.items };
 }
 
 impl Accesses {
@@ -83,6 +83,18 @@ impl Accesses {
         Accesses {
             alloc,
             items: Vec::new(alloc),
+            keys: IndexSet::new(alloc),
+        }
+    }
+
+    /// These records. Their keys are put together when another one is added.
+    pub fn from_vec(alloc: Global, records: Vec<Access>) -> Accesses
+        requires { IsWithin records.items }
+        ensures { result ≡ records.items }
+    {
+        Accesses {
+            alloc,
+            items: records,
             keys: IndexSet::new(alloc),
         }
     }
@@ -101,13 +113,17 @@ impl Accesses {
         ensures firsts { first_of_keys self.new ≡ self.new }
         ensures limit { length self.new ≤ MAX_SUMMARY_KEYS }
     {
-        let (there, access) = self.look_up(access);
+        let keyed = put_keys(self.alloc, self.items.as_slice(), &mut self.keys);
+        let (there, access) = look_up(self.items.as_slice(), &self.keys, access);
         if there {
             return Adding::Present;
         }
         if self.items.len() >= MAX_SUMMARY_KEYS {
             return Adding::Full;
         }
+        let Ok(()) = keyed else {
+            return Adding::Memory;
+        };
         let Ok(key) = key_of(self.alloc, &access) else {
             return Adding::Memory;
         };
@@ -115,29 +131,6 @@ impl Accesses {
             return Adding::Memory;
         };
         Adding::Added
-    }
-
-    /// Whether there is a record of this one's key; and this one.
-    fn look_up(&self, access: Access) -> (bool, Access)
-        ensures there { result.0 ≡ list_any (λ r. same_key r access) self.now }
-        ensures same { result.1 ≡ access }
-    {
-        let key = Key {
-            path: access.path,
-            is_write: is_write(access.kind),
-            locked: access.locked,
-            main: access.main,
-        };
-        let there = self.keys.contains(&key);
-        let access = Access {
-            path: key.path,
-            kind: access.kind,
-            locked: access.locked,
-            main: access.main,
-            site: access.site,
-            below: access.below,
-        };
-        (there, access)
     }
 
     /// The records, in order.
@@ -169,6 +162,59 @@ impl Accesses {
     {
         self.items.is_empty()
     }
+}
+
+/// Whether one of these records has this one's key; and this one.
+fn look_up(records: &[Access], keys: &IndexSet<Key>, access: Access) -> (bool, Access)
+    requires { HasKeysOfFront keys.now.keys records.now }
+    ensures there { result.0 ≡ list_any (λ r. same_key r access) records.now }
+    ensures same { result.1 ≡ access }
+{
+    let key = Key {
+        path: access.path,
+        is_write: is_write(access.kind),
+        locked: access.locked,
+        main: access.main,
+    };
+    let is_among = keys.contains(&key);
+    let access = Access {
+        path: key.path,
+        kind: access.kind,
+        locked: access.locked,
+        main: access.main,
+        site: access.site,
+        below: access.below,
+    };
+    let there = is_among || any_has_key_of(&records[keys.len()..], &access);
+    (there, access)
+}
+
+/// Whether one of these records has this one's key.
+fn any_has_key_of(records: &[Access], access: &Access) -> bool
+    ensures { result ≡ list_any (λ r. same_key r access.now) records.now }
+{
+    for record in records {
+        if record.has_key_of(access) {
+            return true;
+        }
+    }
+    false
+}
+
+/// Puts the keys of the records that have none among the keys. After a refusal there are those of the first so many.
+fn put_keys(alloc: Global, records: &[Access], keys: &mut IndexSet<Key>) -> Result<(), Memory>
+    requires firsts { first_of_keys records.now ≡ records.now }
+    requires front { HasKeysOfFront keys.old.keys records.now }
+    ensures front { HasKeysOfFront keys.new.keys records.now }
+    ensures all { OnOk result (HasKeysOf keys.new.keys records.now) }
+{
+    for index in keys.len()..records.len() {
+        let key = key_of(alloc, &records[index])?;
+        let Ok(_) = keys.insert(key) else {
+            return Err(Memory);
+        };
+    }
+    Ok(())
 }
 
 /// The key of a record.

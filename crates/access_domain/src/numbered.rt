@@ -1,6 +1,7 @@
 //! Access records whose paths are numbers of a table.
-ghost use Rattle.std.specs.Prelude.{◌≡◌, [], ◌∷◌, ◌++◌, length, is_ok, if◌then◌else◌, OnOk, OnErr};
+ghost use Rattle.std.specs.Prelude.{◌≡◌, ◌≤◌, [], ◌∷◌, ◌++◌, length, is_ok, if◌then◌else◌, OnOk, OnErr};
 ghost use Rattle.std.specs.List.{list_any};
+ghost use Rattle.racer_base.specs.declared.limits.TheConstants.{MAX_SUMMARY_KEYS};
 ghost use Rattle.indexmap.specs.IndexSet.{insert_key};
 ghost use Rattle.access_domain.specs.Numbered.{same_numbered_key, numbered_key_of, numbered_key_eq};
 ghost use Rattle.wobbly_paths.specs.Sets.{IsAnswer};
@@ -92,7 +93,8 @@ impl NumberedAccesses {
 
     /// The records, in order.
     pub fn into_vec(self) -> Vec<NumberedAccess>
-        ensures { result.items ≡ self }
+        ensures records { result.items ≡ self }
+        ensures limit { length result.items ≤ MAX_SUMMARY_KEYS }
     {
         self.items
     }

@@ -76,6 +76,14 @@ table-longer paths p table new room = let long : length (paths ++ p ∷ []) ≡ 
       limit = omega arith;
     }
 
+pub interned-table : (paths : List Path) (p : Path) → IsTable paths → length paths < 4294967295 →
+    IsTable (interned paths p)
+interned-table paths p table room = by (list_any (same_path p) paths) refl
+  where
+    by : (b : Bool) → list_any (same_path p) paths ≡ b → IsTable (cond b paths (paths ++ p ∷ []))
+    by true e = table
+    by false e = table-longer paths p table e room
+
 append-nil : (xs : List Path) → xs ≡ (xs ++ [])
 append-nil [] = refl
 append-nil (x ∷ xs) = ap (λ ys. x ∷ ys) (append-nil xs)

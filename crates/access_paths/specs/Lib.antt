@@ -4,3 +4,4 @@ pub mod Order
 pub mod Text
 pub mod Same
 pub mod Table
+pub mod Extensions

@@ -92,7 +92,8 @@ impl Path {
         if self.fields.len() >= MAX_PATH_FIELDS {
             return Ok(None);
         }
-        let mut fields = Vec::from_slice(alloc, self.fields.as_slice())?;
+        let mut fields = Vec::with_capacity(alloc, self.fields.len() + 1)?;
+        fields.extend_from_slice(self.fields.as_slice())?;
         fields.push(f)?;
         Ok(Some(Path {
             root: self.root,

@@ -33,14 +33,14 @@ fn count_statement(statement: &Statement) -> Result<usize, Memory>
 {
     match statement {
         Statement::Block(inner) => count_statements(inner.as_slice()),
-        Statement::Local(l) => Ok(l.variables.len()),
+        Statement::Local(l) => Ok(l.get().variables.len()),
         Statement::Expr(_) => Ok(0),
         Statement::If(_, first, None) => count_statement(first),
         Statement::If(_, first, Some(second)) => {
             sum(count_statement(first)?, count_statement(second)?)
         }
         Statement::While(_, body) => count_statement(body),
-        Statement::For(start, _, _, body) => sum(count_start(start), count_statement(body)?),
+        Statement::For(start, _, _, body) => sum(count_start(start.get()), count_statement(body)?),
         Statement::ForEach(_, _, _, _, body) => sum(1, count_statement(body)?),
         Statement::Sync(_, _, inner) => count_statements(inner.as_slice()),
         Statement::Return(_) => Ok(0),

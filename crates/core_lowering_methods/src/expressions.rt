@@ -53,10 +53,12 @@ pub fn lower_expression(
         Expression::Name(_) => lower_read(alloc, context, e, draft),
         Expression::Field(_, _) => lower_read(alloc, context, e, draft),
         Expression::Index(_, _) => lower_read(alloc, context, e, draft),
-        Expression::Call(None, x, all) => { lower_call(alloc, context, all, Target::Own, x, draft) }
-        Expression::Call(Some(a), x, all) => lower_call_on(alloc, context, a, x, all, draft),
+        Expression::Call(None, x, all) => {
+            lower_call(alloc, context, all, Target::Own, x.get(), draft)
+        }
+        Expression::Call(Some(a), x, all) => lower_call_on(alloc, context, a, x.get(), all, draft),
         Expression::ClassOf(names) => class_object(context, names, draft),
-        Expression::New(place, t, all) => lower_new(alloc, context, all, *place, t, draft),
+        Expression::New(place, t, all) => lower_new(alloc, context, all, *place, t.get(), draft),
         Expression::NewArray(place, _, all, _) => lower_lengths(alloc, context, all, *place, draft),
         Expression::NewItems(place, _, _, array) => {
             lower_array(alloc, context, &array.items, *place, draft)

@@ -11,7 +11,7 @@ use crate::locals::lower_start;
 use crate::parts::{lower_run, lower_run_all, lower_run_some, set};
 use crate::{Context, Draft};
 use core_code::Op;
-use java_tree::{Expression, StartTree};
+use java_tree::{Apart, Expression, StartTree};
 use racer_base::{Memory, VarId};
 use std::alloc::Global;
 
@@ -20,7 +20,7 @@ pub fn begin_for(
     alloc: Global,
     context: &mut Context,
     start: &StartTree,
-    e: &Option<Expression>,
+    e: &Option<Apart<Expression>>,
     draft: &mut Draft,
 ) -> Result<(), Memory>
     ensures context { OnOk result (context.new ≡ started context.old (start_of start.now)) }
@@ -35,7 +35,7 @@ pub fn begin_for(
 pub fn end_for(
     alloc: Global,
     context: &Context,
-    e: &Option<Expression>,
+    e: &Option<Apart<Expression>>,
     updates: &[Expression],
     body: usize,
     draft: &mut Draft,

@@ -7,7 +7,7 @@ ghost use Rattle.core_lowering_methods.specs.Drafts.{code_of};
 
 use crate::{Context, Draft, lower_expression};
 use core_code::Op;
-use java_tree::Expression;
+use java_tree::{Apart, Expression};
 use racer_base::{Memory, VarId};
 use std::alloc::Global;
 
@@ -44,13 +44,13 @@ pub fn lower_run_all(
 pub fn lower_run_some(
     alloc: Global,
     context: &Context,
-    e: &Option<Expression>,
+    e: &Option<Apart<Expression>>,
     draft: &mut Draft,
 ) -> Result<(), Memory>
     ensures { OnOk result (code_of draft.new ≡ code_of draft.old ++ run_some context.now (option_map expr_of e.now)) }
 {
     match e {
-        Some(e) => lower_run(alloc, context, e, draft),
+        Some(e) => lower_run(alloc, context, e.get(), draft),
         None => Ok(()),
     }
 }

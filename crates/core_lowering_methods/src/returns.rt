@@ -8,7 +8,7 @@ ghost use Rattle.core_lowering_methods.specs.Views.{given_of};
 use crate::parts::lower_run;
 use crate::{Context, Draft, MethodResult, lower_expression};
 use core_code::Op;
-use java_tree::Expression;
+use java_tree::{Apart, Expression};
 use racer_base::{Kind, Memory};
 use std::alloc::Global;
 
@@ -63,7 +63,7 @@ pub fn lower_return_nothing(context: &Context, draft: &mut Draft) -> Result<(), 
 pub fn lower_return(
     alloc: Global,
     context: &Context,
-    e: &Option<Expression>,
+    e: &Option<Apart<Expression>>,
     draft: &mut Draft,
 ) -> Result<(), Memory>
     ensures { OnOk result (code_of draft.new ≡ code_of draft.old ++ returned context.now (option_map expr_of e.now)) }
@@ -71,6 +71,6 @@ pub fn lower_return(
     let Some(e) = e else {
         return lower_return_nothing(context, draft);
     };
-    lower_given(alloc, context, context.given(), e, draft)?;
+    lower_given(alloc, context, context.given(), e.get(), draft)?;
     context.op(draft, Op::Ret)
 }

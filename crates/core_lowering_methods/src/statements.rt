@@ -13,7 +13,7 @@ use crate::loops::{begin_for, end_for, end_while, lower_next};
 use crate::parts::lower_run;
 use crate::returns::lower_return;
 use crate::{Context, Draft, lower_expression};
-use java_tree::{Expression, Ident, StartTree, Statement, TypeTree};
+use java_tree::{Apart, Expression, Ident, StartTree, Statement, TypeTree};
 use racer_base::{Memory, Place};
 use std::alloc::Global;
 
@@ -29,16 +29,30 @@ fn lower_statement(
 {
     match statement {
         Statement::Block(all) => lower_block(alloc, context, all, draft),
-        Statement::Local(locals) => lower_locals(alloc, context, locals, draft),
+        Statement::Local(locals) => lower_locals(alloc, context, locals.get(), draft),
         Statement::Expr(e) => lower_run(alloc, context, e, draft),
-        Statement::If(e, s, None) => lower_if(alloc, context, s, e, draft),
-        Statement::If(e, s, Some(t)) => lower_if_else(alloc, context, s, t, e, draft),
-        Statement::While(e, s) => lower_while(alloc, context, s, e, draft),
+        Statement::If(e, s, None) => lower_if(alloc, context, s, e.get(), draft),
+        Statement::If(e, s, Some(t)) => lower_if_else(alloc, context, s, t, e.get(), draft),
+        Statement::While(e, s) => lower_while(alloc, context, s, e.get(), draft),
         Statement::For(start, e, updates, s) => lower_for(
-            alloc, context, s, start, e, updates, draft,
+            alloc,
+            context,
+            s,
+            start.get(),
+            e,
+            updates,
+            draft,
         ),
-        Statement::ForEach(_, t, x, e, s) => lower_for_each(alloc, context, s, t, x, e, draft),
-        Statement::Sync(place, e, all) => lower_sync(alloc, context, all, *place, e, draft),
+        Statement::ForEach(_, t, x, e, s) => lower_for_each(
+            alloc,
+            context,
+            s,
+            t.get(),
+            x.get(),
+            e.get(),
+            draft,
+        ),
+        Statement::Sync(place, e, all) => lower_sync(alloc, context, all, *place, e.get(), draft),
         Statement::Return(e) => lower_return(alloc, context, e, draft),
         Statement::Empty => Ok(()),
     }
@@ -145,7 +159,7 @@ fn lower_for(
     context: &mut Context,
     s: &Statement,
     start: &StartTree,
-    e: &Option<Expression>,
+    e: &Option<Apart<Expression>>,
     updates: &[Expression],
     draft: &mut Draft,
 ) -> Result<(), Memory>

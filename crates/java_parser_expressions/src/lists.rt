@@ -18,7 +18,7 @@ use java_lexer::Token;
 use java_parser_types::error::ReadError;
 use java_parser_types::look::{after_brackets, after_sign, brackets, sign};
 use java_parser_types::nested::NestedBase;
-use java_tree::{ArrayTree, Expression, Initialiser};
+use java_tree::{Apart, ArrayTree, Expression, Initialiser};
 use racer_base::Place;
 use std::alloc::Global;
 
@@ -85,7 +85,8 @@ pub fn lengths_end(
     let kind = element(base);
     let nesting = 1 + kind.nesting.max(lengths.nesting);
     let (arrays, rest) = brackets(tokens);
-    let tree = Expression::NewArray(place, kind.tree, lengths.trees, arrays);
+    let kind = Apart::new(alloc, kind.tree)?;
+    let tree = Expression::NewArray(place, kind, lengths.trees, arrays);
     NestedExpression::before(alloc, tree, nesting, rest)
 }
 

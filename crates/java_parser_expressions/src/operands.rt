@@ -22,7 +22,7 @@ use java_parser_types::look::{ident, sign};
 use java_parser_types::made_types::made_base;
 use java_parser_types::nested::{NestedBase, NestedType};
 use java_parser_types::types::read_type;
-use java_tree::{BaseType, Expression, TypeTree};
+use java_tree::{Apart, BaseType, Expression, TypeTree};
 use racer_base::{Place, Text};
 use std::alloc::Global;
 
@@ -86,7 +86,8 @@ pub fn call<'a>(
     ensures shorter { IfOk result (λ x. length x.1.now ≤ length tokens.now) }
 {
     let nesting = all.nesting + 1;
-    let tree = Expression::Call(None, ident(alloc, token)?, all.trees);
+    let name = Apart::new(alloc, ident(alloc, token)?)?;
+    let tree = Expression::Call(None, name, all.trees);
     NestedExpression::before(alloc, tree, nesting, tokens)
 }
 
@@ -234,7 +235,8 @@ pub fn object<'a>(
 {
     let kind = element(base);
     let nesting = 1 + kind.nesting.max(all.nesting);
-    let tree = Expression::New(place, kind.tree, all.trees);
+    let kind = Apart::new(alloc, kind.tree)?;
+    let tree = Expression::New(place, kind, all.trees);
     NestedExpression::before(alloc, tree, nesting, tokens)
 }
 
@@ -265,6 +267,7 @@ pub fn array_of_items<'a>(
 {
     let kind = element(base);
     let nesting = 1 + kind.nesting.max(items.nesting);
-    let tree = Expression::NewItems(place, kind.tree, more + 1, items.tree);
+    let kind = Apart::new(alloc, kind.tree)?;
+    let tree = Expression::NewItems(place, kind, more + 1, items.tree);
     NestedExpression::before(alloc, tree, nesting, tokens)
 }

@@ -16,7 +16,7 @@ use java_lexer::Token;
 use java_parser_types::error::ReadError;
 use java_parser_types::look::sign;
 use java_parser_types::made_types::read_bare_type;
-use java_tree::{Expression, Ident};
+use java_tree::{Apart, Expression, Ident};
 use racer_base::Text;
 use std::alloc::Global;
 
@@ -217,6 +217,7 @@ pub fn called<'a>(
     ensures shorter { IfOk result (λ x. IsWithin x (length tokens.now)) }
 {
     let nesting = 1 + left.nesting.max(all.nesting);
+    let name = Apart::new(alloc, name)?;
     let tree = Expression::Call(Some(left.tree), name, all.trees);
     grown(alloc, limit, tree, nesting, tokens)
 }

@@ -24,7 +24,7 @@ use java_parser_expressions::leads::is_step;
 use java_parser_expressions::nested::push_tree;
 use java_parser_types::error::ReadError;
 use java_parser_types::look::{after_sign, ident, sign};
-use java_tree::{Expression, Ident, StartTree, TypeTree};
+use java_tree::{Apart, Expression, Ident, StartTree, TypeTree};
 use racer_base::Items;
 use std::alloc::Global;
 
@@ -34,7 +34,7 @@ pub enum ForHead {
     /// JLS 14.14.1.
     Counted(Box<StartTree>, Option<Box<Expression>>, Vec<Expression>),
     /// JLS 14.14.2, and whether `final` stands.
-    Each(bool, Box<TypeTree>, Ident, Box<Expression>),
+    Each(bool, Box<TypeTree>, Apart<Ident>, Box<Expression>),
 }
 
 /// Whether an expression is one that a statement can be (JLS 14.8).
@@ -214,6 +214,7 @@ fn each(
 {
     let (all, rest) = read_expression(alloc, limit, 0, tokens)?;
     let rest = sign(rest, ")")?;
+    let name = Apart::new(alloc, name)?;
     Ok((ForHead::Each(is_final, kind, name, all.tree), rest))
 }
 

@@ -13,7 +13,7 @@ ghost use Rattle.java_parser_types.specs.ReadAnswer.{Gives};
 use super::heads::ForHead;
 use java_lexer::Token;
 use java_parser_types::error::ReadError;
-use java_tree::{Expression, LocalsTree, Statement};
+use java_tree::{Apart, Expression, LocalsTree, Statement};
 use racer_base::Place;
 use std::alloc::Global;
 
@@ -70,7 +70,7 @@ pub fn local(
         locals_places locals.value (kept tokens.now)) }
     ensures shorter { IfOk result (λ x. length x.1.now ≤ length tokens.now) }
 {
-    boxed(alloc, Statement::Local(Box::into_inner(locals)), tokens)
+    boxed(alloc, Statement::Local(Apart::from(locals)), tokens)
 }
 
 /// JLS 14.8.
@@ -89,13 +89,13 @@ pub fn ran(
 }
 
 /// An expression that may be left out, as a part of its statement.
-fn maybe_tree(tree: Option<Box<Expression>>) -> Option<Expression>
+fn maybe_tree(tree: Option<Box<Expression>>) -> Option<Apart<Expression>>
     ensures gives { option_map expr_of result ≡ option_map (λ e. expr_of e.value) tree }
     ensures places { (rest : Places) → maybe_puts (option_map expr_places result) rest ≡ maybe_puts
         (option_map (λ e. expr_places e.value) tree) rest }
 {
     match tree {
-        Some(tree) => Some(Box::into_inner(tree)),
+        Some(tree) => Some(Apart::from(tree)),
         None => None,
     }
 }
@@ -130,7 +130,7 @@ pub fn without_else(
 {
     boxed(
         alloc,
-        Statement::If(Box::into_inner(condition), then, None),
+        Statement::If(Apart::from(condition), then, None),
         tokens,
     )
 }
@@ -151,7 +151,7 @@ pub fn with_else(
 {
     boxed(
         alloc,
-        Statement::If(Box::into_inner(condition), then, Some(other)),
+        Statement::If(Apart::from(condition), then, Some(other)),
         tokens,
     )
 }
@@ -171,7 +171,7 @@ pub fn repeated(
 {
     boxed(
         alloc,
-        Statement::While(Box::into_inner(condition), body),
+        Statement::While(Apart::from(condition), body),
         tokens,
     )
 }
@@ -192,7 +192,7 @@ pub fn locked(
 {
     boxed(
         alloc,
-        Statement::Sync(place, Box::into_inner(lock), statements),
+        Statement::Sync(place, Apart::from(lock), statements),
         tokens,
     )
 }
@@ -204,10 +204,10 @@ fn headed_statement(head: ForHead, body: Box<Statement>) -> Statement
 {
     match head {
         ForHead::Counted(start, condition, updates) => {
-            Statement::For(Box::into_inner(start), maybe_tree(condition), updates, body)
+            Statement::For(Apart::from(start), maybe_tree(condition), updates, body)
         }
         ForHead::Each(is_final, kind, name, all) => {
-            let (kind, all) = (Box::into_inner(kind), Box::into_inner(all));
+            let (kind, all) = (Apart::from(kind), Apart::from(all));
             Statement::ForEach(is_final, kind, name, all, body)
         }
     }

@@ -1,4 +1,5 @@
 //! Expressions (JLS 15) and array initialisers (JLS 10.6).
+use crate::apart::Apart;
 use crate::types::TypeTree;
 use crate::words::Ident;
 use java_lexer::TokenKind;
@@ -35,15 +36,15 @@ pub enum Expression {
     /// `a[b]` (JLS 15.10.3).
     Index(Box<Expression>, Box<Expression>),
     /// `x(a, ..)` and `e.x(a, ..)` (JLS 15.12).
-    Call(Option<Box<Expression>>, Ident, Vec<Expression>),
+    Call(Option<Box<Expression>>, Apart<Ident>, Vec<Expression>),
     /// `a.b.class` (JLS 15.8.2).
     ClassOf(Vec<Ident>),
     /// `new T(a, ..)` (JLS 15.9).
-    New(Place, TypeTree, Vec<Expression>),
+    New(Place, Apart<TypeTree>, Vec<Expression>),
     /// `new T[a].. [ ]..`, with the number of its empty `[ ]` (JLS 15.10.1).
-    NewArray(Place, TypeTree, Vec<Expression>, u32),
+    NewArray(Place, Apart<TypeTree>, Vec<Expression>, u32),
     /// `new T[ ].. { .. }`, with the number of its `[ ]` (JLS 15.10.1).
-    NewItems(Place, TypeTree, u32, ArrayTree),
+    NewItems(Place, Apart<TypeTree>, u32, ArrayTree),
 }
 
 /// What a variable or an element of an array begins with.

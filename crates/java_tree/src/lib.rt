@@ -1,6 +1,7 @@
 //! Trees of Java's methods and fields.
 #![tactic(auto)]
 
+mod apart;
 mod equality;
 mod expressions;
 pub mod laws;
@@ -9,6 +10,7 @@ mod statements;
 mod types;
 mod words;
 
+pub use apart::Apart;
 pub use expressions::{ArrayTree, Expression, Initialiser};
 pub use methods::{
     AnnotationTree, FieldInitialiser, FieldTree, FieldVariable, MethodTree, ModifierTree,

@@ -1,8 +1,10 @@
 //! Statements (JLS 14).
+use crate::apart::Apart;
 use crate::expressions::{Expression, Initialiser};
 use crate::types::TypeTree;
 use crate::words::Ident;
 use racer_base::{Items, Place};
+use std::mem::size_of;
 
 /// A declaration of local variables, without its `;` (JLS 14.4).
 #[derive(Drop)]
@@ -32,21 +34,24 @@ pub enum Statement {
     /// `{ .. }` (JLS 14.2).
     Block(Vec<Statement>),
     /// `final T x = a, ..;` (JLS 14.4).
-    Local(LocalsTree),
+    Local(Apart<LocalsTree>),
     /// `a;` (JLS 14.8).
     Expr(Expression),
     /// `if (a) s` and `if (a) s else t` (JLS 14.9).
-    If(Expression, Box<Statement>, Option<Box<Statement>>),
+    If(Apart<Expression>, Box<Statement>, Option<Box<Statement>>),
     /// `while (a) s` (JLS 14.12).
-    While(Expression, Box<Statement>),
+    While(Apart<Expression>, Box<Statement>),
     /// `for (i; a; u, ..) s` (JLS 14.14.1).
-    For(StartTree, Option<Expression>, Vec<Expression>, Box<Statement>),
+    For(Apart<StartTree>, Option<Apart<Expression>>, Vec<Expression>, Box<Statement>),
     /// `for (final T x : a) s`, and whether `final` stands (JLS 14.14.2).
-    ForEach(bool, TypeTree, Ident, Expression, Box<Statement>),
+    ForEach(bool, Apart<TypeTree>, Apart<Ident>, Apart<Expression>, Box<Statement>),
     /// `synchronized (a) { .. }` (JLS 14.19).
-    Sync(Place, Expression, Vec<Statement>),
+    Sync(Place, Apart<Expression>, Vec<Statement>),
     /// `return;` and `return a;` (JLS 14.17).
-    Return(Option<Expression>),
+    Return(Option<Apart<Expression>>),
     /// `;` (JLS 14.6).
     Empty,
 }
+
+/// So that 32 MiB of the smallest statements are held in less than 3,000 MiB, with their code.
+const _: () = prove!(size_of::<Expression>() <= 64 && size_of::<Statement>() <= 72);

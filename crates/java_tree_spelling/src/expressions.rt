@@ -98,15 +98,15 @@ pub fn spell_expression(out: &mut Tokens, tree: &Expression)
             spell_before(out, a, "[");
             spell_before(out, index, "]")
         }
-        Expression::Call(None, name, all) => spell_call(out, all, name),
+        Expression::Call(None, name, all) => spell_call(out, all, name.get()),
         Expression::Call(Some(a), name, all) => {
             spell_before(out, a, ".");
-            spell_call(out, all, name)
+            spell_call(out, all, name.get())
         }
         Expression::ClassOf(names) => put_class_of(out, names),
-        Expression::New(_, kind, all) => spell_new(out, all, kind),
-        Expression::NewArray(_, kind, all, n) => spell_new_array(out, all, kind, *n),
-        Expression::NewItems(_, kind, n, items) => spell_new_items(out, items, kind, *n),
+        Expression::New(_, kind, all) => spell_new(out, all, kind.get()),
+        Expression::NewArray(_, kind, all, n) => spell_new_array(out, all, kind.get(), *n),
+        Expression::NewItems(_, kind, n, items) => spell_new_items(out, items, kind.get(), *n),
     }
 }
 

@@ -14,7 +14,9 @@ use super::put::{
 };
 use super::tokens::Tokens;
 use super::types::spell_type;
-use java_tree::{Expression, Ident, LocalsTree, StartTree, Statement, TypeTree, VariableTree};
+use java_tree::{
+    Apart, Expression, Ident, LocalsTree, StartTree, Statement, TypeTree, VariableTree,
+};
 
 /// A variable, and what it begins with.
 fn spell_variable(out: &mut Tokens, variable: &VariableTree)
@@ -65,12 +67,12 @@ fn spell_start(out: &mut Tokens, start: &StartTree)
 }
 
 /// An expression, where there is one.
-fn spell_maybe(out: &mut Tokens, value: &Option<Expression>)
+fn spell_maybe(out: &mut Tokens, value: &Option<Apart<Expression>>)
     ensures lasts { Lasts out.old out.new }
     ensures puts { Puts (maybe_expr_onto (option_map expr_of value.now)) out.old out.new }
 {
     match value {
-        Some(value) => spell_expression(out, value),
+        Some(value) => spell_expression(out, value.get()),
         None => {}
     }
 }
@@ -90,7 +92,7 @@ fn spell_head(out: &mut Tokens, word: &str, value: &Expression)
 fn spell_for_head(
     out: &mut Tokens,
     start: &StartTree,
-    condition: &Option<Expression>,
+    condition: &Option<Apart<Expression>>,
     updates: &[Expression],
 )
     ensures lasts { Lasts out.old out.new }
@@ -138,7 +140,7 @@ fn spell_local(out: &mut Tokens, locals: &LocalsTree)
     put_end(out)
 }
 
-fn spell_return(out: &mut Tokens, value: &Option<Expression>)
+fn spell_return(out: &mut Tokens, value: &Option<Apart<Expression>>)
     ensures lasts { Lasts out.old out.new }
     ensures puts { Puts (stmt_onto (Return (option_map expr_of value.now))) out.old out.new }
 {
@@ -154,10 +156,10 @@ fn spell_statement(out: &mut Tokens, tree: &Statement)
 {
     match tree {
         Statement::Block(block) => spell_block(out, block),
-        Statement::Local(locals) => spell_local(out, locals),
+        Statement::Local(locals) => spell_local(out, locals.get()),
         Statement::Expr(value) => spell_before(out, value, ";"),
         Statement::If(condition, then, otherwise) => {
-            spell_head(out, "if", condition);
+            spell_head(out, "if", condition.get());
             spell_statement(out, then);
             if let Some(other) = otherwise {
                 put_keyword(out, "else");
@@ -165,18 +167,18 @@ fn spell_statement(out: &mut Tokens, tree: &Statement)
             }
         }
         Statement::While(condition, body) => {
-            spell_head(out, "while", condition);
+            spell_head(out, "while", condition.get());
             spell_statement(out, body)
         }
         Statement::For(start, condition, updates, body) => {
-            spell_for_head(out, start, condition, updates);
+            spell_for_head(out, start.get(), condition, updates);
             spell_statement(out, body)
         }
         Statement::ForEach(is_final, kind, name, value, body) => {
-            spell_for_each_head(out, *is_final, kind, name, value);
+            spell_for_each_head(out, *is_final, kind.get(), name.get(), value.get());
             spell_statement(out, body)
         }
-        Statement::Sync(_, value, block) => spell_sync(out, block, value),
+        Statement::Sync(_, value, block) => spell_sync(out, block, value.get()),
         Statement::Return(value) => spell_return(out, value),
         Statement::Empty => put_end(out),
     }

@@ -78,60 +78,65 @@ large-call g locked site m n s old known =
 -- ---- a method of which all is known
 
 module _ (g : FlowContext) (m : MethodId) (f : Findings) (known : g.known_of m ≡ Some (Whole f)) (locked : Bool)
-    (n : ℕ) (t0 t1 : List Path) (first : GoesOn t0 t1) (s : NumberedState) (made : NotedCall) (low : AreInRange t0 s)
+    (n : ℕ) (older newer : List Path) (first : GoesOn older newer) (s : NumberedState) (made : NotedCall)
+      (low : AreInRange older s)
     (is : made ≡ record { callee = m; locked = locked; actuals = passed_numbers s n }) where
   pub made-known : g.known_of made.callee ≡ Some (Whole f)
   made-known = ap (λ (c : NotedCall). g.known_of c.callee) is ∙ known
 
-  pub made-in : AllInRange t1 made.actuals
+  pub made-in : AllInRange newer made.actuals
   made-in =
-      subst (λ (c : NotedCall). AllInRange t1 c.actuals) (sym is)
-      (all-longer t0 t1 first (passed_numbers s n) (passed-in t0 s n low))
+      subst (λ (c : NotedCall). AllInRange newer c.actuals) (sym is)
+      (all-longer older newer first (passed_numbers s n) (passed-in older s n low))
 
-  passed-longer : read_values t1 (passed_numbers s n) ≡ passed_from (read_state t0 s) n
-  passed-longer = values-longer t0 t1 first (passed_numbers s n) (passed-in t0 s n low) ∙ passed-read t0 s n
+  passed-longer : read_values newer (passed_numbers s n) ≡ passed_from (read_state older s) n
+  passed-longer = values-longer older newer first (passed_numbers s n) (passed-in older s n low) ∙ passed-read older s n
 
   -- the call that was made, in paths
   abbrev of_call : PassingCall
-  of_call = record { callee = m; locked = locked; actuals = read_values t1 (passed_numbers s n) }
+  of_call = record { callee = m; locked = locked; actuals = read_values newer (passed_numbers s n) }
 
-  call-is : read_call t1 made ≡ of_call
-  call-is = ap (read_call t1) is
+  call-is : read_call newer made ≡ of_call
+  call-is = ap (read_call newer) is
 
-  pub call-ended : (f0 : NumberedFound) (site : SiteId) (why : Stop) → IsFlowOf t0 s f0 →
-      IsStopped (read_found t1 f0) (call_marks g (read_call t1 made) f site) why →
-      IsStopped (read_found t0 f0) (op_effects g locked site (Call m n) (read_state t0 s)) why
+  pub call-ended : (f0 : NumberedFound) (site : SiteId) (why : Stop) → IsFlowOf older s f0 →
+      IsStopped (read_found newer f0) (call_marks g (read_call newer made) f site) why →
+      IsStopped (read_found older f0) (op_effects g locked site (Call m n) (read_state older s)) why
   call-ended f0 site why numbers k =
-      subst (λ (o : Option Known). IsStopped (read_found t0 f0) (call_effects g locked site m n (read_state t0 s) o) why)
+      subst (λ (o : Option Known). IsStopped (read_found older f0)
+        (call_effects g locked site m n (read_state older s) o) why)
       (sym known)
-      (stopped-call g of_call f site n (read_state t0 s) (read_found t0 f0) why passed-longer
-      (subst (λ (c : PassingCall). IsStopped (read_found t0 f0) (call_marks g c f site) why) call-is
-      (subst (λ (x : Found). IsStopped x (call_marks g (read_call t1 made) f site) why)
-      (found-longer t0 t1 first f0 numbers.noted) k)))
+      (stopped-call g of_call f site n (read_state older s) (read_found older f0) why passed-longer
+      (subst (λ (c : PassingCall). IsStopped (read_found older f0) (call_marks g c f site) why) call-is
+      (subst (λ (x : Found). IsStopped x (call_marks g (read_call newer made) f site) why)
+      (found-longer older newer first f0 numbers.noted) k)))
 
-  pub call-done : (t2 : List Path) → GoesOn t1 t2 → (here : NumberedState) (f0 f2 : NumberedFound) (site : SiteId) →
-      IsFlowOf t0 s f0 → AreInRange t1 here →
-      read_state t1 here ≡ replaced (read_state t0 s) n
-      (substituted_value (actuals_from (g.is_static m) (passed_from (read_state t0 s) n)) f.result) →
-      IsNoted (read_found t1 f0) (call_marks g (read_call t1 made) f site) (read_found t2 f2) →
-      IsFlow (op_effects g locked site (Call m n) (read_state t0 s)) (read_state t2 here) (read_found t0 f0)
-      (read_found t2 f2) (Ok true)
-  call-done t2 second here f0 f2 site numbers within next k =
-      let start = read_state t0 s in
-      let noted : IsNoted (read_found t0 f0) (call_marks g of_call f site) (read_found t2 f2) =
-      subst (λ (c : PassingCall). IsNoted (read_found t0 f0) (call_marks g c f site) (read_found t2 f2)) call-is
-      (subst (λ (x : Found). IsNoted x (call_marks g (read_call t1 made) f site) (read_found t2 f2))
-      (found-longer t0 t1 first f0 numbers.noted) k) in
-      subst (λ (o : Option Known). IsFlow (call_effects g locked site m n start o) (read_state t2 here)
-      (read_found t0 f0) (read_found t2 f2) (Ok true)) (sym known) (
-        ap Some (sym (state-longer t1 t2 second here within ∙ next)),
-        subst (λ (vs : List Value). IsNoted (read_found t0 f0)
-            (found_effects (substituted g (actuals_from (g.is_static m) vs) f locked site) start n) (read_found t2 f2))
+  pub call-done : (newest : List Path) → GoesOn newer newest →
+    (here : NumberedState) (f0 f2 : NumberedFound) (site : SiteId) →
+      IsFlowOf older s f0 → AreInRange newer here →
+      read_state newer here ≡ replaced (read_state older s) n
+      (substituted_value (actuals_from (g.is_static m) (passed_from (read_state older s) n)) f.result) →
+      IsNoted (read_found newer f0) (call_marks g (read_call newer made) f site) (read_found newest f2) →
+      IsFlow (op_effects g locked site (Call m n) (read_state older s)) (read_state newest here) (read_found older f0)
+      (read_found newest f2) (Ok true)
+  call-done newest second here f0 f2 site numbers within next k =
+      let start = read_state older s in
+      let noted : IsNoted (read_found older f0) (call_marks g of_call f site) (read_found newest f2) =
+      subst (λ (c : PassingCall). IsNoted (read_found older f0) (call_marks g c f site) (read_found newest f2)) call-is
+      (subst (λ (x : Found). IsNoted x (call_marks g (read_call newer made) f site) (read_found newest f2))
+      (found-longer older newer first f0 numbers.noted) k) in
+      subst (λ (o : Option Known). IsFlow (call_effects g locked site m n start o) (read_state newest here)
+      (read_found older f0) (read_found newest f2) (Ok true)) (sym known) (
+        ap Some (sym (state-longer newer newest second here within ∙ next)),
+        subst (λ (vs : List Value). IsNoted (read_found older f0)
+            (found_effects (substituted g (actuals_from (g.is_static m) vs) f locked site) start n)
+              (read_found newest f2))
             passed-longer noted,
       )
 
 -- the state behind a call of a method of which all is known
-pub whole-next : (g : FlowContext) (m : MethodId) (f : Findings) (locked : Bool) (site : SiteId) (n : ℕ) (s here : State) →
+pub whole-next : (g : FlowContext) (m : MethodId) (f : Findings) (locked : Bool) (site : SiteId) (n : ℕ)
+  (s here : State) →
     g.known_of m ≡ Some (Whole f) →
     here ≡ replaced s n (substituted_value (actuals_from (g.is_static m) (passed_from s n)) f.result) →
     (op_effects g locked site (Call m n) s).next ≡ Some here

@@ -20,6 +20,7 @@ pub mod CallsRead
 pub mod HeadsRead
 pub mod WalkedNumbers
 pub mod ReadPaths
+pub mod FieldNumbers
 pub mod Beginnings
 pub mod RoundsNumbered
 pub mod Resumptions

@@ -58,60 +58,62 @@ stopped-above found e us Large stopped = stopped
 stopped-above found e us Memory stopped = tt
 
 module _ (code : Tree) (under : List NumberedValue) (start low : NumberedState) (is : IsLifted code under start low)
-    (t0 : List Path) (ready : AreInRange t0 start) where
-  parted : AreInRange t0 (numbers_above under low)
-  parted = subst (AreInRange t0) is.is ready
+    (older : List Path) (ready : AreInRange older start) where
+  parted : AreInRange older (numbers_above under low)
+  parted = subst (AreInRange older) is.is ready
 
-  pub lifted-in : AreInRange t0 low
-  lifted-in = (parted.0, upper-in t0 low.stack under parted.1)
+  pub lifted-in : AreInRange older low
+  lifted-in = (parted.0, upper-in older low.stack under parted.1)
 
-  under-in : AllInRange t0 under
-  under-in = lower-in t0 low.stack under parted.1
+  under-in : AllInRange older under
+  under-in = lower-in older low.stack under parted.1
 
-  pub lifted-ready : (found : NumberedFound) → IsFlowOf t0 start found → IsFlowOf t0 low found
+  pub lifted-ready : (found : NumberedFound) → IsFlowOf older start found → IsFlowOf older low found
   lifted-ready found before = record { once = before.once; state = lifted-in; noted = before.noted }
 
   pub lifted-stopped : (g : FlowContext) (locked : Bool) (found : Found) (stop : Stop) →
-      IsStopped found (flow g code locked (read_state t0 low)) stop →
-      IsStopped found (flow g code locked (read_state t0 start)) stop
+      IsStopped found (flow g code locked (read_state older low)) stop →
+      IsStopped found (flow g code locked (read_state older start)) stop
   lifted-stopped g locked found stop stopped =
-      subst (λ (e : Effects). IsStopped found e stop) (sym (is.effects g locked t0))
-      (stopped-above found (flow g code locked (read_state t0 low)) (map (read_value t0) under) stop stopped)
+      subst (λ (e : Effects). IsStopped found e stop) (sym (is.effects g locked older))
+      (stopped-above found (flow g code locked (read_state older low)) (map (read_value older) under) stop stopped)
 
-  module _ (t1 : List Path) (on : GoesOn t0 t1) (mid new : NumberedState) where
+  module _ (newer : List Path) (on : GoesOn older newer) (mid new : NumberedState) where
     end-read : (b : Bool) → new ≡ numbers_above under mid →
-        option_map (above (map (read_value t0) under)) (next_of b (read_state t1 mid)) ≡ next_of b (read_state t1 new)
+        option_map (above (map (read_value older) under)) (next_of b (read_state newer mid)) ≡ next_of b
+          (read_state newer new)
     end-read b made =
-        ap (λ (us : List Value). option_map (above us) (next_of b (read_state t1 mid)))
-        (sym (values-longer t0 t1 on under under-in))
-        ∙ next-above (map (read_value t1) under) b (read_state t1 mid)
-        ∙ ap (next_of b) (sym (read-above t1 under mid) ∙ ap (read_state t1) (sym made))
+        ap (λ (us : List Value). option_map (above us) (next_of b (read_state newer mid)))
+        (sym (values-longer older newer on under under-in))
+        ∙ next-above (map (read_value newer) under) b (read_state newer mid)
+        ∙ ap (next_of b) (sym (read-above newer under mid) ∙ ap (read_state newer) (sym made))
 
-    pub lowered-in : AreInRange t1 mid → new ≡ numbers_above under mid → AreInRange t1 new
+    pub lowered-in : AreInRange newer mid → new ≡ numbers_above under mid → AreInRange newer new
     lowered-in over made =
-        subst (AreInRange t1) (sym made)
-        (over.0, append-in t1 mid.stack under over.1 (all-longer t0 t1 on under under-in))
+        subst (AreInRange newer) (sym made)
+        (over.0, append-in newer mid.stack under over.1 (all-longer older newer on under under-in))
 
     module _ (ended r : Result Bool Stop) (done : IsLowered ended r (new ≡ numbers_above under mid)) where
       pub lowered-flow : (g : FlowContext) (locked : Bool) (old found : Found) →
-          IsFlow (flow g code locked (read_state t0 low)) (read_state t1 mid) old found ended →
-          IsFlow (flow g code locked (read_state t0 start)) (read_state t1 new) old found r
+          IsFlow (flow g code locked (read_state older low)) (read_state newer mid) old found ended →
+          IsFlow (flow g code locked (read_state older start)) (read_state newer new) old found r
       lowered-flow g locked old found flows =
-          subst (λ (e : Effects). IsFlow e (read_state t1 new) old found r) (sym (is.effects g locked t0))
+          subst (λ (e : Effects). IsFlow e (read_state newer new) old found r) (sym (is.effects g locked older))
           (each ended r done flows)
         where
           us : List Value
-          us = map (read_value t0) under
+          us = map (read_value older) under
 
           below : Effects
-          below = flow g code locked (read_state t0 low)
+          below = flow g code locked (read_state older low)
 
           each : (a b : Result Bool Stop) → IsLowered a b (new ≡ numbers_above under mid) →
-              IsFlow below (read_state t1 mid) old found a → IsFlow (all_above us below) (read_state t1 new) old found b
+              IsFlow below (read_state newer mid) old found a →
+                IsFlow (all_above us below) (read_state newer new) old found b
           each (Ok a) (Ok b) (same, made) (next, noted) = (
             ap (option_map (above us)) next
                 ∙ end-read a made
-                ∙ ap (λ (x : Bool). next_of x (read_state t1 new)) same,
+                ∙ ap (λ (x : Bool). next_of x (read_state newer new)) same,
             noted,
           )
           each (Ok a) (Err stop) memory flows = subst (IsStopped old (all_above us below)) (sym memory) tt
@@ -119,11 +121,12 @@ module _ (code : Tree) (under : List NumberedValue) (start low : NumberedState) 
           each (Err stop) (Err again) same flows =
               subst (IsStopped old (all_above us below)) same (stopped-above old below us stop flows)
 
-      pub lowered-numbers : (found : NumberedFound) → OnOk ended (IsFlowOf t1 mid found) → OnOk r (IsFlowOf t1 new found)
+      pub lowered-numbers : (found : NumberedFound) → OnOk ended (IsFlowOf newer mid found) →
+        OnOk r (IsFlowOf newer new found)
       lowered-numbers found numbers = each ended r done numbers
         where
           each : (a b : Result Bool Stop) → IsLowered a b (new ≡ numbers_above under mid) →
-              OnOk a (IsFlowOf t1 mid found) → OnOk b (IsFlowOf t1 new found)
+              OnOk a (IsFlowOf newer mid found) → OnOk b (IsFlowOf newer new found)
           each (Ok a) (Ok b) (same, made) over =
               record { once = over.once; state = lowered-in over.state made; noted = over.noted }
           each (Ok a) (Err stop) memory over = tt
@@ -140,14 +143,14 @@ module _ (code : Tree) (under : List NumberedValue) (start low : NumberedState) 
           each (Err stop) (Err again) same over = tt
 
     pub lowered-resumed : (g : FlowContext) (locked : Bool) (k : ℕ) (old later : List (Option State)) (p : Passed) →
-        IsResumed g code locked k (read_state t0 low) (read_state t1 mid) old later (Ok p) →
+        IsResumed g code locked k (read_state older low) (read_state newer mid) old later (Ok p) →
         new ≡ numbers_above under mid →
-        IsResumed g code locked k (read_state t0 start) (read_state t1 new) old later (Ok p)
+        IsResumed g code locked k (read_state older start) (read_state newer new) old later (Ok p)
     lowered-resumed g locked k old later p m made =
         let h : Heads = heads_in old in
-        let same = is.end g locked k h t0 in (
+        let same = is.end g locked k h older in (
           ap (λ (e : Option State × Heads). e.0) same
-              ∙ ap (option_map (above (map (read_value t0) under))) m.0
+              ∙ ap (option_map (above (map (read_value older) under))) m.0
               ∙ end-read p.goes_on made,
           m.1,
           (m.2.0 ∙ sym (ap (λ (e : Option State × Heads). e.1) same), m.2.1),

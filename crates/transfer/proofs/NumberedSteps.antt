@@ -149,21 +149,23 @@ module _ (context : MethodContext) (kind : Touch) (locked : Bool) (site : SiteId
   reached-at table v n recorded reached = λ i. records_at (recorded i) (reached i)
 
   -- the record of an access, by the value of the field that was read from another one
-  module _ (t0 t1 : List Path) (on : GoesOn t0 t1) (found : NumberedFound) (numbers : AreFoundNumbers t0 found)
-      (field : NumberedValue) (base : Value) (reads : read_value t1 field ≡ field_value base f) where
-    pub same_records : record_reached context kind locked site (read_value t1 field) f ≡
+  module _ (older newer : List Path) (on : GoesOn older newer) (found : NumberedFound)
+    (numbers : AreFoundNumbers older found)
+      (field : NumberedValue) (base : Value) (reads : read_value newer field ≡ field_value base f) where
+    pub same_records : record_reached context kind locked site (read_value newer field) f ≡
         record_of (given context) kind locked site base f
     same_records =
         ap (λ (v : Value). record_reached context kind locked site v f) reads
         ∙ record-reached context kind locked site base f
 
     pub access-marked : {X : Type 0} (later : Found) (r : Result X Stop) →
-        IsMarked (read_found t1 found)
-        (marks (record_reached context kind locked site (read_value t1 field) f) []) later r →
-        IsMarked (read_found t0 found) (marks (record_of (given context) kind locked site base f) []) later r
+        IsMarked (read_found newer found)
+        (marks (record_reached context kind locked site (read_value newer field) f) []) later r →
+        IsMarked (read_found older found) (marks (record_of (given context) kind locked site base f) []) later r
     access-marked later r m =
-        marked-longer t0 t1 on found (marks (record_of (given context) kind locked site base f) []) later r numbers
-        (subst (λ (records : List Access). IsMarked (read_found t1 found) (marks records []) later r) same_records m)
+        marked-longer older newer on found (marks (record_of (given context) kind locked site base f) []) later r
+          numbers
+        (subst (λ (records : List Access). IsMarked (read_found newer found) (marks records []) later r) same_records m)
 
 -- ---- reads
 
@@ -177,81 +179,85 @@ pub plain-in : (table : List Path) (plain : Bool) (v : NumberedValue) → IsInRa
 plain-in table true v low = tt
 plain-in table false v low = low
 
-module _ (context : MethodContext) (f : FieldId) (t0 t1 t2 : List Path) (on1 : GoesOn t0 t1) (on2 : GoesOn t1 t2)
-    (here : NumberedState) (low : AreInRange t0 here) (field : NumberedValue) (field_low : IsInRange t1 field)
-    (reads : read_value t1 field ≡ field_value (top (read_state t0 here)) f)
+module _ (context : MethodContext) (f : FieldId) (older newer newest : List Path) (on1 : GoesOn older newer)
+  (on2 : GoesOn newer newest)
+    (here : NumberedState) (low : AreInRange older here) (field : NumberedValue) (field_low : IsInRange newer field)
+    (reads : read_value newer field ≡ field_value (top (read_state older here)) f)
     (plain : Bool) (is_plain : plain ≡ (given context).is_plain_field f)
     (new : NumberedState) (is : new ≡ pushed_number (popped_numbers here 1) (cond plain Unnamed field)) where
-  rest_low : AreInRange t0 (popped_numbers here 1)
-  rest_low = popped-in t0 here 1 low
+  rest_low : AreInRange older (popped_numbers here 1)
+  rest_low = popped-in older here 1 low
 
-  on : GoesOn t0 t2
-  on = goes_on-trans t0 t1 t2 on1 on2
+  on : GoesOn older newest
+  on = goes_on-trans older newer newest on1 on2
 
-  pub get-state : read_state t2 new ≡
-      replaced (read_state t0 here) 1 (value_read (given context) (top (read_state t0 here)) f)
+  pub get-state : read_state newest new ≡
+      replaced (read_state older here) 1 (value_read (given context) (top (read_state older here)) f)
   get-state =
-      ap (read_state t2) is
-      ∙ (λ i. pushed (state-longer t0 t2 on (popped_numbers here 1) rest_low i) (plain-read t2 plain field i))
-      ∙ (λ i. pushed (popped-read t0 here 1 i)
-      (cond (is_plain i) value.Unnamed ((value-longer t1 t2 on2 field field_low ∙ reads) i)))
+      ap (read_state newest) is
+      ∙ (λ i. pushed (state-longer older newest on (popped_numbers here 1) rest_low i)
+        (plain-read newest plain field i))
+      ∙ (λ i. pushed (popped-read older here 1 i)
+      (cond (is_plain i) value.Unnamed ((value-longer newer newest on2 field field_low ∙ reads) i)))
 
-  pub get-in : AreInRange t2 new
+  pub get-in : AreInRange newest new
   get-in =
-      let rest = state-still t0 t2 on (popped_numbers here 1) rest_low in
-      subst (AreInRange t2) (sym is)
-      (rest.0, (plain-in t2 plain field (range-longer t1 t2 on2 field field_low), rest.1))
+      let rest = state-still older newest on (popped_numbers here 1) rest_low in
+      subst (AreInRange newest) (sym is)
+      (rest.0, (plain-in newest plain field (range-longer newer newest on2 field field_low), rest.1))
 
 -- ---- stores
 
 -- the field of the slot below the top
-pub put-base : (t0 t1 : List Path) (here : NumberedState) (f : FieldId) (field : NumberedValue) →
-    read_value t1 field ≡ field_value (top (read_state t0 (popped_numbers here 1))) f →
-    read_value t1 field ≡ field_value (slot_of (read_state t0 here) 1) f
-put-base t0 t1 here f field reads =
+pub put-base : (older newer : List Path) (here : NumberedState) (f : FieldId) (field : NumberedValue) →
+    read_value newer field ≡ field_value (top (read_state older (popped_numbers here 1))) f →
+    read_value newer field ≡ field_value (slot_of (read_state older here) 1) f
+put-base older newer here f field reads =
     reads
-    ∙ ap (λ (s : State). field_value (top s) f) (popped-read t0 here 1)
-    ∙ ap (λ (v : Value). field_value v f) (slot-below (read_state t0 here))
+    ∙ ap (λ (s : State). field_value (top s) f) (popped-read older here 1)
+    ∙ ap (λ (v : Value). field_value v f) (slot-below (read_state older here))
 
-module _ (t0 t1 t2 : List Path) (on1 : GoesOn t0 t1) (on2 : GoesOn t1 t2) (here : NumberedState)
-    (low : AreInRange t0 here) where
-  pub put-names : (f : FieldId) (field : NumberedValue) → IsInRange t1 field →
-      read_value t1 field ≡ field_value (slot_of (read_state t0 here) 1) f → (v : NumberedValue) →
+module _ (older newer newest : List Path) (on1 : GoesOn older newer) (on2 : GoesOn newer newest) (here : NumberedState)
+    (low : AreInRange older here) where
+  pub put-names : (f : FieldId) (field : NumberedValue) → IsInRange newer field →
+      read_value newer field ≡ field_value (slot_of (read_state older here) 1) f → (v : NumberedValue) →
       v ≡ top_number here →
-      names_of (read_value t2 field) ++ names_of (read_value t2 v) ≡
-      stored_paths (slot_of (read_state t0 here) 1) f (top (read_state t0 here))
+      names_of (read_value newest field) ++ names_of (read_value newest v) ≡
+      stored_paths (slot_of (read_state older here) 1) f (top (read_state older here))
   put-names f field field_low reads v is =
-      let on = goes_on-trans t0 t1 t2 on1 on2 in
-      let first = value-longer t1 t2 on2 field field_low ∙ reads in
-      let second : read_value t2 v ≡ top (read_state t0 here) =
-      ap (read_value t2) is ∙ value-longer t0 t2 on (top_number here) (top-in t0 here low) ∙ top-read t0 here in
+      let on = goes_on-trans older newer newest on1 on2 in
+      let first = value-longer newer newest on2 field field_low ∙ reads in
+      let second : read_value newest v ≡ top (read_state older here) =
+      ap (read_value newest) is ∙ value-longer older newest on (top_number here) (top-in older here low)
+        ∙ top-read older here in
       (λ i. names_of (first i) ++ names_of (second i))
 
   module _ (v : NumberedValue) (is : v ≡ top_number here) (new : NumberedState)
       (made : new ≡ pushed_number (popped_numbers (popped_numbers here 1) 1) v) where
-    pub put-state : read_state t2 new ≡ replaced (read_state t0 here) 2 (top (read_state t0 here))
+    pub put-state : read_state newest new ≡ replaced (read_state older here) 2 (top (read_state older here))
     put-state =
-        let on = goes_on-trans t0 t1 t2 on1 on2 in
+        let on = goes_on-trans older newer newest on1 on2 in
         let rest : NumberedState = popped_numbers (popped_numbers here 1) 1 in
-        let rest_low : AreInRange t0 rest = popped-in t0 (popped_numbers here 1) 1 (popped-in t0 here 1 low) in
-        let value : read_value t2 v ≡ top (read_state t0 here) =
-        ap (read_value t2) is ∙ value-longer t0 t2 on (top_number here) (top-in t0 here low) ∙ top-read t0 here in
-        let state : read_state t2 rest ≡ popped (read_state t0 here) 2 =
-        state-longer t0 t2 on rest rest_low
-        ∙ popped-read t0 (popped_numbers here 1) 1
-        ∙ ap (λ (s : State). popped s 1) (popped-read t0 here 1)
-        ∙ popped-twice (read_state t0 here) in
-        ap (read_state t2) made ∙ (λ i. pushed (state i) (value i))
+        let rest_low : AreInRange older rest = popped-in older (popped_numbers here 1) 1 (popped-in older here 1 low) in
+        let value : read_value newest v ≡ top (read_state older here) =
+        ap (read_value newest) is ∙ value-longer older newest on (top_number here) (top-in older here low)
+          ∙ top-read older here in
+        let state : read_state newest rest ≡ popped (read_state older here) 2 =
+        state-longer older newest on rest rest_low
+        ∙ popped-read older (popped_numbers here 1) 1
+        ∙ ap (λ (s : State). popped s 1) (popped-read older here 1)
+        ∙ popped-twice (read_state older here) in
+        ap (read_state newest) made ∙ (λ i. pushed (state i) (value i))
 
-    pub put-in : AreInRange t2 new
+    pub put-in : AreInRange newest new
     put-in =
-        let on = goes_on-trans t0 t1 t2 on1 on2 in
+        let on = goes_on-trans older newer newest on1 on2 in
         let rest : NumberedState = popped_numbers (popped_numbers here 1) 1 in
-        let rest_low : AreInRange t0 rest = popped-in t0 (popped_numbers here 1) 1 (popped-in t0 here 1 low) in
-        let still = state-still t0 t2 on rest rest_low in
-        let top_low : IsInRange t2 v =
-        subst (IsInRange t2) (sym is) (range-longer t0 t2 on (top_number here) (top-in t0 here low)) in
-        subst (AreInRange t2) (sym made) (still.0, (top_low, still.1))
+        let rest_low : AreInRange older rest = popped-in older (popped_numbers here 1) 1 (popped-in older here 1 low) in
+        let still = state-still older newest on rest rest_low in
+        let top_low : IsInRange newest v =
+        subst (IsInRange newest) (sym is) (range-longer older newest on (top_number here) (top-in older here low)) in
+        subst (AreInRange newest) (sym made) (still.0, (top_low, still.1))
 
 -- ---- variables, and what is returned
 
@@ -315,57 +321,60 @@ lost-left false s t = refl
 
 -- ---- a store, whole
 
-module _ (context : MethodContext) (locked : Bool) (site : SiteId) (f : FieldId) (t0 t1 : List Path)
-    (on1 : GoesOn t0 t1) (here : NumberedState) (found : NumberedFound) (is : IsFlowOf t0 here found)
+module _ (context : MethodContext) (locked : Bool) (site : SiteId) (f : FieldId) (older newer : List Path)
+    (on1 : GoesOn older newer) (here : NumberedState) (found : NumberedFound) (is : IsFlowOf older here found)
     (field : NumberedValue)
-    (reads : read_value t1 field ≡ field_value (top (read_state t0 (popped_numbers here 1))) f) where
+    (reads : read_value newer field ≡ field_value (top (read_state older (popped_numbers here 1))) f) where
   abbrev base : Value
-  base = slot_of (read_state t0 here) 1
+  base = slot_of (read_state older here) 1
 
   abbrev records : List Access
   records = record_of (given context) Write locked site base f
 
-  base_reads : read_value t1 field ≡ field_value base f
-  base_reads = put-base t0 t1 here f field reads
+  base_reads : read_value newer field ≡ field_value base f
+  base_reads = put-base older newer here f field reads
 
   pub store-stopped : (last : Found) (stop : Stop) →
-      IsStopped (read_found t1 found) (marks (record_reached context Write locked site (read_value t1 field) f) []) stop →
-      IsStopped (read_found t0 found) (op_effects (given context) locked site (Put f) (read_state t0 here)) stop
+      IsStopped (read_found newer found) (marks
+        (record_reached context Write locked site (read_value newer field) f) []) stop →
+      IsStopped (read_found older found) (op_effects (given context) locked site (Put f) (read_state older here)) stop
   store-stopped last stop m =
-      stopped-records (read_found t0 found) records records (stored_paths base f (top (read_state t0 here))) stop refl
-      (access-marked context Write locked site f t0 t1 on1 found is.noted field base base_reads {X = Unit {0}} last
+      stopped-records (read_found older found) records records
+        (stored_paths base f (top (read_state older here))) stop refl
+      (access-marked context Write locked site f older newer on1 found is.noted field base base_reads {X = Unit {0}}
+        last
       (Err stop) m)
 
-  module _ (t2 : List Path) (on2 : GoesOn t1 t2) (v : NumberedValue) (is_top : v ≡ top_number here)
-      (field_low : IsInRange t1 field) (later : NumberedFound)
-      (noted : IsNoted (read_found t1 found)
-      (marks (record_reached context Write locked site (read_value t1 field) f) []) (read_found t2 later)) where
-    first : IsNoted (read_found t0 found) (marks records []) (read_found t2 later)
+  module _ (newest : List Path) (on2 : GoesOn newer newest) (v : NumberedValue) (is_top : v ≡ top_number here)
+      (field_low : IsInRange newer field) (later : NumberedFound)
+      (noted : IsNoted (read_found newer found)
+      (marks (record_reached context Write locked site (read_value newer field) f) []) (read_found newest later)) where
+    first : IsNoted (read_found older found) (marks records []) (read_found newest later)
     first =
-        access-marked context Write locked site f t0 t1 on1 found is.noted field base base_reads {X = Unit {0}}
-        (read_found t2 later) (Ok (tt {0})) noted
+        access-marked context Write locked site f older newer on1 found is.noted field base base_reads {X = Unit {0}}
+        (read_found newest later) (Ok (tt {0})) noted
 
     abbrev names : List Path
-    names = names_of (read_value t2 field) ++ names_of (read_value t2 v)
+    names = names_of (read_value newest field) ++ names_of (read_value newest v)
 
-    paths : names ≡ stored_paths base f (top (read_state t0 here))
-    paths = put-names t0 t1 t2 on1 on2 here is.state f field field_low base_reads v is_top
+    paths : names ≡ stored_paths base f (top (read_state older here))
+    paths = put-names older newer newest on1 on2 here is.state f field field_low base_reads v is_top
 
-    pub names-stopped : (stop : Stop) → IsStopped (read_found t2 later) (marks [] names) stop →
-        IsStopped (read_found t0 found) (op_effects (given context) locked site (Put f) (read_state t0 here)) stop
+    pub names-stopped : (stop : Stop) → IsStopped (read_found newest later) (marks [] names) stop →
+        IsStopped (read_found older found) (op_effects (given context) locked site (Put f) (read_state older here)) stop
     names-stopped stop k =
-        stopped-paths (read_found t0 found) (read_found t2 later) records records names
-        (stored_paths base f (top (read_state t0 here))) stop refl
+        stopped-paths (read_found older found) (read_found newest later) records records names
+        (stored_paths base f (top (read_state older here))) stop refl
         (ap (λ (ps : List Path). set.from_list {R = path_cmp} ps) paths) first k
 
     pub store-flows : (new : NumberedState) → new ≡ pushed_number (popped_numbers (popped_numbers here 1) 1) v →
-        (last : Found) → IsNoted (read_found t2 later) (marks [] names) last →
-        IsFlow (op_effects (given context) locked site (Put f) (read_state t0 here)) (read_state t2 new)
-        (read_found t0 found) last (Ok true)
+        (last : Found) → IsNoted (read_found newest later) (marks [] names) last →
+        IsFlow (op_effects (given context) locked site (Put f) (read_state older here)) (read_state newest new)
+        (read_found older found) last (Ok true)
     store-flows new made last k = (
-      ap Some (sym (put-state t0 t1 t2 on1 on2 here is.state v is_top new made)),
-      noted-parts (read_found t0 found) (read_found t2 later) last records records names
-          (stored_paths base f (top (read_state t0 here))) refl
+      ap Some (sym (put-state older newer newest on1 on2 here is.state v is_top new made)),
+      noted-parts (read_found older found) (read_found newest later) last records records names
+          (stored_paths base f (top (read_state older here))) refl
           (ap (λ (ps : List Path). set.from_list {R = path_cmp} ps) paths) first k,
     )
 
@@ -395,28 +404,29 @@ same-field (Err e) table v w is same = tt
 
 -- ---- the number of an access
 
-module _ (context : MethodContext) (kind : Touch) (locked : Bool) (site : SiteId) (f : FieldId) (t0 t1 : List Path)
-    (on : GoesOn t0 t1) (found : NumberedFound) (numbers : AreFoundNumbers t0 found) (v : Value) where
+module _ (context : MethodContext) (kind : Touch) (locked : Bool) (site : SiteId) (f : FieldId)
+  (older newer : List Path)
+    (on : GoesOn older newer) (found : NumberedFound) (numbers : AreFoundNumbers older found) (v : Value) where
   pub none-noted : reached_path (core context.program.now) v f ≡ None →
-      IsNoted (read_found t0 found) (marks (record_reached context kind locked site v f) []) (read_found t1 found)
+      IsNoted (read_found older found) (marks (record_reached context kind locked site v f) []) (read_found newer found)
   none-noted none =
-      subst (λ (records : List Access). IsNoted (read_found t0 found) (marks records []) (read_found t1 found))
+      subst (λ (records : List Access). IsNoted (read_found older found) (marks records []) (read_found newer found))
       (sym (not-reached context kind locked site f v none)) (
-        found-longer t0 t1 on found numbers
-            ∙ (noted-nothing (read_found t0 found) (record { vars = []; stack = [] })).0,
+        found-longer older newer on found numbers
+            ∙ (noted-nothing (read_found older found) (record { vars = []; stack = [] })).0,
         refl,
       )
 
   pub access-noted : {X : Type 0} (n : ℕ) (later : Found) (r : Result X Stop) →
       (field_at (core context.program.now) f).recorded ≡ true →
-      reached_path (core context.program.now) v f ≡ Some (path_at t1 n) →
-      IsMarked (read_found t1 found)
-      (marks (read_access t1 (access_of context kind locked site f n) ∷ []) []) later r →
-      IsMarked (read_found t0 found) (marks (record_reached context kind locked site v f) []) later r
+      reached_path (core context.program.now) v f ≡ Some (path_at newer n) →
+      IsMarked (read_found newer found)
+      (marks (read_access newer (access_of context kind locked site f n) ∷ []) []) later r →
+      IsMarked (read_found older found) (marks (record_reached context kind locked site v f) []) later r
   access-noted n later r recorded reached m =
-      marked-longer t0 t1 on found (marks (record_reached context kind locked site v f) []) later r numbers
-      (subst (λ (records : List Access). IsMarked (read_found t1 found) (marks records []) later r)
-      (sym (reached-at context kind locked site f t1 v n recorded reached)) m)
+      marked-longer older newer on found (marks (record_reached context kind locked site v f) []) later r numbers
+      (subst (λ (records : List Access). IsMarked (read_found newer found) (marks records []) later r)
+      (sym (reached-at context kind locked site f newer v n recorded reached)) m)
 
 pub at-table : {X E : Type 0} (r : Result X E) (table : List Path) (old new : NumberedFound) (n : ℕ) →
     OnOk r ((t : List Path) → IsTable t → AreFoundNumbers t old → n < length t → AreFoundNumbers t new) →
@@ -426,18 +436,18 @@ at-table (Err e) table old new n f once numbers low = tt
 
 -- ---- a root that is pushed
 
-module _ {X E : Type 0} (r : Result X E) (t0 t1 : List Path) (on : GoesOn t0 t1) (here new : NumberedState)
-    (low : AreInRange t0 here) (n : ℕ) (made : OnOk r (new ≡ pushed_number here (Named n))) where
-  pub root-pushed : (p : Path) → slice_get t1 n ≡ Some p →
-      OnOk r (read_state t1 new ≡ pushed (read_state t0 here) (value.Named p))
+module _ {X E : Type 0} (r : Result X E) (older newer : List Path) (on : GoesOn older newer) (here new : NumberedState)
+    (low : AreInRange older here) (n : ℕ) (made : OnOk r (new ≡ pushed_number here (Named n))) where
+  pub root-pushed : (p : Path) → slice_get newer n ≡ Some p →
+      OnOk r (read_state newer new ≡ pushed (read_state older here) (value.Named p))
   root-pushed p at =
       where_ok {P = new ≡ pushed_number here (Named n)}
-      {Q = read_state t1 new ≡ pushed (read_state t0 here) (value.Named p)} r
-      (λ e. ap (read_state t1) e
-      ∙ (λ i. pushed (state-longer t0 t1 on here low i) (value.Named (number-at t1 n p at i)))) made
+      {Q = read_state newer new ≡ pushed (read_state older here) (value.Named p)} r
+      (λ e. ap (read_state newer) e
+      ∙ (λ i. pushed (state-longer older newer on here low i) (value.Named (number-at newer n p at i)))) made
 
-  pub root-in : (p : Path) → slice_get t1 n ≡ Some p → OnOk r (AreInRange t1 new)
+  pub root-in : (p : Path) → slice_get newer n ≡ Some p → OnOk r (AreInRange newer new)
   root-in p at =
-      where_ok {P = new ≡ pushed_number here (Named n)} {Q = AreInRange t1 new} r
-      (λ e. let still = state-still t0 t1 on here low in
-      subst (AreInRange t1) (sym e) (still.0, (number-below t1 n p at, still.1))) made
+      where_ok {P = new ≡ pushed_number here (Named n)} {Q = AreInRange newer new} r
+      (λ e. let still = state-still older newer on here low in
+      subst (AreInRange newer) (sym e) (still.0, (number-below newer n p at, still.1))) made

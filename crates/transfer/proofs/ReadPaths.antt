@@ -1,8 +1,8 @@
 -- What is found over numbers is put together in paths, one after another.
-use Rattle.std.proofs.Common.{◌≡◌, ◌⊎◌, ℕ, zero, suc, add-one, ◌+◌, ◌<◌, ◌≤◌, List, [], ◌∷◌, ◌++◌, length, drop, get_or, sym, ap, subst, ◌∙◌}
+use Rattle.std.proofs.Common.{◌≡◌, ◌⊎◌, ℕ, zero, suc, add-one, ◌+◌, ◌<◌, ◌≤◌, List, [], ◌∷◌, ◌++◌, length}
+use Rattle.std.proofs.Common.{drop, get_or, append_assoc, arith, refl, sym, ap, subst, ◌∙◌}
 use Rattle.std.specs.FinSet as set
-use Rattle.std.specs.List.{list_any}
-use Rattle.std.proofs.lemmas.List.{drop_more, drop_all}
+use Rattle.std.proofs.lemmas.List.{append-nil, drop_more, drop_all}
 use Rattle.access_paths.specs.declared.path.Path.{Path}
 use Rattle.access_paths.specs.Order.{PathSet}
 use Rattle.access_paths.specs.Table.{path_at}
@@ -11,10 +11,11 @@ use Rattle.wobbly_paths.specs.declared.wobbly.Adding.TheVariants.{Added, Present
 use Rattle.wobbly_paths.specs.Sets.{IsAnswer}
 use Rattle.access_domain.specs.declared.access.Access.{Access}
 use Rattle.access_domain.specs.declared.numbered.NumberedAccess.{NumberedAccess}
-use Rattle.access_domain.specs.Additions.{keys_added, paths_added}
+use Rattle.access_domain.specs.Additions.{paths_added}
+use Rattle.racer_base.specs.declared.limits.TheConstants.{MAX_SUMMARY_KEYS}
+use Rattle.access_domain.specs.Records.{first_of_keys, IsWithin}
 use Rattle.access_domain.specs.Numbered.{read_access, read_accesses, AreNumbered}
-use Rattle.access_domain.specs.Records.{same_key}
-use Rattle.access_domain.proofs.AdditionLemmas.{added_key, added_path}
+use Rattle.access_domain.proofs.AdditionLemmas.{added_path}
 use Rattle.call_subst.specs.Numbered.{read_paths, AreBelow}
 
 module _ (table : List Path) (records : List NumberedAccess) (i : ℕ) (d : NumberedAccess)
@@ -25,22 +26,22 @@ module _ (table : List Path) (records : List NumberedAccess) (i : ℕ) (d : Numb
   pub record-in : AreNumbered table (drop i records) → (get_or records i d).path < length table
   record-in low = (subst (AreNumbered table) records-cut low).0
 
-  pub records-turn : (made new all : List Access) (x : Access) (answer : Adding) →
-      IsAnswer (list_any (λ e. same_key e x) made) (length made) made new (made ++ x ∷ []) answer →
-      (answer ≡ Added) ⊎ (answer ≡ Present) → x ≡ read_access table (get_or records i d) →
-      keys_added made (read_accesses table (drop i records)) ≡ all →
-      keys_added new (read_accesses table (drop (i + 1) records)) ≡ all
-  records-turn made new all x answer is_answer one read whole =
+  pub records-turn : (made new all : List Access) (x : Access) → new ≡ made ++ x ∷ [] →
+      x ≡ read_access table (get_or records i d) → (made ++ read_accesses table (drop i records)) ≡ all →
+      (new ++ read_accesses table (drop (i + 1) records)) ≡ all
+  records-turn made new all x pushed read whole =
       let rest = read_accesses table (drop (i + 1) records) in
-      ap (λ (kept : List Access). keys_added kept rest) (added_key made new x answer is_answer one)
-      ∙ ap (λ (y : Access). keys_added made (y ∷ rest)) read
-      ∙ sym (ap (λ (ns : List NumberedAccess). keys_added made (read_accesses table ns)) records-cut)
+      ap (λ (kept : List Access). kept ++ rest) pushed
+      ∙ append_assoc made (x ∷ []) rest
+      ∙ ap (λ (y : Access). made ++ (y ∷ rest)) read
+      ∙ sym (ap (λ (ns : List NumberedAccess). made ++ read_accesses table ns) records-cut)
       ∙ whole
 
 pub records-done : (table : List Path) (records : List NumberedAccess) (i : ℕ) (made all : List Access) →
-    length records ≤ i → keys_added made (read_accesses table (drop i records)) ≡ all → made ≡ all
+    length records ≤ i → (made ++ read_accesses table (drop i records)) ≡ all → made ≡ all
 records-done table records i made all past whole =
-    sym (ap (λ (ns : List NumberedAccess). keys_added made (read_accesses table ns)) (drop_all i records past)) ∙ whole
+    sym (append-nil made)
+    ∙ sym (ap (λ (ns : List NumberedAccess). made ++ read_accesses table ns) (drop_all i records past)) ∙ whole
 
 module _ (table : List Path) (numbers : List ℕ) (i d : ℕ) (within : i < length numbers) where
   numbers-cut : drop i numbers ≡ (get_or numbers i d ∷ drop (i + 1) numbers)
@@ -88,3 +89,15 @@ numbers-in limit numbers i low =
     behind [] (suc k) low = tt
     behind (n ∷ ns) zero low = low.1
     behind (n ∷ ns) (suc k) low = behind ns k low
+
+-- read from a table, as many records as there were
+as_many : (table : List Path) (records : List NumberedAccess) →
+    length (read_accesses table records) ≡ length records
+as_many table [] = refl
+as_many table (r ∷ records) = ap (λ n. suc n) (as_many table records)
+
+pub IsWithin-read : (table : List Path) (records : List NumberedAccess) →
+    first_of_keys (read_accesses table records) ≡ read_accesses table records → length records ≤ MAX_SUMMARY_KEYS →
+    IsWithin (read_accesses table records)
+IsWithin-read table records firsts few =
+    let count = as_many table records in record { firsts = firsts; limit = omega arith }

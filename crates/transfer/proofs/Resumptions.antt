@@ -53,27 +53,31 @@ pub op-resumed : (g : FlowContext) (site : SiteId) (place : Place) (op : CoreOp)
 op-resumed g site place op locked k old new s here hs goes on low next =
     (next locked site, sym (add-zero k), left-same old new on hs low)
 
-module _ (g : FlowContext) (left right : Tree) (locked : Bool) (k : ℕ) (t0 t1 t2 : List Path) (first : GoesOn t0 t1)
-    (second : GoesOn t1 t2) (s x one two here : NumberedState) (hs mid later : List Left) (p q : Passed) (goes : Bool)
+module _ (g : FlowContext) (left right : Tree) (locked : Bool) (k : ℕ) (older newer newest : List Path)
+  (first : GoesOn older newer)
+    (second : GoesOn newer newest) (s x one two here : NumberedState) (hs mid later : List Left) (p q : Passed)
+      (goes : Bool)
   where
-    pub choice-resumed : x ≡ s → AreInRange t0 s → AreInRange t1 one →
-        IsResumed g left locked k (read_state t0 s) (read_state t1 one) (read_heads t0 hs) (read_heads t1 mid) (Ok p) →
-        IsResumed g right locked p.next (read_state t1 x) (read_state t2 two) (read_heads t1 mid)
-        (read_heads t2 later) (Ok q) →
-        next_of goes (read_state t2 here) ≡ joined_next (next_of p.goes_on (read_state t2 one))
-        (next_of q.goes_on (read_state t2 two)) →
-        IsResumed g (Choice left right) locked k (read_state t0 s) (read_state t2 here) (read_heads t0 hs)
-        (read_heads t2 later) (Ok (record { next = q.next; goes_on = goes }))
+    pub choice-resumed : x ≡ s → AreInRange older s → AreInRange newer one →
+        IsResumed g left locked k (read_state older s) (read_state newer one) (read_heads older hs)
+          (read_heads newer mid) (Ok p) →
+        IsResumed g right locked p.next (read_state newer x) (read_state newest two) (read_heads newer mid)
+        (read_heads newest later) (Ok q) →
+        next_of goes (read_state newest here) ≡ joined_next (next_of p.goes_on (read_state newest one))
+        (next_of q.goes_on (read_state newest two)) →
+        IsResumed g (Choice left right) locked k (read_state older s) (read_state newest here) (read_heads older hs)
+        (read_heads newest later) (Ok (record { next = q.next; goes_on = goes }))
     choice-resumed same low lower l r met =
-        let h : Heads = heads_in (read_heads t0 hs) in
-        let start = read_state t0 s in
-        let state : read_state t1 x ≡ start = ap (read_state t1) same ∙ state-longer t0 t1 first s low in
-        let alike : resumed g right locked p.next (heads_in (read_heads t1 mid)) (read_state t1 x) ≡
+        let h : Heads = heads_in (read_heads older hs) in
+        let start = read_state older s in
+        let state : read_state newer x ≡ start = ap (read_state newer) same ∙ state-longer older newer first s low in
+        let alike : resumed g right locked p.next (heads_in (read_heads newer mid)) (read_state newer x) ≡
         resumed g right locked (k + loops left) (resumed g left locked k h start).1 start =
         λ i. resumed g right locked (l.1 i) (l.2.0 i) (state i) in
-        let end = next_of q.goes_on (read_state t2 two) in (
+        let end = next_of q.goes_on (read_state newest two) in (
           (λ i. joined_next (l.0 i) ((sym (ap (λ (e : Option State × Heads). e.0) alike) ∙ r.0) i))
-              ∙ ap (λ (o : State). joined_next (next_of p.goes_on o) end) (sym (state-longer t1 t2 second one lower))
+              ∙ ap (λ (o : State). joined_next (next_of p.goes_on o) end)
+                (sym (state-longer newer newest second one lower))
               ∙ sym met,
           (let count : loops (Choice left right) ≡ loops left + loops right = refl in
               let a : p.next ≡ k + loops left = l.1 in

@@ -25,105 +25,111 @@ use Rattle.transfer.proofs.Longer.{flow-still, marked-longer}
 use Rattle.transfer.proofs.Marking.{noted-nothing}
 use Rattle.transfer.proofs.Readings.{state-longer, found-longer}
 
-module _ (g : FlowContext) (body : Tree) (locked : Bool) (t0 t1 : List Path) (on : GoesOn t0 t1)
+module _ (g : FlowContext) (body : Tree) (locked : Bool) (older newer : List Path) (on : GoesOn older newer)
     (s x end : NumberedState) (hs mid : List (Option NumberedState)) (p : Passed) (f : NumberedFound) (same : x ≡ s)
-    (low : IsFlowOf t0 s f)
-    (m : IsResumed g body locked 0 (read_state t0 x) (read_state t1 end) (read_heads t0 hs) (read_heads t1 mid) (Ok p))
-    (after : IsResumedIn t1 end mid) (high : IsHighEnough (Loop body) (read_state t0 s))
-    (sound : AreSound g body locked (read_heads t0 hs) (read_state t0 s)) where
-  longer : read_state t1 s ≡ read_state t0 s
-  longer = state-longer t0 t1 on s low.state
+    (low : IsFlowOf older s f)
+    (m : IsResumed g body locked 0 (read_state older x) (read_state newer end) (read_heads older hs)
+      (read_heads newer mid) (Ok p))
+    (after : IsResumedIn newer end mid) (high : IsHighEnough (Loop body) (read_state older s))
+    (sound : AreSound g body locked (read_heads older hs) (read_state older s)) where
+  longer : read_state newer s ≡ read_state older s
+  longer = state-longer older newer on s low.state
 
-  resumed-round : ((flow g body locked (read_state t0 s)).next ≡ next_of p.goes_on (read_state t1 end))
-      × AreSound g body locked (read_heads t1 mid)
-      (round_next (read_state t0 s) (flow g body locked (read_state t0 s)).next)
+  resumed-round : ((flow g body locked (read_state older s)).next ≡ next_of p.goes_on (read_state newer end))
+      × AreSound g body locked (read_heads newer mid)
+      (round_next (read_state older s) (flow g body locked (read_state older s)).next)
   resumed-round =
-      round_resumed g body locked (read_state t0 s) (read_state t0 x) (read_state t1 end) (read_heads t0 hs)
-      (read_heads t1 mid) p (ap (read_state t0) same) m high sound
+      round_resumed g body locked (read_state older s) (read_state older x) (read_state newer end) (read_heads older hs)
+      (read_heads newer mid) p (ap (read_state older) same) m high sound
 
-  pub round-ready : IsFlowOf t1 s f
-  round-ready = flow-still t0 t1 on s f after.once low
+  pub round-ready : IsFlowOf newer s f
+  round-ready = flow-still older newer on s f after.once low
 
   -- ---- a body that does not go on
 
   module _ (ends : p.goes_on ≡ false) where
-    none : (flow g body locked (read_state t0 s)).next ≡ None
-    none = resumed-round.0 ∙ ap (λ (b : Bool). next_of b (read_state t1 end)) ends
+    none : (flow g body locked (read_state older s)).next ≡ None
+    none = resumed-round.0 ∙ ap (λ (b : Bool). next_of b (read_state newer end)) ends
 
-    pub ended-state : read_state t1 s ≡ round_next (read_state t0 s) (flow g body locked (read_state t0 s)).next
-    ended-state = longer ∙ sym (ap (round_next (read_state t0 s)) none)
+    pub ended-state : read_state newer s ≡ round_next (read_state older s)
+      (flow g body locked (read_state older s)).next
+    ended-state = longer ∙ sym (ap (round_next (read_state older s)) none)
 
-    pub ended-found : IsNoted (read_found t0 f)
-        (marks [] (round_lost (read_state t0 s) (flow g body locked (read_state t0 s)).next)) (read_found t1 f)
+    pub ended-found : IsNoted (read_found older f)
+        (marks [] (round_lost (read_state older s) (flow g body locked (read_state older s)).next)) (read_found newer f)
     ended-found =
-        subst (λ (o : Option State). IsNoted (read_found t0 f) (marks [] (round_lost (read_state t0 s) o))
-        (read_found t1 f)) (sym none)
-        (subst (λ (y : Found). IsNoted (read_found t0 f) (marks [] []) y)
-        (sym (found-longer t0 t1 on f low.noted)) (noted-nothing (read_found t0 f) (read_state t0 s)))
+        subst (λ (o : Option State). IsNoted (read_found older f) (marks [] (round_lost (read_state older s) o))
+        (read_found newer f)) (sym none)
+        (subst (λ (y : Found). IsNoted (read_found older f) (marks [] []) y)
+        (sym (found-longer older newer on f low.noted)) (noted-nothing (read_found older f) (read_state older s)))
 
-    pub ended-sound : AreSound g body locked (read_heads t1 mid) (read_state t1 s)
-    ended-sound = subst (AreSound g body locked (read_heads t1 mid)) (sym ended-state) resumed-round.1
+    pub ended-sound : AreSound g body locked (read_heads newer mid) (read_state newer s)
+    ended-sound = subst (AreSound g body locked (read_heads newer mid)) (sym ended-state) resumed-round.1
 
-  pub ended-unchanged : read_state t1 s ≡ read_state t0 s
+  pub ended-unchanged : read_state newer s ≡ read_state older s
   ended-unchanged = longer
 
-  pub ended-high : IsHighEnough (Loop body) (read_state t1 s)
+  pub ended-high : IsHighEnough (Loop body) (read_state newer s)
   ended-high = subst (IsHighEnough (Loop body)) (sym longer) high
 
   -- ---- one that goes on
 
   module _ (goes : p.goes_on ≡ true) (here : NumberedState) (f1 : NumberedFound) (r : Result Bool Stop) where
-    some : (flow g body locked (read_state t0 s)).next ≡ Some (read_state t1 end)
-    some = resumed-round.0 ∙ ap (λ (b : Bool). next_of b (read_state t1 end)) goes
+    some : (flow g body locked (read_state older s)).next ≡ Some (read_state newer end)
+    some = resumed-round.0 ∙ ap (λ (b : Bool). next_of b (read_state newer end)) goes
 
     pub met-state : OnOk r ((table : List Path) → IsFlowOf table s f → AreInRange table end →
         read_state table here ≡ joined_state (read_state table s) (read_state table end)) →
-        OnOk r (read_state t1 here ≡ round_next (read_state t0 s) (flow g body locked (read_state t0 s)).next)
+        OnOk r (read_state newer here ≡ round_next (read_state older s) (flow g body locked (read_state older s)).next)
     met-state state =
         on_ok_then r ((table : List Path) → IsFlowOf table s f → AreInRange table end →
         read_state table here ≡ joined_state (read_state table s) (read_state table end))
-        (read_state t1 here ≡ round_next (read_state t0 s) (flow g body locked (read_state t0 s)).next) state
-        (λ each. each t1 round-ready after.state
-        ∙ ap (λ (y : State). joined_state y (read_state t1 end)) longer
-        ∙ sym (ap (round_next (read_state t0 s)) some))
+        (read_state newer here ≡ round_next (read_state older s) (flow g body locked (read_state older s)).next) state
+        (λ each. each newer round-ready after.state
+        ∙ ap (λ (y : State). joined_state y (read_state newer end)) longer
+        ∙ sym (ap (round_next (read_state older s)) some))
 
     pub met-unchanged : IfOk r (λ changed. changed ≡ false → here ≡ s) →
-        IfOk r (λ changed. changed ≡ false → read_state t1 here ≡ read_state t0 s)
+        IfOk r (λ changed. changed ≡ false → read_state newer here ≡ read_state older s)
     met-unchanged unchanged = each r unchanged
       where
         each : (a : Result Bool Stop) → IfOk a (λ changed. changed ≡ false → here ≡ s) →
-            IfOk a (λ changed. changed ≡ false → read_state t1 here ≡ read_state t0 s)
-        each (Ok b) kept = λ e. ap (read_state t1) (kept e) ∙ longer
+            IfOk a (λ changed. changed ≡ false → read_state newer here ≡ read_state older s)
+        each (Ok b) kept = λ e. ap (read_state newer) (kept e) ∙ longer
         each (Err e) kept = tt
 
     pub met-found : ((table : List Path) → IsFlowOf table s f → AreInRange table end → IsMarked (read_found table f)
         (marks [] (lost_state (read_state table s) (read_state table end))) (read_found table f1) r) →
-        IsMarked (read_found t0 f)
-        (marks [] (round_lost (read_state t0 s) (flow g body locked (read_state t0 s)).next)) (read_found t1 f1) r
+        IsMarked (read_found older f)
+        (marks [] (round_lost (read_state older s) (flow g body locked (read_state older s)).next))
+          (read_found newer f1) r
     met-found found =
-        subst (λ (o : Option State). IsMarked (read_found t0 f) (marks [] (round_lost (read_state t0 s) o))
-        (read_found t1 f1) r) (sym some)
-        (subst (λ (y : State). IsMarked (read_found t0 f) (marks [] (lost_state y (read_state t1 end)))
-        (read_found t1 f1) r) longer
-        (marked-longer t0 t1 on f (marks [] (lost_state (read_state t1 s) (read_state t1 end))) (read_found t1 f1) r
-        low.noted (found t1 round-ready after.state)))
+        subst (λ (o : Option State). IsMarked (read_found older f) (marks [] (round_lost (read_state older s) o))
+        (read_found newer f1) r) (sym some)
+        (subst (λ (y : State). IsMarked (read_found older f) (marks [] (lost_state y (read_state newer end)))
+        (read_found newer f1) r) longer
+        (marked-longer older newer on f (marks [] (lost_state (read_state newer s) (read_state newer end)))
+          (read_found newer f1) r
+        low.noted (found newer round-ready after.state)))
 
     module _ (state : OnOk r ((table : List Path) → IsFlowOf table s f → AreInRange table end →
         read_state table here ≡ joined_state (read_state table s) (read_state table end))) where
-      pub met-sound : OnOk r (AreSound g body locked (read_heads t1 mid) (read_state t1 here))
+      pub met-sound : OnOk r (AreSound g body locked (read_heads newer mid) (read_state newer here))
       met-sound =
-          on_ok_then r (read_state t1 here ≡ round_next (read_state t0 s) (flow g body locked (read_state t0 s)).next)
-          (AreSound g body locked (read_heads t1 mid) (read_state t1 here)) (met-state state)
-          (λ is. subst (AreSound g body locked (read_heads t1 mid)) (sym is) resumed-round.1)
+          on_ok_then r (read_state newer here ≡ round_next (read_state older s)
+            (flow g body locked (read_state older s)).next)
+          (AreSound g body locked (read_heads newer mid) (read_state newer here)) (met-state state)
+          (λ is. subst (AreSound g body locked (read_heads newer mid)) (sym is) resumed-round.1)
 
-      pub met-high : OnOk r (IsHighEnough (Loop body) (read_state t1 here))
+      pub met-high : OnOk r (IsHighEnough (Loop body) (read_state newer here))
       met-high =
-          on_ok_then r (read_state t1 here ≡ round_next (read_state t0 s) (flow g body locked (read_state t0 s)).next)
-          (IsHighEnough (Loop body) (read_state t1 here)) (met-state state)
-          (λ is. subst (IsHighEnough (Loop body)) (sym is) (high_round g body locked (read_state t0 s) high))
+          on_ok_then r (read_state newer here ≡ round_next (read_state older s)
+            (flow g body locked (read_state older s)).next)
+          (IsHighEnough (Loop body) (read_state newer here)) (met-state state)
+          (λ is. subst (IsHighEnough (Loop body)) (sym is) (high_round g body locked (read_state older s) high))
 
     pub met-numbers : OnOk r ((table : List Path) → IsFlowOf table s f → AreInRange table end →
-        IsFlowOf table here f1) → OnOk r (IsFlowOf t1 here f1)
+        IsFlowOf table here f1) → OnOk r (IsFlowOf newer here f1)
     met-numbers numbers =
         on_ok_then r ((table : List Path) → IsFlowOf table s f → AreInRange table end → IsFlowOf table here f1)
-        (IsFlowOf t1 here f1) numbers (λ each. each t1 round-ready after.state)
+        (IsFlowOf newer here f1) numbers (λ each. each newer round-ready after.state)

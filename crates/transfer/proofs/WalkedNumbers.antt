@@ -45,69 +45,75 @@ module _ (old new : List Path) (on : GoesOn old new) (s x : NumberedState) (same
 
 -- ---- choices
 
-module _ (g : FlowContext) (left right : Tree) (locked : Bool) (t0 t1 : List Path) (first : GoesOn t0 t1)
-    (s x : NumberedState) (f0 f1 : NumberedFound) (same : x ≡ s) (low : AreInRange t0 s) where
+module _ (g : FlowContext) (left right : Tree) (locked : Bool) (older newer : List Path) (first : GoesOn older newer)
+    (s x : NumberedState) (f0 f1 : NumberedFound) (same : x ≡ s) (low : AreInRange older s) where
   pub right-stopped : (stop : Stop) →
-      IsNoted (read_found t0 f0) (flow g left locked (read_state t0 s)) (read_found t1 f1) →
-      IsStopped (read_found t1 f1) (flow g right locked (read_state t1 x)) stop →
-      IsStopped (read_found t0 f0) (flow g (Choice left right) locked (read_state t0 s)) stop
+      IsNoted (read_found older f0) (flow g left locked (read_state older s)) (read_found newer f1) →
+      IsStopped (read_found newer f1) (flow g right locked (read_state newer x)) stop →
+      IsStopped (read_found older f0) (flow g (Choice left right) locked (read_state older s)) stop
   right-stopped stop m k =
-      stopped-right (flow g left locked (read_state t0 s)) (flow g right locked (read_state t0 s)) (read_found t0 f0)
-      (read_found t1 f1) stop m
-      (subst (λ (y : State). IsStopped (read_found t1 f1) (flow g right locked y) stop)
-      (copied-read t0 t1 first s x same low) k)
+      stopped-right (flow g left locked (read_state older s)) (flow g right locked (read_state older s))
+        (read_found older f0)
+      (read_found newer f1) stop m
+      (subst (λ (y : State). IsStopped (read_found newer f1) (flow g right locked y) stop)
+      (copied-read older newer first s x same low) k)
 
-  module _ (t2 : List Path) (second : GoesOn t1 t2) (one two here : NumberedState) (f2 f3 : NumberedFound)
-      (p q : Bool) (r : Result Bool Stop) (lower : IsFlowOf t1 one f1) (last : IsFlowOf t2 two f2) where
-    pub ways-ready : IsFlowOf t2 one f2
-    ways-ready = record { once = last.once; state = state-still t1 t2 second one lower.state; noted = last.noted }
+  module _ (newest : List Path) (second : GoesOn newer newest) (one two here : NumberedState) (f2 f3 : NumberedFound)
+      (p q : Bool) (r : Result Bool Stop) (lower : IsFlowOf newer one f1) (last : IsFlowOf newest two f2) where
+    pub ways-ready : IsFlowOf newest one f2
+    ways-ready = record { once = last.once; state = state-still newer newest second one lower.state; noted =
+      last.noted }
 
-    pub ways-met : IsFlow (flow g left locked (read_state t0 s)) (read_state t1 one) (read_found t0 f0)
-        (read_found t1 f1) (Ok p) →
-        IsFlow (flow g right locked (read_state t1 x)) (read_state t2 two) (read_found t1 f1) (read_found t2 f2) (Ok q) →
+    pub ways-met : IsFlow (flow g left locked (read_state older s)) (read_state newer one) (read_found older f0)
+        (read_found newer f1) (Ok p) →
+        IsFlow (flow g right locked (read_state newer x)) (read_state newest two) (read_found newer f1)
+          (read_found newest f2) (Ok q) →
         IfOk r (λ goes_on. (table : List Path) → IsFlowOf table one f2 → AreInRange table two →
         next_of goes_on (read_state table here) ≡ joined_next (next_of p (read_state table one))
         (next_of q (read_state table two))) →
         ((table : List Path) → IsFlowOf table one f2 → AreInRange table two → IsMarked (read_found table f2)
         (marks [] (lost_next (next_of p (read_state table one)) (next_of q (read_state table two))))
         (read_found table f3) r) →
-        IsFlow (flow g (Choice left right) locked (read_state t0 s)) (read_state t2 here) (read_found t0 f0)
-        (read_found t2 f3) r
+        IsFlow (flow g (Choice left right) locked (read_state older s)) (read_state newest here) (read_found older f0)
+        (read_found newest f3) r
     ways-met l m state found =
-        let start = read_state t0 s in
-        let done : IsFlow (flow g right locked start) (read_state t2 two) (read_found t1 f1) (read_found t2 f2) (Ok q) =
-        subst (λ (y : State). IsFlow (flow g right locked y) (read_state t2 two) (read_found t1 f1) (read_found t2 f2)
-        (Ok q)) (copied-read t0 t1 first s x same low) m in
-        let left_end = next_of p (read_state t2 one) in
-        let right_end = next_of q (read_state t2 two) in
-        let longer : next_of p (read_state t1 one) ≡ left_end =
-        ap (next_of p) (sym (state-longer t1 t2 second one lower.state)) in
-        flow-chosen (flow g left locked start) (flow g right locked start) left_end right_end (read_state t2 here)
-        (read_found t0 f0) (read_found t1 f1) (read_found t2 f2) (read_found t2 f3) r (l.0 ∙ longer) done.0 l.1 done.1
-        (each r state) (found t2 ways-ready last.state)
+        let start = read_state older s in
+        let done : IsFlow (flow g right locked start) (read_state newest two) (read_found newer f1)
+          (read_found newest f2) (Ok q) =
+        subst (λ (y : State). IsFlow (flow g right locked y) (read_state newest two) (read_found newer f1)
+          (read_found newest f2)
+        (Ok q)) (copied-read older newer first s x same low) m in
+        let left_end = next_of p (read_state newest one) in
+        let right_end = next_of q (read_state newest two) in
+        let longer : next_of p (read_state newer one) ≡ left_end =
+        ap (next_of p) (sym (state-longer newer newest second one lower.state)) in
+        flow-chosen (flow g left locked start) (flow g right locked start) left_end right_end (read_state newest here)
+        (read_found older f0) (read_found newer f1) (read_found newest f2) (read_found newest f3) r
+          (l.0 ∙ longer) done.0 l.1 done.1
+        (each r state) (found newest ways-ready last.state)
       where
         each : (a : Result Bool Stop) → IfOk a (λ goes_on. (table : List Path) → IsFlowOf table one f2 →
             AreInRange table two → next_of goes_on (read_state table here) ≡
             joined_next (next_of p (read_state table one)) (next_of q (read_state table two))) →
-            IfOk a (λ goes_on. next_of goes_on (read_state t2 here) ≡
-            joined_next (next_of p (read_state t2 one)) (next_of q (read_state t2 two)))
-        each (Ok b) state = state t2 ways-ready last.state
+            IfOk a (λ goes_on. next_of goes_on (read_state newest here) ≡
+            joined_next (next_of p (read_state newest one)) (next_of q (read_state newest two)))
+        each (Ok b) state = state newest ways-ready last.state
         each (Err e) state = tt
 
     pub ways-numbers : OnOk r ((table : List Path) → IsFlowOf table one f2 → AreInRange table two →
-        IsFlowOf table here f3) → OnOk r (IsFlowOf t2 here f3)
+        IsFlowOf table here f3) → OnOk r (IsFlowOf newest here f3)
     ways-numbers numbers =
         on_ok_then r ((table : List Path) → IsFlowOf table one f2 → AreInRange table two → IsFlowOf table here f3)
-        (IsFlowOf t2 here f3) numbers (λ each. each t2 ways-ready last.state)
+        (IsFlowOf newest here f3) numbers (λ each. each newest ways-ready last.state)
 
-    pub ways-called : (calls : List NotedCall) → AreFound g (read_calls t2 calls) (read_found t2 f2) →
+    pub ways-called : (calls : List NotedCall) → AreFound g (read_calls newest calls) (read_found newest f2) →
         ((table : List Path) → IsFlowOf table one f2 → AreInRange table two → IsMarked (read_found table f2)
         (marks [] (lost_next (next_of p (read_state table one)) (next_of q (read_state table two))))
-        (read_found table f3) r) → OnOk r (AreFound g (read_calls t2 calls) (read_found t2 f3))
+        (read_found table f3) r) → OnOk r (AreFound g (read_calls newest calls) (read_found newest f3))
     ways-called calls h found =
-        marked-found g (read_calls t2 calls) (read_found t2 f2) (read_found t2 f3)
-        (marks [] (lost_next (next_of p (read_state t2 one)) (next_of q (read_state t2 two)))) r
-        (found t2 ways-ready last.state) h
+        marked-found g (read_calls newest calls) (read_found newest f2) (read_found newest f3)
+        (marks [] (lost_next (next_of p (read_state newest one)) (next_of q (read_state newest two)))) r
+        (found newest ways-ready last.state) h
 
 pub always : {X E : Type 0} (r : Result X E) (P : Type 0) → P → OnOk r P
 always (Ok x) P p = p
@@ -153,51 +159,55 @@ module _ (table : List Path) (s : NumberedState) (found : NumberedFound) (low : 
 
 -- ---- loops
 
-module _ (g : FlowContext) (body : Tree) (locked : Bool) (t0 t1 : List Path) (first : GoesOn t0 t1)
+module _ (g : FlowContext) (body : Tree) (locked : Bool) (older newer : List Path) (first : GoesOn older newer)
     (s here end : NumberedState) (f0 f1 : NumberedFound) (same : end ≡ here)
-    (done : AreRoundsDone (flow g body locked) (read_state t0 s) (read_state t1 here) (read_found t0 f0)
-    (read_found t1 f1) (Ok (tt {0}))) (low : IsFlowOf t1 here f1) where
-  pub body-high : IsHighEnough (Loop body) (read_state t1 here) → IsHighEnough body (read_state t1 end)
+    (done : AreRoundsDone (flow g body locked) (read_state older s) (read_state newer here) (read_found older f0)
+    (read_found newer f1) (Ok (tt {0}))) (low : IsFlowOf newer here f1) where
+  pub body-high : IsHighEnough (Loop body) (read_state newer here) → IsHighEnough body (read_state newer end)
   body-high high =
-      subst (λ (x : NumberedState). IsHighEnough body (read_state t1 x)) (sym same)
-      (high_body body (read_state t1 here) high)
+      subst (λ (x : NumberedState). IsHighEnough body (read_state newer x)) (sym same)
+      (high_body body (read_state newer here) high)
 
-  pub body-ready : IsFlowOf t1 end f1
+  pub body-ready : IsFlowOf newer end f1
   body-ready =
-      record { once = low.once; state = subst (AreInRange t1) (sym same) low.state; noted = low.noted }
+      record { once = low.once; state = subst (AreInRange newer) (sym same) low.state; noted = low.noted }
 
-  pub body-found : (calls : List NotedCall) → AreCallNumbers t0 calls →
-      AreFound g (read_calls t0 calls) (read_found t0 f0) → AreFound g (read_calls t1 calls) (read_found t1 f1)
+  pub body-found : (calls : List NotedCall) → AreCallNumbers older calls →
+      AreFound g (read_calls older calls) (read_found older f0) →
+        AreFound g (read_calls newer calls) (read_found newer f1)
   body-found calls called h =
-      all-found-longer t0 t1 first g calls (read_found t1 f1) called
-      (noted-found g (read_calls t0 calls) (read_found t0 f0) (read_found t1 f1)
-      (marks [] (rounds (flow g body locked) (rounds_of (read_state t0 s)) (read_state t0 s)).1) done.1 h)
+      all-found-longer older newer first g calls (read_found newer f1) called
+      (noted-found g (read_calls older calls) (read_found older f0) (read_found newer f1)
+      (marks [] (rounds (flow g body locked) (rounds_of (read_state older s)) (read_state older s)).1) done.1 h)
 
   pub loop-stopped : (stop : Stop) →
-      IsStopped (read_found t1 f1) (flow g body locked (read_state t1 end)) stop →
-      IsStopped (read_found t0 f0) (flow g (Loop body) locked (read_state t0 s)) stop
+      IsStopped (read_found newer f1) (flow g body locked (read_state newer end)) stop →
+      IsStopped (read_found older f0) (flow g (Loop body) locked (read_state older s)) stop
   loop-stopped stop m =
-      last-stopped (flow g body locked) 0 (read_state t0 s) (read_state t1 here) (read_found t0 f0)
-      (read_found t1 f1) stop refl
-      (rounds-left (flow g body locked) (read_state t0 s) (read_state t1 here) (read_found t0 f0) (read_found t1 f1)
+      last-stopped (flow g body locked) 0 (read_state older s) (read_state newer here) (read_found older f0)
+      (read_found newer f1) stop refl
+      (rounds-left (flow g body locked) (read_state older s) (read_state newer here) (read_found older f0)
+        (read_found newer f1)
       done)
-      (subst (λ (x : NumberedState). IsStopped (read_found t1 f1) (flow g body locked (read_state t1 x)) stop)
+      (subst (λ (x : NumberedState). IsStopped (read_found newer f1) (flow g body locked (read_state newer x)) stop)
       same m)
 
-  module _ (t2 : List Path) (second : GoesOn t1 t2) (f2 : NumberedFound) where
-    pub loop-done : IsNoted (read_found t1 f1) (flow g body locked (read_state t1 end)) (read_found t2 f2) →
-        IsFlow (flow g (Loop body) locked (read_state t0 s)) (read_state t2 here) (read_found t0 f0) (read_found t2 f2)
+  module _ (newest : List Path) (second : GoesOn newer newest) (f2 : NumberedFound) where
+    pub loop-done : IsNoted (read_found newer f1) (flow g body locked (read_state newer end)) (read_found newest f2) →
+        IsFlow (flow g (Loop body) locked (read_state older s)) (read_state newest here) (read_found older f0)
+          (read_found newest f2)
         (Ok true)
     loop-done m =
-        subst (λ (y : State). IsFlow (flow g (Loop body) locked (read_state t0 s)) y (read_found t0 f0)
-        (read_found t2 f2) (Ok true)) (sym (state-longer t1 t2 second here low.state))
-        (rounds-ended (flow g body locked) 0 (read_state t0 s) (read_state t1 here) (read_found t0 f0)
-        (read_found t1 f1) (read_found t2 f2) refl
-        (rounds-left (flow g body locked) (read_state t0 s) (read_state t1 here) (read_found t0 f0) (read_found t1 f1)
+        subst (λ (y : State). IsFlow (flow g (Loop body) locked (read_state older s)) y (read_found older f0)
+        (read_found newest f2) (Ok true)) (sym (state-longer newer newest second here low.state))
+        (rounds-ended (flow g body locked) 0 (read_state older s) (read_state newer here) (read_found older f0)
+        (read_found newer f1) (read_found newest f2) refl
+        (rounds-left (flow g body locked) (read_state older s) (read_state newer here) (read_found older f0)
+          (read_found newer f1)
         done)
-        (subst (λ (x : NumberedState). IsNoted (read_found t1 f1) (flow g body locked (read_state t1 x))
-        (read_found t2 f2)) same m))
+        (subst (λ (x : NumberedState). IsNoted (read_found newer f1) (flow g body locked (read_state newer x))
+        (read_found newest f2)) same m))
 
-    pub loop-numbers : (e : NumberedState) → IsFlowOf t2 e f2 → IsFlowOf t2 here f2
+    pub loop-numbers : (e : NumberedState) → IsFlowOf newest e f2 → IsFlowOf newest here f2
     loop-numbers e last =
-        record { once = last.once; state = state-still t1 t2 second here low.state; noted = last.noted }
+        record { once = last.once; state = state-still newer newest second here low.state; noted = last.noted }

@@ -4,6 +4,7 @@ use Rattle.access_paths.specs.declared.path.Path.{Path}
 use Rattle.access_paths.specs.Table.{IsTable}
 use Rattle.owner_domain.specs.declared.value.State.{State}
 use Rattle.owner_domain.specs.declared.numbered.NumberedValue.{NumberedValue}
+use Rattle.owner_domain.specs.declared.numbered.NumberedValue.TheVariants.{Named, Unnamed}
 use Rattle.owner_domain.specs.declared.numbered.NumberedState.{NumberedState}
 use Rattle.owner_domain.specs.Numbered.{read_value, read_state, IsInRange, AllInRange, AreInRange}
 use Rattle.access_domain.specs.Numbered.{read_accesses, AreNumbered}
@@ -21,6 +22,11 @@ read_found table found =
       wobbly = read_set table found.wobbly.keys;
       result = option_map (read_value table) found.result;
     }
+
+-- what a path of this number names: nothing where there is none
+abbrev pub named_or_unnamed : Option ℕ → NumberedValue
+named_or_unnamed None = Unnamed
+named_or_unnamed (Some n) = Named n
 
 abbrev pub IsResultInRange : List Path → Option NumberedValue → Type 0
 IsResultInRange table None = Unit {0}

@@ -1,9 +1,11 @@
 //! Operations.
-ghost use Rattle.std.specs.Prelude.{◌≡◌, ◌++◌, List, IfOk, OnOk, [], Bool, length, option_map, false, if◌then◌else◌};
+ghost use Rattle.std.specs.Prelude.{◌≡◌, ◌<◌, ◌++◌, List, IfOk, OnOk, [], Bool, length, option_map};
+ghost use Rattle.std.specs.Prelude.{false, if◌then◌else◌};
 ghost use Rattle.racer_base.specs.declared.ids.SiteId.{SiteId as Site};
 ghost use Rattle.access_paths.specs.declared.path.Path.{Path as TablePath};
 ghost use Rattle.access_paths.specs.Table.{IsTable, GoesOn, path_at};
 ghost use Rattle.owner_domain.specs.declared.numbered.NumberedValue.TheVariants.{Unnamed as NotNamed};
+ghost use Rattle.owner_domain.specs.declared.value.Value.TheVariants.{Named as NamedBy};
 ghost use Rattle.owner_domain.specs.Numbered.{read_value, read_state, IsInRange, AreInRange};
 ghost use Rattle.owner_domain.specs.Values.{field_value, names_of};
 ghost use Rattle.core_code.specs.declared.code.Op.TheVariants.{Get, Put};
@@ -14,6 +16,7 @@ ghost use Rattle.transfer.specs.Contexts.{given, record_reached};
 ghost use Rattle.transfer.specs.Marks.{IsMarked, marks, returns_of};
 ghost use Rattle.transfer.specs.NotedCalls.{AreFound};
 ghost use Rattle.transfer.specs.Numbered.{read_found, read_calls, AreFoundNumbers, AreCallNumbers, IsBelow, IsFlowOf};
+ghost use Rattle.transfer.specs.Numbered.{named_or_unnamed};
 ghost use Rattle.transfer.specs.Slots.{popped_numbers};
 ghost use Rattle.transfer.specs.Walks.{IsFlow, is_call, is_quiet, moved, next_of, set_effects};
 
@@ -176,11 +179,42 @@ fn pop_field(
     ensures table { OnOk result (GoesOn table.old table.new) }
 {
     match state.pop() {
-        NumberedValue::Named(number) => {
-            let value = along_path(alloc, table.path_of(number), &[f])?;
-            number_value(table, value)
-        }
+        NumberedValue::Named(number) => field_of(alloc, number, f, table),
         other => Ok(other),
+    }
+}
+
+/// The value of a field of the value at the path of this number.
+fn field_of(
+    alloc: Global,
+    number: u32,
+    f: FieldId,
+    table: &mut PathTable,
+) -> Result<NumberedValue, Memory>
+    requires number { number < length table.old }
+    requires once { IsTable table.old }
+    ensures value { IfOk result (λ value. read_value table.new value ≡
+        field_value (NamedBy (path_at table.old number)) f) }
+    ensures range { IfOk result (λ value. IsInRange table.new value) }
+    ensures once { OnOk result (IsTable table.new) }
+    ensures table { OnOk result (GoesOn table.old table.new) }
+{
+    let path = table.path_of(number);
+    if path.root.is_some() {
+        let value = along_path(alloc, path, &[f])?;
+        return number_value(table, value);
+    }
+    let longer = table.lengthened(number, f)?;
+    Ok(named_or_unnamed(longer))
+}
+
+/// What a path of this number names: nothing where there is none.
+fn named_or_unnamed(number: Option<u32>) -> NumberedValue
+    ensures { result ≡ named_or_unnamed number }
+{
+    match number {
+        Some(number) => NumberedValue::Named(number),
+        None => NumberedValue::Unnamed,
     }
 }
 

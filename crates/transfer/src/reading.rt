@@ -1,7 +1,6 @@
 //! What was found over the numbers of a table, in paths.
-ghost use Rattle.std.specs.Prelude.{◌≡◌, ◌<◌, [], IfOk, length, option_map};
+ghost use Rattle.std.specs.Prelude.{◌≡◌, ◌<◌, IfOk, length, option_map};
 ghost use Rattle.owner_domain.specs.Numbered.{read_value};
-ghost use Rattle.access_domain.specs.Additions.{keys_added};
 ghost use Rattle.access_domain.specs.Numbered.{read_access, read_accesses, AreNumbered};
 ghost use Rattle.call_subst.specs.Numbered.{read_set, AreBelow};
 ghost use Rattle.transfer.specs.Numbered.{read_found, AreFoundNumbers, IsResultInRange};
@@ -28,6 +27,7 @@ pub fn read_found(alloc: Global, table: &PathTable, found: NumberedFound) -> Res
         result,
     } = found;
     let records = records_of(alloc, table, records.into_vec().as_slice())?;
+    let records = Accesses::from_vec(alloc, records);
     let wobbly = paths_of(alloc, table, wobbly.as_slice())?;
     let result = result_of(alloc, table, result)?;
     Ok(Found {
@@ -57,16 +57,13 @@ fn records_of(
     alloc: Global,
     table: &PathTable,
     records: &[NumberedAccess],
-) -> Result<Accesses, Memory>
+) -> Result<Vec<Access>, Memory>
     requires { AreNumbered table.now records.now }
-    ensures { IfOk result (λ made. made ≡ keys_added [] (read_accesses table.now records.now)) }
+    ensures { IfOk result (λ made. made.items ≡ read_accesses table.now records.now) }
 {
-    let mut made = Accesses::new(alloc);
+    let mut made = Vec::with_capacity(alloc, records.len())?;
     for record in records {
-        match made.add(record_of(alloc, table, *record)?) {
-            Adding::Added | Adding::Present => {}
-            Adding::Full | Adding::Memory => return Err(Memory),
-        }
+        made.push(record_of(alloc, table, *record)?)?;
     }
     Ok(made)
 }

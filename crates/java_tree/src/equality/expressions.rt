@@ -69,12 +69,12 @@ fn same_tree(tree: &Expression, other: &Expression) -> bool
         Paren(value) => same_parentheses(value, other),
         Field(value, name) => same_field(value, name, other),
         Index(array, index) => same_index(array, index, other),
-        Call(None, name, all) => same_call(all, name, other),
-        Call(Some(value), name, all) => same_call_on(value, name, all, other),
+        Call(None, name, all) => same_call(all, name.get(), other),
+        Call(Some(value), name, all) => same_call_on(value, name.get(), all, other),
         ClassOf(names) => same_class_of(names, other),
-        New(_, kind, all) => same_new(all, kind, other),
-        NewArray(_, kind, all, count) => same_new_array(all, kind, *count, other),
-        NewItems(_, kind, count, items) => same_new_items(items, kind, *count, other),
+        New(_, kind, all) => same_new(all, kind.get(), other),
+        NewArray(_, kind, all, count) => same_new_array(all, kind.get(), *count, other),
+        NewItems(_, kind, count, items) => same_new_items(items, kind.get(), *count, other),
     }
 }
 
@@ -212,7 +212,7 @@ fn same_call(all: &[Expression], name: &Ident, other: &Expression) -> bool
     ensures { result ≡ same_expr (Call (name_of name.now) (pack_exprs (map expr_of all.now))) (expr_of other.now) }
 {
     match other {
-        Call(None, n, others) => name == n && same_trees(all, others),
+        Call(None, n, others) => name == n.get() && same_trees(all, others),
         _ => false,
     }
 }
@@ -223,7 +223,9 @@ fn same_call_on(value: &Expression, name: &Ident, all: &[Expression], other: &Ex
         (expr_of other.now) }
 {
     match other {
-        Call(Some(a), n, others) => same_tree(value, a) && name == n && same_trees(all, others),
+        Call(Some(a), n, others) => {
+            same_tree(value, a) && name == n.get() && same_trees(all, others)
+        },
         _ => false,
     }
 }
@@ -242,7 +244,7 @@ fn same_new(all: &[Expression], kind: &TypeTree, other: &Expression) -> bool
     ensures { result ≡ same_expr (New (ty_of kind.now) (pack_exprs (map expr_of all.now))) (expr_of other.now) }
 {
     match other {
-        New(_, t, others) => kind == t && same_trees(all, others),
+        New(_, t, others) => kind == t.get() && same_trees(all, others),
         _ => false,
     }
 }
@@ -253,7 +255,7 @@ fn same_new_array(all: &[Expression], kind: &TypeTree, count: u32, other: &Expre
         (expr_of other.now) }
 {
     match other {
-        NewArray(_, t, others, n) => kind == t && same_trees(all, others) && count == *n,
+        NewArray(_, t, others, n) => { kind == t.get() && same_trees(all, others) && count == *n },
         _ => false,
     }
 }
@@ -263,7 +265,9 @@ fn same_new_items(items: &ArrayTree, kind: &TypeTree, count: u32, other: &Expres
     ensures { result ≡ same_expr (NewItems (ty_of kind.now) count (array_of items.now)) (expr_of other.now) }
 {
     match other {
-        NewItems(_, t, n, others) => kind == t && count == *n && same_array(items, others),
+        NewItems(_, t, n, others) => {
+            kind == t.get() && count == *n && same_array(items, others)
+        },
         _ => false,
     }
 }

@@ -2,6 +2,7 @@
 ghost use Rattle.std.specs.Prelude.{◌≡◌, ◌↔◌, IsTrue, map, option_map};
 ghost use Rattle.java_tree.specs.Trees.{pack_exprs, pack_stmts, Block, Local, Run, If, IfElse, While, For};
 ghost use Rattle.java_tree.specs.Trees.{ForEach, Sync, Return};
+ghost use Rattle.java_tree.specs.Sameness.{same_option, same_expr};
 ghost use Rattle.java_tree.specs.Sameness.{same_variable, same_locals, same_start, same_stmt, same_stmts};
 ghost use Rattle.java_tree.specs.SameMethods.{variable_is, variable_refl, locals_is, locals_refl, start_is};
 ghost use Rattle.java_tree.specs.SameMethods.{start_refl, stmt_is, stmt_refl};
@@ -9,6 +10,7 @@ ghost use Rattle.java_tree.specs.SameLaws.{partial_equivalence};
 ghost use Rattle.java_tree.specs.View.{name_of, ty_of, expr_of, variable_of, locals_of, start_of, stmt_of};
 
 use super::expressions::same_trees;
+use crate::apart::Apart;
 use crate::expressions::Expression;
 use crate::statements::Statement::{
     Block, Empty, Expr, For, ForEach, If, Local, Return, Sync, While,
@@ -82,18 +84,33 @@ fn same_statement(tree: &Statement, other: &Statement) -> bool
 {
     match tree {
         Block(all) => same_block(all, other),
-        Local(locals) => same_local(locals, other),
+        Local(locals) => same_local(locals.get(), other),
         Expr(value) => same_run(value, other),
-        If(test, then, None) => same_if(then, test, other),
-        If(test, then, Some(otherwise)) => same_if_else(then, otherwise, test, other),
-        While(test, body) => same_while(body, test, other),
-        For(start, test, updates, body) => same_for(body, start, test, updates, other),
+        If(test, then, None) => same_if(then, test.get(), other),
+        If(test, then, Some(otherwise)) => same_if_else(then, otherwise, test.get(), other),
+        While(test, body) => same_while(body, test.get(), other),
+        For(start, test, updates, body) => same_for(body, start.get(), test, updates, other),
         ForEach(is_final, kind, name, value, body) => same_for_each(
-            body, *is_final, kind, name, value, other,
+            body,
+            *is_final,
+            kind.get(),
+            name.get(),
+            value.get(),
+            other,
         ),
-        Sync(_, value, all) => same_sync(all, value, other),
+        Sync(_, value, all) => same_sync(all, value.get(), other),
         Return(value) => same_return(value, other),
         Empty => matches!(other, Empty),
+    }
+}
+
+fn same_maybe(a: &Option<Apart<Expression>>, b: &Option<Apart<Expression>>) -> bool
+    ensures { result ≡ same_option same_expr (option_map expr_of a.now) (option_map expr_of b.now) }
+{
+    match (a, b) {
+        (None, None) => true,
+        (Some(a), Some(b)) => a.get() == b.get(),
+        _ => false,
     }
 }
 
@@ -111,7 +128,7 @@ fn same_local(locals: &LocalsTree, other: &Statement) -> bool
     ensures { result ≡ same_stmt (Local (locals_of locals.now)) (stmt_of other.now) }
 {
     match other {
-        Local(l) => locals == l,
+        Local(l) => locals == l.get(),
         _ => false,
     }
 }
@@ -130,7 +147,7 @@ fn same_if(then: &Statement, test: &Expression, other: &Statement) -> bool
     ensures { result ≡ same_stmt (If (expr_of test.now) (stmt_of then.now)) (stmt_of other.now) }
 {
     match other {
-        If(a, s, None) => test == a && same_statement(then, s),
+        If(a, s, None) => test == a.get() && same_statement(then, s),
         _ => false,
     }
 }
@@ -146,7 +163,9 @@ fn same_if_else(
         (stmt_of other.now) }
 {
     match other {
-        If(a, s, Some(t)) => test == a && same_statement(then, s) && same_statement(otherwise, t),
+        If(a, s, Some(t)) => {
+            test == a.get() && same_statement(then, s) && same_statement(otherwise, t)
+        },
         _ => false,
     }
 }
@@ -156,17 +175,16 @@ fn same_while(body: &Statement, test: &Expression, other: &Statement) -> bool
     ensures { result ≡ same_stmt (While (expr_of test.now) (stmt_of body.now)) (stmt_of other.now) }
 {
     match other {
-        While(a, s) => test == a && same_statement(body, s),
+        While(a, s) => test == a.get() && same_statement(body, s),
         _ => false,
     }
 }
 
 #[cycle(compare_statements)]
-#[tactic(auto, using(crate::proofs::SameLists::slices))]
 fn same_for(
     body: &Statement,
     start: &StartTree,
-    test: &Option<Expression>,
+    test: &Option<Apart<Expression>>,
     updates: &[Expression],
     other: &Statement,
 ) -> bool
@@ -175,7 +193,10 @@ fn same_for(
 {
     match other {
         For(i, a, u, s) => {
-            start == i && test == a && same_trees(updates, u) && same_statement(body, s)
+            start == i.get()
+                && same_maybe(test, a)
+                && same_trees(updates, u)
+                && same_statement(body, s)
         },
         _ => false,
     }
@@ -195,7 +216,11 @@ fn same_for_each(
 {
     match other {
         ForEach(f, t, n, a, s) => {
-            is_final == *f && kind == t && name == n && value == a && same_statement(body, s)
+            is_final == *f
+                && kind == t.get()
+                && name == n.get()
+                && value == a.get()
+                && same_statement(body, s)
         },
         _ => false,
     }
@@ -206,17 +231,16 @@ fn same_sync(all: &[Statement], value: &Expression, other: &Statement) -> bool
     ensures { result ≡ same_stmt (Sync (expr_of value.now) (pack_stmts (map stmt_of all.now))) (stmt_of other.now) }
 {
     match other {
-        Sync(_, a, others) => value == a && same_statements(all, others),
+        Sync(_, a, others) => value == a.get() && same_statements(all, others),
         _ => false,
     }
 }
 
-#[tactic(auto, using(crate::proofs::SameLists::slices))]
-fn same_return(value: &Option<Expression>, other: &Statement) -> bool
+fn same_return(value: &Option<Apart<Expression>>, other: &Statement) -> bool
     ensures { result ≡ same_stmt (Return (option_map expr_of value.now)) (stmt_of other.now) }
 {
     match other {
-        Return(a) => value == a,
+        Return(a) => same_maybe(value, a),
         _ => false,
     }
 }

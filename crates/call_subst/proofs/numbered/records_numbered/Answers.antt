@@ -51,11 +51,12 @@ returns-clause-all c =
     let at = c.loop-index in
     let nothing : drop at.index records ≡ [] =
     drop_all at.index records (omega (arith, c.len-index-end.ensures.count)) in
-    ap (read_accesses at.table) c.into_vec.ensures
+    ap (read_accesses at.table) c.into_vec.ensures.records
     ∙ sym (ap (λ (left : List Access). keys_added (read_accesses at.table at.kept) (records_at call at.index left))
     nothing)
     ∙ at.invariant.all
     ∙ keys_added-nil (records_at call 0 records)
 
 pub returns-clause-numbers : goal.returns-clause-numbers
-returns-clause-numbers c = subst (AreNumbered c.loop-index.table) (sym c.into_vec.ensures) c.loop-index.invariant.numbers
+returns-clause-numbers c =
+    subst (AreNumbered c.loop-index.table) (sym c.into_vec.ensures.records) c.loop-index.invariant.numbers

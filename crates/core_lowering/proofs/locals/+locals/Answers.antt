@@ -11,8 +11,9 @@ use Rattle.core_lowering.proofs.locals.+locals.Goals as goal
 
 pub count_statement-returns-in-Local : goal.count_statement-returns-in-Local
 count_statement-returns-in-Local t c =
-    let variables = c.in-Local.l.variables in
-    let is : stmt_of c.args.statement.now ≡ tree.Local (ty_of c.in-Local.l.kind) (map variable_of variables) =
+    let locals = c.get.result.now in
+    let variables = locals.variables in
+    let is : stmt_of c.args.statement.now ≡ tree.Local (ty_of locals.kind) (map variable_of variables) =
     search (rules, the_lemmas) in
     c.len.ensures ∙ sym (length-map variables variable_of) ∙ ap declares (sym is)
 

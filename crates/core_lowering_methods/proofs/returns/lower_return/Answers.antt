@@ -12,7 +12,7 @@ use Rattle.core_lowering_methods.proofs.returns.lower_return.Goals as goal
 pub returns : goal.returns
 returns c =
     let context = c.args.context.now in
-    let e = expr_of c.in-Some.e in
+    let e = expr_of c.get.result.now in
     let old = code_of c.args.draft.now in
     let is : option_map expr_of c.args.e.now ≡ Some e = search rules in
     on_ok_weaker c.op.result

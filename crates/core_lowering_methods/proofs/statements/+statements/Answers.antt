@@ -41,13 +41,13 @@ lower_statement-returns-in-Block-clause-code t c =
 
 pub lower_statement-returns-in-Local-clause-context : goal.lower_statement-returns-in-Local-clause-context
 lower_statement-returns-in-Local-clause-context t c =
-    let is = is_local c.args.statement.now c.in-Local.locals c.in-Local.is in
+    let is = is_local c.args.statement.now c.in-Local.locals c.get.result.now c.in-Local.is c.get.ensures in
     subst (λ (s : Stmt). OnOk c.lower_locals.result (c.lower_locals.new.context ≡ after c.args.context.now s)) (sym is)
     c.lower_locals.ensures.context
 
 pub lower_statement-returns-in-Local-clause-code : goal.lower_statement-returns-in-Local-clause-code
 lower_statement-returns-in-Local-clause-code t c =
-    let is = is_local c.args.statement.now c.in-Local.locals c.in-Local.is in
+    let is = is_local c.args.statement.now c.in-Local.locals c.get.result.now c.in-Local.is c.get.ensures in
     subst (λ (s : Stmt).
     OnOk c.lower_locals.result (code_of c.lower_locals.new.draft ≡ code_of c.args.draft.now
     ++ stmt c.args.context.now s)) (sym is)
@@ -69,15 +69,15 @@ lower_statement-returns-in-Expr-clause-code t c =
 
 pub lower_statement-returns-in-While-clause-context : goal.lower_statement-returns-in-While-clause-context
 lower_statement-returns-in-While-clause-context t c =
-    let is = is_while c.args.statement.now c.in-While.e c.in-While.s c.deref-in-While.result.now c.in-While.is
-    c.deref-in-While.ensures in
+    let is = is_while c.args.statement.now c.in-While.e c.in-While.s c.get-in-While.result.now
+    c.deref-in-While.result.now c.in-While.is c.get-in-While.ensures c.deref-in-While.ensures in
     subst (λ (s : Stmt). OnOk c.lower_while.result (c.lower_while.new.context ≡ after c.args.context.now s)) (sym is)
     c.lower_while.ensures.context
 
 pub lower_statement-returns-in-While-clause-code : goal.lower_statement-returns-in-While-clause-code
 lower_statement-returns-in-While-clause-code t c =
-    let is = is_while c.args.statement.now c.in-While.e c.in-While.s c.deref-in-While.result.now c.in-While.is
-    c.deref-in-While.ensures in
+    let is = is_while c.args.statement.now c.in-While.e c.in-While.s c.get-in-While.result.now
+    c.deref-in-While.result.now c.in-While.is c.get-in-While.ensures c.deref-in-While.ensures in
     subst (λ (s : Stmt).
     OnOk c.lower_while.result (code_of c.lower_while.new.draft ≡ code_of c.args.draft.now
     ++ stmt c.args.context.now s)) (sym is)
@@ -86,16 +86,16 @@ lower_statement-returns-in-While-clause-code t c =
 pub lower_statement-returns-in-For-clause-context : goal.lower_statement-returns-in-For-clause-context
 lower_statement-returns-in-For-clause-context t c =
     let is = is_for c.args.statement.now c.in-For.start c.in-For.e c.in-For.updates c.in-For.s
-    c.deref-in-For-2.result.now
-    c.deref-in-For.result.now c.in-For.is c.deref-in-For-2.ensures.value c.deref-in-For.ensures in
+    c.get-in-For.result.now c.deref-in-For-2.result.now c.deref-in-For.result.now c.in-For.is c.get-in-For.ensures
+    c.deref-in-For-2.ensures.value c.deref-in-For.ensures in
     subst (λ (s : Stmt). OnOk c.lower_for.result (c.lower_for.new.context ≡ after c.args.context.now s)) (sym is)
     c.lower_for.ensures.context
 
 pub lower_statement-returns-in-For-clause-code : goal.lower_statement-returns-in-For-clause-code
 lower_statement-returns-in-For-clause-code t c =
     let is = is_for c.args.statement.now c.in-For.start c.in-For.e c.in-For.updates c.in-For.s
-    c.deref-in-For-2.result.now
-    c.deref-in-For.result.now c.in-For.is c.deref-in-For-2.ensures.value c.deref-in-For.ensures in
+    c.get-in-For.result.now c.deref-in-For-2.result.now c.deref-in-For.result.now c.in-For.is c.get-in-For.ensures
+    c.deref-in-For-2.ensures.value c.deref-in-For.ensures in
     subst (λ (s : Stmt).
     OnOk c.lower_for.result (code_of c.lower_for.new.draft ≡ code_of c.args.draft.now
     ++ stmt c.args.context.now s)) (sym is)
@@ -104,7 +104,9 @@ lower_statement-returns-in-For-clause-code t c =
 pub lower_statement-returns-in-ForEach-clause-context : goal.lower_statement-returns-in-ForEach-clause-context
 lower_statement-returns-in-ForEach-clause-context t c =
     let is = is_each c.args.statement.now _ c.in-ForEach.t c.in-ForEach.x c.in-ForEach.e c.in-ForEach.s
-    c.deref-in-ForEach.result.now c.in-ForEach.is c.deref-in-ForEach.ensures in
+    c.get-in-ForEach.result.now c.get-in-ForEach-2.result.now c.get-in-ForEach-3.result.now
+    c.deref-in-ForEach.result.now c.in-ForEach.is c.get-in-ForEach.ensures c.get-in-ForEach-2.ensures
+    c.get-in-ForEach-3.ensures c.deref-in-ForEach.ensures in
     subst (λ (s : Stmt). OnOk c.lower_for_each.result (c.lower_for_each.new.context ≡ after c.args.context.now s))
     (sym is)
     c.lower_for_each.ensures.context
@@ -112,7 +114,9 @@ lower_statement-returns-in-ForEach-clause-context t c =
 pub lower_statement-returns-in-ForEach-clause-code : goal.lower_statement-returns-in-ForEach-clause-code
 lower_statement-returns-in-ForEach-clause-code t c =
     let is = is_each c.args.statement.now _ c.in-ForEach.t c.in-ForEach.x c.in-ForEach.e c.in-ForEach.s
-    c.deref-in-ForEach.result.now c.in-ForEach.is c.deref-in-ForEach.ensures in
+    c.get-in-ForEach.result.now c.get-in-ForEach-2.result.now c.get-in-ForEach-3.result.now
+    c.deref-in-ForEach.result.now c.in-ForEach.is c.get-in-ForEach.ensures c.get-in-ForEach-2.ensures
+    c.get-in-ForEach-3.ensures c.deref-in-ForEach.ensures in
     subst (λ (s : Stmt).
     OnOk c.lower_for_each.result (code_of c.lower_for_each.new.draft ≡ code_of c.args.draft.now ++ stmt
     c.args.context.now s)) (sym is)
@@ -120,17 +124,15 @@ lower_statement-returns-in-ForEach-clause-code t c =
 
 pub lower_statement-returns-in-Sync-clause-context : goal.lower_statement-returns-in-Sync-clause-context
 lower_statement-returns-in-Sync-clause-context t c =
-    let is = is_sync c.args.statement.now c.in-Sync.place c.in-Sync.e c.in-Sync.all c.deref-in-Sync.result.now
-    c.in-Sync.is
-    c.deref-in-Sync.ensures.value in
+    let is = is_sync c.args.statement.now c.in-Sync.place c.in-Sync.e c.in-Sync.all c.get-in-Sync.result.now
+    c.deref-in-Sync.result.now c.in-Sync.is c.get-in-Sync.ensures c.deref-in-Sync.ensures.value in
     subst (λ (s : Stmt). OnOk c.lower_sync.result (c.lower_sync.new.context ≡ after c.args.context.now s)) (sym is)
     c.lower_sync.ensures.context
 
 pub lower_statement-returns-in-Sync-clause-code : goal.lower_statement-returns-in-Sync-clause-code
 lower_statement-returns-in-Sync-clause-code t c =
-    let is = is_sync c.args.statement.now c.in-Sync.place c.in-Sync.e c.in-Sync.all c.deref-in-Sync.result.now
-    c.in-Sync.is
-    c.deref-in-Sync.ensures.value in
+    let is = is_sync c.args.statement.now c.in-Sync.place c.in-Sync.e c.in-Sync.all c.get-in-Sync.result.now
+    c.deref-in-Sync.result.now c.in-Sync.is c.get-in-Sync.ensures c.deref-in-Sync.ensures.value in
     subst (λ (s : Stmt).
     OnOk c.lower_sync.result (code_of c.lower_sync.new.draft ≡ code_of c.args.draft.now
     ++ stmt c.args.context.now s)) (sym is)
@@ -153,7 +155,7 @@ lower_statement-returns-in-Return-clause-code t c =
 pub lower_statement-returns-in-If-default-default-None-clause-context :
     goal.lower_statement-returns-in-If-default-default-None-clause-context
 lower_statement-returns-in-If-default-default-None-clause-context t c =
-    let is : stmt_of c.args.statement.now ≡ tree.If (expr_of c.in-If-default-default-None.e)
+    let is : stmt_of c.args.statement.now ≡ tree.If (expr_of c.get-in-If-default-default-None.result.now)
     (stmt_of c.deref-in-If-default-default-None.result.now) = search (rules, the_lemmas) in
     subst (λ (s : Stmt). OnOk c.lower_if.result (c.lower_if.new.context ≡ after c.args.context.now s)) (sym is)
     c.lower_if.ensures.context
@@ -161,7 +163,7 @@ lower_statement-returns-in-If-default-default-None-clause-context t c =
 pub lower_statement-returns-in-If-default-default-None-clause-code :
     goal.lower_statement-returns-in-If-default-default-None-clause-code
 lower_statement-returns-in-If-default-default-None-clause-code t c =
-    let is : stmt_of c.args.statement.now ≡ tree.If (expr_of c.in-If-default-default-None.e)
+    let is : stmt_of c.args.statement.now ≡ tree.If (expr_of c.get-in-If-default-default-None.result.now)
     (stmt_of c.deref-in-If-default-default-None.result.now) = search (rules, the_lemmas) in
     subst (λ (s : Stmt).
     OnOk c.lower_if.result (code_of c.lower_if.new.draft ≡ code_of c.args.draft.now
@@ -171,7 +173,7 @@ lower_statement-returns-in-If-default-default-None-clause-code t c =
 pub lower_statement-returns-in-If-default-default-Some-clause-context :
     goal.lower_statement-returns-in-If-default-default-Some-clause-context
 lower_statement-returns-in-If-default-default-Some-clause-context t c =
-    let is : stmt_of c.args.statement.now ≡ tree.IfElse (expr_of c.in-If-default-default-Some.e)
+    let is : stmt_of c.args.statement.now ≡ tree.IfElse (expr_of c.get-in-If-default-default-Some.result.now)
     (stmt_of c.deref-in-If-default-default-Some.result.now)
     (stmt_of c.deref-in-If-default-default-Some-2.result.now) = search (rules, the_lemmas) in
     subst (λ (s : Stmt). OnOk c.lower_if_else.result (c.lower_if_else.new.context ≡ after c.args.context.now s))
@@ -181,7 +183,7 @@ lower_statement-returns-in-If-default-default-Some-clause-context t c =
 pub lower_statement-returns-in-If-default-default-Some-clause-code :
     goal.lower_statement-returns-in-If-default-default-Some-clause-code
 lower_statement-returns-in-If-default-default-Some-clause-code t c =
-    let is : stmt_of c.args.statement.now ≡ tree.IfElse (expr_of c.in-If-default-default-Some.e)
+    let is : stmt_of c.args.statement.now ≡ tree.IfElse (expr_of c.get-in-If-default-default-Some.result.now)
     (stmt_of c.deref-in-If-default-default-Some.result.now)
     (stmt_of c.deref-in-If-default-default-Some-2.result.now) = search (rules, the_lemmas) in
     subst (λ (s : Stmt).

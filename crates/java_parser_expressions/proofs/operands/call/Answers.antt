@@ -19,13 +19,14 @@ places_of_call x all rest = search (rules, the_lemmas)
 
 pub returns-clause-gives : goal.returns-clause-gives
 returns-clause-gives c =
-    let name = c.in_ok-ident.field-0 in
-    rw (same_Some _ _ c.in_ok-ident.ensures.gives) (rw (tree_of_call name c.args.all.trees) at
+    let name = c.in_ok-name.name in
+    rw (same_Some _ _ c.in_ok-ident.ensures.gives, sym c.in_ok-name.ensures) (rw (tree_of_call name c.args.all.trees) at
     c.before-2.ensures.gives)
 
 pub returns-clause-places : goal.returns-clause-places
 returns-clause-places c =
-    let name = c.in_ok-ident.field-0 in
-    rw (sym c.in_ok-ident.ensures.places) (subst (λ (ps : Places). IfOk c.before-2.result (λ x. expr_places
-    x.0.tree.value (kept x.1.now) ≡ ps)) (places_of_call name c.args.all.trees (kept c.args.tokens.now))
+    let name = c.in_ok-name.name in
+    rw (sym c.in_ok-ident.ensures.places, sym c.in_ok-name.ensures)
+    (subst (λ (ps : Places). IfOk c.before-2.result (λ x. expr_places x.0.tree.value (kept x.1.now) ≡ ps))
+    (places_of_call name c.args.all.trees (kept c.args.tokens.now))
     c.before-2.ensures.places)

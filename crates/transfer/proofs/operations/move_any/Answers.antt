@@ -16,13 +16,14 @@ returns-in_ok-move_call-in-Call-clause-next c = λ locked site. ap
 
 pub returns-in_ok-push-in-Get-clause-next : goal.returns-in_ok-push-in-Get-clause-next
 returns-in_ok-push-in-Get-clause-next c = λ locked site.
-    let t0 = c.args.table.now in
-    let t1 = c.pop_field.new.table in
+    let older = c.args.table.now in
+    let newer = c.pop_field.new.table in
     let value = c.in_ok-value-in-Get in
-    ap (λ (op : CoreOp). (op_effects (given c.args.context.now) locked site op (read_state t0 c.args.state.now)).next)
+    ap (λ (op : CoreOp). (op_effects (given c.args.context.now) locked site op
+      (read_state older c.args.state.now)).next)
     c.in-Get.is
     ∙ ap Some (sym
-    (get-state c.args.context.now c.in-Get.f t0 t1 t1 value.ensures.table (goes_on-same t1) c.args.state.now
+    (get-state c.args.context.now c.in-Get.f older newer newer value.ensures.table (goes_on-same newer) c.args.state.now
     c.requires.numbers value.value value.ensures.range value.ensures.value c.touched_field-plain.result.plain
     c.touched_field-plain.ensures.plain c.push.new.self
     (c.in_ok-push-in-Get.ensures
@@ -30,9 +31,10 @@ returns-in_ok-push-in-Get-clause-next c = λ locked site.
 
 pub returns-in_ok-push-in-Get-clause-numbers : goal.returns-in_ok-push-in-Get-clause-numbers
 returns-in_ok-push-in-Get-clause-numbers c =
-    let t1 = c.pop_field.new.table in
+    let newer = c.pop_field.new.table in
     let value = c.in_ok-value-in-Get in
-    get-in c.args.context.now c.in-Get.f c.args.table.now t1 t1 value.ensures.table (goes_on-same t1) c.args.state.now
+    get-in c.args.context.now c.in-Get.f c.args.table.now newer newer value.ensures.table
+      (goes_on-same newer) c.args.state.now
     c.requires.numbers value.value value.ensures.range value.ensures.value c.touched_field-plain.result.plain
     c.touched_field-plain.ensures.plain c.push.new.self
     (c.in_ok-push-in-Get.ensures
@@ -42,7 +44,8 @@ pub returns-in-Set-clause-next : goal.returns-in-Set-clause-next
 returns-in-Set-clause-next c = λ locked site.
     let table = c.args.table.now in
     let here = c.args.state.now in
-    ap (λ (op : CoreOp). (op_effects (given c.args.context.now) locked site op (read_state table here)).next) c.in-Set.is
+    ap (λ (op : CoreOp). (op_effects (given c.args.context.now) locked site op (read_state table here)).next)
+      c.in-Set.is
     ∙ ap Some (sym
     (set-state table here c.top-value.result c.top-value.ensures c.in-Set.variable c.set.new.self c.set.ensures))
 

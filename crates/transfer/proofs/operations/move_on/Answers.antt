@@ -23,13 +23,14 @@ returns-in-Push-clause-numbers c =
 
 pub returns-in_ok-number-in-PushClass-clause-next : goal.returns-in_ok-number-in-PushClass-clause-next
 returns-in_ok-number-in-PushClass-clause-next c =
-    let t0 = c.args.table.now in
-    let t1 = c.number_of.new.self in
+    let older = c.args.table.now in
+    let newer = c.number_of.new.self in
     let here = c.args.state.now in
     let given = c.in_ok-number-in-PushClass in
-    subst (λ (s : State). OnOk c.push.result (read_state t1 c.push.new.self ≡ s))
-    (sym (ap (λ (op : CoreOp). moved op (read_state t0 here)) c.in-PushClass.is))
-    (root-pushed c.push.result t0 t1 c.number_of.ensures.goes_on here c.push.new.self c.requires.numbers given.number
+    subst (λ (s : State). OnOk c.push.result (read_state newer c.push.new.self ≡ s))
+    (sym (ap (λ (op : CoreOp). moved op (read_state older here)) c.in-PushClass.is))
+    (root-pushed c.push.result older newer c.number_of.ensures.goes_on here c.push.new.self c.requires.numbers
+      given.number
     c.push.ensures _ (given.ensures.number ∙ ap Some c.alone.ensures))
 
 pub returns-in_ok-number-in-PushClass-clause-numbers : goal.returns-in_ok-number-in-PushClass-clause-numbers

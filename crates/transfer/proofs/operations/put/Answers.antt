@@ -31,67 +31,68 @@ returns-in-Err-clause-flow c =
 
 pub returns-in-Err-note_store-clause-flow : goal.returns-in-Err-note_store-clause-flow
 returns-in-Err-note_store-clause-flow c =
-    let t0 = c.args.table.now in
-    let t1 = c.pop_field.new.table in
-    let t2 = c.note_access.new.table in
+    let older = c.args.table.now in
+    let newer = c.pop_field.new.table in
+    let newest = c.note_access.new.table in
     let here = c.args.state.now in
     let value = c.pop-value.result in
     let accessed = c.in-Ok-note_access.ensures in
-    names-stopped c.args.context.now c.args.locked c.args.site c.args.f t0 t1
+    names-stopped c.args.context.now c.args.locked c.args.site c.args.f older newer
     c.in-Ok.ensures.table here c.args.found.now c.requires.numbers c.in-Ok.field
     (c.in-Ok.ensures.value
-    ∙ ap (λ (s : NumberedState). field_value (top (read_state t0 s)) c.args.f) c.pop-value.ensures.rest)
-    t2 accessed.table value c.pop-value.ensures.value c.in-Ok.ensures.range c.note_access.new.found accessed.found
+    ∙ ap (λ (s : NumberedState). field_value (top (read_state older s)) c.args.f) c.pop-value.ensures.rest)
+    newest accessed.table value c.pop-value.ensures.value c.in-Ok.ensures.range c.note_access.new.found accessed.found
     c.in-Err-note_store.stop
-    (c.in-Err-note_store.ensures.found t2 accessed.once accessed.numbers
-    (range-longer t1 t2 accessed.table c.in-Ok.field c.in-Ok.ensures.range)
-    (range-longer t0 t2 (goes_on-trans t0 t1 t2 c.in-Ok.ensures.table accessed.table) value
-    (top-range t0 here value c.pop-value.ensures.value c.requires.numbers.state)))
+    (c.in-Err-note_store.ensures.found newest accessed.once accessed.numbers
+    (range-longer newer newest accessed.table c.in-Ok.field c.in-Ok.ensures.range)
+    (range-longer older newest (goes_on-trans older newer newest c.in-Ok.ensures.table accessed.table) value
+    (top-range older here value c.pop-value.ensures.value c.requires.numbers.state)))
 
 pub returns-clause-flow : goal.returns-clause-flow
 returns-clause-flow c =
-    let t0 = c.args.table.now in
-    let t1 = c.pop_field.new.table in
-    let t2 = c.note_access.new.table in
+    let older = c.args.table.now in
+    let newer = c.pop_field.new.table in
+    let newest = c.note_access.new.table in
     let here = c.args.state.now in
     let value = c.pop-value.result in
     let accessed = c.in-Ok-note_access.ensures in
-    store-flows c.args.context.now c.args.locked c.args.site c.args.f t0 t1
+    store-flows c.args.context.now c.args.locked c.args.site c.args.f older newer
     c.in-Ok.ensures.table here c.args.found.now c.requires.numbers c.in-Ok.field
     (c.in-Ok.ensures.value
-    ∙ ap (λ (s : NumberedState). field_value (top (read_state t0 s)) c.args.f) c.pop-value.ensures.rest)
-    t2 accessed.table value c.pop-value.ensures.value c.in-Ok.ensures.range c.note_access.new.found accessed.found
+    ∙ ap (λ (s : NumberedState). field_value (top (read_state older s)) c.args.f) c.pop-value.ensures.rest)
+    newest accessed.table value c.pop-value.ensures.value c.in-Ok.ensures.range c.note_access.new.found accessed.found
     c.push.new.self
     (c.in-Ok-push.ensures
     ∙ ap (λ (s : NumberedState). pushed_number s value)
     (c.pop_field.ensures.rest ∙ ap (λ (s : NumberedState). popped_numbers s 1) c.pop-value.ensures.rest))
-    (read_found t2 c.note_store.new.found)
-    (c.in-Ok-note_store.ensures.found t2 accessed.once accessed.numbers
-    (range-longer t1 t2 accessed.table c.in-Ok.field c.in-Ok.ensures.range)
-    (range-longer t0 t2 (goes_on-trans t0 t1 t2 c.in-Ok.ensures.table accessed.table) value
-    (top-range t0 here value c.pop-value.ensures.value c.requires.numbers.state)))
+    (read_found newest c.note_store.new.found)
+    (c.in-Ok-note_store.ensures.found newest accessed.once accessed.numbers
+    (range-longer newer newest accessed.table c.in-Ok.field c.in-Ok.ensures.range)
+    (range-longer older newest (goes_on-trans older newer newest c.in-Ok.ensures.table accessed.table) value
+    (top-range older here value c.pop-value.ensures.value c.requires.numbers.state)))
 
 pub returns-clause-numbers : goal.returns-clause-numbers
 returns-clause-numbers c =
-    let t0 = c.args.table.now in
-    let t1 = c.pop_field.new.table in
-    let t2 = c.note_access.new.table in
+    let older = c.args.table.now in
+    let newer = c.pop_field.new.table in
+    let newest = c.note_access.new.table in
     let here = c.args.state.now in
     let value = c.pop-value.result in
     let accessed = c.in-Ok-note_access.ensures in
     record {
       once = accessed.once;
       state =
-          put-in t0 t1 t2 c.in-Ok.ensures.table accessed.table here c.requires.numbers.state value c.pop-value.ensures.value
+          put-in older newer newest c.in-Ok.ensures.table accessed.table here c.requires.numbers.state value
+            c.pop-value.ensures.value
           c.push.new.self
           (c.in-Ok-push.ensures
           ∙ ap (λ (s : NumberedState). pushed_number s value)
           (c.pop_field.ensures.rest ∙ ap (λ (s : NumberedState). popped_numbers s 1) c.pop-value.ensures.rest));
       noted =
-          c.in-Ok-note_store.ensures.numbers t2 accessed.once accessed.numbers
-          (range-longer t1 t2 accessed.table c.in-Ok.field c.in-Ok.ensures.range)
-          (range-longer t0 t2 (goes_on-trans t0 t1 t2 c.in-Ok.ensures.table accessed.table) value
-          (top-range t0 here value c.pop-value.ensures.value c.requires.numbers.state));
+          c.in-Ok-note_store.ensures.numbers newest accessed.once accessed.numbers
+          (range-longer newer newest accessed.table c.in-Ok.field c.in-Ok.ensures.range)
+          (range-longer older newest (goes_on-trans older newer newest c.in-Ok.ensures.table accessed.table) value
+          (top-range older here value c.pop-value.ensures.value c.requires.numbers.state));
     }
 
 pub returns-clause-table : goal.returns-clause-table

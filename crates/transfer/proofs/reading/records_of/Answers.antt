@@ -1,5 +1,3 @@
-use Rattle.std.proofs.Common.{[]}
-use Rattle.access_domain.specs.Additions.{keys_added}
 use Rattle.access_domain.specs.Numbered.{read_accesses}
 use Rattle.transfer.proofs.ReadPaths.{record-in, records-in, records-turn, records-done}
 use Rattle.transfer.proofs.reading.records_of.Goals as goal
@@ -11,9 +9,9 @@ loop-record-preserved c =
     let at = c.loop-record in
     record {
       made =
-          records-turn table records at.record-index _ c.loop-record-test.true at.made c.add.new.self
-          (keys_added [] (read_accesses table records)) c.in_ok-record_of.field-0 c.add.result c.add.ensures.cases
-          c.in-Added.is c.in_ok-record_of.ensures at.invariant.made;
+          records-turn table records at.record-index _ c.loop-record-test.true at.made.items c.push.new.self.items
+          (read_accesses table records) c.in_ok-record_of.field-0 c.in_ok-push.ensures.items
+          c.in_ok-record_of.ensures at.invariant.made;
       numbers = records-in table records at.record-index at.invariant.numbers;
     }
 
@@ -27,5 +25,5 @@ returns c =
     let table = c.args.table.now in
     let records = c.args.records.now in
     let at = c.loop-record in
-    records-done table records at.record-index at.made (keys_added [] (read_accesses table records))
+    records-done table records at.record-index at.made.items (read_accesses table records)
     c.loop-record-test.false at.invariant.made

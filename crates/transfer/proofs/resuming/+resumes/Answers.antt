@@ -34,19 +34,20 @@ use Rattle.transfer.proofs.resuming.+resumes.Goals as goal
 
 pub resume_round-returns-then-not-passed : goal.resume_round-returns-then-not-passed
 resume_round-returns-then-not-passed t c =
-    let t0 = c.args.table.now in
+    let older = c.args.table.now in
     let new = c.resume.new in
     let m = c.in-Ok-resume.ensures in
     let ends = is_no c.in-Ok-resume.passed.goes_on c.if-not-passed.true in
     record {
       resumed =
-          round-kept (given c.args.context.now) (tree_of c.args.body.now) c.args.locked c.args.first t0 new.table m.table
+          round-kept (given c.args.context.now)
+            (tree_of c.args.body.now) c.args.locked c.args.first older new.table m.table
           c.args.state.now c.in-Ok.end new.state c.args.heads.now.items new.heads.items c.in-Ok-resume.passed
           c.in-Ok.ensures c.requires.numbers.state m.resumed ends;
       numbers =
           record {
             once = m.numbers.once;
-            state = state-still t0 new.table m.table c.args.state.now c.requires.numbers.state;
+            state = state-still older new.table m.table c.args.state.now c.requires.numbers.state;
             left = m.numbers.left;
           };
       table = m.table;
@@ -71,7 +72,7 @@ resume_rounds-loop-round-init t c =
 pub resume_rounds-returns-then-not-changed : goal.resume_rounds-returns-then-not-changed
 resume_rounds-returns-then-not-changed t c =
     let go = resumed (given c.args.context.now) (tree_of c.args.body.now) c.args.locked c.args.first in
-    let t0 = c.args.table.now in
+    let older = c.args.table.now in
     let at = c.loop-round in
     let new = c.resume_round.new in
     let left : c.args.rounds - at.round ≡ suc (c.args.rounds - (at.round + 1)) =
@@ -89,17 +90,17 @@ resume_rounds-returns-then-not-changed t c =
         ends.0 ∙ (λ i. (at.invariant.same i).0),
         (
           ends.1 ∙ (λ i. (at.invariant.same i).1),
-          m.3.1 ∙ long-read t0 at.table c.args.heads.now.items at.heads.items at.invariant.long,
+          m.3.1 ∙ long-read older at.table c.args.heads.now.items at.heads.items at.invariant.long,
         ),
       );
       numbers = k.numbers;
-      table = goes_on-trans t0 at.table new.table at.invariant.on k.table;
+      table = goes_on-trans older at.table new.table at.invariant.on k.table;
     }
 
 pub resume_rounds-loop-round-preserved : goal.resume_rounds-loop-round-preserved
 resume_rounds-loop-round-preserved t c =
     let go = resumed (given c.args.context.now) (tree_of c.args.body.now) c.args.locked c.args.first in
-    let t0 = c.args.table.now in
+    let older = c.args.table.now in
     let at = c.loop-round in
     let new = c.resume_round.new in
     let left : c.args.rounds - at.round ≡ suc (c.args.rounds - (at.round + 1)) =
@@ -116,7 +117,7 @@ resume_rounds-loop-round-preserved t c =
           ∙ at.invariant.same;
       long = long-back at.table new.table at.heads.items new.heads.items m.3.1 ∙ at.invariant.long;
       numbers = k.numbers;
-      on = goes_on-trans t0 at.table new.table at.invariant.on k.table;
+      on = goes_on-trans older at.table new.table at.invariant.on k.table;
     }
 
 pub resume_rounds-returns : goal.resume_rounds-returns
@@ -167,7 +168,7 @@ pub resume_loop-returns-then-not-changed : goal.resume_loop-returns-then-not-cha
 resume_loop-returns-then-not-changed t c =
     let g = given c.args.context.now in
     let body = tree_of c.args.body.now in
-    let t0 = c.args.table.now in
+    let older = c.args.table.now in
     let old = c.args.heads.now.items in
     let start = c.args.state.now in
     let first = c.args.first in
@@ -180,12 +181,12 @@ resume_loop-returns-then-not-changed t c =
     let k = c.in-Ok-resume_round.ensures in
     record {
       resumed =
-          loop_kept g body c.args.locked first c.in-Ok-resume_round.next c.rounds-rounds.result (read_state t0 start)
-          (read_state t0 c.go_on.new.state) (read_state new.table new.state) (read_heads t0 old)
+          loop_kept g body c.args.locked first c.in-Ok-resume_round.next c.rounds-rounds.result (read_state older start)
+          (read_state older c.go_on.new.state) (read_state new.table new.state) (read_heads older old)
           (read_heads new.table new.heads.items) c.in-Ok-resume_round.changed
-          (rounds-read t0 start c.rounds-rounds.result c.rounds-rounds.ensures)
-          (loop-begun t0 old first ready.left left start c.go_on.new.state low is
-          (c.in-Ok.ensures.next t0 ready.once ready.state (left-in t0 old first ready.left left low is)))
+          (rounds-read older start c.rounds-rounds.result c.rounds-rounds.ensures)
+          (loop-begun older old first ready.left left start c.go_on.new.state low is
+          (c.in-Ok.ensures.next older ready.once ready.state (left-in older old first ready.left left low is)))
           k.resumed c.if-not-changed.true;
       numbers = k.numbers;
       table = k.table;
@@ -195,7 +196,7 @@ pub resume_loop-returns : goal.resume_loop-returns
 resume_loop-returns t c =
     let g = given c.args.context.now in
     let body = tree_of c.args.body.now in
-    let t0 = c.args.table.now in
+    let older = c.args.table.now in
     let old = c.args.heads.now.items in
     let start = c.args.state.now in
     let first = c.args.first in
@@ -209,36 +210,37 @@ resume_loop-returns t c =
     let end = c.in-Ok-copied.left in
     let k = c.in-Ok-resume_round.ensures in
     let m = c.in-Ok-resume_rounds.ensures in
-    let within : first < length (read_heads t0 old) = omega (arith, heads-long t0 old) in
+    let within : first < length (read_heads older old) = omega (arith, heads-long older old) in
     record {
       resumed =
-          loop_left g body c.args.locked first c.in-Ok-resume_round.next c.rounds-rounds.result (read_state t0 start)
-          (read_state t0 c.go_on.new.state) (read_state mid.table mid.state) (read_state now.table now.state)
-          (read_heads t0 old) (read_heads mid.table mid.heads.items) (read_heads now.table now.heads.items)
+          loop_left g body c.args.locked first c.in-Ok-resume_round.next c.rounds-rounds.result (read_state older start)
+          (read_state older c.go_on.new.state) (read_state mid.table mid.state) (read_state now.table now.state)
+          (read_heads older old) (read_heads mid.table mid.heads.items) (read_heads now.table now.heads.items)
           (read_heads now.table (slice_set now.heads.items first (Some end))) c.in-Ok-resume_round.changed
-          (rounds-read t0 start c.rounds-rounds.result c.rounds-rounds.ensures) within
-          (loop-begun t0 old first ready.left left start c.go_on.new.state low is
-          (c.in-Ok.ensures.next t0 ready.once ready.state (left-in t0 old first ready.left left low is)))
+          (rounds-read older start c.rounds-rounds.result c.rounds-rounds.ensures) within
+          (loop-begun older old first ready.left left start c.go_on.new.state low is
+          (c.in-Ok.ensures.next older ready.once ready.state (left-in older old first ready.left left low is)))
           k.resumed c.if-not-changed.false m.resumed
           (loop-put now.table now.heads.items first m.numbers.left now.state end c.in-Ok-copied.ensures);
       numbers =
           loop-in now.table now.heads.items first m.numbers.left now.state end m.numbers.once m.numbers.state
           c.in-Ok-copied.ensures;
-      table = goes_on-trans t0 mid.table now.table k.table m.table;
+      table = goes_on-trans older mid.table now.table k.table m.table;
     }
 
 pub resume_round-returns : goal.resume_round-returns
 resume_round-returns t c =
-    let t0 = c.args.table.now in
+    let older = c.args.table.now in
     let new = c.resume.new in
     let m = c.in-Ok-resume.ensures in
     let goes = is_yes c.in-Ok-resume.passed.goes_on c.if-not-passed.false in
     let met = c.meet-changed in
     let start = c.args.state.now in
-    let still = state-still t0 new.table m.table start c.requires.numbers.state in
+    let still = state-still older new.table m.table start c.requires.numbers.state in
     record {
       resumed =
-          round-met (given c.args.context.now) (tree_of c.args.body.now) c.args.locked c.args.first t0 new.table m.table
+          round-met (given c.args.context.now) (tree_of c.args.body.now) c.args.locked c.args.first older new.table
+            m.table
           start c.in-Ok.end new.state c.args.heads.now.items new.heads.items c.in-Ok-resume.passed
           c.in-Ok.ensures c.requires.numbers.state m.resumed m.numbers.once m.numbers.state met.new.self met.result goes
           met.ensures.state met.ensures.changed;
@@ -278,10 +280,10 @@ resume_through-loop-index-preserved t c =
     let part : Code = c.index-parts-index.result in
     let rest = in_sequence (map tree_of (drop (i + 1) parts)) in
     let all = in_sequence (map tree_of parts) in
-    let t0 = c.args.table.now in
+    let older = c.args.table.now in
     let new = c.resume.new in
-    let begin = read_heads t0 c.args.heads.now.items in
-    let start = read_state t0 c.args.state.now in
+    let begin = read_heads older c.args.heads.now.items in
+    let start = read_state older c.args.state.now in
     let k = c.in-Ok.ensures in
     let p = c.in-Ok.passed in
     let hs = read_heads at.table at.heads.items in
@@ -299,7 +301,7 @@ resume_through-loop-index-preserved t c =
       long =
           long-back at.table new.table at.heads.items new.heads.items k.resumed.2.1 ∙ at.invariant.long;
       numbers = k.numbers;
-      on = goes_on-trans t0 at.table new.table at.invariant.on k.table;
+      on = goes_on-trans older at.table new.table at.invariant.on k.table;
     }
 
 pub resume_through-returns-then-not-passed : goal.resume_through-returns-then-not-passed
@@ -312,7 +314,7 @@ resume_through-returns-then-not-passed t c =
     let rest = in_sequence (map tree_of (drop (i + 1) parts)) in
     let all = in_sequence (map tree_of parts) in
     let whole = in_sequence (map tree_of (drop i parts)) in
-    let t0 = c.args.table.now in
+    let older = c.args.table.now in
     let new = c.resume.new in
     let k = c.in-Ok.ensures in
     let p = c.in-Ok.passed in
@@ -320,16 +322,17 @@ resume_through-returns-then-not-passed t c =
     record {
       resumed =
           through-passed g all c.args.locked at.number c.args.first (read_state at.table at.state)
-          (read_state t0 c.args.state.now) (read_heads at.table at.heads.items) (read_heads t0 c.args.heads.now.items)
+          (read_state older c.args.state.now) (read_heads at.table at.heads.items)
+            (read_heads older c.args.heads.now.items)
           (tree_of part) rest whole (read_state new.table new.state) (read_heads new.table new.heads.items) p
           c.pass_over.result same k.resumed (is_no p.goes_on c.if-not-passed.true) at.invariant.number
-          (long-read t0 at.table c.args.heads.now.items at.heads.items at.invariant.long) at.invariant.same
+          (long-read older at.table c.args.heads.now.items at.heads.items at.invariant.long) at.invariant.same
           (passed-behind _ (drop (i + 1) parts) p.next c.pass_over.result c.pass_over.ensures
           (take_all (length parts - (i + 1)) (drop (i + 1) parts) (omega (arith, length-drop (i + 1) parts))));
       numbers = always c.pass_over.result (IsResumedIn new.table new.state new.heads.items) k.numbers;
       table =
-          always c.pass_over.result (GoesOn t0 new.table)
-          (goes_on-trans t0 at.table new.table at.invariant.on k.table);
+          always c.pass_over.result (GoesOn older new.table)
+          (goes_on-trans older at.table new.table at.invariant.on k.table);
     }
 
 pub resume_through-returns : goal.resume_through-returns
@@ -337,15 +340,17 @@ resume_through-returns t c =
     let at = c.loop-index in
     let parts = c.args.parts.now in
     let all = in_sequence (map tree_of parts) in
-    let t0 = c.args.table.now in
+    let older = c.args.table.now in
     let rest = in_sequence (map tree_of (drop at.index parts)) in
     record {
       resumed =
-          through-done (given c.args.context.now) all c.args.locked at.number c.args.first (read_state at.table at.state)
-          (read_state t0 c.args.state.now) (read_heads at.table at.heads.items) (read_heads t0 c.args.heads.now.items)
+          through-done (given c.args.context.now) all c.args.locked at.number c.args.first
+            (read_state at.table at.state)
+          (read_state older c.args.state.now) (read_heads at.table at.heads.items)
+            (read_heads older c.args.heads.now.items)
           rest (at_drop_all (λ ps. in_sequence (map tree_of ps)) parts at.index (omega arith)) at.invariant.same
           at.invariant.number
-          (long-read t0 at.table c.args.heads.now.items at.heads.items at.invariant.long);
+          (long-read older at.table c.args.heads.now.items at.heads.items at.invariant.long);
       numbers = at.invariant.numbers;
       table = at.invariant.on;
     }
@@ -354,7 +359,7 @@ resume_through-returns t c =
 
 pub resume-returns-in-Ok : goal.resume-returns-in-Ok
 resume-returns-in-Ok t c =
-    let t0 = c.args.table.now in
+    let older = c.args.table.now in
     let new = c.move_any.new in
     let hs = c.args.heads.now.items in
     let k = c.in-Ok.ensures in
@@ -363,11 +368,13 @@ resume-returns-in-Ok t c =
     record {
       resumed =
           subst (λ (code : Tree). IsResumed (given c.args.context.now) code c.args.locked c.args.first
-          (read_state t0 c.args.state.now) (read_state new.table new.state) (read_heads t0 hs) (read_heads new.table hs)
+          (read_state older c.args.state.now) (read_state new.table new.state) (read_heads older hs)
+            (read_heads new.table hs)
           (Ok (record { next = c.args.first; goes_on = c.in-Ok.goes_on }))) (sym is)
-          (op-resumed (given c.args.context.now) c.in-Op.field-0 c.in-Op.field-1 c.in-Op.op c.args.locked c.args.first t0
+          (op-resumed (given c.args.context.now) c.in-Op.field-0 c.in-Op.field-1 c.in-Op.op c.args.locked
+            c.args.first older
           new.table c.args.state.now new.state hs c.in-Ok.goes_on k.table ready.left k.next);
-      numbers = record { once = k.once; state = k.numbers; left = heads-still t0 new.table k.table hs ready.left };
+      numbers = record { once = k.once; state = k.numbers; left = heads-still older new.table k.table hs ready.left };
       table = k.table;
     }
 
@@ -376,7 +383,7 @@ resume-resume-requires t c =
     let code = tree_of c.args.code.now in
     let left = tree_of c.deref.result.now in
     let right = tree_of c.in-Choice.right.value in
-    let t0 = c.args.table.now in
+    let older = c.args.table.now in
     let hs = c.args.heads.now.items in
     let ready = c.requires.numbers in
     let sides : code ≡ Choice left right = search (rules, the_lemmas) in
@@ -389,7 +396,7 @@ resume-resume-requires t c =
         record {
           once = ready.once;
           state = lifted-in code (reverse c.in-Ok-lifted.under.items) c.args.state.now c.lifted.new.state
-              c.in-Ok-lifted.ensures t0 ready.state;
+              c.in-Ok-lifted.ensures older ready.state;
           left = ready.left;
         },
       ),
@@ -400,10 +407,10 @@ resume-resume-requires-in-Choice t c =
     let code = tree_of c.args.code.now in
     let left = tree_of c.deref.result.now in
     let right = tree_of c.deref-in-Choice.result.now in
-    let t0 = c.args.table.now in
+    let older = c.args.table.now in
     let low = c.lifted.new.state in
     let in_low =
-    lifted-in code (reverse c.in-Ok-lifted.under.items) c.args.state.now low c.in-Ok-lifted.ensures t0
+    lifted-in code (reverse c.in-Ok-lifted.under.items) c.args.state.now low c.in-Ok-lifted.ensures older
     c.requires.numbers.state in
     let hs = c.args.heads.now.items in
     let one = c.resume.new in
@@ -415,10 +422,10 @@ resume-resume-requires-in-Choice t c =
       search (rules, sizes, the_size, the_lemmas, c.in-Choice.is, c.deref-in-Choice.ensures, c.decreases),
       (
         room-right c.args.first (loops left) (loops right) (length hs) p.next (length one.heads.items) room l.resumed.1
-            (long-back t0 one.table hs one.heads.items l.resumed.2.1),
+            (long-back older one.table hs one.heads.items l.resumed.2.1),
         record {
           once = l.numbers.once;
-          state = copied-in t0 one.table l.table low c.in-Ok-copied.other c.in-Ok-copied.ensures in_low;
+          state = copied-in older one.table l.table low c.in-Ok-copied.other c.in-Ok-copied.ensures in_low;
           left = l.numbers.left;
         },
       ),
@@ -430,12 +437,12 @@ resume-returns-in-Ok-lower t c =
     let code = tree_of c.args.code.now in
     let left = tree_of c.deref.result.now in
     let right = tree_of c.deref-in-Choice.result.now in
-    let t0 = c.args.table.now in
+    let older = c.args.table.now in
     let start = c.args.state.now in
     let low = c.lifted.new.state in
     let under = reverse c.in-Ok-lifted.under.items in
     let ready = c.requires.numbers.state in
-    let in_low = lifted-in code under start low c.in-Ok-lifted.ensures t0 ready in
+    let in_low = lifted-in code under start low c.in-Ok-lifted.ensures older ready in
     let hs = c.args.heads.now.items in
     let one = c.resume.new in
     let two = c.resume-in-Choice.new in
@@ -447,16 +454,16 @@ resume-returns-in-Ok-lower t c =
     let q = c.in-Ok-resume-2.two in
     let made : Passed = record { next = q.next; goes_on = end.result } in
     let still = state-still one.table two.table r.table one.state l.numbers.state in
-    let on = goes_on-trans t0 one.table two.table l.table r.table in
+    let on = goes_on-trans older one.table two.table l.table r.table in
     let sides : code ≡ Choice left right = search (rules, the_lemmas) in
     record {
       resumed =
-          lowered-resumed code under start low c.in-Ok-lifted.ensures t0 ready two.table on end.new.state last g
-          c.args.locked c.args.first (read_heads t0 hs) (read_heads two.table two.heads.items) made
-          (subst (λ (part : Tree). IsResumed g part c.args.locked c.args.first (read_state t0 low)
-          (read_state two.table end.new.state) (read_heads t0 hs) (read_heads two.table two.heads.items) (Ok made))
+          lowered-resumed code under start low c.in-Ok-lifted.ensures older ready two.table on end.new.state last g
+          c.args.locked c.args.first (read_heads older hs) (read_heads two.table two.heads.items) made
+          (subst (λ (part : Tree). IsResumed g part c.args.locked c.args.first (read_state older low)
+          (read_state two.table end.new.state) (read_heads older hs) (read_heads two.table two.heads.items) (Ok made))
           (sym sides)
-          (choice-resumed g left right c.args.locked c.args.first t0 one.table two.table l.table r.table low
+          (choice-resumed g left right c.args.locked c.args.first older one.table two.table l.table r.table low
           c.in-Ok-copied.other one.state two.state end.new.state hs one.heads.items two.heads.items p q end.result
           c.in-Ok-copied.ensures in_low l.numbers.state l.resumed r.resumed
           (end.ensures.next two.table r.numbers.once still r.numbers.state)))
@@ -465,7 +472,7 @@ resume-returns-in-Ok-lower t c =
           record {
             once = r.numbers.once;
             state =
-                lowered-in code under start low c.in-Ok-lifted.ensures t0 ready two.table on end.new.state last
+                lowered-in code under start low c.in-Ok-lifted.ensures older ready two.table on end.new.state last
                 (end.ensures.numbers two.table r.numbers.once still r.numbers.state) c.in-Ok-lower.ensures;
             left = r.numbers.left;
           };
@@ -498,14 +505,15 @@ resume-returns-in-Sync t c =
 
 pub resume-returns-in-Seq : goal.resume-returns-in-Seq
 resume-returns-in-Seq t c =
-    let t0 = c.args.table.now in
+    let older = c.args.table.now in
     let new = c.resume_through.new in
     let m = c.resume_through.ensures in
-    let is : tree_of c.args.code.now ≡ in_sequence (map tree_of c.as_slice-parts.result.now) = search (rules, the_lemmas) in
+    let is : tree_of c.args.code.now ≡ in_sequence (map tree_of c.as_slice-parts.result.now) =
+      search (rules, the_lemmas) in
     record {
       resumed =
           subst (λ (code : Tree). IsResumed (given c.args.context.now) code c.args.locked c.args.first
-          (read_state t0 c.args.state.now) (read_state new.table new.state) (read_heads t0 c.args.heads.now.items)
+          (read_state older c.args.state.now) (read_state new.table new.state) (read_heads older c.args.heads.now.items)
           (read_heads new.table new.heads.items) c.resume_through.result) (sym is) m.resumed;
       numbers = m.numbers;
       table = m.table;
@@ -513,14 +521,14 @@ resume-returns-in-Seq t c =
 
 pub resume-returns-in-Loop : goal.resume-returns-in-Loop
 resume-returns-in-Loop t c =
-    let t0 = c.args.table.now in
+    let older = c.args.table.now in
     let new = c.resume_loop.new in
     let m = c.resume_loop.ensures in
     let is : tree_of c.args.code.now ≡ Loop (tree_of c.deref-in-Loop.result.now) = search (rules, the_lemmas) in
     record {
       resumed =
           subst (λ (code : Tree). IsResumed (given c.args.context.now) code c.args.locked c.args.first
-          (read_state t0 c.args.state.now) (read_state new.table new.state) (read_heads t0 c.args.heads.now.items)
+          (read_state older c.args.state.now) (read_state new.table new.state) (read_heads older c.args.heads.now.items)
           (read_heads new.table new.heads.items) c.resume_loop.result) (sym is) m.resumed;
       numbers = m.numbers;
       table = m.table;

@@ -34,17 +34,19 @@ walk_code-returns-in-Err t c =
     let g = given c.args.context.now in
     let left = tree_of c.deref.result.now in
     let right = tree_of c.in-Choice.right.value in
-    let t0 = c.args.table.now in
+    let older = c.args.table.now in
     let low = c.lifted.new.state in
-    let found = read_found t0 c.args.found.now in
+    let found = read_found older c.args.found.now in
     let sides : tree_of c.args.code.now ≡ Choice left right = search (rules, the_lemmas) in
     record {
       flow =
-          lifted-stopped (tree_of c.args.code.now) (reverse c.in-Ok.under.items) c.args.state.now low c.in-Ok.ensures t0
+          lifted-stopped (tree_of c.args.code.now)
+            (reverse c.in-Ok.under.items) c.args.state.now low c.in-Ok.ensures older
           c.requires.numbers.state g c.args.locked found c.in-Err.stop
-          (subst (λ (code : Tree). IsStopped found (flow g code c.args.locked (read_state t0 low)) c.in-Err.stop)
+          (subst (λ (code : Tree). IsStopped found (flow g code c.args.locked (read_state older low)) c.in-Err.stop)
           (sym sides)
-          (stopped-left (flow g left c.args.locked (read_state t0 low)) (flow g right c.args.locked (read_state t0 low))
+          (stopped-left (flow g left c.args.locked (read_state older low))
+            (flow g right c.args.locked (read_state older low))
           found c.in-Err.stop c.in-Err.ensures.flow));
       numbers = tt;
       called = tt;
@@ -58,22 +60,22 @@ walk_code-returns-in-Err-walk_code t c =
     let code = tree_of c.args.code.now in
     let left = tree_of c.deref.result.now in
     let right = tree_of c.deref-in-Choice.result.now in
-    let t0 = c.args.table.now in
+    let older = c.args.table.now in
     let start = c.args.state.now in
     let low = c.lifted.new.state in
     let under = reverse c.in-Ok.under.items in
     let ready = c.requires.numbers.state in
-    let found = read_found t0 c.args.found.now in
+    let found = read_found older c.args.found.now in
     let one = c.walk_code.new in
     let stop = c.in-Err-walk_code.stop in
     let sides : code ≡ Choice left right = search (rules, the_lemmas) in
     record {
       flow =
-          lifted-stopped code under start low c.in-Ok.ensures t0 ready g c.args.locked found stop
-          (subst (λ (part : Tree). IsStopped found (flow g part c.args.locked (read_state t0 low)) stop) (sym sides)
-          (right-stopped g left right c.args.locked t0 one.table c.in-Ok-walk_code.ensures.table low
+          lifted-stopped code under start low c.in-Ok.ensures older ready g c.args.locked found stop
+          (subst (λ (part : Tree). IsStopped found (flow g part c.args.locked (read_state older low)) stop) (sym sides)
+          (right-stopped g left right c.args.locked older one.table c.in-Ok-walk_code.ensures.table low
           c.in-Ok-copied.other c.args.found.now one.found c.in-Ok-copied.ensures
-          (lifted-in code under start low c.in-Ok.ensures t0 ready) stop c.in-Ok-walk_code.ensures.flow.1
+          (lifted-in code under start low c.in-Ok.ensures older ready) stop c.in-Ok-walk_code.ensures.flow.1
           c.in-Err-walk_code.ensures.flow));
       numbers = tt;
       called = tt;
@@ -88,7 +90,7 @@ walk_code-returns-in-Ok-walk_code-2 t c =
     let left = tree_of c.deref.result.now in
     let right = tree_of c.deref-in-Choice.result.now in
     let locked = c.args.locked in
-    let t0 = c.args.table.now in
+    let older = c.args.table.now in
     let start = c.args.state.now in
     let low = c.lifted.new.state in
     let under = reverse c.in-Ok.under.items in
@@ -99,38 +101,38 @@ walk_code-returns-in-Ok-walk_code-2 t c =
     let l = c.in-Ok-walk_code.ensures in
     let r = c.in-Ok-walk_code-2.ensures in
     let ready = c.requires.numbers.state in
-    let in_low = lifted-in code under start low c.in-Ok.ensures t0 ready in
+    let in_low = lifted-in code under start low c.in-Ok.ensures older ready in
     let other = c.in-Ok-copied.other in
     let same = c.in-Ok-copied.ensures in
-    let on : GoesOn t0 two.table = goes_on-trans t0 one.table two.table l.table r.table in
+    let on : GoesOn older two.table = goes_on-trans older one.table two.table l.table r.table in
     let last = c.lowered.new.state in
     let sides : code ≡ Choice left right = search (rules, the_lemmas) in
     record {
       flow =
-          lowered-flow code under start low c.in-Ok.ensures t0 ready two.table on end.new.state last end.result
-          c.lowered.result c.lowered.ensures g locked (read_found t0 f0) (read_found two.table end.new.found)
-          (subst (λ (part : Tree). IsFlow (flow g part locked (read_state t0 low))
-          (read_state two.table end.new.state) (read_found t0 f0) (read_found two.table end.new.found) end.result)
+          lowered-flow code under start low c.in-Ok.ensures older ready two.table on end.new.state last end.result
+          c.lowered.result c.lowered.ensures g locked (read_found older f0) (read_found two.table end.new.found)
+          (subst (λ (part : Tree). IsFlow (flow g part locked (read_state older low))
+          (read_state two.table end.new.state) (read_found older f0) (read_found two.table end.new.found) end.result)
           (sym sides)
-          (ways-met g left right locked t0 one.table l.table low other f0 one.found same in_low two.table r.table
+          (ways-met g left right locked older one.table l.table low other f0 one.found same in_low two.table r.table
           one.state two.state end.new.state two.found end.new.found c.in-Ok-walk_code.goes_on
           c.in-Ok-walk_code-2.goes_on end.result l.numbers r.numbers l.flow r.flow end.ensures.state
           end.ensures.found));
       numbers =
-          lowered-numbers code under start low c.in-Ok.ensures t0 ready two.table on end.new.state last end.result
+          lowered-numbers code under start low c.in-Ok.ensures older ready two.table on end.new.state last end.result
           c.lowered.result c.lowered.ensures end.new.found
-          (ways-numbers g left right locked t0 one.table l.table low other f0 one.found same in_low two.table r.table
+          (ways-numbers g left right locked older one.table l.table low other f0 one.found same in_low two.table r.table
           one.state two.state end.new.state two.found end.new.found c.in-Ok-walk_code.goes_on
           c.in-Ok-walk_code-2.goes_on end.result l.numbers r.numbers end.ensures.numbers);
       called = always c.lowered.result (AreCallNumbers two.table two.calls.keys) r.called;
       calls =
-          lowered-same code under start low c.in-Ok.ensures t0 ready two.table on end.new.state last end.result
+          lowered-same code under start low c.in-Ok.ensures older ready two.table on end.new.state last end.result
           c.lowered.result c.lowered.ensures
           (AreFound g (read_calls two.table two.calls.keys) (read_found two.table end.new.found))
-          (ways-called g left right locked t0 one.table l.table low other f0 one.found same in_low two.table r.table
+          (ways-called g left right locked older one.table l.table low other f0 one.found same in_low two.table r.table
           one.state two.state end.new.state two.found end.new.found c.in-Ok-walk_code.goes_on
           c.in-Ok-walk_code-2.goes_on end.result l.numbers r.numbers two.calls.keys r.calls end.ensures.found);
-      table = always c.lowered.result (GoesOn t0 two.table) on;
+      table = always c.lowered.result (GoesOn older two.table) on;
     }
 
 pub walk_code-returns-in-Loop : goal.walk_code-returns-in-Loop
@@ -315,20 +317,21 @@ pub repeat-walk_code-ended-requires : goal.repeat-walk_code-ended-requires
 repeat-walk_code-ended-requires t c =
     let g = given c.args.context.now in
     let body = tree_of c.args.body.now in
-    let t0 = c.args.table.now in
+    let older = c.args.table.now in
     let now = c.go_rounds.new in
     let m = c.in-Ok.ensures in
     let end = c.in-Ok-copied.end in (
       search rules,
       (
-        body-high g body c.args.locked t0 now.table m.table c.args.state.now now.state end c.args.found.now now.found
+        body-high g body c.args.locked older now.table m.table c.args.state.now now.state end c.args.found.now now.found
             c.in-Ok-copied.ensures m.rounds m.numbers m.high,
         (
-          body-ready g body c.args.locked t0 now.table m.table c.args.state.now now.state end c.args.found.now now.found
+          body-ready g body c.args.locked older now.table m.table c.args.state.now now.state end c.args.found.now
+            now.found
               c.in-Ok-copied.ensures m.rounds m.numbers,
           (
-            calls-still t0 now.table m.table c.args.calls.now.keys c.requires.called,
-            body-found g body c.args.locked t0 now.table m.table c.args.state.now now.state end c.args.found.now
+            calls-still older now.table m.table c.args.calls.now.keys c.requires.called,
+            body-found g body c.args.locked older now.table m.table c.args.state.now now.state end c.args.found.now
                 now.found c.in-Ok-copied.ensures m.rounds m.numbers c.args.calls.now.keys c.requires.called
                 c.requires.calls,
           ),
@@ -340,34 +343,34 @@ pub repeat-returns-in-Ok-ended : goal.repeat-returns-in-Ok-ended
 repeat-returns-in-Ok-ended t c =
     let g = given c.args.context.now in
     let body = tree_of c.args.body.now in
-    let t0 = c.args.table.now in
+    let older = c.args.table.now in
     let now = c.go_rounds.new in
     let m = c.in-Ok.ensures in
     let k = c.in-Ok-ended.ensures in
     let last = c.walk_code-ended.new in
     record {
       flow =
-          loop-done g body c.args.locked t0 now.table m.table c.args.state.now now.state c.in-Ok-copied.end
+          loop-done g body c.args.locked older now.table m.table c.args.state.now now.state c.in-Ok-copied.end
           c.args.found.now now.found c.in-Ok-copied.ensures m.rounds m.numbers last.table k.table last.found k.flow.1;
       numbers =
-          loop-numbers g body c.args.locked t0 now.table m.table c.args.state.now now.state c.in-Ok-copied.end
+          loop-numbers g body c.args.locked older now.table m.table c.args.state.now now.state c.in-Ok-copied.end
           c.args.found.now now.found c.in-Ok-copied.ensures m.rounds m.numbers last.table k.table last.found last.state
           k.numbers;
       called = k.called;
       calls = k.calls;
-      table = goes_on-trans t0 now.table last.table m.table k.table;
+      table = goes_on-trans older now.table last.table m.table k.table;
     }
 
 pub repeat-returns-in-Err-ended : goal.repeat-returns-in-Err-ended
 repeat-returns-in-Err-ended t c =
     let g = given c.args.context.now in
     let body = tree_of c.args.body.now in
-    let t0 = c.args.table.now in
+    let older = c.args.table.now in
     let now = c.go_rounds.new in
     let m = c.in-Ok.ensures in
     record {
       flow =
-          loop-stopped g body c.args.locked t0 now.table m.table c.args.state.now now.state c.in-Ok-copied.end
+          loop-stopped g body c.args.locked older now.table m.table c.args.state.now now.state c.in-Ok-copied.end
           c.args.found.now now.found c.in-Ok-copied.ensures m.rounds m.numbers c.in-Err-ended.stop
           c.in-Err-ended.ensures.flow;
       numbers = tt;
@@ -381,16 +384,16 @@ walk_code-walk_code-requires t c =
     let code = tree_of c.args.code.now in
     let left = tree_of c.deref.result.now in
     let right = tree_of c.in-Choice.right.value in
-    let t0 = c.args.table.now in
+    let older = c.args.table.now in
     let low = c.lifted.new.state in
     let sides : code ≡ Choice left right = search (rules, the_lemmas) in (
       search (rules, sizes, the_size, the_lemmas, c.in-Choice.is, c.deref.ensures, c.decreases),
       (
-        high_left left right (read_state t0 low)
-            (subst (λ (part : Tree). IsHighEnough part (read_state t0 low)) sides
-            (c.in-Ok.ensures.high t0 c.requires.high)),
+        high_left left right (read_state older low)
+            (subst (λ (part : Tree). IsHighEnough part (read_state older low)) sides
+            (c.in-Ok.ensures.high older c.requires.high)),
         (
-          lifted-ready code (reverse c.in-Ok.under.items) c.args.state.now low c.in-Ok.ensures t0
+          lifted-ready code (reverse c.in-Ok.under.items) c.args.state.now low c.in-Ok.ensures older
               c.requires.numbers.state c.args.found.now c.requires.numbers,
           (c.requires.called, c.requires.calls),
         ),
@@ -402,23 +405,23 @@ walk_code-walk_code-requires-in-Choice t c =
     let code = tree_of c.args.code.now in
     let left = tree_of c.deref.result.now in
     let right = tree_of c.deref-in-Choice.result.now in
-    let t0 = c.args.table.now in
+    let older = c.args.table.now in
     let low = c.lifted.new.state in
     let one = c.walk_code.new in
     let l = c.in-Ok-walk_code.ensures in
     let in_low =
-    lifted-in code (reverse c.in-Ok.under.items) c.args.state.now low c.in-Ok.ensures t0 c.requires.numbers.state in
+    lifted-in code (reverse c.in-Ok.under.items) c.args.state.now low c.in-Ok.ensures older c.requires.numbers.state in
     let other = c.in-Ok-copied.other in
     let same = c.in-Ok-copied.ensures in
     let sides : code ≡ Choice left right = search (rules, the_lemmas) in (
       search (rules, sizes, the_size, the_lemmas, c.in-Choice.is, c.deref-in-Choice.ensures, c.decreases),
       (
-        copied-high t0 one.table l.table low other same in_low right
-            (high_right left right (read_state t0 low)
-            (subst (λ (part : Tree). IsHighEnough part (read_state t0 low)) sides
-            (c.in-Ok.ensures.high t0 c.requires.high))),
+        copied-high older one.table l.table low other same in_low right
+            (high_right left right (read_state older low)
+            (subst (λ (part : Tree). IsHighEnough part (read_state older low)) sides
+            (c.in-Ok.ensures.high older c.requires.high))),
         (
-          copied-ready t0 one.table l.table low other same in_low one.state one.found l.numbers,
+          copied-ready older one.table l.table low other same in_low one.state one.found l.numbers,
           (l.called, l.calls),
         ),
       ),
