@@ -79,7 +79,7 @@ large-call g locked site m n s old known =
 
 module _ (g : FlowContext) (m : MethodId) (f : Findings) (known : g.known_of m ≡ Some (Whole f)) (locked : Bool)
     (n : ℕ) (older newer : List Path) (first : GoesOn older newer) (s : NumberedState) (made : NotedCall)
-      (low : AreInRange older s)
+    (low : AreInRange older s)
     (is : made ≡ record { callee = m; locked = locked; actuals = passed_numbers s n }) where
   pub made-known : g.known_of made.callee ≡ Some (Whole f)
   made-known = ap (λ (c : NotedCall). g.known_of c.callee) is ∙ known
@@ -104,7 +104,7 @@ module _ (g : FlowContext) (m : MethodId) (f : Findings) (known : g.known_of m �
       IsStopped (read_found older f0) (op_effects g locked site (Call m n) (read_state older s)) why
   call-ended f0 site why numbers k =
       subst (λ (o : Option Known). IsStopped (read_found older f0)
-        (call_effects g locked site m n (read_state older s) o) why)
+      (call_effects g locked site m n (read_state older s) o) why)
       (sym known)
       (stopped-call g of_call f site n (read_state older s) (read_found older f0) why passed-longer
       (subst (λ (c : PassingCall). IsStopped (read_found older f0) (call_marks g c f site) why) call-is
@@ -112,7 +112,7 @@ module _ (g : FlowContext) (m : MethodId) (f : Findings) (known : g.known_of m �
       (found-longer older newer first f0 numbers.noted) k)))
 
   pub call-done : (newest : List Path) → GoesOn newer newest →
-    (here : NumberedState) (f0 f2 : NumberedFound) (site : SiteId) →
+      (here : NumberedState) (f0 f2 : NumberedFound) (site : SiteId) →
       IsFlowOf older s f0 → AreInRange newer here →
       read_state newer here ≡ replaced (read_state older s) n
       (substituted_value (actuals_from (g.is_static m) (passed_from (read_state older s) n)) f.result) →
@@ -130,13 +130,13 @@ module _ (g : FlowContext) (m : MethodId) (f : Findings) (known : g.known_of m �
         ap Some (sym (state-longer newer newest second here within ∙ next)),
         subst (λ (vs : List Value). IsNoted (read_found older f0)
             (found_effects (substituted g (actuals_from (g.is_static m) vs) f locked site) start n)
-              (read_found newest f2))
+            (read_found newest f2))
             passed-longer noted,
       )
 
 -- the state behind a call of a method of which all is known
 pub whole-next : (g : FlowContext) (m : MethodId) (f : Findings) (locked : Bool) (site : SiteId) (n : ℕ)
-  (s here : State) →
+    (s here : State) →
     g.known_of m ≡ Some (Whole f) →
     here ≡ replaced s n (substituted_value (actuals_from (g.is_static m) (passed_from s n)) f.result) →
     (op_effects g locked site (Call m n) s).next ≡ Some here

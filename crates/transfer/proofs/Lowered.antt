@@ -81,7 +81,7 @@ module _ (code : Tree) (under : List NumberedValue) (start low : NumberedState) 
   module _ (newer : List Path) (on : GoesOn older newer) (mid new : NumberedState) where
     end-read : (b : Bool) → new ≡ numbers_above under mid →
         option_map (above (map (read_value older) under)) (next_of b (read_state newer mid)) ≡ next_of b
-          (read_state newer new)
+        (read_state newer new)
     end-read b made =
         ap (λ (us : List Value). option_map (above us) (next_of b (read_state newer mid)))
         (sym (values-longer older newer on under under-in))
@@ -109,7 +109,7 @@ module _ (code : Tree) (under : List NumberedValue) (start low : NumberedState) 
 
           each : (a b : Result Bool Stop) → IsLowered a b (new ≡ numbers_above under mid) →
               IsFlow below (read_state newer mid) old found a →
-                IsFlow (all_above us below) (read_state newer new) old found b
+              IsFlow (all_above us below) (read_state newer new) old found b
           each (Ok a) (Ok b) (same, made) (next, noted) = (
             ap (option_map (above us)) next
                 ∙ end-read a made
@@ -122,7 +122,7 @@ module _ (code : Tree) (under : List NumberedValue) (start low : NumberedState) 
               subst (IsStopped old (all_above us below)) same (stopped-above old below us stop flows)
 
       pub lowered-numbers : (found : NumberedFound) → OnOk ended (IsFlowOf newer mid found) →
-        OnOk r (IsFlowOf newer new found)
+          OnOk r (IsFlowOf newer new found)
       lowered-numbers found numbers = each ended r done numbers
         where
           each : (a b : Result Bool Stop) → IsLowered a b (new ≡ numbers_above under mid) →

@@ -150,7 +150,7 @@ module _ (context : MethodContext) (kind : Touch) (locked : Bool) (site : SiteId
 
   -- the record of an access, by the value of the field that was read from another one
   module _ (older newer : List Path) (on : GoesOn older newer) (found : NumberedFound)
-    (numbers : AreFoundNumbers older found)
+      (numbers : AreFoundNumbers older found)
       (field : NumberedValue) (base : Value) (reads : read_value newer field ≡ field_value base f) where
     pub same_records : record_reached context kind locked site (read_value newer field) f ≡
         record_of (given context) kind locked site base f
@@ -164,7 +164,7 @@ module _ (context : MethodContext) (kind : Touch) (locked : Bool) (site : SiteId
         IsMarked (read_found older found) (marks (record_of (given context) kind locked site base f) []) later r
     access-marked later r m =
         marked-longer older newer on found (marks (record_of (given context) kind locked site base f) []) later r
-          numbers
+        numbers
         (subst (λ (records : List Access). IsMarked (read_found newer found) (marks records []) later r) same_records m)
 
 -- ---- reads
@@ -180,7 +180,7 @@ plain-in table true v low = tt
 plain-in table false v low = low
 
 module _ (context : MethodContext) (f : FieldId) (older newer newest : List Path) (on1 : GoesOn older newer)
-  (on2 : GoesOn newer newest)
+    (on2 : GoesOn newer newest)
     (here : NumberedState) (low : AreInRange older here) (field : NumberedValue) (field_low : IsInRange newer field)
     (reads : read_value newer field ≡ field_value (top (read_state older here)) f)
     (plain : Bool) (is_plain : plain ≡ (given context).is_plain_field f)
@@ -196,7 +196,7 @@ module _ (context : MethodContext) (f : FieldId) (older newer newest : List Path
   get-state =
       ap (read_state newest) is
       ∙ (λ i. pushed (state-longer older newest on (popped_numbers here 1) rest_low i)
-        (plain-read newest plain field i))
+      (plain-read newest plain field i))
       ∙ (λ i. pushed (popped-read older here 1 i)
       (cond (is_plain i) value.Unnamed ((value-longer newer newest on2 field field_low ∙ reads) i)))
 
@@ -229,7 +229,7 @@ module _ (older newer newest : List Path) (on1 : GoesOn older newer) (on2 : Goes
       let first = value-longer newer newest on2 field field_low ∙ reads in
       let second : read_value newest v ≡ top (read_state older here) =
       ap (read_value newest) is ∙ value-longer older newest on (top_number here) (top-in older here low)
-        ∙ top-read older here in
+      ∙ top-read older here in
       (λ i. names_of (first i) ++ names_of (second i))
 
   module _ (v : NumberedValue) (is : v ≡ top_number here) (new : NumberedState)
@@ -241,7 +241,7 @@ module _ (older newer newest : List Path) (on1 : GoesOn older newer) (on2 : Goes
         let rest_low : AreInRange older rest = popped-in older (popped_numbers here 1) 1 (popped-in older here 1 low) in
         let value : read_value newest v ≡ top (read_state older here) =
         ap (read_value newest) is ∙ value-longer older newest on (top_number here) (top-in older here low)
-          ∙ top-read older here in
+        ∙ top-read older here in
         let state : read_state newest rest ≡ popped (read_state older here) 2 =
         state-longer older newest on rest rest_low
         ∙ popped-read older (popped_numbers here 1) 1
@@ -336,13 +336,13 @@ module _ (context : MethodContext) (locked : Bool) (site : SiteId) (f : FieldId)
 
   pub store-stopped : (last : Found) (stop : Stop) →
       IsStopped (read_found newer found) (marks
-        (record_reached context Write locked site (read_value newer field) f) []) stop →
+      (record_reached context Write locked site (read_value newer field) f) []) stop →
       IsStopped (read_found older found) (op_effects (given context) locked site (Put f) (read_state older here)) stop
   store-stopped last stop m =
       stopped-records (read_found older found) records records
-        (stored_paths base f (top (read_state older here))) stop refl
+      (stored_paths base f (top (read_state older here))) stop refl
       (access-marked context Write locked site f older newer on1 found is.noted field base base_reads {X = Unit {0}}
-        last
+      last
       (Err stop) m)
 
   module _ (newest : List Path) (on2 : GoesOn newer newest) (v : NumberedValue) (is_top : v ≡ top_number here)
@@ -405,7 +405,7 @@ same-field (Err e) table v w is same = tt
 -- ---- the number of an access
 
 module _ (context : MethodContext) (kind : Touch) (locked : Bool) (site : SiteId) (f : FieldId)
-  (older newer : List Path)
+    (older newer : List Path)
     (on : GoesOn older newer) (found : NumberedFound) (numbers : AreFoundNumbers older found) (v : Value) where
   pub none-noted : reached_path (core context.program.now) v f ≡ None →
       IsNoted (read_found older found) (marks (record_reached context kind locked site v f) []) (read_found newer found)

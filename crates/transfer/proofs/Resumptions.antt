@@ -54,13 +54,13 @@ op-resumed g site place op locked k old new s here hs goes on low next =
     (next locked site, sym (add-zero k), left-same old new on hs low)
 
 module _ (g : FlowContext) (left right : Tree) (locked : Bool) (k : ℕ) (older newer newest : List Path)
-  (first : GoesOn older newer)
+    (first : GoesOn older newer)
     (second : GoesOn newer newest) (s x one two here : NumberedState) (hs mid later : List Left) (p q : Passed)
-      (goes : Bool)
+    (goes : Bool)
   where
     pub choice-resumed : x ≡ s → AreInRange older s → AreInRange newer one →
         IsResumed g left locked k (read_state older s) (read_state newer one) (read_heads older hs)
-          (read_heads newer mid) (Ok p) →
+        (read_heads newer mid) (Ok p) →
         IsResumed g right locked p.next (read_state newer x) (read_state newest two) (read_heads newer mid)
         (read_heads newest later) (Ok q) →
         next_of goes (read_state newest here) ≡ joined_next (next_of p.goes_on (read_state newest one))
@@ -77,7 +77,7 @@ module _ (g : FlowContext) (left right : Tree) (locked : Bool) (k : ℕ) (older 
         let end = next_of q.goes_on (read_state newest two) in (
           (λ i. joined_next (l.0 i) ((sym (ap (λ (e : Option State × Heads). e.0) alike) ∙ r.0) i))
               ∙ ap (λ (o : State). joined_next (next_of p.goes_on o) end)
-                (sym (state-longer newer newest second one lower))
+              (sym (state-longer newer newest second one lower))
               ∙ sym met,
           (let count : loops (Choice left right) ≡ loops left + loops right = refl in
               let a : p.next ≡ k + loops left = l.1 in

@@ -29,7 +29,7 @@ module _ (g : FlowContext) (body : Tree) (locked : Bool) (older newer : List Pat
     (s x end : NumberedState) (hs mid : List (Option NumberedState)) (p : Passed) (f : NumberedFound) (same : x ≡ s)
     (low : IsFlowOf older s f)
     (m : IsResumed g body locked 0 (read_state older x) (read_state newer end) (read_heads older hs)
-      (read_heads newer mid) (Ok p))
+    (read_heads newer mid) (Ok p))
     (after : IsResumedIn newer end mid) (high : IsHighEnough (Loop body) (read_state older s))
     (sound : AreSound g body locked (read_heads older hs) (read_state older s)) where
   longer : read_state newer s ≡ read_state older s
@@ -52,7 +52,7 @@ module _ (g : FlowContext) (body : Tree) (locked : Bool) (older newer : List Pat
     none = resumed-round.0 ∙ ap (λ (b : Bool). next_of b (read_state newer end)) ends
 
     pub ended-state : read_state newer s ≡ round_next (read_state older s)
-      (flow g body locked (read_state older s)).next
+        (flow g body locked (read_state older s)).next
     ended-state = longer ∙ sym (ap (round_next (read_state older s)) none)
 
     pub ended-found : IsNoted (read_found older f)
@@ -102,14 +102,14 @@ module _ (g : FlowContext) (body : Tree) (locked : Bool) (older newer : List Pat
         (marks [] (lost_state (read_state table s) (read_state table end))) (read_found table f1) r) →
         IsMarked (read_found older f)
         (marks [] (round_lost (read_state older s) (flow g body locked (read_state older s)).next))
-          (read_found newer f1) r
+        (read_found newer f1) r
     met-found found =
         subst (λ (o : Option State). IsMarked (read_found older f) (marks [] (round_lost (read_state older s) o))
         (read_found newer f1) r) (sym some)
         (subst (λ (y : State). IsMarked (read_found older f) (marks [] (lost_state y (read_state newer end)))
         (read_found newer f1) r) longer
         (marked-longer older newer on f (marks [] (lost_state (read_state newer s) (read_state newer end)))
-          (read_found newer f1) r
+        (read_found newer f1) r
         low.noted (found newer round-ready after.state)))
 
     module _ (state : OnOk r ((table : List Path) → IsFlowOf table s f → AreInRange table end →
@@ -117,14 +117,14 @@ module _ (g : FlowContext) (body : Tree) (locked : Bool) (older newer : List Pat
       pub met-sound : OnOk r (AreSound g body locked (read_heads newer mid) (read_state newer here))
       met-sound =
           on_ok_then r (read_state newer here ≡ round_next (read_state older s)
-            (flow g body locked (read_state older s)).next)
+          (flow g body locked (read_state older s)).next)
           (AreSound g body locked (read_heads newer mid) (read_state newer here)) (met-state state)
           (λ is. subst (AreSound g body locked (read_heads newer mid)) (sym is) resumed-round.1)
 
       pub met-high : OnOk r (IsHighEnough (Loop body) (read_state newer here))
       met-high =
           on_ok_then r (read_state newer here ≡ round_next (read_state older s)
-            (flow g body locked (read_state older s)).next)
+          (flow g body locked (read_state older s)).next)
           (IsHighEnough (Loop body) (read_state newer here)) (met-state state)
           (λ is. subst (IsHighEnough (Loop body)) (sym is) (high_round g body locked (read_state older s) high))
 

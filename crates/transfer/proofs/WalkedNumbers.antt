@@ -53,7 +53,7 @@ module _ (g : FlowContext) (left right : Tree) (locked : Bool) (older newer : Li
       IsStopped (read_found older f0) (flow g (Choice left right) locked (read_state older s)) stop
   right-stopped stop m k =
       stopped-right (flow g left locked (read_state older s)) (flow g right locked (read_state older s))
-        (read_found older f0)
+      (read_found older f0)
       (read_found newer f1) stop m
       (subst (λ (y : State). IsStopped (read_found newer f1) (flow g right locked y) stop)
       (copied-read older newer first s x same low) k)
@@ -61,13 +61,17 @@ module _ (g : FlowContext) (left right : Tree) (locked : Bool) (older newer : Li
   module _ (newest : List Path) (second : GoesOn newer newest) (one two here : NumberedState) (f2 f3 : NumberedFound)
       (p q : Bool) (r : Result Bool Stop) (lower : IsFlowOf newer one f1) (last : IsFlowOf newest two f2) where
     pub ways-ready : IsFlowOf newest one f2
-    ways-ready = record { once = last.once; state = state-still newer newest second one lower.state; noted =
-      last.noted }
+    ways-ready = record {
+      once = last.once;
+      state = state-still newer newest second one lower.state;
+      noted =
+          last.noted;
+    }
 
     pub ways-met : IsFlow (flow g left locked (read_state older s)) (read_state newer one) (read_found older f0)
         (read_found newer f1) (Ok p) →
         IsFlow (flow g right locked (read_state newer x)) (read_state newest two) (read_found newer f1)
-          (read_found newest f2) (Ok q) →
+        (read_found newest f2) (Ok q) →
         IfOk r (λ goes_on. (table : List Path) → IsFlowOf table one f2 → AreInRange table two →
         next_of goes_on (read_state table here) ≡ joined_next (next_of p (read_state table one))
         (next_of q (read_state table two))) →
@@ -79,9 +83,9 @@ module _ (g : FlowContext) (left right : Tree) (locked : Bool) (older newer : Li
     ways-met l m state found =
         let start = read_state older s in
         let done : IsFlow (flow g right locked start) (read_state newest two) (read_found newer f1)
-          (read_found newest f2) (Ok q) =
+        (read_found newest f2) (Ok q) =
         subst (λ (y : State). IsFlow (flow g right locked y) (read_state newest two) (read_found newer f1)
-          (read_found newest f2)
+        (read_found newest f2)
         (Ok q)) (copied-read older newer first s x same low) m in
         let left_end = next_of p (read_state newest one) in
         let right_end = next_of q (read_state newest two) in
@@ -89,7 +93,7 @@ module _ (g : FlowContext) (left right : Tree) (locked : Bool) (older newer : Li
         ap (next_of p) (sym (state-longer newer newest second one lower.state)) in
         flow-chosen (flow g left locked start) (flow g right locked start) left_end right_end (read_state newest here)
         (read_found older f0) (read_found newer f1) (read_found newest f2) (read_found newest f3) r
-          (l.0 ∙ longer) done.0 l.1 done.1
+        (l.0 ∙ longer) done.0 l.1 done.1
         (each r state) (found newest ways-ready last.state)
       where
         each : (a : Result Bool Stop) → IfOk a (λ goes_on. (table : List Path) → IsFlowOf table one f2 →
@@ -174,7 +178,7 @@ module _ (g : FlowContext) (body : Tree) (locked : Bool) (older newer : List Pat
 
   pub body-found : (calls : List NotedCall) → AreCallNumbers older calls →
       AreFound g (read_calls older calls) (read_found older f0) →
-        AreFound g (read_calls newer calls) (read_found newer f1)
+      AreFound g (read_calls newer calls) (read_found newer f1)
   body-found calls called h =
       all-found-longer older newer first g calls (read_found newer f1) called
       (noted-found g (read_calls older calls) (read_found older f0) (read_found newer f1)
@@ -187,7 +191,7 @@ module _ (g : FlowContext) (body : Tree) (locked : Bool) (older newer : List Pat
       last-stopped (flow g body locked) 0 (read_state older s) (read_state newer here) (read_found older f0)
       (read_found newer f1) stop refl
       (rounds-left (flow g body locked) (read_state older s) (read_state newer here) (read_found older f0)
-        (read_found newer f1)
+      (read_found newer f1)
       done)
       (subst (λ (x : NumberedState). IsStopped (read_found newer f1) (flow g body locked (read_state newer x)) stop)
       same m)
@@ -195,7 +199,7 @@ module _ (g : FlowContext) (body : Tree) (locked : Bool) (older newer : List Pat
   module _ (newest : List Path) (second : GoesOn newer newest) (f2 : NumberedFound) where
     pub loop-done : IsNoted (read_found newer f1) (flow g body locked (read_state newer end)) (read_found newest f2) →
         IsFlow (flow g (Loop body) locked (read_state older s)) (read_state newest here) (read_found older f0)
-          (read_found newest f2)
+        (read_found newest f2)
         (Ok true)
     loop-done m =
         subst (λ (y : State). IsFlow (flow g (Loop body) locked (read_state older s)) y (read_found older f0)
@@ -203,7 +207,7 @@ module _ (g : FlowContext) (body : Tree) (locked : Bool) (older newer : List Pat
         (rounds-ended (flow g body locked) 0 (read_state older s) (read_state newer here) (read_found older f0)
         (read_found newer f1) (read_found newest f2) refl
         (rounds-left (flow g body locked) (read_state older s) (read_state newer here) (read_found older f0)
-          (read_found newer f1)
+        (read_found newer f1)
         done)
         (subst (λ (x : NumberedState). IsNoted (read_found newer f1) (flow g body locked (read_state newer x))
         (read_found newest f2)) same m))

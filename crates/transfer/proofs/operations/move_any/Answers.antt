@@ -20,7 +20,7 @@ returns-in_ok-push-in-Get-clause-next c = λ locked site.
     let newer = c.pop_field.new.table in
     let value = c.in_ok-value-in-Get in
     ap (λ (op : CoreOp). (op_effects (given c.args.context.now) locked site op
-      (read_state older c.args.state.now)).next)
+    (read_state older c.args.state.now)).next)
     c.in-Get.is
     ∙ ap Some (sym
     (get-state c.args.context.now c.in-Get.f older newer newer value.ensures.table (goes_on-same newer) c.args.state.now
@@ -34,7 +34,7 @@ returns-in_ok-push-in-Get-clause-numbers c =
     let newer = c.pop_field.new.table in
     let value = c.in_ok-value-in-Get in
     get-in c.args.context.now c.in-Get.f c.args.table.now newer newer value.ensures.table
-      (goes_on-same newer) c.args.state.now
+    (goes_on-same newer) c.args.state.now
     c.requires.numbers value.value value.ensures.range value.ensures.value c.touched_field-plain.result.plain
     c.touched_field-plain.ensures.plain c.push.new.self
     (c.in_ok-push-in-Get.ensures
@@ -45,7 +45,7 @@ returns-in-Set-clause-next c = λ locked site.
     let table = c.args.table.now in
     let here = c.args.state.now in
     ap (λ (op : CoreOp). (op_effects (given c.args.context.now) locked site op (read_state table here)).next)
-      c.in-Set.is
+    c.in-Set.is
     ∙ ap Some (sym
     (set-state table here c.top-value.result c.top-value.ensures c.in-Set.variable c.set.new.self c.set.ensures))
 

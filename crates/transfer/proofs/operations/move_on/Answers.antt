@@ -30,7 +30,7 @@ returns-in_ok-number-in-PushClass-clause-next c =
     subst (λ (s : State). OnOk c.push.result (read_state newer c.push.new.self ≡ s))
     (sym (ap (λ (op : CoreOp). moved op (read_state older here)) c.in-PushClass.is))
     (root-pushed c.push.result older newer c.number_of.ensures.goes_on here c.push.new.self c.requires.numbers
-      given.number
+    given.number
     c.push.ensures _ (given.ensures.number ∙ ap Some c.alone.ensures))
 
 pub returns-in_ok-number-in-PushClass-clause-numbers : goal.returns-in_ok-number-in-PushClass-clause-numbers

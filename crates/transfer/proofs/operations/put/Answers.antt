@@ -83,7 +83,7 @@ returns-clause-numbers c =
       once = accessed.once;
       state =
           put-in older newer newest c.in-Ok.ensures.table accessed.table here c.requires.numbers.state value
-            c.pop-value.ensures.value
+          c.pop-value.ensures.value
           c.push.new.self
           (c.in-Ok-push.ensures
           ∙ ap (λ (s : NumberedState). pushed_number s value)

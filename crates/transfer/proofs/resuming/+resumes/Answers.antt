@@ -41,7 +41,7 @@ resume_round-returns-then-not-passed t c =
     record {
       resumed =
           round-kept (given c.args.context.now)
-            (tree_of c.args.body.now) c.args.locked c.args.first older new.table m.table
+          (tree_of c.args.body.now) c.args.locked c.args.first older new.table m.table
           c.args.state.now c.in-Ok.end new.state c.args.heads.now.items new.heads.items c.in-Ok-resume.passed
           c.in-Ok.ensures c.requires.numbers.state m.resumed ends;
       numbers =
@@ -240,7 +240,7 @@ resume_round-returns t c =
     record {
       resumed =
           round-met (given c.args.context.now) (tree_of c.args.body.now) c.args.locked c.args.first older new.table
-            m.table
+          m.table
           start c.in-Ok.end new.state c.args.heads.now.items new.heads.items c.in-Ok-resume.passed
           c.in-Ok.ensures c.requires.numbers.state m.resumed m.numbers.once m.numbers.state met.new.self met.result goes
           met.ensures.state met.ensures.changed;
@@ -323,7 +323,7 @@ resume_through-returns-then-not-passed t c =
       resumed =
           through-passed g all c.args.locked at.number c.args.first (read_state at.table at.state)
           (read_state older c.args.state.now) (read_heads at.table at.heads.items)
-            (read_heads older c.args.heads.now.items)
+          (read_heads older c.args.heads.now.items)
           (tree_of part) rest whole (read_state new.table new.state) (read_heads new.table new.heads.items) p
           c.pass_over.result same k.resumed (is_no p.goes_on c.if-not-passed.true) at.invariant.number
           (long-read older at.table c.args.heads.now.items at.heads.items at.invariant.long) at.invariant.same
@@ -345,9 +345,9 @@ resume_through-returns t c =
     record {
       resumed =
           through-done (given c.args.context.now) all c.args.locked at.number c.args.first
-            (read_state at.table at.state)
+          (read_state at.table at.state)
           (read_state older c.args.state.now) (read_heads at.table at.heads.items)
-            (read_heads older c.args.heads.now.items)
+          (read_heads older c.args.heads.now.items)
           rest (at_drop_all (λ ps. in_sequence (map tree_of ps)) parts at.index (omega arith)) at.invariant.same
           at.invariant.number
           (long-read older at.table c.args.heads.now.items at.heads.items at.invariant.long);
@@ -369,10 +369,10 @@ resume-returns-in-Ok t c =
       resumed =
           subst (λ (code : Tree). IsResumed (given c.args.context.now) code c.args.locked c.args.first
           (read_state older c.args.state.now) (read_state new.table new.state) (read_heads older hs)
-            (read_heads new.table hs)
+          (read_heads new.table hs)
           (Ok (record { next = c.args.first; goes_on = c.in-Ok.goes_on }))) (sym is)
           (op-resumed (given c.args.context.now) c.in-Op.field-0 c.in-Op.field-1 c.in-Op.op c.args.locked
-            c.args.first older
+          c.args.first older
           new.table c.args.state.now new.state hs c.in-Ok.goes_on k.table ready.left k.next);
       numbers = record { once = k.once; state = k.numbers; left = heads-still older new.table k.table hs ready.left };
       table = k.table;
@@ -509,7 +509,7 @@ resume-returns-in-Seq t c =
     let new = c.resume_through.new in
     let m = c.resume_through.ensures in
     let is : tree_of c.args.code.now ≡ in_sequence (map tree_of c.as_slice-parts.result.now) =
-      search (rules, the_lemmas) in
+    search (rules, the_lemmas) in
     record {
       resumed =
           subst (λ (code : Tree). IsResumed (given c.args.context.now) code c.args.locked c.args.first

@@ -41,12 +41,12 @@ walk_code-returns-in-Err t c =
     record {
       flow =
           lifted-stopped (tree_of c.args.code.now)
-            (reverse c.in-Ok.under.items) c.args.state.now low c.in-Ok.ensures older
+          (reverse c.in-Ok.under.items) c.args.state.now low c.in-Ok.ensures older
           c.requires.numbers.state g c.args.locked found c.in-Err.stop
           (subst (λ (code : Tree). IsStopped found (flow g code c.args.locked (read_state older low)) c.in-Err.stop)
           (sym sides)
           (stopped-left (flow g left c.args.locked (read_state older low))
-            (flow g right c.args.locked (read_state older low))
+          (flow g right c.args.locked (read_state older low))
           found c.in-Err.stop c.in-Err.ensures.flow));
       numbers = tt;
       called = tt;
@@ -327,7 +327,7 @@ repeat-walk_code-ended-requires t c =
             c.in-Ok-copied.ensures m.rounds m.numbers m.high,
         (
           body-ready g body c.args.locked older now.table m.table c.args.state.now now.state end c.args.found.now
-            now.found
+              now.found
               c.in-Ok-copied.ensures m.rounds m.numbers,
           (
             calls-still older now.table m.table c.args.calls.now.keys c.requires.called,
