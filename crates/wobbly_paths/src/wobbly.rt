@@ -61,15 +61,18 @@ impl Wobbly {
             (set.insert self.old path) result }
         ensures limit { set.len self.new ≤ MAX_SUMMARY_KEYS }
     {
-        if self.has(&path) {
-            return Adding::Present;
-        }
         if self.len() >= MAX_SUMMARY_KEYS {
+            if self.has(&path) {
+                return Adding::Present;
+            }
             return Adding::Full;
         }
-        let Ok(_) = self.paths.insert(path) else {
+        let Ok(added) = self.paths.insert(path) else {
             return Adding::Memory;
         };
+        if !added {
+            return Adding::Present;
+        }
         Adding::Added
     }
 
