@@ -2,16 +2,18 @@
 ghost use Rattle.std.specs.Prelude.{◌≡◌, ◌+◌, ◌*◌, ◌<◌, ◌≤◌, length};
 ghost use Rattle.racer_base.specs.declared.limits.TheConstants.{MAX_WAY_STEPS};
 
+use crate::leg_turns::LegTurns;
 use access_paths::Path;
-use core_semantics::{StartPath, Turn};
+use core_semantics::StartPath;
 use racer_base::{Items, Place};
+use std::mem::size_of;
 
 /// Steps of one thread, 0 or 1, with the turns that they take.
 #[derive(Drop)]
 pub struct Leg {
     pub thread: u32,
-    pub turns: Items<Turn>,
     pub steps: u32,
+    pub turns: LegTurns,
     pub ghost one_of_two: { thread < 2 },
     pub ghost few_turns: { length turns ≤ MAX_WAY_STEPS },
     pub ghost few_steps: { steps ≤ MAX_WAY_STEPS },
@@ -43,3 +45,6 @@ pub enum Mark {
     Blocked(u32, Place),
     Confirmed(Witness),
 }
+
+/// So that four million marks are held beside their report in less than 3,000 MiB.
+const _: () = prove!(size_of::<Mark>() <= 80);

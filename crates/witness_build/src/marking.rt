@@ -20,7 +20,7 @@ use crate::prefixes::unstable_prefix;
 use access_domain::{Outcomes, record_of};
 use core_code::Program;
 use core_semantics::{Machine, Start, begin};
-use core_ways::{Leg, Mark, Objects, Target, WayPair, WayTaken, Witness, let_go, run_leg};
+use core_ways::{Leg, LegTurns, Mark, Objects, Target, WayPair, WayTaken, Witness, let_go, run_leg};
 use core_ways_sites::{SiteWays, let_go as let_ways_go};
 use race_pairs::Warning;
 use racer_base::{Items, Memory, Place};
@@ -38,18 +38,18 @@ fn blocked(thread: u32, place: Option<Place>) -> Mark
 }
 
 /// A way as the leg of a thread.
-fn leg(thread: u32, taken: WayTaken) -> Leg
+fn leg(alloc: Global, thread: u32, taken: WayTaken) -> Result<Leg, Memory>
     requires thread { thread < 2 }
     requires short { IsShort taken }
-    ensures thread { result.thread ≡ thread }
-    ensures turns { result.turns ≡ taken.turns }
-    ensures steps { result.steps ≡ taken.steps }
+    ensures thread { IfOk result (λ leg. leg.thread ≡ thread) }
+    ensures turns { IfOk result (λ leg. leg.turns ≡ taken.turns) }
+    ensures steps { IfOk result (λ leg. leg.steps ≡ taken.steps) }
 {
-    Leg {
+    Ok(Leg {
         thread,
-        turns: taken.turns,
+        turns: LegTurns::from_vec(alloc, taken.turns.into_vec())?,
         steps: taken.steps,
-    }
+    })
 }
 
 /// Runs both legs, one after the other; where one of them cannot be made, its mark.
@@ -182,14 +182,9 @@ fn mark_along<'a>(
 {
     match both {
         WayPair::Taken(one, other) => {
-            mark_by_run(
-                alloc,
-                program,
-                walks,
-                warning,
-                leg(first, one),
-                leg(second, other),
-            )
+            let first = leg(alloc, first, one)?;
+            let second = leg(alloc, second, other)?;
+            mark_by_run(alloc, program, walks, warning, first, second)
         }
         WayPair::Unread(place) => Ok(Mark::Unread(place)),
         WayPair::Long(steps) => Ok(Mark::Long(steps)),

@@ -11,7 +11,7 @@ ghost use Rattle.witness_text.specs.Witnesses as said;
 
 use core_code::Program;
 use core_semantics::StartPath;
-use core_ways::{Leg, Witness};
+use core_ways::{Leg, LegTurns, Witness};
 use race_pairs::Warning;
 use race_report_parts::{Written, push_start};
 use racer_base::{ClassId, Items, Memory, MethodId, Text};
@@ -71,7 +71,7 @@ fn copied(alloc: Global, leg: &Leg) -> Result<Leg, Memory>
     let turns = Vec::from_slice(alloc, leg.turns.as_slice())?;
     Ok(Leg {
         thread: leg.thread,
-        turns: Items::from(turns),
+        turns: LegTurns::from_vec(alloc, turns)?,
         steps: leg.steps,
     })
 }

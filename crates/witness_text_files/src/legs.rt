@@ -7,8 +7,8 @@ ghost use Rattle.witness_text_files.specs.Files as files;
 
 use crate::members::{number_up_to, text, two_items};
 use core_semantics::Turn;
-use core_ways::Leg;
-use racer_base::{Items, MAX_WAY_STEPS, Memory};
+use core_ways::{Leg, LegTurns};
+use racer_base::{MAX_WAY_STEPS, Memory};
 use serde_json::Value;
 use std::alloc::Global;
 
@@ -29,7 +29,7 @@ fn turns(alloc: Global, letters: &[u8]) -> Result<Option<Vec<Turn>>, Memory>
 }
 
 /// The turns of a leg.
-fn text_turns(alloc: Global, value: &Value) -> Result<Option<Items<Turn>>, Memory>
+fn text_turns(alloc: Global, value: &Value) -> Result<Option<LegTurns>, Memory>
     ensures turns { IfOk result (λ r. r ≡ files.member (codes "turns") files.text_turns (view value.now)) }
     ensures few { IfOk result (λ r. IfSome r (λ turns. length turns ≤ MAX_WAY_STEPS)) }
 {
@@ -42,7 +42,7 @@ fn text_turns(alloc: Global, value: &Value) -> Result<Option<Items<Turn>>, Memor
     if turns.len() > MAX_WAY_STEPS as usize {
         return Ok(None);
     }
-    Ok(Some(Items::from(turns)))
+    Ok(Some(LegTurns::from_vec(alloc, turns)?))
 }
 
 /// A leg.
