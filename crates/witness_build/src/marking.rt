@@ -20,7 +20,9 @@ use crate::prefixes::unstable_prefix;
 use access_domain::{Outcomes, record_of};
 use core_code::Program;
 use core_semantics::{Machine, Start, begin};
-use core_ways::{Leg, LegTurns, Mark, Objects, Target, WayPair, WayTaken, Witness, let_go, run_leg};
+use core_ways::{
+    Leg, LegTurns, Mark, Objects, Target, WayPair, WayTaken, Witness, let_go, run_leg,
+};
 use core_ways_sites::{SiteWays, let_go as let_ways_go};
 use race_pairs::Warning;
 use racer_base::{Items, Memory, Place};
