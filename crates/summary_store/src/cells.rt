@@ -1,5 +1,5 @@
 //! Pieces that are read without the lock.
-ghost use Rattle.std.specs.Prelude.{◌≡◌, IfOk, IfSome};
+ghost use Rattle.std.specs.Prelude.{◌≡◌, IfSome};
 ghost use Rattle.std.specs.Arc.{arc_value};
 ghost use Rattle.summary_store.specs.Kept.{IsPieceOf};
 
@@ -29,15 +29,15 @@ impl<P: Piece, L: StoreRun> Model for RightPiece<P, L> {
 }
 
 impl<P: Piece, L: StoreRun> RightPiece<P, L> {
-    /// A copy of the piece, if it is the callee's.
-    fn copy_for(&self, callee: MethodId) -> Result<Option<Arc<P>>, Memory>
-        ensures { IfOk result (λ o. IfSome o (λ piece.
-            IsPieceOf P.names (P.is_right L.program) callee.0 (arc_value piece))) }
+    /// The piece, if it is the callee's.
+    fn piece_of(&self, callee: MethodId) -> Option<&Arc<P>>
+        ensures { IfSome result (λ piece.
+            IsPieceOf P.names (P.is_right L.program) callee.0 (arc_value piece.now)) }
     {
         if self.piece.method().0 != callee.0 {
-            return Ok(None);
+            return None;
         }
-        Ok(Some(self.piece.clone()?))
+        Some(&self.piece)
     }
 }
 
@@ -58,20 +58,13 @@ impl<P: Piece, L: StoreRun> Cells<P, L> {
         Ok(Cells { alloc, cells })
     }
 
-    /// A copy of the callee's piece, if its cell holds one.
-    pub(crate) fn copy_for(&self, callee: MethodId) -> Result<Option<Arc<P>>, Memory>
-        ensures { IfOk result (λ o. IfSome o (λ piece.
-            IsPieceOf P.names (P.is_right L.program) callee.0 (arc_value piece))) }
+    /// The callee's piece, if its cell holds one.
+    pub(crate) fn piece_of(&self, callee: MethodId) -> Option<&Arc<P>>
+        ensures { IfSome result (λ piece.
+            IsPieceOf P.names (P.is_right L.program) callee.0 (arc_value piece.now)) }
     {
-        let Some(kept) = self.kept(callee) else {
-            return Ok(None);
-        };
-        kept.copy_for(callee)
-    }
-
-    /// What the cell of a method holds.
-    fn kept(&self, m: MethodId) -> Option<&RightPiece<P, L>> {
-        self.cells.get(m.0 as usize)?.get()
+        let kept = self.cells.get(callee.0 as usize)?.get()?;
+        kept.piece_of(callee)
     }
 
     /// Sets the cell of a method, where there is memory and it is empty.

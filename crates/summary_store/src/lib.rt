@@ -24,8 +24,9 @@
 //! # Cells
 //!
 //! Beside the lock each method has a cell, which is set once, to a copy of the piece that was published, where there is
-//! memory for it. `Store::demand` looks there first, and takes no lock where the callee's piece is found. That it is
-//! right is kept by the type of what a cell holds; no proof rests on a cell's being set.
+//! memory for it. `Store::demand` looks there first, and takes no lock where the callee's piece is found. `Store::find`
+//! looks nowhere else, and lends the piece in place of a copy. That it is right is kept by the type of what a cell
+//! holds; no proof rests on a cell's being set.
 #![tactic(auto)]
 
 mod cells;

@@ -75,9 +75,25 @@ impl<P: Piece, L: StoreRun> Store<P, L> {
         unreachable!()
     }
 
-    /// Gives a callee's piece from its cell, without the lock. Where the cell has none: `demand_at` under the lock, which
-    /// gives the piece too, or parks the method that this pass holds until the callee is done. Memory is answered where
-    /// the piece can't be copied, or one more would be too many to count.
+    /// Lends a callee's piece out of its cell, without the lock and without a copy. None is answered where the cell has
+    /// none, or one more would be too many to count.
+    pub fn find(&self, pass: &mut Pass<L>, callee: MethodId) -> Option<&Arc<P>>
+        requires next { WantsNext (rows_of (core L.program)) pass.old.hand pass.old.found callee }
+        ensures found { IfSome result (λ piece.
+            IsPieceOf P.names (P.is_right L.program) callee.0 (arc_value piece.now)) }
+        ensures found_pass { IfSome result (λ piece.
+            pass.new ≡ pass_view pass.old.number pass.old.hand (pass.old.found + 1) pass.old.made) }
+        ensures none { IfNone result (pass.new ≡ pass.old) }
+    {
+        let piece = self.cells.piece_of(callee)?;
+        let next = pass.found().checked_add(1)?;
+        pass.find(next);
+        Some(piece)
+    }
+
+    /// Gives a copy of a callee's piece from its cell, without the lock. Where the cell has none: `demand_at` under the
+    /// lock, which gives a copy too, or parks the method that this pass holds until the callee is done. Memory is
+    /// answered where the piece can't be copied, or one more would be too many to count.
     pub fn demand<R: Wait>(&self, rt: &R, pass: &mut Pass<L>, callee: MethodId) -> Demand<P>
         requires next { WantsNext (rows_of (core L.program)) pass.old.hand pass.old.found callee }
         ensures found { IfFound result (λ piece. IsPieceOf P.names (P.is_right L.program) callee.0 piece) }
@@ -86,11 +102,11 @@ impl<P: Piece, L: StoreRun> Store<P, L> {
         ensures parked { IfParked result (pass.new ≡ pass_view pass.old.number Free 0 (pass.old.made + 1)) }
         ensures memory { IfMemory result (pass.new ≡ pass.old) }
     {
-        let Ok(kept) = self.cells.copy_for(callee) else {
-            return Demand::Memory;
-        };
-        let Some(piece) = kept else {
+        let Some(kept) = self.cells.piece_of(callee) else {
             return self.demand_locked(rt, pass, callee);
+        };
+        let Ok(piece) = kept.clone() else {
+            return Demand::Memory;
         };
         let Some(found) = pass.found().checked_add(1) else {
             return Demand::Memory;
