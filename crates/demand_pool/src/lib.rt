@@ -3,7 +3,8 @@
 //! `run_pool` starts the workers, one a pass of the store, and joins them. A worker (`worker`) takes methods until
 //! nothing is left to take. Of each it demands the row, callee by callee; where all of the row is found, it analyses
 //! the method and publishes it; where the method is parked, it takes the next one, and begins the parked one anew when
-//! it takes it again. It takes at most once more than there are analysed methods and call edges together.
+//! it takes it again. So pieces that stand in their cells are copied only once all of the row is found (`row_pieces`).
+//! It takes at most once more than there are analysed methods and call edges together.
 //!
 //! After the join nobody shares the store, and the pool owns its value. Each pass in order meets the value and goes on
 //! there as a worker does, until it leaves (`rest`). So the history is complete, however much of it the workers made,
@@ -17,6 +18,7 @@ mod given;
 mod outcomes;
 mod pool;
 mod rest;
+mod row_pieces;
 mod worker;
 
 pub use given::WorkerContext;

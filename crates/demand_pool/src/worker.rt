@@ -8,9 +8,10 @@ ghost use Rattle.summary_store.specs.declared.machine.Hand.TheVariants.{Free, Ho
 ghost use Rattle.demand_pool.specs.Pools.{HasWorked};
 
 use crate::given::WorkerContext;
+use crate::row_pieces::{copies_of, next_piece};
 use racer_base::{Gate, Memory, MethodId, Moment};
 use std::sync::{Arc, Wait};
-use summary_store::{Demand, Pass, Store, StoreRun};
+use summary_store::{Pass, Store, StoreRun};
 use transfer::{Finished, analyse};
 
 /// Takes methods and does what it can of each, until there is none to take. So it leaves, or makes an event a take.
@@ -53,14 +54,14 @@ fn turn<L: StoreRun, R: Wait, G: Gate>(
     ensures made { OnOk result (pass.old.made ≤ pass.new.made) }
 {
     let row = given.rows.row(m);
-    let mut callees = Vec::with_capacity(given.alloc, row.len())?;
+    let mut found = Vec::with_capacity(given.alloc, row.len())?;
     for i in 0..row.len() {
-        match store.demand(rt, pass, row[i]) {
-            Demand::Found(piece) => callees.push_reserved(piece),
-            Demand::Parked => return Ok(()),
-            Demand::Memory => return Err(Memory),
-        }
+        let Some(piece) = next_piece(rt, store, pass, row[i])? else {
+            return Ok(());
+        };
+        found.push_reserved(piece);
     }
+    let callees = copies_of(given.alloc, found.as_slice())?;
     let finished = analyse(given.alloc, given.program, m, callees.as_slice())?;
     let Ok(piece) = Arc::new(given.alloc, finished) else {
         return Err(Memory);

@@ -1,6 +1,7 @@
-use Rattle.std.proofs.Common.{◌≡◌, ◌≤◌, length, vec_capacity}
+use Rattle.std.proofs.Common.{◌≡◌, ◌≤◌, length, map, vec_capacity}
 use Rattle.core_code.specs.Program.{core}
 use Rattle.demand_pool.specs.Pools.{AreFound}
+use Rattle.demand_pool.specs.RowPieces.{shared_in}
 use Rattle.summary_store.specs.declared.machine.Hand.TheVariants.{Holds}
 use Rattle.demand_pool.proofs.worker.turn.Given as goal
 
@@ -10,6 +11,6 @@ invariant-loop-i g l = record {
   hand : l.pass.hand ≡ Holds l.m;
   found : l.pass.found ≡ l.i;
   made : l.pass.made ≡ l.fn.pass.made;
-  pieces : AreFound (core g.L.StoreRun.program) l.row l.i l.callees.items;
-  room : length l.row ≤ vec_capacity l.callees;
+  pieces : AreFound (core g.L.StoreRun.program) l.row l.i (map shared_in l.found.items);
+  room : length l.row ≤ vec_capacity l.found;
 }
