@@ -14,3 +14,4 @@ pub mod Ends
 pub mod FieldsBegun
 pub mod Choices
 pub mod Forms
+pub mod Fronts

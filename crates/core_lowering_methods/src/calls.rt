@@ -1,5 +1,5 @@
 //! What is called (JLS 15.9, 15.12).
-ghost use Rattle.std.specs.Prelude.{◌≡◌, ◌++◌, suc, OnOk, IfOk};
+ghost use Rattle.std.specs.Prelude.{◌≡◌, ◌++◌, suc, OnOk, OnErr, IfOk};
 ghost use Rattle.racer_base.specs.declared.ids.Kind.{Kind};
 ghost use Rattle.core_code.specs.declared.code.Op.TheVariants.{Outside};
 ghost use Rattle.java_tree.specs.View.{ty_of};
@@ -179,7 +179,8 @@ fn call_object(
 
 /// What is not the folder's, with so many values and one more.
 pub fn call_outside(context: &Context, count: u32, draft: &mut Draft) -> Result<(), Memory>
-    ensures { OnOk result (code_of draft.new ≡ code_of draft.old ++ op context.now (Outside (suc count))) }
+    ensures code { OnOk result (code_of draft.new ≡ code_of draft.old ++ op context.now (Outside (suc count))) }
+    ensures err { OnErr result (code_of draft.new ≡ code_of draft.old) }
 {
     let all = count.checked_add(1).ok_or(Memory)?;
     context.op(draft, Op::Outside(all))

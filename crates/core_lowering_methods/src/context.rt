@@ -1,5 +1,5 @@
 //! What an expression or a statement stands in.
-ghost use Rattle.std.specs.Prelude.{◌≡◌, ◌++◌, [], length, take, drop, flat_map, OnOk, IfOk, option_copied};
+ghost use Rattle.std.specs.Prelude.{◌≡◌, ◌++◌, [], length, take, drop, flat_map, OnOk, OnErr, IfOk, option_copied};
 ghost use Rattle.racer_base.specs.declared.ids.Kind.{Kind};
 ghost use Rattle.java_tree.specs.View.{ty_of};
 ghost use Rattle.core_code.specs.declared.code.Op.TheVariants.{PushNull};
@@ -12,7 +12,7 @@ ghost use Rattle.core_lowering_rules.specs.Assignments.{field_at};
 ghost use Rattle.core_lowering_rules.specs.Calls.{info_at};
 ghost use Rattle.core_lowering_rules.specs.Scopes.{declared, next_variable};
 ghost use Rattle.core_lowering_rules.specs.Statements.{cleared, set};
-ghost use Rattle.core_lowering_methods.specs.Drafts.{code_of};
+ghost use Rattle.core_lowering_methods.specs.Drafts.{code_of, IsFrontOf};
 ghost use Rattle.core_lowering_methods.specs.Views.{value_kind, given_of};
 ghost use Rattle.core_lowering_methods.specs.Parts.{entered_in, left_at};
 
@@ -186,7 +186,8 @@ impl<'a> Context<'a> {
 
     /// Puts an operation at the place of the method.
     pub fn op(&self, draft: &mut Draft, operation: Op) -> Result<(), Memory>
-        ensures { OnOk result (code_of draft.new ≡ code_of draft.old ++ op self.now operation) }
+        ensures code { OnOk result (code_of draft.new ≡ code_of draft.old ++ op self.now operation) }
+        ensures err { OnErr result (code_of draft.new ≡ code_of draft.old) }
     {
         draft.op(self.place, operation)
     }
@@ -205,14 +206,16 @@ impl<'a> Context<'a> {
     }
 
     pub fn push_this(&self, draft: &mut Draft) -> Result<(), Memory>
-        ensures { OnOk result (code_of draft.new ≡ code_of draft.old ++ push_this self.now) }
+        ensures code { OnOk result (code_of draft.new ≡ code_of draft.old ++ push_this self.now) }
+        ensures err { OnErr result (code_of draft.new ≡ code_of draft.old) }
     {
         draft.op(self.place, Op::Push(VarId(0)))
     }
 
     /// `this` of an instance method, the class of a static one.
     pub fn push_owner(&self, draft: &mut Draft) -> Result<(), Memory>
-        ensures { OnOk result (code_of draft.new ≡ code_of draft.old ++ push_owner self.now) }
+        ensures code { OnOk result (code_of draft.new ≡ code_of draft.old ++ push_owner self.now) }
+        ensures err { OnErr result (code_of draft.new ≡ code_of draft.old) }
     {
         if self.is_static {
             draft.op(self.place, Op::PushClass(self.class))
@@ -223,7 +226,8 @@ impl<'a> Context<'a> {
 
     /// What a value goes through on its way to a kind.
     pub fn convert(&self, draft: &mut Draft, kind: Kind, given: ValueKind) -> Result<(), Memory>
-        ensures { OnOk result (code_of draft.new ≡ code_of draft.old ++ converted self.now kind (value_kind given)) }
+        ensures code { OnOk result (code_of draft.new ≡ code_of draft.old ++ converted self.now kind (value_kind given)) }
+        ensures err { OnErr result (code_of draft.new ≡ code_of draft.old) }
     {
         if is_converted(kind, given) {
             draft.op(self.place, Op::Outside(1))?;
@@ -235,6 +239,7 @@ impl<'a> Context<'a> {
     pub fn declare(&mut self, alloc: Global, kind: Kind, name: &Ident) -> Result<VarId, Memory>
         ensures variable { IfOk result (λ v. v ≡ next_variable self.old) }
         ensures context { OnOk result (self.new ≡ declared self.old kind name.now) }
+        ensures err { OnErr result (left_at 0 self.new ≡ left_at 0 self.old) }
     {
         let id = VarId(number_of(self.kinds.len())?);
         self.variables.declare(alloc, name.text.as_str(), id, kind)?;
@@ -258,7 +263,9 @@ impl<'a> Context<'a> {
 
     /// Sets a variable to null.
     fn clear_variable(&self, v: VarId, draft: &mut Draft) -> Result<(), Memory>
-        ensures { OnOk result (code_of draft.new ≡ code_of draft.old ++ (op self.now PushNull ++ set self.now v)) }
+        ensures code { OnOk result (code_of draft.new
+            ≡ code_of draft.old ++ (op self.now PushNull ++ set self.now v)) }
+        ensures err { OnErr result (IsFrontOf (code_of draft.old) (code_of draft.new)) }
     {
         self.op(draft, Op::PushNull)?;
         self.op(draft, Op::Set(v))?;
@@ -267,7 +274,9 @@ impl<'a> Context<'a> {
 
     /// Sets these variables to null.
     fn clear_all(&self, variables: &[ScopeVariable], draft: &mut Draft) -> Result<(), Memory>
-        ensures { OnOk result (code_of draft.new ≡ code_of draft.old ++ flat_map (cleared self.now) variables.now) }
+        ensures code { OnOk result (code_of draft.new
+            ≡ code_of draft.old ++ flat_map (cleared self.now) variables.now) }
+        ensures err { OnErr result (IsFrontOf (code_of draft.old) (code_of draft.new)) }
     {
         for variable in variables {
             self.clear_variable(variable.id, draft)?;
@@ -277,8 +286,9 @@ impl<'a> Context<'a> {
 
     /// Sets the variables from this one on to null.
     pub fn clear(&self, draft: &mut Draft, at: usize) -> Result<(), Memory>
-        ensures { OnOk result (code_of draft.new ≡ code_of draft.old
+        ensures code { OnOk result (code_of draft.new ≡ code_of draft.old
             ++ flat_map (cleared self.now) (drop at self.now.scope.variables)) }
+        ensures err { OnErr result (IsFrontOf (code_of draft.old) (code_of draft.new)) }
     {
         let variables = self.variables.as_slice();
         if variables.len() < at {

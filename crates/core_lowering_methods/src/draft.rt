@@ -70,7 +70,7 @@ fn hold(alloc: Global, parts: &mut Vec<Code>, place: Place, at: usize) -> Result
 }
 
 impl Draft {
-    ghost use Rattle.std.specs.Prelude.{◌≡◌, [], ◌++◌, take, drop, length, OnOk, IfOk};
+    ghost use Rattle.std.specs.Prelude.{◌≡◌, [], ◌++◌, take, drop, length, OnOk, OnErr, IfOk};
     ghost use Rattle.core_code.specs.Tree.{can_end, in_sequence, tree_of};
     ghost use Rattle.core_lowering_rules.specs.Context.{op_at, choice, repeated, held};
     ghost use Rattle.core_lowering_rules.specs.Sites.{numbered};
@@ -95,7 +95,8 @@ impl Draft {
 
     /// Puts an operation at the end.
     pub fn op(&mut self, place: Place, op: Op) -> Result<(), Memory>
-        ensures { OnOk result (code_of self.new ≡ code_of self.old ++ op_at place op) }
+        ensures code { OnOk result (code_of self.new ≡ code_of self.old ++ op_at place op) }
+        ensures err { OnErr result (code_of self.new ≡ code_of self.old) }
     {
         let next = self.next.checked_add(1).ok_or(Memory)?;
         self.parts.push(Code::Op(SiteId(self.next), place, op))?;
@@ -119,8 +120,9 @@ impl Draft {
 
     /// Makes the parts from one on and those from another on the two sides of a choice.
     pub fn choose(&mut self, alloc: Global, left: usize, right: usize) -> Result<(), Memory>
-        ensures { OnOk result (code_of self.new ≡ take left (take right (code_of self.old))
+        ensures code { OnOk result (code_of self.new ≡ take left (take right (code_of self.old))
             ++ choice (drop left (take right (code_of self.old))) (drop right (code_of self.old))) }
+        ensures err { OnErr result (code_of self.new ≡ []) }
     {
         let mut parts = mem::replace(&mut self.parts, Vec::new(alloc));
         let next = mem::replace(&mut self.next, 0);
@@ -132,7 +134,9 @@ impl Draft {
 
     /// Makes the parts from this one on the body of a loop.
     pub fn repeat(&mut self, alloc: Global, at: usize) -> Result<(), Memory>
-        ensures { OnOk result (code_of self.new ≡ take at (code_of self.old) ++ repeated (drop at (code_of self.old))) }
+        ensures code { OnOk result (code_of self.new ≡ take at (code_of self.old)
+            ++ repeated (drop at (code_of self.old))) }
+        ensures err { OnErr result (code_of self.new ≡ []) }
     {
         let mut parts = mem::replace(&mut self.parts, Vec::new(alloc));
         let next = mem::replace(&mut self.next, 0);
@@ -144,8 +148,9 @@ impl Draft {
 
     /// Puts the parts from this one on under a lock.
     pub fn hold(&mut self, alloc: Global, place: Place, at: usize) -> Result<(), Memory>
-        ensures { OnOk result (code_of self.new ≡ take at (code_of self.old)
+        ensures code { OnOk result (code_of self.new ≡ take at (code_of self.old)
             ++ held place (drop at (code_of self.old))) }
+        ensures err { OnErr result (code_of self.new ≡ []) }
     {
         let mut parts = mem::replace(&mut self.parts, Vec::new(alloc));
         let next = mem::replace(&mut self.next, 0);

@@ -1,11 +1,11 @@
 //! What a name, a field access or an array access is stored in (JLS 15.10.3, 15.11, 15.14, 15.26).
-ghost use Rattle.std.specs.Prelude.{◌≡◌, ◌++◌, [], OnOk, IfOk, Some, true};
+ghost use Rattle.std.specs.Prelude.{◌≡◌, ◌++◌, [], OnOk, OnErr, IfOk, Some, true};
 ghost use Rattle.racer_base.specs.declared.ids.Kind.{Kind};
 ghost use Rattle.java_resolver.specs.Meanings.{field_named};
 ghost use Rattle.java_resolver.specs.declared.scope.Meaning.TheVariants.{Field};
 ghost use Rattle.core_lowering_rules.specs.Context.{op};
 ghost use Rattle.core_lowering_rules.specs.Assignments.{of_name, of_meaning, of_class, of_value, of_object};
-ghost use Rattle.core_lowering_methods.specs.Drafts.{code_of};
+ghost use Rattle.core_lowering_methods.specs.Drafts.{code_of, IsFrontOf};
 ghost use Rattle.core_lowering_methods.specs.Views.{value_kind};
 ghost use Rattle.core_lowering_methods.specs.Parts.{base_of, without_base, storage_kind, then_read, then_assigned};
 ghost use Rattle.core_lowering_methods.specs.Parts.{then_fetched, then_combined, then_counted};
@@ -49,6 +49,7 @@ fn behind(
 ) -> Result<Storage, Memory>
     ensures code { OnOk result (code_of draft.new ≡ code_of draft.old ++ op context.now operation) }
     ensures storage { IfOk result (λ s. s ≡ storage) }
+    ensures err { OnErr result (code_of draft.new ≡ code_of draft.old) }
 {
     context.op(draft, operation)?;
     Ok(storage)
@@ -59,6 +60,7 @@ fn own_field(context: &Context, f: FieldId, x: &Ident, draft: &mut Draft) -> Res
     ensures code { OnOk result (code_of draft.new ≡ code_of draft.old
         ++ base_of (of_meaning context.now x.now (Field f))) }
     ensures storage { IfOk result (λ s. s ≡ without_base (of_meaning context.now x.now (Field f))) }
+    ensures err { OnErr result (code_of draft.new ≡ code_of draft.old) }
 {
     let Some(field) = context.field(f) else {
         return Ok(Storage::Elsewhere(0));
@@ -75,6 +77,7 @@ fn own_field(context: &Context, f: FieldId, x: &Ident, draft: &mut Draft) -> Res
 pub fn of_name(context: &Context, x: &Ident, draft: &mut Draft) -> Result<Storage, Memory>
     ensures code { OnOk result (code_of draft.new ≡ code_of draft.old ++ base_of (of_name context.now x.now)) }
     ensures storage { IfOk result (λ s. s ≡ without_base (of_name context.now x.now)) }
+    ensures err { OnErr result (code_of draft.new ≡ code_of draft.old) }
 {
     match context.meaning(x) {
         Meaning::Variable(v, kind) => Ok(Storage::InVariable(v, kind)),
@@ -172,8 +175,9 @@ pub fn assign(
     given: ValueKind,
     draft: &mut Draft,
 ) -> Result<(), Memory>
-    ensures { OnOk result (code_of draft.new ≡ code_of draft.old
+    ensures code { OnOk result (code_of draft.new ≡ code_of draft.old
         ++ then_assigned context.now storage (value_kind given)) }
+    ensures err { OnErr result (IsFrontOf (code_of draft.old) (code_of draft.new)) }
 {
     match storage {
         Storage::InVariable(v, kind) => {

@@ -38,7 +38,7 @@ returns-clause-context c =
     on_ok_weaker c.hold.result
     (λ made. c.in_ok-lower_block.ensures.context
     ∙ ap (λ (ss : List Statement). block_end c.args.context.now (pack_stmts (map stmt_of ss))) c.as_slice-2.ensures)
-    c.hold.ensures
+    c.hold.ensures.code
 
 pub returns-clause-code : goal.returns-clause-code
 returns-clause-code c =
@@ -57,6 +57,6 @@ returns-clause-code c =
     (λ made. made
     ∙ ap (λ (p : Place). take c.len-body.result second ++ held p (drop c.len-body.result second)) c.place-place.ensures
     ∙ ap (λ (n : ℕ). take n second ++ held a.place (drop n second)) c.len-body.ensures
-    ∙ gathered (held a.place) old one second (push_owner a) body c.in_ok-push_owner.ensures inside
+    ∙ gathered (held a.place) old one second (push_owner a) body c.in_ok-push_owner.ensures.code inside
     ∙ ap (λ (b : Bool). old ++ locked a b body) (sym test))
-    c.hold.ensures
+    c.hold.ensures.code

@@ -23,5 +23,5 @@ returns c =
     (assigned-made context s c.in_ok-storage.storage (init_kind context i) (value_kind c.in_ok-given.given) old
     (code_of c.of_name.new.draft) (code_of c.lower_initialiser.new.draft) stored (init_code context i)
     c.in_ok-storage.ensures.code c.in_ok-storage.ensures.storage c.in_ok-given.ensures.code
-    c.in_ok-given.ensures.kind c.in_ok-assign.ensures))
-    c.op.ensures
+    c.in_ok-given.ensures.kind c.in_ok-assign.ensures.code))
+    c.op.ensures.code

@@ -22,7 +22,7 @@ returns c =
     on_ok_weaker c.set.result
     (λ made. two_pieces old second (code_of c.set.new.draft) (init_code context i ++ piece) (set context c.args.v)
     (two_pieces old one second (init_code context i) piece c.in_ok-given.ensures.code
-    (c.in_ok-convert.ensures ∙ ap (λ g. one ++ converted context k g) c.in_ok-given.ensures.kind))
+    (c.in_ok-convert.ensures.code ∙ ap (λ g. one ++ converted context k g) c.in_ok-given.ensures.kind))
     made
     ∙ ap (λ o. old ++ begun context c.args.v k o) (sym is))
     c.set.ensures

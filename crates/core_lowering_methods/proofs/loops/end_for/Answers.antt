@@ -17,4 +17,4 @@ returns c =
     (code_of c.lower_run_all.new.draft) (code_of c.lower_run_some.new.draft)
     (run_all context (pack_exprs (map expr_of c.args.updates.now))) (run_some context (option_map expr_of c.args.e.now))
     c.in_ok-lower_run_all.ensures c.in_ok-lower_run_some.ensures))
-    c.repeat.ensures
+    c.repeat.ensures.code

@@ -13,4 +13,4 @@ returns c =
     on_ok_weaker c.op.result
     (two_pieces (code_of c.args.draft.now) (code_of c.lower_expression.new.draft) (code_of c.op.new.draft)
     (code context (expr_of c.args.e.now)) (op context Drop) c.in_ok-lower_expression.ensures.code)
-    c.op.ensures
+    c.op.ensures.code

@@ -23,7 +23,7 @@ returns-in_ok-value-in-Value c =
     c.in_ok-value-in-Value.ensures.code (made
     ∙ ap (λ g. one ++ converted context k g) c.in_ok-value-in-Value.ensures.kind)
     ∙ ap (λ g. old ++ returned_value context g e) (sym is))
-    c.convert.ensures
+    c.convert.ensures.code
 
 pub returns-in_ok-lower_run-in-Itself : goal.returns-in_ok-lower_run-in-Itself
 returns-in_ok-lower_run-in-Itself c =
@@ -35,7 +35,7 @@ returns-in_ok-lower_run-in-Itself c =
     (λ made. two_pieces old (code_of c.lower_run.new.draft) (code_of c.push_this.new.draft) (run context e)
     (push_this context) c.in_ok-lower_run-in-Itself.ensures made
     ∙ ap (λ g. old ++ returned_value context g e) (sym is))
-    c.push_this.ensures
+    c.push_this.ensures.code
 
 pub returns-in_ok-lower_run-in-Nothing : goal.returns-in_ok-lower_run-in-Nothing
 returns-in_ok-lower_run-in-Nothing c =
@@ -47,4 +47,4 @@ returns-in_ok-lower_run-in-Nothing c =
     (λ made. two_pieces old (code_of c.lower_run-in-Nothing.new.draft) (code_of c.op.new.draft) (run context e)
     (op context PushPrim) c.in_ok-lower_run-in-Nothing.ensures made
     ∙ ap (λ g. old ++ returned_value context g e) (sym is))
-    c.op.ensures
+    c.op.ensures.code

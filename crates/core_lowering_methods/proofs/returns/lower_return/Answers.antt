@@ -20,4 +20,4 @@ returns c =
     (returned_value context context.result e) (op context Ret)
     (c.in_ok-lower_given.ensures ∙ ap (λ g. old ++ returned_value context g e) c.given.ensures) made
     ∙ ap (λ o. old ++ returned context o) (sym is))
-    c.op.ensures
+    c.op.ensures.code

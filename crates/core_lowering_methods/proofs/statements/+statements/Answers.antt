@@ -251,7 +251,7 @@ lower_statements-returns-clause-code t c =
 
 pub lower_if-returns-clause-context : goal.lower_if-returns-clause-context
 lower_if-returns-clause-context t c =
-    on_ok_weaker c.choose.result (λ made. c.in_ok-lower_statement.ensures.context) c.choose.ensures
+    on_ok_weaker c.choose.result (λ made. c.in_ok-lower_statement.ensures.context) c.choose.ensures.code
 
 pub lower_if-returns-clause-code : goal.lower_if-returns-clause-code
 lower_if-returns-clause-code t c =
@@ -261,7 +261,7 @@ lower_if-returns-clause-code t c =
     (code_of c.choose.new.self) (run a (expr_of c.args.e.now)) (stmt a (stmt_of c.args.s.now)) c.len-left.result
     c.len-right.result c.in_ok-lower_run.ensures c.len-left.ensures c.in_ok-lower_statement.ensures.code
     c.len-right.ensures)
-    c.choose.ensures
+    c.choose.ensures.code
 
 pub lower_if_else-returns-clause-context : goal.lower_if_else-returns-clause-context
 lower_if_else-returns-clause-context t c =
@@ -269,7 +269,7 @@ lower_if_else-returns-clause-context t c =
     on_ok_weaker c.choose.result
     (λ made. c.in_ok-lower_statement-2.ensures.context
     ∙ ap (λ (i : Context). after i u) c.in_ok-lower_statement.ensures.context)
-    c.choose.ensures
+    c.choose.ensures.code
 
 pub lower_if_else-returns-clause-code : goal.lower_if_else-returns-clause-code
 lower_if_else-returns-clause-code t c =
@@ -284,7 +284,7 @@ lower_if_else-returns-clause-code t c =
     c.in_ok-lower_statement.ensures.code c.len-right.ensures
     (c.in_ok-lower_statement-2.ensures.code
     ∙ ap (λ (i : Context). second ++ stmt i u) c.in_ok-lower_statement.ensures.context))
-    c.choose.ensures
+    c.choose.ensures.code
 
 pub lower_while-returns-clause-context : goal.lower_while-returns-clause-context
 lower_while-returns-clause-context t c =
@@ -309,7 +309,7 @@ lower_while-returns-clause-code t c =
 
 pub lower_sync-returns-clause-context : goal.lower_sync-returns-clause-context
 lower_sync-returns-clause-context t c =
-    on_ok_weaker c.hold.result (λ made. c.in_ok-lower_block.ensures.context) c.hold.ensures
+    on_ok_weaker c.hold.result (λ made. c.in_ok-lower_block.ensures.context) c.hold.ensures.code
 
 pub lower_sync-returns-clause-code : goal.lower_sync-returns-clause-code
 lower_sync-returns-clause-code t c =
@@ -321,7 +321,7 @@ lower_sync-returns-clause-code t c =
     ∙ gathered (held c.args.place) (code_of c.args.draft.now) (code_of c.lower_expression.new.draft) second
     (code a (expr_of c.args.e.now)) (stmt a inner) c.in_ok-lower_expression.ensures.code
     c.in_ok-lower_block.ensures.code)
-    c.hold.ensures
+    c.hold.ensures.code
 
 -- ---- ends of blocks
 
@@ -382,5 +382,5 @@ lower_for_each-returns-clause-code t c =
     c.in_ok-v.v (ty_of c.args.t.now) x (expr_of c.args.e.now) (stmt_of c.args.s.now) c.in_scope-before.ensures
     c.in_ok-lower_run.ensures c.len-body.ensures c.in_ok-v.ensures.variable
     (c.in_ok-v.ensures.context ∙ ap (λ k. declared a k x) c.type_kind.ensures) c.in_ok-lower_next.ensures
-    c.in_ok-lower_statement.ensures.context c.in_ok-lower_statement.ensures.code c.in_ok-repeat.ensures
+    c.in_ok-lower_statement.ensures.context c.in_ok-lower_statement.ensures.code c.in_ok-repeat.ensures.code
     c.end_block.ensures.code

@@ -11,6 +11,6 @@ returns-clause-code c left right at_left is =
     let context = c.args.context.now in
     let body = right ++ op context (Prim 2) in
     let now : code_of c.op.new.draft ≡ left ++ body =
-    c.in_ok-op.ensures ∙ ap (λ x. x ++ op context (Prim 2)) is ∙ append_assoc left right (op context (Prim 2)) in
+    c.in_ok-op.ensures.code ∙ ap (λ x. x ++ op context (Prim 2)) is ∙ append_assoc left right (op context (Prim 2)) in
     chosen left body [] (code_of c.op.new.draft) (code_of c.choose.new.self) c.args.at c.len-end.result at_left
-    (c.len-end.ensures ∙ ap (λ x. length x) now) (now ∙ sym (append-nil (left ++ body))) c.in_ok-choose.ensures
+    (c.len-end.ensures ∙ ap (λ x. length x) now) (now ∙ sym (append-nil (left ++ body))) c.in_ok-choose.ensures.code

@@ -12,7 +12,11 @@ invariant_of-self-2 c =
           (c.args.self.now.in_order.0, c.replace-next.ensures.value ∙ c.args.self.now.in_order.1) (search rules);
     }
 
-pub returns : goal.returns
+pub returns-clause-code : goal.returns-clause-code
 unfolding code_of
-returns c =
+returns-clause-code c =
     chosen-put c.args.self.now.parts.items c.choose.new.parts.items c.args.left c.args.right (search rules)
+
+pub returns-in_err-choose-clause-err : goal.returns-in_err-choose-clause-err
+unfolding code_of
+returns-in_err-choose-clause-err c = search rules

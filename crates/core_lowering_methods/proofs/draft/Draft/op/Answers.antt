@@ -1,7 +1,9 @@
-use Rattle.std.proofs.Common.{rules}
+use Rattle.std.proofs.Common.{ap, map, rules}
 use Rattle.core_code.specs.declared.code.Code.TheFolds.{the_lemmas}
 use Rattle.core_code.specs.declared.code.Code.TheVariants.{Op}
 use Rattle.core_lowering_methods.specs.Drafts.{code_of}
+use Rattle.core_lowering_methods.specs.Erased.{part_of}
+use Rattle.core_lowering_methods.proofs.Fronts.{on_any_err}
 use Rattle.core_lowering_methods.proofs.Numbering.{op-numbered, op-put}
 use Rattle.core_lowering_methods.proofs.draft.Draft.op.Goals as goal
 
@@ -15,9 +17,14 @@ invariant_of-self-2 c =
           (search (rules, the_lemmas)) (search rules);
     }
 
-pub returns : goal.returns
+pub returns-clause-code : goal.returns-clause-code
 unfolding code_of
-returns c =
+returns-clause-code c =
     let made = Op (record { 0 = c.args.self.now.next }) c.args.place c.args.op in
     op-put c.args.self.now.parts.items c.push.new.self.items (record { 0 = c.args.self.now.next }) c.args.place
     c.args.op made c.in_ok-push.ensures.items (search (rules, the_lemmas))
+
+pub returns-in_err-push-clause-err : goal.returns-in_err-push-clause-err
+unfolding code_of
+returns-in_err-push-clause-err c =
+    on_any_err c.from_residual-in_err-push.result (ap (map part_of) c.in_err-push.ensures.items)

@@ -11,7 +11,11 @@ invariant_of-self-2 c =
           (c.args.self.now.in_order.0, c.replace-next.ensures.value ∙ c.args.self.now.in_order.1) (search rules);
     }
 
-pub returns : goal.returns
+pub returns-clause-code : goal.returns-clause-code
 unfolding code_of
-returns c =
+returns-clause-code c =
     repeated-put c.args.self.now.parts.items c.repeat.new.parts.items c.args.at (search rules)
+
+pub returns-in_err-repeat-clause-err : goal.returns-in_err-repeat-clause-err
+unfolding code_of
+returns-in_err-repeat-clause-err c = search rules
