@@ -1,5 +1,5 @@
 -- The number of a path with one field more names what the field of the value is.
-use Rattle.std.proofs.Common.{◌≡◌, ℕ, ◌<◌, List, Option, None, Some, length, refl, sym, ap, ◌∙◌}
+use Rattle.std.proofs.Common.{◌≡◌, ℕ, List, Option, None, Some, refl, sym, ap, ◌∙◌}
 use Rattle.racer_base.specs.declared.ids.FieldId.{FieldId}
 use Rattle.access_paths.specs.declared.path.Path.{Path}
 use Rattle.access_paths.specs.Paths.{extended}

@@ -24,13 +24,13 @@ use std::mem;
 #[derive(Clone, Copy)]
 pub struct Passed {
     /// The number of the next loop behind the code.
-    pub next: usize,
+    pub next: u32,
     pub goes_on: bool,
 }
 
 /// How many loops code has.
 #[cycle(counts)]
-pub fn count_loops(code: &Code) -> Result<usize, Memory>
+pub fn count_loops(code: &Code) -> Result<u32, Memory>
     ensures { IfOk result (λ count. count ≡ loops (tree_of code.now)) }
 {
     match code {
@@ -57,10 +57,10 @@ pub fn count_loops(code: &Code) -> Result<usize, Memory>
 
 /// How many loops pieces of code have.
 #[cycle(counts)]
-fn count_all(parts: &[Code]) -> Result<usize, Memory>
+fn count_all(parts: &[Code]) -> Result<u32, Memory>
     ensures { IfOk result (λ count. count ≡ loops (in_sequence (map tree_of parts.now))) }
 {
-    let mut count = 0usize;
+    let mut count = 0u32;
     for part in parts {
         let Ok(more) = count_loops(part) else {
             return Err(Memory);
@@ -73,7 +73,7 @@ fn count_all(parts: &[Code]) -> Result<usize, Memory>
     Ok(count)
 }
 
-fn sum(a: usize, b: usize) -> Result<usize, Memory>
+fn sum(a: u32, b: u32) -> Result<u32, Memory>
     ensures { IfOk result (λ sum. sum ≡ a + b) }
 {
     match a.checked_add(b) {
@@ -89,7 +89,7 @@ pub fn resume(
     context: &MethodContext,
     locked: bool,
     code: &Code,
-    first: usize,
+    first: u32,
     state: &mut FlowState,
     table: &mut PathTable,
     heads: &mut Vec<Option<FlowState>>,
@@ -153,7 +153,7 @@ fn resume_through(
     context: &MethodContext,
     locked: bool,
     parts: &[Code],
-    first: usize,
+    first: u32,
     state: &mut FlowState,
     table: &mut PathTable,
     heads: &mut Vec<Option<FlowState>>,
@@ -192,7 +192,7 @@ fn resume_through(
 }
 
 /// Passes pieces of code over that are not reached, whose loops have the numbers from `first` on.
-fn pass_over(first: usize, parts: &[Code]) -> Result<Passed, Memory>
+fn pass_over(first: u32, parts: &[Code]) -> Result<Passed, Memory>
     ensures { IfOk result (λ passed. (passed.next ≡ first + loops (in_sequence (map tree_of parts.now)))
         × (passed.goes_on ≡ false)) }
 {
@@ -216,7 +216,7 @@ fn resume_loop(
     context: &MethodContext,
     locked: bool,
     body: &Code,
-    first: usize,
+    first: u32,
     state: &mut FlowState,
     table: &mut PathTable,
     heads: &mut Vec<Option<FlowState>>,
@@ -230,19 +230,14 @@ fn resume_loop(
     ensures table { OnOk result (GoesOn table.old table.new) }
 {
     let rounds = state.rounds();
-    let Ok(()) = go_on(alloc, &heads[first], state) else {
+    let Ok(inner) = sum(first, 1) else {
         return Err(Memory);
     };
-    let Ok((next, changed)) = resume_round(
-        alloc,
-        context,
-        locked,
-        body,
-        first + 1,
-        state,
-        table,
-        heads,
-    ) else {
+    let Ok(()) = go_on(alloc, &heads[first as usize], state) else {
+        return Err(Memory);
+    };
+    let Ok((next, changed)) = resume_round(alloc, context, locked, body, inner, state, table, heads)
+    else {
         return Err(Memory);
     };
     if !changed {
@@ -256,7 +251,7 @@ fn resume_loop(
         context,
         locked,
         body,
-        first + 1,
+        inner,
         rounds - 1,
         state,
         table,
@@ -267,7 +262,7 @@ fn resume_loop(
     let Ok(left) = state.copied(alloc) else {
         return Err(Memory);
     };
-    heads[first] = Some(left);
+    heads[first as usize] = Some(left);
     Ok(Passed {
         next,
         goes_on: true,
@@ -281,7 +276,7 @@ fn resume_rounds(
     context: &MethodContext,
     locked: bool,
     body: &Code,
-    first: usize,
+    first: u32,
     rounds: usize,
     state: &mut FlowState,
     table: &mut PathTable,
@@ -315,11 +310,11 @@ fn resume_round(
     context: &MethodContext,
     locked: bool,
     body: &Code,
-    first: usize,
+    first: u32,
     state: &mut FlowState,
     table: &mut PathTable,
     heads: &mut Vec<Option<FlowState>>,
-) -> Result<(usize, bool), Memory>
+) -> Result<(u32, bool), Memory>
     requires room { first + loops (tree_of body.now) ≤ length heads.old.items }
     requires numbers { IsResumedIn table.old state.old heads.old.items }
     ensures resumed { IsRound (given context.now) (tree_of body.now) locked first (read_state table.old state.old)

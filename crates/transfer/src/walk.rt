@@ -235,7 +235,7 @@ fn go_through_rounds(
 }
 
 /// So many loops that were not come to yet.
-fn no_heads(alloc: Global, count: usize) -> Result<Vec<Option<FlowState>>, Memory>
+fn no_heads(alloc: Global, count: u32) -> Result<Vec<Option<FlowState>>, Memory>
     ensures { IfOk result (λ heads. heads.items ≡ replicate count None) }
 {
     let mut heads = Vec::new(alloc);

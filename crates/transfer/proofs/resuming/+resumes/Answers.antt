@@ -16,7 +16,7 @@ use Rattle.transfer_loops.specs.Resuming.{Heads, resumed, loops, iterated}
 use Rattle.transfer.specs.declared.resuming.Passed.{Passed}
 use Rattle.transfer.specs.Contexts.{given}
 use Rattle.transfer.specs.Numbered.{read_heads, IsResumedIn}
-use Rattle.transfer.specs.Resumes.{heads_in, IsResumed}
+use Rattle.transfer.specs.Resumes.{heads_in, IsResumed, IsRound, AreResumedRounds}
 use Rattle.transfer.proofs.HeadsRead.{long-back, long-read, heads-long, heads-still, rounds-read}
 use Rattle.transfer.proofs.HighEnough.{is_no, is_yes}
 use Rattle.transfer.proofs.NumberedRounds.{round-kept, round-met, left-in, loop-begun, loop-put, loop-in}
@@ -150,7 +150,7 @@ resume_loop-resume_round-requires t c =
     let first = c.args.first in
     let room : first + suc (loops body) ≤ length old = c.requires.room in
     let low : first < length old = omega arith in
-    let behind : (first + 1) + loops body ≤ length old = omega arith in
+    let behind : c.in-Ok.inner + loops body ≤ length old = omega (arith, c.in-Ok.ensures) in
     let ready = c.requires.numbers in
     let head = left-in table old first ready.left c.index.result.now low c.index.ensures in (
       search rules,
@@ -158,7 +158,7 @@ resume_loop-resume_round-requires t c =
         behind,
         record {
           once = ready.once;
-          state = c.in-Ok.ensures.numbers table ready.once ready.state head;
+          state = c.in-Ok-go_on.ensures.numbers table ready.once ready.state head;
           left = ready.left;
         },
       ),
@@ -179,6 +179,10 @@ resume_loop-returns-then-not-changed t c =
     let is = c.index.ensures in
     let new = c.resume_round.new in
     let k = c.in-Ok-resume_round.ensures in
+    let round =
+    subst (λ (n : ℕ). IsRound g body c.args.locked n (read_state older c.go_on.new.state)
+    (read_state new.table new.state) (read_heads older old) (read_heads new.table new.heads.items)
+    (Ok (c.in-Ok-resume_round.next, c.in-Ok-resume_round.changed))) c.in-Ok.ensures k.resumed in
     record {
       resumed =
           loop_kept g body c.args.locked first c.in-Ok-resume_round.next c.rounds-rounds.result (read_state older start)
@@ -186,8 +190,8 @@ resume_loop-returns-then-not-changed t c =
           (read_heads new.table new.heads.items) c.in-Ok-resume_round.changed
           (rounds-read older start c.rounds-rounds.result c.rounds-rounds.ensures)
           (loop-begun older old first ready.left left start c.go_on.new.state low is
-          (c.in-Ok.ensures.next older ready.once ready.state (left-in older old first ready.left left low is)))
-          k.resumed c.if-not-changed.true;
+          (c.in-Ok-go_on.ensures.next older ready.once ready.state (left-in older old first ready.left left low is)))
+          round c.if-not-changed.true;
       numbers = k.numbers;
       table = k.table;
     }
@@ -211,6 +215,14 @@ resume_loop-returns t c =
     let k = c.in-Ok-resume_round.ensures in
     let m = c.in-Ok-resume_rounds.ensures in
     let within : first < length (read_heads older old) = omega (arith, heads-long older old) in
+    let round =
+    subst (λ (n : ℕ). IsRound g body c.args.locked n (read_state older c.go_on.new.state)
+    (read_state mid.table mid.state) (read_heads older old) (read_heads mid.table mid.heads.items)
+    (Ok (c.in-Ok-resume_round.next, c.in-Ok-resume_round.changed))) c.in-Ok.ensures k.resumed in
+    let rounds =
+    subst (λ (n : ℕ). AreResumedRounds g body c.args.locked n (c.rounds-rounds.result - 1)
+    (read_state mid.table mid.state) (read_state now.table now.state)
+    (read_heads mid.table mid.heads.items) (read_heads now.table now.heads.items) (Ok tt)) c.in-Ok.ensures m.resumed in
     record {
       resumed =
           loop_left g body c.args.locked first c.in-Ok-resume_round.next c.rounds-rounds.result (read_state older start)
@@ -219,8 +231,8 @@ resume_loop-returns t c =
           (read_heads now.table (slice_set now.heads.items first (Some end))) c.in-Ok-resume_round.changed
           (rounds-read older start c.rounds-rounds.result c.rounds-rounds.ensures) within
           (loop-begun older old first ready.left left start c.go_on.new.state low is
-          (c.in-Ok.ensures.next older ready.once ready.state (left-in older old first ready.left left low is)))
-          k.resumed c.if-not-changed.false m.resumed
+          (c.in-Ok-go_on.ensures.next older ready.once ready.state (left-in older old first ready.left left low is)))
+          round c.if-not-changed.false rounds
           (loop-put now.table now.heads.items first m.numbers.left now.state end c.in-Ok-copied.ensures);
       numbers =
           loop-in now.table now.heads.items first m.numbers.left now.state end m.numbers.once m.numbers.state
