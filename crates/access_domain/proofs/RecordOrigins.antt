@@ -18,7 +18,7 @@ use Rattle.owner_domain.specs.declared.value.Value.{Value}
 use Rattle.owner_domain.specs.declared.value.State.{State}
 use Rattle.core_code.specs.declared.code.Op.{Op as CoreOp}
 use Rattle.core_code.specs.declared.code.Op.TheVariants.{Push, PushClass, PushPrim, PushNull, New, Dup, Drop, Get, Put}
-use Rattle.core_code.specs.declared.code.Op.TheVariants.{Set, Prim, Outside, Call, Unread, Ret}
+use Rattle.core_code.specs.declared.code.Op.TheVariants.{Set, Prim, Outside, Call, Unread, Ret, Throw}
 use Rattle.core_code.specs.Core.{Core, Method}
 use Rattle.core_code.specs.Calls.{method_at, rank_of}
 use Rattle.core_code.specs.Tree.{Tree, Op, Skip, Seq, Choice, Loop, Sync, Operation, steps_of}
@@ -199,6 +199,7 @@ op_origin g locked site place (Prim n) s a h = absurd h
 op_origin g locked site place (Outside n) s a h = absurd h
 op_origin g locked site place (Unread m n) s a h = absurd h
 op_origin g locked site place Ret s a h = absurd h
+op_origin g locked site place Throw s a h = absurd h
 
 -- ---- code
 

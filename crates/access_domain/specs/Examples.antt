@@ -1,5 +1,5 @@
 -- No public contract rests on this: small programs, lowered by hand, on which the definitions are tried.
-use Rattle.std.specs.Prelude.{ℕ, Bool, true, false, List, [], ◌∷◌, None, Some}
+use Rattle.std.specs.Prelude.{ℕ, ◌+◌, Bool, true, false, List, [], ◌∷◌, ◌++◌, None, Some}
 use Rattle.racer_base.specs.declared.ids.ClassId.{ClassId}
 use Rattle.racer_base.specs.declared.ids.FieldId.{FieldId}
 use Rattle.racer_base.specs.declared.ids.MethodId.{MethodId}
@@ -8,7 +8,7 @@ use Rattle.racer_base.specs.declared.ids.Kind.{Kind}
 use Rattle.racer_base.specs.declared.ids.Kind.TheVariants.{Plain, Declared}
 use Rattle.racer_base.specs.declared.ids.Touch.{Touch}
 use Rattle.core_code.specs.declared.code.Op.{Op as CoreOp}
-use Rattle.core_code.specs.declared.code.Op.TheVariants.{Push, PushPrim, New, Drop, Get, Put, Set, Outside, Call, Ret}
+use Rattle.core_code.specs.declared.code.Op.TheVariants.{Push, PushPrim, New, Drop, Get, Put, Set, Outside, Call, Ret, Throw}
 use Rattle.core_code.specs.declared.parts.ClassCore.{ClassCore}
 use Rattle.core_code.specs.declared.parts.FieldCore.{FieldCore}
 use Rattle.core_code.specs.Tree.{Tree, Op, Skip, Choice, in_sequence}
@@ -181,4 +181,34 @@ statics =
       classes = class_of false ∷ class_of true ∷ [];
       fields = field_of 0 Plain ∷ field_of 1 (Declared (class 0)) ∷ [];
       methods = set_method ∷ method_of 1 [] three_calls ∷ [];
+    }
+
+--     @ThreadSafe class Throws {
+--       int a; int b;
+--       void stopped() { a = 1; throw e; b = 2; }
+--       Throws past() { if (t) { throw e; b = 2; } a = 1; return this; }
+--     }
+-- The fields a and b are 0 and 1; stopped is method 0, and past is 1. No source has a statement behind a throw.
+abbrev write_from : ℕ → ℕ → List Tree
+write_from site f =
+    step site (Push (var 0)) ∷ step (site + 1) PushPrim ∷ step (site + 2) (Put (field f)) ∷ step (site + 3) Drop ∷ []
+
+abbrev stopped_code : Tree
+stopped_code =
+    in_sequence (write_from 0 0 ++ step 4 Throw ∷ write_from 5 1 ++ step 9 (Push (var 0)) ∷ step 10 Ret ∷ [])
+
+abbrev past_code : Tree
+past_code =
+    in_sequence
+    (Choice (in_sequence (step 0 Throw ∷ write_from 1 1)) Skip ∷ write_from 5 0 ++ step 9 (Push (var 0)) ∷ step 10 Ret
+    ∷ [])
+
+abbrev pub throws : Core
+throws =
+    record {
+      files = [] ∷ [];
+      skipped = [];
+      classes = class_of true ∷ [];
+      fields = field_of 0 Plain ∷ field_of 0 Plain ∷ [];
+      methods = method_of 0 [] stopped_code ∷ method_of 0 [] past_code ∷ [];
     }

@@ -9,7 +9,7 @@ use Rattle.racer_base.specs.declared.ids.Touch.{Touch}
 use Rattle.racer_base.specs.declared.ids.Touch.TheVariants.{Read, Write}
 use Rattle.core_code.specs.declared.code.Op.{Op as CoreOp}
 use Rattle.core_code.specs.declared.code.Op.TheVariants.{Push, PushClass, PushPrim, PushNull, New, Dup, Drop, Get, Put}
-use Rattle.core_code.specs.declared.code.Op.TheVariants.{Set, Prim, Outside, Call, Unread, Ret}
+use Rattle.core_code.specs.declared.code.Op.TheVariants.{Set, Prim, Outside, Call, Unread, Ret, Throw}
 use Rattle.access_paths.specs.declared.path.Root.TheVariants.{Class}
 use Rattle.access_paths.specs.declared.path.Path.{Path}
 use Rattle.access_paths.specs.Paths.{alone}
@@ -118,3 +118,4 @@ op_effects g locked site (Call m n) s = call_effects g locked site m n s (g.know
 op_effects g locked site (Unread m n) s = unread s n
 op_effects g locked site Ret s =
     record { next = None; records = []; wobbly = []; result = Some (top s); large = false }
+op_effects g locked site Throw s = record { next = None; records = []; wobbly = []; result = None; large = false }

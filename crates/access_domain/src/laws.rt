@@ -25,7 +25,7 @@ ghost use Rattle.access_domain.specs.Origins.{HasOrigin};
 ghost use Rattle.access_domain.specs.Records.{different_paths, first_of_keys, same_key};
 ghost use Rattle.access_domain.specs.Outcomes.{outcome_among};
 ghost use Rattle.access_domain.specs.Summaries.{outcome_of, outcomes_of, known_of, known_of_callees, effects_of};
-ghost use Rattle.access_domain.specs.Examples.{mix, join, statics, field, method, class, this_path, formal_path};
+ghost use Rattle.access_domain.specs.Examples.{mix, join, statics, throws, field, method, class, this_path, formal_path};
 ghost use Rattle.access_domain.specs.Examples.{access, access_below};
 
 /// A write, and two writes under a lock.
@@ -110,6 +110,23 @@ pub fn static_row()
           ∷ [];
       wobbly = this_path (field 1 ∷ field 0 ∷ []) ∷ [];
       result = Unnamed;
+    })) }
+{}
+
+/// Behind a throw there is no state, so that what follows gives nothing, and a side that throws takes no part where two
+/// ways meet. A throw returns no value.
+pub fn throwing_row()
+    ensures stopped { outcome_of throws (method 0) ≡ Some (Held (record {
+      accesses = access Write (this_path (field 0 ∷ [])) false 2 ∷ [];
+      wobbly = set.from_list (this_path (field 0 ∷ []) ∷ []);
+      result = Unnamed;
+    })) }
+    ensures no_state { option_map (λ (e : Effects). e.next) (effects_of throws (method 0)) ≡ Some None }
+    ensures no_result { option_map (λ (e : Effects). e.result) (effects_of throws (method 0)) ≡ Some None }
+    ensures past { outcome_of throws (method 1) ≡ Some (Held (record {
+      accesses = access Write (this_path (field 0 ∷ [])) false 7 ∷ [];
+      wobbly = set.from_list (this_path (field 0 ∷ []) ∷ []);
+      result = Named (this_path []);
     })) }
 {}
 

@@ -2,6 +2,7 @@ pub mod Members
 pub mod ChainLemmas
 pub mod Components
 pub mod Passing
+pub mod LeftCode
 pub mod BoolParts
 pub mod Sites
 pub mod ByRank

@@ -11,7 +11,7 @@ use Rattle.racer_base.specs.declared.ids.MethodId.{MethodId}
 use Rattle.core_code.specs.Chains.{row_of}
 use Rattle.core_code.specs.declared.code.Op.{Op as CoreOp}
 use Rattle.core_code.specs.declared.code.Op.TheVariants.{Push, PushClass, PushPrim, PushNull, New, Dup, Drop, Get, Put}
-use Rattle.core_code.specs.declared.code.Op.TheVariants.{Set, Prim, Outside, Call, Unread, Ret}
+use Rattle.core_code.specs.declared.code.Op.TheVariants.{Set, Prim, Outside, Call, Unread, Ret, Throw}
 use Rattle.core_code.specs.Calls.{called_by, calls_in, calls_of, method_at, is_analysed}
 use Rattle.core_code.specs.CallFacts.{is_right_call, has_right_calls, are_calls_right, takes}
 use Rattle.core_code.specs.Core.{Core, Method}
@@ -100,6 +100,7 @@ call_analysed program n (Prim k) right there = absurd cc
 call_analysed program n (Outside k) right there = absurd cc
 call_analysed program n (Unread m k) right there = absurd cc
 call_analysed program n Ret right there = absurd cc
+call_analysed program n Throw right there = absurd cc
 
 pub analysed_among : (program : Core) (n : MethodId) (ops : List Operation) →
     list_all (λ (o : Operation). is_right_call program o.op) ops ≡ true →

@@ -12,7 +12,7 @@ use Rattle.racer_base.specs.declared.ids.Place.{Place}
 use Rattle.racer_base.specs.declared.limits.TheConstants.{MAX_PARAMETERS}
 use Rattle.core_code.specs.declared.code.Op.{Op as CoreOp}
 use Rattle.core_code.specs.declared.code.Op.TheVariants.{Push, PushClass, PushPrim, PushNull, New, Dup, Drop, Get, Put}
-use Rattle.core_code.specs.declared.code.Op.TheVariants.{Set, Prim, Outside, Call, Unread, Ret}
+use Rattle.core_code.specs.declared.code.Op.TheVariants.{Set, Prim, Outside, Call, Unread, Ret, Throw}
 use Rattle.core_code.specs.declared.parts.ClassCore.{ClassCore}
 use Rattle.core_code.specs.declared.parts.FieldCore.{FieldCore}
 use Rattle.core_code.specs.Tree.{Tree, Op, Skip, Seq, Choice, Loop, Sync, Operation, steps_of, locks_of}
@@ -54,6 +54,7 @@ is_op core variables Drop = true
 is_op core variables (Prim n) = true
 is_op core variables (Outside n) = true
 is_op core variables Ret = true
+is_op core variables Throw = true
 
 abbrev pub is_operation : Core → ℕ → Operation → Bool
 is_operation core variables o = is_place core o.place && is_op core variables o.op
@@ -126,11 +127,13 @@ pops (Outside n) = n
 pops (Call m n) = n
 pops (Unread m n) = n
 pops Ret = 1
+pops Throw = 0
 
 abbrev pub pushes : CoreOp → ℕ
 pushes Dup = 2
 pushes Drop = 0
 pushes Ret = 0
+pushes Throw = 0
 pushes _ = 1
 
 -- the common height of two ends; none where they differ
@@ -141,7 +144,7 @@ same_height (Some h) (Some k) = if nat_eq h k then Some h else None
 
 -- The height of the stack after code that begins at this height; none where an operation would pop an empty
 -- stack, where the two sides of a choice end at different heights, or where a turn of a loop would change the
--- height. After a return the height below the returned value goes on.
+-- height. After a return the height below the returned value goes on, after a throw the height as it was.
 abbrev pub height_after : Tree → ℕ → Option ℕ
 height_after (Op site place op) h = if nat_le (pops op) h then Some (h - pops op + pushes op) else None
 height_after Skip h = Some h

@@ -9,7 +9,7 @@ use Rattle.racer_base.specs.declared.ids.VarId.{VarId}
 use Rattle.racer_base.specs.declared.ids.Kind.{Kind}
 use Rattle.core_code.specs.declared.code.Op.{Op as CoreOp}
 use Rattle.core_code.specs.declared.code.Op.TheVariants.{Push, PushClass, PushPrim, PushNull, New, Dup, Drop, Get, Put}
-use Rattle.core_code.specs.declared.code.Op.TheVariants.{Set, Prim, Outside, Call, Unread, Ret}
+use Rattle.core_code.specs.declared.code.Op.TheVariants.{Set, Prim, Outside, Call, Unread, Ret, Throw}
 use Rattle.core_code.specs.declared.parts.FieldCore.{FieldCore}
 use Rattle.core_code.specs.Tree.{Tree, Op, Skip, Seq, Choice, Loop, Sync}
 use Rattle.core_code.specs.Core.{Core, Method}
@@ -97,6 +97,7 @@ kinds_after_op core method (Outside n) stack = after_popping n Opaque stack
 kinds_after_op core method (Call m n) stack = after_call (method_at core m) stack
 kinds_after_op core method (Unread m n) stack = after_popping n Opaque stack
 kinds_after_op core method Ret stack = after_return method.result stack
+kinds_after_op core method Throw stack = Some stack
 
 abbrev pub same_stack : List StackKind → List StackKind → Bool
 same_stack = pointwise same_kind

@@ -2,6 +2,7 @@
 pub mod Chains
 pub mod Falling
 pub mod Tree
+pub mod Exits
 pub mod Core
 pub mod Facts
 pub mod Program

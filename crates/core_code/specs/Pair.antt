@@ -10,7 +10,7 @@ use Rattle.std.specs.List.{range_with_len}
 use Rattle.racer_base.specs.declared.ids.Kind.TheVariants.{Plain, Declared}
 use Rattle.racer_base.specs.declared.ids.Place.{Place}
 use Rattle.core_code.specs.declared.code.Op.{Op as CoreOp}
-use Rattle.core_code.specs.declared.code.Op.TheVariants.{Push, PushPrim, Drop, Put, Call, Unread, Ret}
+use Rattle.core_code.specs.declared.code.Op.TheVariants.{Push, PushPrim, Drop, Put, Call, Unread, Ret, Throw}
 use Rattle.core_code.specs.declared.code.Reason.{Reason}
 use Rattle.core_code.specs.declared.code.LockKind.TheVariants.{Own}
 use Rattle.core_code.specs.declared.parts.ClassCore.{ClassCore}
@@ -148,3 +148,10 @@ after_call call status =
 abbrev pub with_parameters : ℕ → Option Reason → Method
 with_parameters count status = record method_put
     { parameters = map (λ k. Plain) (range_with_len 0 count); status = status }
+
+-- a return and a throw alone
+abbrev pub returned : Tree
+returned = step 0 (at 1 1) Ret
+
+abbrev pub thrown : Tree
+thrown = step 0 (at 1 1) Throw

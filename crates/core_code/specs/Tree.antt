@@ -1,12 +1,12 @@
--- A contract of a public call rests on this: core code as a plain tree, its operations, and whether it can end
--- normally.
+-- A contract of a public call rests on this: core code as a plain tree, its operations, and whether it can come to its
+-- end and to a return.
 use Rattle.std.specs.Prelude.{List, [], ◌∷◌, ◌++◌, Bool, true, false, ◌&&◌, ◌||◌, not, Option, nat_eq}
 use Rattle.std.specs.List.{find}
 use Rattle.racer_base.specs.declared.ids.Place.{Place}
 use Rattle.racer_base.specs.declared.ids.SiteId.{SiteId}
 use Rattle.core_code.specs.declared.code.LockKind.{LockKind}
 use Rattle.core_code.specs.declared.code.Op.{Op as CoreOp}
-use Rattle.core_code.specs.declared.code.Op.TheVariants.{Ret}
+use Rattle.core_code.specs.declared.code.Op.TheVariants.{Ret, Throw}
 use Rattle.core_code.specs.declared.code.Code.{Code}
 use Rattle.core_code.specs.declared.code.Code.TheOpen.{Code-F}
 use Rattle.core_code.specs.declared.code.Code.TheOpen as node
@@ -76,11 +76,26 @@ abbrev pub is_return : CoreOp → Bool
 is_return Ret = true
 is_return _ = false
 
--- whether code can end without a return
+-- whether nothing that stands behind an operation is done
+abbrev pub stops : CoreOp → Bool
+stops Ret = true
+stops Throw = true
+stops _ = false
+
+-- whether code can end without a return and without a throw
 abbrev pub can_end : Tree → Bool
-can_end (Op site place op) = not (is_return op)
+can_end (Op site place op) = not (stops op)
 can_end Skip = true
 can_end (Seq first rest) = can_end first && can_end rest
 can_end (Choice left right) = can_end left || can_end right
 can_end (Loop body) = true
 can_end (Sync lock body) = can_end body
+
+-- whether code can come to a return
+abbrev pub can_return : Tree → Bool
+can_return (Op site place op) = is_return op
+can_return Skip = false
+can_return (Seq first rest) = can_return first || (can_end first && can_return rest)
+can_return (Choice left right) = can_return left || can_return right
+can_return (Loop body) = can_return body
+can_return (Sync lock body) = can_return body

@@ -31,6 +31,8 @@ pub enum Op {
     Unread(MethodId, u32),
     /// Pops the value that is returned, and ends the method.
     Ret,
+    /// Throws: nothing that stands behind is done, in the method and in those that called it.
+    Throw,
 }
 
 /// Which lock of an object.

@@ -55,7 +55,7 @@ pub fn kinds_of_stores()
         ≡ None ∷ None ∷ Some (Other ∷ []) ∷ Some (Other ∷ []) ∷ None ∷ [] }
 {}
 
-/// The kinds after a call and a return.
+/// The kinds after a call, a return and a throw.
 pub fn kinds_of_calls()
     ensures call { after_each (op.Call f 3) ((Plain ∷ Null ∷ an_a ∷ Other ∷ []) ∷ (Other ∷ Opaque ∷ Null ∷ []) ∷ [])
         ≡ Some (an_a ∷ Other ∷ []) ∷ Some (an_a ∷ []) ∷ [] }
@@ -70,6 +70,7 @@ pub fn kinds_of_calls()
         ≡ Some (Opaque ∷ Null ∷ []) ∷ None ∷ [] }
     ensures returned { after_each op.Ret ((Null ∷ Other ∷ []) ∷ (an_a ∷ []) ∷ (Other ∷ []) ∷ (a_b ∷ []) ∷ [] ∷ [])
         ≡ Some (Other ∷ []) ∷ Some [] ∷ None ∷ None ∷ None ∷ [] }
+    ensures thrown { after_each op.Throw ((Null ∷ Other ∷ []) ∷ [] ∷ []) ≡ Some (Null ∷ Other ∷ []) ∷ Some [] ∷ [] }
 {}
 
 /// The kinds where two ways meet.

@@ -12,13 +12,13 @@ ghost use Rattle.core_code.specs.Core.{Core};
 ghost use Rattle.core_code.specs.CalleeRows.{code_rows};
 ghost use Rattle.core_code.specs.Calls.{rank_of, calls_of};
 ghost use Rattle.racer_base.specs.declared.ids.SiteId.{SiteId};
-ghost use Rattle.core_code.specs.Tree.{Tree, Operation, can_end, steps_of, op_at};
+ghost use Rattle.core_code.specs.Tree.{Tree, Skip, Seq, Choice, Loop, Operation, can_end, can_return, steps_of, op_at};
 ghost use Rattle.core_code.specs.Facts.{are_numbers_in_range, are_sites_in_order, are_entries_analysed};
 ghost use Rattle.core_code.specs.Facts.{are_stacks_enough, are_parameters_few, has_few_parameters};
 ghost use Rattle.core_code.specs.Facts.{sites_of, counts_from, height_after};
 ghost use Rattle.core_code.specs.Pair.{pair, step, at, put_at, this, method_put, method_both, lock_elsewhere};
 ghost use Rattle.core_code.specs.Pair.{with_method, class_pair, field_a, field_b, method_new, in_class};
-ghost use Rattle.core_code.specs.Pair.{call_put, unread_put, after_call, with_parameters};
+ghost use Rattle.core_code.specs.Pair.{call_put, unread_put, after_call, own_sync, returned, thrown, with_parameters};
 ghost use Rattle.core_code.specs.CallFacts.{do_end_by_return, are_calls_right, has_ranks};
 ghost use Rattle.core_code.specs.KindCheck.{are_kinded};
 ghost use Rattle.core_code.specs.Names.{is_identifier, is_field_name, are_names_right};
@@ -49,6 +49,20 @@ pub fn pair_is_a_program()
     ensures other_site { are_sites_in_order (with_method (record method_put { code = step 1 (at 1 1) this })) ≡ false }
     ensures empty_stack { height_after (step 0 (at 1 1) (put_at 0)) 1 ≡ None }
     ensures returns { can_end method_both.code ≡ false }
+{}
+
+/// How code with a throw can be left. Nothing behind a throw counts; the height of the stack stays as it is.
+pub fn throws_of_code()
+    ensures throw { can_end thrown ≡ false }
+    ensures no_return { can_return thrown ≡ false }
+    ensures behind { map can_return (Seq thrown returned ∷ Seq returned thrown ∷ []) ≡ false ∷ true ∷ [] }
+    ensures either { map can_return (Choice thrown returned ∷ Choice thrown Skip ∷ []) ≡ true ∷ false ∷ [] }
+    ensures past { map can_return (Seq (Choice thrown Skip) returned ∷ Seq (Loop returned) thrown ∷ [])
+        ≡ true ∷ true ∷ [] }
+    ensures within { map can_return (own_sync (at 1 1) thrown ∷ own_sync (at 1 1) returned ∷ []) ≡ false ∷ true ∷ [] }
+    ensures ends { map can_end (Choice thrown Skip ∷ Loop thrown ∷ own_sync (at 1 1) thrown ∷ Seq Skip thrown ∷ [])
+        ≡ true ∷ true ∷ false ∷ false ∷ [] }
+    ensures height { map (height_after thrown) (0 ∷ 2 ∷ []) ≡ Some 0 ∷ Some 2 ∷ [] }
 {}
 
 /// Which names are identifiers, and when names differ enough.

@@ -18,6 +18,7 @@
 mod calls;
 mod code;
 mod cycles;
+mod exits;
 mod falling;
 pub mod kind_laws;
 pub mod laws;
@@ -34,6 +35,7 @@ mod walk;
 pub use calls::all_callees;
 pub use code::{Code, LockKind, Op, Reason};
 pub use cycles::on_cycles;
+pub use exits::{Exits, exits_of, exits_through};
 pub use falling::falling_numbers;
 pub use parts::{ClassCore, FieldCore, MethodCore, Parts};
 pub use piece::Piece;

@@ -1,11 +1,11 @@
 //! Code while it is made.
 ghost use Rattle.std.specs.Prelude.{◌≡◌, ◌++◌, map, take, drop, OnOk, IfOk};
-ghost use Rattle.core_code.specs.Tree.{can_end, tree_of};
+ghost use Rattle.core_code.specs.Tree.{tree_of};
 ghost use Rattle.core_lowering_rules.specs.Context.{choice, repeated, held};
 ghost use Rattle.core_lowering_methods.specs.Erased.{AreNumbered, whole_of};
 
 use crate::value_kind::ValueKind;
-use core_code::{Code, LockKind, Op};
+use core_code::{Code, LockKind, Op, exits_through};
 use racer_base::{Memory, Place, SiteId};
 use std::alloc::Global;
 use std::mem;
@@ -160,11 +160,11 @@ impl Draft {
         Ok(())
     }
 
-    /// Whether the parts can end without a return.
+    /// Whether the parts can come to their end.
     pub fn can_end(&self) -> bool
         ensures { result ≡ can_end (in_sequence (code_of self.now)) }
     {
-        can_all_end(self.parts.as_slice())
+        exits_through(self.parts.as_slice()).ends
     }
 
     /// The parts, one after the other.
@@ -173,30 +173,4 @@ impl Draft {
     {
         Code::Seq(self.parts)
     }
-}
-
-/// Whether code can end without a return.
-#[cycle(ends)]
-fn can_end(code: &Code) -> bool
-    ensures { result ≡ can_end (tree_of code.now) }
-{
-    match code {
-        Code::Op(_, _, op) => !matches!(op, Op::Ret),
-        Code::Seq(parts) => can_all_end(parts),
-        Code::Choice(left, right) => can_end(left) || can_end(right),
-        Code::Loop(_) => true,
-        Code::Sync(_, _, body) => can_end(body),
-    }
-}
-
-#[cycle(ends)]
-fn can_all_end(parts: &[Code]) -> bool
-    ensures { result ≡ can_end (whole_of parts.now) }
-{
-    for part in parts {
-        if !can_end(part) {
-            return false;
-        }
-    }
-    true
 }

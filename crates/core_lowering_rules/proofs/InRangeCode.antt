@@ -10,7 +10,7 @@ use Rattle.racer_base.specs.declared.ids.Place.{Place}
 use Rattle.racer_base.specs.declared.ids.Kind.{Kind}
 use Rattle.core_code.specs.declared.code.Op.{Op as CoreOp}
 use Rattle.core_code.specs.declared.code.Op.TheVariants.{Push, PushClass, PushPrim, PushNull, New, Dup, Drop, Get, Put}
-use Rattle.core_code.specs.declared.code.Op.TheVariants.{Set, Prim, Outside, Call, Unread, Ret}
+use Rattle.core_code.specs.declared.code.Op.TheVariants.{Set, Prim, Outside, Call, Unread, Ret, Throw}
 use Rattle.core_code.specs.declared.parts.FieldCore.{FieldCore}
 use Rattle.core_code.specs.Tree.{Tree, Op, Skip, Seq, Choice, Loop, Sync, steps_of}
 use Rattle.core_code.specs.Tree.{in_sequence}
@@ -43,6 +43,7 @@ is_named_op core (Prim n) = true
 is_named_op core (Outside n) = true
 is_named_op core (Call m n) = true
 is_named_op core Ret = true
+is_named_op core Throw = true
 
 abbrev pub is_sound : Core → Tree → Bool
 is_sound core (Op site place o) = is_place core place && is_named_op core o
@@ -191,6 +192,7 @@ module _ (core : Core) (m : Method) where
   op-in_range (Prim n) stack h k = refl
   op-in_range (Outside n) stack h k = refl
   op-in_range Ret stack h k = refl
+  op-in_range Throw stack h k = refl
 
   abbrev InRange : Tree → Type 0
   InRange t = is_code core (length m.variables) t ≡ true

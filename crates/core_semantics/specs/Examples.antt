@@ -9,7 +9,7 @@ use Rattle.racer_base.specs.declared.ids.Kind.{Kind}
 use Rattle.racer_base.specs.declared.ids.Kind.TheVariants.{Plain, Declared, Other}
 use Rattle.core_code.specs.declared.code.LockKind.TheVariants.{Explicit}
 use Rattle.core_code.specs.declared.code.Op.{Op as CoreOp}
-use Rattle.core_code.specs.declared.code.Op.TheVariants.{Push, PushPrim, PushNull, Drop, Get, Put, Set, Call, Ret}
+use Rattle.core_code.specs.declared.code.Op.TheVariants.{Push, PushPrim, PushNull, Drop, Get, Put, Set, Call, Ret, Throw}
 use Rattle.core_code.specs.declared.parts.FieldCore.{FieldCore}
 use Rattle.core_code.specs.Tree.{Tree, Op, Skip, Choice, Loop, Sync, in_sequence}
 use Rattle.core_code.specs.Core.{Core, Method}
@@ -157,6 +157,10 @@ two_kinds =
     (method_of [] [] (op (Push (var 0)) ∷ own_sync (at 1 1) Skip ∷ op PushPrim ∷ op Ret ∷ [])
     ∷ method_of [] []
     (op (Push (var 0)) ∷ Sync (record { place = at 1 1; kind = Explicit }) Skip ∷ op PushPrim ∷ op Ret ∷ []) ∷ [])
+
+-- class A { void m() { synchronized (this) { throw e; } } }
+abbrev pub throws : Core
+throws = program_of [] (method_of [] [] (op (Push (var 0)) ∷ own_sync (at 1 22) (op_at 1 44 Throw) ∷ []) ∷ [])
 
 -- so many steps of a thread with these turns
 abbrev pub leg : ℕ → List Turn → ℕ → Leg

@@ -13,7 +13,7 @@ use Rattle.access_paths.specs.Paths.{same_field}
 use Rattle.core_code.specs.declared.code.LockKind.{LockKind}
 use Rattle.core_code.specs.declared.code.Op.{Op as CoreOp}
 use Rattle.core_code.specs.declared.code.Op.TheVariants.{Push, PushClass, PushPrim, PushNull, New, Dup, Drop, Get, Put}
-use Rattle.core_code.specs.declared.code.Op.TheVariants.{Set, Prim, Outside, Call, Ret}
+use Rattle.core_code.specs.declared.code.Op.TheVariants.{Set, Prim, Outside, Call, Ret, Throw}
 use Rattle.core_code.specs.declared.parts.FieldCore.{FieldCore}
 use Rattle.core_code.specs.Tree.{Tree, is_return}
 use Rattle.core_code.specs.Core.{Core, Method}
@@ -23,7 +23,7 @@ use Rattle.core_semantics.specs.declared.answer.Holder.TheVariants.{Object as Of
 use Rattle.core_semantics.specs.declared.answer.Turn.{Turn}
 use Rattle.core_semantics.specs.declared.answer.Turn.TheVariants.{Left, Right}
 use Rattle.core_semantics.specs.declared.answer.Why.{Why}
-use Rattle.core_semantics.specs.declared.answer.Why.TheVariants.{NullBase, OpaqueBase, PlainBase, UnreadCall}
+use Rattle.core_semantics.specs.declared.answer.Why.TheVariants.{NullBase, OpaqueBase, PlainBase, UnreadCall, Thrown}
 use Rattle.core_semantics.specs.declared.object.StartPath.{StartPath}
 use Rattle.core_semantics.specs.declared.object.StartRoot.TheVariants.{Class}
 use Rattle.core_semantics.specs.declared.object.Object.{Object}
@@ -171,6 +171,7 @@ inner_step core i (Put f) = put_on i f
 inner_step core i (Set v) = going i (with_var i.frame v)
 inner_step core i (Prim n) = going i (replaced i.frame n Plain)
 inner_step core i (Outside n) = going i (replaced i.frame n Opaque)
+inner_step core i Throw = Sticks Thrown
 inner_step core i _ = Sticks UnreadCall
 
 -- Calls and returns.

@@ -20,6 +20,8 @@ pub enum Why {
     PlainBase,
     /// The method that is called is not analysed.
     UnreadCall,
+    /// The step throws.
+    Thrown,
 }
 
 /// A monitor. Each object has one of each kind.

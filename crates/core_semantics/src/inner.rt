@@ -152,6 +152,7 @@ pub(crate) fn operate(
         Op::Set(v) => set(alloc, frame, v),
         Op::Prim(count) => frame.replace_by(count as usize, Ok(Value::Plain)),
         Op::Outside(count) => frame.replace_by(count as usize, Ok(Value::Opaque)),
+        Op::Throw => StepAnswer::Stuck(Why::Thrown),
         Op::Call(_, _) | Op::Unread(_, _) | Op::Ret => StepAnswer::Stuck(Why::UnreadCall),
     }
 }

@@ -3,11 +3,11 @@ ghost use Rattle.std.specs.Prelude.{◌≡◌, true, false, [], ◌∷◌, None,
 ghost use Rattle.racer_base.specs.declared.ids.Touch.TheVariants.{Write};
 ghost use Rattle.core_code.specs.Pair.{at};
 ghost use Rattle.core_code.specs.declared.code.Op.TheVariants.{Push, PushClass, PushPrim, PushNull, New, Dup, Drop};
-ghost use Rattle.core_code.specs.declared.code.Op.TheVariants.{Get, Put, Set, Prim, Outside, Call, Unread, Ret};
+ghost use Rattle.core_code.specs.declared.code.Op.TheVariants.{Get, Put, Set, Prim, Outside, Call, Unread, Ret, Throw};
 ghost use Rattle.core_code.specs.declared.code.LockKind.TheVariants.{Own, Explicit};
 ghost use Rattle.core_semantics.specs.declared.answer.Holder.TheVariants.{Object as MonitorOf, Outside as AllOpaque};
 ghost use Rattle.core_semantics.specs.declared.answer.Turn.TheVariants.{Left, Right};
-ghost use Rattle.core_semantics.specs.declared.answer.Why.TheVariants.{NullBase, OpaqueBase, PlainBase, UnreadCall};
+ghost use Rattle.core_semantics.specs.declared.answer.Why.TheVariants.{NullBase, OpaqueBase, PlainBase, Thrown, UnreadCall};
 ghost use Rattle.core_semantics.specs.declared.object.Object.TheVariants.{Start as StartOf};
 ghost use Rattle.core_semantics.specs.declared.object.Start.TheVariants.{All, Only};
 ghost use Rattle.core_semantics.specs.declared.object.StartRoot.TheVariants.{This, Class, Param};
@@ -17,7 +17,7 @@ ghost use Rattle.core_semantics.specs.Objects.{root_path, same_monitor};
 ghost use Rattle.core_semantics.specs.Runs.{place, next_touch, wants_turn};
 ghost use Rattle.core_semantics.specs.Steps.{op_step, Sticks};
 ghost use Rattle.core_semantics.specs.Examples.{class, field, method, var, fresh, this_path, this_value};
-ghost use Rattle.core_semantics.specs.Examples.{null, gate, early, calls, two_kinds, leg, after_legs, is_race};
+ghost use Rattle.core_semantics.specs.Examples.{null, gate, early, calls, two_kinds, throws, leg, after_legs, is_race};
 ghost use Rattle.core_semantics.specs.Examples.{halt_after};
 ghost use Rattle.core_semantics.specs.Examples.{stack_of, vars_of, after_op, with_stack};
 
@@ -63,6 +63,7 @@ pub fn reasons_to_be_stuck()
     ensures receivers { map (λ v. op_step calls (with_stack (Plain ∷ Plain ∷ v ∷ [])) (Call (method 0) 3))
         (Null ∷ Plain ∷ Opaque ∷ []) ≡ Sticks NullBase ∷ Sticks PlainBase ∷ Sticks OpaqueBase ∷ [] }
     ensures unread { op_step calls (with_stack (this_value ∷ [])) (Unread (method 0) 1) ≡ Sticks UnreadCall }
+    ensures throws { op_step calls (with_stack (this_value ∷ [])) Throw ≡ Sticks Thrown }
 {}
 
 /// A write through null cannot be made: the five steps before it can.
@@ -129,6 +130,15 @@ pub fn kinds_row()
         ≡ Some (HeldBy (MonitorOf Explicit (StartOf (root_path This))), 1) }
     ensures opaque { map (same_monitor (AllOpaque Explicit)) (AllOpaque Own ∷ AllOpaque Explicit ∷ [])
         ≡ false ∷ true ∷ [] }
+{}
+
+/// A thread that throws is stuck there, and holds its monitors on.
+pub fn throwing_row()
+    ensures stuck { halt_after throws (method 0) (method 0) [] (leg 0 [] 3) ≡ Some (StuckFor Thrown, 2) }
+    ensures place { option_map (λ s. place s 0) (after_legs throws (method 0) (method 0) All (leg 0 [] 2 ∷ []))
+        ≡ Some (Some (at 1 44)) }
+    ensures held { halt_after throws (method 0) (method 0) (leg 0 [] 2 ∷ []) (leg 1 [] 2)
+        ≡ Some (HeldBy (MonitorOf Own (StartOf (root_path This))), 1) }
 {}
 
 /// A read gives an object where the heap has its path, and null where it has not.

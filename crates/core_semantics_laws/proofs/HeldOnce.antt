@@ -5,7 +5,7 @@ use Rattle.std.specs.Option.{option_and_then}
 use Rattle.racer_base.specs.declared.ids.MethodId.{MethodId}
 use Rattle.core_code.specs.declared.code.Op.{Op as CoreOp}
 use Rattle.core_code.specs.declared.code.Op.TheVariants.{Push, PushClass, PushPrim, PushNull, New, Dup, Drop, Get, Put}
-use Rattle.core_code.specs.declared.code.Op.TheVariants.{Set, Prim, Outside, Call, Unread, Ret}
+use Rattle.core_code.specs.declared.code.Op.TheVariants.{Set, Prim, Outside, Call, Unread, Ret, Throw}
 use Rattle.core_code.specs.Calls.{method_at}
 use Rattle.core_code.specs.Core.{Core, Method}
 use Rattle.core_code.specs.Tree.{Tree, is_return}
@@ -158,6 +158,7 @@ op-keeps core others s (Set v) free = inner-keeps others s (inner_step core (inn
 op-keeps core others s (Prim n) free = inner-keeps others s (inner_step core (inner s) (Prim n)) free
 op-keeps core others s (Outside n) free = inner-keeps others s (inner_step core (inner s) (Outside n)) free
 op-keeps core others s (Unread m n) free = inner-keeps others s (inner_step core (inner s) (Unread m n)) free
+op-keeps core others s Throw free = inner-keeps others s (inner_step core (inner s) Throw) free
 
 operated-keeps : (core : Core) (others : List Holder) (s : Spot) (rest : List Todo) (op : CoreOp) →
     AreFree others s.locks → Keeps others (operated core s rest op)

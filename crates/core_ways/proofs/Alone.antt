@@ -7,7 +7,7 @@ use Rattle.racer_base.specs.declared.ids.MethodId.{MethodId}
 use Rattle.racer_base.specs.declared.ids.Place.{Place}
 use Rattle.core_code.specs.declared.code.Op.{Op as CoreOp}
 use Rattle.core_code.specs.declared.code.Op.TheVariants.{Push, PushClass, PushPrim, PushNull, New, Dup, Drop, Get, Put}
-use Rattle.core_code.specs.declared.code.Op.TheVariants.{Set, Prim, Outside, Call, Unread as UnreadCall, Ret}
+use Rattle.core_code.specs.declared.code.Op.TheVariants.{Set, Prim, Outside, Call, Unread as UnreadCall, Ret, Throw}
 use Rattle.core_code.specs.Calls.{method_at}
 use Rattle.core_code.specs.Core.{Core, Method}
 use Rattle.core_code.specs.Tree.{LockAt, Tree}
@@ -43,7 +43,7 @@ use Rattle.core_ways.specs.Ways.{Trip, straight, joined, trip_along, trip_of_par
 
 -- ---- one run after another
 
-abbrev run_on : (After → List Turn → Alone) → Alone → Alone
+abbrev pub run_on : (After → List Turn → Alone) → Alone → Alone
 run_on rest (Came a left) = rest a left
 run_on rest (Stuck why) = Stuck why
 run_on rest Broken = Broken
@@ -165,6 +165,7 @@ inner-keeps core i (Outside n) = (refl, refl)
 inner-keeps core i (Call m n) = tt
 inner-keeps core i (UnreadCall m n) = tt
 inner-keeps core i Ret = tt
+inner-keeps core i Throw = tt
 
 abbrev pub spot : Store → List Value → List Value → List Todo → ℕ → List Frame → List Holder → Spot
 spot store vars stack todo locked callers locks =
@@ -220,7 +221,7 @@ past-inner core op e = λ place locked store vars stack todo callers locks rest.
 
 -- ---- returns
 
-drop-none : (xs : List Holder) → drop 0 xs ≡ xs
+pub drop-none : (xs : List Holder) → drop 0 xs ≡ xs
 drop-none [] = refl
 drop-none (x ∷ xs) = refl
 
@@ -268,7 +269,7 @@ past-ret core place (suc n) store vars stack todo callers locks =
     (drop-more n locks) (past-ret core place n store vars stack todo callers (drop 1 locks)))
 
 -- so many steps
-steps-of : (trips : MethodId → Trip) (n : ℕ) → trip_along trips (replicate n Step) ≡ straight n
+pub steps-of : (trips : MethodId → Trip) (n : ℕ) → trip_along trips (replicate n Step) ≡ straight n
 steps-of trips zero = refl
 steps-of trips (suc n) =
     ap (joined (straight 1)) (steps-of trips n)
@@ -395,6 +396,7 @@ module _ (core : Core) (trips : MethodId → Trip) (test : MethodId → Bool)
       (here store vars stack (Op place (Call m n) ∷ todo) locked callers locks) (IsAt todo locked callers locks) steps
       (past-call core trips m n place locked store vars stack todo callers locks runs))
   runs-op site place (UnreadCall m n) all locked store vars stack todo callers locks = λ rest. tt
+  runs-op site place Throw all locked store vars stack todo callers locks = λ rest. tt
   runs-op site place op all locked store vars stack todo callers locks =
       past-inner core op refl place locked store vars stack todo callers locks
 

@@ -10,7 +10,7 @@ use Rattle.core_code.specs.CallFacts.{is_right_call, takes}
 use Rattle.core_code.specs.declared.code.Reason.{Reason}
 use Rattle.core_code.specs.Core.{Core, Method}
 use Rattle.core_code.specs.Tree.{Tree, Operation}
-use Rattle.core_code.specs.Tree.{can_end, steps_of}
+use Rattle.core_code.specs.Tree.{can_end, can_return, steps_of}
 use Rattle.core_code.specs.Calls.{called_by}
 use Rattle.core_code.proofs.BoolParts.{both, first_part, last_part}
 use Rattle.std.specs.List.{list_all, flat_map}
@@ -22,9 +22,11 @@ use Rattle.std.proofs.lemmas.Bool.{ltb-true}
 use Rattle.core_semantics.specs.State.{before}
 use Rattle.core_ways.specs.declared.part.WayPart.{WayPart}
 use Rattle.core_ways.specs.Alone.{here}
-use Rattle.core_ways.specs.Alone.{HasReturned, IsBehind, MethodRuns, RunsPast}
-use Rattle.core_ways.specs.Ways.{Trip, trip_along, trip_of, passed, code_at}
-use Rattle.core_ways.proofs.Alone.{Leads, runs-past}
+use Rattle.core_semantics.specs.declared.answer.Holder.{Holder}
+use Rattle.core_ways.specs.Alone.{HasReturned, MethodRuns, RunsBack}
+use Rattle.core_ways.specs.Ways.{Trip, trip_along, trip_of, to_return, code_at}
+use Rattle.core_ways.proofs.Alone.{Leads, drop-none}
+use Rattle.core_ways.proofs.AloneBack.{runs-back}
 
 both-pass : (f g : MethodId → Bool) (ms : List MethodId) → list_all f ms ≡ true → list_all g ms ≡ true →
     list_all (λ n. f n && g n) ms ≡ true
@@ -106,20 +108,22 @@ method-runs core right (suc k) m low analysed method is =
     (let below = ltb-true (rank_of core n) (rank_of core m)
     (first_part (nat_lt (rank_of core n) (rank_of core m)) (is_analysed core n) may) in omega arith)
     (last_part (nat_lt (rank_of core n) (rank_of core m)) (is_analysed core n) may) in
-    let past : RunsPast core (trip_of core) code = runs-past core (trip_of core) (may_call core m) holds code calls in
     let ends : can_end code ≡ false =
     never-ends method.status (can_end code) status
     (each-method ends_by_return core.methods m.0 method right.ends is) in
-    let trip : trip_of core m ≡ trip_along (trip_of core) (passed 0 code) =
+    let back : RunsBack core (trip_of core) code =
+    runs-back core (trip_of core) (may_call core m) holds code (ap (λ (b : Bool). not b || can_return code) ends)
+    calls in
+    let trip : trip_of core m ≡ trip_along (trip_of core) (to_return 0 code) =
     trip_of-parts core m (lower-parts core m right.ranks)
     ∙ ap (λ (o : Option Tree).
-    trip_along (trip_of core) (elim o as (λ _. List WayPart) [ None ↦ [] | Some c ↦ passed 0 c ])) at in
+    trip_along (trip_of core) (elim o as (λ _. List WayPart) [ None ↦ [] | Some c ↦ to_return 0 c ])) at in
     λ store vars callers locks.
     subst (λ (t : Trip). Leads core t (here store vars [] (before code []) 0 callers locks) (HasReturned callers locks))
     (sym trip)
-    (subst (λ (b : Bool). Leads core (trip_along (trip_of core) (passed 0 code))
-    (here store vars [] (before code []) 0 callers locks) (IsBehind b [] 0 callers locks)) ends
-    (past 0 store vars [] [] callers locks))
+    (subst (λ (ls : List Holder). Leads core (trip_along (trip_of core) (to_return 0 code))
+    (here store vars [] (before code []) 0 callers locks) (HasReturned callers ls)) (drop-none locks)
+    (back 0 store vars [] [] callers locks))
 
 -- the methods that an analysed method may call run
 pub callees-run : (core : Core) (right : AreRight core) (m n : MethodId) → may_call core m n ≡ true →

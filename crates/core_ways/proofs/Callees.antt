@@ -16,12 +16,12 @@ use Rattle.core_code.specs.Calls.{called_by, method_at, rank_of}
 use Rattle.core_code.specs.CallFacts.{is_above, has_ranks}
 use Rattle.core_code.specs.Core.{Core, Method}
 use Rattle.core_code.specs.Tree.{Tree, Op, Skip, Seq, Choice, Loop, Sync, Operation}
-use Rattle.core_code.specs.Tree.{can_end, op_at, steps_of}
+use Rattle.core_code.specs.Tree.{can_end, can_return, op_at, steps_of}
 use Rattle.core_code.proofs.BoolParts.{first_part, last_part}
 use Rattle.core_semantics.specs.declared.answer.Turn.TheVariants.{Left, Right}
 use Rattle.core_ways.specs.declared.part.WayPart.{WayPart}
 use Rattle.core_ways.specs.declared.part.WayPart.TheVariants.{Step, Branched}
-use Rattle.core_ways.specs.Ways.{code_at, parts_of, passed, passed_op}
+use Rattle.core_ways.specs.Ways.{code_at, goes_past, parts_of, passed, passed_op, to_return}
 use Rattle.core_ways.proofs.Trips.{EachPassed, each-append, each-steps}
 
 abbrev calls_of_ops : List Operation → List MethodId
@@ -72,6 +72,24 @@ module _ (P : MethodId → Type 0) (test : MethodId → Bool) (holds : (m : Meth
       each-append P (passed (suc locks) body) (cond (can_end body) (Step ∷ []) []) (each-passed (suc locks) body all)
       (either (can_end body) (Step ∷ []) [] tt tt)
 
+  pub each-back : (locks : ℕ) (code : Tree) → do_pass test (steps_of code) ≡ true → EachPassed P (to_return locks code)
+  each-back locks (Op site place op) all = each-op locks place op all
+  each-back locks Skip all = tt
+  each-back locks (Seq first rest) all =
+      let both = pass-both test (steps_of first) (steps_of rest) all in
+      let early = first_part (do_pass test (steps_of first)) (do_pass test (steps_of rest)) both in
+      either (goes_past first rest) (passed locks first ++ to_return locks rest) (to_return locks first)
+      (each-append P (passed locks first) (to_return locks rest) (each-passed locks first early)
+      (each-back locks rest (last_part (do_pass test (steps_of first)) (do_pass test (steps_of rest)) both)))
+      (each-back locks first early)
+  each-back locks (Choice left right) all =
+      let both = pass-both test (steps_of left) (steps_of right) all in
+      either (can_return left) (Branched Left ∷ to_return locks left) (Branched Right ∷ to_return locks right)
+      (each-back locks left (first_part (do_pass test (steps_of left)) (do_pass test (steps_of right)) both))
+      (each-back locks right (last_part (do_pass test (steps_of left)) (do_pass test (steps_of right)) both))
+  each-back locks (Loop body) all = each-back locks body all
+  each-back locks (Sync lock body) all = each-back (suc locks) body all
+
 -- ---- ranks
 
 numbered : (p : ℕ × Method → Bool) (k i : ℕ) (xs : List Method) (x : Method) →
@@ -118,10 +136,10 @@ pub lower-parts : (core : Core) (m : MethodId) → has_ranks core ≡ true →
 lower-parts core m ranks =
     elim (code_at core m) as (λ o. code_at core m ≡ o →
     EachPassed (λ n. rank_of core n < rank_of core m)
-    (elim o as (λ _. List WayPart) [ None ↦ [] | Some code ↦ passed 0 code ])) [
+    (elim o as (λ _. List WayPart) [ None ↦ [] | Some code ↦ to_return 0 code ])) [
       | None ↦ λ e. tt
       | Some code ↦ λ e.
-          each-passed (λ n. rank_of core n < rank_of core m) (lower core m)
+          each-back (λ n. rank_of core n < rank_of core m) (lower core m)
           (λ n low. ltb-true (rank_of core n) (rank_of core m) low) 0 code (lower-calls core m code ranks e)
     ] refl
 

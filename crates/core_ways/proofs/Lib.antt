@@ -1,4 +1,5 @@
 pub mod PassedCode
+pub mod ReturnedCode
 pub mod FollowedCode
 pub mod SitePaths
 pub mod Trips
@@ -7,6 +8,8 @@ pub mod Callees
 pub mod Going
 pub mod Tables
 pub mod Alone
+pub mod AloneBack
+pub mod Throwless
 pub mod AloneMethods
 pub mod AloneTo
 pub mod Beside

@@ -1,5 +1,5 @@
 -- One step of a leg, behind a look at what it is.
-use Rattle.std.proofs.Common.{◌≡◌, refl, ℕ, Bool, true, false, cond, List, [], Option, None, Some, Result, Ok, Err}
+use Rattle.std.proofs.Common.{◌≡◌, refl, ℕ, Bool, false, cond, List, [], Option, None, Some, Result, Ok, Err}
 use Rattle.std.proofs.Common.{IfOk, OnOk, sym, ap, subst, ◌∙◌}
 use Rattle.std.specs.Borrow.{Bor}
 use Rattle.std.specs.Option.{option_and_then}
@@ -9,7 +9,6 @@ use Rattle.core_code.specs.declared.code.Op.{Op as CoreOp}
 use Rattle.core_code.specs.declared.code.Op.TheVariants.{Get, Put}
 use Rattle.core_code.specs.Core.{Core}
 use Rattle.core_semantics.specs.declared.answer.Turn.{Turn}
-use Rattle.core_semantics.specs.declared.answer.Turn.TheVariants.{Right}
 use Rattle.core_semantics.specs.declared.look.Look.TheVariants as look
 use Rattle.core_semantics.specs.declared.object.StartPath.{StartPath}
 use Rattle.core_semantics.specs.declared.object.Value.{Value}

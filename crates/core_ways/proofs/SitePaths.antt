@@ -12,24 +12,25 @@ use Rattle.core_code.specs.Tree.{Tree, Op, Skip, Seq, Choice, Loop, Sync, Operat
 use Rattle.core_semantics.specs.declared.answer.Turn.TheVariants.{Left, Right}
 use Rattle.core_ways.specs.declared.part.WayPart.{WayPart}
 use Rattle.core_ways.specs.declared.part.WayPart.TheVariants.{Step, Branched}
+use Rattle.core_ways.specs.declared.passing.PathEnd.TheVariants.{Before}
 use Rattle.core_ways.specs.Ways.{has_site, passed, reached}
 use Rattle.core_ways.specs.Paths.{op_there, path_to, path_where, followed, reached_where}
 
 -- what is passed along the path to a site is what is reached towards it
 pub followed-path : (locks : ℕ) (site : SiteId) (code : Tree) →
-    followed locks (path_to site code) code ≡ reached locks site code
+    followed Before locks (path_to site code) code ≡ reached locks site code
 followed-path locks site (Op at place op) = refl
 followed-path locks site Skip = refl
 followed-path locks site (Seq first rest) =
     elim (has_site first site) as (λ b.
-    followed locks (cond b (true ∷ path_to site first) (false ∷ path_to site rest)) (Seq first rest) ≡
+    followed Before locks (cond b (true ∷ path_to site first) (false ∷ path_to site rest)) (Seq first rest) ≡
     cond b (reached locks site first) (passed locks first ++ reached locks site rest)) [
       | true ↦ followed-path locks site first
       | false ↦ ap (λ (ps : List WayPart). passed locks first ++ ps) (followed-path locks site rest)
     ]
 followed-path locks site (Choice left right) =
     elim (has_site left site) as (λ b.
-    followed locks (cond b (true ∷ path_to site left) (false ∷ path_to site right)) (Choice left right) ≡
+    followed Before locks (cond b (true ∷ path_to site left) (false ∷ path_to site right)) (Choice left right) ≡
     cond b (Branched Left ∷ reached locks site left) (Branched Right ∷ reached locks site right)) [
       | true ↦ ap (λ (ps : List WayPart). Branched Left ∷ ps) (followed-path locks site left)
       | false ↦ ap (λ (ps : List WayPart). Branched Right ∷ ps) (followed-path locks site right)
@@ -200,10 +201,10 @@ path-on a b site xs left none is =
 
 pub reached-along : (code : Tree) (site : SiteId) (path : List Bool) (found : Option CoreOp) →
     path ≡ path_where site code → found ≡ op_there code site → is_some found ≡ true →
-    followed 0 path code ≡ reached_where site code
+    followed Before 0 path code ≡ reached_where site code
 reached-along code site path found is there some =
     let has : has_site code site ≡ true = has-found code site found true there some in
-    ap (λ (p : List Bool). followed 0 p code) (is ∙ where-there code site has)
+    ap (λ (p : List Bool). followed Before 0 p code) (is ∙ where-there code site has)
     ∙ followed-path 0 site code
     ∙ ap (λ (b : Bool). cond b (reached 0 site code) []) (sym has)
 

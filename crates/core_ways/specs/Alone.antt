@@ -1,12 +1,14 @@
 -- A contract of a public call rests on this: the laws on a thread that is run beside one that holds no monitor.
-use Rattle.std.specs.Prelude.{◌≡◌, ℕ, zero, suc, ◌+◌, Bool, true, false, ◌&&◌, List, [], ◌∷◌, ◌++◌, None}
+use Rattle.std.specs.Prelude.{◌≡◌, ℕ, zero, suc, ◌+◌, Bool, true, false, ◌&&◌, ◌||◌, not, List, [], ◌∷◌, ◌++◌, None}
 use Rattle.std.specs.Prelude.{Some, drop, length, slice_get, if◌then◌else◌}
 use Rattle.std.specs.Option.{option_and_then}
 use Rattle.racer_base.specs.declared.ids.MethodId.{MethodId}
 use Rattle.core_code.specs.Calls.{method_at}
 use Rattle.core_code.specs.Core.{Core, Method}
+use Rattle.core_code.specs.declared.code.Op.{Op as CoreOp}
+use Rattle.core_code.specs.declared.code.Op.TheVariants.{Throw}
 use Rattle.racer_base.specs.declared.ids.SiteId.{SiteId}
-use Rattle.core_code.specs.Tree.{Tree, Operation, can_end}
+use Rattle.core_code.specs.Tree.{Tree, Operation, can_end, can_return}
 use Rattle.core_code.specs.Tree as tree
 use Rattle.core_semantics.specs.declared.answer.Holder.{Holder}
 use Rattle.core_semantics.specs.declared.answer.Turn.{Turn}
@@ -18,7 +20,7 @@ use Rattle.core_semantics.specs.Runs.{is_turn, next_of}
 use Rattle.core_semantics.specs.State.{Frame, State, Store, Thread, Todo, Op, before, thread_of}
 use Rattle.core_semantics.specs.State.{with_thread}
 use Rattle.core_semantics.specs.Steps.{After, Next, Goes, Sticks, Waits, Ends, ended_with, thread_step}
-use Rattle.core_ways.specs.Ways.{Trip, has_site, passed, reached, trip_along}
+use Rattle.core_ways.specs.Ways.{Trip, has_site, passed, reached, to_return, trip_along}
 
 -- whether a thread is at a choice or a loop
 abbrev pub is_at_turn : Thread → Bool
@@ -92,6 +94,31 @@ RunsPast core trips code =
     (locks : List Holder) →
     LeadsTo core (trip_along trips (passed locked code)).turns (trip_along trips (passed locked code)).steps
     (here store vars stack (before code todo) locked callers locks) (IsBehind (can_end code) todo locked callers locks)
+
+-- whether code has no throw
+abbrev pub is_throwless_op : CoreOp → Bool
+is_throwless_op Throw = false
+is_throwless_op _ = true
+
+abbrev pub is_throwless : Tree → Bool
+is_throwless (tree.Op site place op) = is_throwless_op op
+is_throwless tree.Skip = true
+is_throwless (tree.Seq first rest) = is_throwless first && is_throwless rest
+is_throwless (tree.Choice left right) = is_throwless left && is_throwless right
+is_throwless (tree.Loop body) = is_throwless body
+is_throwless (tree.Sync lock body) = is_throwless body
+
+-- whether what comes to code comes back from it, or throws
+abbrev pub comes_back : Tree → Bool
+comes_back code = not (can_end code) || can_return code
+
+-- code is gone through to a return
+abbrev pub RunsBack : Core → (MethodId → Trip) → Tree → Type 0
+RunsBack core trips code =
+    (locked : ℕ) (store : Store) (vars stack : List Value) (todo : List Todo) (callers : List Frame)
+    (locks : List Holder) →
+    LeadsTo core (trip_along trips (to_return locked code)).turns (trip_along trips (to_return locked code)).steps
+    (here store vars stack (before code todo) locked callers locks) (HasReturned callers (drop locked locks))
 
 -- a method is passed from its entry on to its return
 abbrev pub MethodRuns : Core → (MethodId → Trip) → MethodId → Type 0

@@ -5,7 +5,7 @@ use Rattle.racer_base.specs.declared.ids.Kind.TheVariants.{Plain, Declared, Othe
 use Rattle.access_paths.specs.declared.path.Path.{Path}
 use Rattle.access_paths.specs.declared.path.Root.TheVariants.{This}
 use Rattle.core_code.specs.declared.code.Op.{Op as CoreOp}
-use Rattle.core_code.specs.declared.code.Op.TheVariants.{Push, PushPrim, Drop, Get, Put, Outside, Call, Unread, Ret}
+use Rattle.core_code.specs.declared.code.Op.TheVariants.{Push, PushPrim, Drop, Get, Put, Outside, Call, Unread, Ret, Throw}
 use Rattle.core_code.specs.declared.code.Reason.TheVariants.{Recursive}
 use Rattle.core_code.specs.declared.parts.FieldCore.{FieldCore}
 use Rattle.core_code.specs.Tree.{Tree, Op, Skip, Seq, Choice, Loop, Sync, in_sequence}
@@ -163,6 +163,24 @@ storing =
     (this ∷ this ∷ op (Put (field 1)) ∷ op Drop ∷ this ∷ op (Get (field 1)) ∷ op PushPrim ∷ op (Put (field 0))
     ∷ op Drop ∷ returned)
     ∷ [])
+
+-- class A {
+--   int c;
+--   void write() { if (t) { throw x; } find(); this.c = 1; }
+--   private void find() { while (t) { if (u) return; } throw x; }
+--   void late() { fail(); this.c = 2; }
+--   private void fail() { throw x; }
+-- }
+abbrev pub throwing : Core
+throwing =
+    program_of (field_of 1 Plain ∷ [])
+    (method_of true
+    (Choice (op Throw) Skip ∷ this ∷ op (Call (method 1) 1) ∷ op Drop ∷ this ∷ op PushPrim ∷ op (Put (field 0))
+    ∷ op Drop ∷ returned)
+    ∷ method_of false (Loop (Choice (in_sequence returned) Skip) ∷ op Throw ∷ [])
+    ∷ method_of true
+    (this ∷ op (Call (method 3) 1) ∷ op Drop ∷ this ∷ op PushPrim ∷ op (Put (field 0)) ∷ op Drop ∷ returned)
+    ∷ method_of false (op_at 7 25 Throw ∷ []) ∷ [])
 
 -- records of two methods
 abbrev pub pair_of : ℕ → ℕ → ℕ → ℕ → Pair

@@ -2,6 +2,7 @@
 pub mod Ways
 pub mod Answers
 pub mod Paths
+pub mod Exits
 pub mod Going
 pub mod Counts
 pub mod Passings

@@ -1,6 +1,6 @@
 -- A contract of a public call rests on this: the way of a record, from the entry of its method to just before the
 -- access. These fixed ways are this project's own.
-use Rattle.std.specs.Prelude.{ℕ, suc, ◌+◌, Bool, List, [], ◌∷◌, ◌++◌, Option, None, Some, is_some}
+use Rattle.std.specs.Prelude.{ℕ, suc, ◌+◌, Bool, ◌&&◌, ◌||◌, not, List, [], ◌∷◌, ◌++◌, Option, None, Some, is_some}
 use Rattle.std.specs.Prelude.{is_none, replicate}
 use Rattle.std.specs.Option.{option_and_then}
 use Rattle.std.specs.Prelude.{if◌then◌else◌}
@@ -9,7 +9,7 @@ use Rattle.racer_base.specs.declared.ids.Place.{Place}
 use Rattle.racer_base.specs.declared.ids.SiteId.{SiteId}
 use Rattle.core_code.specs.declared.code.Op.{Op as CoreOp}
 use Rattle.core_code.specs.declared.code.Op.TheVariants.{Call, Unread as UnreadCall, Ret}
-use Rattle.core_code.specs.Tree.{Tree, Op, Skip, Seq, Choice, Loop, Sync, can_end, op_at}
+use Rattle.core_code.specs.Tree.{Tree, Op, Skip, Seq, Choice, Loop, Sync, can_end, can_return, op_at}
 use Rattle.core_code.specs.Core.{Core, Method}
 use Rattle.core_code.specs.Calls.{method_at, closed_by_rank}
 use Rattle.access_domain.specs.declared.access.Access.{Access}
@@ -37,6 +37,24 @@ passed locks (Choice left right) =
 passed locks (Loop body) = Branched Right ∷ []
 passed locks (Sync lock body) =
     Step ∷ passed (suc locks) body ++ (if can_end body then Step ∷ [] else [])
+
+-- Coming to a return of a method, from the beginning of its code: in a sequence the last part that can return behind
+-- parts that can end; a choice takes left where its left side can return, else right; a loop round the return is gone
+-- into once. What stands before the return is passed.
+
+-- whether the first of two parts is passed
+abbrev pub goes_past : Tree → Tree → Bool
+goes_past first rest = can_end first && (can_return rest || not (can_return first))
+
+abbrev pub to_return : ℕ → Tree → List WayPart
+to_return locks (Op site place op) = passed_op locks place op
+to_return locks Skip = []
+to_return locks (Seq first rest) =
+    if goes_past first rest then passed locks first ++ to_return locks rest else to_return locks first
+to_return locks (Choice left right) =
+    if can_return left then Branched Left ∷ to_return locks left else Branched Right ∷ to_return locks right
+to_return locks (Loop body) = Branched Left ∷ to_return locks body
+to_return locks (Sync lock body) = Step ∷ to_return (suc locks) body
 
 -- Going towards a site: each choice and each loop round it is taken towards it, a loop once. What stands before it is
 -- passed.
@@ -78,7 +96,7 @@ abbrev pub trip_along : (MethodId → Trip) → List WayPart → Trip
 trip_along trips [] = straight 0
 trip_along trips (part ∷ parts) = joined (trip_of_part trips part) (trip_along trips parts)
 
--- Passing a method, from its entry to its first return, which is counted once a method.
+-- Passing a method, from its entry to a return, which is counted once a method.
 
 -- the code of a method, where it is analysed
 abbrev pub code_at : Core → MethodId → Option Tree
@@ -86,7 +104,7 @@ code_at core m =
     option_and_then (λ (method : Method). if is_none method.status then Some method.code else None) (method_at core m)
 
 abbrev pub parts_of : Core → MethodId → List WayPart
-parts_of core m = elim (code_at core m) [ None ↦ [] | Some code ↦ passed 0 code ]
+parts_of core m = elim (code_at core m) [ None ↦ [] | Some code ↦ to_return 0 code ]
 
 abbrev pub trip_given : Core → (MethodId → Trip) → MethodId → Trip
 trip_given core trips m = trip_along trips (parts_of core m)

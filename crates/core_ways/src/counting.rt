@@ -7,8 +7,8 @@ ghost use Rattle.core_ways.specs.Ways.{parts_of, trip_of, trip_of_part, trip_alo
 
 use crate::count::Count;
 use crate::part::WayPart;
-use crate::passing::pass;
 use crate::reaching::code_of;
+use crate::returning::come_back;
 use core_code::Program;
 use racer_base::{Memory, MethodId};
 use std::alloc::Global;
@@ -34,7 +34,7 @@ pub(crate) fn parts_of(
 {
     let mut parts = Vec::new(alloc);
     if let Some(code) = code_of(program, method) {
-        let Ok(_ends) = pass(&mut parts, 0, code) else {
+        let Ok(()) = come_back(alloc, &mut parts, code) else {
             return Err(Memory);
         };
     }

@@ -1,5 +1,5 @@
 //! Values of ways and marks on small programs.
-ghost use Rattle.std.specs.Prelude.{◌≡◌, ℕ, List, [], ◌∷◌, IsTrue, Some};
+ghost use Rattle.std.specs.Prelude.{◌≡◌, ℕ, List, [], ◌∷◌, IsTrue, Some, false};
 ghost use Rattle.racer_base.specs.declared.ids.MethodId.{MethodId};
 ghost use Rattle.racer_base.specs.declared.ids.SiteId.{SiteId};
 ghost use Rattle.access_paths.specs.declared.path.Root.TheVariants.{This, Some as SomeOf};
@@ -8,7 +8,7 @@ ghost use Rattle.core_code.specs.Calls.{is_analysed, method_at};
 ghost use Rattle.core_code.specs.Core.{Core, Method};
 ghost use Rattle.core_code.specs.Pair.{at};
 ghost use Rattle.core_code.specs.Program.{core};
-ghost use Rattle.core_code.specs.Tree.{Operation, op_at};
+ghost use Rattle.core_code.specs.Tree.{Operation, Tree, can_end, can_return, op_at};
 ghost use Rattle.core_semantics.specs.declared.answer.Turn.{Turn};
 ghost use Rattle.core_semantics.specs.declared.answer.Turn.TheVariants.{Left, Right};
 ghost use Rattle.core_semantics.specs.declared.object.StartRoot.TheVariants.{This as StartThis};
@@ -16,10 +16,10 @@ ghost use Rattle.core_semantics.specs.Legs.{runs};
 ghost use Rattle.core_semantics.specs.State.{State, other_of};
 ghost use Rattle.core_semantics.specs.Examples.{early, field, gate, method, null};
 ghost use Rattle.core_ways.specs.Marks.{mark_of, Unnamed, Unread, Unstable, Blocked, Confirmed};
-ghost use Rattle.core_ways.specs.Examples.{with_sites, card, circle, doubling, turning, storing};
+ghost use Rattle.core_ways.specs.Examples.{with_sites, card, circle, doubling, throwing, turning, storing};
 ghost use Rattle.core_ways.specs.Examples.{pair_of, leg_of, this_path};
-ghost use Rattle.core_ways.specs.Alone.{IsSeen, MethodRuns, RunsTo, alone, do_end_before, part_of};
-ghost use Rattle.core_ways.specs.Ways.{trip_of, way_of};
+ghost use Rattle.core_ways.specs.Alone.{IsSeen, MethodRuns, RunsTo, alone, do_end_before, is_throwless, part_of};
+ghost use Rattle.core_ways.specs.Ways.{passed, to_return, trip_of, way_of};
 
 /// The way to a write behind a lock inside which a method may return.
 pub fn early_row()
@@ -79,6 +79,15 @@ pub fn storing_row()
     ensures { mark_of storing (pair_of 0 2 0 2) (this_path (1 ∷ 0 ∷ [])) ≡ Unstable (this_path []) }
 {}
 
+/// A method that is passed is gone through to a return and past no throw, where it has one. Where it has none the way is
+/// stuck at a throw.
+pub fn throwing_row()
+    ensures way { way_of throwing (method 0) 0 ≡ record { turns = Right ∷ Left ∷ Left ∷ []; steps = 10; unread = [] } }
+    ensures mark { mark_of throwing (pair_of 0 0 0 0) (this_path (0 ∷ []))
+        ≡ Confirmed [] (leg_of 0 (Right ∷ Left ∷ Left ∷ []) 10 ∷ leg_of 1 (Right ∷ Left ∷ Left ∷ []) 10 ∷ []) }
+    ensures blocked { mark_of throwing (pair_of 2 0 0 0) (this_path (0 ∷ [])) ≡ Blocked 0 (at 7 25) }
+{}
+
 /// The parts of ways, run by one thread beside one that holds no monitor, where it is not stuck. A method that is
 /// passed uses the turns of its trip in as many steps, and comes to its return with the monitors that it had. Code that
 /// is gone into up to a site comes to the operation there, with as many monitors more as there are locks round it.
@@ -94,4 +103,11 @@ pub fn parts_run()
 pub fn alone_beside_another()
     ensures { (core : Core) (t n : ℕ) (turns : List Turn) (s : State) → (other_of s t).locks ≡ [] →
         IsSeen s t (alone core n turns (part_of s t)) (runs core t n turns s) }
+{}
+
+/// Code that cannot end and has no throw comes to a return as code is passed, turn by turn and step by step.
+pub fn throwless_methods_are_passed()
+    ensures returns { (code : Tree) → IsTrue (is_throwless code) → can_end code ≡ false → IsTrue (can_return code) }
+    ensures passed { (locks : ℕ) (code : Tree) → IsTrue (is_throwless code) → can_end code ≡ false →
+        to_return locks code ≡ passed locks code }
 {}

@@ -17,6 +17,7 @@ mod objects;
 mod part;
 mod passing;
 mod reaching;
+mod returning;
 mod taken;
 mod turns;
 mod way_pair;

@@ -1,10 +1,10 @@
 //! Code that is passed on a way, and code up to a site.
 ghost use Rattle.std.specs.Prelude.{◌≡◌, ◌++◌, ◌∷◌, [], false, true, map, not, suc, take, replicate, IfOk, OnOk};
-ghost use Rattle.core_code.specs.Tree.{tree_of, in_sequence, can_end, is_return};
+ghost use Rattle.core_code.specs.Tree.{tree_of, in_sequence, can_end, stops};
 ghost use Rattle.core_semantics.specs.declared.answer.Turn.TheVariants.{Left};
 ghost use Rattle.core_ways.specs.declared.part.WayPart.TheVariants.{Step, Branched};
 ghost use Rattle.core_ways.specs.Ways.{passed, passed_op};
-ghost use Rattle.core_ways.specs.Paths.{followed, sides_of, turn_to};
+ghost use Rattle.core_ways.specs.Paths.{followed, passed_end, sides_of, turn_to};
 
 use crate::part::WayPart;
 use core_code::{Code, Op};
@@ -31,6 +31,17 @@ fn put_return(parts: &mut Vec<WayPart>, locks: u32) -> Result<bool, Memory>
             return Err(Memory);
         };
     }
+    Ok(false)
+}
+
+/// Puts one step at the end: a throw, behind which nothing is done.
+fn put_throw(parts: &mut Vec<WayPart>) -> Result<bool, Memory>
+    ensures ends { IfOk result (λ ends. ends ≡ false) }
+    ensures parts { OnOk result (parts.new.items ≡ parts.old.items ++ Step ∷ []) }
+{
+    let Ok(()) = parts.push(WayPart::Step) else {
+        return Err(Memory);
+    };
     Ok(false)
 }
 
@@ -65,11 +76,12 @@ fn turn_left(parts: &mut Vec<WayPart>, before: usize) -> Result<(), Memory>
 
 /// Passes an operation; whether what stands behind it is done.
 fn pass_op(parts: &mut Vec<WayPart>, locks: u32, place: Place, op: Op) -> Result<bool, Memory>
-    ensures ends { IfOk result (λ ends. ends ≡ not (is_return op)) }
+    ensures ends { IfOk result (λ ends. ends ≡ not (stops op)) }
     ensures parts { OnOk result (parts.new.items ≡ parts.old.items ++ passed_op locks place op) }
 {
     match op {
         Op::Ret => put_return(parts, locks),
+        Op::Throw => put_throw(parts),
         Op::Call(method, _) => put(parts, WayPart::Passed(method)),
         Op::Unread(_, _) => put(parts, WayPart::Unread(place)),
         _ => put(parts, WayPart::Step),
@@ -138,6 +150,31 @@ fn pass_through(parts: &mut Vec<WayPart>, locks: u32, codes: &[Code]) -> Result<
     Ok(true)
 }
 
+/// Where a path ends: before an operation, or behind it.
+#[derive(Clone, Copy)]
+pub(crate) enum PathEnd {
+    Before,
+    Behind,
+}
+
+/// Passes the operation at which a path ends, where it ends behind it.
+fn pass_end(
+    parts: &mut Vec<WayPart>,
+    locks: u32,
+    end: PathEnd,
+    place: Place,
+    op: Op,
+) -> Result<(), Memory>
+    ensures { OnOk result (parts.new.items ≡ parts.old.items ++ passed_end end locks place op) }
+{
+    if let PathEnd::Behind = end {
+        let Ok(_ends) = pass_op(parts, locks, place, op) else {
+            return Err(Memory);
+        };
+    }
+    Ok(())
+}
+
 /// The first side of a path, and those behind it.
 fn first_side(path: &[bool]) -> Option<(bool, &[bool])>
     ensures { path.now ≡ sides_of result }
@@ -153,14 +190,15 @@ fn first_side(path: &[bool]) -> Option<(bool, &[bool])>
 pub(crate) fn follow(
     parts: &mut Vec<WayPart>,
     locks: u32,
+    end: PathEnd,
     path: &[bool],
     code: &Code,
 ) -> Result<(), Memory>
-    ensures { OnOk result (parts.new.items ≡ parts.old.items ++ followed locks path.now (tree_of code.now)) }
+    ensures { OnOk result (parts.new.items ≡ parts.old.items ++ followed end locks path.now (tree_of code.now)) }
 {
     match code {
-        Code::Op(_, _, _) => Ok(()),
-        Code::Seq(codes) => follow_through(parts, locks, path, codes.as_slice()),
+        Code::Op(_, place, op) => pass_end(parts, locks, end, *place, *op),
+        Code::Seq(codes) => follow_through(parts, locks, end, path, codes.as_slice()),
         Code::Choice(left, right) => {
             let Some((is_left, rest)) = first_side(path) else {
                 return Ok(());
@@ -169,15 +207,15 @@ pub(crate) fn follow(
                 return Err(Memory);
             };
             if is_left {
-                return follow(parts, locks, rest, left);
+                return follow(parts, locks, end, rest, left);
             }
-            follow(parts, locks, rest, right)
+            follow(parts, locks, end, rest, right)
         }
         Code::Loop(body) => {
             let Ok(()) = parts.push(WayPart::Branched(Turn::Left)) else {
                 return Err(Memory);
             };
-            follow(parts, locks, path, body)
+            follow(parts, locks, end, path, body)
         }
         Code::Sync(_, _, body) => {
             let Ok(()) = parts.push(WayPart::Step) else {
@@ -186,7 +224,7 @@ pub(crate) fn follow(
             let Ok(within) = one_more(locks) else {
                 return Err(Memory);
             };
-            follow(parts, within, path, body)
+            follow(parts, within, end, path, body)
         }
     }
 }
@@ -196,11 +234,12 @@ pub(crate) fn follow(
 fn follow_through(
     parts: &mut Vec<WayPart>,
     locks: u32,
+    end: PathEnd,
     path: &[bool],
     codes: &[Code],
 ) -> Result<(), Memory>
     ensures { OnOk result (
-        parts.new.items ≡ parts.old.items ++ followed locks path.now (in_sequence (map tree_of codes.now))) }
+        parts.new.items ≡ parts.old.items ++ followed end locks path.now (in_sequence (map tree_of codes.now))) }
 {
     let mut path = path;
     for code in codes {
@@ -208,7 +247,7 @@ fn follow_through(
             return Ok(());
         };
         if is_first {
-            return follow(parts, locks, rest, code);
+            return follow(parts, locks, end, rest, code);
         }
         let Ok(_ends) = pass(parts, locks, code) else {
             return Err(Memory);

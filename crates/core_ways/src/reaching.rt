@@ -10,7 +10,7 @@ ghost use Rattle.core_ways.specs.Ways.{code_at, way_parts};
 
 use crate::finding::find;
 use crate::part::WayPart;
-use crate::passing::follow;
+use crate::passing::{PathEnd, follow};
 use access_domain::{Outcomes, record_of};
 use core_code::{Code, Op, Program};
 use racer_base::{Memory, MethodId, SiteId};
@@ -61,7 +61,7 @@ fn follow_to(
     let Some(op) = find(&mut path, site, code)? else {
         return Ok(None);
     };
-    follow(parts, 0, path.as_slice(), code)?;
+    follow(parts, 0, PathEnd::Before, path.as_slice(), code)?;
     Ok(Some(op))
 }
 

@@ -17,7 +17,7 @@ use Rattle.access_domain.specs.Operations.{op_effects, record_of, slot_of, top}
 use Rattle.access_domain.specs.Substitution.{touched}
 use Rattle.core_code.specs.declared.code.Op.{Op as CoreOp}
 use Rattle.core_code.specs.declared.code.Op.TheVariants.{Push, PushClass, PushPrim, PushNull, New, Dup, Drop, Get, Put}
-use Rattle.core_code.specs.declared.code.Op.TheVariants.{Set, Prim, Outside, Call, Unread, Ret}
+use Rattle.core_code.specs.declared.code.Op.TheVariants.{Set, Prim, Outside, Call, Unread, Ret, Throw}
 use Rattle.core_code.specs.declared.parts.FieldCore.{FieldCore}
 use Rattle.core_code.specs.Calls.{called_by}
 use Rattle.core_code.specs.Core.{Core, Method}
@@ -184,3 +184,4 @@ module _ (core : Core) (quiet : Quietness core) (n : Naming) (method : Method) (
   op-met (Outside count) kinds after s at r no_call kinded frame stored has = absurd has
   op-met (Unread m count) kinds after s at r no_call kinded frame stored has = absurd has
   op-met Ret kinds after s at r no_call kinded frame stored has = absurd has
+  op-met Throw kinds after s at r no_call kinded frame stored has = absurd has

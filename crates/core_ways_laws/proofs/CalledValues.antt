@@ -12,7 +12,7 @@ use Rattle.core_code.specs.declared.code.Op.TheVariants.{Prim, Call}
 use Rattle.core_code.specs.Calls.{called_by, is_analysed, known_below, method_at, rank_of}
 use Rattle.core_code.specs.CallFacts.{ends_by_return, has_ranks}
 use Rattle.core_code.specs.Core.{Core, Method}
-use Rattle.core_code.specs.Tree.{Tree, Op, Skip, Seq, Choice, Loop, Sync, can_end, steps_of}
+use Rattle.core_code.specs.Tree.{Tree, Op, Skip, Seq, Choice, Loop, Sync, can_end, can_return, steps_of}
 use Rattle.core_code.proofs.BoolParts.{first_part, last_part}
 use Rattle.core_code.proofs.ByRank.{known_below-lower}
 use Rattle.core_semantics.specs.declared.answer.Holder.{Holder}
@@ -20,17 +20,18 @@ use Rattle.core_semantics.specs.declared.object.Value.{Value}
 use Rattle.core_semantics.specs.State.{Frame, Store, before}
 use Rattle.core_semantics.specs.Steps.{After, monitor_of}
 use Rattle.core_ways.specs.declared.part.WayPart.{WayPart}
-use Rattle.core_ways.specs.Ways.{Trip, code_at, passed, trip_along, trip_of}
+use Rattle.core_ways.specs.Ways.{Trip, code_at, goes_past, to_return, trip_along, trip_of}
 use Rattle.core_ways.specs.Alone.{alone}
 use Rattle.core_ways.proofs.Alone.{Leads, weaker}
 use Rattle.core_ways.proofs.AloneMethods.{AreRight, calls-pass, code-there, may_call}
 use Rattle.core_ways.proofs.Callees.{do_pass, lower-calls, lower-parts, pass-both}
 use Rattle.core_ways.proofs.Trips.{trip_of-parts}
 use Rattle.core_ways_laws.specs.Values.{Behind, Back, Calls, End, Point, call_given, call_of, entry_point, evaluate, go_on}
-use Rattle.core_ways_laws.specs.Values.{evaluate_op}
+use Rattle.core_ways_laws.specs.Values.{come_back, evaluate_op, only_back}
 use Rattle.core_ways_laws.specs.Values.{on_ok, point_popped, received, returned_to, top_value, value_back, values_passed}
-use Rattle.core_ways_laws.specs.RunValues.{GoesPast, IsBack, IsEnd, MethodGoes, at_point, back_at}
-use Rattle.core_ways_laws.proofs.PassedValues.{EndsAs, go-ends, goes-past}
+use Rattle.core_ways_laws.specs.RunValues.{GoesBack, IsBack, IsEnd, MethodGoes, at_point, back_at}
+use Rattle.core_ways_laws.proofs.PassedValues.{EndsAs}
+use Rattle.core_ways_laws.proofs.BackValues.{back-ends, goes-back}
 
 -- ---- what calls give, from what the methods of smaller ranks give
 
@@ -64,19 +65,40 @@ module _ (core : Core) (f g : Calls) (test : MethodId → Bool) (same : (m : Met
       let inside = go-same body all in
       (λ i at. on_ok (monitor_of lock.kind (top_value at)) (inside i (point_popped at 1)))
 
+  pub back-same : (code : Tree) → do_pass test (steps_of code) ≡ true →
+      ◌≡◌ {A = Point → Option End} (λ at. come_back core f code at) (λ at. come_back core g code at)
+  back-same (Op site place op) all = (λ i at. only_back (op-same op all i at))
+  back-same Skip all = refl
+  back-same (Seq first rest) all =
+      let both = pass-both test (steps_of first) (steps_of rest) all in
+      let early = first_part (do_pass test (steps_of first)) (do_pass test (steps_of rest)) both in
+      let past = go-same first early in
+      let back = back-same first early in
+      let late = back-same rest (last_part (do_pass test (steps_of first)) (do_pass test (steps_of rest)) both) in
+      (λ i at. cond (goes_past first rest) (go_on (past i at) (late i)) (back i at))
+  back-same (Choice left right) all =
+      let both = pass-both test (steps_of left) (steps_of right) all in
+      let l = back-same left (first_part (do_pass test (steps_of left)) (do_pass test (steps_of right)) both) in
+      let r = back-same right (last_part (do_pass test (steps_of left)) (do_pass test (steps_of right)) both) in
+      (λ i at. cond (can_return left) (l i at) (r i at))
+  back-same (Loop body) all = back-same body all
+  back-same (Sync lock body) all =
+      let inside = back-same body all in
+      (λ i at. on_ok (monitor_of lock.kind (top_value at)) (inside i (point_popped at 1)))
+
 abbrev lower : Core → MethodId → MethodId → Bool
 lower core m n = nat_lt (rank_of core n) (rank_of core m)
 
 abbrev inner_calls : Core → MethodId → Calls
 inner_calls core m = known_below (λ values store. None) (call_given core) core (rank_of core m)
 
--- passing code of an analysed method, with what the calls of all methods give
-pub go-closed : (core : Core) → has_ranks core ≡ true → (m : MethodId) (method : Method) →
+-- coming back from the code of an analysed method, with what the calls of all methods give
+pub back-closed : (core : Core) → has_ranks core ≡ true → (m : MethodId) (method : Method) →
     method_at core m ≡ Some method → is_analysed core m ≡ true →
-    ◌≡◌ {A = Point → Option End} (λ at. evaluate core (inner_calls core m) method.code at)
-    (λ at. evaluate core (call_of core) method.code at)
-go-closed core ranks m method is analysed =
-    go-same core (inner_calls core m) (call_of core) (lower core m)
+    ◌≡◌ {A = Point → Option End} (λ at. come_back core (inner_calls core m) method.code at)
+    (λ at. come_back core (call_of core) method.code at)
+back-closed core ranks m method is analysed =
+    back-same core (inner_calls core m) (call_of core) (lower core m)
     (λ n low. known_below-lower (λ values store. None) (call_given core) core (rank_of core m) n
     (ltb-true (rank_of core n) (rank_of core m) low)) method.code
     (lower-calls core m method.code ranks (code-there core m method is analysed))
@@ -85,14 +107,14 @@ go-closed core ranks m method is analysed =
 pub call_of-code : (core : Core) → has_ranks core ≡ true → (m : MethodId) (method : Method) →
     method_at core m ≡ Some method → is_analysed core m ≡ true →
     ◌≡◌ {A = List Value → Store → Option (Store × Value)} (call_of core m)
-    (λ values store. value_back (evaluate core (call_of core) method.code (entry_point method values store)))
+    (λ values store. value_back (come_back core (call_of core) method.code (entry_point method values store)))
 call_of-code core ranks m method is analysed =
     (λ i values store. elim (is i) as (λ _. Option (Store × Value)) [
       | None ↦ None
-      | Some x ↦ value_back (evaluate core (inner_calls core m) x.code (entry_point x values store))
+      | Some x ↦ value_back (come_back core (inner_calls core m) x.code (entry_point x values store))
     ])
     ∙ (λ i values store.
-    value_back (go-closed core ranks m method is analysed i (entry_point method values store)))
+    value_back (back-closed core ranks m method is analysed i (entry_point method values store)))
 
 -- ---- runs
 
@@ -140,24 +162,24 @@ method-goes core right (suc k) m low analysed method is =
     (let below = ltb-true (rank_of core n) (rank_of core m)
     (first_part (nat_lt (rank_of core n) (rank_of core m)) (is_analysed core n) may) in omega arith)
     (last_part (nat_lt (rank_of core n) (rank_of core m)) (is_analysed core n) may) in
-    let past : GoesPast core (trip_of core) (call_of core) code =
-    goes-past core (trip_of core) (call_of core) (may_call core m) holds code calls in
     let ends : can_end code ≡ false = code-never-ends core right m method is analysed in
-    let trip : trip_of core m ≡ trip_along (trip_of core) (passed 0 code) =
+    let back : GoesBack core (trip_of core) (call_of core) code =
+    goes-back core (trip_of core) (call_of core) (may_call core m) holds code
+    (ap (λ (b : Bool). not b || can_return code) ends) calls in
+    let trip : trip_of core m ≡ trip_along (trip_of core) (to_return 0 code) =
     trip_of-parts core m (lower-parts core m right.ranks)
     ∙ ap (λ (o : Option Tree).
-    trip_along (trip_of core) (elim o as (λ _. List WayPart) [ None ↦ [] | Some c ↦ passed 0 c ])) at in
+    trip_along (trip_of core) (elim o as (λ _. List WayPart) [ None ↦ [] | Some c ↦ to_return 0 c ])) at in
     λ values store callers locks.
     let p : Point = entry_point method values store in
-    let o : Option End = evaluate core (call_of core) code p in
+    let o : Option End = come_back core (call_of core) code p in
     let a : After = at_point p (before code []) 0 callers locks in
     subst (λ (x : Option (Store × Value)). Leads core (trip_of core m) a (IsBack x callers locks))
     (sym (ap (λ (c : List Value → Store → Option (Store × Value)). c values store)
     (call_of-code core right.ranks m method is analysed)))
     (subst (λ (t : Trip). Leads core t a (IsBack (value_back o) callers locks)) (sym trip)
     (λ rest. weaker (IsEnd o [] 0 callers locks) (IsBack (value_back o) callers locks) rest
-    (alone core (trip_along (trip_of core) (passed 0 code)).steps
-    ((trip_along (trip_of core) (passed 0 code)).turns ++ rest) a)
-    (λ x. comes-back o callers locks x
-    (subst (λ (b : Bool). EndsAs b o) ends (go-ends core (call_of core) code p)))
-    (past 0 p [] callers locks rest)))
+    (alone core (trip_along (trip_of core) (to_return 0 code)).steps
+    ((trip_along (trip_of core) (to_return 0 code)).turns ++ rest) a)
+    (λ x. comes-back o callers locks x (back-ends core (call_of core) code p))
+    (back 0 p [] callers locks rest)))

@@ -1,6 +1,6 @@
--- A flow has a state at its end exactly where its code can end, and a result where it cannot; and what is known of the
--- calls of a flow that is not large.
-use Rattle.std.proofs.Common.{◌≡◌, ℕ, Bool, true, false, ◌&&◌, ◌||◌, not, Option, None, Some, is_some}
+-- A flow has a state at its end exactly where its code can end, and a result exactly where it can return; and what is
+-- known of the calls of a flow that is not large.
+use Rattle.std.proofs.Common.{◌≡◌, ℕ, Bool, true, false, ◌&&◌, ◌||◌, not, Option, None, Some, is_some, length, ◌+◌}
 use Rattle.std.proofs.Common.{refl, sym, ap, ◌∙◌}
 use Rattle.racer_base.specs.declared.ids.MethodId.{MethodId}
 use Rattle.racer_base.specs.declared.ids.SiteId.{SiteId}
@@ -8,12 +8,12 @@ use Rattle.owner_domain.specs.declared.value.Value.{Value}
 use Rattle.owner_domain.specs.declared.value.State.{State}
 use Rattle.core_code.specs.declared.code.Op.{Op as CoreOp}
 use Rattle.core_code.specs.declared.code.Op.TheVariants.{Push, PushClass, PushPrim, PushNull, New, Dup, Drop, Get, Put}
-use Rattle.core_code.specs.declared.code.Op.TheVariants.{Set, Prim, Outside, Call, Unread, Ret}
-use Rattle.core_code.specs.Tree.{Tree, Op, Skip, Seq, Choice, Loop, Sync, can_end, is_return}
+use Rattle.core_code.specs.declared.code.Op.TheVariants.{Set, Prim, Outside, Call, Unread, Ret, Throw}
+use Rattle.core_code.specs.Tree.{Tree, Op, Skip, Seq, Choice, Loop, Sync, can_end, can_return, is_return, stops}
 use Rattle.access_domain.specs.Findings.{Findings, Known, Large, Whole}
 use Rattle.access_domain.specs.FlowContext.{FlowContext}
 use Rattle.access_domain.specs.Operations.{Effects, popped, call_effects, op_effects}
-use Rattle.access_domain.specs.Flow.{both, after, joined_next, joined_result, flow}
+use Rattle.access_domain.specs.Flow.{both, after, joined_next, joined_result, flow, rounds}
 
 -- ---- one part and then another
 
@@ -45,8 +45,14 @@ call_ends g locked site m count s None = refl
 call_ends g locked site m count s (Some Large) = refl
 call_ends g locked site m count s (Some (Whole found)) = refl
 
+call_returns : (g : FlowContext) (locked : Bool) (site : SiteId) (m : MethodId) (count : ℕ) (s : State)
+    (o : Option Known) → is_some (call_effects g locked site m count s o).result ≡ false
+call_returns g locked site m count s None = refl
+call_returns g locked site m count s (Some Large) = refl
+call_returns g locked site m count s (Some (Whole found)) = refl
+
 op_ends : (g : FlowContext) (locked : Bool) (site : SiteId) (op : CoreOp) (s : State) →
-    is_some (op_effects g locked site op s).next ≡ not (is_return op)
+    is_some (op_effects g locked site op s).next ≡ not (stops op)
 op_ends g locked site (Push v) s = refl
 op_ends g locked site (PushClass c) s = refl
 op_ends g locked site PushPrim s = refl
@@ -62,6 +68,7 @@ op_ends g locked site (Outside n) s = refl
 op_ends g locked site (Call m n) s = call_ends g locked site m n s (g.known_of m)
 op_ends g locked site (Unread m n) s = refl
 op_ends g locked site Ret s = refl
+op_ends g locked site Throw s = refl
 
 joined_ends : (l r : Option State) → is_some (joined_next l r) ≡ (is_some l || is_some r)
 joined_ends None r = refl
@@ -88,42 +95,59 @@ ends_with_state g (Sync lock body) locked s = ends_with_state g body true (poppe
 
 -- ---- results
 
+op_returns : (g : FlowContext) (locked : Bool) (site : SiteId) (op : CoreOp) (s : State) →
+    is_some (op_effects g locked site op s).result ≡ is_return op
+op_returns g locked site (Push v) s = refl
+op_returns g locked site (PushClass c) s = refl
+op_returns g locked site PushPrim s = refl
+op_returns g locked site PushNull s = refl
+op_returns g locked site (New c) s = refl
+op_returns g locked site Dup s = refl
+op_returns g locked site Drop s = refl
+op_returns g locked site (Get f) s = refl
+op_returns g locked site (Put f) s = refl
+op_returns g locked site (Set v) s = refl
+op_returns g locked site (Prim n) s = refl
+op_returns g locked site (Outside n) s = refl
+op_returns g locked site (Call m n) s = call_returns g locked site m n s (g.known_of m)
+op_returns g locked site (Unread m n) s = refl
+op_returns g locked site Ret s = refl
+op_returns g locked site Throw s = refl
+
+joined_returns : (l r : Option Value) → is_some (joined_result l r) ≡ (is_some l || is_some r)
+joined_returns None r = refl
+joined_returns (Some a) None = refl
+joined_returns (Some a) (Some b) = refl
+
 or_false : (a b : Bool) → (a || b) ≡ false → (a ≡ false) × (b ≡ false)
 or_false true b h = cc
 or_false false b h = (refl, h)
 
-returned : (g : FlowContext) (locked : Bool) (site : SiteId) (op : CoreOp) (s : State) → not (is_return op) ≡ false →
-    is_some (op_effects g locked site op s).result ≡ true
-returned g locked site Ret s h = refl
-returned g locked site _ s h = cc
+or_none : (r : Bool) → r ≡ (r || false)
+or_none true = refl
+or_none false = refl
 
-joined_first : (l r : Option Value) → is_some l ≡ true → is_some (joined_result l r) ≡ true
-joined_first None r h = cc
-joined_first (Some a) None h = refl
-joined_first (Some a) (Some b) h = refl
-
-joined_last : (l r : Option Value) → is_some r ≡ true → is_some (joined_result l r) ≡ true
-joined_last None r h = h
-joined_last (Some a) None h = cc
-joined_last (Some a) (Some b) h = refl
-
--- the flow of code that cannot end has a result
-pub has_result : (g : FlowContext) (code : Tree) (locked : Bool) (s : State) → can_end code ≡ false →
-    is_some (flow g code locked s).result ≡ true
-has_result g (Op site place op) locked s h = returned g locked site op s h
-has_result g Skip locked s h = cc
-has_result g (Seq first rest) locked s h =
+-- a flow has a result exactly where its code can return
+pub returns_with_result : (g : FlowContext) (code : Tree) (locked : Bool) (s : State) →
+    is_some (flow g code locked s).result ≡ can_return code
+returns_with_result g (Op site place op) locked s = op_returns g locked site op s
+returns_with_result g Skip locked s = refl
+returns_with_result g (Seq first rest) locked s =
     let e : Effects = flow g first locked s in
     let ends : is_some e.next ≡ can_end first = ends_with_state g first locked s in
-    after_cases e (flow g rest locked) (λ x. is_some x.result ≡ true)
-    (λ none. has_result g first locked s (sym ends ∙ ap is_some none))
-    (λ t some. joined_last e.result (flow g rest locked t).result
-    (has_result g rest locked t (ap (λ b. b && can_end rest) (sym (ap is_some some) ∙ ends) ∙ h)))
-has_result g (Choice left right) locked s h =
-    joined_first (flow g left locked s).result (flow g right locked s).result
-    (has_result g left locked s (or_false (can_end left) (can_end right) h).0)
-has_result g (Loop body) locked s h = cc
-has_result g (Sync lock body) locked s h = has_result g body true (popped s 1) h
+    let returns : is_some e.result ≡ can_return first = returns_with_result g first locked s in
+    after_cases e (flow g rest locked) (λ x. is_some x.result ≡ (can_return first || (can_end first && can_return rest)))
+    (λ none. returns ∙ or_none (can_return first)
+    ∙ ap (λ b. can_return first || (b && can_return rest)) (sym (ap is_some none) ∙ ends))
+    (λ t some. joined_returns e.result (flow g rest locked t).result
+    ∙ (λ i. returns i || returns_with_result g rest locked t i)
+    ∙ ap (λ b. can_return first || (b && can_return rest)) (sym (ap is_some some) ∙ ends))
+returns_with_result g (Choice left right) locked s =
+    joined_returns (flow g left locked s).result (flow g right locked s).result
+    ∙ (λ i. returns_with_result g left locked s i || returns_with_result g right locked s i)
+returns_with_result g (Loop body) locked s =
+    returns_with_result g body locked (rounds (flow g body locked) (length s.vars + length s.stack + 1) s).0
+returns_with_result g (Sync lock body) locked s = returns_with_result g body true (popped s 1)
 
 -- ---- large flows
 

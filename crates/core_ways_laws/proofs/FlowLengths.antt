@@ -13,7 +13,7 @@ use Rattle.owner_domain.specs.declared.value.State.{State}
 use Rattle.owner_domain.specs.Values.{joined_values, joined_state, lost_state}
 use Rattle.core_code.specs.declared.code.Op.{Op as CoreOp}
 use Rattle.core_code.specs.declared.code.Op.TheVariants.{Push, PushClass, PushPrim, PushNull, New, Dup, Drop, Get, Put}
-use Rattle.core_code.specs.declared.code.Op.TheVariants.{Set, Prim, Outside, Call, Unread, Ret}
+use Rattle.core_code.specs.declared.code.Op.TheVariants.{Set, Prim, Outside, Call, Unread, Ret, Throw}
 use Rattle.core_code.specs.declared.parts.FieldCore.{FieldCore}
 use Rattle.core_code.specs.Tree.{Tree, Op, Skip, Seq, Choice, Loop, Sync, Operation, steps_of}
 use Rattle.core_code.specs.Core.{Core, Method}
@@ -208,6 +208,7 @@ op_shape core method g locked site (Call m n) ks ends s t right h p is =
 op_shape core method g locked site (Unread m n) ks ends s t right h p is =
     shape_replaced method ks ends s t n _ (height_popping n _ ks ends h) p is
 op_shape core method g locked site Ret ks ends s t right h p is = cc
+op_shape core method g locked site Throw ks ends s t right h p is = cc
 
 none_some : (t : State) → None ≡ Some t → ⊥
 none_some t e = cc

@@ -1,4 +1,5 @@
 pub mod PassedValues
+pub mod BackValues
 pub mod CalledValues
 pub mod SiteOrder
 pub mod LastFields
@@ -6,6 +7,11 @@ pub mod WaySites
 pub mod ReachedValues
 pub mod RecordArrivals
 pub mod WayEnds
+pub mod ClearSteps
+pub mod Clear
+pub mod ClearMethods
+pub mod ClearWays
+pub mod ClearLegs
 pub mod Accesses
 pub mod CallKept
 pub mod CallMet

@@ -20,7 +20,7 @@ use Rattle.access_domain.specs.FlowContext.{given_of}
 use Rattle.access_domain.specs.Operations.{Effects, op_effects, popped, pushed, read_value, replaced, slot_of, top}
 use Rattle.core_code.specs.declared.code.Op.{Op as CoreOp}
 use Rattle.core_code.specs.declared.code.Op.TheVariants.{Push, PushClass, PushPrim, PushNull, New, Dup, Drop, Get, Put}
-use Rattle.core_code.specs.declared.code.Op.TheVariants.{Set, Prim, Outside, Call, Unread, Ret}
+use Rattle.core_code.specs.declared.code.Op.TheVariants.{Set, Prim, Outside, Call, Unread, Ret, Throw}
 use Rattle.core_code.specs.declared.parts.FieldCore.{FieldCore}
 use Rattle.core_code.specs.Calls.{called_by}
 use Rattle.core_code.specs.Core.{Core, Method}
@@ -326,5 +326,6 @@ module _ (core : Core) (quiet : Quietness core) (n : Naming) (method : Method) (
       (opaque-place core quiet n OpaqueKind) (frame, stored)
   op-kept (Call m count) kinds after s at no_call kinded hushed frame stored = absurd cc
   op-kept (Unread m count) kinds after s at no_call kinded hushed frame stored = tt
+  op-kept Throw kinds after s at no_call kinded hushed frame stored = tt
   op-kept Ret kinds after s at no_call kinded hushed frame stored =
       return-kept kinds after s at kinded (frame, stored)

@@ -11,10 +11,10 @@ use Rattle.racer_base.specs.declared.ids.Place.{Place}
 use Rattle.racer_base.specs.declared.ids.SiteId.{SiteId}
 use Rattle.core_code.specs.declared.code.Op.{Op as CoreOp}
 use Rattle.core_code.specs.declared.code.Op.TheVariants.{Get, Put}
-use Rattle.core_code.specs.declared.code.Op.TheVariants.{Prim, Call, Unread as UnreadCall, Ret}
+use Rattle.core_code.specs.declared.code.Op.TheVariants.{Prim, Call, Unread as UnreadCall, Ret, Throw}
 use Rattle.core_code.specs.Calls.{called_by, method_at}
 use Rattle.core_code.specs.Core.{Core, Method}
-use Rattle.core_code.specs.Tree.{Tree, can_end, is_return}
+use Rattle.core_code.specs.Tree.{Tree, can_end, stops}
 use Rattle.core_code.specs.Tree.{steps_of}
 use Rattle.core_code.specs.Tree as tree
 use Rattle.core_code.proofs.BoolParts.{first_part, last_part}
@@ -260,7 +260,7 @@ behind-ends (Sticks why) = tt
 behind-ends (Waits monitor) = tt
 behind-ends Ends = tt
 
-ok-ends : {X E : Type 0} (b : Bool) (r : Result X E) (o : Option End) → EndsAs b o → EndsAs b (on_ok r o)
+pub ok-ends : {X E : Type 0} (b : Bool) (r : Result X E) (o : Option End) → EndsAs b o → EndsAs b (on_ok r o)
 ok-ends b (Ok x) o ends = ends
 ok-ends b (Err e) o ends = tt
 
@@ -289,9 +289,10 @@ call-ends calls m n at (Some method) =
     (returned-ends at n (calls m (values_passed at n) at.store))
 
 op-ends : (core : Core) (calls : Calls) (op : CoreOp) (at : Point) →
-    EndsAs (not (is_return op)) (evaluate_op core calls op at)
+    EndsAs (not (stops op)) (evaluate_op core calls op at)
 op-ends core calls (Call m n) at = call-ends calls m n at (method_at core m)
 op-ends core calls Ret at = refl
+op-ends core calls Throw at = tt
 op-ends core calls op at = behind-ends (inner_step core (inner_of at) op)
 
 then-ends : (a b : Bool) (o : Option End) (f : Point → Option End) → EndsAs a o → ((at : Point) → EndsAs b (f at)) →
@@ -324,7 +325,7 @@ go-ends core calls (tree.Sync lock body) at =
 -- ---- turns and locks
 
 -- what comes to no place comes to every place
-nowhere : (core : Core) (trip : Trip) (P : After → Type 0) (a : After) → ⊥ → Leads core trip a P
+pub nowhere : (core : Core) (trip : Trip) (P : After → Type 0) (a : After) → ⊥ → Leads core trip a P
 nowhere core trip P a none = absurd none
 
 -- behind a lock's body

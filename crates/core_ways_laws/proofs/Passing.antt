@@ -1,5 +1,5 @@
 -- Code that is passed along a way keeps the invariant.
-use Rattle.std.proofs.Common.{◌≡◌, ◌+◌, Bool, true, false, cond, List, [], ◌∷◌, ◌++◌, Some, length, map}
+use Rattle.std.proofs.Common.{◌≡◌, ◌+◌, Bool, true, false, cond, List, [], ◌∷◌, ◌++◌, Option, None, Some, length, map}
 use Rattle.std.proofs.lemmas.List.{length-map}
 use Rattle.std.proofs.Common.{refl, sym, subst, ◌∙◌, inl}
 use Rattle.racer_base.specs.declared.ids.SiteId.{SiteId}
@@ -10,13 +10,18 @@ use Rattle.core_code.specs.CallFacts.{is_right_call}
 use Rattle.core_code.specs.Core.{Core, Method}
 use Rattle.core_code.specs.KindCheck.{kinds_after, kinds_after_op}
 use Rattle.core_code.specs.Kinds.{StackKind, kind_of}
-use Rattle.core_code.specs.Tree.{Tree, Op, Skip, Seq, Choice, Loop, Sync, Operation, can_end, steps_of}
+use Rattle.core_code.specs.Tree.{Tree, Op, Skip, Seq, Choice, Loop, Sync, Operation, can_end, can_return, steps_of}
 use Rattle.core_code.proofs.Membership.{In}
 use Rattle.access_domain.specs.Findings.{Table}
-use Rattle.access_domain.specs.Flow.{chosen, flow, lost_next, lost_result, rounds}
+use Rattle.access_domain.specs.Flow.{after as in_turn, chosen, flow, lost_next, lost_result, repeated, rounds}
 use Rattle.access_domain.specs.FlowContext.{FlowContext, given_of}
 use Rattle.access_domain.specs.Operations.{Effects, op_effects, popped}
-use Rattle.core_ways_laws.specs.Values.{Point, Calls, evaluate, evaluate_op, point_popped}
+use Rattle.core_ways_laws.specs.Values.{Point, Behind, Back, Calls, End, come_back, evaluate, evaluate_op, go_on}
+use Rattle.core_ways_laws.specs.Values.{only_back, point_popped}
+use Rattle.core_ways.specs.Ways.{goes_past}
+use Rattle.access_paths.specs.declared.path.Path.{Path}
+use Rattle.core_ways_laws.proofs.BackValues.{back-ends}
+use Rattle.core_ways_laws.proofs.PassedValues.{EndsAs}
 use Rattle.core_ways_laws.specs.Kept.{IsGood, IsKept}
 use Rattle.core_ways_laws.specs.Names.{Naming}
 use Rattle.core_ways_laws.specs.Places.{AreHushed, IsFrame, IsStore}
@@ -141,6 +146,20 @@ module _ (core : Core) (quiet : Quietness core) (n : Naming) (method : Method) (
   step-kept locked site op kinds ends s at right safe fits hush small frame stored =
       op-kept core quiet n method table main locked calls site op kinds ends s at refl fits hush frame stored
 
+  -- the sides of a choice end at states of one shape
+  sides-alike : (left right : Tree) (locked : Bool) (kinds ends : List StackKind) (s : State) (at : Point) →
+      AreRight core left → AreRight core right → AreBeside core method left right kinds ends →
+      IsFrame core quiet n method kinds s at → (a b : State) → (effects left locked s).next ≡ Some a →
+      (effects right locked s).next ≡ Some b →
+      (length a.vars ≡ length b.vars) × (length a.stack ≡ length b.stack)
+  sides-alike left right locked kinds ends s at on_left on_right parts frame a b at_left at_right =
+      let shaped : IsShaped method kinds s = shape-of kinds s at frame in
+      let x = flow_shape core method g left locked kinds parts.after_left s a on_left parts.on_left shaped at_left in
+      let y = flow_shape core method g right locked kinds parts.after_right s b on_right parts.on_right shaped
+      at_right in
+      let heights = same_heights parts.after_left parts.after_right ends parts.joins in
+      (x.vars ∙ sym y.vars, x.stack ∙ heights.0 ∙ sym heights.1 ∙ sym y.stack)
+
   pub kept : (code : Tree) → AreRight core code → AreSafe core quiet table calls code → (locked : Bool)
       (kinds ends : List StackKind) (s : State) (at : Point) → kinds_after core method code kinds ≡ Some ends →
       AreHushed core quiet n (effects code locked s).wobbly → (effects code locked s).large ≡ false →
@@ -177,14 +196,7 @@ module _ (core : Core) (quiet : Quietness core) (n : Naming) (method : Method) (
       let one : Effects = effects left locked s in
       let two : Effects = effects right locked s in
       let each : AreApart one two = apart one two hush small in
-      let shaped : IsShaped method kinds s = shape-of kinds s at frame in
-      let alike : (a b : State) → one.next ≡ Some a → two.next ≡ Some b →
-      (length a.vars ≡ length b.vars) × (length a.stack ≡ length b.stack) = λ a b at_left at_right.
-      let x = flow_shape core method g left locked kinds parts.after_left s a on_left parts.on_left shaped at_left in
-      let y = flow_shape core method g right locked kinds parts.after_right s b on_right parts.on_right shaped
-      at_right in
-      let heights = same_heights parts.after_left parts.after_right ends parts.joins in
-      (x.vars ∙ sym y.vars, x.stack ∙ heights.0 ∙ sym heights.1 ∙ sym y.stack) in
+      let alike = sides-alike left right locked kinds ends s at on_left on_right parts frame in
       elim (can_end right) as (λ b. IsKept core quiet n method ends (chosen one two)
       (cond b (evaluate core calls right at) (evaluate core calls left at))) [
         | true ↦
@@ -216,4 +228,102 @@ module _ (core : Core) (quiet : Quietness core) (n : Naming) (method : Method) (
   kept (Sync lock body) right safe locked (kind ∷ kinds) ends s at fits hush small frame stored =
       ok-kept core quiet n method ends (effects body true (popped s 1)) _ (evaluate core calls body (point_popped at 1))
       (kept body right safe true kinds ends (popped s 1) (point_popped at 1) fits hush small
+      (popped-frame kind kinds s at frame) stored)
+
+  -- code that is gone through to a return
+  only-kept : (ends : List StackKind) (e : Effects) (o : Option End) → IsKept core quiet n method ends e o →
+      IsKept core quiet n method ends e (only_back o)
+  only-kept ends e None kept_it = tt
+  only-kept ends e (Some (Behind at)) kept_it = tt
+  only-kept ends e (Some (Back store value)) kept_it = kept_it
+
+  -- what comes back from a loop's body under the last state comes back from the loop
+  loop-kept : (ends after : List StackKind) (body : State → Effects) (last : State × List Path) (o : Option End) →
+      EndsAs false o → IsKept core quiet n method ends (body last.0) o →
+      IsKept core quiet n method after (repeated last body) o
+  loop-kept ends after body last None none kept_it = tt
+  loop-kept ends after body last (Some (Behind at)) none kept_it = absurd cc
+  loop-kept ends after body last (Some (Back store value)) none kept_it =
+      record { store = kept_it.store; called = kept_it.called; result = kept_it.result; place = kept_it.place }
+
+  stays-back : (o : Option End) (f : Point → Option End) → EndsAs false o → go_on o f ≡ o
+  stays-back None f none = refl
+  stays-back (Some (Behind at)) f none = absurd cc
+  stays-back (Some (Back store value)) f none = refl
+
+  pub back-kept : (code : Tree) → AreRight core code → AreSafe core quiet table calls code → (locked : Bool)
+      (kinds ends : List StackKind) (s : State) (at : Point) → kinds_after core method code kinds ≡ Some ends →
+      AreHushed core quiet n (effects code locked s).wobbly → (effects code locked s).large ≡ false →
+      IsFrame core quiet n method kinds s at → IsStore core quiet at.store →
+      IsKept core quiet n method ends (effects code locked s) (come_back core calls code at)
+  back-kept (Op site place op) right safe locked kinds ends s at fits hush small frame stored =
+      only-kept ends (effects (Op site place op) locked s) (evaluate_op core calls op at)
+      (kept (Op site place op) right safe locked kinds ends s at fits hush small frame stored)
+  back-kept Skip right safe locked kinds ends s at fits hush small frame stored = tt
+  back-kept (Seq first rest) right safe locked kinds ends s at fits hush small frame stored =
+      let parts : AreInTurn core method first rest kinds ends = then_kinds core method first rest kinds ends fits in
+      let right_first : AreRight core first = λ o there. right o (in_first (steps_of first) (steps_of rest) o there) in
+      let right_rest : AreRight core rest = λ o there. right o (in_last (steps_of first) (steps_of rest) o there) in
+      let safe_first : AreSafe core quiet table calls first = λ o there.
+      safe o (in_first (steps_of first) (steps_of rest) o there) in
+      let safe_rest : AreSafe core quiet table calls rest = λ o there.
+      safe o (in_last (steps_of first) (steps_of rest) o there) in
+      let hush_first = first-hushed first rest locked s hush in
+      let small_first = first-small first rest locked s small in
+      let one : Effects = effects first locked s in
+      let two : State → Effects = effects rest locked in
+      let back : Option End = come_back core calls first at in
+      let more : Point → Option End = come_back core calls rest in
+      elim (goes_past first rest) as (λ b. IsKept core quiet n method ends (in_turn one two)
+      (cond b (go_on (evaluate core calls first at) more) back)) [
+        | true ↦
+            in-turn-kept core quiet n method parts.between ends one two (evaluate core calls first at) more hush small
+            (kept first right_first safe_first locked kinds parts.between s at parts.early hush_first small_first frame
+            stored)
+            (λ t to few still there held.
+            back-kept rest right_rest safe_rest locked parts.between ends t to parts.late still few there held)
+        | false ↦
+            subst (λ (o : Option End). IsKept core quiet n method ends (in_turn one two) o)
+            (stays-back back more (back-ends core calls first at))
+            (in-turn-kept core quiet n method parts.between ends one two back more hush small
+            (back-kept first right_first safe_first locked kinds parts.between s at parts.early hush_first small_first
+            frame stored)
+            (λ t to few still there held.
+            back-kept rest right_rest safe_rest locked parts.between ends t to parts.late still few there held))
+      ]
+  back-kept (Choice left right) all safe locked kinds ends s at fits hush small frame stored =
+      let parts : AreBeside core method left right kinds ends = either_kinds core method left right kinds ends fits in
+      let on_left : AreRight core left = λ o there. all o (in_first (steps_of left) (steps_of right) o there) in
+      let on_right : AreRight core right = λ o there. all o (in_last (steps_of left) (steps_of right) o there) in
+      let one : Effects = effects left locked s in
+      let two : Effects = effects right locked s in
+      let each : AreApart one two = apart one two hush small in
+      let alike = sides-alike left right locked kinds ends s at on_left on_right parts frame in
+      elim (can_return left) as (λ b. IsKept core quiet n method ends (chosen one two)
+      (cond b (come_back core calls left at) (come_back core calls right at))) [
+        | true ↦
+            chosen-first core quiet n method parts.after_left parts.after_right ends one two
+            (come_back core calls left at) parts.joins alike
+            each.nexts each.results
+            (back-kept left on_left (λ o there. safe o (in_first (steps_of left) (steps_of right) o there)) locked kinds
+            parts.after_left s at parts.on_left each.left_hush each.left_small frame stored)
+        | false ↦
+            chosen-second core quiet n method parts.after_left parts.after_right ends one two
+            (come_back core calls right at) parts.joins alike
+            each.nexts each.results
+            (back-kept right on_right (λ o there. safe o (in_last (steps_of left) (steps_of right) o there)) locked
+            kinds parts.after_right s at parts.on_right each.right_hush each.right_small frame stored)
+      ]
+  back-kept (Loop body) right safe locked kinds ends s at fits hush small frame stored =
+      let last = rounds (effects body locked) (length s.vars + length s.stack + 1) s in
+      let loop = loop-kinds core method body kinds ends fits in
+      loop-kept kinds ends (effects body locked) last (come_back core calls body at) (back-ends core calls body at)
+      (back-kept body right safe locked kinds kinds last.0 at loop.1
+      (hush-second core quiet n last.1 (effects body locked last.0).wobbly hush) small
+      (looped-frame body locked kinds ends s at right fits
+      (hush-first core quiet n last.1 (effects body locked last.0).wobbly hush) frame) stored)
+  back-kept (Sync lock body) right safe locked [] ends s at fits hush small frame stored = absurd cc
+  back-kept (Sync lock body) right safe locked (kind ∷ kinds) ends s at fits hush small frame stored =
+      ok-kept core quiet n method ends (effects body true (popped s 1)) _ (come_back core calls body (point_popped at 1))
+      (back-kept body right safe true kinds ends (popped s 1) (point_popped at 1) fits hush small
       (popped-frame kind kinds s at frame) stored)

@@ -39,7 +39,7 @@ passes_at test (y ∷ xs) zero x all is =
     let same : y ≡ x = cc in ap test (sym same) ∙ first_part (test y) (list_all test xs) all
 passes_at test (y ∷ xs) (suc i) x all is = passes_at test xs i x (last_part (test y) (list_all test xs) all) is
 
-passes_in : {X : Type 0} (test : X → Bool) (xs : List X) (x : X) → list_all test xs ≡ true → In xs x → test x ≡ true
+pub passes_in : {X : Type 0} (test : X → Bool) (xs : List X) (x : X) → list_all test xs ≡ true → In xs x → test x ≡ true
 passes_in test [] x all there = absurd there
 passes_in test (y ∷ xs) x all there =
     ⊎_elim

@@ -18,14 +18,14 @@ use Rattle.access_domain.specs.Operations.{Effects}
 use Rattle.access_domain.specs.Summaries.{effects_given, known_of, known_of_callees, start_of}
 use Rattle.core_semantics.specs.declared.object.Value.{Value}
 use Rattle.core_semantics.specs.State.{Store}
-use Rattle.core_ways_laws.specs.Values.{Point, End, Behind, Back, Calls, call_of, entry_point, evaluate, value_back}
+use Rattle.core_ways_laws.specs.Values.{Point, End, Behind, Back, Calls, call_of, come_back, entry_point, value_back}
 use Rattle.core_ways_laws.proofs.CalledValues.{call_of-code}
 use Rattle.core_ways_laws.specs.Kept.{IsEntered, IsGiven, IsGood, IsKept}
 use Rattle.core_ways_laws.specs.Names.{Naming, name_of}
 use Rattle.core_ways_laws.specs.Places.{AreHushed, IsFrame, IsPlace, IsStore}
 use Rattle.core_ways_laws.specs.Quiet.{Quietness}
 use Rattle.core_ways_laws.proofs.Members.{hush-different}
-use Rattle.core_ways_laws.proofs.Passing.{AreSafe, IsSafe, kept}
+use Rattle.core_ways_laws.proofs.Passing.{AreSafe, IsSafe, back-kept}
 use Rattle.core_ways_laws.proofs.ProgramFacts.{IsRight, IsRightCall, IsWhole, callee_known, is_right, is_whole}
 use Rattle.core_ways_laws.proofs.ProgramFacts.{known_analysed, lower_call, right_call}
 
@@ -100,9 +100,9 @@ module _ (p : Program) (quiet : Quietness (core p)) where
       IsGiven (core p) quiet n (kind_of method.result) found.result (call values store))
       (sym (call_of-code (core p) p.ranks_there m method there analysed))
       (given-back (core p) quiet n method right.kinds e found.result
-      (evaluate (core p) (call_of (core p)) method.code at)
+      (come_back (core p) (call_of (core p)) method.code at)
       whole.result
-      (kept (core p) quiet n method table method.main (call_of (core p)) method.code right.calls safe false []
+      (back-kept (core p) quiet n method table method.main (call_of (core p)) method.code right.calls safe false []
       right.kinds (start_of method) at right.kinded hushed whole.small frame stored))
 
   good-below : (k : ℕ) (m : MethodId) → rank_of (core p) m < k → is_analysed (core p) m ≡ true →

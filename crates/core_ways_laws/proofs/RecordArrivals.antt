@@ -181,13 +181,13 @@ arrival_of-code core ranks m method i r there analysed at =
 
 -- ---- the parts of a way
 
-abbrev inner_ways : Core → MethodId → MethodId → ℕ → List WayPart
+abbrev pub inner_ways : Core → MethodId → MethodId → ℕ → List WayPart
 inner_ways core m = known_below (λ i. []) (way_given core) core (rank_of core m)
 
 abbrev from_site : (MethodId → ℕ → List WayPart) → Access → Tree → Option Operation → List WayPart
 from_site ways r code o = elim o [ None ↦ [] | Some x ↦ reached 0 r.site code ++ entered ways r.below x.op ]
 
-parts-at : (core : Core) (m : MethodId) (i : ℕ) (code : Tree) (r : Access) (o : Operation) →
+pub parts-at : (core : Core) (m : MethodId) (i : ℕ) (code : Tree) (r : Access) (o : Operation) →
     code_at core m ≡ Some code → record_at core m i ≡ Some r → op_at code r.site ≡ Some o →
     way_parts core m i ≡ reached 0 r.site code ++ entered (inner_ways core m) r.below o.op
 parts-at core m i code r o is at there =
@@ -265,7 +265,7 @@ pub record AreInOrder (core : Core) : Type 0 where
 abbrev Reach : Core → Option ℕ → CoreOp → Type 0
 Reach core below op = Arrives core (trip_of core) (way_parts core) below op (arrival_at core (arrival_of core) below op)
 
-same-entered : (core : Core) (m n : MethodId) (j : ℕ) → rank_of core n < rank_of core m →
+pub same-entered : (core : Core) (m n : MethodId) (j : ℕ) → rank_of core n < rank_of core m →
     inner_ways core m n j ≡ way_parts core n j
 same-entered core m n j low =
     ap (λ (ways : ℕ → List WayPart). ways j)

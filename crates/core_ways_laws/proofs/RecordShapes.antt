@@ -32,7 +32,7 @@ use Rattle.access_domain.specs.Summaries.{known_of, start_of}
 use Rattle.access_domain.specs.OutcomeRecords.{record_at, records_held}
 use Rattle.core_code.specs.declared.code.Op.{Op as CoreOp}
 use Rattle.core_code.specs.declared.code.Op.TheVariants.{Push, PushClass, PushPrim, PushNull, New, Dup, Drop, Get, Put}
-use Rattle.core_code.specs.declared.code.Op.TheVariants.{Set, Prim, Outside, Call, Unread, Ret}
+use Rattle.core_code.specs.declared.code.Op.TheVariants.{Set, Prim, Outside, Call, Unread, Ret, Throw}
 use Rattle.core_code.specs.Calls.{known_below, method_at, rank_of}
 use Rattle.core_code.specs.Core.{Core, Method}
 use Rattle.core_code.specs.Tree.{Tree, Op, Skip, Seq, Choice, Loop, Sync}
@@ -273,6 +273,7 @@ module _ (g : FlowContext) where
   op-good good locked site (Call m n) s known = called-good locked site m n s (g.known_of m) (good m) known
   op-good good locked site (Unread m n) s known =
       record { next = known-replaced s n Unnamed refl known; records = λ a h. absurd h; result = tt }
+  op-good good locked site Throw s known = record { next = tt; records = λ a h. absurd h; result = tt }
   op-good good locked site Ret s known =
       record { next = tt; records = λ a h. absurd h; result = known-slot s.stack 0 known.stack }
 

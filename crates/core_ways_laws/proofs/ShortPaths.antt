@@ -31,7 +31,7 @@ use Rattle.access_domain.specs.Summaries.{known_of, start_of}
 use Rattle.access_domain.specs.OutcomeRecords.{record_at, records_held}
 use Rattle.core_code.specs.declared.code.Op.{Op as CoreOp}
 use Rattle.core_code.specs.declared.code.Op.TheVariants.{Push, PushClass, PushPrim, PushNull, New, Dup, Drop, Get, Put}
-use Rattle.core_code.specs.declared.code.Op.TheVariants.{Set, Prim, Outside, Call, Unread, Ret}
+use Rattle.core_code.specs.declared.code.Op.TheVariants.{Set, Prim, Outside, Call, Unread, Ret, Throw}
 use Rattle.core_code.specs.Calls.{known_below, method_at, rank_of}
 use Rattle.core_code.specs.Core.{Core, Method}
 use Rattle.core_code.specs.Tree.{Tree, Op, Skip, Seq, Choice, Loop, Sync}
@@ -187,6 +187,7 @@ op-short g known locked site (Prim n) s a h = absurd h
 op-short g known locked site (Outside n) s a h = absurd h
 op-short g known locked site (Unread m n) s a h = absurd h
 op-short g known locked site Ret s a h = absurd h
+op-short g known locked site Throw s a h = absurd h
 
 -- ---- code
 

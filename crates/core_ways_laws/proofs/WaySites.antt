@@ -19,7 +19,7 @@ use Rattle.owner_domain.specs.declared.value.Value.{Value}
 use Rattle.core_code.specs.declared.code.Op.{Op as CoreOp}
 use Rattle.core_code.specs.declared.code.Op.TheVariants.{Push, PushClass, PushPrim, PushNull, New, Dup, Drop, Get}
 use Rattle.core_code.specs.declared.code.Op.TheVariants.{Put}
-use Rattle.core_code.specs.declared.code.Op.TheVariants.{Set, Prim, Outside, Call, Unread, Ret}
+use Rattle.core_code.specs.declared.code.Op.TheVariants.{Set, Prim, Outside, Call, Unread, Ret, Throw}
 use Rattle.core_code.specs.Calls.{method_at, rank_of}
 use Rattle.core_code.specs.Core.{Core, Method}
 use Rattle.core_code.specs.Facts.{counts_from, sites_of}
@@ -58,6 +58,7 @@ or-left false b e = absurd cc
 op-goes-on : (g : FlowContext) (locked : Bool) (site : SiteId) (place : Place) (op : CoreOp) (s t : State) →
     (op_effects g locked site op s).next ≡ Some t → can_end (Op site place op) ≡ true
 op-goes-on g locked site place Ret s t e = absurd cc
+op-goes-on g locked site place Throw s t e = absurd cc
 op-goes-on g locked site place op s t e = refl
 
 pub goes-on-ends : (g : FlowContext) (code : Tree) (locked : Bool) (s t : State) →
@@ -233,6 +234,7 @@ op-stands g locked site (Prim n) s a h = absurd h
 op-stands g locked site (Outside n) s a h = absurd h
 op-stands g locked site (Unread m n) s a h = absurd h
 op-stands g locked site Ret s a h = absurd h
+op-stands g locked site Throw s a h = absurd h
 
 -- ---- code
 

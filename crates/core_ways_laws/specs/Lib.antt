@@ -4,6 +4,7 @@ pub mod Arrivals
 pub mod Sites
 pub mod RunValues
 pub mod Ends
+pub mod ClearLegs
 pub mod Names
 pub mod Longer
 pub mod Shapes

@@ -18,8 +18,8 @@ use Rattle.core_semantics.specs.State.{Frame, Store, Todo, Op, before}
 use Rattle.core_semantics.specs.Steps.{After, ended_with}
 use Rattle.core_ways.specs.declared.part.WayPart.{WayPart}
 use Rattle.core_ways.specs.Alone.{LeadsTo, here}
-use Rattle.core_ways.specs.Ways.{Trip, entered, passed, reached, trip_along, way_of}
-use Rattle.core_ways_laws.specs.Values.{Behind, Back, Calls, End, Point, entry_point, evaluate}
+use Rattle.core_ways.specs.Ways.{Trip, entered, passed, reached, to_return, trip_along, way_of}
+use Rattle.core_ways_laws.specs.Values.{Behind, Back, Calls, End, Point, come_back, entry_point, evaluate}
 use Rattle.core_ways_laws.specs.Sites.{field_of}
 use Rattle.core_ways_laws.specs.Arrivals.{Arrival, arrival_of}
 
@@ -50,6 +50,14 @@ GoesPast core trips calls code =
     LeadsTo core (trip_along trips (passed locked code)).turns (trip_along trips (passed locked code)).steps
     (at_point at (before code todo) locked callers locks)
     (IsEnd (evaluate core calls code at) todo locked callers locks)
+
+-- code that is gone through to a return leads where it comes back
+abbrev pub GoesBack : Core → (MethodId → Trip) → Calls → Tree → Type 0
+GoesBack core trips calls code =
+    (locked : ℕ) (at : Point) (todo : List Todo) (callers : List Frame) (locks : List Holder) →
+    LeadsTo core (trip_along trips (to_return locked code)).turns (trip_along trips (to_return locked code)).steps
+    (at_point at (before code todo) locked callers locks)
+    (IsEnd (come_back core calls code at) todo locked callers locks)
 
 -- a method that is passed comes back with what its call gives
 abbrev pub MethodGoes : Core → (MethodId → Trip) → Calls → MethodId → Type 0

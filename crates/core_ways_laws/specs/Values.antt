@@ -8,7 +8,8 @@ use Rattle.core_code.specs.declared.code.Op.{Op as CoreOp}
 use Rattle.core_code.specs.declared.code.Op.TheVariants.{Call, Ret}
 use Rattle.core_code.specs.Calls.{method_at, closed_by_rank}
 use Rattle.core_code.specs.Core.{Core, Method}
-use Rattle.core_code.specs.Tree.{Tree, Op, Skip, Seq, Choice, Loop, Sync, can_end}
+use Rattle.core_code.specs.Tree.{Tree, Op, Skip, Seq, Choice, Loop, Sync, can_end, can_return}
+use Rattle.core_ways.specs.Ways.{goes_past}
 use Rattle.core_semantics.specs.declared.object.Value.{Value}
 use Rattle.core_semantics.specs.declared.object.Value.TheVariants.{Null}
 use Rattle.core_semantics.specs.State.{Store}
@@ -100,6 +101,26 @@ evaluate core calls (Loop body) at = Some (Behind at)
 evaluate core calls (Sync lock body) at =
     on_ok (monitor_of lock.kind (top_value at)) (evaluate core calls body (point_popped at 1))
 
+-- back from code, or nowhere
+abbrev pub only_back : Option End → Option End
+only_back None = None
+only_back (Some (Behind at)) = None
+only_back (Some (Back store value)) = Some (Back store value)
+
+-- where code that is gone through to a return leads from a point, or none where it is stuck
+abbrev pub come_back : Core → Calls → Tree → Point → Option End
+come_back core calls (Op site place op) at = only_back (evaluate_op core calls op at)
+come_back core calls Skip at = None
+come_back core calls (Seq first rest) at =
+    if goes_past first rest
+    then go_on (evaluate core calls first at) (come_back core calls rest)
+    else come_back core calls first at
+come_back core calls (Choice left right) at =
+    if can_return left then come_back core calls left at else come_back core calls right at
+come_back core calls (Loop body) at = come_back core calls body at
+come_back core calls (Sync lock body) at =
+    on_ok (monitor_of lock.kind (top_value at)) (come_back core calls body (point_popped at 1))
+
 -- a method at its entry with these values: its locals are null
 abbrev pub entry_point : Method → List Value → Store → Point
 entry_point method values store =
@@ -118,7 +139,7 @@ abbrev pub call_given : Core → Calls → Calls
 call_given core calls m values store =
     elim (method_at core m) [
       | None ↦ None
-      | Some method ↦ value_back (evaluate core calls method.code (entry_point method values store))
+      | Some method ↦ value_back (come_back core calls method.code (entry_point method values store))
     ]
 
 abbrev pub call_of : Core → Calls

@@ -14,6 +14,7 @@ ghost use Rattle.core_semantics.specs.Legs.{runs};
 ghost use Rattle.core_semantics.specs.State.{State, other_of, thread_of};
 ghost use Rattle.core_semantics.specs.Steps.{entered};
 ghost use Rattle.core_ways.specs.Ways.{trip_of, way_of};
+ghost use Rattle.core_ways_laws.specs.ClearLegs.{DoCallsReturn, IsUnthrown};
 ghost use Rattle.core_ways_laws.specs.Ends.{EndsAtAccess};
 ghost use Rattle.core_ways_laws.specs.RunValues.{MethodGoes};
 ghost use Rattle.core_ways_laws.specs.Sites.{IsRecordOf};
@@ -43,4 +44,13 @@ pub fn ways_end_at_their_access()
         thread_of s t ≡ record { frames = entered method values ∷ []; locks = [] } → (other_of s t).locks ≡ [] →
         EndsAtAccess (core p) m i r values s t
         (runs (core p) t (way_of (core p) m i).steps (way_of (core p) m i).turns s) }
+{}
+
+/// Where each method that reached code calls can return, the way to a record is not stuck at a throw, in the machine of
+/// two threads beside a thread that holds no monitor.
+pub fn legs_meet_no_throw()
+    ensures { (p : Program) (m : MethodId) (method : Method) (i : ℕ) (r : Access) (values : List Value) (s : State)
+        (t : ℕ) → DoCallsReturn (core p) m → method_at (core p) m ≡ Some method → record_at (core p) m i ≡ Some r →
+        thread_of s t ≡ record { frames = entered method values ∷ []; locks = [] } → (other_of s t).locks ≡ [] →
+        IsUnthrown (runs (core p) t (way_of (core p) m i).steps (way_of (core p) m i).turns s) }
 {}

@@ -9,7 +9,7 @@ use Rattle.racer_base.specs.declared.ids.Touch.{Touch}
 use Rattle.racer_base.specs.declared.ids.Touch.TheVariants.{Read, Write}
 use Rattle.core_code.specs.declared.code.Op.{Op as CoreOp}
 use Rattle.core_code.specs.declared.code.Op.TheVariants.{Push, PushClass, PushPrim, PushNull, New, Dup, Drop, Get, Put}
-use Rattle.core_code.specs.declared.code.Op.TheVariants.{Set, Prim, Outside, Call, Unread, Ret}
+use Rattle.core_code.specs.declared.code.Op.TheVariants.{Set, Prim, Outside, Call, Unread, Ret, Throw}
 use Rattle.core_code.specs.declared.parts.FieldCore.{FieldCore}
 use Rattle.core_code.specs.declared.program.Program.{Program}
 use Rattle.core_code.specs.Calls.{is_analysed, method_at}
@@ -114,6 +114,7 @@ module _ (core : Core) (roots : Roots) where
   op-cells frame method place (Call m n) rest ks held h = λ q x kind e. absurd cc
   op-cells frame method place (Unread m n) rest ks held h = λ q x kind e. absurd cc
   op-cells frame method place Ret rest ks held h = λ q x kind e. absurd cc
+  op-cells frame method place Throw rest ks held h = λ q x kind e. absurd cc
 
   todo-cells : (frame : Frame) (method : Method) (todo : List Todo) (ks : List StackKind) →
       AreHeld core roots method ks frame.vars frame.stack → CanDo core (object_kinds core roots) method todo ks →

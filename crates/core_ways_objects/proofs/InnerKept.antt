@@ -11,7 +11,7 @@ use Rattle.racer_base.specs.declared.ids.Kind.{Kind}
 use Rattle.access_paths.specs.Paths.{same_field}
 use Rattle.core_code.specs.declared.code.Op.{Op as CoreOp}
 use Rattle.core_code.specs.declared.code.Op.TheVariants.{Push, PushClass, PushPrim, PushNull, New, Dup, Drop, Get, Put}
-use Rattle.core_code.specs.declared.code.Op.TheVariants.{Set, Prim, Outside, Call, Unread, Ret}
+use Rattle.core_code.specs.declared.code.Op.TheVariants.{Set, Prim, Outside, Call, Unread, Ret, Throw}
 use Rattle.core_code.specs.declared.parts.FieldCore.{FieldCore}
 use Rattle.core_code.specs.Core.{Core, Method}
 use Rattle.core_code.specs.KindCheck.{after_get, after_popping, after_push, after_put, after_set, field_at, is_base_of}
@@ -261,3 +261,4 @@ module _ (core : Core) (roots : Roots) (classes : (c : ClassId) → roots (Start
   inner-kept i (Call m n) ks after e stored vars stack = tt
   inner-kept i (Unread m n) ks after e stored vars stack = tt
   inner-kept i Ret ks after e stored vars stack = tt
+  inner-kept i Throw ks after e stored vars stack = tt

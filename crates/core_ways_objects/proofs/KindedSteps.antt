@@ -6,7 +6,7 @@ use Rattle.std.specs.List.{list_any}
 use Rattle.racer_base.specs.declared.ids.MethodId.{MethodId}
 use Rattle.core_code.specs.declared.code.Op.{Op as CoreOp}
 use Rattle.core_code.specs.declared.code.Op.TheVariants.{Push, PushClass, PushPrim, PushNull, New, Dup, Drop, Get, Put}
-use Rattle.core_code.specs.declared.code.Op.TheVariants.{Set, Prim, Outside, Call, Unread, Ret}
+use Rattle.core_code.specs.declared.code.Op.TheVariants.{Set, Prim, Outside, Call, Unread, Ret, Throw}
 use Rattle.core_code.specs.Core.{Core, Method}
 use Rattle.core_code.specs.Tree.{Tree, is_return}
 use Rattle.core_semantics.specs.declared.answer.Holder.{Holder}
@@ -145,6 +145,7 @@ module _ {core : Core} {k : Kinding core} (keeps : Keeps core k) where
   op-kept method a b s (Call m n) step at todo =
       call-kept method m n a b s at todo (keeps.call method m n a b s.frame.vars s.frame.stack step at.so)
   op-kept method a b s (Unread m n) step at todo = inner-op method a b s (Unread m n) refl step at todo
+  op-kept method a b s Throw step at todo = inner-op method a b s Throw refl step at todo
   op-kept method a b s Ret step at todo =
       returned-kept method a s.store s.frame s.callers s.locks
       (keeps.result method a b s.frame.vars s.frame.stack step at.so) at

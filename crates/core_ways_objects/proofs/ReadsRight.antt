@@ -7,7 +7,7 @@ use Rattle.racer_base.specs.declared.ids.Place.{Place}
 use Rattle.racer_base.specs.declared.ids.Touch.TheVariants.{Read, Write}
 use Rattle.core_code.specs.declared.code.Op.{Op as CoreOp}
 use Rattle.core_code.specs.declared.code.Op.TheVariants.{Push, PushClass, PushPrim, PushNull, New, Dup, Drop, Get, Put}
-use Rattle.core_code.specs.declared.code.Op.TheVariants.{Set, Prim, Outside, Call, Unread, Ret}
+use Rattle.core_code.specs.declared.code.Op.TheVariants.{Set, Prim, Outside, Call, Unread, Ret, Throw}
 use Rattle.core_code.specs.declared.parts.FieldCore.{FieldCore}
 use Rattle.core_code.specs.Core.{Core, Method}
 use Rattle.core_code.specs.KindCheck.{field_at, is_base_of}
@@ -110,6 +110,7 @@ module _ (core : Core) (roots : Roots) where
   op-right s frame method place (Call m n) rest ks stored held h = tt
   op-right s frame method place (Unread m n) rest ks stored held h = tt
   op-right s frame method place Ret rest ks stored held h = tt
+  op-right s frame method place Throw rest ks stored held h = tt
 
   todo-right : (s : State) (frame : Frame) (method : Method) (todo : List Todo) (ks : List StackKind) →
       AreStored core roots s.store → AreHeld core roots method ks frame.vars frame.stack →

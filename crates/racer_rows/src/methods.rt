@@ -21,6 +21,7 @@ fn put_operation(page: &mut Page, op: Op) {
         Op::Call(method, count) => put_call(page, " Call", method.0, count),
         Op::Unread(method, count) => put_call(page, " Unread", method.0, count),
         Op::Ret => page.put(" Ret"),
+        Op::Throw => page.put(" Throw"),
     }
 }
 

@@ -15,7 +15,7 @@ use Rattle.owner_domain.specs.declared.value.State.{State}
 use Rattle.owner_domain.specs.Values.{field_value, joined_state, lost_state}
 use Rattle.core_code.specs.declared.code.Op.{Op as CoreOp}
 use Rattle.core_code.specs.declared.code.Op.TheVariants.{Push, PushClass, PushPrim, PushNull, New, Dup, Drop, Get, Put}
-use Rattle.core_code.specs.declared.code.Op.TheVariants.{Set, Prim, Outside, Call, Unread, Ret}
+use Rattle.core_code.specs.declared.code.Op.TheVariants.{Set, Prim, Outside, Call, Unread, Ret, Throw}
 use Rattle.core_code.specs.Program.{core}
 use Rattle.access_domain.specs.declared.access.Access.{Access}
 use Rattle.access_domain.specs.FlowContext.{FlowContext, field_at}
@@ -157,6 +157,7 @@ quiet-effects g locked site (Outside n) s e = refl
 quiet-effects g locked site (Call m n) s e = absurd cc
 quiet-effects g locked site (Unread m n) s e = refl
 quiet-effects g locked site Ret s e = absurd cc
+quiet-effects g locked site Throw s e = absurd cc
 
 -- an operation that finds nothing
 pub flow-quiet : (g : FlowContext) (locked : Bool) (site : SiteId) (op : CoreOp) (s here : State) (found : Found) →

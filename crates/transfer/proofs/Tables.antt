@@ -16,7 +16,7 @@ use Rattle.owner_domain.specs.declared.value.State.{State}
 use Rattle.owner_domain.specs.Values.{joined_state, lost_state, names_of}
 use Rattle.core_code.specs.declared.code.Op.{Op as CoreOp}
 use Rattle.core_code.specs.declared.code.Op.TheVariants.{Push, PushClass, PushPrim, PushNull, New, Dup, Drop, Get, Put}
-use Rattle.core_code.specs.declared.code.Op.TheVariants.{Set, Prim, Outside, Call, Unread, Ret}
+use Rattle.core_code.specs.declared.code.Op.TheVariants.{Set, Prim, Outside, Call, Unread, Ret, Throw}
 use Rattle.core_code.specs.Calls.{called_by, calls_in}
 use Rattle.core_code.specs.Core.{Core, Method}
 use Rattle.core_code.specs.Tree.{Tree, Op, Skip, Seq, Choice, Loop, Sync, Operation, steps_of}
@@ -207,6 +207,7 @@ op-agree core t u main locked site (Prim n) s h = agree-itself _
 op-agree core t u main locked site (Outside n) s h = agree-itself _
 op-agree core t u main locked site (Unread m n) s h = agree-itself _
 op-agree core t u main locked site Ret s h = agree-itself _
+op-agree core t u main locked site Throw s h = agree-itself _
 op-agree core t u main locked site (Call m n) s h =
     known-agree core t u main locked site m n s (t m) (u m) (h m (ap (λ (b : Bool). b || false) (eq-eqb m.0 m.0 refl)))
 

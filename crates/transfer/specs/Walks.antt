@@ -10,7 +10,7 @@ use Rattle.owner_domain.specs.Values.{names_of}
 use Rattle.owner_domain.specs.declared.value.State.{State}
 use Rattle.core_code.specs.declared.code.Op.{Op as CoreOp}
 use Rattle.core_code.specs.declared.code.Op.TheVariants.{Push, PushClass, PushPrim, PushNull, New, Dup, Drop, Get, Put}
-use Rattle.core_code.specs.declared.code.Op.TheVariants.{Set, Prim, Outside, Call, Unread, Ret}
+use Rattle.core_code.specs.declared.code.Op.TheVariants.{Set, Prim, Outside, Call, Unread, Ret, Throw}
 use Rattle.access_domain.specs.Findings.{Findings}
 use Rattle.access_domain.specs.FlowContext.{FlowContext}
 use Rattle.access_domain.specs.Substitution.{substituted}
@@ -39,6 +39,7 @@ is_quiet (Put f) = false
 is_quiet (Set v) = false
 is_quiet (Call m n) = false
 is_quiet Ret = false
+is_quiet Throw = false
 is_quiet _ = true
 
 -- the state behind such an operation

@@ -50,7 +50,7 @@ fn is_quiet(op: Op) -> bool
 {
     !matches!(
         op,
-        Op::Get(_) | Op::Put(_) | Op::Set(_) | Op::Call(_, _) | Op::Ret
+        Op::Get(_) | Op::Put(_) | Op::Set(_) | Op::Call(_, _) | Op::Ret | Op::Throw
     )
 }
 
@@ -84,7 +84,7 @@ fn move_on(
         Op::Prim(count) | Op::Outside(count) | Op::Unread(_, count) => {
             state.replace(count, NumberedValue::Unnamed)
         }
-        Op::Get(_) | Op::Put(_) | Op::Set(_) | Op::Call(_, _) | Op::Ret => Ok(()),
+        Op::Get(_) | Op::Put(_) | Op::Set(_) | Op::Call(_, _) | Op::Ret | Op::Throw => Ok(()),
     }
 }
 
@@ -384,6 +384,7 @@ fn find_out(
         Op::Put(f) => put(alloc, context, locked, site, f, state, table, found),
         Op::Set(variable) => set(variable, state, found),
         Op::Ret => give_back(alloc, state, found),
+        Op::Throw => Ok(false),
         _ => unreachable!(),
     }
 }
@@ -490,7 +491,7 @@ pub fn move_any(
             move_call(alloc, context, method, count, state, table)?;
             Ok(true)
         }
-        Op::Ret => Ok(false),
+        Op::Ret | Op::Throw => Ok(false),
         _ => {
             move_on(alloc, op, state, table)?;
             Ok(true)

@@ -21,7 +21,7 @@ use Rattle.core_code.specs.Tree.{LockAt, Tree, Op, Skip, Seq, Choice, Loop, Sync
 use Rattle.core_code.specs.Facts.{pops, pushes, height_after}
 use Rattle.core_code.specs.declared.code.Op.{Op as CoreOp}
 use Rattle.core_code.specs.declared.code.Op.TheVariants.{Push, PushClass, PushPrim, PushNull, New, Dup, Drop, Get, Put}
-use Rattle.core_code.specs.declared.code.Op.TheVariants.{Set, Prim as PrimOp, Outside, Call, Unread, Ret}
+use Rattle.core_code.specs.declared.code.Op.TheVariants.{Set, Prim as PrimOp, Outside, Call, Unread, Ret, Throw}
 use Rattle.access_domain.specs.FlowContext.{FlowContext}
 use Rattle.access_domain.specs.Findings.{Known, Large, Whole}
 use Rattle.access_domain.specs.Substitution.{substituted, actuals_from}
@@ -165,6 +165,7 @@ module _ (us : List Value) (s : State) where
     op-above (Outside n) low = replaced-above n Unnamed low
     op-above (Call m n) low = call-above m n (g.known_of m) low
     op-above (Unread m n) low = replaced-above n Unnamed low
+    op-above Throw low = refl
     op-above Ret low =
         ap (λ (v : Value).
         (let e : Effects = record { next = None; records = []; wobbly = []; result = Some v; large = false } in e))

@@ -12,7 +12,7 @@ use Rattle.core_code.specs.Tree.{Tree, Op, Skip, Seq, Choice, Loop, Sync}
 use Rattle.core_code.specs.Facts.{height_after}
 use Rattle.core_code.specs.declared.code.Op.{Op as CoreOp}
 use Rattle.core_code.specs.declared.code.Op.TheVariants.{Push, PushClass, PushPrim, PushNull, New, Dup, Drop, Get, Put}
-use Rattle.core_code.specs.declared.code.Op.TheVariants.{Set, Prim as PrimOp, Outside, Call, Unread, Ret}
+use Rattle.core_code.specs.declared.code.Op.TheVariants.{Set, Prim as PrimOp, Outside, Call, Unread, Ret, Throw}
 use Rattle.access_domain.specs.FlowContext.{FlowContext}
 use Rattle.access_domain.specs.Findings.{Known, Large, Whole}
 use Rattle.access_domain.specs.Operations.{op_effects, call_effects, popped}
@@ -51,6 +51,7 @@ still-op g locked site (Outside n) s e = refl
 still-op g locked site (Call m n) s e = still-call g locked site m n (g.known_of m) s
 still-op g locked site (Unread m n) s e = refl
 still-op g locked site Ret s e = cc
+still-op g locked site Throw s e = cc
 
 joined_same : (vars : List Value) → joined_values vars vars ≡ vars
 joined_same [] = refl

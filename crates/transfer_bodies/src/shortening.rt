@@ -33,7 +33,7 @@ pub fn pushes(op: Op) -> usize
 {
     match op {
         Op::Dup => 2,
-        Op::Drop | Op::Ret => 0,
+        Op::Drop | Op::Ret | Op::Throw => 0,
         _ => 1,
     }
 }
@@ -41,7 +41,7 @@ pub fn pushes(op: Op) -> usize
 fn is_still(op: Op) -> bool
     ensures { result ≡ is_still_op op }
 {
-    !matches!(op, Op::Set(_) | Op::Ret)
+    !matches!(op, Op::Set(_) | Op::Ret | Op::Throw)
 }
 
 /// One operation, where the stack has this height.

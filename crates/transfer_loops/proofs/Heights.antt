@@ -11,7 +11,7 @@ use Rattle.core_code.specs.Tree.{LockAt, Tree, Op, Skip, Seq, Choice, Loop, Sync
 use Rattle.core_code.specs.Facts.{pops, pushes, same_height, height_after}
 use Rattle.core_code.specs.declared.code.Op.{Op as CoreOp}
 use Rattle.core_code.specs.declared.code.Op.TheVariants.{Push, PushClass, PushPrim, PushNull, New, Dup, Drop, Get, Put}
-use Rattle.core_code.specs.declared.code.Op.TheVariants.{Set, Prim as PrimOp, Outside, Call, Unread, Ret}
+use Rattle.core_code.specs.declared.code.Op.TheVariants.{Set, Prim as PrimOp, Outside, Call, Unread, Ret, Throw}
 use Rattle.access_domain.specs.FlowContext.{FlowContext}
 use Rattle.access_domain.specs.Findings.{Known, Large, Whole}
 use Rattle.access_domain.specs.Operations.{pushed, popped, replaced, op_effects, call_effects}
@@ -92,6 +92,7 @@ sized_op g locked site (Call m n) v h k s t p e is =
 sized_op g locked site (Unread m n) v h k s t p e is =
     sized_replace v h k n s t _ p (if_some (nat_le n h) (h - n + 1) k e).1 is
 sized_op g locked site Ret v h k s t p e is = cc
+sized_op g locked site Throw v h k s t p e is = cc
 
 -- ---- heights of parts
 pub then_heights : (first rest : Tree) (h k : ℕ) → height_after (Seq first rest) h ≡ Some k → (m : ℕ)

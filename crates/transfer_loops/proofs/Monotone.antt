@@ -16,7 +16,7 @@ use Rattle.owner_domain.specs.SameValue.{equal_of_same_value, same_value-itself}
 use Rattle.core_code.specs.Tree.{Tree, Op, Skip, Seq, Choice, Loop, Sync}
 use Rattle.core_code.specs.declared.code.Op.{Op as CoreOp}
 use Rattle.core_code.specs.declared.code.Op.TheVariants.{Push, PushClass, PushPrim, PushNull, New, Dup, Drop, Get, Put}
-use Rattle.core_code.specs.declared.code.Op.TheVariants.{Set, Prim as PrimOp, Outside, Call, Unread, Ret}
+use Rattle.core_code.specs.declared.code.Op.TheVariants.{Set, Prim as PrimOp, Outside, Call, Unread, Ret, Throw}
 use Rattle.access_domain.specs.FlowContext.{FlowContext}
 use Rattle.access_domain.specs.Findings.{Known, Large, Whole}
 use Rattle.access_domain.specs.Substitution.{root_value, substituted_value, actuals_from}
@@ -229,6 +229,7 @@ op-keeps g locked site (Outside n) s t h = replace-keeps s t n Unnamed Unnamed h
 op-keeps g locked site (Call m n) s t h = call-keeps g locked site m n (g.known_of m) s t h
 op-keeps g locked site (Unread m n) s t h = replace-keeps s t n Unnamed Unnamed h (inl refl)
 op-keeps g locked site Ret s t h = tt
+op-keeps g locked site Throw s t h = tt
 
 -- ---- ends
 pub next-joined : (a b c d : Option State) → BelowNext a c → BelowNext b d →

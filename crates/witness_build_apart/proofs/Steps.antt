@@ -10,7 +10,7 @@ use Rattle.racer_base.specs.declared.ids.Touch.TheVariants.{Read}
 use Rattle.access_paths.specs.Paths.{same_field}
 use Rattle.core_code.specs.declared.code.Op.{Op as CoreOp}
 use Rattle.core_code.specs.declared.code.Op.TheVariants.{Push, PushClass, PushPrim, PushNull, New, Dup, Drop, Get, Put}
-use Rattle.core_code.specs.declared.code.Op.TheVariants.{Set, Prim, Outside, Call, Unread as UnreadCall, Ret}
+use Rattle.core_code.specs.declared.code.Op.TheVariants.{Set, Prim, Outside, Call, Unread as UnreadCall, Ret, Throw}
 use Rattle.core_code.specs.Core.{Core, Method}
 use Rattle.core_code.specs.Calls.{method_at}
 use Rattle.core_code.specs.Tree.{Tree, is_return}
@@ -113,6 +113,7 @@ inner-alike core but a b f (Outside n) alike avoided = (refl, alike)
 inner-alike core but a b f (Call m n) alike avoided = refl
 inner-alike core but a b f (UnreadCall m n) alike avoided = refl
 inner-alike core but a b f Ret alike avoided = refl
+inner-alike core but a b f Throw alike avoided = refl
 
 -- ---- a thread
 

@@ -8,7 +8,7 @@ use Rattle.racer_base.specs.declared.ids.MethodId.{MethodId}
 use Rattle.access_paths.specs.Paths.{same_field}
 use Rattle.core_code.specs.declared.code.Op.{Op as CoreOp}
 use Rattle.core_code.specs.declared.code.Op.TheVariants.{Push, PushClass, PushPrim, PushNull, New, Dup, Drop, Get, Put}
-use Rattle.core_code.specs.declared.code.Op.TheVariants.{Set, Prim, Outside, Call, Unread as UnreadCall, Ret}
+use Rattle.core_code.specs.declared.code.Op.TheVariants.{Set, Prim, Outside, Call, Unread as UnreadCall, Ret, Throw}
 use Rattle.core_code.specs.Core.{Core, Method}
 use Rattle.core_code.specs.Calls.{method_at}
 use Rattle.core_code.specs.Tree.{Tree, is_return}
@@ -172,6 +172,7 @@ inner-changed core a f (Outside n) plain = same-store core a plain
 inner-changed core a f (Call m n) plain = tt
 inner-changed core a f (UnreadCall m n) plain = tt
 inner-changed core a f Ret plain = tt
+inner-changed core a f Throw plain = tt
 
 abbrev pub AfterChanged : Core → Store → Change → Next After → Type 0
 AfterChanged core a c (Goes b) = IsChanged core a c b.store

@@ -14,7 +14,7 @@ use Rattle.access_domain.specs.declared.access.Access.{Access}
 use Rattle.access_domain.specs.Origins.{touch_of}
 use Rattle.core_code.specs.declared.code.Op.{Op as CoreOp}
 use Rattle.core_code.specs.declared.code.Op.TheVariants.{Push, PushClass, PushPrim, PushNull, New, Dup, Drop, Get, Put}
-use Rattle.core_code.specs.declared.code.Op.TheVariants.{Set, Prim, Outside, Call, Unread, Ret}
+use Rattle.core_code.specs.declared.code.Op.TheVariants.{Set, Prim, Outside, Call, Unread, Ret, Throw}
 use Rattle.core_code.specs.Core.{Core, Method}
 use Rattle.core_semantics.specs.declared.answer.Holder.{Holder}
 use Rattle.core_semantics.specs.declared.object.Object.{Object}
@@ -74,6 +74,7 @@ op-touches frame p kind (Outside n) touches field base = absurd cc
 op-touches frame p kind (Call m n) touches field base = absurd cc
 op-touches frame p kind (Unread m n) touches field base = absurd cc
 op-touches frame p kind Ret touches field base = absurd cc
+op-touches frame p kind Throw touches field base = absurd cc
 
 -- the next step of a thread touches the cell of a path, by this kind
 pub record TouchesAs (s : State) (t : ℕ) (p : Path) (kind : Touch) : Type 0 where

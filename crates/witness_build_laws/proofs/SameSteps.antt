@@ -6,7 +6,7 @@ use Rattle.std.specs.List.{list_any}
 use Rattle.racer_base.specs.declared.ids.FieldId.{FieldId}
 use Rattle.core_code.specs.declared.code.Op.{Op as CoreOp}
 use Rattle.core_code.specs.declared.code.Op.TheVariants.{Push, PushClass, PushPrim, PushNull, New, Dup, Drop, Get, Put}
-use Rattle.core_code.specs.declared.code.Op.TheVariants.{Set, Prim, Outside, Call, Unread, Ret}
+use Rattle.core_code.specs.declared.code.Op.TheVariants.{Set, Prim, Outside, Call, Unread, Ret, Throw}
 use Rattle.core_code.specs.Calls.{method_at}
 use Rattle.core_code.specs.Core.{Core, Method}
 use Rattle.core_code.specs.Tree.{Tree, is_return}
@@ -70,6 +70,7 @@ inner-same core heap i (Outside n) same = refl
 inner-same core heap i (Call m n) same = refl
 inner-same core heap i (Unread m n) same = refl
 inner-same core heap i Ret same = refl
+inner-same core heap i Throw same = refl
 
 -- ---- calls, returns and locks
 
@@ -135,6 +136,7 @@ op-same core heap s (Outside n) same = plain-same core heap s (Outside n) same
 op-same core heap s (Call m n) same = call-same heap s n UnreadWhy (method_at core m)
 op-same core heap s (Unread m n) same = plain-same core heap s (Unread m n) same
 op-same core heap s Ret same = returned-same heap s.store s.frame s.callers s.locks
+op-same core heap s Throw same = plain-same core heap s Throw same
 
 operated-same : (core : Core) (heap : Heap) (s : Spot) (rest : List Todo) (op : CoreOp) →
     ReadsSame core heap s.store s.frame op →

@@ -1,4 +1,5 @@
 use Rattle.std.proofs.Common.{◌∙◌, ap}
+use Rattle.core_code.specs.declared.exits.Exits.{Exits}
 use Rattle.core_code.specs.Tree.{can_end}
 use Rattle.core_lowering_methods.specs.Drafts.{code_of}
 use Rattle.core_lowering_methods.specs.Erased.{whole_of}
@@ -8,5 +9,6 @@ use Rattle.core_lowering_methods.proofs.draft.Draft.can_end.Goals as goal
 pub returns : goal.returns
 unfolding code_of
 returns c =
-    c.can_all_end.ensures ∙ ap (λ parts. can_end (whole_of parts)) c.as_slice.ensures.value
+    ap (λ (exits : Exits). exits.ends) c.exits_through.ensures
+    ∙ ap (λ parts. can_end (whole_of parts)) c.as_slice.ensures.value
     ∙ whole-ends c.args.self.now.parts.items
