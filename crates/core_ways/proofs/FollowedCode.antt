@@ -44,7 +44,7 @@ pub held-followed : (end : PathEnd) (locks within : ℕ) (lock : LockAt) (body :
     pushed ≡ old ++ Step ∷ [] → within ≡ suc locks →
     pushed ++ followed end within path body ≡ old ++ followed end locks path (Sync lock body)
 held-followed end locks within lock body old pushed path step more =
-    (λ i. step i ++ followed (more i) path body)
+    (λ i. step i ++ followed end (more i) path body)
     ∙ append_assoc old (Step ∷ []) (followed end (suc locks) path body)
 
 -- of pieces in sequence, the first is gone into, or passed
