@@ -12,7 +12,7 @@ use Rattle.core_code.specs.Calls.{method_at}
 use Rattle.core_code.specs.Core.{Core, Method}
 use Rattle.core_code.specs.Tree.{LockAt, Operation, Tree}
 use Rattle.core_code.specs.Tree.{steps_of, stops}
-use Rattle.core_code.specs.Tree as tree
+use Rattle.core_code.proofs.Membership.{In}
 use Rattle.core_semantics.specs.declared.answer.Holder.{Holder}
 use Rattle.core_semantics.specs.declared.answer.Turn.{Turn}
 use Rattle.core_semantics.specs.declared.answer.Why.TheVariants.{UnreadCall as UnreadWhy}

@@ -1,10 +1,10 @@
 -- A contract of a public call rests on this: the law `legs_meet_no_throw`.
-use Rattle.std.specs.Prelude.{◌≡◌, ℕ, Bool, true, false, List, None, Some, IsTrue}
+use Rattle.std.specs.Prelude.{◌≡◌, Bool, true, false, List, None, Some, IsTrue}
 use Rattle.racer_base.specs.declared.ids.MethodId.{MethodId}
 use Rattle.core_code.specs.CalleeRows.{code_rows}
 use Rattle.core_code.specs.Calls.{method_at}
 use Rattle.core_code.specs.Chains.{IsChain}
-use Rattle.core_code.specs.Core.{Core, Method}
+use Rattle.core_code.specs.Core.{Core}
 use Rattle.core_code.specs.Tree.{can_return}
 use Rattle.core_semantics.specs.declared.answer.Why.{Why}
 use Rattle.core_semantics.specs.declared.answer.Why.TheVariants.{Thrown}
