@@ -1,6 +1,5 @@
 //! Operations.
-ghost use Rattle.std.specs.Prelude.{◌≡◌, ◌<◌, ◌++◌, List, IfOk, OnOk, [], Bool, length, option_map};
-ghost use Rattle.std.specs.Prelude.{false, if◌then◌else◌};
+ghost use Rattle.std.specs.Prelude.{◌≡◌, ◌<◌, ◌++◌, List, IfOk, OnOk, [], Bool, length, option_map, false, if◌then◌else◌};
 ghost use Rattle.racer_base.specs.declared.ids.SiteId.{SiteId as Site};
 ghost use Rattle.access_paths.specs.declared.path.Path.{Path as TablePath};
 ghost use Rattle.access_paths.specs.Table.{IsTable, GoesOn, path_at};
