@@ -38,8 +38,31 @@
     });
     main.toggleAttribute("data-new", isNew);
     main.setAttribute("data-mark", mark.value);
-    byId("shown").textContent = `${groups(count)} of ${groups(rows.length)} fields`;
+    byId("shown").textContent = `${groups(count)} of ${groups(rows.length)} lines`;
+    byId("none").hidden = count > 0;
   };
+
+  // Sorts the rows by a column, and by the same once more the other way round; with no column as they stood at first.
+  const heads = [...document.querySelectorAll("#fields thead th")];
+  const sort = (head) => {
+    const column = heads.indexOf(head), turned = head !== null && head.getAttribute("aria-sort") === "ascending";
+    const isNumber = head !== null && head.classList.contains("n");
+    const key = (row) => row.cells[column].textContent;
+    const compare = (a, b) => isNumber ? Number(key(a).replace(/,/g, "")) - Number(key(b).replace(/,/g, "")) :
+      key(a).localeCompare(key(b));
+    const sorted = [...rows];
+    if (head !== null) sorted.sort(turned ? (a, b) => compare(b, a) : compare);
+    heads.forEach((one) => one.removeAttribute("aria-sort"));
+    if (head !== null) head.setAttribute("aria-sort", turned ? "descending" : "ascending");
+    byId("rows").append(...sorted);
+  };
+  heads.forEach((head) => {
+    const button = document.createElement("button");
+    button.type = "button";
+    button.append(...head.childNodes);
+    button.addEventListener("click", () => sort(head));
+    head.append(button);
+  });
 
   // Opens the part that the address names, and shows it where a filter has left it out.
   const follow = () => {
@@ -55,7 +78,7 @@
 
   filters.hidden = false;
   filters.addEventListener("input", show);
-  filters.addEventListener("reset", () => setTimeout(show));
+  filters.addEventListener("reset", () => setTimeout(() => { sort(null); show(); }));
   filters.addEventListener("submit", (event) => event.preventDefault());
   show();
   addEventListener("hashchange", follow);

@@ -2,9 +2,11 @@
 import itertools
 
 from page_drawing import drawing
-from page_html import chip, code, folded, many, safe
+from page_html import chip, code, folded, listed, many, safe
 from report_fields import MARKS, parts
 from report_files import Fault
+from report_marks import mark_note
+from report_turns import contradicting, turn_text
 
 # Why a warning is not confirmed, in the words of docs/WARNINGS.md, and what to do first.
 WHY = {
@@ -89,7 +91,7 @@ def lock_chips(side):
 
 def place_html(report, place, told, snippets, name=None):
     """A place, what is done there, and the lines around it."""
-    return f'<p class="place">{told} <span class="at">{safe(place)}</span></p>{snippets.piece(report, place, name)}\n'
+    return f'<p class="place">{told} {snippets.at(report, place)}</p>{snippets.piece(report, place, name)}\n'
 
 
 def column(field, side, thread, snippets):
@@ -126,18 +128,35 @@ def legs_of(mark):
     return legs
 
 
-def legs_html(legs, warning):
-    """The run, leg by leg in its order: the warning tells the accesses of thread 0 and thread 1."""
+def turns_html(field, warning, thread, snippets):
+    """The turns of a thread in the warning's own run, each with its condition, where the sources tell them."""
+    legs = warning["mark"]["witness"]["legs"]
+    found = snippets.turns.of_leg(field.report, warning, next(leg for leg in legs if leg["thread"] == thread))
+    items = [
+        f"{code(turn.letter)} {snippets.at(field.report, snippets.turns.place(field.report, turn))} "
+        f"{safe(turn_text(turn))}"
+        for turn in (found or ())[:MOST_TURNS]
+    ]
+    more = len(found or ()) - len(items)
+    items += [f"and {many(more, 'more turn')}"] if more > 0 else []
+    against = "<p>These turns contradict one another: <code>racer-witness --agree</code> tries others.</p>\n"
+    return (listed(items, "turns") if items else "") + (against if contradicting(found) else "")
+
+
+def legs_html(legs, warning, field=None, snippets=None):
+    """The run, leg by leg in its order: the warning tells the accesses of thread 0 and thread 1. With its field each
+    turn is told with its condition."""
     sides = (warning, warning["with"])
     items = []
     for (thread, steps, turns), word in zip(legs, ("First", "Then")):
         told = f"<b>{word} thread {thread}</b> runs alone: {many(steps, 'step')}, {turns_text(turns)}. "
-        items.append(f'<li class="t{thread}">{told}It stands right before its {safe(sides[thread]["kind"])}.')
+        own = turns_html(field, warning, thread, snippets) if turns and field else ""
+        items.append(f'<li class="t{thread}">{told}It stands right before its {safe(sides[thread]["kind"])}.{own}')
     items.append('<li class="both"><b>Now both</b>: the next steps touch one cell, whichever goes first.')
     return f'<ol class="legs">{"".join(items)}</ol>\n'
 
 
-def run_html(field, pair):
+def run_html(field, pair, snippets):
     """The run of a confirmed warning: its legs, and a drawing of the objects that it begins with."""
     warning = pair.warning
     legs, witness = legs_of(warning["mark"]), warning["mark"].get("witness")
@@ -145,7 +164,7 @@ def run_html(field, pair):
         return "<h5>Confirmed</h5><p>The report is of an older racer, which wrote no run: make it anew.</p>"
     kinds = [f"{side['kind']}s" for side in (warning, warning["with"])]
     objects = [str(path) for path in witness["objects"]]
-    made = "<h5>A run that ends before both</h5>\n" + legs_html(legs, warning)
+    made = "<h5>A run that ends before both</h5>\n" + legs_html(legs, warning, field, snippets)
     return made + drawing(field.owner, warning["path"], objects, kinds) + "\n"
 
 
@@ -159,6 +178,8 @@ def why_html(field, mark, snippets):
     if mark.get("steps") is not None:
         where.append(f"<p>It has {many(mark['steps'], 'step')}.</p>")
     if place is not None:
+        note = mark_note(field.report, mark)
+        where += [f"<p>{safe(note[2:])}.</p>"] if note else []
         thread = f"Thread {mark['thread']} stops at" if "thread" in mark else "The call is at"
         where.append(place_html(field.report, place, safe(thread), snippets))
     first = f"<p>What to do first: {safe(what)}.</p>" if what else ""
@@ -181,13 +202,17 @@ def other_html(field, pair, other, snippets):
     return folded("Another run, told from the other side", legs_html(turned, pair.warning), "again")
 
 
-def numbers_html(pair, numbers):
-    """Which warnings of the report these are, and which of its witnesses they have."""
-    told = []
+def numbers_html(field, pair, numbers):
+    """Which warnings of the report these are, and which of its witnesses they have, with the command that cuts one."""
+    told, witnesses = [], []
     for warning in pair.all():
         index, witness = numbers[id(warning)]
         told.append(f"warning {index}" + (f" (witness {witness})" if witness else ""))
-    return f'<p class="dim which">{" and ".join(told)} of the report</p>'
+        witnesses += [witness] if witness else []
+    made = f'<p class="dim which">{" and ".join(told)} of the report'
+    if witnesses and field.report.words:
+        made += f": {code(f'tools/racer-witness {field.report.words} {witnesses[0]}')}"
+    return f"{made}</p>"
 
 
 def pair_html(field, pair, snippets, numbers, new):
@@ -199,8 +224,8 @@ def pair_html(field, pair, snippets, numbers, new):
     kinds = " ".join(["pair", *(f"m-{mark_kind(word)}" for word in pair.marks()), *(["is-new"] if is_new else [])])
     head = f"<h4>{sides[0]} meets {sides[1]} {marks}{' ' + chip('new', 'new') if is_new else ''}</h4>\n"
     shown = warning["mark"]["word"] == "confirmed"
-    middle = run_html(field, pair) if shown else why_html(field, warning["mark"], snippets)
+    middle = run_html(field, pair, snippets) if shown else why_html(field, warning["mark"], snippets)
     middle += "".join(other_html(field, pair, other, snippets) for other in pair.others)
-    between = f'<div class="run" role="group" aria-label="The run">{middle}{numbers_html(pair, numbers)}</div>\n'
+    between = f'<div class="run" role="group" aria-label="The run">{middle}{numbers_html(field, pair, numbers)}</div>\n'
     columns = [column(field, side, thread, snippets) for thread, side in enumerate((warning, partner))]
     return f'<article class="{kinds}">{head}<div class="two">\n{columns[0]}{between}{columns[1]}</div></article>\n'

@@ -6,6 +6,7 @@ import os
 from page_html import chip, code, folder, many, number, safe
 from page_pair import WHY, mark_kind, mark_rank, pair_html, pairs_of
 from page_unseen import folders, overview, unseen
+from report_fields import GROUPS
 
 HEADS = ("Class", "Field", "Warnings", "Methods", "Locked", "Best mark", "New")
 
@@ -22,30 +23,42 @@ def digest(text):
 
 
 class Row:
-    """A field as the table tells it."""
+    """A line of the table: a field, or all fields of one cause."""
 
-    def __init__(self, place, field, sources, new):
-        self.place, self.field = place, field
-        self.is_hidden = field.is_hidden(sources)
-        self.marks = sorted({warning["mark"]["word"] for warning in field.warnings}, key=mark_rank)
-        self.methods = len({side[0] for side in field.accesses})
-        self.new = sum(id(warning) in new for warning in field.warnings)
-        self.locked = "somewhere" if field.is_locked_somewhere() else "never"
+    def __init__(self, finding, new):
+        self.place, self.finding, self.field = 0, finding, finding.first()
+        self.note = GROUPS[finding.kind]
+        self.warnings = finding.warnings()
+        self.marks = sorted({warning["mark"]["word"] for warning in self.warnings}, key=mark_rank)
+        self.methods = len({side[0] for field in finding.fields for side in field.accesses})
+        self.new = sum(id(warning) in new for warning in self.warnings)
+        self.locked = "somewhere" if any(field.is_locked_somewhere() for field in finding.fields) else "never"
 
     def kinds(self):
         """The classes of the style and of the filter."""
         return " ".join([f"m-{mark_kind(word)}" for word in self.marks] + [self.locked] + ["is-new"] * (self.new > 0))
 
+    def paths(self):
+        """The paths of the fields."""
+        return ", ".join(code(field.path) for field in self.finding.fields)
+
+    def cause(self):
+        """What the fields share, where these are several."""
+        if len(self.finding.fields) == 1:
+            return ""
+        return f"one method without a lock: {safe(self.finding.cause[2])}"
+
 
 def field_row(row, has_baseline):
     """A line of the table of fields."""
     field, place = row.field, row.place
-    note = ' <span class="dim">only in finalize or methods that are not public</span>' if row.is_hidden else ""
+    notes = [note for note in (row.cause(), row.note) if note]
+    note = f' <span class="dim">{"; ".join(notes)}</span>' if notes else ""
     cells = [
         f'<tr role="row" id="r{place}" class="{row.kinds()}">',
         f'<th role="rowheader" scope="row">{code(field.owner)} {folder(field.report.under)}',
-        f'<td role="cell"><a href="#f{place}">{code(field.path)}</a>{note}',
-        f'<td role="cell" class="n">{number(len(field.warnings))}<td role="cell" class="n">{number(row.methods)}',
+        f'<td role="cell"><a href="#f{place}">{row.paths()}</a>{note}',
+        f'<td role="cell" class="n">{number(len(row.warnings))}<td role="cell" class="n">{number(row.methods)}',
         f'<td role="cell">{chip(row.locked, row.locked)}',
         f'<td role="cell">{chip(mark_kind(row.marks[0]), row.marks[0])}',
     ]
@@ -64,6 +77,7 @@ def filters(rows, has_baseline):
         f'<label>Mark <select id="by-mark"><option value="">any{marks}</select></label>\n'
         '<label>Locked <select id="by-lock"><option value="">any<option>somewhere<option>never</select></label>\n'
         f'{new}<button type="reset">All fields</button> <span id="shown" role="status"></span></form>\n'
+        '<p id="none" hidden>No field has all that the filters ask for.</p>\n'
     )
 
 
@@ -77,7 +91,8 @@ def table(rows, has_baseline):
         f'<th role="columnheader" scope="col"{" class=n" if name in ("Warnings", "Methods", "New") else ""}>{name}'
         for name in heads
     )
-    told = "What to look at first stands on top: fields that are locked somewhere, then the best mark"
+    first = "what is new, then " if has_baseline else ""
+    told = f"What to look at first stands on top: {first}fields that are locked somewhere, then the best mark"
     body = "".join(field_row(row, has_baseline) for row in rows)
     return (
         f'{head}{filters(rows, has_baseline)}<table role="table" class="fields"><caption>{told}</caption>\n'
@@ -85,16 +100,25 @@ def table(rows, has_baseline):
     )
 
 
-def field_part(row, snippets, numbers, new):
-    """The part of a field: what is known of its accesses, and each pair that can meet."""
-    field, place = row.field, row.place
-    told = f"{many(len(field.warnings), 'warning')}, {many(row.methods, 'method')}, locked {row.locked}"
-    mark = chip(mark_kind(row.marks[0]), row.marks[0]) + (" " + chip("new", f"{row.new} new") if row.new else "")
-    head = f"<h3>{code(field.path)} of {code(field.owner)}</h3> <span>{told} {mark}</span>"
+def one_field(field, snippets, numbers, new, is_one):
+    """What is known of the accesses of a field, and each pair that can meet."""
     pairs = "".join(pair_html(field, pair, snippets, numbers, new) for pair in pairs_of(field))
-    facts = f'<p>{safe(field.facts())}. <a href="#r{place}">Back to the table</a></p>\n'
-    inside = f'<div class="inside">{facts}{pairs}</div>'
-    return f'<details class="field" id="f{place}"><summary>{head} {folder(field.report.under)}</summary>\n{inside}</details>\n'
+    head = "" if is_one else f"<p><b>{code(field.path)}</b>: "
+    return f"{head or '<p>'}{safe(field.facts())}.</p>\n{pairs}"
+
+
+def field_part(row, snippets, numbers, new):
+    """The part of a line of the table: what is known of its fields."""
+    fields, place = row.finding.fields, row.place
+    told = f"{many(len(row.warnings), 'warning')}, {many(row.methods, 'method')}, locked {row.locked}"
+    mark = chip(mark_kind(row.marks[0]), row.marks[0]) + (" " + chip("new", f"{row.new} new") if row.new else "")
+    head = f"<h3>{row.paths()} of {code(row.field.owner)}</h3> <span>{told} {mark}</span>"
+    made = "".join(one_field(field, snippets, numbers, new, len(fields) == 1) for field in fields)
+    back = f'<p><a href="#r{place}">Back to the table</a></p>\n'
+    cause = f"<p>{row.cause()}.</p>\n" if row.cause() else ""
+    inside = f'<div class="inside">{back}{cause}{made}</div>'
+    under = folder(row.field.report.under)
+    return f'<details class="field" id="f{place}"><summary>{head} {under}</summary>\n{inside}</details>\n'
 
 
 def warnings(rows, snippets, numbers, new):
@@ -137,16 +161,17 @@ def jumps(rows):
     return f'<nav aria-label="Parts of this page">{links}</nav>'
 
 
-def whole(title, known, rows, snippets, numbers, new, changed):
+def whole(title, known, rows, snippets, numbers, new, changed, suppressed):
     """All of the page. The parts of the fields are made first, so that it is known whether their sources are there."""
     style, script = beside("page.css"), beside("page.js")
-    count = sum(len(row.field.warnings) for row in rows)
+    count, fields = sum(len(row.warnings) for row in rows), sum(len(row.finding.fields) for row in rows)
     parts = warnings(rows, snippets, numbers, new)
     return (
         f'{head_html(f"racer: {title}, " + many(count, "warning"), style, script)}<body>\n'
         f'<a class="skip" href="#fields">To the fields</a>\n<header><h1>racer: {code(title)}</h1>\n'
         f'{jumps(rows)}</header>\n'
-        f'<main id="main">\n{overview(known, len(rows), snippets, changed)}{table(rows, bool(changed))}'
-        f"<script>{script}</script>\n{parts}{folders(known)}{unseen(known, new, changed)}{reading()}</main>\n"
+        f'<main id="main">\n{overview(known, fields, snippets, changed)}{table(rows, bool(changed))}'
+        f"<script>{script}</script>\n{parts}{folders(known)}"
+        f"{unseen(known, new, changed, suppressed)}{reading()}</main>\n"
         "<footer><p>Made by tools/racer-html from reports of racer.</p></footer>\n</body>\n</html>\n"
     )

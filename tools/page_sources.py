@@ -1,9 +1,11 @@
 """Lines of sources around the places of reports, for a page."""
 import os
 import re
+import urllib.parse
 
 from page_html import safe
 from report_files import joined, split_place
+from report_turns import Turns
 
 # How many lines stand before and behind the one that is meant, how long a line may be, and what is kept of one that
 # is longer before the place that is meant.
@@ -16,9 +18,11 @@ INDENT = re.compile(r"[ \t]*")
 
 
 class Snippets:
-    """Pieces of source files, each read once; what is not at hand is counted."""
+    """Pieces of source files, each read once; what is not at hand is counted. A place may be a link to where a host
+    shows it."""
 
-    def __init__(self):
+    def __init__(self, link=None):
+        self.link, self.turns = link, Turns()
         self.files, self.pieces = {}, {}
         self.missing, self.changed = set(), set()
 
@@ -31,6 +35,16 @@ class Snippets:
             except (OSError, ValueError):
                 self.files[path] = None
         return self.files[path]
+
+    def at(self, report, place):
+        """A place, as it is told."""
+        if not self.link:
+            return f'<span class="at">{safe(place)}</span>'
+        file, line, _ = split_place(place)
+        name = urllib.parse.quote(os.fsencode(report.under + file))
+        found = {"%f": name, "%l": str(line), "%%": "%"}
+        address = re.sub("%[fl%]", lambda one: found[one[0]], self.link)
+        return f'<a class="at" href="{safe(address)}">{safe(place)}</a>'
 
     def piece(self, report, place, name=None):
         """Some lines around a place as HTML, nothing where they are not at hand; the name is one that stands there."""

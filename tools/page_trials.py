@@ -91,3 +91,42 @@ def write(made):
         out.write("refused <script>window.hacked=1</script>.java:1:1 not a unit\n")
     names = [os.path.join(made, name) for name in ("evil.json", "refused.json")]
     return [*names, write_packages(made, tree), "--sources", tree, os.path.join(tree, "none <b>"), tree]
+
+
+# A class whose warnings have turns and marks that its source explains, and what a page tells of them.
+DESK = """@ThreadSafe
+class Desk {
+  int open;
+  Desk next;
+  void help(int a, int b) {
+    if (a > 0 && b > 0) { open = 1; }
+  }
+  void lost() { try { open = 2; } finally { } }
+  void both() { lost(); open = 3; }
+  void none() { next.open = 4; }
+}
+"""
+TOLD = (
+    "R Desk.java:6:9 (a &gt; 0) &amp;&amp;: does not hold",
+    "L Desk.java:6:9 if (a &gt; 0 &amp;&amp; b &gt; 0): holds, against the turns in it",
+    "These turns contradict one another",
+    "Desk.lost/0 (outside, for try) is not read",
+    "next is null there, or from outside",
+)
+
+
+def desk():
+    """A report on that class."""
+    def side_of(method, place):
+        return {"at": [f"Desk.java:{place}"], "kind": "write", "locked": False, "main": False,
+                "method": f"Desk.{method}", "path": "this.open"}
+
+    legs = [{"steps": 9, "thread": thread, "turns": "RL"} for thread in (0, 1)]
+    witness = {"class": "Desk", "entries": ["help/2", "help/2"], "legs": legs, "objects": [], "version": 1}
+    marks = [("help/2", "6:27", {"word": "confirmed", "witness": witness})]
+    marks.append(("both/0", "9:25", {"word": "unread", "place": "Desk.java:9:17"}))
+    marks.append(("none/0", "10:22", {"word": "blocked", "place": "Desk.java:10:22", "thread": 0}))
+    found = [{**side_of(name, at), "mark": mark, "with": side_of(name, at)} for name, at, mark in marks]
+    left = [{"method": "Desk.lost/0", "place": "Desk.java:8:8", "reason": "outside"}]
+    counts = {"classes": 1, "files": 1, "methods": 5, "profile": 1, "skipped": []}
+    return {**counts, "not_analysed": left, "warnings": found}

@@ -5,6 +5,7 @@ from page_html import chip, code, counted_words, folded, listed, many, number, s
 from page_pair import mark_kind, mark_rank
 from report_fields import parts
 from report_files import refusal_text
+from report_unseen import Reach
 
 # How many folders or files a list may have that is not folded.
 SHORT = 12
@@ -105,7 +106,7 @@ def alerts(known, snippets):
     if unknown:
         yield "How many classes are checked is not known where neither racer-packages nor sources tell it.", False
     if locks:
-        yield f"{many(locks, 'type')} with locks and without a check.", False
+        yield f"{many(locks, 'type')} with locks that are not looked at.", False
     if snippets.missing:
         yield f"The sources of {many(len(snippets.missing), 'place')} are not at hand (--sources FOLDER).", False
     if snippets.changed:
@@ -117,16 +118,18 @@ def baseline_line(found):
     if not found:
         return ""
     counts = [sum(one) for one in zip(*(each.counts() for each in found))]
-    words = zip(("introduced", "fixed", "hidden", "kept"), counts)
+    words = zip(("introduced", "fixed", "hidden", "moved", "kept"), counts)
     return f"<p>Since the baseline: {', '.join(f'{word} {number(count)}' for word, count in words)}.</p>\n"
 
 
 def overview(known, fields, snippets, changed):
     """The first part of the page."""
+    reach = Reach([one.report for one in known])
     told = [f'<li class="{"bad" if is_bad else "so"}">{text}' for text, is_bad in alerts(known, snippets)]
     more = f'<ul class="alerts">{"".join(told)}<li class="so"><a href="#unseen">What was not looked at</a></ul>\n'
     return (
         '<section id="overview" aria-labelledby="overview-head"><h2 id="overview-head">Overview</h2>\n'
+        f"<p><b>{safe(reach.line())}</b></p>\n"
         f'<dl class="tiles">\n{"".join(tiles(known, fields))}</dl>\n{baseline_line(changed)}{more}</section>\n'
     )
 
@@ -191,8 +194,8 @@ def skipped_list(one):
 def unchecked_list(one):
     """The types of a report that have locks and are not checked, each with its reason."""
     items = [
-        f"{code(each.type)} <b>{safe(each.file)}</b>:{each.line}:{each.column} {safe(each.why)}"
-        for each in one.unchecked
+        f"{code(each.name)} <b>{safe(each.file)}</b>:{each.line}:{each.column} {safe(text)}"
+        for each, text in one.unchecked
     ]
     return folded(f"{code(one.folder())}: {number(len(items))}", listed(items, "close"))
 
@@ -210,8 +213,8 @@ def per_folder(title, note, known, entries, made):
 # What each folder may have that is not looked at: the title, what it means, the entries, and how they are listed.
 KINDS = (
     (
-        "Types that have locks and are not checked",
-        "No warning can come from them.",
+        "Types with locks that are not looked at",
+        "No warning can come from those that are not checked; of the others every lock is a call of a library.",
         lambda one: one.unchecked or (),
         unchecked_list,
     ),
@@ -230,7 +233,30 @@ KINDS = (
 )
 
 
-def unseen(known, new, changed):
+def suppressed_list(suppressed):
+    """What the sources leave out by an annotation, and the annotations that leave nothing out."""
+    taken, stale = suppressed
+    items = [
+        f"{safe(report.under + warning['at'][-1])}: {safe(warning['kind'])} of {code(warning['path'])} in "
+        f"{code(warning['method'])}: {safe(why)}"
+        for report, warning, why in taken
+    ]
+    made = short_list("Left out by an annotation in the sources", items, "warning")
+    return made + short_list("Annotations that leave nothing out", [safe(line) for line in stale], "annotation")
+
+
+def reach_lists(known):
+    """Which types are skipped, and what is not read in methods."""
+    reach = Reach([one.report for one in known])
+    skipped = [
+        f"{safe(word)}: {many(types, 'type')}, {many(methods, 'method')}" for word, types, methods in reach.reasons()
+    ]
+    forms = [f"{safe(words)}: {many(count, 'method')}" for words, count in reach.forms()]
+    made = short_list("Why types are skipped", skipped, "reason")
+    return made + short_list("What alone is not read in methods that are outside", forms, "form")
+
+
+def unseen(known, new, changed, suppressed):
     """The part on what was not looked at."""
     mark = {True: " " + chip("new", "new"), False: ""}
     silent = [one.report for one in known if one.report.object is None]
@@ -245,6 +271,8 @@ def unseen(known, new, changed):
     made += short_list("Folders without a checked class", without, "folder")
     gone = [f"{code(method)} {safe(package)}" for each in changed for package, method in each.unread]
     made += short_list("Not analysed any more, with warnings in the baseline", gone, "method")
+    lost = [f"{code(name)} {safe(package)}" for each in changed for package, name in each.unchecked]
+    made += short_list("Not checked any more", lost, "class") + suppressed_list(suppressed) + reach_lists(known)
     for title, note, entries, lines in KINDS:
         made += per_folder(title, note, known, entries, lines)
     told = made or "<p>Of what these reports tell, nothing was left.</p>\n"

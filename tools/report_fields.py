@@ -1,47 +1,25 @@
-"""The warnings of reports by field, with how its accesses are locked, and which methods are public, by the sources."""
+"""The warnings of reports by field, with how its accesses are locked, and what to look at first."""
 import collections
 import re
 
-from java_outline import Outline, types_of
-from report_files import joined, split_place
+from report_files import split_place
+from report_types import known_types
 
 # From the best to the worst.
 MARKS = ("confirmed", "blocked", "long", "unread", "unstable", "unnamed")
 
-# What stands in a file that has a lock or a checked class.
-LOCKS = re.compile(rb"synchronized|ThreadSafe|Lock\b|\.\s*lock\b")
+# What a field is told among the last for, from what is looked at first on: nothing, and in words what its accesses are.
+GROUPS = ("", "no access without a lock is in a public method", "written in constructors and setters alone")
+
+SETTER = re.compile(r"set[^a-z].*|set")
 
 
-class Sources:
-    """The outlines of source files, each read once."""
-
-    def __init__(self):
-        self.known = {}
-
-    def types(self, path, only_locks=False):
-        """The outline of a file with its types; nothing where it has no locks and only these are asked for."""
-        if path not in self.known:
-            try:
-                with open(path, "rb") as file:
-                    data = file.read()
-            except OSError:
-                data = b""
-            if only_locks and not LOCKS.search(data):
-                return None
-            outline = Outline(data)
-            self.known[path] = (outline, types_of(outline))
-            outline.forget()
-        return self.known[path]
-
-    def is_public(self, report, method, place):
-        """Whether a method is public, as far as the sources say: else it is taken for it."""
-        known = report.sources and self.types(joined(report.sources, split_place(place)[0]))
-        owner, name, count = parts(method)
-        for one in known[1] if known else []:
-            for other in one.methods if one.name == owner else []:
-                if other.name == name and other.parameters == count:
-                    return "public" in other.modifiers
-        return True
+def is_public(report, method):
+    """Whether a method is public, as far as the sources say: else it is taken for it."""
+    known = known_types(report)
+    owner, name, count = parts(method)
+    one = known.by_name().get(owner) if known else None
+    return one is None or f"{name}/{count}" not in one.other
 
 
 class Field:
@@ -66,17 +44,27 @@ class Field:
         """Whether an access is locked."""
         return any(side["locked"] for side in self.accesses.values())
 
-    def is_hidden(self, sources):
-        """Whether no access is in a method that anyone may call."""
-        return not any(
-            parts(side["method"])[1] != "finalize" and sources.is_public(self.report, side["method"], side["at"][0])
-            for side in self.accesses.values()
-        )
+    def bare(self):
+        """The methods with an access that is not locked."""
+        return sorted({side["method"] for side in self.accesses.values() if not side["locked"]})
 
-    def rank(self, sources):
-        """Where it stands among the others."""
-        best = min(MARKS.index(w["mark"]["word"]) if w["mark"]["word"] in MARKS else len(MARKS) for w in self.warnings)
-        return self.is_hidden(sources), not self.is_locked_somewhere(), best, self.report.under, self.owner, self.path
+    def group(self):
+        """Where it stands among the others, as a place in GROUPS. What no thread may call that has no lock of its own
+        stands behind the others, and what is only set behind that."""
+        writers = [parts(side["method"]) for side in self.accesses.values() if side["kind"] == "write"]
+        if writers and all(SETTER.fullmatch(name) and count == 1 for _, name, count in writers):
+            return 2
+        called = [method for method in self.bare() if parts(method)[1] != "finalize"]
+        return 0 if any(is_public(self.report, method) for method in called) else 1
+
+    def cause(self):
+        """What all findings share that have one cause: the class, and the one method without a lock."""
+        bare = self.bare()
+        return (self.report.under, self.owner, bare[0]) if len(bare) == 1 else None
+
+    def best(self):
+        """The place of its best mark."""
+        return min(MARKS.index(w["mark"]["word"]) if w["mark"]["word"] in MARKS else len(MARKS) for w in self.warnings)
 
     def sides(self):
         """Its accesses, those that are not locked first."""
@@ -90,6 +78,24 @@ class Field:
         counts = [(kind, *self.locked(kind)) for kind in ("read", "write")]
         locked = ", ".join(f"{kind}s locked {own} of {every}" for kind, own, every in counts if every)
         return f"{locked}; {by_word((warning['mark']['word'] for warning in self.warnings), MARKS)}"
+
+
+class Finding:
+    """What is told as one: a field, or all fields of a class that one method reaches without a lock."""
+
+    def __init__(self, field):
+        self.fields, self.cause = [field], field.cause()
+        self.kind = field.group()
+        names = field.report.under, field.owner, field.path
+        self.order = self.kind, not field.is_locked_somewhere(), field.best(), *names
+
+    def first(self):
+        """The field that is looked at first."""
+        return self.fields[0]
+
+    def warnings(self):
+        """All its warnings."""
+        return [warning for field in self.fields for warning in field.warnings]
 
 
 def parts(method):
@@ -117,6 +123,15 @@ def fields_of(reports):
     return list(found.values())
 
 
-def sorted_fields(reports, sources):
-    """The fields that have warnings, what to look at first on top."""
-    return sorted(fields_of(reports), key=lambda field: field.rank(sources))
+def findings_of(reports):
+    """The fields that have warnings, what to look at first on top, those of one cause together."""
+    ordered = sorted((Finding(field) for field in fields_of(reports)), key=lambda finding: finding.order)
+    found, causes = [], {}
+    for one in ordered:
+        first = causes.get((one.cause, one.kind)) if one.cause else None
+        if first is not None:
+            first.fields += one.fields
+        else:
+            causes[(one.cause, one.kind)] = one
+            found.append(one)
+    return found

@@ -3,6 +3,7 @@ import dataclasses
 import json
 import os
 import re
+import shlex
 import sys
 
 # What racer-packages keeps: in its folder, and there in a folder for each package.
@@ -30,7 +31,8 @@ class Report:
 
     `package` tells it from others, `under` is what stands before its files' names, `sources` is the folder that its
     files are in, where it is known, and `left_out` has the files that racer was not given, each with its place and the
-    reason. Of a package the checked classes are known, and files in subfolders are not meant.
+    reason. Of a package the checked classes are known, with what else racer-packages tells, and files in subfolders are
+    not meant. `known` has its types, once they are read (report_types), and `words` name it for racer-witness.
     """
 
     package: str
@@ -41,6 +43,9 @@ class Report:
     left_out: list
     checked: list = None
     is_package: bool = False
+    facts: dict = None
+    known: object = None
+    words: str = ""
 
 
 def folder_prefix(folder):
@@ -129,13 +134,13 @@ def read_package(out, tree, package):
     folder = os.path.join(out, package)
     facts = read_json(os.path.join(folder, FACTS))
     text = read_text(os.path.join(folder, OBJECT))
-    under = folder_prefix(joined(tree, package))
+    under, sources = folder_prefix(package), joined(tree, package)
     report, refusal = None, first_line(text) or "nothing was said"
     if facts["status"] in (0, 1):
         report, refusal = read_object(text, os.path.join(folder, OBJECT))
     elif facts["status"] != 5:
         refusal = f"status {facts['status']}: {refusal}"
-    return Report(package, under, joined(tree, package), report, refusal, facts["left_out"], facts["checked"], True)
+    return Report(package, under, sources, report, refusal, facts["left_out"], facts["checked"], True, facts)
 
 
 def read_packages(out, under, sources):
@@ -148,6 +153,7 @@ def read_packages(out, under, sources):
     for report in found:
         report.under = folder_prefix(joined(under, report.package)) if under is not None else report.under
         report.sources = joined(sources, report.package) if sources is not None else report.sources
+        report.words = shlex.join([out, report.package])
     return found
 
 
@@ -159,7 +165,8 @@ def read_reports(name, under=None, sources=None):
         return read_packages(name, under, sources)
     report, refusal = read_object(read_text(name), "standard input" if name == "-" else name)
     prefix = folder_prefix(under if under is not None else sources or "")
-    return [Report(prefix.rstrip("/"), prefix, sources, report, refusal, [])]
+    words = shlex.quote(name) if name != "-" else ""
+    return [Report(prefix.rstrip("/"), prefix, sources, report, refusal, [], words=words)]
 
 
 def read_named(words):
