@@ -16,4 +16,5 @@ _racer() {
     *) mapfile -t COMPREPLY < <(compgen -f -- "$current") ;;
     esac
 }
-complete -o filenames -F _racer racer racer-diff racer-history racer-html racer-packages racer-sarif racer-summary racer-witness
+complete -o filenames -F _racer racer racer-diff racer-history racer-html racer-packages racer-sarif racer-summary \
+    racer-witness

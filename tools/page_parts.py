@@ -8,6 +8,9 @@ from page_pair import WHY, mark_kind, mark_rank, pair_html, pairs_of
 from page_unseen import folders, overview, unseen
 from report_fields import GROUPS
 
+# How many fields of one cause are named in a line.
+MOST_PATHS = 6
+
 HEADS = ("Class", "Field", "Warnings", "Methods", "Locked", "Best mark", "New")
 
 
@@ -39,8 +42,10 @@ class Row:
         return " ".join([f"m-{mark_kind(word)}" for word in self.marks] + [self.locked] + ["is-new"] * (self.new > 0))
 
     def paths(self):
-        """The paths of the fields."""
-        return ", ".join(code(field.path) for field in self.finding.fields)
+        """The paths of the fields, of many the first."""
+        fields = self.finding.fields
+        told = ", ".join(code(field.path) for field in fields[:MOST_PATHS])
+        return told + (f" and {many(len(fields) - MOST_PATHS, 'more field')}" if len(fields) > MOST_PATHS else "")
 
     def cause(self):
         """What the fields share, where these are several."""

@@ -107,7 +107,7 @@ def warning_key(report, warning):
 
 
 def details_of(warning):
-    """What a warning is not known by, but what is asked of one that is gone: its lock, and the method of its partner."""
+    """What a warning is not known by, but what is asked of one that is gone: its lock, its partner's method."""
     return "locked" if warning["locked"] else "bare", warning["with"]["method"]
 
 

@@ -1,4 +1,4 @@
-"""The turns of a confirmed warning in words: at which condition each is taken, and whether they can be taken together."""
+"""The turns of a confirmed warning in words: at which condition each is taken, and whether they agree."""
 from java_folder import read_classes
 from java_walk import walked
 from package_trees import read_sources

@@ -84,7 +84,8 @@ def agreed(report, warning, program):
                 return None, f"no turns of leg {number} agree that come by the access"
             new = agreed_leg(copy, made, number, other)
             if new is None:
-                return None, f"by the turns that agree, {''.join(turn.letter for turn in other)}, leg {number} can't go on"
+                letters = "".join(turn.letter for turn in other)
+                return None, f"by the turns that agree, {letters}, leg {number} can't go on"
             made["legs"][number] = new
         answer, status = copy.replay(json.dumps(made))
     if status != 0:
