@@ -3,8 +3,6 @@ import dataclasses
 
 from java_outline import CLOSING, NAME, Outline, parameters_of
 
-STATEMENT_WORDS = set(b"if while for return synchronized else new".split())
-
 
 @dataclasses.dataclass
 class Body:
