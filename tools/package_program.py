@@ -31,9 +31,12 @@ def program_of(name, unproved, script):
     found = shutil.which(name) if name is not None else own
     if found is None:
         raise Fault(f"{name} is no program" if name else "there is no racer beside this script: name one by --racer")
-    if own is not None and os.path.samefile(found, own):
+    is_own = own is not None and os.path.samefile(found, own)
+    if is_own:
         found = built(own, unproved)
-    if unproved or os.path.exists(os.path.join(os.path.dirname(os.path.realpath(__file__)), "UNPROVED")):
+    # What `make install` has put there may be unproved too.
+    beside = os.path.join(os.path.dirname(os.path.realpath(__file__)), "UNPROVED")
+    if unproved or (is_own and os.path.exists(beside)):
         told = "the program was compiled without its proofs"
         print(f"{script}: NOTHING IS PROVED of these answers: {told}", file=sys.stderr, flush=True)
     return os.path.abspath(found)
