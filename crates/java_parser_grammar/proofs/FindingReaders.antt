@@ -4,7 +4,8 @@ use Rattle.java_tree.specs.declared.words.Spelled.{Spelled}
 use Rattle.java_tree.specs.Words.{identifier, sign}
 use Rattle.java_tree.specs.Trees.{Ty, Expr, Init}
 use Rattle.java_tree.specs.Spelling.{ty_onto, expr_onto, init_onto}
-use Rattle.java_tree.specs.Formed.{FormedTy, FormedExpr, FormedInit}
+use Rattle.java_tree.specs.Operators.{conditional_level}
+use Rattle.java_tree.specs.Formed.{FormedTy, FormedExpr, FormedInit, level}
 use Rattle.java_tree.specs.Nesting.{ty_nesting, expr_nesting, init_nesting}
 use Rattle.java_parser_grammar.specs.Readers.{Readers}
 
@@ -12,13 +13,18 @@ use Rattle.java_parser_grammar.specs.Readers.{Readers}
 pub record Finds (readers : Readers) (EndsTy EndsExpr : List Spelled → Type 0) : Type 0 where
   pub expr : (e : Expr) → FormedExpr e → (n : ℕ) (rest : List Spelled) → expr_nesting e ≤ n → EndsExpr rest
       → readers.expr n 0 (expr_onto e rest) ≡ Some (e, rest)
+  -- one that is no assignment
+  pub conditional : (e : Expr) → FormedExpr e → conditional_level ≤ level e → (n : ℕ) (rest : List Spelled)
+      → expr_nesting e ≤ n → EndsExpr rest → readers.expr n conditional_level (expr_onto e rest) ≡ Some (e, rest)
   pub ty : (t : Ty) → FormedTy t → (n : ℕ) (rest : List Spelled) → ty_nesting t ≤ n → EndsTy rest → readers.ty n
       (ty_onto t rest) ≡ Some (t, rest)
   pub init : (i : Init) → FormedInit i → (n : ℕ) (rest : List Spelled) → init_nesting i ≤ n → EndsExpr rest
       → readers.init n (init_onto i rest) ≡ Some (i, rest)
   pub name_ends_ty : (x : List ℕ) (r : List Spelled) → EndsTy (identifier x ∷ r)
   pub comma_ends_ty : (r : List Spelled) → EndsTy (sign (codes ",") ∷ r)
+  pub bar_ends_ty : (r : List Spelled) → EndsTy (sign (codes "|") ∷ r)
   pub brace_ends_ty : (r : List Spelled) → EndsTy (sign (codes "{") ∷ r)
   pub close_ends : (r : List Spelled) → EndsExpr (sign (codes ")") ∷ r)
   pub comma_ends : (r : List Spelled) → EndsExpr (sign (codes ",") ∷ r)
+  pub colon_ends : (r : List Spelled) → EndsExpr (sign (codes ":") ∷ r)
   pub semicolon_ends : (r : List Spelled) → EndsExpr (sign (codes ";") ∷ r)

@@ -12,9 +12,10 @@ use Rattle.java_parser_grammar.specs.MethodReading.{method_at}
 use Rattle.java_parser_grammar.proofs.FindingReaders.{Finds}
 use Rattle.java_parser_grammar.proofs.FoundExpressions.{expression_found, init_found}
 use Rattle.java_parser_grammar.proofs.FoundMethods.{method_found, one_method}
-use Rattle.java_parser_grammar.proofs.FoundStatements.{Bears, stmt_found, one_statement}
+use Rattle.java_parser_grammar.proofs.FoundStatements.{stmt_found, one_statement}
 use Rattle.java_parser_grammar.proofs.FoundTypes.{ty_found}
-use Rattle.java_parser_grammar.proofs.Taken.{pull_close, pull_comma, pull_semicolon}
+use Rattle.java_parser_grammar.proofs.ReadableRows.{Bears}
+use Rattle.java_parser_grammar.proofs.Taken.{pull_close, pull_comma, pull_semicolon, pull_colon}
 use Rattle.java_parser_grammar.proofs.TypeFronts.{EndsTy}
 
 -- tokens that do not go on with an expression
@@ -24,13 +25,16 @@ EndsExpr rest = pull rest ≤ 0
 pub java_finds : Finds method_readers EndsTy EndsExpr
 java_finds = record {
   expr = λ e f n rest fits ends. expression_found e f n 0 rest fits (omega arith) ends;
+  conditional = λ e f low n rest fits ends. expression_found e f n 1 rest fits low (omega arith);
   ty = ty_found;
   init = init_found;
   name_ends_ty = λ x r. record { less = refl; point = refl; brackets = refl };
   comma_ends_ty = λ r. record { less = refl; point = refl; brackets = refl };
+  bar_ends_ty = λ r. record { less = refl; point = refl; brackets = refl };
   brace_ends_ty = λ r. record { less = refl; point = refl; brackets = refl };
   close_ends = λ r. omega (arith, pull_close r);
   comma_ends = λ r. omega (arith, pull_comma r);
+  colon_ends = λ r. omega (arith, pull_colon r);
   semicolon_ends = λ r. omega (arith, pull_semicolon r);
 }
 

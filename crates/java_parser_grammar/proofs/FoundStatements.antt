@@ -1,271 +1,60 @@
--- Each formed statement is read; an `else` goes to the nearest `if`.
-use Rattle.std.proofs.Common.{◌≡◌, ℕ, zero, suc, ◌≤◌, ◌<◌, max, Bool, true, false, not, List, [], ◌∷◌, length}
-use Rattle.std.proofs.Common.{Option, Some, None, IsTrue, codes, refl, sym, ap, ◌∙◌, arith}
+-- Each formed statement is read; a keyword that goes on with a statement goes to the nearest one.
+use Rattle.std.proofs.Common.{◌≡◌, ℕ, zero, suc, ◌≤◌, ◌<◌, max, Bool, true, false, not, List, [], ◌∷◌, length, Some}
+use Rattle.std.proofs.Common.{None, IsTrue, codes, refl, sym, ap, ◌∙◌, arith}
+use Rattle.std.specs.Prelude.{bytes_eq}
+use Rattle.std.specs.Cmp.Lexicographic.{bytes_decides}
 use Rattle.java_tree.specs.declared.words.Spelled.{Spelled}
-use Rattle.java_tree.specs.Words.{keyword, identifier, sign}
-use Rattle.java_tree.specs.Trees.{Ty, Expr, Exprs, no_expr, expr_then, Variable, Locals, Start, Declares, Runs}
-use Rattle.java_tree.specs.Trees.{Stmt, Block, Local, Run, If, IfElse, While, For, ForEach, Sync, Return, Empty}
-use Rattle.java_tree.specs.Trees.{Stmts, no_stmt, stmt_then, pack_stmts}
-use Rattle.java_tree.specs.Spelling.{behind_commas, commas_onto, final_onto, ty_onto, expr_onto, exprs_onto}
-use Rattle.java_tree.specs.Spelling.{more_exprs_onto, maybe_expr_onto, maybe_init_onto, variable_onto, locals_onto}
-use Rattle.java_tree.specs.Spelling.{start_onto, stmt_onto, stmts_onto, block_onto}
-use Rattle.java_tree.specs.Formed.{Each, has_some, FormedTy, FormedExpr, FormedMaybeExpr, FormedRun, FormedRuns}
-use Rattle.java_tree.specs.Formed.{FormedVariable, FormedLocals, FormedStart, FormedStmt, FormedStmts, is_body}
-use Rattle.java_tree.specs.Formed.{ends_in_if}
-use Rattle.java_tree.specs.Nesting.{most_over, ty_nesting, expr_nesting, exprs_nesting, maybe_expr_nesting}
-use Rattle.java_tree.specs.Nesting.{variable_nesting, locals_nesting, start_nesting, stmt_nesting, stmts_nesting}
+use Rattle.java_tree.specs.Words.{keyword, sign}
+use Rattle.java_tree.specs.Trees.{Stmt, Block, Local, Run, If, IfElse, For, ForEach, Labelled, Empty, Row, Stmts}
+use Rattle.java_tree.specs.Trees.{no_stmt, stmt_then, Pieces, no_piece, a_token, an_expr, maybe_an_expr}
+use Rattle.java_tree.specs.Trees.{maybe_a_name, maybe_behind, a_condition, a_body, a_block, maybe_resources}
+use Rattle.java_tree.specs.Trees.{a_catch_parameter, a_list, present, absent, some_part, a_switch, Several, no_row}
+use Rattle.java_tree.specs.Trees.{row_then, Groups, no_group, group_then}
+use Rattle.java_tree.specs.Spelling.{stmt_onto, stmts_onto, block_onto, pieces_onto, several_onto}
+use Rattle.java_tree.specs.Formed.{FormedStmt, FormedStmts, Fits, EachFits, FormedGroups, ends_in_if, goes_on}
+use Rattle.java_tree.specs.Nesting.{stmt_nesting, stmts_nesting, pieces_nesting, several_nesting, groups_nesting}
 use Rattle.java_tree.specs.Nesting.{block_nesting}
-use Rattle.java_parser_grammar.specs.ExpressionReading.{Reading}
-use Rattle.java_parser_grammar.specs.Taking.{after_sign, after_keyword}
+use Rattle.java_tree.specs.Rows.{AKeyword, ASign, AnExpr, Until, MaybeName, MaybeBehind, ACondition, ABody, ABlock}
+use Rattle.java_tree.specs.Rows.{ASwitch, MaybeResources, ACatchParameter, Again, Perhaps, SomePart, Slots, no_slot}
+use Rattle.java_tree.specs.Rows.{◌▹◌, row_of}
+use Rattle.java_parser_grammar.specs.Taking.{after_keyword}
 use Rattle.java_parser_grammar.specs.Readers.{Readers}
-use Rattle.java_parser_grammar.specs.Lookahead.{looks_local, statement_lead, Other}
-use Rattle.java_parser_grammar.specs.StatementReading.{stmts_at, braces_at, if_at, while_at, for_from, for_at, sync_at}
-use Rattle.java_parser_grammar.specs.StatementReading.{return_at, simple_at, stmt_at, block_at, for_typed, for_run}
-use Rattle.java_parser_grammar.specs.StatementReading.{local_at, run_line_at, each_from}
+use Rattle.java_parser_grammar.specs.StatementReading.{again_at, pieces_at, stmt_at, block_at}
 use Rattle.java_parser_grammar.proofs.FindingReaders.{Finds}
-use Rattle.java_parser_grammar.proofs.FoundLists.{pack-unpack_exprs}
-use Rattle.java_parser_grammar.proofs.FoundParts.{final_found, no_colon, semicolon_end, close_end, variables_found}
-use Rattle.java_parser_grammar.proofs.FoundParts.{locals_found, until_found, run_found, runs_found, condition_found}
-use Rattle.java_parser_grammar.proofs.LongerStatements.{unpack_stmts, stmts_fit}
-use Rattle.java_parser_grammar.proofs.LooksLocal.{declared_looks, run_looks}
-use Rattle.java_parser_grammar.proofs.StatementFronts.{starts, starts_ty, starts_declared}
+use Rattle.java_parser_grammar.proofs.FoundForms.{for_onto, if_found, if_else_found, from_found, each_found}
+use Rattle.java_parser_grammar.proofs.FoundForms.{head_found, labelled_found, locals_lead, run_lead, local_found}
+use Rattle.java_parser_grammar.proofs.FoundForms.{run_line_found, EachRead, braces_found}
+use Rattle.java_parser_grammar.proofs.FoundRows.{RowRead, nothing_read, keyword_read, sign_read, expr_read}
+use Rattle.java_parser_grammar.proofs.FoundRows.{until_read, until_row, condition_read, body_read, block_read}
+use Rattle.java_parser_grammar.proofs.FoundRows.{block_fits, name_read, behind_read, resources_read, parameter_read}
+use Rattle.java_parser_grammar.proofs.FoundRows.{some_read, present_read, absent_read, again_read, no_more_rows}
+use Rattle.java_parser_grammar.proofs.FoundRows.{one_more_row, one_less, row_found}
+use Rattle.java_parser_grammar.proofs.FoundGroups.{GroupsRead, groups_tail, groups_quiet, no_more_groups}
+use Rattle.java_parser_grammar.proofs.FoundGroups.{one_more_group, switch_read, group_less}
+use Rattle.java_parser_grammar.proofs.LongerStatements.{rows_fit, groups_fit}
+use Rattle.java_parser_grammar.proofs.ReadableRows.{Bears, RowEnd, is_readable, rows_readable, is_closed, closed_row}
+use Rattle.java_parser_grammar.proofs.ReadableRows.{and_first, and_last, or_last, row_end, name_lacks, sign_lacks}
+use Rattle.java_parser_grammar.proofs.ReadableRows.{body_end, last_end, list_end, list_last, absent_end, absent_last}
+use Rattle.java_parser_grammar.proofs.ReadableRows.{keyed, rows_of, groups_of}
+use Rattle.java_parser_grammar.proofs.StatementFronts.{NoJoin, joining_cases, starts_statement}
 
-pack-unpack_stmts : (ss : Stmts) → pack_stmts (unpack_stmts ss) ≡ ss
-unfolding unpack_stmts
-pack-unpack_stmts no_stmt = refl
-pack-unpack_stmts (stmt_then s ss) = rw (pack-unpack_stmts ss) refl
+-- before an `else`, what does not end in an `if`
+before_else : (s : Stmt) (r : List Spelled) → IsTrue (not (ends_in_if s)) → Bears s (keyword (codes "else") ∷ r)
+before_else s r n word j h = by_test (bytes_eq (codes "else") word) refl where
+  by_test : (b : Bool) → bytes_eq (codes "else") word ≡ b → after_keyword word (keyword (codes "else") ∷ r) ≡ None
+  by_test true e =
+      let same : ends_in_if s ≡ true = ap (λ w. goes_on w s) ((bytes_decides (codes "else") word).0 e) ∙ h in absurd cc
+  by_test false e = rw e refl
 
--- what no statement begins with
-pub record StartsStatement (ts : List Spelled) : Type 0 where
-  pub no_else : after_keyword (codes "else") ts ≡ None
-  pub no_brace : after_sign (codes "}") ts ≡ None
+-- what follows a statement among others does not go on with it
+quiet : (ss : Stmts) (rest : List Spelled) → FormedStmts ss → NoJoin rest → NoJoin (stmts_onto ss rest)
+quiet no_stmt rest f none = none
+quiet (stmt_then s ss) rest f none = (starts_statement s (stmts_onto ss rest) f.0).no_join
 
-starts_locals : (l : Locals) (rest : List Spelled) → FormedLocals l → StartsStatement (locals_onto l rest)
-starts_locals l rest f =
-    let s = starts_declared l.is_final l.kind (commas_onto variable_onto l.variables rest) f.0 in
-    record { no_else = s.no_else; no_brace = s.no_brace }
-
-starts_run : (e : Expr) (rest : List Spelled) → FormedExpr e → StartsStatement (expr_onto e rest)
-starts_run e rest f = let s = starts e rest f in record { no_else = s.no_else; no_brace = s.no_brace }
-
-starts_statement : (s : Stmt) (rest : List Spelled) → FormedStmt s → StartsStatement (stmt_onto s rest)
-starts_statement (Local l) rest f = starts_locals l (sign (codes ";") ∷ rest) f
-starts_statement (Run e) rest f = starts_run e (sign (codes ";") ∷ rest) f.0
-starts_statement _ rest f = record { no_else = refl; no_brace = refl }
-
-list_looks : (is_final : Bool) (t : Ty) (vs : List Variable) (rest : List Spelled) → FormedTy t → IsTrue (has_some vs)
-    → looks_local (final_onto is_final (ty_onto t (commas_onto variable_onto vs rest))) ≡ true
-list_looks is_final t [] rest f some = absurd cc
-list_looks is_final t (v ∷ vs) rest f some =
-    declared_looks is_final t v.name (maybe_init_onto v.initialiser (behind_commas variable_onto vs rest)) f
-
-locals_lead : (l : Locals) (rest : List Spelled) → FormedLocals l → statement_lead (locals_onto l rest) ≡ Other
-locals_lead l rest f = (starts_declared l.is_final l.kind (commas_onto variable_onto l.variables rest) f.0).other
-
-locals_look : (l : Locals) (rest : List Spelled) → FormedLocals l → looks_local (locals_onto l rest) ≡ true
-locals_look l rest f = list_looks l.is_final l.kind l.variables rest f.0 f.1
-
--- where the rest begins with `else`, no `if` ends there that could take it
-abbrev pub Bears : Stmt → List Spelled → Type 0
-Bears s rest = ends_in_if s ≡ true → after_keyword (codes "else") rest ≡ None
-
-never : (b : Bool) → IsTrue (not b) → {A : Type 0} → b ≡ true → A
-never true n h = absurd cc
-never false n h = absurd cc
-
--- what follows a statement in a block is no `else`
-quiet : (ss : Stmts) (rest : List Spelled) → FormedStmts ss → after_keyword (codes "else")
-    (stmts_onto ss (sign (codes "}") ∷ rest)) ≡ None
-quiet no_stmt rest f = refl
-quiet (stmt_then s ss) rest f = (starts_statement s (stmts_onto ss (sign (codes "}") ∷ rest)) f.0).no_else
+brace_quiet : (rest : List Spelled) → NoJoin (sign (codes "}") ∷ rest)
+brace_quiet rest = joining_cases (λ w. after_keyword w (sign (codes "}") ∷ rest) ≡ None) refl refl refl
 
 module _ (readers : Readers) (EndsTy EndsExpr : List Spelled → Type 0) (finds : Finds readers EndsTy EndsExpr) where
-  -- ---- one form each, over a reader of the statements inside
-
-  if_found : (read : Reading Stmt) (n : ℕ) (e : Expr) (s : Stmt) (rest : List Spelled) → FormedExpr e → expr_nesting
-      e ≤ n → IsTrue (is_body s) → after_keyword (codes "else") rest ≡ None → read (stmt_onto s rest) ≡ Some (s, rest)
-      → if_at readers read n (sign (codes "(") ∷ expr_onto e (sign (codes ")") ∷ stmt_onto s rest)) ≡ Some (
-        If e s,
-        rest,
-      )
-  unfolding if_at
-  if_found read n e s rest f fits b q h =
-      rw (condition_found readers EndsTy EndsExpr finds e n (stmt_onto s rest) f fits, h, b, q) refl
-
-  if_else_found : (read : Reading Stmt) (n : ℕ) (e : Expr) (s t : Stmt) (rest : List Spelled) → FormedExpr e
-      → expr_nesting e ≤ n → IsTrue (is_body s) → IsTrue (is_body t)
-      → read (stmt_onto s (keyword (codes "else") ∷ stmt_onto t rest)) ≡ Some (
-        s,
-        keyword (codes "else")
-            ∷ stmt_onto t rest,
-      ) → read (stmt_onto t rest) ≡ Some (t, rest)
-      → if_at readers read n (sign (codes "(") ∷ expr_onto e (sign (codes ")") ∷ stmt_onto s (keyword (codes "else")
-      ∷ stmt_onto t rest))) ≡ Some (IfElse e s t, rest)
-  unfolding if_at
-  if_else_found read n e s t rest f fits b c h k =
-      let r = stmt_onto s (keyword (codes "else") ∷ stmt_onto t rest) in
-      rw (condition_found readers EndsTy EndsExpr finds e n r f fits, h, b, k, c) refl
-
-  while_found : (read : Reading Stmt) (n : ℕ) (e : Expr) (s : Stmt) (rest : List Spelled) → FormedExpr e
-      → expr_nesting e ≤ n → IsTrue (is_body s) → read (stmt_onto s rest) ≡ Some (s, rest)
-      → while_at readers read n (sign (codes "(") ∷ expr_onto e (sign (codes ")") ∷ stmt_onto s rest)) ≡ Some
-      (While e s, rest)
-  unfolding while_at
-  while_found read n e s rest f fits b h =
-      rw (condition_found readers EndsTy EndsExpr finds e n (stmt_onto s rest) f fits, h, b) refl
-
-  sync_found : (block : Reading Stmts) (n : ℕ) (e : Expr) (ss : Stmts) (ts rest : List Spelled) → FormedExpr e
-      → expr_nesting e ≤ n → block ts ≡ Some (ss, rest)
-      → sync_at readers block n (sign (codes "(") ∷ expr_onto e (sign (codes ")") ∷ ts)) ≡ Some (Sync e ss, rest)
-  unfolding sync_at
-  sync_found block n e ss ts rest f fits h = rw (condition_found readers EndsTy EndsExpr finds e n ts f fits, h) refl
-
-  return_found : (n : ℕ) (e : Option Expr) (rest : List Spelled) → FormedMaybeExpr e → maybe_expr_nesting e ≤ n
-      → return_at readers n (maybe_expr_onto e (sign (codes ";") ∷ rest)) ≡ Some (Return e, rest)
-  unfolding return_at
-  return_found n e rest f fits =
-      rw (until_found readers EndsTy EndsExpr finds (codes ";") (semicolon_end readers EndsTy EndsExpr finds) e n rest
-      f fits) refl
-
-  -- ---- `for`
-
-  abbrev pub for_onto : Option Expr → Exprs → Stmt → List Spelled → List Spelled
-  for_onto condition updates s rest =
-      maybe_expr_onto condition (sign (codes ";") ∷ exprs_onto updates (sign (codes ")") ∷ stmt_onto s rest))
-
-  from_found : (read : Reading Stmt) (n : ℕ) (start : Start) (condition : Option Expr) (updates : Exprs) (s : Stmt)
-      (rest : List Spelled) → FormedMaybeExpr condition → FormedRuns updates → maybe_expr_nesting condition ≤ n
-      → exprs_nesting updates ≤ n → IsTrue (is_body s) → read (stmt_onto s rest) ≡ Some (s, rest)
-      → for_from readers read n start (sign (codes ";") ∷ for_onto condition updates s rest) ≡ Some
-      (For start condition updates s, rest)
-  unfolding for_from
-  from_found read n start condition updates s rest f g fits small b h =
-      rw (
-        until_found readers EndsTy EndsExpr finds (codes ";") (semicolon_end readers EndsTy EndsExpr finds) condition
-            n (exprs_onto updates (sign (codes ")") ∷ stmt_onto s rest)) f fits,
-        runs_found readers EndsTy EndsExpr finds (codes ")") (close_end readers EndsTy EndsExpr finds) updates n
-            (stmt_onto s rest) g small,
-        h,
-        b,
-        pack-unpack_exprs updates,
-      ) refl
-
-  each_found : (read : Reading Stmt) (n : ℕ) (is_final : Bool) (t : Ty) (x : List ℕ) (e : Expr) (s : Stmt)
-      (rest : List Spelled) → FormedTy t → FormedExpr e → ty_nesting t ≤ n → expr_nesting e ≤ n → IsTrue (is_body s)
-      → read (stmt_onto s rest) ≡ Some (s, rest)
-      → for_at readers read n (sign (codes "(") ∷ final_onto is_final (ty_onto t (identifier x ∷ sign (codes ":")
-      ∷ expr_onto e (sign (codes ")") ∷ stmt_onto s rest)))) ≡ Some (ForEach is_final t x e s, rest)
-  unfolding for_at for_typed each_from
-  each_found read n is_final t x e s rest f g fits small b h =
-      let c = sign (codes ")") ∷ stmt_onto s rest in
-      let a = sign (codes ":") ∷ expr_onto e c in
-      rw (
-        declared_looks is_final t x a f,
-        final_found is_final (ty_onto t (identifier x ∷ a)) (starts_ty t (identifier x ∷ a) f).no_final,
-        finds.ty t f n (identifier x ∷ a) fits (finds.name_ends_ty x a),
-        finds.expr e g n c small (finds.close_ends (stmt_onto s rest)),
-        h,
-        b,
-      ) refl
-
-  -- the head of a `for` that declares variables
-  typed_found : (read : Reading Stmt) (n : ℕ) (is_final : Bool) (t : Ty) (vs : List Variable) (tail : List Spelled)
-      → FormedTy t → IsTrue (has_some vs) → Each FormedVariable vs → ty_nesting t ≤ n
-      → most_over variable_nesting vs ≤ n
-      → for_at readers read n (sign (codes "(") ∷ locals_onto (record {
-        is_final = is_final;
-        kind = t;
-        variables = vs;
-      }) (sign (codes ";") ∷ tail)) ≡ for_from readers read n (Declares (record {
-        is_final = is_final;
-        kind = t;
-        variables = vs;
-      })) (sign (codes ";") ∷ tail)
-  unfolding for_at for_typed
-  typed_found read n is_final t [] tail f some g fits small = absurd cc
-  typed_found read n is_final t (v ∷ vs) tail f some g fits small =
-      let r = commas_onto variable_onto (v ∷ vs) (sign (codes ";") ∷ tail) in
-      rw (
-        declared_looks is_final t v.name _ f,
-        final_found is_final (ty_onto t r) (starts_ty t r f).no_final,
-        finds.ty t f n r fits (finds.name_ends_ty v.name _),
-        no_colon v vs tail,
-        variables_found readers EndsTy EndsExpr finds is_final t (v ∷ vs) n tail some g small,
-      ) refl
-
-  runs_look : (es : Exprs) (tail : List Spelled) → FormedRuns es → looks_local (exprs_onto es (sign (codes ";")
-      ∷ tail)) ≡ false
-  runs_look no_expr tail f = refl
-  runs_look (expr_then e es) tail f = run_looks e (more_exprs_onto es (sign (codes ";") ∷ tail)) f.0.0 f.0.1
-
-  head_found : (read : Reading Stmt) (n : ℕ) (start : Start) (tail : List Spelled) → FormedStart start → start_nesting
-      start ≤ n
-      → for_at readers read n (sign (codes "(") ∷ start_onto start (sign (codes ";") ∷ tail)) ≡ for_from readers read
-      n start (sign (codes ";") ∷ tail)
-  unfolding for_at for_run
-  head_found read n (Declares l) tail f fits = typed_found read n l.is_final l.kind l.variables tail f.0 f.1 f.2
-      (omega arith) (omega arith)
-  head_found read n (Runs es) tail f fits =
-      rw (
-        runs_look es tail f,
-        runs_found readers EndsTy EndsExpr finds (codes ";") (semicolon_end readers EndsTy
-            EndsExpr finds) es n tail f fits,
-        pack-unpack_exprs es,
-      ) refl
-
-  -- ---- declarations and expressions as statements
-
-  local_found : (n : ℕ) (l : Locals) (rest : List Spelled) → FormedLocals l → locals_nesting l ≤ n → simple_at readers
-      n (locals_onto l (sign (codes ";") ∷ rest)) ≡ Some (Local l, rest)
-  unfolding local_at
-  local_found n l rest f fits = rw (
-    locals_look l (sign (codes ";") ∷ rest) f,
-    locals_found readers EndsTy EndsExpr
-        finds l n rest f fits,
-  ) refl
-
-  run_line_found : (n : ℕ) (e : Expr) (rest : List Spelled) → FormedRun e → expr_nesting e ≤ n → simple_at readers n
-      (expr_onto e (sign (codes ";") ∷ rest)) ≡ Some (Run e, rest)
-  unfolding run_line_at
-  run_line_found n e rest f fits =
-      rw (
-        run_looks e (sign (codes ";") ∷ rest) f.0 f.1,
-        run_found readers EndsTy EndsExpr finds e n (sign (codes ";")
-            ∷ rest) f fits (finds.semicolon_ends rest),
-      ) refl
-
-  -- ---- statements in braces
-
-  one_more : (read : Reading Stmt) (m : ℕ) (s : Stmt) (ss : List Stmt) (ts r rest : List Spelled)
-      → after_sign (codes "}") ts ≡ None → read ts ≡ Some (s, r) → stmts_at readers read m r ≡ Some (ss, rest)
-      → stmts_at readers read (suc m) ts ≡ Some (s ∷ ss, rest)
-  unfolding stmts_at
-  one_more read m s ss ts r rest b h k = rw (b, h, k) refl
-
-  no_more : (read : Reading Stmt) (m : ℕ) (rest : List Spelled) → 0 < m → stmts_at readers read m (sign (codes "}")
-      ∷ rest) ≡ Some ([], rest)
-  unfolding stmts_at
-  no_more read zero rest room = absurd (omega arith)
-  no_more read (suc m) rest room = refl
-
-  abbrev pub AreRead : Reading Stmt → Stmts → List Spelled → Type 0
-  AreRead read ss rest = (m : ℕ) → length (unpack_stmts ss) < m → stmts_at readers read m
-      (stmts_onto ss (sign (codes "}") ∷ rest)) ≡ Some (unpack_stmts ss, rest)
-
-  braces_found : (read : Reading Stmt) (ss : Stmts) (rest : List Spelled) → FormedStmts ss → AreRead read ss rest
-      → braces_at readers read (stmts_onto ss (sign (codes "}") ∷ rest)) ≡ Some (ss, rest)
-  braces_found read ss rest f h =
-      let ts = stmts_onto ss (sign (codes "}") ∷ rest) in
-      let room : length (unpack_stmts ss) < length ts = omega (arith, stmts_fit ss f (sign (codes "}") ∷ rest)) in
-      rw (h (length ts) room, pack-unpack_stmts ss) refl
-
-  block_found : (n : ℕ) (ss : Stmts) (rest : List Spelled) → FormedStmts ss → AreRead (stmt_at readers n) ss rest
-      → block_at readers (suc n) (block_onto ss rest) ≡ Some (ss, rest)
-  unfolding stmt_at
-  block_found n ss rest f h = braces_found (stmt_at readers n) ss rest f h
-
-  -- ---- the theorem
-
   -- a statement has a nesting at least
   stmt_nested : (s : Stmt) → 1 ≤ stmt_nesting s
   stmt_nested (Block ss) = omega arith
@@ -273,57 +62,157 @@ module _ (readers : Readers) (EndsTy EndsExpr : List Spelled → Type 0) (finds 
   stmt_nested (Run e) = omega arith
   stmt_nested (If e s) = omega arith
   stmt_nested (IfElse e s t) = omega arith
-  stmt_nested (While e s) = omega arith
   stmt_nested (For start condition updates s) = omega arith
   stmt_nested (ForEach is_final t x e s) = omega arith
-  stmt_nested (Sync e ss) = omega arith
-  stmt_nested (Return e) = omega arith
+  stmt_nested (Labelled x s) = omega arith
   stmt_nested Empty = omega arith
+  stmt_nested (Row word ps) = omega arith
 
   mutual
-    unfolding stmt_at unpack_stmts
+    unfolding stmt_at
 
     pub stmt_found : (s : Stmt) (n : ℕ) (rest : List Spelled) → FormedStmt s → stmt_nesting s ≤ n → Bears s rest
         → stmt_at readers n (stmt_onto s rest) ≡ Some (s, rest)
     stmt_found s zero rest f fits b = let k = stmt_nested s in absurd (omega arith)
     stmt_found (Block ss) (suc n) rest f fits b =
-        rw (braces_found (stmt_at readers n) ss rest f (stmts_found ss n rest f (omega arith))) refl
+        rw (braces_found readers EndsTy EndsExpr finds (stmt_at readers n) ss rest f
+        (stmts_found ss n (sign (codes "}") ∷ rest) f (omega arith) (brace_quiet rest))) refl
     stmt_found (Local l) (suc n) rest f fits b =
-        rw (locals_lead l (sign (codes ";") ∷ rest) f) (local_found n l rest f (omega arith))
+        rw (locals_lead l (sign (codes ";") ∷ rest) f)
+        (local_found readers EndsTy EndsExpr finds n l rest f (omega arith))
     stmt_found (Run e) (suc n) rest f fits b =
-        rw ((starts e (sign (codes ";") ∷ rest) f.0).other) (run_line_found n e rest f (omega arith))
-    stmt_found (If e s) (suc n) rest f fits b = if_found (stmt_at readers n) n e s rest f.0 (omega arith) f.2 (b refl)
-        (stmt_found s n rest f.1 (omega arith) (λ h. b refl))
+        rw (run_lead e rest f.0) (run_line_found readers EndsTy EndsExpr finds n e rest f (omega arith))
+    stmt_found (If e s) (suc n) rest f fits b =
+        if_found readers EndsTy EndsExpr finds (stmt_at readers n) n e s rest f.0 (omega arith) f.2
+        (b (codes "else") refl refl)
+        (stmt_found s n rest f.1 (omega arith) (λ word j h. b word j (or_last (bytes_eq word (codes "else")) _ h)))
     stmt_found (IfElse e s t) (suc n) rest f fits b =
-        if_else_found (stmt_at readers n) n e s t rest f.0 (omega arith) f.3 f.4
-        (stmt_found s n (keyword (codes "else") ∷ stmt_onto t rest) f.1 (omega arith) (never (ends_in_if s) f.5))
+        if_else_found readers EndsTy EndsExpr finds (stmt_at readers n) n e s t rest f.0 (omega arith) f.3 f.4
+        (stmt_found s n (keyword (codes "else") ∷ stmt_onto t rest) f.1 (omega arith)
+        (before_else s (stmt_onto t rest) f.5))
         (stmt_found t n rest f.2 (omega arith) b)
-    stmt_found (While e s) (suc n) rest f fits b = while_found (stmt_at readers n) n e s rest f.0 (omega arith) f.2
-        (stmt_found s n rest f.1 (omega arith) b)
     stmt_found (For start condition updates s) (suc n) rest f fits b =
-        head_found (stmt_at readers n) n start (for_onto condition updates s rest) f.0 (omega arith)
-        ∙ from_found (stmt_at readers n) n start condition updates s rest f.1 f.2 (omega arith) (omega arith) f.4
-        (stmt_found s n rest f.3 (omega arith) b)
+        head_found readers EndsTy EndsExpr finds (stmt_at readers n) n start
+        (for_onto readers EndsTy EndsExpr finds condition updates s rest) f.0 (omega arith)
+        ∙ from_found readers EndsTy EndsExpr finds (stmt_at readers n) n start condition updates s rest f.1 f.2
+        (omega arith) (omega arith) f.4 (stmt_found s n rest f.3 (omega arith) b)
     stmt_found (ForEach is_final t x e s) (suc n) rest f fits b =
-        each_found (stmt_at readers n) n is_final t x e s rest f.0 f.1 (omega arith) (omega arith) f.3
-        (stmt_found s n rest f.2 (omega arith) b)
-    stmt_found (Sync e ss) (suc zero) rest f fits b = absurd (omega arith)
-    stmt_found (Sync e ss) (suc (suc n)) rest f fits b =
-        sync_found (block_at readers (suc n)) (suc n) e ss (block_onto ss rest) rest f.0 (omega arith)
-        (braces_found (stmt_at readers n) ss rest f.1 (stmts_found ss n rest f.1 (omega arith)))
-    stmt_found (Return e) (suc n) rest f fits b = return_found n e rest f (omega arith)
+        each_found readers EndsTy EndsExpr finds (stmt_at readers n) n is_final t x e s rest f.0 f.1 (omega arith)
+        (omega arith) f.3 (stmt_found s n rest f.2 (omega arith) b)
+    stmt_found (Labelled x s) (suc n) rest f fits b =
+        labelled_found readers EndsTy EndsExpr finds (stmt_at readers n) (block_at readers n) n x s
+        (stmt_onto (Labelled x s) rest) rest f.1
+        (stmt_found s n rest f.0 (omega arith) b)
     stmt_found Empty (suc n) rest f fits b = refl
+    stmt_found (Row word ps) (suc n) rest f fits b =
+        row_found readers EndsTy EndsExpr finds n word ps rest f.0
+        (pieces_found ps (row_of word) n rest f.1 (rows_readable word) (omega arith) b)
+
+    pieces_found : (ps : Pieces) (row : Slots) (n : ℕ) (rest : List Spelled) → Fits ps row → is_readable row ≡ true
+        → pieces_nesting ps ≤ n → RowEnd ps rest → RowRead readers EndsTy EndsExpr finds n row ps rest
+    pieces_found no_piece no_slot n rest f ok fits b = nothing_read readers EndsTy EndsExpr finds n rest
+    pieces_found (a_token t ps) (AKeyword text ▹ row) n rest f ok fits b =
+        keyword_read readers EndsTy EndsExpr finds n text row t ps rest f.0 (pieces_found ps row n rest f.1 ok fits b)
+    pieces_found (a_token t ps) (ASign text ▹ row) n rest f ok fits b =
+        sign_read readers EndsTy EndsExpr finds n text row t ps rest f.0 (pieces_found ps row n rest f.1 ok fits b)
+    pieces_found (an_expr e ps) (AnExpr ▹ row) n rest f ok fits b =
+        expr_read readers EndsTy EndsExpr finds n row e ps rest f.0 (omega arith)
+        (row_end EndsExpr finds.close_ends finds.semicolon_ends finds.colon_ends ps row rest f.1 (and_first _ _ ok))
+        (pieces_found ps row n rest f.1 (and_last _ _ ok) (omega arith) b)
+    pieces_found (maybe_an_expr e ps) (Until end ▹ row) n rest f ok fits b =
+        until_read readers EndsTy EndsExpr finds n end row e ps rest
+        (until_row readers EndsTy EndsExpr finds n end e ps row rest f.1 (and_first _ _ ok) f.0 (omega arith))
+        (pieces_found ps row n rest f.1 (and_last _ _ ok) (omega arith) b)
+    pieces_found (a_condition e ps) (ACondition ▹ row) n rest f ok fits b =
+        condition_read readers EndsTy EndsExpr finds n row e ps rest f.0 (omega arith)
+        (pieces_found ps row n rest f.1 ok (omega arith) b)
+    pieces_found (maybe_a_name x ps) (MaybeName ▹ row) n rest f ok fits b =
+        name_read readers EndsTy EndsExpr finds n row x ps rest (name_lacks ps row rest f (and_first _ _ ok))
+        (pieces_found ps row n rest f (and_last _ _ ok) fits b)
+    pieces_found (maybe_behind t e ps) (MaybeBehind text ▹ row) n rest f ok fits b =
+        let here = and_first _ _ ok in
+        behind_read readers EndsTy EndsExpr finds n t text row e ps rest f.0.0 f.0.1 (omega arith)
+        (row_end EndsExpr finds.close_ends finds.semicolon_ends finds.colon_ends ps row rest f.1 (and_first _ _ here))
+        (sign_lacks text ps row rest f.1 (and_last _ _ here))
+        (pieces_found ps row n rest f.1 (and_last _ _ ok) (omega arith) b)
+    pieces_found (a_body s ps) (ABody ▹ row) n rest f ok fits b =
+        body_read readers EndsTy EndsExpr finds n row s ps rest f.0.1
+        (stmt_found s n (pieces_onto ps rest) f.0.0 (omega arith) (body_end s ps row rest f.1 (and_first _ _ ok) b))
+        (pieces_found ps row n rest f.1 (and_last _ _ ok) (omega arith) (last_end s ps rest b))
+    pieces_found (a_block ss ps) (ABlock ▹ row) n rest f ok fits b =
+        let behind = pieces_onto ps rest in
+        block_read readers EndsTy EndsExpr finds n row ss ps rest
+        (block_fits readers EndsTy EndsExpr finds n ss behind f.0 (omega arith)
+        (λ m k. stmts_found ss m (sign (codes "}") ∷ behind) f.0 k (brace_quiet behind)))
+        (pieces_found ps row n rest f.1 ok (omega arith) b)
+    pieces_found (maybe_resources rs ps) (MaybeResources ▹ row) n rest f ok fits b =
+        resources_read readers EndsTy EndsExpr finds n row rs ps rest f.0 (omega arith)
+        (sign_lacks (codes "(") ps row rest f.1 (and_first _ _ ok))
+        (pieces_found ps row n rest f.1 (and_last _ _ ok) (omega arith) b)
+    pieces_found (a_catch_parameter c ps) (ACatchParameter ▹ row) n rest f ok fits b =
+        parameter_read readers EndsTy EndsExpr finds n row c ps rest f.0 (omega arith)
+        (pieces_found ps row n rest f.1 ok (omega arith) b)
+    pieces_found (a_list w more ps) (Again word sub ▹ row) n rest f ok fits b =
+        let k = keyed word sub row ok in
+        let behind = pieces_onto ps rest in
+        again_read readers EndsTy EndsExpr finds n w word sub row more ps rest f.0.0
+        (several_found more sub word n (suc (length (several_onto word more behind))) behind f.0.1 k.own k.closed
+        (omega arith) (list_end word w more ps row rest f.0.0 f.1 k.joins k.ends b)
+        (omega (arith, rows_fit more sub f.0.1 word behind)))
+        (pieces_found ps row n rest f.1 k.others (omega arith) (list_last w more ps rest b))
+    pieces_found (present w one ps) (Perhaps word sub ▹ row) n rest f ok fits b =
+        let k = keyed word sub row ok in
+        let behind = pieces_onto ps rest in
+        present_read readers EndsTy EndsExpr finds n w word sub row one ps rest f.0.0
+        (pieces_found one sub n behind f.0.1 k.own (omega arith) (closed_row one sub behind f.0.1 k.closed))
+        (pieces_found ps row n rest f.1 k.others (omega arith) b)
+    pieces_found (absent w ps) (Perhaps word sub ▹ row) n rest f ok fits b =
+        let k = keyed word sub row ok in
+        absent_read readers EndsTy EndsExpr finds n w word sub row ps rest f.0
+        (absent_end word w ps row rest f.0 f.1 k.joins k.ends b)
+        (pieces_found ps row n rest f.1 k.others fits (absent_last w ps rest b))
+    pieces_found (some_part ps) (SomePart ▹ row) n rest f ok fits b =
+        some_read readers EndsTy EndsExpr finds n row ps rest f.0 (pieces_found ps row n rest f.1 ok fits b)
+    pieces_found (a_switch gs ps) (ASwitch ▹ row) n rest f ok fits b =
+        let behind = pieces_onto ps rest in
+        switch_read readers EndsTy EndsExpr finds n row gs ps rest
+        (groups_found gs n (length (groups_tail gs behind)) behind f.0 (omega arith)
+        (omega (arith, groups_fit gs f.0 (sign (codes "}") ∷ behind))))
+        (pieces_found ps row n rest f.1 ok (omega arith) b)
+    pieces_found _ _ n rest f ok fits b = absurd f
+
+    groups_found : (gs : Groups) (n m : ℕ) (rest : List Spelled) → FormedGroups gs → groups_nesting gs ≤ n
+        → groups_of gs < m → GroupsRead readers EndsTy EndsExpr finds n m gs rest
+    groups_found gs n zero rest f fits room = absurd (omega arith)
+    groups_found no_group n (suc m) rest f fits room = no_more_groups readers EndsTy EndsExpr finds n m rest
+    groups_found (group_then labels ss gs) n (suc m) rest f fits room =
+        one_more_group readers EndsTy EndsExpr finds n m labels ss gs rest f.0.0 f.0.1 (omega arith) f.1 f.2 f.3
+        (stmts_found ss n (groups_tail gs rest) f.1 (omega arith) (groups_quiet gs rest f.3))
+        (groups_found gs n m rest f.3 (omega arith)
+        (group_less readers EndsTy EndsExpr finds labels ss gs m room))
+
+    several_found : (more : Several) (sub : Slots) (word : List ℕ) (n m : ℕ) (rest : List Spelled) → EachFits more sub
+        → is_readable sub ≡ true → is_closed sub ≡ true → several_nesting more ≤ n → after_keyword word rest ≡ None
+        → rows_of more < m
+        → again_at readers (pieces_at readers (stmt_at readers n) (block_at readers n) n sub) word m
+        (several_onto word more rest) ≡ Some (more, rest)
+    several_found more sub word n zero rest f ok shut fits none room = absurd (omega arith)
+    several_found no_row sub word n (suc m) rest f ok shut fits none room =
+        no_more_rows readers EndsTy EndsExpr finds n sub word m rest none
+    several_found (row_then ps more) sub word n (suc m) rest f ok shut fits none room =
+        let behind = several_onto word more rest in
+        one_more_row readers EndsTy EndsExpr finds n sub word m ps more rest
+        (pieces_found ps sub n behind f.0 ok (omega arith) (closed_row ps sub behind f.0 shut))
+        (several_found more sub word n m rest f.1 ok shut (omega arith) none
+        (one_less readers EndsTy EndsExpr finds more ps m room))
 
     pub stmts_found : (ss : Stmts) (n : ℕ) (rest : List Spelled) → FormedStmts ss → stmts_nesting ss ≤ n
-        → AreRead (stmt_at readers n) ss rest
-    stmts_found no_stmt n rest f fits m room = no_more (stmt_at readers n) m rest (omega arith)
-    stmts_found (stmt_then s ss) n rest f fits zero room = absurd (omega arith)
-    stmts_found (stmt_then s ss) n rest f fits (suc m) room =
-        let behind = stmts_onto ss (sign (codes "}") ∷ rest) in
-        one_more (stmt_at readers n) m s (unpack_stmts ss) (stmt_onto s behind) behind rest (starts_statement s behind
-        f.0).no_brace
-        (stmt_found s n behind f.0 (omega arith) (λ h. quiet ss rest f.1)) (stmts_found ss n rest f.1 (omega arith) m
-        (omega arith))
+        → NoJoin rest → EachRead readers EndsTy EndsExpr finds (stmt_at readers n) ss rest
+    stmts_found no_stmt n rest f fits none = tt
+    stmts_found (stmt_then s ss) n rest f fits none = (
+      stmt_found s n (stmts_onto ss rest) f.0 (omega arith) (λ word j h. quiet ss rest f.1 none word j),
+      stmts_found ss n rest f.1 (omega arith) none,
+    )
 
   pair_is : (p q : Stmt × List Spelled) → Some p ≡ Some q → p ≡ q
   pair_is p q e = cc
@@ -333,11 +222,12 @@ module _ (readers : Readers) (EndsTy EndsExpr : List Spelled → Type 0) (finds 
   one_statement a b f g e =
       let n = max (stmt_nesting a) (stmt_nesting b) in
       ap (λ (p : Stmt × List Spelled). p.0)
-      (pair_is (a, []) (b, []) (sym (stmt_found a n [] f (omega arith) (λ h. refl)) ∙ ap (stmt_at readers n) e
-      ∙ stmt_found b n [] g (omega arith) (λ h. refl)))
+      (pair_is (a, []) (b, []) (sym (stmt_found a n [] f (omega arith) (λ w j h. refl)) ∙ ap (stmt_at readers n) e
+      ∙ stmt_found b n [] g (omega arith) (λ w j h. refl)))
 
   -- a block, as the body of a method has it
   pub body_block_found : (ss : Stmts) (n : ℕ) (rest : List Spelled) → FormedStmts ss → block_nesting ss ≤ n
       → block_at readers n (block_onto ss rest) ≡ Some (ss, rest)
-  body_block_found ss zero rest f fits = absurd (omega arith)
-  body_block_found ss (suc n) rest f fits = block_found n ss rest f (stmts_found ss n rest f (omega arith))
+  body_block_found ss n rest f fits =
+      block_fits readers EndsTy EndsExpr finds n ss rest f fits
+      (λ m k. stmts_found ss m (sign (codes "}") ∷ rest) f k (brace_quiet rest))

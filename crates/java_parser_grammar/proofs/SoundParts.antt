@@ -1,13 +1,14 @@
 -- What is read of the parts of statements is formed, small, and spells what was taken.
-use Rattle.std.proofs.Common.{◌≡◌, ℕ, max, Bool, true, false, List, [], ◌∷◌, Option, Some, None, codes, refl, ap}
+use Rattle.std.proofs.Common.{◌≡◌, ℕ, ◌≤◌, max, Bool, true, false, List, [], ◌∷◌, Option, Some, None, codes, refl, ap}
 use Rattle.std.proofs.Common.{◌∙◌, arith}
 use Rattle.java_tree.specs.declared.words.Spelled.{Spelled}
 use Rattle.java_tree.specs.Words.{keyword, identifier, sign}
+use Rattle.java_tree.specs.Operators.{conditional_level}
 use Rattle.java_tree.specs.Trees.{Ty, Expr, pack_exprs, Variable, Locals}
 use Rattle.java_tree.specs.Spelling.{behind_commas, commas_onto, final_onto, ty_onto, expr_onto, exprs_onto}
 use Rattle.java_tree.specs.Spelling.{more_exprs_onto, maybe_expr_onto, init_onto, variable_onto, locals_onto}
 use Rattle.java_tree.specs.Formed.{Each, FormedTy, FormedExpr, FormedMaybeExpr, FormedRun, FormedRuns, FormedInit}
-use Rattle.java_tree.specs.Formed.{FormedVariable, FormedLocals, is_run}
+use Rattle.java_tree.specs.Formed.{FormedVariable, FormedLocals, is_run, level}
 use Rattle.java_tree.specs.Nesting.{most_over, ty_nesting, expr_nesting, exprs_nesting, maybe_expr_nesting}
 use Rattle.java_tree.specs.Nesting.{init_nesting, variable_nesting, locals_nesting}
 use Rattle.java_parser_grammar.specs.Taking.{match_option, after_sign, after_keyword, after_name}
@@ -22,6 +23,9 @@ use Rattle.java_parser_grammar.proofs.SoundSteps.{GotOne, SomeOf, list_sound}
 -- what readers must give: what they read is formed, small, and spells what was taken
 pub record AreSound (readers : Readers) : Type 0 where
   pub expr : (n : ℕ) (ts : List Spelled) → Ensures (GotOne FormedExpr expr_nesting expr_onto n ts) (readers.expr n 0 ts)
+  -- one that is no assignment
+  pub conditional : (n : ℕ) (ts : List Spelled) → Ensures (GotOne (λ e. FormedExpr e × (conditional_level ≤ level e))
+      expr_nesting expr_onto n ts) (readers.expr n conditional_level ts)
   pub ty : (n : ℕ) (ts : List Spelled) → Ensures (GotOne FormedTy ty_nesting ty_onto n ts) (readers.ty n ts)
   pub init : (n : ℕ) (ts : List Spelled) → Ensures (GotOne FormedInit init_nesting init_onto n ts) (readers.init n ts)
 

@@ -1,5 +1,8 @@
 -- What an expression, a type and a statement begin with.
-use Rattle.std.proofs.Common.{◌≡◌, ℕ, Bool, true, false, ◌&&◌, ◌||◌, List, [], ◌∷◌, None, IsTrue, codes, refl, ap, ◌∙◌}
+use Rattle.std.proofs.Common.{◌≡◌, ℕ, Bool, true, false, ◌&&◌, ◌||◌, List, [], ◌∷◌, None, IsTrue, codes, refl, ap}
+use Rattle.std.proofs.Common.{◌∙◌, sym, subst}
+use Rattle.std.specs.Prelude.{bytes_eq}
+use Rattle.std.specs.Cmp.Lexicographic.{bytes_decides}
 use Rattle.java_lexer.specs.declared.token.TokenKind.{TokenKind}
 use Rattle.java_lexer.specs.declared.token.TokenKind.TheVariants as kind
 use Rattle.java_tree.specs.declared.words.Spelled.{Spelled}
@@ -7,66 +10,131 @@ use Rattle.java_tree.specs.Words.{keyword, sign, word_of}
 use Rattle.racer_base.specs.Name.{is_listed}
 use Rattle.java_tree.specs.Brackets.{is_sign_kind, is_sign}
 use Rattle.java_tree.specs.Operators.{is_prefix}
+use Rattle.java_tree.specs.Rows.{is_row}
 use Rattle.java_tree.specs.Trees.{Ty, Typed, Plain, Named, no_part, part_then, Bare, Generic, Expr, Assign}
 use Rattle.java_tree.specs.Trees.{Conditional, Binary, InstanceOf, Prefix, Postfix, Literal, Field, Index, CallOn}
-use Rattle.java_tree.specs.Trees.{ClassOf}
-use Rattle.java_tree.specs.Spelling.{brackets_onto, ty_onto, expr_onto, final_onto}
-use Rattle.java_tree.specs.Formed.{is_literal, is_plain_word, FormedTy, FormedExpr}
+use Rattle.java_tree.specs.Trees.{ClassOf, Locals, Stmt, Block, Local, Run, If, IfElse, For, ForEach, Labelled, Empty}
+use Rattle.java_tree.specs.Trees.{Row}
+use Rattle.java_tree.specs.Spelling.{brackets_onto, ty_onto, expr_onto, final_onto, commas_onto, variable_onto}
+use Rattle.java_tree.specs.Spelling.{locals_onto, stmt_onto, pieces_onto}
+use Rattle.java_tree.specs.Formed.{is_literal, is_plain_word, FormedTy, FormedExpr, FormedLocals, FormedStmt}
+use Rattle.java_tree.specs.Formed.{is_joining}
 use Rattle.java_parser_grammar.specs.Taking.{is_keyword_kind, is_keyword, after_sign, after_keyword}
-use Rattle.java_parser_grammar.specs.Lookahead.{begins_with, Other, statement_lead}
+use Rattle.java_parser_grammar.specs.Lookahead.{begins_with, begins_row, name_and_colon, Other, statement_lead}
 use Rattle.java_parser_grammar.proofs.OperatorTexts.{listed_cases, prefix_cases}
 use Rattle.java_parser_grammar.proofs.Ensuring.{keyword_is}
 use Rattle.java_parser_grammar.proofs.Taken.{sign_is}
 
--- what no expression and no a type begins with
-pub record Starts (ts : List Spelled) : Type 0 where
-  pub other : statement_lead ts ≡ Other
-  pub no_final : after_keyword (codes "final") ts ≡ None
-  pub no_else : after_keyword (codes "else") ts ≡ None
+-- what holds of each keyword that goes on with a statement
+pub joining_cases : (P : List ℕ → Type 0) → P (codes "else") → P (codes "catch") → P (codes "finally")
+    → (word : List ℕ) → is_joining word ≡ true → P word
+joining_cases P a b c word h =
+    by_test (bytes_eq word (codes "else")) (bytes_eq word (codes "catch")) refl refl h where
+      equal : (text : List ℕ) → P text → bytes_eq word text ≡ true → P word
+      equal text p e = subst P (sym ((bytes_decides word text).0 e)) p
+
+      by_test : (d e : Bool) → bytes_eq word (codes "else") ≡ d → bytes_eq word (codes "catch") ≡ e
+          → (d || (e || bytes_eq word (codes "finally"))) ≡ true → P word
+      by_test true e is other k = equal (codes "else") a is
+      by_test false true is other k = equal (codes "catch") b other
+      by_test false false is other k = equal (codes "finally") c k
+
+-- none of these stands in front
+abbrev pub NoJoin : List Spelled → Type 0
+NoJoin ts = (word : List ℕ) → is_joining word ≡ true → after_keyword word ts ≡ None
+
+-- what no statement begins with
+pub record StartsStatement (ts : List Spelled) : Type 0 where
+  pub no_join : NoJoin ts
+  pub no_case : after_keyword (codes "case") ts ≡ None
+  pub no_default : after_keyword (codes "default") ts ≡ None
   pub no_brace : after_sign (codes "}") ts ≡ None
+
+-- what no expression and no type begins with
+pub record Starts (ts : List Spelled) : Type 0 where
+  pub statement : StartsStatement ts
+  pub other : name_and_colon ts ≡ None → statement_lead ts ≡ Other
+  pub no_final : after_keyword (codes "final") ts ≡ None
   pub no_semicolon : begins_with (codes ";") ts ≡ false
   pub no_close : begins_with (codes ")") ts ≡ false
   pub no_bracket : begins_with (codes "]") ts ≡ false
 
--- the tokens that a statement's form, its end or what follows it begins with
+-- the keywords that stand only behind a statement
+abbrev behind_words : List (List ℕ)
+behind_words = codes "else" ∷ codes "catch" ∷ codes "finally" ∷ codes "case" ∷ codes "default" ∷ []
+
+-- the tokens that what stands behind a statement begins with
+abbrev is_behind : Spelled → Bool
+is_behind t =
+    is_sign_kind t.kind && is_listed (codes "}" ∷ []) t.text || is_keyword_kind t.kind && is_listed behind_words t.text
+
+-- these, and those that a statement's form or its end begins with
 abbrev is_loud : Spelled → Bool
 is_loud t =
-    is_sign_kind t.kind && is_listed (codes ";" ∷ codes "{" ∷ codes "}" ∷ codes ")" ∷ codes "]" ∷ []) t.text
-    || is_keyword_kind t.kind && is_listed (codes "if" ∷ codes "while" ∷ codes "for" ∷ codes "synchronized"
-    ∷ codes "return" ∷ codes "else" ∷ codes "final" ∷ []) t.text
+    is_behind t || (begins_row t || (is_sign_kind t.kind && is_listed (codes ";" ∷ codes "{" ∷ codes ")" ∷ codes "]"
+    ∷ []) t.text || is_keyword_kind t.kind && is_listed (codes "if" ∷ codes "for" ∷ codes "final" ∷ []) t.text))
 
-not_sign : (text : List ℕ) (t : Spelled) → IsTrue (is_loud (sign text)) → is_loud t ≡ false → is_sign text t ≡ false
-not_sign text t loud quiet = by_test (is_sign text t) refl where
+neither_first : (a b : Bool) → (a || b) ≡ false → a ≡ false
+neither_first true b h = h
+neither_first false b h = refl
+
+neither_last : (a b : Bool) → (a || b) ≡ false → b ≡ false
+neither_last true b h = absurd cc
+neither_last false b h = h
+
+not_sign : (test : Spelled → Bool) (text : List ℕ) (t : Spelled) → IsTrue (test (sign text)) → test t ≡ false
+    → is_sign text t ≡ false
+not_sign test text t loud quiet = by_test (is_sign text t) refl where
   by_test : (b : Bool) → is_sign text t ≡ b → b ≡ false
-  by_test true e = let same : is_loud t ≡ true = ap is_loud (sign_is text t e) ∙ loud in absurd cc
+  by_test true e = let same : test t ≡ true = ap test (sign_is text t e) ∙ loud in absurd cc
   by_test false e = refl
 
-not_keyword : (text : List ℕ) (t : Spelled) → IsTrue (is_loud (keyword text)) → is_loud t ≡ false → is_keyword text
-    t ≡ false
-not_keyword text t loud quiet = by_test (is_keyword text t) refl where
+not_keyword : (test : Spelled → Bool) (text : List ℕ) (t : Spelled) → IsTrue (test (keyword text)) → test t ≡ false
+    → is_keyword text t ≡ false
+not_keyword test text t loud quiet = by_test (is_keyword text t) refl where
   by_test : (b : Bool) → is_keyword text t ≡ b → b ≡ false
-  by_test true e = let same : is_loud t ≡ true = ap is_loud (keyword_is text t e) ∙ loud in absurd cc
+  by_test true e = let same : test t ≡ true = ap test (keyword_is text t e) ∙ loud in absurd cc
   by_test false e = refl
+
+starts_with : (t : Spelled) (ts : List Spelled) → is_behind t ≡ false → StartsStatement (t ∷ ts)
+starts_with t ts quiet = record {
+  no_join =
+      joining_cases (λ word. after_keyword word (t ∷ ts) ≡ None)
+      (rw (not_keyword is_behind (codes "else") t refl quiet) refl)
+      (rw (not_keyword is_behind (codes "catch") t refl quiet) refl)
+      (rw (not_keyword is_behind (codes "finally") t refl quiet) refl);
+  no_case = rw (not_keyword is_behind (codes "case") t refl quiet) refl;
+  no_default = rw (not_keyword is_behind (codes "default") t refl quiet) refl;
+  no_brace = rw (not_sign is_behind (codes "}") t refl quiet) refl;
+}
 
 starts_quiet : (t : Spelled) (ts : List Spelled) → is_loud t ≡ false → Starts (t ∷ ts)
 starts_quiet t ts quiet = record {
-  other =
+  statement = starts_with t ts (neither_first (is_behind t) _ quiet);
+  other = λ unlabelled.
       rw (
-        not_sign (codes ";") t refl quiet,
-        not_sign (codes "{") t refl quiet,
-        not_keyword (codes "if") t refl quiet,
-        not_keyword (codes "while") t refl quiet,
-        not_keyword (codes "for") t refl quiet,
-        not_keyword (codes "synchronized") t refl quiet,
-        not_keyword (codes "return") t refl quiet,
+        neither_first (begins_row t) _ (neither_last (is_behind t) _ quiet),
+        not_sign is_loud (codes ";") t refl quiet,
+        not_sign is_loud (codes "{") t refl quiet,
+        not_keyword is_loud (codes "if") t refl quiet,
+        not_keyword is_loud (codes "for") t refl quiet,
+        unlabelled,
       ) refl;
-  no_final = rw (not_keyword (codes "final") t refl quiet) refl;
-  no_else = rw (not_keyword (codes "else") t refl quiet) refl;
-  no_brace = rw (not_sign (codes "}") t refl quiet) refl;
-  no_semicolon = not_sign (codes ";") t refl quiet;
-  no_close = not_sign (codes ")") t refl quiet;
-  no_bracket = not_sign (codes "]") t refl quiet;
+  no_final = rw (not_keyword is_loud (codes "final") t refl quiet) refl;
+  no_semicolon = not_sign is_loud (codes ";") t refl quiet;
+  no_close = not_sign is_loud (codes ")") t refl quiet;
+  no_bracket = not_sign is_loud (codes "]") t refl quiet;
 }
+
+-- no row begins with what stands behind a statement
+starts_row : (word : List ℕ) (ts : List Spelled) → is_row word ≡ true → StartsStatement (keyword word ∷ ts)
+starts_row word ts is = starts_with (keyword word) ts (by_test (is_listed behind_words word) refl) where
+  by_test : (b : Bool) → is_listed behind_words word ≡ b → b ≡ false
+  by_test true e =
+      let without : is_row word ≡ false =
+      listed_cases (λ other. is_row other ≡ false) behind_words word e (refl, (refl, (refl, (refl, (refl, tt))))) in
+      absurd cc
+  by_test false e = refl
 
 -- ---- expressions
 
@@ -119,17 +187,30 @@ starts_ty (Typed (Named no_part) arrays) rest f = absurd cc
 starts_ty (Typed (Named (part_then (Bare x) ps)) arrays) rest f = starts_quiet _ _ refl
 starts_ty (Typed (Named (part_then (Generic x a) ps)) arrays) rest f = starts_quiet _ _ refl
 
--- what a declaration does not begin with
+-- what a declaration begins with
 pub record StartsDeclared (ts : List Spelled) : Type 0 where
-  pub other : statement_lead ts ≡ Other
-  pub no_else : after_keyword (codes "else") ts ≡ None
-  pub no_brace : after_sign (codes "}") ts ≡ None
+  pub statement : StartsStatement ts
+  pub other : name_and_colon ts ≡ None → statement_lead ts ≡ Other
 
 pub starts_declared : (is_final : Bool) (t : Ty) (rest : List Spelled) → FormedTy t → StartsDeclared
     (final_onto is_final (ty_onto t rest))
-starts_declared true t rest f = record { other = refl; no_else = refl; no_brace = refl }
-starts_declared false t rest f = let s = starts_ty t rest f in record {
-  other = s.other;
-  no_else = s.no_else;
-  no_brace = s.no_brace;
-}
+starts_declared true t rest f = record { statement = starts_with _ _ refl; other = λ unlabelled. refl }
+starts_declared false t rest f =
+    let s = starts_ty t rest f in record { statement = s.statement; other = s.other }
+
+-- ---- statements
+
+starts_locals : (l : Locals) (rest : List Spelled) → FormedLocals l → StartsStatement (locals_onto l rest)
+starts_locals l rest f = (starts_declared l.is_final l.kind (commas_onto variable_onto l.variables rest) f.0).statement
+
+pub starts_statement : (s : Stmt) (rest : List Spelled) → FormedStmt s → StartsStatement (stmt_onto s rest)
+starts_statement (Local l) rest f = starts_locals l (sign (codes ";") ∷ rest) f
+starts_statement (Run e) rest f = (starts e (sign (codes ";") ∷ rest) f.0).statement
+starts_statement (Row word ps) rest f = starts_row word (pieces_onto ps rest) f.0
+starts_statement (Block ss) rest f = starts_with _ _ refl
+starts_statement (If e s) rest f = starts_with _ _ refl
+starts_statement (IfElse e s t) rest f = starts_with _ _ refl
+starts_statement (For start condition updates s) rest f = starts_with _ _ refl
+starts_statement (ForEach is_final t x e s) rest f = starts_with _ _ refl
+starts_statement (Labelled x s) rest f = starts_with _ _ refl
+starts_statement Empty rest f = starts_with _ _ refl

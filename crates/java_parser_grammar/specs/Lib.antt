@@ -20,3 +20,4 @@ pub mod FieldDivisions
 pub mod ReadVariables
 pub mod Units
 pub mod UnitExamples
+pub mod ReadExamples

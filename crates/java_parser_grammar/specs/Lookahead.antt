@@ -4,6 +4,7 @@ use Rattle.std.specs.Prelude.{if◌then◌else◌}
 use Rattle.java_tree.specs.declared.words.Spelled.{Spelled}
 use Rattle.java_tree.specs.Brackets.{is_sign}
 use Rattle.java_tree.specs.Formed.{is_plain_word, is_method_modifier}
+use Rattle.java_tree.specs.Rows.{is_row}
 use Rattle.java_parser_grammar.specs.Taking.{◌>>=◌, match_option, is_keyword_kind, is_name_kind, is_keyword, after_sign}
 use Rattle.java_parser_grammar.specs.Taking.{after_name}
 
@@ -49,23 +50,26 @@ pub data StatementLead : Type 0 where
   Semicolon : List Spelled → StatementLead
   Brace : List Spelled → StatementLead
   IfWord : List Spelled → StatementLead
-  WhileWord : List Spelled → StatementLead
   ForWord : List Spelled → StatementLead
-  SynchronizedWord : List Spelled → StatementLead
-  ReturnWord : List Spelled → StatementLead
+  -- the keyword of a row
+  RowWord : (word : List ℕ) → List Spelled → StatementLead
+  -- a name with a `:` behind it
+  LabelWord : (name : List ℕ) → List Spelled → StatementLead
   Other : StatementLead
+
+-- whether the token is the keyword of a row
+abbrev pub begins_row : Spelled → Bool
+begins_row t = is_keyword_kind t.kind && (not t.glued && is_row t.text)
 
 abbrev pub statement_lead : List Spelled → StatementLead
 statement_lead [] = Other
 statement_lead (t ∷ ts) =
-    if is_sign (codes ";") t then Semicolon ts
+    if begins_row t then RowWord t.text ts
+    else (if is_sign (codes ";") t then Semicolon ts
     else (if is_sign (codes "{") t then Brace ts
     else (if is_keyword (codes "if") t then IfWord ts
-    else (if is_keyword (codes "while") t then WhileWord ts
     else (if is_keyword (codes "for") t then ForWord ts
-    else (if is_keyword (codes "synchronized") t then SynchronizedWord ts
-    else (if is_keyword (codes "return") t then ReturnWord ts
-    else Other))))))
+    else match_option (name_and_colon (t ∷ ts)) Other (λ x. LabelWord x.0 x.1)))))
 
 -- ---- methods
 

@@ -7,6 +7,7 @@ mod cuts;
 mod declarations;
 mod heads;
 mod members;
+mod statements;
 mod trees;
 
 pub use annotations::pieces_of_lines;
@@ -25,6 +26,9 @@ pub use heads::{parameters, static_heads, synchronized_members};
 pub use members::{
     blocks, endless_members, ends_of_members, fields, methods, methods_without_bodies,
     types_among_members,
+};
+pub use statements::{
+    groups_of_switches, labelled_statements, parts_of_tries, statements_of_keywords,
 };
 pub use trees::{
     methods_of_classes, results_of_heads, texts_between_commas, texts_of_no_variable,

@@ -4,6 +4,9 @@ pub mod MadeTypes
 pub mod ExpressionForms
 pub mod MadeExpressions
 pub mod StatementForms
+pub mod MadeRows
+pub mod MadeStatementParts
+pub mod MadeRowParts
 pub mod MadeStatements
 pub mod MadeMethods
 pub mod Deciding

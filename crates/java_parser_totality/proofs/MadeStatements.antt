@@ -1,207 +1,44 @@
 -- A statement of the code is made of the tokens of a formed statement.
-use Rattle.std.proofs.Common.{◌≡◌, ℕ, Bool, true, false, List, [], ◌∷◌, Option, Some, None, map, length}
-use Rattle.std.proofs.Common.{refl, ap, ◌∙◌, arith, codes}
-use Rattle.std.specs.Prelude.{option_map}
+use Rattle.std.proofs.Common.{◌≡◌, ℕ, true, false, List, [], ◌∷◌, Some, None, map, length}
+use Rattle.std.proofs.Common.{refl, sym, ap, ◌∙◌, arith, codes, ◌&&◌}
+use Rattle.java_lexer.specs.declared.token.TokenKind.TheVariants as kind
 use Rattle.java_tree.specs.declared.words.Spelled.{Spelled}
-use Rattle.java_tree.specs.declared.expressions.Expression.{Expression}
-use Rattle.java_tree.specs.declared.expressions.Initialiser.{Initialiser}
-use Rattle.java_tree.specs.declared.statements.VariableTree.{VariableTree}
-use Rattle.java_tree.specs.declared.statements.LocalsTree.{LocalsTree}
-use Rattle.java_tree.specs.declared.statements.StartTree.{StartTree}
-use Rattle.java_tree.specs.declared.statements.StartTree.TheVariants as start
 use Rattle.java_tree.specs.declared.statements.Statement.{Statement}
+use Rattle.java_tree.specs.declared.statements.GroupTree.{GroupTree}
+use Rattle.java_tree.specs.KeptPlaces.{is_kept, each_puts, stmt_places, group_places}
+use Rattle.java_tree.specs.Trees.{Stmt, Block, Local, Run, If, IfElse, For, ForEach, Labelled, Empty, Stmts, no_stmt}
+use Rattle.java_tree.specs.Trees.{stmt_then, pack_stmts, Row, Pieces, no_piece, a_token, an_expr, maybe_an_expr}
+use Rattle.java_tree.specs.Trees.{maybe_a_name, maybe_behind, a_condition, a_body, a_block, maybe_resources}
+use Rattle.java_tree.specs.Trees.{a_catch_parameter, a_list, present, absent, some_part, a_switch, Several, no_row}
+use Rattle.java_tree.specs.Trees.{row_then, Groups, no_group, group_then, Label}
 use Rattle.java_tree.specs.Words.{keyword}
-use Rattle.java_tree.specs.KeptPlaces.{each_puts, maybe_puts, expr_places, init_places, variable_places}
-use Rattle.java_tree.specs.KeptPlaces.{locals_places, start_places, stmt_places}
-use Rattle.java_tree.specs.Trees.{Ty, Expr, Exprs, no_expr, expr_then, Init, Variable, Locals, Start, Declares, Runs}
-use Rattle.java_tree.specs.Trees.{Stmt, Block, Local, Run, If, IfElse, While, For, ForEach, Sync, Return, Empty}
-use Rattle.java_tree.specs.Trees.{Stmts, no_stmt, stmt_then, pack_stmts}
-use Rattle.java_tree.specs.Spelling.{behind_commas, commas_onto, final_onto, exprs_onto, maybe_expr_onto}
-use Rattle.java_tree.specs.Spelling.{maybe_init_onto, variable_onto, locals_onto, start_onto, stmt_onto, stmts_onto}
-use Rattle.java_tree.specs.Formed.{Each, FormedExpr, FormedExprs, FormedMaybeExpr, FormedRuns, FormedMaybeInit}
-use Rattle.java_tree.specs.Formed.{FormedVariable, FormedLocals, FormedStart, FormedStmt, FormedStmts}
-use Rattle.java_tree.specs.View.{expr_of, init_of, variable_of, locals_of, start_of, stmt_of}
-use Rattle.java_parser_totality.proofs.Parts.{Makes, Maker, maker, nothing, nothing-made, and, as-made}
-use Rattle.java_parser_totality.proofs.MadeTypes.{Same, Plain-Part, a_sign, a_keyword, a_name, a_type, a_placed}
-use Rattle.java_parser_totality.proofs.MadeExpressions.{by2, by3, expr_part, exprs_part, init_part, made, exprs-made, init-made}
+use Rattle.java_tree.specs.Spelling.{stmt_onto, stmts_onto, pieces_onto, several_onto, groups_onto, maybe_behind_onto}
+use Rattle.java_tree.specs.Formed.{FormedStmt, FormedStmts, FormedGroups, Fits, EachFits}
+use Rattle.java_tree.specs.Rows.{AKeyword, ASign, AnExpr, Until, MaybeName, MaybeBehind, ACondition, ABody, ABlock}
+use Rattle.java_tree.specs.Rows.{ASwitch, MaybeResources, ACatchParameter, Again, Perhaps, SomePart, Slots, no_slot}
+use Rattle.java_tree.specs.Rows.{◌▹◌, row_of}
+use Rattle.java_tree.specs.View.{stmt_of, group_of, pack_groups, Group}
+use Rattle.java_parser_totality.proofs.Parts.{Makes, maker, nothing, nothing-made, and, as-made}
+use Rattle.java_parser_totality.proofs.MadeTypes.{Same, Plain-Part, a_sign, a_keyword, a_name, a_type}
+use Rattle.java_parser_totality.proofs.MadeExpressions.{by2, by3}
+use Rattle.java_parser_totality.proofs.MadeRows.{Values, seen, kept_of, count_of, all_seen, all_count, builds}
+use Rattle.java_parser_totality.proofs.MadeRows.{are_unkept, unkept, both, row-unkept}
+use Rattle.java_parser_totality.proofs.MadeStatementParts.{an_expr_of, a_locals, final_part, final-made}
+use Rattle.java_parser_totality.proofs.MadeStatementParts.{maybe_expr_part, maybe-expr-made, some_runs, start_part}
+use Rattle.java_parser_totality.proofs.MadeStatementParts.{start-made}
+use Rattle.java_parser_totality.proofs.MadeRowParts.{word_part, word-made, maybe_name_part, maybe-name-made}
+use Rattle.java_parser_totality.proofs.MadeRowParts.{behind_part, behind-made, maybe_resources_part}
+use Rattle.java_parser_totality.proofs.MadeRowParts.{maybe-resources-made, parameter_part, parameter-made, labels_part}
+use Rattle.java_parser_totality.proofs.MadeRowParts.{labels-made, a_label}
 use Rattle.java_parser_totality.proofs.StatementForms as form
-use Rattle.java_parser_totality.proofs.StatementForms.{block-at, block-is, empty-at, empty-is, for-at, for-is, for_each-at}
-use Rattle.java_parser_totality.proofs.StatementForms.{for_each-is, if_else-at, if_else-is, local-at, local-is, one_if-at}
-use Rattle.java_parser_totality.proofs.StatementForms.{one_if-is, return-at, return-is, run-at, run-is, sync-at, sync-is}
-use Rattle.java_parser_totality.proofs.StatementForms.{while-at, while-is}
+use Rattle.java_parser_totality.proofs.StatementForms.{block-at, block-is, empty-at, empty-is, for-at, for-is}
+use Rattle.java_parser_totality.proofs.StatementForms.{for_each-at, for_each-is, if_else-at, if_else-is, local-at}
+use Rattle.java_parser_totality.proofs.StatementForms.{local-is, one_if-at, one_if-is, run-at, run-is, labelled-at}
+use Rattle.java_parser_totality.proofs.StatementForms.{labelled-is, group-at, group-is}
 
 by4 : {A B D E Z : Type 0} (C : A → B → D → E → Z) {a x : A} {b y : B} {d z : D} {e w : E} → a ≡ x → b ≡ y → d ≡ z
     → e ≡ w → C a b d e ≡ C x y z w
 by4 C {x = x} {b = b} {d = d} {e = e} f g h k = ap (λ u. C u b d e) f ∙ by3 (C x) g h k
-
-abbrev an_expr : (e : Expr) → FormedExpr e → Maker Same
-an_expr e f = maker Same (expr_part e) (made e f)
-
--- ---- words
-
-abbrev pub final_part : Bool → Plain-Part
-final_part is_final =
-    record { X = Unit {0}; ok = λ _. Unit {0}; put = λ _ ps. ps; size = λ _. 0; onto = final_onto is_final }
-
-pub final-made : (is_final : Bool) → Makes Same (final_part is_final)
-final-made true =
-    as-made Same (a_keyword (codes "final") refl) (final_part true) (λ x. tt)
-    (record { ok = λ x s h. tt; put = λ x s ps. refl; size = λ x. omega arith; onto = λ rest. refl })
-final-made false =
-    as-made Same (maker Same (nothing Same) (nothing-made Same)) (final_part false) (λ x. tt)
-    (record { ok = λ x s h. tt; put = λ x s ps. refl; size = λ x. omega arith; onto = λ rest. refl })
-
--- ---- variables
-
-abbrev maybe_init_part : Option Init → Plain-Part
-maybe_init_part o =
-    record {
-      X = Option Initialiser;
-      ok = λ x. option_map init_of x ≡ o;
-      put = λ x. maybe_puts (option_map init_places x);
-      size = λ _. 0;
-      onto = maybe_init_onto o;
-    }
-
-maybe-init-made : (o : Option Init) → FormedMaybeInit o → Makes Same (maybe_init_part o)
-maybe-init-made None f =
-    as-made Same (maker Same (nothing Same) (nothing-made Same)) (maybe_init_part None) (λ x. None)
-    (record { ok = λ x s h. refl; put = λ x s ps. refl; size = λ x. omega arith; onto = λ rest. refl })
-maybe-init-made (Some i) f =
-    as-made Same (and Same (a_sign (codes "=")) (maker Same (init_part i) (init-made i f))) (maybe_init_part (Some i))
-    (λ x. Some x.1)
-    (record { ok = λ x s h. ap Some h.1; put = λ x s ps. refl; size = λ x. omega arith; onto = λ rest. refl })
-
-abbrev variable_part : Variable → Plain-Part
-variable_part v =
-    record {
-      X = VariableTree;
-      ok = λ x. variable_of x ≡ v;
-      put = variable_places;
-      size = λ _. 1;
-      onto = variable_onto v;
-    }
-
-variable-made : (v : Variable) → FormedVariable v → Makes Same (variable_part v)
-variable-made v f =
-    as-made Same (and Same (a_name v.name) (maker Same (maybe_init_part v.initialiser) (maybe-init-made v.initialiser
-    f))) (variable_part v) (λ x. record { name = x.0; initialiser = x.1 }) (record {
-      ok = λ x s h. by2 (λ (n : List ℕ) (i : Option Init). record { name = n; initialiser = i }) h.0 h.1;
-      put = λ x s ps. refl;
-      size = λ x. omega arith;
-      onto = λ rest. refl;
-    })
-
-abbrev variables_part : (List Variable → List Spelled → List Spelled) → List Variable → Plain-Part
-variables_part onto vs =
-    record {
-      X = List VariableTree;
-      ok = λ xs. map variable_of xs ≡ vs;
-      put = λ xs. each_puts (map variable_places xs);
-      size = λ xs. length xs;
-      onto = onto vs;
-    }
-
-more-variables-made : (vs : List Variable) → Each FormedVariable vs
-    → Makes Same (variables_part (behind_commas variable_onto) vs)
-more-variables-made [] f =
-    as-made Same (maker Same (nothing Same) (nothing-made Same)) (variables_part (behind_commas variable_onto) [])
-    (λ x. []) (record { ok = λ x s h. refl; put = λ x s ps. refl; size = λ x. omega arith; onto = λ rest. refl })
-more-variables-made (v ∷ vs) f =
-    as-made Same (and Same (a_sign (codes ",")) (and Same (maker Same (variable_part v) (variable-made v f.0))
-    (maker Same (variables_part (behind_commas variable_onto) vs) (more-variables-made vs f.1))))
-    (variables_part (behind_commas variable_onto) (v ∷ vs)) (λ x. x.1.0 ∷ x.1.1) (record {
-      ok = λ x s h. by2 (λ (y : Variable) (ys : List Variable). y ∷ ys) h.1.0 h.1.1;
-      put = λ x s ps. refl;
-      size = λ x. omega arith;
-      onto = λ rest. refl;
-    })
-
-variables-made : (vs : List Variable) → Each FormedVariable vs
-    → Makes Same (variables_part (commas_onto variable_onto) vs)
-variables-made [] f =
-    as-made Same (maker Same (nothing Same) (nothing-made Same)) (variables_part (commas_onto variable_onto) [])
-    (λ x. []) (record { ok = λ x s h. refl; put = λ x s ps. refl; size = λ x. omega arith; onto = λ rest. refl })
-variables-made (v ∷ vs) f =
-    as-made Same (and Same (maker Same (variable_part v) (variable-made v f.0)) (maker Same (variables_part
-    (behind_commas variable_onto) vs) (more-variables-made vs f.1))) (variables_part (commas_onto variable_onto)
-    (v ∷ vs)) (λ x. x.0 ∷ x.1) (record {
-      ok = λ x s h. by2 (λ (y : Variable) (ys : List Variable). y ∷ ys) h.0 h.1;
-      put = λ x s ps. refl;
-      size = λ x. omega arith;
-      onto = λ rest. refl;
-    })
-
-abbrev locals_part : Locals → Plain-Part
-locals_part l =
-    record {
-      X = LocalsTree;
-      ok = λ x. locals_of x ≡ l;
-      put = locals_places;
-      size = λ _. 0;
-      onto = locals_onto l;
-    }
-
-locals-made : (l : Locals) → FormedLocals l → Makes Same (locals_part l)
-locals-made l f =
-    as-made Same (and Same (maker Same (final_part l.is_final) (final-made l.is_final)) (and Same (a_type l.kind f.0)
-    (maker Same (variables_part (commas_onto variable_onto) l.variables) (variables-made l.variables f.2))))
-    (locals_part l) (λ x. record { is_final = l.is_final; kind = x.1.0; variables = x.1.1 }) (record {
-      ok = λ x s h.
-          by2 (λ (t : Ty) (vs : List Variable). record { is_final = l.is_final; kind = t; variables = vs }) h.1.0
-          h.1.1;
-      put = λ x s ps. refl;
-      size = λ x. omega arith;
-      onto = λ rest. refl;
-    })
-
-abbrev a_locals : (l : Locals) → FormedLocals l → Maker Same
-a_locals l f = maker Same (locals_part l) (locals-made l f)
-
--- ---- parts of statements
-
-abbrev maybe_expr_part : Option Expr → Plain-Part
-maybe_expr_part o =
-    record {
-      X = Option Expression;
-      ok = λ x. option_map expr_of x ≡ o;
-      put = λ x. maybe_puts (option_map expr_places x);
-      size = λ _. 0;
-      onto = maybe_expr_onto o;
-    }
-
-maybe-expr-made : (o : Option Expr) → FormedMaybeExpr o → Makes Same (maybe_expr_part o)
-maybe-expr-made None f =
-    as-made Same (maker Same (nothing Same) (nothing-made Same)) (maybe_expr_part None) (λ x. None)
-    (record { ok = λ x s h. refl; put = λ x s ps. refl; size = λ x. omega arith; onto = λ rest. refl })
-maybe-expr-made (Some e) f =
-    as-made Same (an_expr e f) (maybe_expr_part (Some e)) Some
-    (record { ok = λ x s h. ap Some h; put = λ x s ps. refl; size = λ x. omega arith; onto = λ rest. refl })
-
-runs-formed : (es : Exprs) → FormedRuns es → FormedExprs es
-runs-formed no_expr f = tt
-runs-formed (expr_then e es) f = (f.0.0, runs-formed es f.1)
-
-abbrev some_runs : (es : Exprs) → FormedRuns es → Maker Same
-some_runs es f = maker Same (exprs_part exprs_onto es) (exprs-made es (runs-formed es f))
-
-abbrev start_part : Start → Plain-Part
-start_part i =
-    record {
-      X = StartTree;
-      ok = λ x. start_of x ≡ i;
-      put = start_places;
-      size = λ _. 0;
-      onto = start_onto i;
-    }
-
-start-made : (i : Start) → FormedStart i → Makes Same (start_part i)
-start-made (Declares l) f =
-    as-made Same (a_locals l f) (start_part (Declares l)) start.Local
-    (record { ok = λ x s h. ap Declares h; put = λ x s ps. refl; size = λ x. omega arith; onto = λ rest. refl })
-start-made (Runs all) f =
-    as-made Same (some_runs all f) (start_part (Runs all)) start.Expressions
-    (record { ok = λ x s h. ap Runs h; put = λ x s ps. refl; size = λ x. omega arith; onto = λ rest. refl })
 
 -- ---- statements
 
@@ -217,6 +54,38 @@ stmts_part ss =
       put = λ xs. each_puts (map stmt_places xs);
       size = λ xs. length xs;
       onto = stmts_onto ss;
+    }
+
+-- what stands behind the keyword of a row
+abbrev pieces_part : Slots → Pieces → Plain-Part
+pieces_part row ps =
+    record {
+      X = Values row;
+      ok = λ x. seen row x ≡ ps;
+      put = kept_of row;
+      size = count_of row;
+      onto = pieces_onto ps;
+    }
+
+-- rows behind one keyword
+abbrev several_part : (word : List ℕ) → Slots → Several → Plain-Part
+several_part word sub more =
+    record {
+      X = List (Values sub);
+      ok = λ xs. all_seen (seen sub) xs ≡ more;
+      put = λ xs. each_puts (map (kept_of sub) xs);
+      size = all_count (count_of sub);
+      onto = several_onto word more;
+    }
+
+abbrev groups_part : Groups → Plain-Part
+groups_part gs =
+    record {
+      X = List GroupTree;
+      ok = λ xs. pack_groups (map group_of xs) ≡ gs;
+      put = λ xs. each_puts (map group_places xs);
+      size = λ xs. length xs;
+      onto = groups_onto gs;
     }
 
 mutual
@@ -239,7 +108,7 @@ mutual
         onto = λ rest. refl;
       })
   stmt-made (Run e) f =
-      as-made Same (and Same (an_expr e f.0) (a_sign (codes ";")))
+      as-made Same (and Same (an_expr_of e f.0) (a_sign (codes ";")))
       (stmt_part (Run e)) (λ x. form.a_run x.0) (record {
         ok = λ x few h. run-is x.0 ∙ ap Run h.0;
         put = λ x few ps. run-at x.0 ps;
@@ -247,7 +116,7 @@ mutual
         onto = λ rest. refl;
       })
   stmt-made (If e s) f =
-      as-made Same (and Same (a_keyword (codes "if") refl) (and Same (a_sign (codes "(")) (and Same (an_expr e f.0)
+      as-made Same (and Same (a_keyword (codes "if") refl) (and Same (a_sign (codes "(")) (and Same (an_expr_of e f.0)
       (and Same (a_sign (codes ")")) (maker Same (stmt_part s) (stmt-made s f.1))))))
       (stmt_part (If e s)) (λ x. form.a_one_if x.1.1.0 x.1.1.1.1) (record {
         ok = λ x few h. one_if-is x.1.1.0 x.1.1.1.1 ∙ by2 If h.1.1.0 h.1.1.1.1;
@@ -256,21 +125,12 @@ mutual
         onto = λ rest. refl;
       })
   stmt-made (IfElse e s t) f =
-      as-made Same (and Same (a_keyword (codes "if") refl) (and Same (a_sign (codes "(")) (and Same (an_expr e f.0)
+      as-made Same (and Same (a_keyword (codes "if") refl) (and Same (a_sign (codes "(")) (and Same (an_expr_of e f.0)
       (and Same (a_sign (codes ")")) (and Same (maker Same (stmt_part s) (stmt-made s f.1)) (and Same (a_keyword
       (codes "else") refl) (maker Same (stmt_part t) (stmt-made t f.2))))))))
       (stmt_part (IfElse e s t)) (λ x. form.a_if_else x.1.1.0 x.1.1.1.1.0 x.1.1.1.1.1.1) (record {
         ok = λ x few h. if_else-is x.1.1.0 x.1.1.1.1.0 x.1.1.1.1.1.1 ∙ by3 IfElse h.1.1.0 h.1.1.1.1.0 h.1.1.1.1.1.1;
         put = λ x few ps. if_else-at x.1.1.0 x.1.1.1.1.0 x.1.1.1.1.1.1 ps;
-        size = λ x. omega arith;
-        onto = λ rest. refl;
-      })
-  stmt-made (While e s) f =
-      as-made Same (and Same (a_keyword (codes "while") refl) (and Same (a_sign (codes "(")) (and Same
-      (an_expr e f.0) (and Same (a_sign (codes ")")) (maker Same (stmt_part s) (stmt-made s f.1))))))
-      (stmt_part (While e s)) (λ x. form.a_while x.1.1.0 x.1.1.1.1) (record {
-        ok = λ x few h. while-is x.1.1.0 x.1.1.1.1 ∙ by2 While h.1.1.0 h.1.1.1.1;
-        put = λ x few ps. while-at x.1.1.0 x.1.1.1.1 ps;
         size = λ x. omega arith;
         onto = λ rest. refl;
       })
@@ -289,7 +149,7 @@ mutual
   stmt-made (ForEach final t x e s) f =
       as-made Same (and Same (a_keyword (codes "for") refl) (and Same (a_sign (codes "(")) (and Same (maker Same
       (final_part final) (final-made final)) (and Same (a_type t f.0) (and Same (a_name x) (and Same (a_sign
-      (codes ":")) (and Same (an_expr e f.1) (and Same (a_sign (codes ")")) (maker Same (stmt_part s)
+      (codes ":")) (and Same (an_expr_of e f.1) (and Same (a_sign (codes ")")) (maker Same (stmt_part s)
       (stmt-made s f.2))))))))))
       (stmt_part (ForEach final t x e s))
       (λ x. form.a_for_each final x.1.1.1.0 x.1.1.1.1.0 x.1.1.1.1.1.1.0 x.1.1.1.1.1.1.1.1) (record {
@@ -299,22 +159,11 @@ mutual
         size = λ x. omega arith;
         onto = λ rest. refl;
       })
-  stmt-made (Sync e ss) f =
-      as-made Same (and Same (a_placed (keyword (codes "synchronized")) refl) (and Same (a_sign (codes "("))
-      (and Same (an_expr e f.0) (and Same (a_sign (codes ")")) (and Same (a_sign (codes "{")) (and Same
-      (maker Same (stmts_part ss) (stmts-made ss f.1)) (a_sign (codes "}"))))))))
-      (stmt_part (Sync e ss)) (λ x. form.a_sync x.0 x.1.1.0 x.1.1.1.1.1.0) (record {
-        ok = λ x few h. sync-is x.0 x.1.1.0 x.1.1.1.1.1.0 (omega (arith, few)) ∙ by2 Sync h.1.1.0 h.1.1.1.1.1.0;
-        put = λ x few ps. sync-at x.0 x.1.1.0 x.1.1.1.1.1.0 (omega (arith, few)) ps;
-        size = λ x. omega arith;
-        onto = λ rest. refl;
-      })
-  stmt-made (Return e) f =
-      as-made Same (and Same (a_keyword (codes "return") refl) (and Same (maker Same (maybe_expr_part e)
-      (maybe-expr-made e f)) (a_sign (codes ";"))))
-      (stmt_part (Return e)) (λ x. form.a_return x.1.0) (record {
-        ok = λ x few h. return-is x.1.0 ∙ ap Return h.1.0;
-        put = λ x few ps. return-at x.1.0 ps;
+  stmt-made (Labelled x s) f =
+      as-made Same (and Same (a_name x) (and Same (a_sign (codes ":")) (maker Same (stmt_part s) (stmt-made s f.0))))
+      (stmt_part (Labelled x s)) (λ x. form.a_labelled x.0 x.1.1) (record {
+        ok = λ x few h. labelled-is x.0 x.1.1 ∙ by2 Labelled h.0 h.1.1;
+        put = λ x few ps. labelled-at x.0 x.1.1 ps;
         size = λ x. omega arith;
         onto = λ rest. refl;
       })
@@ -323,6 +172,200 @@ mutual
       (stmt_part Empty) (λ x. form.a_empty) (record {
         ok = λ x few h. empty-is;
         put = λ x few ps. empty-at ps;
+        size = λ x. omega arith;
+        onto = λ rest. refl;
+      })
+  stmt-made (Row word ps) f =
+      let form = builds word f.0 in
+      as-made Same (and Same (maker Same (word_part (is_kept kind.Keyword word) word)
+      (word-made (is_kept kind.Keyword word) word refl)) (maker Same (pieces_part (row_of word) ps) (pieces-made ps
+      (row_of word) f.1 (row-unkept word))))
+      (stmt_part (Row word ps)) (λ x. form.make x.0 x.1) (record {
+        ok = λ x few h. form.is x.0 x.1 (omega (arith, few)) ∙ ap (Row word) h.1;
+        put = λ x few ps. form.at x.0 x.1 (omega (arith, few)) ps;
+        size = λ x. omega arith;
+        onto = λ rest. refl;
+      })
+
+  pieces-made : (ps : Pieces) (row : Slots) → Fits ps row → are_unkept row ≡ true
+      → Makes Same (pieces_part row ps)
+  pieces-made no_piece no_slot f ok =
+      as-made Same (maker Same (nothing Same) (nothing-made Same)) (pieces_part no_slot no_piece) (λ x. tt)
+      (record { ok = λ x s h. refl; put = λ x s ps. refl; size = λ x. omega arith; onto = λ rest. refl })
+  pieces-made (a_token t ps) (AKeyword text ▹ row) f ok =
+      let quiet = unkept _ _ ok in
+      as-made Same (and Same (a_keyword text quiet.0) (maker Same (pieces_part row ps) (pieces-made ps row f.1
+      quiet.1))) (pieces_part (AKeyword text ▹ row) (a_token t ps)) (λ x. x.1) (record {
+        ok = λ x s h. by2 a_token (sym f.0) h.1;
+        put = λ x s ps. refl;
+        size = λ x. omega arith;
+        onto = λ rest. ap (λ (u : Spelled). u ∷ pieces_onto ps rest) f.0;
+      })
+  pieces-made (a_token t ps) (ASign text ▹ row) f ok =
+      as-made Same (and Same (a_sign text) (maker Same (pieces_part row ps) (pieces-made ps row f.1 ok)))
+      (pieces_part (ASign text ▹ row) (a_token t ps)) (λ x. x.1) (record {
+        ok = λ x s h. by2 a_token (sym f.0) h.1;
+        put = λ x s ps. refl;
+        size = λ x. omega arith;
+        onto = λ rest. ap (λ (u : Spelled). u ∷ pieces_onto ps rest) f.0;
+      })
+  pieces-made (an_expr e ps) (AnExpr ▹ row) f ok =
+      as-made Same (and Same (an_expr_of e f.0) (maker Same (pieces_part row ps) (pieces-made ps row f.1 ok)))
+      (pieces_part (AnExpr ▹ row) (an_expr e ps)) (λ x. x) (record {
+        ok = λ x s h. by2 an_expr h.0 h.1;
+        put = λ x s ps. refl;
+        size = λ x. omega arith;
+        onto = λ rest. refl;
+      })
+  pieces-made (maybe_an_expr e ps) (Until end ▹ row) f ok =
+      as-made Same (and Same (maker Same (maybe_expr_part e) (maybe-expr-made e f.0)) (maker Same (pieces_part row ps)
+      (pieces-made ps row f.1 ok))) (pieces_part (Until end ▹ row) (maybe_an_expr e ps)) (λ x. x) (record {
+        ok = λ x s h. by2 maybe_an_expr h.0 h.1;
+        put = λ x s ps. refl;
+        size = λ x. omega arith;
+        onto = λ rest. refl;
+      })
+  pieces-made (a_condition e ps) (ACondition ▹ row) f ok =
+      as-made Same (and Same (a_sign (codes "(")) (and Same (an_expr_of e f.0) (and Same (a_sign (codes ")"))
+      (maker Same (pieces_part row ps) (pieces-made ps row f.1 ok)))))
+      (pieces_part (ACondition ▹ row) (a_condition e ps)) (λ x. (x.1.0, x.1.1.1)) (record {
+        ok = λ x s h. by2 a_condition h.1.0 h.1.1.1;
+        put = λ x s ps. refl;
+        size = λ x. omega arith;
+        onto = λ rest. refl;
+      })
+  pieces-made (a_body s ps) (ABody ▹ row) f ok =
+      as-made Same (and Same (maker Same (stmt_part s) (stmt-made s f.0.0)) (maker Same (pieces_part row ps)
+      (pieces-made ps row f.1 ok))) (pieces_part (ABody ▹ row) (a_body s ps)) (λ x. x) (record {
+        ok = λ x s h. by2 a_body h.0 h.1;
+        put = λ x s ps. refl;
+        size = λ x. omega arith;
+        onto = λ rest. refl;
+      })
+  pieces-made (a_block ss ps) (ABlock ▹ row) f ok =
+      as-made Same (and Same (a_sign (codes "{")) (and Same (maker Same (stmts_part ss) (stmts-made ss f.0)) (and Same
+      (a_sign (codes "}")) (maker Same (pieces_part row ps) (pieces-made ps row f.1 ok)))))
+      (pieces_part (ABlock ▹ row) (a_block ss ps)) (λ x. (x.1.0, x.1.1.1)) (record {
+        ok = λ x s h. by2 a_block h.1.0 h.1.1.1;
+        put = λ x s ps. refl;
+        size = λ x. omega arith;
+        onto = λ rest. refl;
+      })
+  pieces-made (maybe_a_name x ps) (MaybeName ▹ row) f ok =
+      as-made Same (and Same (maker Same (maybe_name_part x) (maybe-name-made x)) (maker Same (pieces_part row ps)
+      (pieces-made ps row f ok))) (pieces_part (MaybeName ▹ row) (maybe_a_name x ps)) (λ x. x) (record {
+        ok = λ x s h. by2 maybe_a_name h.0 h.1;
+        put = λ x s ps. refl;
+        size = λ x. omega arith;
+        onto = λ rest. refl;
+      })
+  pieces-made (maybe_behind t e ps) (MaybeBehind text ▹ row) f ok =
+      as-made Same (and Same (maker Same (behind_part text e) (behind-made text e f.0.1)) (maker Same
+      (pieces_part row ps) (pieces-made ps row f.1 ok)))
+      (pieces_part (MaybeBehind text ▹ row) (maybe_behind t e ps)) (λ x. x) (record {
+        ok = λ x s h. by3 maybe_behind (sym f.0.0) h.0 h.1;
+        put = λ x s ps. refl;
+        size = λ x. omega arith;
+        onto = λ rest. ap (λ v. maybe_behind_onto v e (pieces_onto ps rest)) f.0.0;
+      })
+  pieces-made (maybe_resources rs ps) (MaybeResources ▹ row) f ok =
+      as-made Same (and Same (maker Same (maybe_resources_part rs) (maybe-resources-made rs f.0)) (maker Same
+      (pieces_part row ps)
+      (pieces-made ps row f.1 ok))) (pieces_part (MaybeResources ▹ row) (maybe_resources rs ps)) (λ x. x) (record {
+        ok = λ x s h. by2 maybe_resources h.0 h.1;
+        put = λ x s ps. refl;
+        size = λ x. omega arith;
+        onto = λ rest. refl;
+      })
+  pieces-made (a_catch_parameter c ps) (ACatchParameter ▹ row) f ok =
+      as-made Same (and Same (maker Same (parameter_part c) (parameter-made c f.0)) (maker Same (pieces_part row ps)
+      (pieces-made ps row f.1 ok))) (pieces_part (ACatchParameter ▹ row) (a_catch_parameter c ps)) (λ x. x) (record {
+        ok = λ x s h. by2 a_catch_parameter h.0 h.1;
+        put = λ x s ps. refl;
+        size = λ x. omega arith;
+        onto = λ rest. refl;
+      })
+  pieces-made (a_switch gs ps) (ASwitch ▹ row) f ok =
+      as-made Same (and Same (a_sign (codes "{")) (and Same (maker Same (groups_part gs) (groups-made gs f.0)) (and Same
+      (a_sign (codes "}")) (maker Same (pieces_part row ps) (pieces-made ps row f.1 ok)))))
+      (pieces_part (ASwitch ▹ row) (a_switch gs ps)) (λ x. (x.1.0, x.1.1.1)) (record {
+        ok = λ x s h. by2 a_switch h.1.0 h.1.1.1;
+        put = λ x s ps. refl;
+        size = λ x. omega arith;
+        onto = λ rest. refl;
+      })
+  pieces-made (some_part ps) (SomePart ▹ row) f ok =
+      as-made Same (maker Same (pieces_part row ps) (pieces-made ps row f.1 ok))
+      (pieces_part (SomePart ▹ row) (some_part ps)) (λ x. x) (record {
+        ok = λ x s h. ap some_part h;
+        put = λ x s ps. refl;
+        size = λ x. omega arith;
+        onto = λ rest. refl;
+      })
+  pieces-made (absent w ps) (Perhaps word sub ▹ row) f ok =
+      let quiet = unkept (is_kept kind.Keyword word) (are_unkept sub && are_unkept row) ok in
+      as-made Same (maker Same (pieces_part row ps) (pieces-made ps row f.1 (both (are_unkept sub) _ quiet.1).1))
+      (pieces_part (Perhaps word sub ▹ row) (absent w ps)) (λ x. (None, x)) (record {
+        ok = λ x s h. by2 absent (sym f.0) h;
+        put = λ x s ps. refl;
+        size = λ x. omega arith;
+        onto = λ rest. refl;
+      })
+  pieces-made (present w one ps) (Perhaps word sub ▹ row) f ok =
+      let quiet = unkept (is_kept kind.Keyword word) (are_unkept sub && are_unkept row) ok in
+      let parts = both (are_unkept sub) (are_unkept row) quiet.1 in
+      as-made Same (and Same (a_keyword word quiet.0) (and Same (maker Same (pieces_part sub one) (pieces-made one sub
+      f.0.1 parts.0)) (maker Same (pieces_part row ps) (pieces-made ps row f.1 parts.1))))
+      (pieces_part (Perhaps word sub ▹ row) (present w one ps)) (λ x. (Some x.1.0, x.1.1)) (record {
+        ok = λ x s h. by3 present (sym f.0.0) h.1.0 h.1.1;
+        put = λ x s ps. refl;
+        size = λ x. omega arith;
+        onto = λ rest. ap (λ v. keyword v ∷ pieces_onto one (pieces_onto ps rest)) f.0.0;
+      })
+  pieces-made (a_list w more ps) (Again word sub ▹ row) f ok =
+      let quiet = unkept (is_kept kind.Keyword word) (are_unkept sub && are_unkept row) ok in
+      let parts = both (are_unkept sub) (are_unkept row) quiet.1 in
+      as-made Same (and Same (maker Same (several_part word sub more) (several-made more sub f.0.1 word quiet.0
+      parts.0))
+      (maker Same (pieces_part row ps) (pieces-made ps row f.1 parts.1)))
+      (pieces_part (Again word sub ▹ row) (a_list w more ps)) (λ x. x) (record {
+        ok = λ x s h. by3 a_list (sym f.0.0) h.0 h.1;
+        put = λ x s ps. refl;
+        size = λ x. omega arith;
+        onto = λ rest. ap (λ v. several_onto v more (pieces_onto ps rest)) f.0.0;
+      })
+  pieces-made _ _ f ok = absurd f
+
+  several-made : (more : Several) (sub : Slots) → EachFits more sub → (word : List ℕ)
+      → is_kept kind.Keyword word ≡ false → are_unkept sub ≡ true → Makes Same (several_part word sub more)
+  several-made no_row sub f word away ok =
+      as-made Same (maker Same (nothing Same) (nothing-made Same)) (several_part word sub no_row) (λ x. [])
+      (record { ok = λ x s h. refl; put = λ x s ps. refl; size = λ x. omega arith; onto = λ rest. refl })
+  several-made (row_then ps more) sub f word away ok =
+      as-made Same (and Same (a_keyword word away) (and Same (maker Same (pieces_part sub ps) (pieces-made ps sub f.0
+      ok)) (maker Same (several_part word sub more) (several-made more sub f.1 word away ok))))
+      (several_part word sub (row_then ps more)) (λ x. x.1.0 ∷ x.1.1) (record {
+        ok = λ x s h. by2 row_then h.1.0 h.1.1;
+        put = λ x s ps. refl;
+        size = λ x. omega arith;
+        onto = λ rest. refl;
+      })
+
+  groups-made : (gs : Groups) → FormedGroups gs → Makes Same (groups_part gs)
+  groups-made no_group f =
+      as-made Same (maker Same (nothing Same) (nothing-made Same)) (groups_part no_group) (λ x. [])
+      (record { ok = λ x s h. refl; put = λ x s ps. refl; size = λ x. omega arith; onto = λ rest. refl })
+  groups-made (group_then [] ss gs) f = absurd cc
+  groups-made (group_then (l ∷ ls) ss gs) f =
+      as-made Same (and Same (a_label l f.0.1.0) (and Same (maker Same (labels_part ls) (labels-made ls f.0.1.1))
+      (and Same (maker Same (stmts_part ss) (stmts-made ss f.1)) (maker Same (groups_part gs) (groups-made gs f.3)))))
+      (groups_part (group_then (l ∷ ls) ss gs)) (λ x. form.a_group (x.0 ∷ x.1.0) x.1.1.0 ∷ x.1.1.1) (record {
+        ok = λ x few h.
+            ap (λ (g : Group). group_then g.0 g.1 (pack_groups (map group_of x.1.1.1)))
+            (group-is (x.0 ∷ x.1.0) x.1.1.0 (omega (arith, few)))
+            ∙ by3 group_then (by2 (λ (y : Label) (ys : List Label). y ∷ ys) h.0 h.1.0) h.1.1.0 h.1.1.1;
+        put = λ x few ps.
+            group-at (x.0 ∷ x.1.0) x.1.1.0 (omega (arith, few)) (each_puts (map group_places x.1.1.1) ps);
         size = λ x. omega arith;
         onto = λ rest. refl;
       })

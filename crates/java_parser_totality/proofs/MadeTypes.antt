@@ -91,8 +91,10 @@ not-this text other plain differs = by (bytes_eq text other) refl where
 -- a primitive type is no word whose place is kept
 pub plain-unkept : (text : List ℕ) → is_plain_word text ≡ true → is_kept kind.Keyword text ≡ false
 plain-unkept text plain =
-    ap (λ b. b || bytes_eq text (codes "synchronized")) (not-this text (codes "new") plain refl)
-    ∙ not-this text (codes "synchronized") plain refl
+    ap (λ b. b || (bytes_eq text (codes "synchronized") || bytes_eq text (codes "throw")))
+    (not-this text (codes "new") plain refl)
+    ∙ ap (λ b. b || bytes_eq text (codes "throw")) (not-this text (codes "synchronized") plain refl)
+    ∙ not-this text (codes "throw") plain refl
 
 -- ---- `[ ]`
 

@@ -1,31 +1,46 @@
 -- The forms of statements: how each is seen, and which places it keeps.
 use Rattle.std.proofs.Common.{◌≡◌, ◌<◌, Bool, List, ◌∷◌, ◌++◌, Option, Some, None, map, length, ap, ◌∙◌, rules}
 use Rattle.std.specs.Prelude.{option_map}
-use Rattle.racer_base.specs.declared.ids.Place.{Place}
+use Rattle.std.specs.Global.{Vec}
 use Rattle.java_tree.specs.declared.words.Ident.{Ident}
 use Rattle.java_tree.specs.declared.types.TypeTree.{TypeTree}
 use Rattle.java_tree.specs.declared.expressions.Expression.{Expression}
 use Rattle.java_tree.specs.declared.statements.LocalsTree.{LocalsTree}
 use Rattle.java_tree.specs.declared.statements.StartTree.{StartTree}
+use Rattle.java_tree.specs.declared.statements.LabelTree.{LabelTree}
+use Rattle.java_tree.specs.declared.statements.ResourcesTree.{ResourcesTree}
+use Rattle.java_tree.specs.declared.statements.CatchParameterTree.{CatchParameterTree}
 use Rattle.java_tree.specs.declared.statements.Statement.{Statement, roll-Statement, map-Statement}
+use Rattle.java_tree.specs.declared.statements.TryTree.{TryTree, roll-TryTree}
+use Rattle.java_tree.specs.declared.statements.CatchTree.{CatchTree, roll-CatchTree}
+use Rattle.java_tree.specs.declared.statements.GroupTree.{GroupTree, roll-GroupTree}
 use Rattle.java_tree.specs.declared.statements.Statement.TheOpen as statement
 use Rattle.java_tree.specs.declared.statements.Statement.TheFolds.{the_lemmas}
 use Rattle.java_tree.specs.KeptPlaces.{Places, Puts, each_puts, maybe_puts, ty_places, expr_places, locals_places}
-use Rattle.java_tree.specs.KeptPlaces.{start_places, stmt_places}
+use Rattle.java_tree.specs.KeptPlaces.{start_places, stmt_places, try_places, catch_places, group_places, label_places}
+use Rattle.java_tree.specs.KeptPlaces.{resources_places, catch_parameter_places}
 use Rattle.java_tree.specs.KeptPlaces as places
-use Rattle.java_tree.specs.Trees.{Stmt, Block, Local, Run, If, IfElse, While, For, ForEach, Sync, Return, Empty}
+use Rattle.java_tree.specs.Trees.{Stmt, Block, Local, Run, If, IfElse, For, ForEach, Labelled, Empty, Pieces}
 use Rattle.java_tree.specs.Trees.{pack_exprs, pack_stmts}
-use Rattle.java_tree.specs.View.{ty_of, name_of, expr_of, locals_of, start_of, stmt_of}
+use Rattle.java_tree.specs.Rows.{Try}
+use Rattle.java_tree.specs.View.{ty_of, name_of, expr_of, locals_of, start_of, label_of, resources_of}
+use Rattle.java_tree.specs.View.{catch_parameter_of, Catch, Finally, pack_rows, Group, stmt_of, try_of, catch_of}
+use Rattle.java_tree.specs.View.{group_of}
 use Rattle.java_tree.specs.View as view
 use Rattle.java_parser_totality.specs.Totality.{most}
 use Rattle.java_parser_totality.proofs.Vectors.{boxed, vector, vector-items}
 
-places-of : (x : statement.Statement-F Statement) → stmt_places (roll-Statement x)
-    ≡ places.stmt_step (map-Statement Statement Puts stmt_places x)
+abbrev Layer : Type 0
+Layer = statement.Statement-F Statement CatchTree GroupTree TryTree
+
+pub places-of : (x : Layer) → stmt_places (roll-Statement x)
+    ≡ places.stmt_step (map-Statement Statement CatchTree GroupTree TryTree Puts Puts Puts Puts stmt_places catch_places
+    group_places try_places x)
 places-of x = search (rules, the_lemmas)
 
-view-of : (x : statement.Statement-F Statement) → stmt_of (roll-Statement x)
-    ≡ view.stmt_step (map-Statement Statement Stmt stmt_of x)
+pub view-of : (x : Layer) → stmt_of (roll-Statement x)
+    ≡ view.stmt_step (map-Statement Statement CatchTree GroupTree TryTree Stmt Pieces Group Stmt stmt_of catch_of
+    group_of try_of x)
 view-of x = search (rules, the_lemmas)
 
 abbrev pub a_block : (all : List Statement) → Statement
@@ -81,16 +96,6 @@ pub if_else-at : (e : Expression) (s t : Statement) (ps : Places)
     → stmt_places (a_if_else e s t) ps ≡ expr_places e (stmt_places s (stmt_places t ps))
 if_else-at e s t ps = ap (λ (g : Puts). g ps) (places-of (statement.If e (boxed s) (Some (boxed t))))
 
-abbrev pub a_while : (e : Expression) (s : Statement) → Statement
-a_while e s = roll-Statement (statement.While e (boxed s))
-
-pub while-is : (e : Expression) (s : Statement) → stmt_of (a_while e s) ≡ While (expr_of e) (stmt_of s)
-while-is e s = view-of (statement.While e (boxed s))
-
-pub while-at : (e : Expression) (s : Statement) (ps : Places)
-    → stmt_places (a_while e s) ps ≡ expr_places e (stmt_places s ps)
-while-at e s ps = ap (λ (g : Puts). g ps) (places-of (statement.While e (boxed s)))
-
 abbrev pub a_for : (i : StartTree) (c : Option Expression) (all : List Expression) (s : Statement) → Statement
 a_for i c all s = roll-Statement (statement.For i c (vector all) (boxed s))
 
@@ -120,30 +125,15 @@ pub for_each-at : (final : Bool) (t : TypeTree) (x : Ident) (e : Expression) (s 
     → stmt_places (a_for_each final t x e s) ps ≡ ty_places t ++ (x.place ∷ expr_places e (stmt_places s ps))
 for_each-at final t x e s ps = ap (λ (g : Puts). g ps) (places-of (statement.ForEach final t x e (boxed s)))
 
-abbrev pub a_sync : (p : Place) (e : Expression) (all : List Statement) → Statement
-a_sync p e all = roll-Statement (statement.Sync p e (vector all))
+abbrev pub a_labelled : (x : Ident) (s : Statement) → Statement
+a_labelled x s = roll-Statement (statement.Labelled x (boxed s))
 
-pub sync-is : (p : Place) (e : Expression) (all : List Statement) → length all < most
-    → stmt_of (a_sync p e all) ≡ Sync (expr_of e) (pack_stmts (map stmt_of all))
-sync-is p e all few =
-    view-of (statement.Sync p e (vector all))
-    ∙ ap (λ (l : List Statement). Sync (expr_of e) (pack_stmts (map stmt_of l))) (vector-items all few)
+pub labelled-is : (x : Ident) (s : Statement) → stmt_of (a_labelled x s) ≡ Labelled (name_of x) (stmt_of s)
+labelled-is x s = view-of (statement.Labelled x (boxed s))
 
-pub sync-at : (p : Place) (e : Expression) (all : List Statement) → length all < most → (ps : Places)
-    → stmt_places (a_sync p e all) ps ≡ p ∷ expr_places e (each_puts (map stmt_places all) ps)
-sync-at p e all few ps =
-    ap (λ (g : Puts). g ps) (places-of (statement.Sync p e (vector all)))
-    ∙ ap (λ (l : List Statement). p ∷ expr_places e (each_puts (map stmt_places l) ps)) (vector-items all few)
-
-abbrev pub a_return : (e : Option Expression) → Statement
-a_return e = roll-Statement (statement.Return e)
-
-pub return-is : (e : Option Expression) → stmt_of (a_return e) ≡ Return (option_map expr_of e)
-return-is e = view-of (statement.Return e)
-
-pub return-at : (e : Option Expression) (ps : Places) → stmt_places (a_return e) ps
-    ≡ maybe_puts (option_map expr_places e) ps
-return-at e ps = ap (λ (g : Puts). g ps) (places-of (statement.Return e))
+pub labelled-at : (x : Ident) (s : Statement) (ps : Places)
+    → stmt_places (a_labelled x s) ps ≡ x.place ∷ stmt_places s ps
+labelled-at x s ps = ap (λ (g : Puts). g ps) (places-of (statement.Labelled x (boxed s)))
 
 abbrev pub a_empty : Statement
 a_empty = roll-Statement (statement.Empty)
@@ -153,3 +143,71 @@ empty-is = view-of (statement.Empty)
 
 pub empty-at : (ps : Places) → stmt_places a_empty ps ≡ ps
 empty-at ps = ap (λ (g : Puts). g ps) (places-of (statement.Empty))
+
+-- ---- the parts of `switch` and `try`
+
+abbrev pub a_group : (labels : List LabelTree) (all : List Statement) → GroupTree
+a_group labels all = roll-GroupTree (record { labels = labels; body = vector all })
+
+pub group-is : (labels : List LabelTree) (all : List Statement) → length all < most
+    → group_of (a_group labels all) ≡ (map label_of labels, pack_stmts (map stmt_of all))
+group-is labels all few =
+    let seen : group_of (a_group labels all) ≡ (map label_of labels, pack_stmts (map stmt_of (vector all).items)) =
+    search (rules, the_lemmas) in
+    seen ∙ ap (λ (l : List Statement). (map label_of labels, pack_stmts (map stmt_of l))) (vector-items all few)
+
+pub group-at : (labels : List LabelTree) (all : List Statement) → length all < most → (ps : Places)
+    → group_places (a_group labels all) ps ≡ each_puts (map label_places labels) (each_puts (map stmt_places all) ps)
+group-at labels all few ps =
+    let at : group_places (a_group labels all)
+    ≡ (λ rest. each_puts (map label_places labels) (each_puts (map stmt_places (vector all).items) rest)) =
+    search (rules, the_lemmas) in
+    ap (λ (g : Puts). g ps) at
+    ∙ ap (λ (l : List Statement). each_puts (map label_places labels) (each_puts (map stmt_places l) ps))
+    (vector-items all few)
+
+abbrev pub a_clause : (p : CatchParameterTree) (all : List Statement) → CatchTree
+a_clause p all = roll-CatchTree (record { parameter = p; body = vector all })
+
+pub clause-is : (p : CatchParameterTree) (all : List Statement) → length all < most
+    → catch_of (a_clause p all) ≡ Catch (catch_parameter_of p) (pack_stmts (map stmt_of all))
+clause-is p all few =
+    let seen : catch_of (a_clause p all) ≡ Catch (catch_parameter_of p) (pack_stmts (map stmt_of (vector all).items)) =
+    search (rules, the_lemmas) in
+    seen ∙ ap (λ (l : List Statement). Catch (catch_parameter_of p) (pack_stmts (map stmt_of l)))
+    (vector-items all few)
+
+pub clause-at : (p : CatchParameterTree) (all : List Statement) → length all < most → (ps : Places)
+    → catch_places (a_clause p all) ps ≡ catch_parameter_places p (each_puts (map stmt_places all) ps)
+clause-at p all few ps =
+    let at : catch_places (a_clause p all)
+    ≡ (λ rest. catch_parameter_places p (each_puts (map stmt_places (vector all).items) rest)) =
+    search (rules, the_lemmas) in
+    ap (λ (g : Puts). g ps) at
+    ∙ ap (λ (l : List Statement). catch_parameter_places p (each_puts (map stmt_places l) ps)) (vector-items all few)
+
+-- a `try`, from the vectors in it
+pub try-view : (rs : Option ResourcesTree) (body : Vec Statement) (clauses : Vec CatchTree)
+    (last : Option (Vec Statement))
+    → stmt_of (roll-Statement (statement.Try (boxed (roll-TryTree (record {
+      resources = rs;
+      body = body;
+      clauses = clauses;
+      finally = last;
+    }))))) ≡ Try (option_map resources_of rs) (pack_stmts (map stmt_of body.items))
+    (pack_rows (map catch_of clauses.items)) (option_map (λ ss. Finally (pack_stmts (map stmt_of ss.items))) last)
+try-view rs body clauses None = search (rules, the_lemmas)
+try-view rs body clauses (Some ss) = search (rules, the_lemmas)
+
+pub try-places : (rs : Option ResourcesTree) (body : Vec Statement) (clauses : Vec CatchTree)
+    (last : Option (Vec Statement))
+    → stmt_places (roll-Statement (statement.Try (boxed (roll-TryTree (record {
+      resources = rs;
+      body = body;
+      clauses = clauses;
+      finally = last;
+    }))))) ≡ (λ rest. maybe_puts (option_map resources_places rs) (each_puts (map stmt_places body.items)
+    (each_puts (map catch_places clauses.items)
+    (maybe_puts (option_map (λ ss. each_puts (map stmt_places ss.items)) last) rest))))
+try-places rs body clauses None = search (rules, the_lemmas)
+try-places rs body clauses (Some ss) = search (rules, the_lemmas)

@@ -2,7 +2,7 @@
 -- Java. Each condition on a level, and each one that is no level, stands with its form; so two formed trees never
 -- have one spelling.
 use Rattle.std.specs.Prelude.{◌≡◌, ℕ, zero, suc, ◌≤◌, Bool, true, false, not, ◌&&◌, List, [], ◌∷◌, Option, Some}
-use Rattle.std.specs.Prelude.{None, IsTrue, codes}
+use Rattle.std.specs.Prelude.{None, IsTrue, codes, if◌then◌else◌, bytes_eq, ◌||◌}
 use Rattle.racer_base.specs.Name.{is_listed}
 use Rattle.java_lexer.specs.declared.token.TokenKind.{TokenKind}
 use Rattle.java_lexer.specs.declared.token.TokenKind.TheVariants as kind
@@ -16,9 +16,17 @@ use Rattle.java_tree.specs.Trees.{Extends, Super, Expr, Assign, Conditional, Bin
 use Rattle.java_tree.specs.Trees.{Postfix, Literal, This, Name, Paren, Field, Index, Call, CallOn, ClassOf, New}
 use Rattle.java_tree.specs.Trees.{NewArray, NewItems, Exprs, no_expr, expr_then, Array, Braces, Inits, no_init}
 use Rattle.java_tree.specs.Trees.{init_then, Init, Value, Items, Variable, Locals, Start, Declares, Runs, Stmt}
-use Rattle.java_tree.specs.Trees.{Block, Local, Run, If, IfElse, While, For, ForEach, Sync, Return, Empty, Stmts}
+use Rattle.java_tree.specs.Trees.{Block, Local, Run, If, IfElse, For, ForEach, Labelled, Empty, Stmts}
 use Rattle.java_tree.specs.Trees.{no_stmt, stmt_then, Annotation, Modifier, Word, Annotated, Result, NoResult}
-use Rattle.java_tree.specs.Trees.{VoidResult, TypeResult, Parameter, Method}
+use Rattle.java_tree.specs.Trees.{VoidResult, TypeResult, Parameter, Method, Row, Pieces, no_piece, a_token, an_expr}
+use Rattle.java_tree.specs.Trees.{maybe_an_expr, maybe_a_name, maybe_behind, a_condition, a_body, a_block}
+use Rattle.java_tree.specs.Trees.{maybe_resources, a_catch_parameter, a_list, present, absent, some_part, a_switch}
+use Rattle.java_tree.specs.Trees.{Several, no_row, row_then, Groups, no_group, group_then, Label, Case, Default}
+use Rattle.java_tree.specs.Trees.{Resource, Resources, CatchParameter}
+use Rattle.java_tree.specs.Words.{keyword, sign}
+use Rattle.java_tree.specs.Rows.{AKeyword, ASign, AnExpr, Until, MaybeName, MaybeBehind, ACondition, ABody, ABlock}
+use Rattle.java_tree.specs.Rows.{ASwitch, MaybeResources, ACatchParameter, Again, Perhaps, SomePart, Slots, no_slot, ◌▹◌}
+use Rattle.java_tree.specs.Rows.{is_row, row_of}
 
 -- ---- lists
 
@@ -259,19 +267,106 @@ abbrev pub FormedStart : Start → Type 0
 FormedStart (Declares l) = FormedLocals l
 FormedStart (Runs all) = FormedRuns all
 
--- a declaration is no body of an `if` or a loop (JLS 14.5)
+-- a declaration is no body of an `if`, a loop or a label (JLS 14.5)
 abbrev pub is_body : Stmt → Bool
 is_body (Local l) = false
 is_body _ = true
 
--- whether an `else` behind the statement would belong to an `if` at its end (JLS 14.5)
+abbrev pub is_last : Pieces → Bool
+is_last no_piece = true
+is_last _ = false
+
+-- no token stands for these pieces
+abbrev pub are_left_out : Pieces → Bool
+are_left_out no_piece = true
+are_left_out (a_list word no_row ps) = are_left_out ps
+are_left_out (absent word ps) = are_left_out ps
+are_left_out _ = false
+
+-- one of these that may be left out stands
+abbrev pub some_stands : Pieces → Bool
+some_stands no_piece = false
+some_stands (maybe_resources (Some rs) ps) = true
+some_stands (maybe_resources None ps) = some_stands ps
+some_stands (a_list word (row_then sub more) ps) = true
+some_stands (a_list word no_row ps) = some_stands ps
+some_stands (present word sub ps) = true
+some_stands (absent word ps) = some_stands ps
+some_stands (a_token t ps) = some_stands ps
+some_stands (an_expr e ps) = some_stands ps
+some_stands (maybe_an_expr e ps) = some_stands ps
+some_stands (maybe_a_name x ps) = some_stands ps
+some_stands (maybe_behind text e ps) = some_stands ps
+some_stands (a_condition e ps) = some_stands ps
+some_stands (a_body s ps) = some_stands ps
+some_stands (a_block ss ps) = some_stands ps
+some_stands (a_catch_parameter c ps) = some_stands ps
+some_stands (some_part ps) = some_stands ps
+some_stands (a_switch gs ps) = some_stands ps
+
+-- the keywords that go on with a statement
+abbrev pub is_joining : List ℕ → Bool
+is_joining word = bytes_eq word (codes "else") || (bytes_eq word (codes "catch") || bytes_eq word (codes "finally"))
+
+abbrev mutual
+  -- whether this keyword behind the statement would belong to it (JLS 14.5, 14.20)
+  pub goes_on : (word : List ℕ) → Stmt → Bool
+  goes_on word (If e s) = bytes_eq word (codes "else") || goes_on word s
+  goes_on word (IfElse e s t) = goes_on word t
+  goes_on word (For start condition updates s) = goes_on word s
+  goes_on word (ForEach is_final t x e s) = goes_on word s
+  goes_on word (Labelled x s) = goes_on word s
+  goes_on word (Row w ps) = go_on word ps
+  goes_on word _ = false
+
+  -- the same of what stands behind the keyword of a row
+  pub go_on : (word : List ℕ) → Pieces → Bool
+  go_on word no_piece = false
+  go_on word (a_token t ps) = go_on word ps
+  go_on word (an_expr e ps) = go_on word ps
+  go_on word (maybe_an_expr e ps) = go_on word ps
+  go_on word (maybe_a_name x ps) = go_on word ps
+  go_on word (maybe_behind text e ps) = go_on word ps
+  go_on word (a_condition e ps) = go_on word ps
+  go_on word (a_body s ps) = if is_last ps then goes_on word s else go_on word ps
+  go_on word (a_block ss ps) = go_on word ps
+  go_on word (maybe_resources rs ps) = go_on word ps
+  go_on word (a_catch_parameter c ps) = go_on word ps
+  go_on word (a_list w more ps) = (are_left_out ps && bytes_eq word w) || go_on word ps
+  go_on word (present w sub ps) = go_on word ps
+  go_on word (absent w ps) = (are_left_out ps && bytes_eq word w) || go_on word ps
+  go_on word (some_part ps) = go_on word ps
+  go_on word (a_switch gs ps) = go_on word ps
+
 abbrev pub ends_in_if : Stmt → Bool
-ends_in_if (If e s) = true
-ends_in_if (IfElse e s t) = ends_in_if t
-ends_in_if (While e s) = ends_in_if s
-ends_in_if (For start condition updates s) = ends_in_if s
-ends_in_if (ForEach is_final t x e s) = ends_in_if s
-ends_in_if _ = false
+ends_in_if s = goes_on (codes "else") s
+
+-- an exception is no primitive type (JLS 8.4.6, 14.20)
+abbrev pub FormedThrown : Ty → Type 0
+FormedThrown t = FormedTy t × IsTrue (is_named t)
+
+abbrev pub FormedResource : Resource → Type 0
+FormedResource r = FormedTy r.kind × FormedExpr r.value
+
+abbrev pub FormedMaybeResources : Option Resources → Type 0
+FormedMaybeResources None = Unit {0}
+FormedMaybeResources (Some rs) = IsTrue (has_some rs.items) × Each FormedResource rs.items
+
+abbrev pub FormedCatchParameter : CatchParameter → Type 0
+FormedCatchParameter c = IsTrue (has_some c.types) × Each FormedThrown c.types
+
+-- no assignment stands behind `case` (JLS 14.11)
+abbrev pub FormedLabel : Label → Type 0
+FormedLabel (Case e) = FormedExpr e × (conditional_level ≤ level e)
+FormedLabel Default = Unit {0}
+
+abbrev pub has_stmt : Stmts → Bool
+has_stmt no_stmt = false
+has_stmt (stmt_then s ss) = true
+
+abbrev pub has_group : Groups → Bool
+has_group no_group = false
+has_group (group_then labels ss gs) = true
 
 abbrev mutual
   pub FormedStmt : Stmt → Type 0
@@ -282,17 +377,48 @@ abbrev mutual
   FormedStmt (IfElse e s t) =
       FormedExpr e × FormedStmt s × FormedStmt t × IsTrue (is_body s) × IsTrue (is_body t)
       × IsTrue (not (ends_in_if s))
-  FormedStmt (While e s) = FormedExpr e × FormedStmt s × IsTrue (is_body s)
   FormedStmt (For start condition updates s) =
       FormedStart start × FormedMaybeExpr condition × FormedRuns updates × FormedStmt s × IsTrue (is_body s)
   FormedStmt (ForEach is_final t x e s) = FormedTy t × FormedExpr e × FormedStmt s × IsTrue (is_body s)
-  FormedStmt (Sync e ss) = FormedExpr e × FormedStmts ss
-  FormedStmt (Return e) = FormedMaybeExpr e
+  FormedStmt (Labelled x s) = FormedStmt s × IsTrue (is_body s)
   FormedStmt Empty = Unit {0}
+  FormedStmt (Row word ps) = IsTrue (is_row word) × Fits ps (row_of word)
 
   pub FormedStmts : Stmts → Type 0
   FormedStmts no_stmt = Unit {0}
   FormedStmts (stmt_then s ss) = FormedStmt s × FormedStmts ss
+
+  -- the pieces are those of the row, each formed
+  pub Fits : Pieces → Slots → Type 0
+  Fits no_piece no_slot = Unit {0}
+  Fits (a_token t ps) (AKeyword text ▹ row) = (t ≡ keyword text) × Fits ps row
+  Fits (a_token t ps) (ASign text ▹ row) = (t ≡ sign text) × Fits ps row
+  Fits (an_expr e ps) (AnExpr ▹ row) = FormedExpr e × Fits ps row
+  Fits (maybe_an_expr e ps) (Until end ▹ row) = FormedMaybeExpr e × Fits ps row
+  Fits (maybe_a_name x ps) (MaybeName ▹ row) = Fits ps row
+  Fits (maybe_behind t e ps) (MaybeBehind text ▹ row) = ((t ≡ text) × FormedMaybeExpr e) × Fits ps row
+  Fits (a_condition e ps) (ACondition ▹ row) = FormedExpr e × Fits ps row
+  Fits (a_body s ps) (ABody ▹ row) = (FormedStmt s × IsTrue (is_body s)) × Fits ps row
+  Fits (a_block ss ps) (ABlock ▹ row) = FormedStmts ss × Fits ps row
+  Fits (maybe_resources rs ps) (MaybeResources ▹ row) = FormedMaybeResources rs × Fits ps row
+  Fits (a_catch_parameter c ps) (ACatchParameter ▹ row) = FormedCatchParameter c × Fits ps row
+  Fits (a_list w more ps) (Again word sub ▹ row) = ((w ≡ word) × EachFits more sub) × Fits ps row
+  Fits (present w one ps) (Perhaps word sub ▹ row) = ((w ≡ word) × Fits one sub) × Fits ps row
+  Fits (absent w ps) (Perhaps word sub ▹ row) = (w ≡ word) × Fits ps row
+  Fits (some_part ps) (SomePart ▹ row) = IsTrue (some_stands ps) × Fits ps row
+  Fits (a_switch gs ps) (ASwitch ▹ row) = FormedGroups gs × Fits ps row
+  Fits _ _ = ⊥
+
+  -- only the last group has no statement (JLS 14.11)
+  pub FormedGroups : Groups → Type 0
+  FormedGroups no_group = Unit {0}
+  FormedGroups (group_then labels ss gs) =
+      (IsTrue (has_some labels) × Each FormedLabel labels) × FormedStmts ss
+      × (IsTrue (has_group gs) → IsTrue (has_stmt ss)) × FormedGroups gs
+
+  pub EachFits : Several → Slots → Type 0
+  EachFits no_row sub = Unit {0}
+  EachFits (row_then ps more) sub = Fits ps sub × EachFits more sub
 
 -- ---- methods (JLS 8.4, 8.8)
 
@@ -319,10 +445,6 @@ FormedResult (TypeResult t) = FormedTy t
 
 abbrev pub FormedParameter : Parameter → Type 0
 FormedParameter p = Each FormedAnnotation p.annotations × FormedTy p.kind
-
--- an exception is no primitive type (JLS 8.4.6)
-abbrev pub FormedThrown : Ty → Type 0
-FormedThrown t = FormedTy t × IsTrue (is_named t)
 
 abbrev pub FormedMethod : Method → Type 0
 FormedMethod m =

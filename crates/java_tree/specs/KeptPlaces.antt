@@ -1,5 +1,5 @@
 -- A contract of a public call rests on this: the places that a tree keeps, in the order of its tokens: those of names,
--- of `new`, and of `synchronized` before a statement; and the places of a list of tokens of which a tree keeps one.
+-- of `new`, and of `synchronized` and `throw` before a statement; and the places of a list of tokens of which a tree keeps one.
 use Rattle.std.specs.Prelude.{ℕ, Bool, true, false, ◌||◌, List, [], ◌∷◌, ◌++◌, Option, Some, None, map, option_map}
 use Rattle.std.specs.Prelude.{codes, bytes_eq, if◌then◌else◌}
 use Rattle.racer_base.specs.declared.ids.Place.{Place}
@@ -28,17 +28,27 @@ use Rattle.java_tree.specs.declared.statements.VariableTree.{VariableTree}
 use Rattle.java_tree.specs.declared.statements.LocalsTree.{LocalsTree}
 use Rattle.java_tree.specs.declared.statements.StartTree.{StartTree}
 use Rattle.java_tree.specs.declared.statements.StartTree.TheVariants as start
+use Rattle.java_tree.specs.declared.statements.ResourceTree.{ResourceTree}
+use Rattle.java_tree.specs.declared.statements.ResourcesTree.{ResourcesTree}
+use Rattle.java_tree.specs.declared.statements.CatchParameterTree.{CatchParameterTree}
+use Rattle.java_tree.specs.declared.statements.LabelTree.{LabelTree}
+use Rattle.java_tree.specs.declared.statements.LabelTree.TheVariants as label
 use Rattle.java_tree.specs.declared.statements.Statement.{Statement}
-use Rattle.java_tree.specs.declared.statements.Statement.TheOpen.{Statement-F}
+use Rattle.java_tree.specs.declared.statements.TryTree.{TryTree}
+use Rattle.java_tree.specs.declared.statements.CatchTree.{CatchTree}
+use Rattle.java_tree.specs.declared.statements.GroupTree.{GroupTree}
+use Rattle.java_tree.specs.declared.statements.Statement.TheOpen.{Statement-F, TryTree-F, CatchTree-F, GroupTree-F}
 use Rattle.java_tree.specs.declared.statements.Statement.TheOpen as statement
-use Rattle.java_tree.specs.declared.statements.Statement.TheFolds.{fold-Statement}
+use Rattle.java_tree.specs.declared.statements.Statement.TheFolds.{fold-Statement, fold-TryTree, fold-CatchTree}
+use Rattle.java_tree.specs.declared.statements.Statement.TheFolds.{fold-GroupTree}
 
 -- ---- tokens
 
 -- whether a tree keeps the place of a token of this kind and text
 abbrev pub is_kept : TokenKind → List ℕ → Bool
 is_kept kind.Name text = true
-is_kept kind.Keyword text = bytes_eq text (codes "new") || bytes_eq text (codes "synchronized")
+is_kept kind.Keyword text =
+    bytes_eq text (codes "new") || (bytes_eq text (codes "synchronized") || bytes_eq text (codes "throw"))
 is_kept _ text = false
 
 abbrev pub Places : Type 0
@@ -164,7 +174,20 @@ abbrev pub start_places : StartTree → Puts
 start_places (start.Local l) rest = locals_places l rest
 start_places (start.Expressions all) rest = each_puts (map expr_places all) rest
 
-abbrev pub stmt_step : Statement-F Puts → Puts
+abbrev pub resource_places : ResourceTree → Puts
+resource_places r rest = ty_places r.kind ++ (r.name.place ∷ expr_places r.value rest)
+
+abbrev pub resources_places : ResourcesTree → Puts
+resources_places rs rest = each_puts (map resource_places rs.items) rest
+
+abbrev pub catch_parameter_places : CatchParameterTree → Puts
+catch_parameter_places p rest = all_places (map ty_places p.types) ++ (p.name.place ∷ rest)
+
+abbrev pub label_places : LabelTree → Puts
+label_places (label.Case e) rest = expr_places e rest
+label_places label.Default rest = rest
+
+abbrev pub stmt_step : Statement-F Puts Puts Puts Puts → Puts
 stmt_step (statement.Block ss) rest = each_puts ss.items rest
 stmt_step (statement.Local l) rest = locals_places l rest
 stmt_step (statement.Expr e) rest = expr_places e rest
@@ -177,6 +200,34 @@ stmt_step (statement.ForEach is_final t x e s) rest = ty_places t ++ (x.place �
 stmt_step (statement.Sync place e ss) rest = place ∷ expr_places e (each_puts ss.items rest)
 stmt_step (statement.Return e) rest = maybe_puts (option_map expr_places e) rest
 stmt_step statement.Empty rest = rest
+stmt_step (statement.Do s e) rest = s.value (expr_places e rest)
+stmt_step (statement.Throw place e) rest = place ∷ expr_places e rest
+stmt_step (statement.Break x) rest = maybe_puts (option_map name_places x) rest
+stmt_step (statement.Continue x) rest = maybe_puts (option_map name_places x) rest
+stmt_step (statement.Labelled x s) rest = x.place ∷ s.value rest
+stmt_step (statement.Assert e f) rest = expr_places e (maybe_puts (option_map expr_places f) rest)
+stmt_step (statement.Switch e gs) rest = expr_places e (each_puts gs.items rest)
+stmt_step (statement.Try t) rest = t.value rest
+
+abbrev pub try_step : TryTree-F Puts Puts Puts Puts → Puts
+try_step t rest =
+    maybe_puts (option_map resources_places t.resources) (each_puts t.body.items (each_puts t.clauses.items
+    (maybe_puts (option_map (λ ss. each_puts ss.items) t.finally) rest)))
+
+abbrev pub catch_step : CatchTree-F Puts Puts Puts Puts → Puts
+catch_step c rest = catch_parameter_places c.parameter (each_puts c.body.items rest)
+
+abbrev pub group_step : GroupTree-F Puts Puts Puts Puts → Puts
+group_step g rest = each_puts (map label_places g.labels) (each_puts g.body.items rest)
 
 abbrev pub stmt_places : Statement → Puts
-stmt_places = fold-Statement Puts stmt_step
+stmt_places = fold-Statement Puts Puts Puts Puts stmt_step catch_step group_step try_step
+
+abbrev pub try_places : TryTree → Puts
+try_places = fold-TryTree Puts Puts Puts Puts stmt_step catch_step group_step try_step
+
+abbrev pub catch_places : CatchTree → Puts
+catch_places = fold-CatchTree Puts Puts Puts Puts stmt_step catch_step group_step try_step
+
+abbrev pub group_places : GroupTree → Puts
+group_places = fold-GroupTree Puts Puts Puts Puts stmt_step catch_step group_step try_step

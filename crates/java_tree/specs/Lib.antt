@@ -1,6 +1,7 @@
 pub mod Words
 pub mod Operators
 pub mod Trees
+pub mod Rows
 pub mod Spelling
 pub mod Nesting
 pub mod Brackets
@@ -9,6 +10,7 @@ pub mod View
 pub mod KeptPlaces
 pub mod MethodPlaces
 pub mod Examples
+pub mod StatementExamples
 pub mod PlacedExamples
 pub mod Sameness
 pub mod SameParts

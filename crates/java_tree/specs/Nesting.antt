@@ -7,8 +7,12 @@ use Rattle.java_tree.specs.Trees.{Extends, Super, Expr, Assign, Conditional, Bin
 use Rattle.java_tree.specs.Trees.{Postfix, Literal, This, Name, Paren, Field, Index, Call, CallOn, ClassOf, New}
 use Rattle.java_tree.specs.Trees.{NewArray, NewItems, Exprs, no_expr, expr_then, Array, Braces, Inits, no_init}
 use Rattle.java_tree.specs.Trees.{init_then, Init, Value, Items, Variable, Locals, Start, Declares, Runs, Stmt}
-use Rattle.java_tree.specs.Trees.{Block, Local, Run, If, IfElse, While, For, ForEach, Sync, Return, Empty, Stmts}
+use Rattle.java_tree.specs.Trees.{Block, Local, Run, If, IfElse, For, ForEach, Labelled, Empty, Stmts}
 use Rattle.java_tree.specs.Trees.{no_stmt, stmt_then, Result, NoResult, VoidResult, TypeResult, Parameter, Method}
+use Rattle.java_tree.specs.Trees.{Row, Pieces, no_piece, a_token, an_expr, maybe_an_expr, a_condition, a_body, a_block}
+use Rattle.java_tree.specs.Trees.{maybe_a_name, maybe_behind, maybe_resources, a_catch_parameter, a_list, present, absent}
+use Rattle.java_tree.specs.Trees.{some_part, a_switch, Several, no_row, row_then, Groups, no_group, group_then}
+use Rattle.java_tree.specs.Trees.{Label, Case, Default, Resource, Resources, CatchParameter}
 
 -- the largest over a list, 0 of none
 abbrev pub most_over : {A : Type 0} → (A → ℕ) → List A → ℕ
@@ -101,6 +105,20 @@ abbrev pub start_nesting : Start → ℕ
 start_nesting (Declares l) = locals_nesting l
 start_nesting (Runs all) = exprs_nesting all
 
+abbrev pub resource_nesting : Resource → ℕ
+resource_nesting r = max (ty_nesting r.kind) (expr_nesting r.value)
+
+abbrev pub maybe_resources_nesting : Option Resources → ℕ
+maybe_resources_nesting None = 0
+maybe_resources_nesting (Some rs) = most_over resource_nesting rs.items
+
+abbrev pub catch_parameter_nesting : CatchParameter → ℕ
+catch_parameter_nesting c = most_over ty_nesting c.types
+
+abbrev pub label_nesting : Label → ℕ
+label_nesting (Case e) = expr_nesting e
+label_nesting Default = 0
+
 abbrev mutual
   pub stmt_nesting : Stmt → ℕ
   stmt_nesting (Block ss) = suc (stmts_nesting ss)
@@ -108,19 +126,45 @@ abbrev mutual
   stmt_nesting (Run e) = suc (expr_nesting e)
   stmt_nesting (If e s) = suc (max (expr_nesting e) (stmt_nesting s))
   stmt_nesting (IfElse e s t) = suc (max (expr_nesting e) (max (stmt_nesting s) (stmt_nesting t)))
-  stmt_nesting (While e s) = suc (max (expr_nesting e) (stmt_nesting s))
   stmt_nesting (For start condition updates s) =
       suc (max (start_nesting start) (max (maybe_expr_nesting condition) (max (exprs_nesting updates)
       (stmt_nesting s))))
   stmt_nesting (ForEach is_final t x e s) = suc (max (ty_nesting t) (max (expr_nesting e) (stmt_nesting s)))
-  -- the block of a `synchronized` is a statement of its own
-  stmt_nesting (Sync e ss) = suc (max (expr_nesting e) (suc (stmts_nesting ss)))
-  stmt_nesting (Return e) = suc (maybe_expr_nesting e)
+  stmt_nesting (Labelled x s) = suc (stmt_nesting s)
   stmt_nesting Empty = 1
+  stmt_nesting (Row word ps) = suc (pieces_nesting ps)
 
   pub stmts_nesting : Stmts → ℕ
   stmts_nesting no_stmt = 0
   stmts_nesting (stmt_then s ss) = max (stmt_nesting s) (stmts_nesting ss)
+
+  -- a block is a statement of its own; resources, clauses and groups are none
+  pub pieces_nesting : Pieces → ℕ
+  pieces_nesting no_piece = 0
+  pieces_nesting (a_token t ps) = pieces_nesting ps
+  pieces_nesting (an_expr e ps) = max (expr_nesting e) (pieces_nesting ps)
+  pieces_nesting (maybe_an_expr e ps) = max (maybe_expr_nesting e) (pieces_nesting ps)
+  pieces_nesting (a_condition e ps) = max (expr_nesting e) (pieces_nesting ps)
+  pieces_nesting (a_body s ps) = max (stmt_nesting s) (pieces_nesting ps)
+  pieces_nesting (a_block ss ps) = max (suc (stmts_nesting ss)) (pieces_nesting ps)
+  pieces_nesting (maybe_a_name x ps) = pieces_nesting ps
+  pieces_nesting (maybe_behind text e ps) = max (maybe_expr_nesting e) (pieces_nesting ps)
+  pieces_nesting (maybe_resources rs ps) = max (maybe_resources_nesting rs) (pieces_nesting ps)
+  pieces_nesting (a_catch_parameter c ps) = max (catch_parameter_nesting c) (pieces_nesting ps)
+  pieces_nesting (a_list word more ps) = max (several_nesting more) (pieces_nesting ps)
+  pieces_nesting (present word sub ps) = max (pieces_nesting sub) (pieces_nesting ps)
+  pieces_nesting (absent word ps) = pieces_nesting ps
+  pieces_nesting (some_part ps) = pieces_nesting ps
+  pieces_nesting (a_switch gs ps) = max (groups_nesting gs) (pieces_nesting ps)
+
+  pub groups_nesting : Groups → ℕ
+  groups_nesting no_group = 0
+  groups_nesting (group_then labels ss gs) =
+      max (most_over label_nesting labels) (max (stmts_nesting ss) (groups_nesting gs))
+
+  pub several_nesting : Several → ℕ
+  several_nesting no_row = 0
+  several_nesting (row_then ps more) = max (pieces_nesting ps) (several_nesting more)
 
 -- a block is a statement, also as the body of a method
 abbrev pub block_nesting : Stmts → ℕ

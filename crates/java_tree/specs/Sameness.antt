@@ -9,9 +9,13 @@ use Rattle.java_tree.specs.Trees.{Extends, Super, Expr, Assign, Conditional, Bin
 use Rattle.java_tree.specs.Trees.{Postfix, Literal, This, Name, Paren, Field, Index, Call, CallOn, ClassOf, New}
 use Rattle.java_tree.specs.Trees.{NewArray, NewItems, Exprs, no_expr, expr_then, Array, Braces, Inits, no_init}
 use Rattle.java_tree.specs.Trees.{init_then, Init, Value, Items, Variable, Locals, Start, Declares, Runs, Stmt}
-use Rattle.java_tree.specs.Trees.{Block, Local, Run, If, IfElse, While, For, ForEach, Sync, Return, Empty, Stmts}
+use Rattle.java_tree.specs.Trees.{Block, Local, Run, If, IfElse, For, ForEach, Labelled, Empty, Stmts}
 use Rattle.java_tree.specs.Trees.{no_stmt, stmt_then, Annotation, Modifier, Word, Annotated, Result, NoResult}
-use Rattle.java_tree.specs.Trees.{VoidResult, TypeResult, Parameter, Method}
+use Rattle.java_tree.specs.Trees.{VoidResult, TypeResult, Parameter, Method, Row, Pieces, no_piece, a_token, an_expr}
+use Rattle.java_tree.specs.Trees.{maybe_an_expr, maybe_a_name, maybe_behind, a_condition, a_body, a_block}
+use Rattle.java_tree.specs.Trees.{maybe_resources, a_catch_parameter, a_list, present, absent, some_part, a_switch}
+use Rattle.java_tree.specs.Trees.{Several, no_row, row_then, Groups, no_group, group_then, Label, Case, Default}
+use Rattle.java_tree.specs.Trees.{Resource, Resources, CatchParameter}
 
 abbrev pub same_bool : Bool → Bool → Bool
 same_bool true true = true
@@ -134,6 +138,22 @@ same_start (Declares a) (Declares b) = same_locals a b
 same_start (Runs a) (Runs b) = same_exprs a b
 same_start _ _ = false
 
+abbrev pub same_resource : Resource → Resource → Bool
+same_resource a b =
+    same_bool a.is_final b.is_final && (same_ty a.kind b.kind && (bytes_eq a.name b.name && same_expr a.value b.value))
+
+abbrev pub same_resources : Resources → Resources → Bool
+same_resources a b = same_list same_resource a.items b.items && same_bool a.last b.last
+
+abbrev pub same_catch_parameter : CatchParameter → CatchParameter → Bool
+same_catch_parameter a b =
+    same_bool a.is_final b.is_final && (same_list same_ty a.types b.types && bytes_eq a.name b.name)
+
+abbrev pub same_label : Label → Label → Bool
+same_label (Case a) (Case b) = same_expr a b
+same_label Default Default = true
+same_label _ _ = false
+
 abbrev mutual
   pub same_stmt : Stmt → Stmt → Bool
   same_stmt (Block a) (Block b) = same_stmts a b
@@ -141,20 +161,51 @@ abbrev mutual
   same_stmt (Run a) (Run b) = same_expr a b
   same_stmt (If a s) (If b t) = same_expr a b && same_stmt s t
   same_stmt (IfElse a s u) (IfElse b t v) = same_expr a b && (same_stmt s t && same_stmt u v)
-  same_stmt (While a s) (While b t) = same_expr a b && same_stmt s t
   same_stmt (For i a u s) (For j b v t) =
       same_start i j && (same_option same_expr a b && (same_exprs u v && same_stmt s t))
   same_stmt (ForEach f k x a s) (ForEach g l y b t) =
       same_bool f g && (same_ty k l && (bytes_eq x y && (same_expr a b && same_stmt s t)))
-  same_stmt (Sync a s) (Sync b t) = same_expr a b && same_stmts s t
-  same_stmt (Return a) (Return b) = same_option same_expr a b
+  same_stmt (Labelled x s) (Labelled y t) = bytes_eq x y && same_stmt s t
   same_stmt Empty Empty = true
+  same_stmt (Row v ps) (Row w qs) = bytes_eq v w && same_pieces ps qs
   same_stmt _ _ = false
 
   pub same_stmts : Stmts → Stmts → Bool
   same_stmts no_stmt no_stmt = true
   same_stmts (stmt_then a cs) (stmt_then b bs) = same_stmt a b && same_stmts cs bs
   same_stmts _ _ = false
+
+  -- the parts from the last one on
+  pub same_pieces : Pieces → Pieces → Bool
+  same_pieces no_piece no_piece = true
+  same_pieces (a_token t ps) (a_token u qs) = same_word t u && same_pieces ps qs
+  same_pieces (an_expr a ps) (an_expr b qs) = same_pieces ps qs && same_expr a b
+  same_pieces (maybe_an_expr a ps) (maybe_an_expr b qs) = same_pieces ps qs && same_option same_expr a b
+  same_pieces (a_condition a ps) (a_condition b qs) = same_pieces ps qs && same_expr a b
+  same_pieces (a_body s ps) (a_body t qs) = same_pieces ps qs && same_stmt s t
+  same_pieces (a_block a ps) (a_block b qs) = same_pieces ps qs && same_stmts a b
+  same_pieces (maybe_a_name a ps) (maybe_a_name b qs) = same_pieces ps qs && same_option bytes_eq a b
+  same_pieces (maybe_behind t a ps) (maybe_behind u b qs) =
+      same_pieces ps qs && (bytes_eq t u && same_option same_expr a b)
+  same_pieces (maybe_resources a ps) (maybe_resources b qs) = same_pieces ps qs && same_option same_resources a b
+  same_pieces (a_catch_parameter a ps) (a_catch_parameter b qs) = same_pieces ps qs && same_catch_parameter a b
+  same_pieces (a_list v a ps) (a_list w b qs) = same_pieces ps qs && (bytes_eq v w && same_several a b)
+  same_pieces (present v a ps) (present w b qs) = same_pieces ps qs && (bytes_eq v w && same_pieces a b)
+  same_pieces (absent v ps) (absent w qs) = same_pieces ps qs && bytes_eq v w
+  same_pieces (some_part ps) (some_part qs) = same_pieces ps qs
+  same_pieces (a_switch a ps) (a_switch b qs) = same_pieces ps qs && same_groups a b
+  same_pieces _ _ = false
+
+  pub same_groups : Groups → Groups → Bool
+  same_groups no_group no_group = true
+  same_groups (group_then a s cs) (group_then b t ds) =
+      same_list same_label a b && (same_stmts s t && same_groups cs ds)
+  same_groups _ _ = false
+
+  pub same_several : Several → Several → Bool
+  same_several no_row no_row = true
+  same_several (row_then ps a) (row_then qs b) = same_pieces ps qs && same_several a b
+  same_several _ _ = false
 
 -- ---- methods
 

@@ -9,9 +9,13 @@ use Rattle.java_tree.specs.Trees.{Extends, Super, Expr, Assign, Conditional, Bin
 use Rattle.java_tree.specs.Trees.{Postfix, Literal, This, Name, Paren, Field, Index, Call, CallOn, ClassOf, New}
 use Rattle.java_tree.specs.Trees.{NewArray, NewItems, Exprs, no_expr, expr_then, Array, Braces, Inits, no_init}
 use Rattle.java_tree.specs.Trees.{init_then, Init, Value, Items, Variable, Locals, Start, Declares, Runs, Stmt}
-use Rattle.java_tree.specs.Trees.{Block, Local, Run, If, IfElse, While, For, ForEach, Sync, Return, Empty, Stmts}
+use Rattle.java_tree.specs.Trees.{Block, Local, Run, If, IfElse, For, ForEach, Labelled, Empty, Stmts}
 use Rattle.java_tree.specs.Trees.{no_stmt, stmt_then, Annotation, Modifier, Word, Annotated, Result, NoResult}
-use Rattle.java_tree.specs.Trees.{VoidResult, TypeResult, Parameter, Method}
+use Rattle.java_tree.specs.Trees.{VoidResult, TypeResult, Parameter, Method, Row, Pieces, no_piece, a_token, an_expr}
+use Rattle.java_tree.specs.Trees.{maybe_an_expr, maybe_a_name, maybe_behind, a_condition, a_body, a_block}
+use Rattle.java_tree.specs.Trees.{maybe_resources, a_catch_parameter, a_list, present, absent, some_part, a_switch}
+use Rattle.java_tree.specs.Trees.{Several, no_row, row_then, Groups, no_group, group_then, Label, Case, Default}
+use Rattle.java_tree.specs.Trees.{Resource, Resources, CatchParameter}
 
 -- ---- lists
 
@@ -185,6 +189,63 @@ abbrev pub start_onto : Start → List Spelled → List Spelled
 start_onto (Declares l) rest = locals_onto l rest
 start_onto (Runs all) rest = exprs_onto all rest
 
+abbrev pub resource_onto : Resource → List Spelled → List Spelled
+resource_onto r rest =
+    final_onto r.is_final (ty_onto r.kind (identifier r.name ∷ sign (codes "=") ∷ expr_onto r.value rest))
+
+-- each behind a `;`
+abbrev pub more_resources_onto : List Resource → List Spelled → List Spelled
+more_resources_onto [] rest = rest
+more_resources_onto (r ∷ rs) rest = sign (codes ";") ∷ resource_onto r (more_resources_onto rs rest)
+
+-- with `;` between them
+abbrev pub resource_list_onto : List Resource → List Spelled → List Spelled
+resource_list_onto [] rest = rest
+resource_list_onto (r ∷ rs) rest = resource_onto r (more_resources_onto rs rest)
+
+-- the last `;`, where it stands
+abbrev pub last_semicolon_onto : Bool → List Spelled → List Spelled
+last_semicolon_onto true rest = sign (codes ";") ∷ rest
+last_semicolon_onto false rest = rest
+
+abbrev pub resources_onto : Resources → List Spelled → List Spelled
+resources_onto rs rest =
+    sign (codes "(") ∷ resource_list_onto rs.items (last_semicolon_onto rs.last (sign (codes ")") ∷ rest))
+
+abbrev pub maybe_resources_onto : Option Resources → List Spelled → List Spelled
+maybe_resources_onto None rest = rest
+maybe_resources_onto (Some rs) rest = resources_onto rs rest
+
+-- each behind a `|`
+abbrev pub behind_bars : List Ty → List Spelled → List Spelled
+behind_bars [] rest = rest
+behind_bars (t ∷ ts) rest = sign (codes "|") ∷ ty_onto t (behind_bars ts rest)
+
+-- with `|` between them
+abbrev pub bars_onto : List Ty → List Spelled → List Spelled
+bars_onto [] rest = rest
+bars_onto (t ∷ ts) rest = ty_onto t (behind_bars ts rest)
+
+abbrev pub catch_parameter_onto : CatchParameter → List Spelled → List Spelled
+catch_parameter_onto c rest =
+    sign (codes "(") ∷ final_onto c.is_final (bars_onto c.types (identifier c.name ∷ sign (codes ")") ∷ rest))
+
+abbrev pub label_onto : Label → List Spelled → List Spelled
+label_onto (Case e) rest = keyword (codes "case") ∷ expr_onto e (sign (codes ":") ∷ rest)
+label_onto Default rest = keyword (codes "default") ∷ sign (codes ":") ∷ rest
+
+abbrev pub labels_onto : List Label → List Spelled → List Spelled
+labels_onto [] rest = rest
+labels_onto (l ∷ ls) rest = label_onto l (labels_onto ls rest)
+
+abbrev pub maybe_name_onto : Option (List ℕ) → List Spelled → List Spelled
+maybe_name_onto None rest = rest
+maybe_name_onto (Some x) rest = identifier x ∷ rest
+
+abbrev pub maybe_behind_onto : (text : List ℕ) → Option Expr → List Spelled → List Spelled
+maybe_behind_onto text None rest = rest
+maybe_behind_onto text (Some e) rest = sign text ∷ expr_onto e rest
+
 abbrev mutual
   pub stmt_onto : Stmt → List Spelled → List Spelled
   stmt_onto (Block ss) rest = sign (codes "{") ∷ stmts_onto ss (sign (codes "}") ∷ rest)
@@ -195,8 +256,6 @@ abbrev mutual
   stmt_onto (IfElse e s t) rest =
       keyword (codes "if") ∷ sign (codes "(") ∷ expr_onto e (sign (codes ")") ∷ stmt_onto s (keyword (codes "else")
       ∷ stmt_onto t rest))
-  stmt_onto (While e s) rest = keyword (codes "while") ∷ sign (codes "(") ∷ expr_onto e (sign (codes ")")
-      ∷ stmt_onto s rest)
   stmt_onto (For start condition updates s) rest =
       keyword (codes "for") ∷ sign (codes "(") ∷
       start_onto start (sign (codes ";") ∷ maybe_expr_onto condition (sign (codes ";") ∷ exprs_onto updates
@@ -205,15 +264,39 @@ abbrev mutual
       keyword (codes "for") ∷ sign (codes "(") ∷
       final_onto is_final (ty_onto t (identifier x ∷ sign (codes ":") ∷ expr_onto e (sign (codes ")")
       ∷ stmt_onto s rest)))
-  stmt_onto (Sync e ss) rest =
-      keyword (codes "synchronized") ∷ sign (codes "(") ∷ expr_onto e (sign (codes ")") ∷ sign (codes "{")
-      ∷ stmts_onto ss (sign (codes "}") ∷ rest))
-  stmt_onto (Return e) rest = keyword (codes "return") ∷ maybe_expr_onto e (sign (codes ";") ∷ rest)
+  stmt_onto (Labelled x s) rest = identifier x ∷ sign (codes ":") ∷ stmt_onto s rest
   stmt_onto Empty rest = sign (codes ";") ∷ rest
+  stmt_onto (Row word ps) rest = keyword word ∷ pieces_onto ps rest
 
   pub stmts_onto : Stmts → List Spelled → List Spelled
   stmts_onto no_stmt rest = rest
   stmts_onto (stmt_then s ss) rest = stmt_onto s (stmts_onto ss rest)
+
+  pub pieces_onto : Pieces → List Spelled → List Spelled
+  pieces_onto no_piece rest = rest
+  pieces_onto (a_token t ps) rest = t ∷ pieces_onto ps rest
+  pieces_onto (an_expr e ps) rest = expr_onto e (pieces_onto ps rest)
+  pieces_onto (maybe_an_expr e ps) rest = maybe_expr_onto e (pieces_onto ps rest)
+  pieces_onto (a_condition e ps) rest = sign (codes "(") ∷ expr_onto e (sign (codes ")") ∷ pieces_onto ps rest)
+  pieces_onto (a_body s ps) rest = stmt_onto s (pieces_onto ps rest)
+  pieces_onto (a_block ss ps) rest = sign (codes "{") ∷ stmts_onto ss (sign (codes "}") ∷ pieces_onto ps rest)
+  pieces_onto (maybe_a_name x ps) rest = maybe_name_onto x (pieces_onto ps rest)
+  pieces_onto (maybe_behind text e ps) rest = maybe_behind_onto text e (pieces_onto ps rest)
+  pieces_onto (maybe_resources rs ps) rest = maybe_resources_onto rs (pieces_onto ps rest)
+  pieces_onto (a_catch_parameter c ps) rest = catch_parameter_onto c (pieces_onto ps rest)
+  pieces_onto (a_list word more ps) rest = several_onto word more (pieces_onto ps rest)
+  pieces_onto (present word sub ps) rest = keyword word ∷ pieces_onto sub (pieces_onto ps rest)
+  pieces_onto (absent word ps) rest = pieces_onto ps rest
+  pieces_onto (some_part ps) rest = pieces_onto ps rest
+  pieces_onto (a_switch gs ps) rest = sign (codes "{") ∷ groups_onto gs (sign (codes "}") ∷ pieces_onto ps rest)
+
+  pub groups_onto : Groups → List Spelled → List Spelled
+  groups_onto no_group rest = rest
+  groups_onto (group_then labels ss gs) rest = labels_onto labels (stmts_onto ss (groups_onto gs rest))
+
+  pub several_onto : (word : List ℕ) → Several → List Spelled → List Spelled
+  several_onto word no_row rest = rest
+  several_onto word (row_then ps more) rest = keyword word ∷ pieces_onto ps (several_onto word more rest)
 
 abbrev pub block_onto : Stmts → List Spelled → List Spelled
 block_onto ss rest = sign (codes "{") ∷ stmts_onto ss (sign (codes "}") ∷ rest)

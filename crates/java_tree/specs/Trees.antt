@@ -112,6 +112,29 @@ pub data Start : Type 0 where
   Declares : Locals → Start
   Runs : Exprs → Start
 
+-- `final T x = e` in the parentheses of a `try`
+pub record Resource : Type 0 where
+  pub is_final : Bool
+  pub kind : Ty
+  pub name : List ℕ
+  pub value : Expr
+
+-- those parentheses, and whether a `;` stands behind the last one
+pub record Resources : Type 0 where
+  pub items : List Resource
+  pub last : Bool
+
+-- the parameter of a `catch`, with its types
+pub record CatchParameter : Type 0 where
+  pub is_final : Bool
+  pub types : List Ty
+  pub name : List ℕ
+
+-- `case e :` or `default :`
+pub data Label : Type 0 where
+  Case : Expr → Label
+  Default : Label
+
 mutual
   pub data Stmt : Type 0 where
     Block : Stmts → Stmt
@@ -119,16 +142,51 @@ mutual
     Run : Expr → Stmt
     If : Expr → Stmt → Stmt
     IfElse : Expr → Stmt → Stmt → Stmt
-    While : Expr → Stmt → Stmt
     For : Start → (condition : Option Expr) → (updates : Exprs) → Stmt → Stmt
     ForEach : (is_final : Bool) → Ty → (name : List ℕ) → Expr → Stmt → Stmt
-    Sync : Expr → Stmts → Stmt
-    Return : Option Expr → Stmt
+    Labelled : (name : List ℕ) → Stmt → Stmt
     Empty : Stmt
+    -- the keyword that it begins with, and what stands behind it; `Rows` says which there are
+    Row : (word : List ℕ) → Pieces → Stmt
 
   pub data Stmts : Type 0 where
     no_stmt : Stmts
     stmt_then : Stmt → Stmts → Stmts
+
+  pub data Pieces : Type 0 where
+    no_piece : Pieces
+    a_token : Spelled → Pieces → Pieces
+    an_expr : Expr → Pieces → Pieces
+    maybe_an_expr : Option Expr → Pieces → Pieces
+    maybe_a_name : Option (List ℕ) → Pieces → Pieces
+    -- this sign and an expression, or nothing
+    maybe_behind : (text : List ℕ) → Option Expr → Pieces → Pieces
+    -- an expression in parentheses
+    a_condition : Expr → Pieces → Pieces
+    -- a statement that is no declaration
+    a_body : Stmt → Pieces → Pieces
+    a_block : Stmts → Pieces → Pieces
+    maybe_resources : Option Resources → Pieces → Pieces
+    -- a parameter in parentheses
+    a_catch_parameter : CatchParameter → Pieces → Pieces
+    -- rows, each behind this keyword
+    a_list : (word : List ℕ) → Several → Pieces → Pieces
+    -- a row behind this keyword, and no row, which such a keyword would begin
+    present : (word : List ℕ) → Pieces → Pieces → Pieces
+    absent : (word : List ℕ) → Pieces → Pieces
+    -- one of the parts behind it that may be left out stands; no token
+    some_part : Pieces → Pieces
+    -- groups in braces
+    a_switch : Groups → Pieces → Pieces
+
+  -- statements behind their labels
+  pub data Groups : Type 0 where
+    no_group : Groups
+    group_then : List Label → Stmts → Groups → Groups
+
+  pub data Several : Type 0 where
+    no_row : Several
+    row_then : Pieces → Several → Several
 
 abbrev pub pack_stmts : List Stmt → Stmts
 pack_stmts [] = no_stmt

@@ -1,5 +1,5 @@
 -- A contract of a public call rests on this: the trees of the code without places and without memory.
-use Rattle.std.specs.Prelude.{ℕ, List, Option, Some, None, map, option_map}
+use Rattle.std.specs.Prelude.{ℕ, List, [], ◌∷◌, Option, Some, None, map, option_map}
 use Rattle.java_tree.specs.declared.words.Ident.{Ident}
 use Rattle.java_tree.specs.declared.types.TypeTree.{TypeTree}
 use Rattle.java_tree.specs.declared.types.BaseType.{BaseType}
@@ -25,10 +25,19 @@ use Rattle.java_tree.specs.declared.statements.VariableTree.{VariableTree}
 use Rattle.java_tree.specs.declared.statements.LocalsTree.{LocalsTree}
 use Rattle.java_tree.specs.declared.statements.StartTree.{StartTree}
 use Rattle.java_tree.specs.declared.statements.StartTree.TheVariants as init
+use Rattle.java_tree.specs.declared.statements.ResourceTree.{ResourceTree}
+use Rattle.java_tree.specs.declared.statements.ResourcesTree.{ResourcesTree}
+use Rattle.java_tree.specs.declared.statements.CatchParameterTree.{CatchParameterTree}
+use Rattle.java_tree.specs.declared.statements.LabelTree.{LabelTree}
+use Rattle.java_tree.specs.declared.statements.LabelTree.TheVariants as label
 use Rattle.java_tree.specs.declared.statements.Statement.{Statement}
-use Rattle.java_tree.specs.declared.statements.Statement.TheOpen.{Statement-F}
+use Rattle.java_tree.specs.declared.statements.TryTree.{TryTree}
+use Rattle.java_tree.specs.declared.statements.CatchTree.{CatchTree}
+use Rattle.java_tree.specs.declared.statements.GroupTree.{GroupTree}
+use Rattle.java_tree.specs.declared.statements.Statement.TheOpen.{Statement-F, TryTree-F, CatchTree-F, GroupTree-F}
 use Rattle.java_tree.specs.declared.statements.Statement.TheOpen as statement
-use Rattle.java_tree.specs.declared.statements.Statement.TheFolds.{fold-Statement}
+use Rattle.java_tree.specs.declared.statements.Statement.TheFolds.{fold-Statement, fold-TryTree, fold-CatchTree}
+use Rattle.java_tree.specs.declared.statements.Statement.TheFolds.{fold-GroupTree}
 use Rattle.java_tree.specs.declared.methods.AnnotationTree.{AnnotationTree}
 use Rattle.java_tree.specs.declared.methods.ModifierTree as modifiers
 use Rattle.java_tree.specs.declared.methods.ModifierTree.TheVariants as modifier
@@ -40,10 +49,13 @@ use Rattle.java_tree.specs.Trees.{Ty, Typed, Base, Plain, Named, Part, Bare, Gen
 use Rattle.java_tree.specs.Trees.{Exact, Any, Extends, Super, Expr, Assign, Conditional, Binary, InstanceOf, Prefix}
 use Rattle.java_tree.specs.Trees.{Cast, Postfix, Literal, This, Name, Paren, Field, Index, Call, CallOn, ClassOf}
 use Rattle.java_tree.specs.Trees.{New, NewArray, NewItems, Array, Braces, Init, Value, Items, Variable, Locals}
-use Rattle.java_tree.specs.Trees.{Start, Declares, Runs, Stmt, Block, Local, Run, If, IfElse, While, For, ForEach}
-use Rattle.java_tree.specs.Trees.{Sync, Return, Empty, Annotation, Modifier, Word, Annotated, Result, NoResult}
+use Rattle.java_tree.specs.Trees.{Start, Declares, Runs, Resource, Resources, CatchParameter, Label, Case, Default}
+use Rattle.java_tree.specs.Trees.{Stmt, Block, Local, Run, If, IfElse, For, ForEach, Labelled, Empty, Stmts, Pieces}
+use Rattle.java_tree.specs.Trees.{no_piece, a_block, a_catch_parameter, Several, no_row, row_then, Groups, no_group}
+use Rattle.java_tree.specs.Trees.{group_then, Annotation, Modifier, Word, Annotated, Result, NoResult}
 use Rattle.java_tree.specs.Trees.{VoidResult, TypeResult, Parameter, Method, pack_parts, pack_arguments, pack_exprs}
 use Rattle.java_tree.specs.Trees.{pack_inits, pack_stmts}
+use Rattle.java_tree.specs.Rows.{While, Do, Return, Break, Continue, Throw, Sync, Switch, Try, Assert}
 
 abbrev pub name_of : Ident → List ℕ
 name_of x = x.text
@@ -148,7 +160,40 @@ abbrev pub if_of : Expr → Stmt → Option Stmt → Stmt
 if_of e s None = If e s
 if_of e s (Some t) = IfElse e s t
 
-abbrev pub stmt_step : Statement-F Stmt → Stmt
+abbrev pub resource_of : ResourceTree → Resource
+resource_of r =
+    record { is_final = r.is_final; kind = ty_of r.kind; name = name_of r.name; value = expr_of r.value }
+
+abbrev pub resources_of : ResourcesTree → Resources
+resources_of rs = record { items = map resource_of rs.items; last = rs.last_semicolon }
+
+abbrev pub catch_parameter_of : CatchParameterTree → CatchParameter
+catch_parameter_of p = record { is_final = p.is_final; types = map ty_of p.types; name = name_of p.name }
+
+abbrev pub label_of : LabelTree → Label
+label_of (label.Case e) = Case (expr_of e)
+label_of label.Default = Default
+
+-- behind `catch`
+abbrev pub Catch : CatchParameter → Stmts → Pieces
+Catch p ss = a_catch_parameter p (a_block ss no_piece)
+
+-- behind `finally`
+abbrev pub Finally : Stmts → Pieces
+Finally ss = a_block ss no_piece
+
+abbrev pub pack_rows : List Pieces → Several
+pack_rows [] = no_row
+pack_rows (ps ∷ more) = row_then ps (pack_rows more)
+
+abbrev pub Group : Type 0
+Group = List Label × Stmts
+
+abbrev pub pack_groups : List Group → Groups
+pack_groups [] = no_group
+pack_groups (g ∷ gs) = group_then g.0 g.1 (pack_groups gs)
+
+abbrev pub stmt_step : Statement-F Stmt Pieces Group Stmt → Stmt
 stmt_step (statement.Block ss) = Block (pack_stmts ss.items)
 stmt_step (statement.Local l) = Local (locals_of l)
 stmt_step (statement.Expr e) = Run (expr_of e)
@@ -160,9 +205,37 @@ stmt_step (statement.ForEach is_final t x e s) = ForEach is_final (ty_of t) (nam
 stmt_step (statement.Sync place e ss) = Sync (expr_of e) (pack_stmts ss.items)
 stmt_step (statement.Return e) = Return (option_map expr_of e)
 stmt_step statement.Empty = Empty
+stmt_step (statement.Do s e) = Do s.value (expr_of e)
+stmt_step (statement.Throw place e) = Throw (expr_of e)
+stmt_step (statement.Break x) = Break (option_map name_of x)
+stmt_step (statement.Continue x) = Continue (option_map name_of x)
+stmt_step (statement.Labelled x s) = Labelled (name_of x) s.value
+stmt_step (statement.Assert e f) = Assert (expr_of e) (option_map expr_of f)
+stmt_step (statement.Switch e gs) = Switch (expr_of e) (pack_groups gs.items)
+stmt_step (statement.Try t) = t.value
+
+abbrev pub try_step : TryTree-F Stmt Pieces Group Stmt → Stmt
+try_step t =
+    Try (option_map resources_of t.resources) (pack_stmts t.body.items) (pack_rows t.clauses.items)
+    (option_map (λ ss. Finally (pack_stmts ss.items)) t.finally)
+
+abbrev pub catch_step : CatchTree-F Stmt Pieces Group Stmt → Pieces
+catch_step c = Catch (catch_parameter_of c.parameter) (pack_stmts c.body.items)
+
+abbrev pub group_step : GroupTree-F Stmt Pieces Group Stmt → Group
+group_step g = (map label_of g.labels, pack_stmts g.body.items)
 
 abbrev pub stmt_of : Statement → Stmt
-stmt_of = fold-Statement Stmt stmt_step
+stmt_of = fold-Statement Stmt Pieces Group Stmt stmt_step catch_step group_step try_step
+
+abbrev pub try_of : TryTree → Stmt
+try_of = fold-TryTree Stmt Pieces Group Stmt stmt_step catch_step group_step try_step
+
+abbrev pub catch_of : CatchTree → Pieces
+catch_of = fold-CatchTree Stmt Pieces Group Stmt stmt_step catch_step group_step try_step
+
+abbrev pub group_of : GroupTree → Group
+group_of = fold-GroupTree Stmt Pieces Group Stmt stmt_step catch_step group_step try_step
 
 -- ---- methods
 

@@ -16,6 +16,9 @@ pub use methods::{
     AnnotationTree, FieldInitialiser, FieldTree, FieldVariable, MethodTree, ModifierTree,
     ParameterTree, ResultTree,
 };
-pub use statements::{LocalsTree, StartTree, Statement, VariableTree};
+pub use statements::{
+    CatchParameterTree, CatchTree, GroupTree, LabelTree, LocalsTree, ResourceTree, ResourcesTree,
+    StartTree, Statement, TryTree, VariableTree,
+};
 pub use types::{BaseType, TypeArgument, TypeArguments, TypePart, TypeTree};
 pub use words::{Ident, Spelled};

@@ -28,8 +28,40 @@ pub enum StartTree {
     Expressions(Items<Expression>),
 }
 
+/// `final T x = a` in the parentheses of a `try` (JLS 14.20.3).
+#[derive(Drop)]
+pub struct ResourceTree {
+    pub is_final: bool,
+    pub kind: TypeTree,
+    pub name: Ident,
+    pub value: Expression,
+}
+
+/// The parentheses of a `try`, and whether a `;` stands behind the last resource (JLS 14.20.3).
+#[derive(Drop)]
+pub struct ResourcesTree {
+    pub items: Items<ResourceTree>,
+    pub last_semicolon: bool,
+}
+
+/// `final T | U x` in the parentheses of a `catch` (JLS 14.20).
+#[derive(Drop)]
+pub struct CatchParameterTree {
+    pub is_final: bool,
+    pub types: Items<TypeTree>,
+    pub name: Ident,
+}
+
+/// What stands before statements of a `switch` (JLS 14.11).
+#[derive(Drop)]
+pub enum LabelTree {
+    Case(Expression),
+    Default,
+}
+
 /// A statement, with one variant for each form.
 #[derive(Drop)]
+#[cycle(statements)]
 pub enum Statement {
     /// `{ .. }` (JLS 14.2).
     Block(Vec<Statement>),
@@ -51,6 +83,48 @@ pub enum Statement {
     Return(Option<Apart<Expression>>),
     /// `;` (JLS 14.6).
     Empty,
+    /// `do s while (a);` (JLS 14.13).
+    Do(Box<Statement>, Apart<Expression>),
+    /// `throw a;` (JLS 14.18).
+    Throw(Place, Apart<Expression>),
+    /// `break;` and `break x;` (JLS 14.15).
+    Break(Option<Apart<Ident>>),
+    /// `continue;` and `continue x;` (JLS 14.16).
+    Continue(Option<Apart<Ident>>),
+    /// `x: s` (JLS 14.7).
+    Labelled(Apart<Ident>, Box<Statement>),
+    /// `assert a;` and `assert a : b;` (JLS 14.10).
+    Assert(Apart<Expression>, Option<Apart<Expression>>),
+    /// `switch (a) { .. }` (JLS 14.11).
+    Switch(Apart<Expression>, Vec<GroupTree>),
+    /// `try (..) { .. } catch (..) { .. } .. finally { .. }` (JLS 14.20).
+    Try(Box<TryTree>),
+}
+
+/// The parts of a `try`, of which the first, the clauses or the last stand (JLS 14.20).
+#[derive(Drop)]
+#[cycle(statements)]
+pub struct TryTree {
+    pub resources: Option<Apart<ResourcesTree>>,
+    pub body: Vec<Statement>,
+    pub clauses: Vec<CatchTree>,
+    pub finally: Option<Vec<Statement>>,
+}
+
+/// `catch (..) { .. }` (JLS 14.20).
+#[derive(Drop)]
+#[cycle(statements)]
+pub struct CatchTree {
+    pub parameter: CatchParameterTree,
+    pub body: Vec<Statement>,
+}
+
+/// Labels and the statements behind them (JLS 14.11).
+#[derive(Drop)]
+#[cycle(statements)]
+pub struct GroupTree {
+    pub labels: Items<LabelTree>,
+    pub body: Vec<Statement>,
 }
 
 /// So that 32 MiB of the smallest statements are held in less than 3,000 MiB, with their code.

@@ -5,6 +5,7 @@ mod expressions;
 mod methods;
 mod put;
 mod spellings;
+mod statement_parts;
 mod statements;
 mod tokens;
 mod types;

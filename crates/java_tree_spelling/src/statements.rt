@@ -1,21 +1,27 @@
 //! The tokens of statements (JLS 14).
 ghost use Rattle.std.specs.Prelude.{◌∷◌, ◌++◌, map, codes, option_map};
 ghost use Rattle.java_tree.specs.Words.{keyword, identifier, sign};
-ghost use Rattle.java_tree.specs.Trees.{Local, Sync, Return, pack_exprs, pack_stmts};
+ghost use Rattle.java_tree.specs.declared.statements.TryTree.{out-TryTree};
+ghost use Rattle.java_tree.specs.Trees.{Local, no_piece, pack_exprs, pack_stmts};
+ghost use Rattle.java_tree.specs.Rows.{Return, Do, Throw, Sync, Switch, Try, Assert, perhaps};
 ghost use Rattle.java_tree.specs.Spelling.{final_onto, ty_onto, expr_onto, exprs_onto, maybe_expr_onto};
 ghost use Rattle.java_tree.specs.Spelling.{commas_onto, variable_onto, locals_onto, start_onto, stmt_onto};
-ghost use Rattle.java_tree.specs.Spelling.{block_onto, stmts_onto};
+ghost use Rattle.java_tree.specs.Spelling.{block_onto, stmts_onto, pieces_onto, groups_onto, several_onto};
+ghost use Rattle.java_tree.specs.Spelling.{labels_onto, maybe_name_onto};
 ghost use Rattle.java_tree.specs.View.{name_of, ty_of, expr_of, variable_of, locals_of, start_of, stmt_of};
+ghost use Rattle.java_tree.specs.View.{catch_of, group_of, resources_of, pack_rows, pack_groups, Finally};
 ghost use Rattle.java_tree_spelling.specs.Puts.{Lasts, Puts};
 
 use super::expressions::{spell_before, spell_expression, spell_initialiser, spell_list};
 use super::put::{
     put_close, put_comma, put_end, put_final, put_keyword, put_name, put_open, put_sign,
 };
+use super::statement_parts::{spell_catch_parameter, spell_labels, spell_resources};
 use super::tokens::Tokens;
 use super::types::spell_type;
 use java_tree::{
-    Apart, Expression, Ident, LocalsTree, StartTree, Statement, TypeTree, VariableTree,
+    Apart, CatchTree, Expression, GroupTree, Ident, LocalsTree, StartTree, Statement, TryTree,
+    TypeTree, VariableTree,
 };
 
 /// A variable, and what it begins with.
@@ -149,6 +155,40 @@ fn spell_return(out: &mut Tokens, value: &Option<Apart<Expression>>)
     put_end(out)
 }
 
+fn spell_throw(out: &mut Tokens, value: &Expression)
+    ensures lasts { Lasts out.old out.new }
+    ensures puts { Puts (stmt_onto (Throw (expr_of value.now))) out.old out.new }
+{
+    put_keyword(out, "throw");
+    spell_before(out, value, ";")
+}
+
+/// `break` or `continue`, and a name, where there is one.
+fn spell_jump(out: &mut Tokens, word: &str, label: &Option<Apart<Ident>>)
+    ensures lasts { Lasts out.old out.new }
+    ensures puts { Puts (λ rest. keyword word.now ∷ maybe_name_onto (option_map name_of label.now)
+        (sign (codes ";") ∷ rest)) out.old out.new }
+{
+    put_keyword(out, word);
+    if let Some(label) = label {
+        put_name(out, label.get().text.as_str());
+    }
+    put_end(out)
+}
+
+fn spell_assert(out: &mut Tokens, value: &Expression, message: &Option<Apart<Expression>>)
+    ensures lasts { Lasts out.old out.new }
+    ensures puts { Puts (stmt_onto (Assert (expr_of value.now) (option_map expr_of message.now))) out.old out.new }
+{
+    put_keyword(out, "assert");
+    spell_expression(out, value);
+    if let Some(message) = message {
+        put_sign(out, ":");
+        spell_expression(out, message.get());
+    }
+    put_end(out)
+}
+
 #[cycle(spell_statements)]
 fn spell_statement(out: &mut Tokens, tree: &Statement)
     ensures lasts { Lasts out.old out.new }
@@ -181,7 +221,30 @@ fn spell_statement(out: &mut Tokens, tree: &Statement)
         Statement::Sync(_, value, block) => spell_sync(out, block, value.get()),
         Statement::Return(value) => spell_return(out, value),
         Statement::Empty => put_end(out),
+        Statement::Do(body, condition) => spell_do(out, body, condition.get()),
+        Statement::Throw(_, value) => spell_throw(out, value.get()),
+        Statement::Break(label) => spell_jump(out, "break", label),
+        Statement::Continue(label) => spell_jump(out, "continue", label),
+        Statement::Labelled(label, body) => {
+            put_name(out, label.get().text.as_str());
+            put_sign(out, ":");
+            spell_statement(out, body)
+        }
+        Statement::Assert(value, message) => spell_assert(out, value.get(), message),
+        Statement::Switch(value, groups) => spell_switch(out, groups, value.get()),
+        Statement::Try(tree) => spell_try(out, tree),
     }
+}
+
+#[cycle(spell_statements)]
+fn spell_do(out: &mut Tokens, body: &Statement, condition: &Expression)
+    ensures lasts { Lasts out.old out.new }
+    ensures puts { Puts (stmt_onto (Do (stmt_of body.now) (expr_of condition.now))) out.old out.new }
+{
+    put_keyword(out, "do");
+    spell_statement(out, body);
+    spell_head(out, "while", condition);
+    put_end(out)
 }
 
 #[cycle(spell_statements)]
@@ -191,6 +254,99 @@ fn spell_sync(out: &mut Tokens, block: &[Statement], value: &Expression)
 {
     spell_head(out, "synchronized", value);
     spell_block(out, block)
+}
+
+#[cycle(spell_statements)]
+fn spell_switch(out: &mut Tokens, groups: &[GroupTree], value: &Expression)
+    ensures lasts { Lasts out.old out.new }
+    ensures puts { Puts (stmt_onto (Switch (expr_of value.now) (pack_groups (map group_of groups.now)))) out.old
+        out.new }
+{
+    spell_head(out, "switch", value);
+    spell_groups(out, groups)
+}
+
+/// Groups in braces.
+#[cycle(spell_statements)]
+fn spell_groups(out: &mut Tokens, groups: &[GroupTree])
+    ensures lasts { Lasts out.old out.new }
+    ensures puts { Puts (λ rest. sign (codes "{") ∷ groups_onto (pack_groups (map group_of groups.now))
+        (sign (codes "}") ∷ rest)) out.old out.new }
+{
+    put_sign(out, "{");
+    spell_all_groups(out, groups);
+    put_sign(out, "}")
+}
+
+/// Groups one after another.
+#[cycle(spell_statements)]
+fn spell_all_groups(out: &mut Tokens, groups: &[GroupTree])
+    ensures lasts { Lasts out.old out.new }
+    ensures puts { Puts (groups_onto (pack_groups (map group_of groups.now))) out.old out.new }
+{
+    for group in groups {
+        spell_group(out, group);
+    }
+}
+
+#[cycle(spell_statements)]
+fn spell_group(out: &mut Tokens, group: &GroupTree)
+    ensures lasts { Lasts out.old out.new }
+    ensures puts { Puts (λ rest. labels_onto (group_of group.now).0 (stmts_onto (group_of group.now).1 rest)) out.old
+        out.new }
+{
+    spell_labels(out, group.labels.as_slice());
+    spell_all(out, &group.body)
+}
+
+#[cycle(spell_statements)]
+fn spell_try(out: &mut Tokens, tree: &TryTree)
+    ensures lasts { Lasts out.old out.new }
+    ensures puts { Puts (stmt_onto (Try (option_map resources_of (out-TryTree tree.now).resources)
+        (pack_stmts (map stmt_of (out-TryTree tree.now).body.items))
+        (pack_rows (map catch_of (out-TryTree tree.now).clauses.items))
+        (option_map (λ ss. Finally (pack_stmts (map stmt_of ss.items))) (out-TryTree tree.now).finally))) out.old
+        out.new }
+{
+    put_keyword(out, "try");
+    spell_resources(out, &tree.resources);
+    spell_block(out, &tree.body);
+    spell_clauses(out, &tree.clauses);
+    spell_finally(out, tree)
+}
+
+#[cycle(spell_statements)]
+fn spell_clauses(out: &mut Tokens, clauses: &[CatchTree])
+    ensures lasts { Lasts out.old out.new }
+    ensures puts { Puts (several_onto (codes "catch") (pack_rows (map catch_of clauses.now))) out.old out.new }
+{
+    for clause in clauses {
+        spell_clause(out, clause);
+    }
+}
+
+#[cycle(spell_statements)]
+fn spell_clause(out: &mut Tokens, clause: &CatchTree)
+    ensures lasts { Lasts out.old out.new }
+    ensures puts { Puts (λ rest. keyword (codes "catch") ∷ pieces_onto (catch_of clause.now) rest) out.old out.new }
+{
+    put_keyword(out, "catch");
+    spell_catch_parameter(out, &clause.parameter);
+    spell_block(out, &clause.body)
+}
+
+/// The `finally` of a `try`, where it stands.
+#[cycle(spell_statements)]
+fn spell_finally(out: &mut Tokens, tree: &TryTree)
+    ensures lasts { Lasts out.old out.new }
+    ensures puts { Puts (pieces_onto (perhaps (codes "finally")
+        (option_map (λ ss. Finally (pack_stmts (map stmt_of ss.items))) (out-TryTree tree.now).finally) no_piece))
+        out.old out.new }
+{
+    if let Some(block) = &tree.finally {
+        put_keyword(out, "finally");
+        spell_block(out, block);
+    }
 }
 
 /// Statements in braces.

@@ -6,7 +6,7 @@ ghost use Rattle.java_tree.specs.Spelling.{commas_onto, variable_onto};
 ghost use Rattle.java_tree.specs.Spelling.{ty_onto, expr_onto, array_onto, init_onto, stmt_onto, spelling};
 ghost use Rattle.java_tree.specs.Formed.{Each, has_some, FormedVariable};
 ghost use Rattle.java_tree.specs.Formed.{FormedTy, FormedExpr, FormedArray, FormedInit, level, FormedStmt};
-ghost use Rattle.java_tree.specs.Formed.{FormedMethod, ends_in_if};
+ghost use Rattle.java_tree.specs.Formed.{FormedMethod, goes_on, is_joining};
 ghost use Rattle.java_tree.specs.Nesting.{most_over, variable_nesting};
 ghost use Rattle.java_tree.specs.Nesting.{ty_nesting, expr_nesting, array_nesting, init_nesting, stmt_nesting};
 ghost use Rattle.java_tree.specs.Nesting.{method_nesting};
@@ -55,10 +55,12 @@ pub fn variables_are_read()
         → comma_list (variable_at method_readers n) (commas_onto variable_onto vs []) ≡ Some (vs, []) }
 {}
 
-/// Each formed statement is read, where no `else` behind it would belong to an `if` at its end.
+/// Each formed statement is read, where no keyword behind it would belong to it: no `else` to an `if` at its end, and
+/// no `catch` and no `finally` to such a `try`.
 pub fn statements_are_read()
-    ensures { (s : Stmt) (n : ℕ) (rest : List Spelled) → FormedStmt s → stmt_nesting s ≤ n → (ends_in_if s ≡ true
-        → after_keyword (codes "else") rest ≡ None) → stmt_at method_readers n (stmt_onto s rest) ≡ Some (s, rest) }
+    ensures { (s : Stmt) (n : ℕ) (rest : List Spelled) → FormedStmt s → stmt_nesting s ≤ n
+        → ((word : List ℕ) → is_joining word ≡ true → goes_on word s ≡ true → after_keyword word rest ≡ None)
+        → stmt_at method_readers n (stmt_onto s rest) ≡ Some (s, rest) }
 {}
 
 /// Each formed method is read, and takes all of its tokens.

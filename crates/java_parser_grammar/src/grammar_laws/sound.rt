@@ -7,7 +7,7 @@ ghost use Rattle.java_tree.specs.Spelling.{commas_onto, variable_onto};
 ghost use Rattle.java_tree.specs.Spelling.{ty_onto, expr_onto, array_onto, init_onto, stmt_onto, spelling};
 ghost use Rattle.java_tree.specs.Formed.{Each, has_some, FormedVariable};
 ghost use Rattle.java_tree.specs.Formed.{FormedTy, FormedExpr, FormedArray, FormedInit, level, FormedStmt};
-ghost use Rattle.java_tree.specs.Formed.{FormedMethod, ends_in_if};
+ghost use Rattle.java_tree.specs.Formed.{FormedMethod, goes_on, is_joining};
 ghost use Rattle.java_tree.specs.Nesting.{most_over, variable_nesting};
 ghost use Rattle.java_tree.specs.Nesting.{ty_nesting, expr_nesting, array_nesting, init_nesting, stmt_nesting};
 ghost use Rattle.java_tree.specs.Nesting.{method_nesting};
@@ -83,8 +83,8 @@ pub fn read_variables()
         → comma_list (variable_at method_readers n) ts ≡ Some (vs, rest) → length rest < length ts }
 {}
 
-/// What is read as a statement is formed, of at most this nesting, spells the tokens that were taken, and leaves
-/// no `else` to an `if` at its end.
+/// What is read as a statement is formed, of at most this nesting, spells the tokens that were taken, and leaves no
+/// keyword that would belong to it: no `else` to an `if` at its end, and no `catch` and no `finally` to such a `try`.
 pub fn read_statements()
     ensures formed { (n : ℕ) (ts : List Spelled) (s : Stmt) (rest : List Spelled)
         → stmt_at method_readers n ts ≡ Some (s, rest) → FormedStmt s }
@@ -95,8 +95,8 @@ pub fn read_statements()
     ensures shorter { (n : ℕ) (ts : List Spelled) (s : Stmt) (rest : List Spelled)
         → stmt_at method_readers n ts ≡ Some (s, rest) → length rest < length ts }
     ensures greedy { (n : ℕ) (ts : List Spelled) (s : Stmt) (rest : List Spelled)
-        → stmt_at method_readers n ts ≡ Some (s, rest) → ends_in_if s ≡ true
-        → after_keyword (codes "else") rest ≡ None }
+        → stmt_at method_readers n ts ≡ Some (s, rest) → (word : List ℕ) → is_joining word ≡ true
+        → goes_on word s ≡ true → after_keyword word rest ≡ None }
 {}
 
 /// What is read as a method is formed, of at most this nesting, and spells the tokens; where none is read, there

@@ -1,69 +1,30 @@
 //! Equality of statements (JLS 14).
-ghost use Rattle.std.specs.Prelude.{◌≡◌, ◌↔◌, IsTrue, map, option_map};
-ghost use Rattle.java_tree.specs.Trees.{pack_exprs, pack_stmts, Block, Local, Run, If, IfElse, While, For};
-ghost use Rattle.java_tree.specs.Trees.{ForEach, Sync, Return};
-ghost use Rattle.java_tree.specs.Sameness.{same_option, same_expr};
-ghost use Rattle.java_tree.specs.Sameness.{same_variable, same_locals, same_start, same_stmt, same_stmts};
-ghost use Rattle.java_tree.specs.SameMethods.{variable_is, variable_refl, locals_is, locals_refl, start_is};
-ghost use Rattle.java_tree.specs.SameMethods.{start_refl, stmt_is, stmt_refl};
+ghost use Rattle.std.specs.Prelude.{◌≡◌, ◌↔◌, IsTrue, ◌&&◌, map, option_map};
+ghost use Rattle.java_tree.specs.declared.statements.TryTree.{out-TryTree};
+ghost use Rattle.java_tree.specs.Trees.{pack_exprs, pack_stmts, Block, If, IfElse, For, ForEach, Labelled};
+ghost use Rattle.java_tree.specs.Rows.{While, Do, Sync, Switch, Try};
+ghost use Rattle.java_tree.specs.Sameness.{same_list, same_label, same_stmt, same_stmts, same_pieces, same_groups};
+ghost use Rattle.java_tree.specs.Sameness.{same_several, same_option, same_resources};
+ghost use Rattle.java_tree.specs.SameMethods.{stmt_is, stmt_refl};
 ghost use Rattle.java_tree.specs.SameLaws.{partial_equivalence};
-ghost use Rattle.java_tree.specs.View.{name_of, ty_of, expr_of, variable_of, locals_of, start_of, stmt_of};
+ghost use Rattle.java_tree.specs.View.{name_of, ty_of, expr_of, start_of, stmt_of, try_of, catch_of, group_of};
+ghost use Rattle.java_tree.specs.View.{pack_rows, pack_groups, resources_of, Finally};
 
 use super::expressions::same_trees;
+use super::simple_statements::{
+    same_assert, same_break, same_continue, same_local, same_maybe, same_resources, same_return,
+    same_run, same_throw,
+};
+use super::statement_parts::same_labels;
 use crate::apart::Apart;
 use crate::expressions::Expression;
 use crate::statements::Statement::{
-    Block, Empty, Expr, For, ForEach, If, Local, Return, Sync, While,
+    Assert, Block, Break, Continue, Do, Empty, Expr, For, ForEach, If, Labelled, Local, Return,
+    Switch, Sync, Throw, Try, While,
 };
-use crate::statements::{LocalsTree, StartTree, Statement, VariableTree};
+use crate::statements::{CatchTree, GroupTree, StartTree, Statement, TryTree};
 use crate::types::TypeTree;
 use crate::words::Ident;
-
-impl PartialEq for VariableTree {
-    ghost eq = { λ a b. same_variable (variable_of a) (variable_of b) };
-
-    ghost laws = { partial_equivalence variable_of same_variable variable_is variable_refl };
-
-    #[tactic(auto, using(crate::proofs::SameLists::slices))]
-    fn eq(&self, other: &VariableTree) -> bool
-        ensures answer { result ≡ same_variable (variable_of self.now) (variable_of other.now) }
-    {
-        self.name == other.name && self.initialiser == other.initialiser
-    }
-}
-
-impl PartialEq for LocalsTree {
-    ghost eq = { λ a b. same_locals (locals_of a) (locals_of b) };
-
-    ghost laws = { partial_equivalence locals_of same_locals locals_is locals_refl };
-
-    #[tactic(auto, using(crate::proofs::SameLists::slices))]
-    fn eq(&self, other: &LocalsTree) -> bool
-        ensures answer { result ≡ same_locals (locals_of self.now) (locals_of other.now) }
-    {
-        self.is_final == other.is_final
-            && self.kind == other.kind
-            && self.variables.as_slice() == other.variables.as_slice()
-    }
-}
-
-impl PartialEq for StartTree {
-    ghost eq = { λ a b. same_start (start_of a) (start_of b) };
-
-    ghost laws = { partial_equivalence start_of same_start start_is start_refl };
-
-    fn eq(&self, other: &StartTree) -> bool
-        ensures answer { result ≡ same_start (start_of self.now) (start_of other.now) }
-    {
-        match (self, other) {
-            (StartTree::Local(a), StartTree::Local(b)) => a == b,
-            (StartTree::Expressions(a), StartTree::Expressions(b)) => {
-                same_trees(a.as_slice(), b.as_slice())
-            }
-            _ => false,
-        }
-    }
-}
 
 impl PartialEq for Statement {
     ghost eq = { λ a b. same_stmt (stmt_of a) (stmt_of b) };
@@ -101,16 +62,14 @@ fn same_statement(tree: &Statement, other: &Statement) -> bool
         Sync(_, value, all) => same_sync(all, value.get(), other),
         Return(value) => same_return(value, other),
         Empty => matches!(other, Empty),
-    }
-}
-
-fn same_maybe(a: &Option<Apart<Expression>>, b: &Option<Apart<Expression>>) -> bool
-    ensures { result ≡ same_option same_expr (option_map expr_of a.now) (option_map expr_of b.now) }
-{
-    match (a, b) {
-        (None, None) => true,
-        (Some(a), Some(b)) => a.get() == b.get(),
-        _ => false,
+        Do(body, test) => same_do(body, test.get(), other),
+        Throw(_, value) => same_throw(value.get(), other),
+        Break(label) => same_break(label, other),
+        Continue(label) => same_continue(label, other),
+        Labelled(label, body) => same_labelled(body, label.get(), other),
+        Assert(test, message) => same_assert(test.get(), message, other),
+        Switch(value, groups) => same_switch(groups, value.get(), other),
+        Try(tree) => same_try(tree, other),
     }
 }
 
@@ -120,24 +79,6 @@ fn same_block(all: &[Statement], other: &Statement) -> bool
 {
     match other {
         Block(others) => same_statements(all, others),
-        _ => false,
-    }
-}
-
-fn same_local(locals: &LocalsTree, other: &Statement) -> bool
-    ensures { result ≡ same_stmt (Local (locals_of locals.now)) (stmt_of other.now) }
-{
-    match other {
-        Local(l) => locals == l.get(),
-        _ => false,
-    }
-}
-
-fn same_run(value: &Expression, other: &Statement) -> bool
-    ensures { result ≡ same_stmt (Run (expr_of value.now)) (stmt_of other.now) }
-{
-    match other {
-        Expr(a) => value == a,
         _ => false,
     }
 }
@@ -175,7 +116,17 @@ fn same_while(body: &Statement, test: &Expression, other: &Statement) -> bool
     ensures { result ≡ same_stmt (While (expr_of test.now) (stmt_of body.now)) (stmt_of other.now) }
 {
     match other {
-        While(a, s) => test == a.get() && same_statement(body, s),
+        While(a, s) => same_statement(body, s) && test == a.get(),
+        _ => false,
+    }
+}
+
+#[cycle(compare_statements)]
+fn same_do(body: &Statement, test: &Expression, other: &Statement) -> bool
+    ensures { result ≡ same_stmt (Do (stmt_of body.now) (expr_of test.now)) (stmt_of other.now) }
+{
+    match other {
+        Do(s, a) => test == a.get() && same_statement(body, s),
         _ => false,
     }
 }
@@ -231,18 +182,134 @@ fn same_sync(all: &[Statement], value: &Expression, other: &Statement) -> bool
     ensures { result ≡ same_stmt (Sync (expr_of value.now) (pack_stmts (map stmt_of all.now))) (stmt_of other.now) }
 {
     match other {
-        Sync(_, a, others) => value == a.get() && same_statements(all, others),
+        Sync(_, a, others) => same_statements(all, others) && value == a.get(),
         _ => false,
     }
 }
 
-fn same_return(value: &Option<Apart<Expression>>, other: &Statement) -> bool
-    ensures { result ≡ same_stmt (Return (option_map expr_of value.now)) (stmt_of other.now) }
+#[cycle(compare_statements)]
+fn same_labelled(body: &Statement, label: &Ident, other: &Statement) -> bool
+    ensures { result ≡ same_stmt (Labelled (name_of label.now) (stmt_of body.now)) (stmt_of other.now) }
 {
     match other {
-        Return(a) => same_maybe(value, a),
+        Labelled(x, s) => label == x.get() && same_statement(body, s),
         _ => false,
     }
+}
+
+#[cycle(compare_statements)]
+fn same_switch(groups: &[GroupTree], value: &Expression, other: &Statement) -> bool
+    ensures { result ≡ same_stmt (Switch (expr_of value.now) (pack_groups (map group_of groups.now)))
+        (stmt_of other.now) }
+{
+    match other {
+        Switch(a, others) => same_groups(groups, others) && value == a.get(),
+        _ => false,
+    }
+}
+
+#[cycle(compare_statements)]
+fn same_groups(a: &[GroupTree], b: &[GroupTree]) -> bool
+    ensures { result ≡ same_groups (pack_groups (map group_of a.now)) (pack_groups (map group_of b.now)) }
+{
+    if a.len() != b.len() {
+        return false;
+    }
+    for number in 0..a.len() {
+        if !same_group(&a[number], &b[number]) {
+            return false;
+        }
+    }
+    true
+}
+
+#[cycle(compare_statements)]
+fn same_group(a: &GroupTree, b: &GroupTree) -> bool
+    ensures { result ≡ (same_list same_label (group_of a.now).0 (group_of b.now).0
+        && same_stmts (group_of a.now).1 (group_of b.now).1) }
+{
+    same_labels(a.labels.as_slice(), b.labels.as_slice()) && same_statements(&a.body, &b.body)
+}
+
+#[cycle(compare_statements)]
+fn same_try(tree: &TryTree, other: &Statement) -> bool
+    ensures { result ≡ same_stmt (Try (option_map resources_of (out-TryTree tree.now).resources)
+        (pack_stmts (map stmt_of (out-TryTree tree.now).body.items))
+        (pack_rows (map catch_of (out-TryTree tree.now).clauses.items))
+        (option_map (λ ss. Finally (pack_stmts (map stmt_of ss.items))) (out-TryTree tree.now).finally))
+        (stmt_of other.now) }
+{
+    match other {
+        Try(b) => same_tries(tree, b),
+        _ => false,
+    }
+}
+
+#[cycle(compare_statements)]
+fn same_tries(a: &TryTree, b: &TryTree) -> bool
+    ensures { result ≡ same_stmt (Try (option_map resources_of (out-TryTree a.now).resources)
+        (pack_stmts (map stmt_of (out-TryTree a.now).body.items))
+        (pack_rows (map catch_of (out-TryTree a.now).clauses.items))
+        (option_map (λ ss. Finally (pack_stmts (map stmt_of ss.items))) (out-TryTree a.now).finally))
+        (try_of b.now) }
+{
+    same_handlers(a, b) && same_guarded(a, b)
+}
+
+#[cycle(compare_statements)]
+fn same_handlers(a: &TryTree, b: &TryTree) -> bool
+    ensures { result ≡ (same_option same_stmts (option_map (λ ss. pack_stmts (map stmt_of ss.items))
+        (out-TryTree a.now).finally) (option_map (λ ss. pack_stmts (map stmt_of ss.items))
+        (out-TryTree b.now).finally)
+        && same_several (pack_rows (map catch_of (out-TryTree a.now).clauses.items))
+        (pack_rows (map catch_of (out-TryTree b.now).clauses.items))) }
+{
+    same_finally(a, b) && same_catches(&a.clauses, &b.clauses)
+}
+
+#[cycle(compare_statements)]
+fn same_finally(a: &TryTree, b: &TryTree) -> bool
+    ensures { result ≡ same_option same_stmts (option_map (λ ss. pack_stmts (map stmt_of ss.items))
+        (out-TryTree a.now).finally) (option_map (λ ss. pack_stmts (map stmt_of ss.items))
+        (out-TryTree b.now).finally) }
+{
+    match (&a.finally, &b.finally) {
+        (None, None) => true,
+        (Some(a), Some(b)) => same_statements(a, b),
+        _ => false,
+    }
+}
+
+#[cycle(compare_statements)]
+fn same_guarded(a: &TryTree, b: &TryTree) -> bool
+    ensures { result ≡ (same_stmts (pack_stmts (map stmt_of (out-TryTree a.now).body.items))
+        (pack_stmts (map stmt_of (out-TryTree b.now).body.items))
+        && same_option same_resources (option_map resources_of (out-TryTree a.now).resources)
+        (option_map resources_of (out-TryTree b.now).resources)) }
+{
+    same_statements(&a.body, &b.body) && same_resources(&a.resources, &b.resources)
+}
+
+#[cycle(compare_statements)]
+fn same_catches(a: &[CatchTree], b: &[CatchTree]) -> bool
+    ensures { result ≡ same_several (pack_rows (map catch_of a.now)) (pack_rows (map catch_of b.now)) }
+{
+    if a.len() != b.len() {
+        return false;
+    }
+    for number in 0..a.len() {
+        if !same_catch(&a[number], &b[number]) {
+            return false;
+        }
+    }
+    true
+}
+
+#[cycle(compare_statements)]
+fn same_catch(a: &CatchTree, b: &CatchTree) -> bool
+    ensures { result ≡ same_pieces (catch_of a.now) (catch_of b.now) }
+{
+    same_statements(&a.body, &b.body) && a.parameter == b.parameter
 }
 
 #[cycle(compare_statements)]

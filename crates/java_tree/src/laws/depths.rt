@@ -5,13 +5,18 @@ ghost use Rattle.java_tree.specs.Trees.{Typed, Named, no_part, part_then, Bare, 
 ghost use Rattle.java_tree.specs.Trees.{argument_then, Exact, Any, Extends, Super, Assign, Conditional, Binary};
 ghost use Rattle.java_tree.specs.Trees.{InstanceOf, Prefix, Cast, Literal, This, Paren, Field, Index, Call, CallOn};
 ghost use Rattle.java_tree.specs.Trees.{ClassOf, New, NewArray, NewItems, no_expr, expr_then, Braces, no_init};
-ghost use Rattle.java_tree.specs.Trees.{init_then, Value, Items, Declares, Runs, Block, Local, If, IfElse, While};
-ghost use Rattle.java_tree.specs.Trees.{For, ForEach, Sync, Return, Empty, no_stmt, stmt_then, NoResult};
+ghost use Rattle.java_tree.specs.Trees.{init_then, Value, Items, Declares, Runs, Block, Local, If, IfElse};
+ghost use Rattle.java_tree.specs.Trees.{For, ForEach, Empty, no_stmt, stmt_then, NoResult};
 ghost use Rattle.java_tree.specs.Trees.{TypeResult};
+ghost use Rattle.java_tree.specs.Trees.{Labelled, no_row, row_then, no_group, group_then, Case, Default};
+ghost use Rattle.java_tree.specs.Rows.{While, Do, Return, Break, Continue, Throw, Sync, Switch, Try, Assert};
 ghost use Rattle.java_tree.specs.Nesting.{ty_nesting, expr_nesting, array_nesting, stmt_nesting, method_nesting};
 ghost use Rattle.java_tree.specs.Examples.{a, b, c, f_call, a_up, difference, ints, class_a, class_b, generic};
 ghost use Rattle.java_tree.specs.Examples.{only, a_of, a_of_b, variable, locals, local_of, assigns, one_deep};
 ghost use Rattle.java_tree.specs.Examples.{formal, method, void_f};
+ghost use Rattle.java_tree.specs.StatementExamples.{one_stmt, only_group, switch_at, one_resource, caught, one_catch};
+ghost use Rattle.java_tree.specs.StatementExamples.{catch_a, finally, try_with};
+ghost use Rattle.java_tree.specs.View.{Catch};
 
 /// A type counts one, and its arguments stand inside it; a `?` counts nothing.
 pub fn nesting_of_types()
@@ -74,6 +79,7 @@ pub fn nesting_of_statements()
     ensures if_alone { (stmt_nesting (If (Paren a) Empty) ≡ 3) × (stmt_nesting (If a one_deep) ≡ 3) }
     ensures if_else { (stmt_nesting (IfElse (Paren a) Empty Empty) ≡ 3) × (stmt_nesting (IfElse a one_deep Empty) ≡ 3)
         × (stmt_nesting (IfElse a Empty one_deep) ≡ 3) }
+    ensures do_loop { (stmt_nesting (Do Empty (Paren a)) ≡ 3) × (stmt_nesting (Do one_deep a) ≡ 3) }
     ensures while_loop { (stmt_nesting (While (Paren a) Empty) ≡ 3) × (stmt_nesting (While a one_deep) ≡ 3) }
     ensures for_initials { stmt_nesting (For (Declares (locals false (ints 0)
         (variable (codes "v") (Some (Value (Paren a))) ∷ []))) None no_expr Empty) ≡ 3 }
@@ -87,6 +93,41 @@ pub fn nesting_of_statements()
     ensures lock { (stmt_nesting (Sync a no_stmt) ≡ 2) × (stmt_nesting (Sync (Paren (Paren a)) no_stmt) ≡ 4) }
     ensures answer { (stmt_nesting (Return (Some a)) ≡ 2) × (stmt_nesting (Return None) ≡ 1)
         × (stmt_nesting Empty ≡ 1) }
+{}
+
+/// A label and a jump count nothing but the statement that they are.
+pub fn nesting_of_jumps()
+    ensures labelled { stmt_nesting (Labelled (codes "x") one_deep) ≡ 3 }
+    ensures checked { (stmt_nesting (Assert (Paren a) None) ≡ 3) × (stmt_nesting (Assert a (Some (Paren b))) ≡ 3) }
+    ensures jumps { (stmt_nesting (Break None) ≡ 1) × (stmt_nesting (Break (Some (codes "x"))) ≡ 1)
+        × (stmt_nesting (Continue (Some (codes "x"))) ≡ 1) }
+    ensures thrown { stmt_nesting (Throw (Paren a)) ≡ 3 }
+{}
+
+/// Groups and their labels count nothing: what stands there stands directly in the `switch`.
+pub fn nesting_of_switches()
+    ensures bare { (stmt_nesting (Switch a no_group) ≡ 2) × (stmt_nesting (Switch (Paren a) no_group) ≡ 3) }
+    ensures label { (stmt_nesting (switch_at Default) ≡ 2) × (stmt_nesting (switch_at (Case b)) ≡ 2)
+        × (stmt_nesting (switch_at (Case (Paren b))) ≡ 3) }
+    ensures second_label { stmt_nesting (Switch a (only_group (Default ∷ Case (Paren b) ∷ []) no_stmt)) ≡ 3 }
+    ensures statements { stmt_nesting (Switch a (only_group (Default ∷ []) (stmt_then Empty (one_stmt one_deep)))) ≡ 3 }
+    ensures second_group { stmt_nesting (Switch a (group_then (Case b ∷ []) (one_stmt Empty) (only_group (Default ∷ [])
+        (one_stmt one_deep)))) ≡ 3 }
+{}
+
+/// Resources and clauses count nothing: their types, their values and the blocks stand directly in the `try`.
+pub fn nesting_of_tries()
+    ensures block { (stmt_nesting (Try None no_stmt no_row (finally no_stmt)) ≡ 2)
+        × (stmt_nesting (Try None (one_stmt one_deep) no_row (finally no_stmt)) ≡ 4) }
+    ensures last { stmt_nesting (Try None no_stmt no_row (finally (one_stmt one_deep))) ≡ 4 }
+    ensures clause { (stmt_nesting (try_with catch_a) ≡ 2)
+        × (stmt_nesting (try_with (one_catch (class_b ∷ a_of_b ∷ []) no_stmt)) ≡ 3)
+        × (stmt_nesting (try_with (one_catch (class_a ∷ []) (one_stmt one_deep))) ≡ 4) }
+    ensures second_clause { stmt_nesting (try_with (row_then (Catch (caught true (class_a ∷ [])) no_stmt)
+        (one_catch (class_b ∷ []) (one_stmt one_deep)))) ≡ 4 }
+    ensures resource { (stmt_nesting (Try (one_resource class_a a) no_stmt no_row None) ≡ 2)
+        × (stmt_nesting (Try (one_resource a_of_b a) no_stmt no_row None) ≡ 3)
+        × (stmt_nesting (Try (one_resource class_a (Paren a)) no_stmt no_row None) ≡ 3) }
 {}
 
 /// The block of a method is a statement, beside the types of its head.

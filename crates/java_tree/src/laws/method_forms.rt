@@ -1,6 +1,7 @@
 //! For each part of a method one that is formed, and one or more that are not.
 ghost use Rattle.std.specs.Prelude.{[], ◌∷◌, codes, true, None};
-ghost use Rattle.java_tree.specs.Trees.{Typed, Named, no_part, part_then, Bare, no_argument, Run, Return, Empty};
+ghost use Rattle.java_tree.specs.Rows.{Return};
+ghost use Rattle.java_tree.specs.Trees.{Typed, Named, no_part, part_then, Bare, no_argument, Run, Empty};
 ghost use Rattle.java_tree.specs.Trees.{no_stmt, stmt_then, Word, Annotated, NoResult, TypeResult};
 ghost use Rattle.java_tree.specs.Formed.{FormedModifier, FormedParameter, FormedThrown, FormedMethod};
 ghost use Rattle.java_tree.specs.Examples.{a, ints, no_type, class_a, only, a_of, a_of_b, annotation};

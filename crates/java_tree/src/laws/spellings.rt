@@ -5,11 +5,16 @@ ghost use Rattle.java_tree.specs.Trees.{Typed, Named, no_part, part_then, Bare, 
 ghost use Rattle.java_tree.specs.Trees.{argument_then, Exact, Any, Extends, Super, Assign, Binary, InstanceOf};
 ghost use Rattle.java_tree.specs.Trees.{Postfix, Literal, This, Field, Index, CallOn, ClassOf, New, NewArray};
 ghost use Rattle.java_tree.specs.Trees.{NewItems, no_expr, expr_then, Braces, no_init, init_then, Value, Items};
-ghost use Rattle.java_tree.specs.Trees.{Declares, Runs, Block, Local, While, For, ForEach, Sync, Return, Empty};
+ghost use Rattle.java_tree.specs.Trees.{Declares, Runs, Block, Local, For, ForEach, Empty};
 ghost use Rattle.java_tree.specs.Trees.{no_stmt, stmt_then, Word, Annotated, NoResult, TypeResult};
+ghost use Rattle.java_tree.specs.Trees.{Run, Labelled, no_row, row_then, no_group, group_then, Case, Default};
+ghost use Rattle.java_tree.specs.Rows.{While, Do, Return, Break, Continue, Throw, Sync, Switch, Try, Assert};
 ghost use Rattle.java_tree.specs.Spelling.{ty_onto, expr_onto, stmt_onto, spelling};
-ghost use Rattle.java_tree.specs.Examples.{tokens_of, a, b, f_call, a_up, ints, class_a, class_b, a_of, variable};
+ghost use Rattle.java_tree.specs.Examples.{tokens_of, a, b, c, f_call, a_up, ints, class_a, class_b, a_of, variable};
 ghost use Rattle.java_tree.specs.Examples.{locals, annotation, bare_annotation, parameter, formal, method, void_f};
+ghost use Rattle.java_tree.specs.StatementExamples.{one_stmt, resource, resources, one_resource, caught, catch_a};
+ghost use Rattle.java_tree.specs.StatementExamples.{finally};
+ghost use Rattle.java_tree.specs.View.{Catch};
 
 /// Types (JLS 4).
 pub fn spelling_of_types()
@@ -48,6 +53,8 @@ pub fn spelling_of_statements()
     ensures local { stmt_onto (Local (locals true (ints 1) (variable (codes "v") None ∷ variable (codes "w")
         (Some (Value a)) ∷ variable (codes "u") (Some (Items (Braces no_init false))) ∷ []))) [] ≡ tokens_of
         (codes "final int [ ] v , w = a , u = { } ;") }
+    ensures do_loop { stmt_onto (Do (Return None) a) [] ≡ tokens_of (codes "do return ; while ( a ) ;") }
+    ensures thrown { stmt_onto (Throw a) [] ≡ tokens_of (codes "throw a ;") }
     ensures while_loop { stmt_onto (While a (Return None)) [] ≡ tokens_of (codes "while ( a ) return ;") }
     ensures for_declares { stmt_onto (For (Declares (locals true class_a (variable (codes "v") (Some (Value a))
         ∷ variable (codes "w") None ∷ []))) (Some b) (expr_then a_up (expr_then f_call no_expr)) (Return None))
@@ -61,6 +68,43 @@ pub fn spelling_of_statements()
         (codes "for ( int x : a ) ;") }
     ensures synchronised { stmt_onto (Sync This (stmt_then Empty (stmt_then (Return None) no_stmt))) [] ≡ tokens_of
         (codes "synchronized ( this ) { ; return ; }") }
+{}
+
+/// Labels, checks and jumps (JLS 14.7, 14.10, 14.15, 14.16).
+pub fn spelling_of_jumps()
+    ensures labelled { stmt_onto (Labelled (codes "x") (Labelled (codes "y") (Run f_call))) [] ≡ tokens_of
+        (codes "x : y : f ( ) ;") }
+    ensures checked { stmt_onto (Assert a None) [] ≡ tokens_of (codes "assert a ;") }
+    ensures checked_with { stmt_onto (Assert a (Some b)) [] ≡ tokens_of (codes "assert a : b ;") }
+    ensures broken { stmt_onto (Break None) [] ≡ tokens_of (codes "break ;") }
+    ensures broken_to { stmt_onto (Break (Some (codes "x"))) [] ≡ tokens_of (codes "break x ;") }
+    ensures continued { stmt_onto (Continue None) [] ≡ tokens_of (codes "continue ;") }
+    ensures continued_to { stmt_onto (Continue (Some (codes "x"))) [] ≡ tokens_of (codes "continue x ;") }
+{}
+
+/// Groups of a `switch`, the last one without statements (JLS 14.11).
+pub fn spelling_of_switches()
+    ensures bare { stmt_onto (Switch a no_group) [] ≡ tokens_of (codes "switch ( a ) { }") }
+    ensures groups { stmt_onto (Switch a (group_then (Case b ∷ Default ∷ []) (stmt_then Empty (one_stmt (Break None)))
+        (group_then (Case c ∷ []) no_stmt no_group))) [] ≡ tokens_of
+        (codes "switch ( a ) { case b : default : ; break ; case c : }") }
+{}
+
+/// The parts of a `try` (JLS 14.20).
+pub fn spelling_of_tries()
+    ensures clauses { stmt_onto (Try None (one_stmt Empty) (row_then
+        (Catch (caught true (class_a ∷ class_b ∷ [])) no_stmt) (row_then
+        (Catch (caught false (class_a ∷ [])) (one_stmt (Return None))) no_row)) None) [] ≡ tokens_of
+        (codes "try { ; } catch ( final A | B x ) { } catch ( A x ) { return ; }") }
+    ensures last { stmt_onto (Try None no_stmt no_row (finally (one_stmt Empty))) [] ≡ tokens_of
+        (codes "try { } finally { ; }") }
+    ensures with_resources { stmt_onto (Try (resources (resource true class_a (codes "v") a
+        ∷ resource false (ints 0) (codes "w") b ∷ []) false) no_stmt no_row None) [] ≡ tokens_of
+        (codes "try ( final A v = a ; int w = b ) { }") }
+    ensures last_semicolon { stmt_onto (Try (resources (resource false class_a (codes "v") a ∷ []) true) no_stmt no_row
+        None) [] ≡ tokens_of (codes "try ( A v = a ; ) { }") }
+    ensures all { stmt_onto (Try (one_resource class_a a) no_stmt catch_a (finally no_stmt)) [] ≡ tokens_of
+        (codes "try ( A x = a ) { } catch ( A x ) { } finally { }") }
 {}
 
 /// Methods and constructors (JLS 8.4, 8.8).

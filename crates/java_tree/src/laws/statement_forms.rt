@@ -4,8 +4,9 @@ ghost use Rattle.java_lexer.specs.declared.token.TokenKind.TheVariants as kind;
 ghost use Rattle.java_tree.specs.Trees.{no_argument, Assign, Conditional, InstanceOf, Prefix, Cast, Postfix};
 ghost use Rattle.java_tree.specs.Trees.{Literal, This, Paren, Field, Index, Call, CallOn, ClassOf, New, NewArray};
 ghost use Rattle.java_tree.specs.Trees.{NewItems, no_expr, expr_then, Braces, no_init, init_then, Value, Items};
-ghost use Rattle.java_tree.specs.Trees.{Declares, Runs, Block, Local, Run, If, IfElse, While, For, ForEach, Sync};
-ghost use Rattle.java_tree.specs.Trees.{Return, Empty, no_stmt, stmt_then};
+ghost use Rattle.java_tree.specs.Trees.{Declares, Runs, Block, Local, Run, If, IfElse, For, ForEach};
+ghost use Rattle.java_tree.specs.Trees.{Empty, no_stmt, stmt_then};
+ghost use Rattle.java_tree.specs.Rows.{While, Do, Return, Throw, Sync};
 ghost use Rattle.java_tree.specs.Formed.{FormedStmt};
 ghost use Rattle.java_tree.specs.Examples.{a, b, c, f_call, a_up, no_class, ints, class_a, only, a_of, variable};
 ghost use Rattle.java_tree.specs.Examples.{locals, local_of};
@@ -27,6 +28,9 @@ pub fn formed_statements()
         × (¬ FormedStmt (IfElse a (Local (local_of (ints 0))) (Run f_call)))
         × (¬ FormedStmt (IfElse a (Run f_call) (Local (local_of (ints 0))))) }
     ensures while_loop { FormedStmt (While a (If b Empty)) × (¬ FormedStmt (While a (Local (local_of (ints 0))))) }
+    ensures do_loop { FormedStmt (Do (If b Empty) a) × (¬ FormedStmt (Do (Local (local_of (ints 0))) a))
+        × (¬ FormedStmt (Do Empty (ClassOf []))) }
+    ensures thrown { FormedStmt (Throw a) × (¬ FormedStmt (Throw (ClassOf []))) }
     ensures for_loop { FormedStmt (For (Declares (local_of (ints 0))) None (expr_then (Postfix a (codes "++"))
         no_expr) Empty) × (¬ FormedStmt (For (Runs (expr_then a no_expr)) None no_expr Empty))
         × (¬ FormedStmt (For (Runs no_expr) None (expr_then (Paren a) no_expr) Empty))

@@ -6,7 +6,8 @@ use Rattle.java_parser_grammar.specs.StatementReading.{stmt_at}
 use Rattle.java_parser_grammar.proofs.Ensuring.{of_equation}
 use Rattle.java_parser_grammar.proofs.LongerStatements.{stmt_longer}
 use Rattle.java_parser_grammar.proofs.SoundJava.{java_sound}
-use Rattle.java_parser_grammar.proofs.SoundStatements.{GotStmt, stmt_sound}
+use Rattle.java_parser_grammar.proofs.SoundForms.{GotStmt}
+use Rattle.java_parser_grammar.proofs.SoundStatements.{stmt_sound}
 use Rattle.java_parser_grammar.proofs.grammar_laws.sound.read_statements.Goals as goal
 
 got : (n : ℕ) (ts : List Spelled) (s : Stmt) (rest : List Spelled) → stmt_at method_readers n ts ≡ Some (s, rest)
