@@ -2,6 +2,8 @@ pub mod AnnotationLoops
 pub mod BracketLoops
 pub mod ForHeads
 pub mod StatementLoops
+pub mod RowLoops
+pub mod TryParts
 pub mod WholeMethods
 pub mod LedMarks
 pub mod TypeCounts

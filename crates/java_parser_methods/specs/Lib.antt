@@ -1,5 +1,6 @@
 pub mod StatementLeadView
 pub mod HeadReading
+pub mod RowReading
 pub mod HeadView
 pub mod AwaitedBrackets
 pub mod ModifierReading

@@ -12,7 +12,11 @@ mod methods;
 mod nodes;
 mod parameters;
 mod signatures;
+mod simple_rows;
 mod statements;
+mod switches;
+mod tries;
+mod try_heads;
 mod whole;
 
 pub use java_parser_types::ReadError;

@@ -1,17 +1,17 @@
-//! Reading statements without statements in them (JLS 14.4, 14.8, 14.17).
+//! Reading declarations and expressions with the `;` behind them (JLS 14.4, 14.8).
 ghost use Rattle.std.specs.Prelude.{◌≡◌, ◌<◌, ◌≤◌, ◌^◌, suc, length, map, IfOk};
 ghost use Rattle.java_tree.specs.KeptPlaces.{kept, stmt_places};
 ghost use Rattle.java_tree.specs.Formed.{is_body};
 ghost use Rattle.java_tree.specs.View.{stmt_of};
-ghost use Rattle.java_parser_grammar.specs.StatementReading.{return_at, local_at, run_line_at, simple_at};
+ghost use Rattle.java_parser_grammar.specs.StatementReading.{local_at, run_line_at, simple_at};
 ghost use Rattle.java_parser_grammar.specs.JavaReaders.{method_readers};
 ghost use Rattle.java_parser_types.specs.Tokens.{spelled};
 ghost use Rattle.java_parser_types.specs.ReadAnswer.{Gives};
 
-use super::heads::{expression_until, run};
+use super::heads::run;
 use super::locals::locals;
 use super::lookahead::looks_local;
-use super::nodes::{local, ran, returning};
+use super::nodes::{local, ran};
 use java_lexer::Token;
 use java_parser_types::error::ReadError;
 use java_parser_types::look::sign;
@@ -23,25 +23,6 @@ pub fn is_body(statement: &Statement) -> bool
     ensures { result ≡ is_body (stmt_of statement.now) }
 {
     !matches!(statement, Statement::Local(_))
-}
-
-/// Behind `return` (JLS 14.17).
-#[tactic(auto, unfolding(java_parser_grammar::specs::StatementReading::return_at))]
-pub fn returned(
-    alloc: Global,
-    limit: u32,
-    tokens: &[Token],
-) -> Result<(Box<Statement>, &[Token]), ReadError>
-    requires few { length tokens.now < 2 ^ 32 }
-    requires room { suc (suc limit) < 2 ^ 32 }
-    ensures gives { Gives (λ x. (stmt_of x.0.value, map spelled x.1.now)) result (return_at method_readers limit
-        (map spelled tokens.now)) }
-    ensures places { IfOk result (λ x. stmt_places x.0.value (kept x.1.now) ≡ kept tokens.now) }
-    ensures shorter { IfOk result (λ x. length x.1.now ≤ length tokens.now) }
-{
-    let (value, rest) = expression_until(alloc, limit, ";", tokens)?;
-    let rest = sign(rest, ";")?;
-    returning(alloc, value, rest)
 }
 
 /// A declaration and its `;` (JLS 14.4).

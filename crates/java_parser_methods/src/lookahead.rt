@@ -1,21 +1,26 @@
 //! Choices by the first tokens of a statement or a member.
 ghost use Rattle.std.specs.Prelude.{◌∷◌};
-ghost use Rattle.std.specs.Prelude.{◌≡◌, ◌<◌, ◌≤◌, ◌&&◌, ◌||◌, true, codes, Some, None, MatchOption, IfSome};
+ghost use Rattle.std.specs.Prelude.{◌≡◌, ◌<◌, ◌≤◌, ◌&&◌, ◌||◌, true, codes, Some, None, MatchOption, IfSome, false, IfOk};
 ghost use Rattle.std.specs.Prelude.{suc, length, map};
 ghost use Rattle.java_lexer.specs.declared.token.TokenKind.TheVariants as kind;
 ghost use Rattle.java_tree.specs.Formed.{is_method_modifier};
-ghost use Rattle.java_tree.specs.KeptPlaces.{kept, place_onto};
+ghost use Rattle.java_tree.specs.KeptPlaces.{kept, is_kept, place_onto};
+ghost use Rattle.java_tree.specs.Rows.{is_row};
+ghost use Rattle.java_parser_grammar.specs.Lookahead.{begins_row, Other, LabelWord};
+ghost use Rattle.java_parser_types.specs.ReadAnswer.{Gives};
 ghost use Rattle.java_tree.specs.Brackets.{is_sign};
 ghost use Rattle.java_parser_grammar.specs.Lookahead.{begins_with, is_word_name, is_plain_type, goes_local};
 ghost use Rattle.java_parser_grammar.specs.Lookahead.{looks_local};
 ghost use Rattle.java_parser_grammar.specs.Lookahead.{name_and_colon, statement_lead, is_constructor};
 ghost use Rattle.java_parser_grammar.specs.Lookahead.{after_modifier};
 ghost use Rattle.java_parser_methods.specs.StatementLeadView.{statement_lead_of, places_from, LeadIsBelow};
+ghost use Rattle.java_parser_methods.specs.StatementLeadView.{row_text};
 ghost use Rattle.java_parser_grammar.specs.StatementReading.{final_at};
-ghost use Rattle.java_parser_grammar.specs.Taking.{after_keyword};
+ghost use Rattle.java_parser_grammar.specs.Taking.{after_keyword, after_name, match_option};
 ghost use Rattle.java_parser_types.specs.Tokens.{spelled};
 
 use java_lexer::{Token, TokenKind};
+use java_parser_types::error::ReadError;
 use java_parser_types::look::{
     after_keyword, after_sign, is_keyword, is_listed, is_plain_word, is_sign,
 };
@@ -32,17 +37,32 @@ const METHOD_MODIFIERS: [&[u8]; 7] = [
     b"strictfp",
 ];
 
+/// A keyword that only one form of statements begins with.
+#[derive(Clone, Copy)]
+pub enum RowWord {
+    While,
+    Do,
+    Return,
+    Break,
+    Continue,
+    Throw,
+    Synchronized,
+    Switch,
+    Try,
+    Assert,
+}
+
 /// What a statement begins with, and the tokens behind it.
 #[derive(Drop)]
 pub enum StatementLead<'a> {
+    /// The place is that of the word.
+    Row(RowWord, Place, &'a [Token]),
     Semicolon(&'a [Token]),
     Brace(&'a [Token]),
     IfWord(&'a [Token]),
-    WhileWord(&'a [Token]),
     ForWord(&'a [Token]),
-    /// The place is that of the word.
-    SynchronizedWord(Place, &'a [Token]),
-    ReturnWord(&'a [Token]),
+    /// A name with a `:` behind it.
+    Label(&'a Token, &'a [Token]),
     Other,
 }
 
@@ -147,28 +167,106 @@ pub fn behind_else(tokens: &[Token]) -> Option<&[Token]>
     after_keyword(tokens, "else")
 }
 
+/// The tokens behind this keyword, where it stands in front, and whose place no tree keeps.
+pub fn after_word<'a>(tokens: &'a [Token], text: &str) -> Option<&'a [Token]>
+    requires unkept { is_kept kind.Keyword text.now ≡ false }
+    ensures gives { MatchOption result (after_keyword text.now (map spelled tokens.now) ≡ None) (λ rest.
+        after_keyword text.now (map spelled tokens.now) ≡ Some (map spelled rest.now)) }
+    ensures places { IfSome result (λ rest. kept rest.now ≡ kept tokens.now) }
+    ensures shorter { IfSome result (λ rest. length rest.now < length tokens.now) }
+{
+    after_keyword(tokens, text)
+}
+
+/// The same of one that has to stand there.
+pub fn keyword<'a>(tokens: &'a [Token], text: &str) -> Result<&'a [Token], ReadError>
+    requires unkept { is_kept kind.Keyword text.now ≡ false }
+    ensures gives { Gives (λ rest. map spelled rest.now) result (after_keyword text.now (map spelled tokens.now)) }
+    ensures places { IfOk result (λ rest. kept rest.now ≡ kept tokens.now) }
+    ensures shorter { IfOk result (λ rest. length rest.now < length tokens.now) }
+{
+    after_word(tokens, text).ok_or(ReadError::Unformed)
+}
+
+/// The token of a name, where one stands in front, and the tokens behind it.
+pub fn after_name(tokens: &[Token]) -> Option<(&Token, &[Token])>
+    ensures gives { MatchOption result (after_name (map spelled tokens.now) ≡ None) (λ x. after_name
+        (map spelled tokens.now) ≡ Some (x.0.now.text, map spelled x.1.now)) }
+    ensures places { IfSome result (λ x. x.0.now.place ∷ kept x.1.now ≡ kept tokens.now) }
+    ensures shorter { IfSome result (λ x. length x.1.now < length tokens.now) }
+{
+    match tokens {
+        [token, rest @ ..] if is_word_name(token) => Some((token, rest)),
+        _ => None,
+    }
+}
+
+/// The form that begins with this keyword.
+fn row_named(text: &str) -> Option<RowWord>
+    ensures { MatchOption result (is_row text.now ≡ false) (λ word. row_text word ≡ text.now) }
+{
+    let word = match text {
+        "while" => RowWord::While,
+        "do" => RowWord::Do,
+        "return" => RowWord::Return,
+        "break" => RowWord::Break,
+        "continue" => RowWord::Continue,
+        "throw" => RowWord::Throw,
+        "synchronized" => RowWord::Synchronized,
+        "switch" => RowWord::Switch,
+        "try" => RowWord::Try,
+        "assert" => RowWord::Assert,
+        _ => return None,
+    };
+    Some(word)
+}
+
+/// The same of a token.
+fn row_word(token: &Token) -> Option<RowWord>
+    ensures gives { MatchOption result (begins_row (spelled token.now) ≡ false) (λ word. (begins_row
+        (spelled token.now) ≡ true) × (row_text word ≡ token.now.text) × (token.now.kind ≡ kind.Keyword)) }
+{
+    if !matches!(token.kind, TokenKind::Keyword) || token.glued {
+        return None;
+    }
+    row_named(token.text.as_str())
+}
+
+/// What a statement begins with that begins with no keyword and no sign of its own.
+fn label_of<'a>(token: &'a Token, rest: &'a [Token]) -> StatementLead<'a>
+    ensures gives { statement_lead_of result ≡ match_option (name_and_colon (spelled token.now ∷ map spelled
+        rest.now)) Other (λ x. LabelWord x.0 x.1) }
+    ensures places { places_from result (kept (token.now ∷ rest.now)) ≡ kept (token.now ∷ rest.now) }
+    ensures shorter { LeadIsBelow result (suc (length rest.now)) }
+{
+    if !is_word_name(token) {
+        return StatementLead::Other;
+    }
+    match after_sign(rest, ":") {
+        Some(behind) => StatementLead::Label(token, behind),
+        None => StatementLead::Other,
+    }
+}
+
 /// What a statement begins with, by its first token and those behind it.
-fn lead_of<'a>(token: &Token, rest: &'a [Token]) -> StatementLead<'a>
+fn lead_of<'a>(token: &'a Token, rest: &'a [Token]) -> StatementLead<'a>
     ensures gives { statement_lead_of result ≡ statement_lead (spelled token.now ∷ map spelled rest.now) }
     ensures places { places_from result (kept (token.now ∷ rest.now)) ≡ kept (token.now ∷ rest.now) }
     ensures shorter { LeadIsBelow result (suc (length rest.now)) }
 {
+    if let Some(word) = row_word(token) {
+        return StatementLead::Row(word, token.place, rest);
+    }
     if is_sign(token, ";") {
         StatementLead::Semicolon(rest)
     } else if is_sign(token, "{") {
         StatementLead::Brace(rest)
     } else if is_keyword(token, "if") {
         StatementLead::IfWord(rest)
-    } else if is_keyword(token, "while") {
-        StatementLead::WhileWord(rest)
     } else if is_keyword(token, "for") {
         StatementLead::ForWord(rest)
-    } else if is_keyword(token, "synchronized") {
-        StatementLead::SynchronizedWord(token.place, rest)
-    } else if is_keyword(token, "return") {
-        StatementLead::ReturnWord(rest)
     } else {
-        StatementLead::Other
+        label_of(token, rest)
     }
 }
 

@@ -109,7 +109,11 @@ fn is_named(kind: &TypeTree) -> bool
 }
 
 /// An exception's type.
-fn thrown(alloc: Global, limit: u32, tokens: &[Token]) -> Result<(TypeTree, &[Token]), ReadError>
+pub fn thrown(
+    alloc: Global,
+    limit: u32,
+    tokens: &[Token],
+) -> Result<(TypeTree, &[Token]), ReadError>
     requires { length tokens.now < 2 ^ 32 }
     ensures gives { Gives (λ x. (ty_of x.0, map spelled x.1.now)) result (thrown_at method_readers limit
         (map spelled tokens.now)) }

@@ -1,11 +1,14 @@
 //! Reading statements (JLS 14).
 ghost use Rattle.std.specs.Prelude.{◌≡◌, ◌∷◌};
-ghost use Rattle.std.specs.Prelude.{◌<◌, ◌≤◌, ◌^◌, suc, length, map, IfOk};
+ghost use Rattle.std.specs.Prelude.{◌<◌, ◌≤◌, ◌^◌, suc, length, map, IfOk, codes};
 ghost use Rattle.java_tree.specs.KeptPlaces.{kept, each_puts, expr_places, stmt_places};
 ghost use Rattle.java_tree.specs.Trees.{pack_stmts};
 ghost use Rattle.java_tree.specs.View.{expr_of, stmt_of};
 ghost use Rattle.java_parser_grammar.specs.Lookahead.{statement_lead};
-ghost use Rattle.java_parser_grammar.specs.StatementReading.{body_at, braces_at, if_at, while_at, sync_at, by_lead};
+ghost use Rattle.java_parser_grammar.specs.StatementReading.{body_at, braces_at, if_at, by_lead};
+ghost use Rattle.java_parser_grammar.specs.StatementReading.{row_at};
+ghost use Rattle.java_parser_methods.specs.StatementLeadView.{row_text, word_onto};
+ghost use Rattle.java_parser_methods.specs.RowReading.{labelled_at};
 ghost use Rattle.java_parser_grammar.specs.StatementReading.{stmt_at, block_at};
 ghost use Rattle.java_parser_methods.specs.HeadReading.{else_at, headed_at};
 ghost use Rattle.java_parser_grammar.specs.JavaReaders.{method_readers};
@@ -13,9 +16,14 @@ ghost use Rattle.java_parser_types.specs.Tokens.{spelled};
 ghost use Rattle.java_parser_types.specs.ReadAnswer.{Gives};
 
 use super::heads::{condition, head};
-use super::lines::{is_body, returned, simple};
-use super::lookahead::{StatementLead, behind_else, statement_lead};
-use super::nodes::{block, empty, headed, locked, repeated, with_else, without_else};
+use super::lines::{is_body, simple};
+use super::lookahead::{RowWord, StatementLead, behind_else, keyword, statement_lead};
+use super::nodes::{
+    block, empty, headed, labelled, locked, repeated, repeated_after, with_else, without_else,
+};
+use super::simple_rows::{asserted, broken, continued, returned, thrown};
+use super::switches::switch_statement;
+use super::tries::try_statement;
 use java_lexer::Token;
 use java_parser_expressions::nested::push_tree;
 use java_parser_types::error::ReadError;
@@ -67,10 +75,9 @@ fn by_lead(
             block(alloc, statements, rest)
         }
         StatementLead::IfWord(rest) => if_statement(alloc, limit, rest),
-        StatementLead::WhileWord(rest) => while_statement(alloc, limit, rest),
         StatementLead::ForWord(rest) => for_statement(alloc, limit, rest),
-        StatementLead::SynchronizedWord(place, rest) => synchronized(alloc, limit, place, rest),
-        StatementLead::ReturnWord(rest) => returned(alloc, limit, rest),
+        StatementLead::Row(word, place, rest) => row(alloc, limit, word, place, rest),
+        StatementLead::Label(name, rest) => label_statement(alloc, limit, name, rest),
         StatementLead::Other => simple(alloc, limit, tokens),
     }
 }
@@ -193,7 +200,7 @@ fn otherwise(
 
 /// Behind `while` (JLS 14.12).
 #[cycle(statements)]
-#[tactic(auto, unfolding(java_parser_grammar::specs::StatementReading::while_at))]
+#[tactic(auto, unfolding(java_parser_grammar::specs::StatementReading::pieces_at))]
 fn while_statement(
     alloc: Global,
     limit: u32,
@@ -201,14 +208,70 @@ fn while_statement(
 ) -> Result<(Box<Statement>, &[Token]), ReadError>
     requires few { length tokens.now < 2 ^ 32 }
     requires room { suc (suc limit) < 2 ^ 32 }
-    ensures gives { Gives (λ x. (stmt_of x.0.value, map spelled x.1.now)) result (while_at method_readers
-        (stmt_at method_readers limit) limit (map spelled tokens.now)) }
+    ensures gives { Gives (λ x. (stmt_of x.0.value, map spelled x.1.now)) result (row_at method_readers
+        (stmt_at method_readers limit) (block_at method_readers limit) limit (codes "while")
+        (map spelled tokens.now)) }
     ensures places { IfOk result (λ x. stmt_places x.0.value (kept x.1.now) ≡ kept tokens.now) }
     ensures shorter { IfOk result (λ x. length x.1.now ≤ length tokens.now) }
 {
     let (condition, rest) = condition(alloc, limit, tokens)?;
     let (body, rest) = body(alloc, limit, rest)?;
     repeated(alloc, condition, body, rest)
+}
+
+/// Behind a keyword that only one form begins with, and which stands at this place.
+#[cycle(statements)]
+fn row(
+    alloc: Global,
+    limit: u32,
+    word: RowWord,
+    place: Place,
+    tokens: &[Token],
+) -> Result<(Box<Statement>, &[Token]), ReadError>
+    requires few { length tokens.now < 2 ^ 32 }
+    requires room { suc (suc limit) < 2 ^ 32 }
+    ensures gives { Gives (λ x. (stmt_of x.0.value, map spelled x.1.now)) result (row_at method_readers
+        (stmt_at method_readers limit) (block_at method_readers limit) limit (row_text word)
+        (map spelled tokens.now)) }
+    ensures places { IfOk result (λ x. stmt_places x.0.value (kept x.1.now) ≡ word_onto word place
+        (kept tokens.now)) }
+    ensures shorter { IfOk result (λ x. length x.1.now ≤ length tokens.now) }
+{
+    match word {
+        RowWord::While => while_statement(alloc, limit, tokens),
+        RowWord::Do => do_statement(alloc, limit, tokens),
+        RowWord::Return => returned(alloc, limit, tokens),
+        RowWord::Break => broken(alloc, limit, tokens),
+        RowWord::Continue => continued(alloc, limit, tokens),
+        RowWord::Throw => thrown(alloc, limit, place, tokens),
+        RowWord::Synchronized => synchronized(alloc, limit, place, tokens),
+        RowWord::Switch => switch_statement(alloc, limit, tokens),
+        RowWord::Try => try_statement(alloc, limit, tokens),
+        RowWord::Assert => asserted(alloc, limit, tokens),
+    }
+}
+
+/// Behind `do` (JLS 14.13).
+#[cycle(statements)]
+#[tactic(auto, unfolding(java_parser_grammar::specs::StatementReading::pieces_at))]
+fn do_statement(
+    alloc: Global,
+    limit: u32,
+    tokens: &[Token],
+) -> Result<(Box<Statement>, &[Token]), ReadError>
+    requires few { length tokens.now < 2 ^ 32 }
+    requires room { suc (suc limit) < 2 ^ 32 }
+    ensures gives { Gives (λ x. (stmt_of x.0.value, map spelled x.1.now)) result (row_at method_readers
+        (stmt_at method_readers limit) (block_at method_readers limit) limit (codes "do")
+        (map spelled tokens.now)) }
+    ensures places { IfOk result (λ x. stmt_places x.0.value (kept x.1.now) ≡ kept tokens.now) }
+    ensures shorter { IfOk result (λ x. length x.1.now ≤ length tokens.now) }
+{
+    let (body, rest) = body(alloc, limit, tokens)?;
+    let rest = keyword(rest, "while")?;
+    let (condition, rest) = condition(alloc, limit, rest)?;
+    let rest = sign(rest, ";")?;
+    repeated_after(alloc, body, condition, rest)
 }
 
 /// Behind `for` (JLS 14.14).
@@ -232,7 +295,7 @@ fn for_statement(
 
 /// Behind `synchronized`, which stands at this place (JLS 14.19).
 #[cycle(statements)]
-#[tactic(auto, unfolding(java_parser_grammar::specs::StatementReading::sync_at))]
+#[tactic(auto, unfolding(java_parser_grammar::specs::StatementReading::pieces_at))]
 fn synchronized(
     alloc: Global,
     limit: u32,
@@ -241,12 +304,32 @@ fn synchronized(
 ) -> Result<(Box<Statement>, &[Token]), ReadError>
     requires few { length tokens.now < 2 ^ 32 }
     requires room { suc (suc limit) < 2 ^ 32 }
-    ensures gives { Gives (λ x. (stmt_of x.0.value, map spelled x.1.now)) result (sync_at method_readers
-        (block_at method_readers limit) limit (map spelled tokens.now)) }
+    ensures gives { Gives (λ x. (stmt_of x.0.value, map spelled x.1.now)) result (row_at method_readers
+        (stmt_at method_readers limit) (block_at method_readers limit) limit (codes "synchronized")
+        (map spelled tokens.now)) }
     ensures places { IfOk result (λ x. stmt_places x.0.value (kept x.1.now) ≡ place ∷ kept tokens.now) }
     ensures shorter { IfOk result (λ x. length x.1.now ≤ length tokens.now) }
 {
     let (lock, rest) = condition(alloc, limit, tokens)?;
     let (statements, rest) = read_block(alloc, limit, rest)?;
     locked(alloc, place, lock, statements, rest)
+}
+
+/// Behind a name with its `:` (JLS 14.7).
+#[cycle(statements)]
+fn label_statement<'a>(
+    alloc: Global,
+    limit: u32,
+    name: &Token,
+    tokens: &'a [Token],
+) -> Result<(Box<Statement>, &'a [Token]), ReadError>
+    requires few { length tokens.now < 2 ^ 32 }
+    requires room { suc (suc limit) < 2 ^ 32 }
+    ensures gives { Gives (λ x. (stmt_of x.0.value, map spelled x.1.now)) result (labelled_at method_readers
+        (stmt_at method_readers limit) name.now.text (map spelled tokens.now)) }
+    ensures places { IfOk result (λ x. stmt_places x.0.value (kept x.1.now) ≡ name.now.place ∷ kept tokens.now) }
+    ensures shorter { IfOk result (λ x. length x.1.now ≤ length tokens.now) }
+{
+    let (inside, rest) = body(alloc, limit, tokens)?;
+    labelled(alloc, name, inside, rest)
 }

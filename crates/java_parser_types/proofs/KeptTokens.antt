@@ -43,26 +43,19 @@ keyword_behind text (u ∷ us) t some first e =
 
 -- ---- the word of a primitive type
 
-not_new : (text : List ℕ) → is_plain_word text ≡ true → (b : Bool) → bytes_eq text (codes "new") ≡ b → b ≡ false
-not_new text plain true e =
-    let same : is_plain_word (codes "new") ≡ true = rw ((bytes_decides text (codes "new")).0 e) at plain in
+other_than : (word text : List ℕ) → is_plain_word word ≡ false → is_plain_word text ≡ true → (b : Bool)
+    → bytes_eq text word ≡ b → b ≡ false
+other_than word text lacks plain true e =
+    let same : is_plain_word word ≡ true = rw ((bytes_decides text word).0 e) at plain in
     absurd cc
-not_new text plain false e = refl
-
-not_synchronized : (text : List ℕ) → is_plain_word text ≡ true → (b : Bool)
-    → bytes_eq text (codes "synchronized") ≡ b → b ≡ false
-not_synchronized text plain true e =
-    let same : is_plain_word (codes "synchronized") ≡ true =
-    rw ((bytes_decides text (codes "synchronized")).0 e) at plain in
-    absurd cc
-not_synchronized text plain false e = refl
+other_than word text lacks plain false e = refl
 
 plain_unkept : (text : List ℕ) → is_plain_word text ≡ true → is_kept kind.Keyword text ≡ false
 plain_unkept text plain =
     rw (
-      not_new text plain (bytes_eq text (codes "new")) refl,
-      not_synchronized text plain
-          (bytes_eq text (codes "synchronized")) refl,
+      other_than (codes "new") text refl plain (bytes_eq text (codes "new")) refl,
+      other_than (codes "synchronized") text refl plain (bytes_eq text (codes "synchronized")) refl,
+      other_than (codes "throw") text refl plain (bytes_eq text (codes "throw")) refl,
     ) refl
 
 pub plain_behind : (ts : List Token) (t : Token) → 1 ≤ length ts → t ≡ get_or ts 0 t → t.kind ≡ kind.Keyword

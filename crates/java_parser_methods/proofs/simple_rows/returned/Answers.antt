@@ -1,13 +1,7 @@
 use Rattle.std.proofs.Common.{◌∙◌, ap, option_map, arith, length}
-use Rattle.java_parser_grammar.specs.StatementReading.{return_at}
 use Rattle.java_parser_methods.proofs.PassedOn.{puts_back, within_back}
 use Rattle.java_tree.specs.KeptPlaces.{kept, stmt_places, expr_places, maybe_puts}
-use Rattle.java_parser_methods.proofs.lines.returned.Goals as goal
-
-pub returns-clause-gives : goal.returns-clause-gives
-unfolding return_at
-returns-clause-gives c =
-    rw (c.in_ok-value.ensures.gives, c.in_ok-rest.ensures.gives) c.returning.ensures.gives
+use Rattle.java_parser_methods.proofs.simple_rows.returned.Goals as goal
 
 pub returns-clause-places : goal.returns-clause-places
 returns-clause-places c =

@@ -1,0 +1,479 @@
+use Rattle.std.proofs.Common.{◌≡◌, ℕ, Bool, true, false, codes, length, suc, ◌-◌, ◌++◌, ◌∷◌, [], map, refl, sym, ap, ◌∙◌, arith}
+use Rattle.std.proofs.lemmas.Result.{err_from_is_err_and}
+use Rattle.std.proofs.lemmas.List.{map_push}
+use Rattle.java_tree.specs.KeptPlaces.{kept, expr_places, stmt_places, group_places, catch_places}
+use Rattle.java_parser_types.proofs.PutPlaces.{one_put}
+use Rattle.java_tree.specs.View.{stmt_of, group_of, catch_of}
+use Rattle.java_parser_grammar.specs.StatementReading.{braces_at, by_lead, stmt_at, block_at, body_at, condition_at}
+use Rattle.java_parser_grammar.specs.StatementReading.{if_at, row_at, pieces_at, group_stmts_at, groups_at}
+use Rattle.java_parser_grammar.specs.Lookahead.{StatementLead, statement_lead}
+use Rattle.java_tree.specs.Rows.{catch_row}
+use Rattle.java_parser_methods.specs.RowReading.{clauses_at}
+use Rattle.java_parser_grammar.specs.JavaReaders.{method_readers}
+use Rattle.java_parser_types.specs.Tokens.{spelled}
+use Rattle.java_parser_types.specs.Endings.{block_end}
+use Rattle.java_parser_methods.specs.HeadReading.{head_at}
+use Rattle.java_parser_types.proofs.ReadParts.{part_fails}
+use Rattle.java_parser_methods.proofs.ForHeads.{for_is_headed}
+use Rattle.java_parser_types.proofs.ReadLoops.{ends_give}
+use Rattle.java_parser_methods.proofs.StatementLoops.{statement_goes_on, statement_fails, statements_end}
+use Rattle.java_parser_methods.proofs.StatementLoops.{statements_run_out, stmt_within, block_within}
+use Rattle.java_tree.specs.Formed.{is_body}
+use Rattle.java_parser_methods.specs.HeadView.{head_places}
+use Rattle.java_parser_methods.proofs.PassedOn.{puts_back, within_back, tested_no, tested_yes}
+use Rattle.java_parser_methods.specs.StatementLeadView.{row_text}
+use Rattle.java_parser_methods.proofs.RowLoops.{grouped_goes_on, grouped_fails, grouped_ends, grouped_runs_out}
+use Rattle.java_parser_methods.proofs.RowLoops.{group_goes_on, group_fails, groups_end, groups_run_out, row_goes_on}
+use Rattle.java_parser_methods.proofs.RowLoops.{row_fails, rows_end, no_keyword, nothing_before, no_group_before}
+use Rattle.java_parser_methods.proofs.RowLoops.{no_row_before}
+use Rattle.java_parser_methods.proofs.TryParts.{try_by_parts}
+use Rattle.java_parser_methods.proofs.+statements.Goals as goal
+use Rattle.java_parser_methods.proofs.+statements.Goals.{switches::group_statements-else-loop-test}
+use Rattle.java_parser_methods.proofs.+statements.Goals.{switches::group_statements-then-loop-test+then-ends_group}
+use Rattle.java_parser_methods.proofs.+statements.Goals.{tries::clauses-else-loop-test}
+use Rattle.java_parser_methods.proofs.+statements.Goals.{tries::clauses-then-loop-test+in_default}
+
+pub statements::braces-returns-in-Some-clause-gives : goal.statements::braces-returns-in-Some-clause-gives
+statements::braces-returns-in-Some-clause-gives t c =
+    let read = stmt_at method_readers c.args.limit in
+    statements_end method_readers read block_end (braces_at method_readers read (map spelled c.args.tokens.now))
+    c.args.tokens.now c.loop.counter (map stmt_of c.loop.items.items) (map spelled c.loop.rest.now)
+    (map spelled c.in-Some.after.now) c.loop-test.true c.in-Some.ensures.gives c.loop.invariant.gives
+
+pub statements::braces-returns-in_err-next-clause-gives : goal.statements::braces-returns-in_err-next-clause-gives
+statements::braces-returns-in_err-next-clause-gives t c =
+    let read = stmt_at method_readers c.args.limit in
+    let p = err_from_is_err_and c.from_residual.result c.from_residual.ensures.1 in
+    rw (p.1, p.2) (statement_fails method_readers read block_end (braces_at method_readers read
+    (map spelled c.args.tokens.now)) c.args.tokens.now c.loop.counter (map stmt_of c.loop.items.items)
+    c.in_err-next.field-0.0 (map spelled c.loop.rest.now) c.loop-test.true c.in_default.ensures.gives
+    c.in_err-next.ensures.gives c.loop.invariant.gives)
+
+pub statements::braces-loop-preserved : goal.statements::braces-loop-preserved
+statements::braces-loop-preserved t c =
+    let n = c.in_ok-next.next.value in
+    let e : map stmt_of c.push_tree.new.trees.items ≡ map stmt_of c.loop.items.items ++ stmt_of n ∷ [] =
+    rw c.in_ok-push_tree.ensures.items (map_push _ c.loop.items.items n) in
+    let read = stmt_at method_readers c.args.limit in
+    record {
+      gives = rw e (statement_goes_on method_readers read block_end (braces_at method_readers read
+          (map spelled c.args.tokens.now)) c.args.tokens.now c.loop.counter (map stmt_of c.loop.items.items)
+          (stmt_of n) (map spelled c.loop.rest.now) (map spelled c.in_ok-next.after.now) c.loop-test.true
+          c.in_default.ensures.gives c.in_ok-next.ensures.gives c.loop.invariant.gives);
+      places = rw c.in_ok-push_tree.ensures.items (one_put stmt_places c.loop.items.items n (kept c.loop.rest.now)
+          (kept c.in_ok-next.after.now) _ c.in_ok-next.ensures.places c.loop.invariant.places);
+      shorter = omega (arith, c.in_ok-next.ensures.shorter);
+    }
+
+pub statements::braces-returns-clause-gives : goal.statements::braces-returns-clause-gives
+statements::braces-returns-clause-gives t c =
+    let read = stmt_at method_readers c.args.limit in
+    statements_run_out method_readers read block_end (braces_at method_readers read (map spelled c.args.tokens.now))
+    c.args.tokens.now c.loop.counter (map stmt_of c.loop.items.items) (map spelled c.loop.rest.now)
+    c.loop-test.false c.loop.invariant.gives
+
+pub statements::by_lead-returns-in-ForWord-clause-gives : goal.statements::by_lead-returns-in-ForWord-clause-gives
+statements::by_lead-returns-in-ForWord-clause-gives t c =
+    let ts = map spelled c.args.tokens.now in
+    let read = stmt_at method_readers c.args.limit in
+    let block = block_at method_readers c.args.limit in
+    let total = by_lead method_readers read block c.args.limit (statement_lead ts) ts in
+    ends_give _ c.for_statement.result total _ (ap (λ (l : StatementLead). by_lead method_readers read block
+    c.args.limit l ts) (sym c.in-ForWord.ensures.gives) ∙ for_is_headed method_readers read c.args.limit
+    (map spelled c.in-ForWord.rest.now)) c.for_statement.ensures.gives
+
+pub statements::read_statement-returns-clause-gives : goal.statements::read_statement-returns-clause-gives
+statements::read_statement-returns-clause-gives t c =
+    let ts = map spelled c.args.tokens.now in
+    let m : ℕ = c.args.limit - 1 in
+    let less : c.args.limit ≡ suc m = omega arith in
+    ends_give _ c.by_lead.result (stmt_at method_readers c.args.limit ts) _ (stmt_within method_readers c.args.limit m
+    ts less) c.by_lead.ensures.gives
+
+pub statements::read_block-returns-clause-gives : goal.statements::read_block-returns-clause-gives
+statements::read_block-returns-clause-gives t c =
+    let ts = map spelled c.args.tokens.now in
+    let m : ℕ = c.args.limit - 1 in
+    let less : c.args.limit ≡ suc m = omega arith in
+    ends_give _ c.braces.result (block_at method_readers c.args.limit ts) _ (block_within method_readers c.args.limit
+    m ts less (map spelled c.in_ok-rest.rest.now) c.in_ok-rest.ensures.gives) c.braces.ensures.gives
+
+-- ---- what is read of parts
+
+pub statements::by_lead-returns-in-Semicolon-clause-gives : goal.statements::by_lead-returns-in-Semicolon-clause-gives
+statements::by_lead-returns-in-Semicolon-clause-gives t c = ends_give _ c.empty.result (by_lead method_readers (stmt_at
+    method_readers c.args.limit) (block_at method_readers c.args.limit) c.args.limit (statement_lead (map spelled
+    c.args.tokens.now)) (map spelled c.args.tokens.now)) _ (ap (λ (l : StatementLead). by_lead method_readers
+    (stmt_at method_readers c.args.limit) (block_at method_readers c.args.limit) c.args.limit l (map spelled
+    c.args.tokens.now)) (sym c.in-Semicolon.ensures.gives)) c.empty.ensures.gives
+
+pub statements::by_lead-returns-in-IfWord-clause-gives : goal.statements::by_lead-returns-in-IfWord-clause-gives
+statements::by_lead-returns-in-IfWord-clause-gives t c = ends_give _ c.if_statement.result (by_lead method_readers (stmt_at
+    method_readers c.args.limit) (block_at method_readers c.args.limit) c.args.limit (statement_lead (map spelled
+    c.args.tokens.now)) (map spelled c.args.tokens.now)) _ (ap (λ (l : StatementLead). by_lead method_readers
+    (stmt_at method_readers c.args.limit) (block_at method_readers c.args.limit) c.args.limit l (map spelled
+    c.args.tokens.now)) (sym c.in-IfWord.ensures.gives)) c.if_statement.ensures.gives
+
+pub statements::by_lead-returns-in-Other-clause-gives : goal.statements::by_lead-returns-in-Other-clause-gives
+statements::by_lead-returns-in-Other-clause-gives t c = ends_give _ c.simple.result (by_lead method_readers (stmt_at
+    method_readers c.args.limit) (block_at method_readers c.args.limit) c.args.limit (statement_lead (map spelled
+    c.args.tokens.now)) (map spelled c.args.tokens.now)) _ (ap (λ (l : StatementLead). by_lead method_readers
+    (stmt_at method_readers c.args.limit) (block_at method_readers c.args.limit) c.args.limit l (map spelled
+    c.args.tokens.now)) (sym c.in-Other.ensures.gives)) c.simple.ensures.gives
+
+pub statements::body-returns-in_err-body-clause-gives : goal.statements::body-returns-in_err-body-clause-gives
+statements::body-returns-in_err-body-clause-gives t c =
+    let p = err_from_is_err_and c.from_residual.result c.from_residual.ensures.1 in
+    rw (p.1, p.2) (part_fails c.in_err-body.field-0.0 (stmt_at method_readers c.args.limit (map spelled
+    c.args.tokens.now)) _ (λ n. rw n refl) c.in_err-body.ensures.gives)
+
+pub statements::if_statement-returns-in_err-condition-clause-gives : goal.statements::if_statement-returns-in_err-condition-clause-gives
+unfolding if_at
+statements::if_statement-returns-in_err-condition-clause-gives t c =
+    let p = err_from_is_err_and c.from_residual.result c.from_residual.ensures.1 in
+    rw (p.1, p.2) (part_fails c.in_err-condition.field-0.0 (condition_at method_readers c.args.limit (map spelled
+    c.args.tokens.now)) _ (λ n. rw n refl) c.in_err-condition.ensures.gives)
+
+pub statements::if_statement-returns-in_err-then-clause-gives : goal.statements::if_statement-returns-in_err-then-clause-gives
+unfolding if_at
+statements::if_statement-returns-in_err-then-clause-gives t c =
+    let p = err_from_is_err_and c.from_residual-in_err-then.result c.from_residual-in_err-then.ensures.1 in
+    rw (p.1, p.2) (part_fails c.in_err-then.field-0.0 (body_at method_readers (stmt_at method_readers c.args.limit)
+    (map spelled c.in_ok-condition.rest.now)) _ (λ n. rw (c.in_ok-condition.ensures.gives, n) refl)
+    c.in_err-then.ensures.gives)
+
+pub statements::if_statement-returns-clause-gives : goal.statements::if_statement-returns-clause-gives
+unfolding if_at
+statements::if_statement-returns-clause-gives t c = rw (c.in_ok-condition.ensures.gives, c.in_ok-then.ensures.gives)
+    c.otherwise.ensures.gives
+
+pub statements::otherwise-returns-in_default-clause-gives : goal.statements::otherwise-returns-in_default-clause-gives
+statements::otherwise-returns-in_default-clause-gives t c = rw c.in_default.ensures.gives c.without_else.ensures.gives
+
+pub statements::otherwise-returns-in_err-other-clause-gives : goal.statements::otherwise-returns-in_err-other-clause-gives
+statements::otherwise-returns-in_err-other-clause-gives t c =
+    let p = err_from_is_err_and c.from_residual.result c.from_residual.ensures.1 in
+    rw (p.1, p.2) (part_fails c.in_err-other.field-0.0 (body_at method_readers (stmt_at method_readers c.args.limit)
+    (map spelled c.in-Some.after.now)) _ (λ n. rw (c.in-Some.ensures.gives, n) refl) c.in_err-other.ensures.gives)
+
+pub statements::otherwise-returns-clause-gives : goal.statements::otherwise-returns-clause-gives
+statements::otherwise-returns-clause-gives t c = rw (c.in-Some.ensures.gives, c.in_ok-other.ensures.gives)
+    c.with_else.ensures.gives
+
+pub statements::for_statement-returns-in_err-head-clause-gives : goal.statements::for_statement-returns-in_err-head-clause-gives
+statements::for_statement-returns-in_err-head-clause-gives t c =
+    let p = err_from_is_err_and c.from_residual.result c.from_residual.ensures.1 in
+    rw (p.1, p.2) (part_fails c.in_err-head.field-0.0 (head_at method_readers c.args.limit (map spelled
+    c.args.tokens.now)) _ (λ n. rw n refl) c.in_err-head.ensures.gives)
+
+pub statements::for_statement-returns-in_err-body-clause-gives : goal.statements::for_statement-returns-in_err-body-clause-gives
+statements::for_statement-returns-in_err-body-clause-gives t c =
+    let p = err_from_is_err_and c.from_residual-in_err-body.result c.from_residual-in_err-body.ensures.1 in
+    rw (p.1, p.2) (part_fails c.in_err-body.field-0.0 (body_at method_readers (stmt_at method_readers c.args.limit)
+    (map spelled c.in_ok-head.rest.now)) _ (λ n. rw (c.in_ok-head.ensures.gives, n) refl)
+    c.in_err-body.ensures.gives)
+
+pub statements::for_statement-returns-clause-gives : goal.statements::for_statement-returns-clause-gives
+statements::for_statement-returns-clause-gives t c = rw (c.in_ok-head.ensures.gives, c.in_ok-body.ensures.gives)
+    c.headed.ensures.gives
+
+-- ---- places, and how many tokens are left
+
+pub statements::synchronized-returns-clause-places : goal.statements::synchronized-returns-clause-places
+statements::synchronized-returns-clause-places t c = puts_back c.locked.result (λ x. stmt_places x.0.value (kept x.1.now)) _ _
+    (ap (λ ps. c.args.place ∷ expr_places c.in_ok-lock.lock.value ps) c.in_ok-statements.ensures.places
+    ∙ ap (λ ps. c.args.place ∷ ps) c.in_ok-lock.ensures.places) c.locked.ensures.places
+
+pub statements::synchronized-returns-clause-shorter : goal.statements::synchronized-returns-clause-shorter
+statements::synchronized-returns-clause-shorter t c = within_back c.locked.result (λ x. length x.1.now) _ _ (omega (
+  arith,
+  c.in_ok-lock.ensures.shorter,
+  c.in_ok-statements.ensures.shorter,
+))
+    c.locked.ensures.shorter
+
+pub statements::for_statement-returns-clause-places : goal.statements::for_statement-returns-clause-places
+statements::for_statement-returns-clause-places t c = puts_back c.headed.result (λ x. stmt_places x.0.value (kept x.1.now)) _ _
+    (ap (λ ps. head_places c.in_ok-head.head ps) c.in_ok-body.ensures.places ∙ c.in_ok-head.ensures.places)
+    c.headed.ensures.places
+
+pub statements::for_statement-returns-clause-shorter : goal.statements::for_statement-returns-clause-shorter
+statements::for_statement-returns-clause-shorter t c = within_back c.headed.result (λ x. length x.1.now) _ _ (omega (
+  arith,
+  c.in_ok-head.ensures.shorter,
+  c.in_ok-body.ensures.shorter,
+))
+    c.headed.ensures.shorter
+
+pub statements::while_statement-returns-clause-places : goal.statements::while_statement-returns-clause-places
+statements::while_statement-returns-clause-places t c = puts_back c.repeated.result (λ x. stmt_places x.0.value (kept x.1.now))
+    _ _
+    (ap (λ ps. expr_places c.in_ok-condition.condition.value ps) c.in_ok-body.ensures.places
+    ∙ c.in_ok-condition.ensures.places) c.repeated.ensures.places
+
+pub statements::while_statement-returns-clause-shorter : goal.statements::while_statement-returns-clause-shorter
+statements::while_statement-returns-clause-shorter t c = within_back c.repeated.result (λ x. length x.1.now) _ _ (omega (
+  arith,
+  c.in_ok-condition.ensures.shorter,
+  c.in_ok-body.ensures.shorter,
+))
+    c.repeated.ensures.shorter
+
+pub statements::if_statement-returns-clause-places : goal.statements::if_statement-returns-clause-places
+statements::if_statement-returns-clause-places t c = puts_back c.otherwise.result (λ x. stmt_places x.0.value (kept x.1.now)) _ _
+    (ap (λ ps. expr_places c.in_ok-condition.condition.value ps) c.in_ok-then.ensures.places
+    ∙ c.in_ok-condition.ensures.places) c.otherwise.ensures.places
+
+pub statements::if_statement-returns-clause-shorter : goal.statements::if_statement-returns-clause-shorter
+statements::if_statement-returns-clause-shorter t c = within_back c.otherwise.result (λ x. length x.1.now) _ _ (omega (
+  arith,
+  c.in_ok-condition.ensures.shorter,
+  c.in_ok-then.ensures.shorter,
+))
+    c.otherwise.ensures.shorter
+
+pub statements::otherwise-returns-clause-places : goal.statements::otherwise-returns-clause-places
+statements::otherwise-returns-clause-places t c = puts_back c.with_else.result (λ x. stmt_places x.0.value (kept x.1.now)) _ _
+    (ap (λ ps. expr_places c.args.condition.value (stmt_places c.args.then.value ps))
+    (c.in_ok-other.ensures.places ∙ c.in-Some.ensures.places)) c.with_else.ensures.places
+
+pub statements::otherwise-returns-clause-shorter : goal.statements::otherwise-returns-clause-shorter
+statements::otherwise-returns-clause-shorter t c = within_back c.with_else.result (λ x. length x.1.now) _ _ (omega (
+  arith,
+  c.in_ok-other.ensures.shorter,
+  c.in-Some.ensures.shorter,
+))
+    c.with_else.ensures.shorter
+
+pub statements::body-returns-then-not-is_body-clause-gives : goal.statements::body-returns-then-not-is_body-clause-gives
+statements::body-returns-then-not-is_body-clause-gives t c = tested_no (stmt_at method_readers c.args.limit (map spelled
+    c.args.tokens.now))
+    (stmt_of c.in_ok-body.body.value, map spelled c.in_ok-body.rest.now) (λ x. is_body x.0) c.in_ok-body.ensures.gives
+    (ap (λ s. is_body (stmt_of s)) (sym c.deref.ensures) ∙ sym c.is_body.ensures ∙ c.if-not-is_body.true)
+
+pub statements::body-returns-clause-gives : goal.statements::body-returns-clause-gives
+statements::body-returns-clause-gives t c = tested_yes (stmt_at method_readers c.args.limit (map spelled c.args.tokens.now))
+    (stmt_of c.in_ok-body.body.value, map spelled c.in_ok-body.rest.now) (λ x. is_body x.0) c.in_ok-body.ensures.gives
+    (ap (λ s. is_body (stmt_of s)) (sym c.deref.ensures) ∙ sym c.is_body.ensures ∙ c.if-not-is_body.false)
+
+-- ---- what a call at the end of an arm says
+
+pub statements::by_lead-returns-in-Semicolon-clause-places : goal.statements::by_lead-returns-in-Semicolon-clause-places
+statements::by_lead-returns-in-Semicolon-clause-places t c =
+    puts_back c.empty.result (λ x. stmt_places x.0.value (kept x.1.now)) _ _ c.in-Semicolon.ensures.places
+    c.empty.ensures.places
+
+pub statements::by_lead-returns-in-Semicolon-clause-shorter : goal.statements::by_lead-returns-in-Semicolon-clause-shorter
+statements::by_lead-returns-in-Semicolon-clause-shorter t c =
+    within_back c.empty.result (λ x. length x.1.now) _ _ (omega (arith, c.in-Semicolon.ensures.shorter))
+    c.empty.ensures.shorter
+
+pub statements::by_lead-returns-in-IfWord-clause-places : goal.statements::by_lead-returns-in-IfWord-clause-places
+statements::by_lead-returns-in-IfWord-clause-places t c =
+    puts_back c.if_statement.result (λ x. stmt_places x.0.value (kept x.1.now)) _ _ c.in-IfWord.ensures.places
+    c.if_statement.ensures.places
+
+pub statements::by_lead-returns-in-IfWord-clause-shorter : goal.statements::by_lead-returns-in-IfWord-clause-shorter
+statements::by_lead-returns-in-IfWord-clause-shorter t c =
+    within_back c.if_statement.result (λ x. length x.1.now) _ _ (omega (arith, c.in-IfWord.ensures.shorter))
+    c.if_statement.ensures.shorter
+
+pub statements::by_lead-returns-in-ForWord-clause-places : goal.statements::by_lead-returns-in-ForWord-clause-places
+statements::by_lead-returns-in-ForWord-clause-places t c =
+    puts_back c.for_statement.result (λ x. stmt_places x.0.value (kept x.1.now)) _ _ c.in-ForWord.ensures.places
+    c.for_statement.ensures.places
+
+pub statements::by_lead-returns-in-ForWord-clause-shorter : goal.statements::by_lead-returns-in-ForWord-clause-shorter
+statements::by_lead-returns-in-ForWord-clause-shorter t c =
+    within_back c.for_statement.result (λ x. length x.1.now) _ _ (omega (arith, c.in-ForWord.ensures.shorter))
+    c.for_statement.ensures.shorter
+
+-- ---- groups and clauses
+
+pub statements::row-returns-in-Try-clause-gives : goal.statements::row-returns-in-Try-clause-gives
+statements::row-returns-in-Try-clause-gives t c =
+    let ts = map spelled c.args.tokens.now in
+    let read = stmt_at method_readers c.args.limit in
+    let block = block_at method_readers c.args.limit in
+    ends_give _ c.try_statement.result (row_at method_readers read block c.args.limit (row_text c.args.word) ts) _
+    (ap (λ w. row_at method_readers read block c.args.limit (row_text w) ts) c.in-Try.is ∙ try_by_parts method_readers
+    read block c.args.limit ts) c.try_statement.ensures.gives
+
+pub switches::group_statements-returns-in_err-next-clause-gives :
+    goal.switches::group_statements-returns-in_err-next-clause-gives
+switches::group_statements-returns-in_err-next-clause-gives t c =
+    let read = stmt_at method_readers c.args.limit in
+    let total = group_stmts_at method_readers read (suc (length (map spelled c.args.tokens.now))) (map spelled
+    c.args.tokens.now) in
+    let p = err_from_is_err_and c.from_residual.result c.from_residual.ensures.1 in
+    rw (p.1, p.2) (grouped_fails method_readers read total c.args.tokens.now c.loop.counter (map stmt_of
+    c.loop.items.items) c.in_err-next.field-0.0 (map spelled c.loop.rest.now) c.loop-test.true (sym c.ends_group.ensures
+    ∙ c.if-ends_group.false) c.in_err-next.ensures.gives c.loop.invariant.gives)
+
+pub switches::group_statements-loop-preserved : goal.switches::group_statements-loop-preserved
+switches::group_statements-loop-preserved t c =
+    let n = c.in_ok-next.next.value in
+    let e : map stmt_of c.push_tree.new.trees.items ≡ map stmt_of c.loop.items.items ++ stmt_of n ∷ [] =
+    rw c.in_ok-push_tree.ensures.items (map_push _ c.loop.items.items n) in
+    let read = stmt_at method_readers c.args.limit in
+    let total = group_stmts_at method_readers read (suc (length (map spelled c.args.tokens.now))) (map spelled
+    c.args.tokens.now) in
+    record {
+      gives = rw e (grouped_goes_on method_readers read total c.args.tokens.now c.loop.counter (map stmt_of
+          c.loop.items.items) (stmt_of n) (map spelled c.loop.rest.now) (map spelled c.in_ok-next.after.now)
+          c.loop-test.true (sym c.ends_group.ensures ∙ c.if-ends_group.false) c.in_ok-next.ensures.gives
+          c.loop.invariant.gives);
+      places = rw c.in_ok-push_tree.ensures.items (one_put stmt_places c.loop.items.items n (kept c.loop.rest.now)
+          (kept c.in_ok-next.after.now) _ c.in_ok-next.ensures.places c.loop.invariant.places);
+      few = omega (arith, c.loop-test.true);
+      shorter = omega (arith, c.in_ok-next.ensures.shorter, c.loop.invariant.shorter);
+    }
+
+pub switches::group_statements-loop-init : goal.switches::group_statements-loop-init
+switches::group_statements-loop-init t c =
+    let all : suc (length (map spelled c.args.tokens.now)) - 0 ≡ suc (length (map spelled c.args.tokens.now)) =
+    omega arith in
+    record {
+      gives = rw (c.new-items.ensures.items, all) (nothing_before _);
+      places = rw c.new-items.ensures.items refl;
+      few = omega arith;
+      shorter = omega arith;
+    }
+
+pub switches::group_statements-returns-then-not-ends_group-clause-gives :
+    goal.switches::group_statements-returns-then-not-ends_group-clause-gives
+switches::group_statements-returns-then-not-ends_group-clause-gives t c =
+    let read = stmt_at method_readers c.args.limit in
+    let total = group_stmts_at method_readers read (suc (length (map spelled c.args.tokens.now))) (map spelled
+    c.args.tokens.now) in
+    elim c.loop-test.branch [
+      | switches::group_statements-else-loop-test w ↦ grouped_runs_out method_readers read total c.args.tokens.now
+          c.loop.counter (map stmt_of c.loop.items.items) (map spelled c.loop.rest.now) w.loop-test.false
+          c.loop.invariant.few (sym c.ends_group-2.ensures ∙ c.if-not-ends_group.true) c.loop.invariant.gives
+      | switches::group_statements-then-loop-test+then-ends_group w ↦
+          let both : true ≡ false =
+          sym w.if-ends_group.true ∙ (w.ends_group.ensures ∙ (sym c.ends_group-2.ensures ∙ c.if-not-ends_group.true)) in
+          absurd cc
+    ]
+
+pub switches::group_statements-returns-clause-gives : goal.switches::group_statements-returns-clause-gives
+switches::group_statements-returns-clause-gives t c =
+    let read = stmt_at method_readers c.args.limit in
+    let total = group_stmts_at method_readers read (suc (length (map spelled c.args.tokens.now))) (map spelled
+    c.args.tokens.now) in
+    grouped_ends method_readers read total c.args.tokens.now c.loop.counter (map stmt_of c.loop.items.items)
+    (map spelled c.loop.rest.now) c.loop.invariant.few (sym c.ends_group-2.ensures ∙ c.if-not-ends_group.false)
+    c.loop.invariant.gives
+
+pub switches::groups-returns-in-Some-clause-gives : goal.switches::groups-returns-in-Some-clause-gives
+switches::groups-returns-in-Some-clause-gives t c =
+    let read = stmt_at method_readers c.args.limit in
+    let total = groups_at method_readers read c.args.limit (length (map spelled c.args.tokens.now)) (map spelled
+    c.args.tokens.now) in
+    groups_end method_readers read c.args.limit total c.args.tokens.now c.loop.counter (map group_of c.loop.items.items)
+    (map spelled c.loop.rest.now) (map spelled c.in-Some.after.now) c.loop-test.true c.in-Some.ensures.gives
+    c.loop.invariant.gives
+
+pub switches::groups-returns-in_err-next-clause-gives : goal.switches::groups-returns-in_err-next-clause-gives
+switches::groups-returns-in_err-next-clause-gives t c =
+    let read = stmt_at method_readers c.args.limit in
+    let total = groups_at method_readers read c.args.limit (length (map spelled c.args.tokens.now)) (map spelled
+    c.args.tokens.now) in
+    let p = err_from_is_err_and c.from_residual.result c.from_residual.ensures.1 in
+    rw (p.1, p.2) (group_fails method_readers read c.args.limit total c.args.tokens.now c.loop.counter (map group_of
+    c.loop.items.items) c.in_err-next.field-0.0 (map spelled c.loop.rest.now) c.loop-test.true
+    c.in_default.ensures.gives c.in_err-next.ensures.gives c.loop.invariant.gives)
+
+pub switches::groups-loop-preserved : goal.switches::groups-loop-preserved
+switches::groups-loop-preserved t c =
+    let n = c.in_ok-next.next in
+    let e : map group_of c.push.new.self.items ≡ map group_of c.loop.items.items ++ group_of n ∷ [] =
+    rw c.in_ok-push.ensures.items (map_push _ c.loop.items.items n) in
+    let read = stmt_at method_readers c.args.limit in
+    let total = groups_at method_readers read c.args.limit (length (map spelled c.args.tokens.now)) (map spelled
+    c.args.tokens.now) in
+    record {
+      gives = rw e (group_goes_on method_readers read c.args.limit total c.args.tokens.now c.loop.counter (map group_of
+          c.loop.items.items) (group_of n) (map spelled c.loop.rest.now) (map spelled c.in_ok-next.after.now)
+          c.loop-test.true c.in_default.ensures.gives c.in_ok-next.ensures.gives c.loop.invariant.gives);
+      places = rw c.in_ok-push.ensures.items (one_put group_places c.loop.items.items n (kept c.loop.rest.now)
+          (kept c.in_ok-next.after.now) _ c.in_ok-next.ensures.places c.loop.invariant.places);
+      shorter = omega (arith, c.in_ok-next.ensures.shorter, c.loop.invariant.shorter);
+    }
+
+pub switches::groups-loop-init : goal.switches::groups-loop-init
+switches::groups-loop-init t c =
+    let all : length (map spelled c.args.tokens.now) - 0 ≡ length (map spelled c.args.tokens.now) = omega arith in
+    record {
+      gives = rw (c.new-items.ensures.items, all) (no_group_before _);
+      places = rw c.new-items.ensures.items refl;
+      shorter = omega arith;
+    }
+
+pub switches::groups-returns-clause-gives : goal.switches::groups-returns-clause-gives
+switches::groups-returns-clause-gives t c =
+    let read = stmt_at method_readers c.args.limit in
+    let total = groups_at method_readers read c.args.limit (length (map spelled c.args.tokens.now)) (map spelled
+    c.args.tokens.now) in
+    groups_run_out method_readers read c.args.limit total c.args.tokens.now c.loop.counter (map group_of
+    c.loop.items.items) (map spelled c.loop.rest.now) c.loop-test.false c.loop.invariant.gives
+
+pub tries::clauses-returns-in_err-next-clause-gives : goal.tries::clauses-returns-in_err-next-clause-gives
+tries::clauses-returns-in_err-next-clause-gives t c =
+    let read = stmt_at method_readers c.args.limit in
+    let block = block_at method_readers c.args.limit in
+    let total = clauses_at method_readers read block c.args.limit (map spelled c.args.tokens.now) in
+    let p = err_from_is_err_and c.from_residual.result c.from_residual.ensures.1 in
+    rw (p.1, p.2) (row_fails method_readers (pieces_at method_readers read block c.args.limit catch_row)
+    (codes "catch") total c.args.tokens.now c.loop.counter (map catch_of c.loop.items.items) c.in_err-next.field-0.0
+    (map spelled c.loop.rest.now) (map spelled c.in-Some.after.now) c.loop-test.true c.in-Some.ensures.gives
+    c.in_err-next.ensures.gives c.loop.invariant.gives)
+
+pub tries::clauses-loop-preserved : goal.tries::clauses-loop-preserved
+tries::clauses-loop-preserved t c =
+    let n = c.in_ok-next.next in
+    let e : map catch_of c.push.new.self.items ≡ map catch_of c.loop.items.items ++ catch_of n ∷ [] =
+    rw c.in_ok-push.ensures.items (map_push _ c.loop.items.items n) in
+    let read = stmt_at method_readers c.args.limit in
+    let block = block_at method_readers c.args.limit in
+    let total = clauses_at method_readers read block c.args.limit (map spelled c.args.tokens.now) in
+    record {
+      gives = rw e (row_goes_on method_readers (pieces_at method_readers read block c.args.limit catch_row)
+          (codes "catch") total c.args.tokens.now c.loop.counter (map catch_of c.loop.items.items) (catch_of n)
+          (map spelled c.loop.rest.now) (map spelled c.in-Some.after.now) (map spelled c.in_ok-next.after.now)
+          c.loop-test.true c.in-Some.ensures.gives c.in_ok-next.ensures.gives c.loop.invariant.gives);
+      places = rw c.in_ok-push.ensures.items (one_put catch_places c.loop.items.items n (kept c.loop.rest.now)
+          (kept c.in_ok-next.after.now) _ (c.in_ok-next.ensures.places ∙ c.in-Some.ensures.places)
+          c.loop.invariant.places);
+      few = omega (arith, c.in-Some.ensures.shorter, c.in_ok-next.ensures.shorter, c.loop.invariant.few);
+    }
+
+pub tries::clauses-loop-init : goal.tries::clauses-loop-init
+tries::clauses-loop-init t c =
+    let all : suc (length (map spelled c.args.tokens.now)) - 0 ≡ suc (length (map spelled c.args.tokens.now)) =
+    omega arith in
+    record {
+      gives = rw (c.new-items.ensures.items, all) (no_row_before _);
+      places = rw c.new-items.ensures.items refl;
+      few = omega arith;
+    }
+
+pub tries::clauses-returns-clause-gives : goal.tries::clauses-returns-clause-gives
+tries::clauses-returns-clause-gives t c =
+    let read = stmt_at method_readers c.args.limit in
+    let block = block_at method_readers c.args.limit in
+    let total = clauses_at method_readers read block c.args.limit (map spelled c.args.tokens.now) in
+    let one = pieces_at method_readers read block c.args.limit catch_row in
+    elim c.loop-test.branch [
+      | tries::clauses-else-loop-test w ↦ rows_end method_readers one (codes "catch") total c.args.tokens.now
+          c.loop.counter (map catch_of c.loop.items.items) (map spelled c.loop.rest.now) (omega (
+            arith,
+            c.loop.invariant.few,
+          )) (no_keyword (codes "catch") c.loop.rest.now (omega (arith, c.loop.invariant.few, w.loop-test.false)))
+          c.loop.invariant.gives
+      | tries::clauses-then-loop-test+in_default w ↦ rows_end method_readers one (codes "catch") total
+          c.args.tokens.now c.loop.counter (map catch_of c.loop.items.items) (map spelled c.loop.rest.now) (omega (
+            arith,
+            c.loop.invariant.few,
+          )) w.in_default.ensures.gives c.loop.invariant.gives
+    ]

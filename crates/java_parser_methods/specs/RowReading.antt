@@ -1,0 +1,115 @@
+-- No public contract rests on this: reading parts of statements that begin with a keyword of their own, by themselves.
+use Rattle.std.specs.Prelude.{ℕ, suc, Bool, true, false, ◌||◌, List, [], ◌∷◌, ◌++◌, length, Option, Some, None, option_map, codes}
+use Rattle.std.specs.Prelude.{if◌then◌else◌, is_some}
+use Rattle.java_tree.specs.declared.words.Spelled.{Spelled}
+use Rattle.java_tree.specs.Formed.{has_some}
+use Rattle.java_tree.specs.Rows.{catch_row, Try}
+use Rattle.java_tree.specs.Trees.{Ty, Resource, Resources, Label, Default, Stmt, Stmts, pack_stmts, Labelled, Pieces}
+use Rattle.java_tree.specs.Trees.{Several, no_row, row_then, Groups, group_then}
+use Rattle.java_tree.specs.View.{Finally, Group}
+use Rattle.java_parser_grammar.specs.ExpressionReading.{Reading}
+use Rattle.java_parser_grammar.specs.Taking.{◌>>=◌, match_option, after_sign, after_keyword}
+use Rattle.java_parser_grammar.specs.Readers.{Readers}
+use Rattle.java_parser_grammar.specs.StatementReading.{body_at, labels_at, group_stmts_at, maybe_resources_at}
+use Rattle.java_parser_grammar.specs.StatementReading.{named_at, bars_at, again_at, pieces_at}
+
+-- whether there is a row
+abbrev pub has_row : Several → Bool
+has_row no_row = false
+has_row (row_then ps more) = true
+
+-- these rows, and then more
+abbrev pub rows_onto : List Pieces → Several → Several
+rows_onto [] more = more
+rows_onto (ps ∷ front) more = row_then ps (rows_onto front more)
+
+abbrev pub rows_finished : List Pieces → Option (Several × List Spelled) → Option (Several × List Spelled)
+rows_finished front read = read >>= λ x. Some (rows_onto front x.0, x.1)
+
+-- these groups, and then more
+abbrev pub groups_onto : List Group → Groups → Groups
+groups_onto [] more = more
+groups_onto (g ∷ front) more = group_then g.0 g.1 (groups_onto front more)
+
+abbrev pub groups_finished : List Group → Option (Groups × List Spelled) → Option (Groups × List Spelled)
+groups_finished front read = read >>= λ x. Some (groups_onto front x.0, x.1)
+
+-- the tokens behind the `;` before one more resource
+abbrev pub resource_behind : List Spelled → Option (List Spelled)
+resource_behind ts = match_option (after_sign (codes ")") ts) (match_option (after_sign (codes ";") ts) None (λ r.
+    match_option (after_sign (codes ")") r) (Some r) (λ s. None))) (λ s. None)
+
+-- no further resource, whether a last `;` stands, and the tokens behind the `)`
+abbrev pub resources_close : List Spelled → Option ((List Resource × Bool) × List Spelled)
+resources_close ts = match_option (after_sign (codes ")") ts) (do
+  r ← after_sign (codes ";") ts
+  s ← after_sign (codes ")") r
+  Some (([], true), s)) (λ s. Some (([], false), s))
+
+abbrev pub the_resources : List Resource → (last : Bool) → Resources
+the_resources items last = record { items = items; last = last }
+
+-- these resources, and those that are read behind them
+abbrev pub resources_end : List Resource → Option ((List Resource × Bool) × List Spelled) → Option (Resources
+    × List Spelled)
+resources_end front read = do
+  others ← read
+  Some (the_resources (front ++ others.0.0) others.0.1, others.1)
+
+-- `default :`
+abbrev pub default_at : Reading Label
+default_at ts = do
+  r ← after_keyword (codes "default") ts
+  c ← after_sign (codes ":") r
+  Some (Default, c)
+
+-- a `try` of these parts, of which one that may be left out stands
+abbrev pub try_with : Option Resources → Stmts → Several → Option Stmts → Reading Stmt
+try_with resources ss clauses last ts =
+    if is_some resources || (has_row clauses || is_some last) then Some (
+      Try resources ss clauses (option_map Finally
+          last),
+      ts,
+    ) else None
+
+module _ (readers : Readers) where
+  -- a statement behind this name and its `:`
+  abbrev pub labelled_at : Reading Stmt → (name : List ℕ) → Reading Stmt
+  labelled_at read x ts = do
+    s ← body_at readers read ts
+    Some (Labelled x s.0, s.1)
+
+  -- the types of a `catch`
+  abbrev pub caught_at : ℕ → Reading (List Ty)
+  caught_at n ts = do
+    first ← named_at readers n ts
+    others ← bars_at readers n (length first.1) first.1
+    Some (first.0 ∷ others.0, others.1)
+
+  -- labels and the statements behind them
+  abbrev pub group_at : Reading Stmt → ℕ → Reading Group
+  group_at read n ts = do
+    ls ← labels_at readers n (length ts) ts
+    if has_some ls.0 then (do
+      ss ← group_stmts_at readers read (suc (length ls.1)) ls.1
+      Some ((ls.0, pack_stmts ss.0), ss.1)) else None
+
+  -- what stands behind the `catch`es, and behind each
+  abbrev pub clauses_at : Reading Stmt → Reading Stmts → ℕ → Reading Several
+  clauses_at read block n ts = again_at readers (pieces_at readers read block n catch_row) (codes "catch") (suc (length
+      ts)) ts
+
+  -- the block behind `finally`, where this stands here
+  abbrev pub finally_at : Reading Stmts → Reading (Option Stmts)
+  finally_at block ts = match_option (after_keyword (codes "finally") ts) (Some (None, ts)) (λ r. do
+    ss ← block r
+    Some (Some ss.0, ss.1))
+
+  -- behind `try`
+  unfoldable pub try_at : Reading Stmt → Reading Stmts → ℕ → Reading Stmt
+  try_at read block n ts = do
+    resources ← maybe_resources_at readers n ts
+    ss ← block resources.1
+    clauses ← clauses_at read block n ss.1
+    last ← finally_at block clauses.1
+    try_with resources.0 ss.0 clauses.0 last.0 last.1
