@@ -9,6 +9,7 @@ mod counts;
 mod edges;
 mod fault;
 mod locals;
+mod lowered_forms;
 mod methods;
 mod programs;
 mod skipped;

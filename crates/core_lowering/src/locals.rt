@@ -45,6 +45,10 @@ fn count_statement(statement: &Statement) -> Result<usize, Memory>
         Statement::Sync(_, _, inner) => count_statements(inner.as_slice()),
         Statement::Return(_) => Ok(0),
         Statement::Empty => Ok(0),
+        // No method with one of these is lowered.
+        Statement::Do(_, _) | Statement::Throw(_, _) | Statement::Break(_) => Ok(0),
+        Statement::Continue(_) | Statement::Labelled(_, _) | Statement::Assert(_, _) => Ok(0),
+        Statement::Switch(_, _) | Statement::Try(_) => Ok(0),
     }
 }
 

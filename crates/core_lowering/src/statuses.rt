@@ -15,7 +15,7 @@ use java_resolver::Table;
 use racer_base::{MAX_LOCALS, MAX_PARAMETERS, Memory};
 use std::alloc::Global;
 
-/// Whether no tree spells a body.
+/// Whether no tree spells a body, or not one that is lowered.
 fn is_outside(body: &Body) -> bool
     ensures { result ≡ is_unspelled (body_of body.now) }
 {

@@ -3,7 +3,7 @@ use java_parser_grammar::Member;
 use java_resolver::MethodInfo;
 use java_tree::MethodTree;
 
-/// The constructor that a class has without declaring it; a tree; what no tree spells.
+/// The constructor that a class has without declaring it; a tree; what no tree spells, or not one that is lowered.
 #[derive(Clone, Copy)]
 pub enum Body<'a> {
     Default,

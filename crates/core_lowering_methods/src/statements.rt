@@ -55,6 +55,10 @@ fn lower_statement(
         Statement::Sync(place, e, all) => lower_sync(alloc, context, all, *place, e.get(), draft),
         Statement::Return(e) => lower_return(alloc, context, e, draft),
         Statement::Empty => Ok(()),
+        // No method with one of these is lowered.
+        Statement::Do(_, _) | Statement::Throw(_, _) | Statement::Break(_) => Ok(()),
+        Statement::Continue(_) | Statement::Labelled(_, _) | Statement::Assert(_, _) => Ok(()),
+        Statement::Switch(_, _) | Statement::Try(_) => Ok(()),
     }
 }
 

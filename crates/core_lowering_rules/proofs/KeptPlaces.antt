@@ -16,6 +16,7 @@ use Rattle.java_tree.specs.Words.{keyword}
 use Rattle.java_tree.specs.KeptPlaces.{Places, is_kept, all_places, each_puts, ty_places, stmt_places}
 use Rattle.java_tree.specs.MethodPlaces.{Marks, some_onto, each_marks, no_place, no_name, annotation_marks}
 use Rattle.java_tree.specs.MethodPlaces.{modifier_marks, result_places, parameter_marks, method_marks}
+use Rattle.java_tree.specs.View.{method_of}
 use Rattle.java_parser_grammar.specs.declared.unit.Unit as unit_type
 use Rattle.java_parser_grammar.specs.declared.unit.ClassTree.{ClassTree}
 use Rattle.java_parser_grammar.specs.declared.unit.Member.{Member}
@@ -24,6 +25,7 @@ use Rattle.java_resolver.specs.Declarations.{trees_of}
 use Rattle.java_resolver.specs.Declarations.{by_class}
 use Rattle.core_code.proofs.BoolParts.{both, first_part, last_part}
 use Rattle.core_lowering_rules.specs.Methods.{Body, Default, Spelled, Unspelled}
+use Rattle.core_lowering_rules.specs.LoweredForms.{are_lowered, method_body}
 use Rattle.core_lowering_rules.specs.Programs.{skipped_member, skipped_in, put_in, is_before, in_order}
 use Rattle.core_lowering_rules.specs.Conditions.{kept_of, member_places, class_places}
 use Rattle.core_lowering_rules.specs.Conditions.{unit_places}
@@ -193,5 +195,13 @@ module _ (test : Place → Bool) where
 
   abbrev pub PlacedBody : Body → Type 0
   PlacedBody Default = Unit {0}
-  PlacedBody (Spelled t) = Kept (method_marks t)
+  PlacedBody (Spelled t) = (are_lowered (method_of t).body ≡ true) × Kept (method_marks t)
   PlacedBody Unspelled = Unit {0}
+
+  by-lowered : (b : Bool) (t : MethodTree) → are_lowered (method_of t).body ≡ b → Kept (method_marks t) →
+      PlacedBody (cond b (Spelled t) Unspelled)
+  by-lowered true t low h = (low, h)
+  by-lowered false t low h = tt
+
+  pub body-placed : (t : MethodTree) → Kept (method_marks t) → PlacedBody (method_body t)
+  body-placed t h = by-lowered (are_lowered (method_of t).body) t refl h

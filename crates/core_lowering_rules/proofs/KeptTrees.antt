@@ -18,12 +18,18 @@ use Rattle.java_tree.specs.declared.statements.LocalsTree.{LocalsTree}
 use Rattle.java_tree.specs.declared.statements.StartTree.{StartTree}
 use Rattle.java_tree.specs.declared.statements.StartTree.TheVariants as start
 use Rattle.java_tree.specs.declared.statements.Statement.{Statement, roll-Statement, map-Statement}
+use Rattle.java_tree.specs.declared.statements.CatchTree.{CatchTree}
+use Rattle.java_tree.specs.declared.statements.GroupTree.{GroupTree}
+use Rattle.java_tree.specs.declared.statements.TryTree.{TryTree}
 use Rattle.java_tree.specs.declared.statements.Statement.TheOpen as statement
 use Rattle.java_tree.specs.declared.statements.Statement.TheFolds.{ind-Statement}
 use Rattle.java_tree.specs.declared.statements.Statement.TheFolds as statements
 use Rattle.java_tree.specs.KeptPlaces.{Puts, each_puts, maybe_puts, name_places, ty_places, expr_places, init_places}
 use Rattle.java_tree.specs.KeptPlaces.{array_places, variable_places, locals_places, start_places, stmt_places}
+use Rattle.java_tree.specs.KeptPlaces.{catch_places, group_places, try_places}
 use Rattle.java_tree.specs.KeptPlaces as kept
+use Rattle.java_tree.specs.Trees as view
+use Rattle.java_tree.specs.View as viewed
 use Rattle.core_code.proofs.BoolParts.{first_part, last_part}
 use Rattle.core_lowering_rules.specs.Trees.{Expr, Text, This, ClassOf, Read, Unary, Cast, Binary, Logical, Conditional}
 use Rattle.core_lowering_rules.specs.Trees.{Assign, Combine, Count, Call, CallOn, New, NewArray, NewItems, Paren}
@@ -31,7 +37,10 @@ use Rattle.core_lowering_rules.specs.Trees as tree
 use Rattle.core_lowering_rules.specs.Trees.{Init, Inits, Stmt, pack_exprs, pack_inits, pack_stmts}
 use Rattle.core_lowering_rules.specs.TreesOf.{access_of, literal, is_assignment, assignment, is_logical, binary, is_count}
 use Rattle.core_lowering_rules.specs.TreesOf.{prefix, call, expr_of, init_of, items_of, variable_of, start_of, if_of, stmt_of}
+use Rattle.core_lowering_rules.specs.TreesOf.{catch_of, group_of, try_of}
 use Rattle.core_lowering_rules.specs.TreesOf as lowered
+use Rattle.core_lowering_rules.specs.LoweredForms.{is_lowered, are_lowered}
+use Rattle.core_lowering_rules.proofs.LoweredTrees.{not-lowered, no-try}
 use Rattle.core_lowering_rules.proofs.PlacedTrees.{PlacedExpr, PlacedAccess, PlacedExprs, PlacedInit, PlacedInits}
 use Rattle.core_lowering_rules.proofs.PlacedTrees.{PlacedOption, PlacedBegin, PlacedVariables, PlacedStart, PlacedStmt}
 use Rattle.core_lowering_rules.proofs.PlacedTrees.{PlacedStmts}
@@ -310,84 +319,133 @@ module _ (test : Place → Bool) where
   start-kept (start.Local l) rest h = locals-kept l rest h
   start-kept (start.Expressions all) rest h = all-kept all rest h
 
-  -- ---- statements
+  -- ---- statements that are lowered
+
+  abbrev IsLowered : view.Stmt → Type 0
+  IsLowered s = is_lowered s ≡ true
+
+  abbrev AreLowered : view.Stmts → Type 0
+  AreLowered ss = are_lowered ss ≡ true
 
   abbrev pub HasStmt : Statement → Type 0
-  HasStmt s = Splits (stmt_places s) (PlacedStmt test (stmt_of s))
+  HasStmt s = IsLowered (viewed.stmt_of s) → Splits (stmt_places s) (PlacedStmt test (stmt_of s))
 
   abbrev Stmts : Type 0
   Stmts = (s : Statement) × HasStmt s
 
+  -- nothing is said of the parts of statements that are not lowered
+  abbrev Catches : Type 0
+  Catches = CatchTree × Unit {0}
+
+  abbrev Groups : Type 0
+  Groups = GroupTree × Unit {0}
+
+  abbrev Tries : Type 0
+  Tries = TryTree × Unit {0}
+
   abbrev StmtLayer : Type 0
-  StmtLayer = statement.Statement-F Stmts
+  StmtLayer = statement.Statement-F Stmts Catches Groups Tries
 
-  abbrev plain_stmt : StmtLayer → statement.Statement-F Statement
-  plain_stmt y = map-Statement Stmts Statement (λ s. s.0) y
+  abbrev PlainStmt : Type 0
+  PlainStmt = statement.Statement-F Statement CatchTree GroupTree TryTree
 
-  abbrev stmt_places_in : statement.Statement-F Statement → Puts
-  stmt_places_in x = kept.stmt_step (map-Statement Statement Puts stmt_places x)
+  abbrev plain_stmt : StmtLayer → PlainStmt
+  plain_stmt y =
+      map-Statement Stmts Catches Groups Tries Statement CatchTree GroupTree TryTree (λ s. s.0) (λ c. c.0) (λ g. g.0)
+      (λ t. t.0) y
 
-  abbrev stmt_lowered_in : statement.Statement-F Statement → Stmt
-  stmt_lowered_in x = lowered.stmt_step (map-Statement Statement Stmt stmt_of x)
+  abbrev stmt_places_in : PlainStmt → Puts
+  stmt_places_in x =
+      kept.stmt_step
+      (map-Statement Statement CatchTree GroupTree TryTree Puts Puts Puts Puts stmt_places catch_places group_places
+      try_places x)
 
-  stmts-split : (ss : List Stmts) →
-      Splits (each_puts (map stmt_places (map (λ s. s.0) ss)))
-      (PlacedStmts test (pack_stmts (map stmt_of (map (λ s. s.0) ss))))
-  stmts-split [] rest h = (tt, h)
-  stmts-split (s ∷ ss) rest h =
-      let p = s.1 (each_puts (map stmt_places (map (λ s. s.0) ss)) rest) h in
-      let q = stmts-split ss rest p.1 in ((p.0, q.0), q.1)
+  abbrev stmt_viewed_in : PlainStmt → view.Stmt
+  stmt_viewed_in x =
+      viewed.stmt_step
+      (map-Statement Statement CatchTree GroupTree TryTree view.Stmt view.Pieces viewed.Group view.Stmt viewed.stmt_of
+      viewed.catch_of viewed.group_of viewed.try_of x)
 
-  stmt-split : (y : StmtLayer) →
+  abbrev stmt_lowered_in : PlainStmt → Stmt
+  stmt_lowered_in x =
+      lowered.stmt_step
+      (map-Statement Statement CatchTree GroupTree TryTree Stmt Stmt Stmt Stmt stmt_of catch_of group_of try_of x)
+
+  abbrev plain_all : List Stmts → List Statement
+  plain_all ss = map (λ s. s.0) ss
+
+  stmts-split : (ss : List Stmts) → AreLowered (view.pack_stmts (map viewed.stmt_of (plain_all ss))) →
+      Splits (each_puts (map stmt_places (plain_all ss))) (PlacedStmts test (pack_stmts (map stmt_of (plain_all ss))))
+  stmts-split [] low rest h = (tt, h)
+  stmts-split (s ∷ ss) low rest h =
+      let p = s.1 (first_part (is_lowered (viewed.stmt_of s.0)) _ low) (each_puts (map stmt_places (plain_all ss)) rest)
+      h in
+      let q = stmts-split ss (last_part (is_lowered (viewed.stmt_of s.0)) _ low) rest p.1 in ((p.0, q.0), q.1)
+
+  stmt-split : (y : StmtLayer) → IsLowered (stmt_viewed_in (plain_stmt y)) →
       Splits (stmt_places_in (plain_stmt y)) (PlacedStmt test (stmt_lowered_in (plain_stmt y)))
-  stmt-split (statement.Block ss) rest h = stmts-split ss.items rest h
-  stmt-split (statement.Local l) rest h = locals-kept l rest h
-  stmt-split (statement.Expr e) rest h = expr-kept e rest h
-  stmt-split (statement.If e s None) rest h =
+  stmt-split (statement.Block ss) low rest h = stmts-split ss.items low rest h
+  stmt-split (statement.Local l) low rest h = locals-kept l rest h
+  stmt-split (statement.Expr e) low rest h = expr-kept e rest h
+  stmt-split (statement.If e s None) low rest h =
       let p = expr-kept e (stmt_places s.value.0 rest) h in
-      let q = s.value.1 rest p.1 in ((p.0, q.0), q.1)
-  stmt-split (statement.If e s (Some t)) rest h =
+      let q = s.value.1 low rest p.1 in ((p.0, q.0), q.1)
+  stmt-split (statement.If e s (Some t)) low rest h =
       let p = expr-kept e (stmt_places s.value.0 (stmt_places t.value.0 rest)) h in
-      let q = s.value.1 (stmt_places t.value.0 rest) p.1 in
-      let r = t.value.1 rest q.1 in ((p.0, q.0, r.0), r.1)
-  stmt-split (statement.While e s) rest h =
+      let first = is_lowered (viewed.stmt_of s.value.0) in
+      let q = s.value.1 (first_part first _ low) (stmt_places t.value.0 rest) p.1 in
+      let r = t.value.1 (last_part first _ low) rest q.1 in ((p.0, q.0, r.0), r.1)
+  stmt-split (statement.While e s) low rest h =
       let p = expr-kept e (stmt_places s.value.0 rest) h in
-      let q = s.value.1 rest p.1 in ((p.0, q.0), q.1)
-  stmt-split (statement.For i condition updates s) rest h =
+      let q = s.value.1 low rest p.1 in ((p.0, q.0), q.1)
+  stmt-split (statement.For i condition updates s) low rest h =
       let last = stmt_places s.value.0 rest in
       let third = each_puts (map expr_places updates.items) last in
       let a = start-kept i (maybe_puts (option_map expr_places condition) third) h in
       let b = some-kept condition third a.1 in
       let c = all-kept updates.items last b.1 in
-      let d = s.value.1 rest c.1 in ((a.0, b.0, c.0, d.0), d.1)
-  stmt-split (statement.ForEach is_final t x e s) rest h =
+      let d = s.value.1 low rest c.1 in ((a.0, b.0, c.0, d.0), d.1)
+  stmt-split (statement.ForEach is_final t x e s) low rest h =
       let last = stmt_places s.value.0 rest in
       let p = expr-kept e last
       (after x.place (expr_places e last) (behind (ty_places t) (x.place ∷ expr_places e last) h)) in
-      let q = s.value.1 rest p.1 in ((p.0, q.0), q.1)
-  stmt-split (statement.Sync place e ss) rest h =
-      let last = each_puts (map stmt_places (map (λ s. s.0) ss.items)) rest in
+      let q = s.value.1 low rest p.1 in ((p.0, q.0), q.1)
+  stmt-split (statement.Sync place e ss) low rest h =
+      let last = each_puts (map stmt_places (plain_all ss.items)) rest in
       let p = expr-kept e last (after place (expr_places e last) h) in
-      let q = stmts-split ss.items rest p.1 in ((front place (expr_places e last) h, p.0, q.0), q.1)
-  stmt-split (statement.Return e) rest h = some-kept e rest h
-  stmt-split statement.Empty rest h = (tt, h)
+      let q = stmts-split ss.items low rest p.1 in ((front place (expr_places e last) h, p.0, q.0), q.1)
+  stmt-split (statement.Return e) low rest h = some-kept e rest h
+  stmt-split statement.Empty low rest h = (tt, h)
+  stmt-split (statement.Do s e) low rest h = absurd (not-lowered low)
+  stmt-split (statement.Throw place e) low rest h = absurd (not-lowered low)
+  stmt-split (statement.Break x) low rest h = absurd (not-lowered low)
+  stmt-split (statement.Continue x) low rest h = absurd (not-lowered low)
+  stmt-split (statement.Labelled x s) low rest h = absurd (not-lowered low)
+  stmt-split (statement.Assert e f) low rest h = absurd (not-lowered low)
+  stmt-split (statement.Switch e gs) low rest h = absurd (not-lowered low)
+  stmt-split (statement.Try t) low rest h = absurd (not-lowered (sym (no-try t.value.0) ∙ low))
 
-  stmt-has : (x : statement.Statement-F Statement) (y : StmtLayer) → plain_stmt y ≡ x → HasStmt (roll-Statement x)
+  stmt-has : (x : PlainStmt) (y : StmtLayer) → plain_stmt y ≡ x → HasStmt (roll-Statement x)
   stmt-has x y is =
       let places : stmt_places (roll-Statement (plain_stmt y)) ≡ stmt_places_in (plain_stmt y) =
+      search (rules, statements.the_lemmas) in
+      let seen : viewed.stmt_of (roll-Statement (plain_stmt y)) ≡ stmt_viewed_in (plain_stmt y) =
       search (rules, statements.the_lemmas) in
       let lower : stmt_of (roll-Statement (plain_stmt y)) ≡ stmt_lowered_in (plain_stmt y) =
       search (rules, statements.the_lemmas) in
       subst (λ z. HasStmt (roll-Statement z)) is
-      (subst (λ (f : Puts). Splits f (PlacedStmt test (stmt_of (roll-Statement (plain_stmt y))))) (sym places)
-      (subst (λ (t : Stmt). Splits (stmt_places_in (plain_stmt y)) (PlacedStmt test t)) (sym lower) (stmt-split y)))
+      (λ low. subst (λ (f : Puts). Splits f (PlacedStmt test (stmt_of (roll-Statement (plain_stmt y))))) (sym places)
+      (subst (λ (t : Stmt). Splits (stmt_places_in (plain_stmt y)) (PlacedStmt test t)) (sym lower)
+      (stmt-split y (subst IsLowered seen low))))
 
   stmt-kept : (s : Statement) → HasStmt s
-  stmt-kept = ind-Statement HasStmt stmt-has
+  stmt-kept =
+      ind-Statement HasStmt (λ c. Unit {0}) (λ g. Unit {0}) (λ t. Unit {0}) stmt-has (λ x y is. tt) (λ x y is. tt)
+      (λ x y is. tt)
 
-  pub stmts-kept : (ss : List Statement) →
+  pub stmts-kept : (ss : List Statement) → AreLowered (view.pack_stmts (map viewed.stmt_of ss)) →
       Splits (each_puts (map stmt_places ss)) (PlacedStmts test (pack_stmts (map stmt_of ss)))
-  stmts-kept [] rest h = (tt, h)
-  stmts-kept (s ∷ ss) rest h =
-      let p = stmt-kept s (each_puts (map stmt_places ss) rest) h in
-      let q = stmts-kept ss rest p.1 in ((p.0, q.0), q.1)
+  stmts-kept [] low rest h = (tt, h)
+  stmts-kept (s ∷ ss) low rest h =
+      let p = stmt-kept s (first_part (is_lowered (viewed.stmt_of s)) _ low) (each_puts (map stmt_places ss) rest) h in
+      let q = stmts-kept ss (last_part (is_lowered (viewed.stmt_of s)) _ low) rest p.1 in ((p.0, q.0), q.1)

@@ -26,3 +26,4 @@ pub mod NamedExpressions
 pub mod NamedStatements
 pub mod NamedMethods
 pub mod ProgramRanks
+pub mod LoweredTrees

@@ -12,7 +12,6 @@ use Rattle.java_tree.specs.declared.methods.FieldVariable.{FieldVariable}
 use Rattle.java_tree.specs.declared.methods.MethodTree.{MethodTree}
 use Rattle.java_tree.specs.declared.methods.ParameterTree.{ParameterTree}
 use Rattle.java_tree.specs.View.{ty_of}
-use Rattle.java_tree.specs.MethodPlaces.{method_marks}
 use Rattle.java_parser_grammar.specs.declared.unit.Member.{Member}
 use Rattle.java_parser_grammar.specs.declared.unit.Member.TheVariants as member
 use Rattle.java_resolver.specs.Declarations.{is_constructor}
@@ -32,7 +31,7 @@ use Rattle.core_lowering_rules.specs.Scopes.{declared, after_all}
 use Rattle.core_lowering_rules.specs.Methods.{Body, Default, Spelled, Unspelled, Source}
 use Rattle.core_lowering_rules.specs.Methods.{parameters_declared, unread, field_begun, member_begun, fields_begun, body_of}
 use Rattle.core_lowering_rules.specs.Methods.{locked, ended, spelled_code, code_in, kinds_in}
-use Rattle.core_lowering_rules.specs.Conditions.{kept_of, initialiser_places, variable_places, member_places}
+use Rattle.core_lowering_rules.specs.Conditions.{initialiser_places, variable_places, member_places}
 use Rattle.core_lowering_rules.proofs.FoundElements.{Each}
 use Rattle.core_lowering_rules.proofs.KindedPrograms.{each-append}
 use Rattle.core_lowering_rules.proofs.InRangeCode.{Fine, empty, joined, by_test, under}
@@ -133,11 +132,11 @@ module _ (core : Core) where
       by_test core (can_end (in_sequence body)) (joined core p (returned-fine core context g None tt)) p
 
   spelled-fine : (context : Context) → Grounded core context → (xs : List Member) (t : MethodTree) →
-      list_all test (flat_map member_places xs) ≡ true → list_all test (kept_of (method_marks t)) ≡ true →
+      list_all test (flat_map member_places xs) ≡ true → PlacedBody test (Spelled t) →
       Fine core (spelled_code context xs t)
   spelled-fine context g xs t h k =
-      let places = method-places test t k in
-      let ss = stmts-kept test t.body [] places.1 in
+      let places = method-places test t k.1 in
+      let ss = stmts-kept test t.body k.0 [] places.1 in
       let body = locked-fine context g (has_word (codes "synchronized") t.modifiers)
       (joined core (stmts-fine core context g (body_of t) ss.0)
       (closed-fine core context (after_all context (body_of t)) g)) in

@@ -54,7 +54,7 @@ use Rattle.core_lowering_rules.proofs.KindedPrograms.{sources-right, folder-stan
 use Rattle.core_lowering_rules.proofs.InRangeCode.{found-below, code-in_range}
 use Rattle.core_lowering_rules.proofs.InRangeExpressions.{Grounded}
 use Rattle.core_lowering_rules.proofs.KeptPlaces.{each-all, each-from, bounded-by_class, each-places, method-places}
-use Rattle.core_lowering_rules.proofs.KeptPlaces.{members-all, skipped-all, PlacedClass, trees-placed}
+use Rattle.core_lowering_rules.proofs.KeptPlaces.{members-all, skipped-all, PlacedClass, trees-placed, body-placed}
 use Rattle.core_lowering_rules.proofs.MethodsInRange.{Sound, code-in, kinds-in}
 
 -- ---- programs
@@ -185,7 +185,7 @@ module _ (files : List (List ℕ)) (units : List unit_type.Unit) (is_recursive :
           parameters = parameters-there t.parameters;
           result = result-there c h t.result;
           members = members-all test-here tree p;
-          body = k;
+          body = body-placed test-here t k;
         },
         tt,
       )

@@ -9,6 +9,7 @@ pub mod Expressions
 pub mod Scopes
 pub mod Statements
 pub mod Methods
+pub mod LoweredForms
 pub mod Sites
 pub mod Programs
 pub mod ByField

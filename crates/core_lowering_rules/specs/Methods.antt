@@ -32,7 +32,7 @@ use Rattle.core_lowering_rules.specs.Statements.{closed, returned, stmts}
 
 -- ---- what a method is made of
 
--- the constructor that a class has without declaring it; a tree; what no tree spells
+-- the constructor that a class has without declaring it; a tree; what no tree spells, or not one that is lowered
 pub data Body : Type 0 where
   Default : Body
   Spelled : MethodTree → Body

@@ -81,12 +81,15 @@ abbrev mutual
   stmt (plain.Run e) = tree.Run (expr e)
   stmt (plain.If e s) = tree.If (expr e) (stmt s)
   stmt (plain.IfElse e s t) = tree.IfElse (expr e) (stmt s) (stmt t)
-  stmt (plain.While e s) = tree.While (expr e) (stmt s)
   stmt (plain.For i e updates s) = tree.For (start i) (option_map expr e) (exprs updates) (stmt s)
   stmt (plain.ForEach is_final t x e s) = tree.ForEach t (ident x) (expr e) (stmt s)
-  stmt (plain.Sync e ss) = tree.Sync word_place (expr e) (stmts ss)
-  stmt (plain.Return e) = tree.Return (option_map expr e)
+  stmt (plain.Labelled x s) = tree.Empty
   stmt plain.Empty = tree.Empty
+  -- by what stands behind the keyword: of the rows that are lowered no two have the same
+  stmt (plain.Row word (plain.a_condition e (plain.a_body s rest))) = tree.While (expr e) (stmt s)
+  stmt (plain.Row word (plain.a_condition e (plain.a_block ss rest))) = tree.Sync word_place (expr e) (stmts ss)
+  stmt (plain.Row word (plain.maybe_an_expr e rest)) = tree.Return (option_map expr e)
+  stmt (plain.Row word _) = tree.Empty
 
   pub stmts : plain.Stmts → tree.Stmts
   stmts no_stmt = tree.no_stmt

@@ -28,15 +28,15 @@ use Rattle.core_code.specs.Recursion.{TellRecursion, all_calls_in}
 use Rattle.core_code.specs.CalleeRows.{different}
 use Rattle.core_code.specs.Chains.{flag_of}
 use Rattle.core_lowering_rules.specs.Context.{Folder}
-use Rattle.core_lowering_rules.specs.Methods.{Body, Default, Spelled, Unspelled, Source, this_kinds, method_code}
-use Rattle.core_lowering_rules.specs.Methods.{method_kinds}
+use Rattle.core_lowering_rules.specs.Methods.{Body, Default, Unspelled, Source, this_kinds, method_code, method_kinds}
+use Rattle.core_lowering_rules.specs.LoweredForms.{method_body}
 use Rattle.core_lowering_rules.specs.Sites.{numbered}
 
 -- ---- methods, in source order
 
 abbrev pub member_sources : List (List ℕ) → ClassId → ClassTree → Member → List Source
 member_sources names c tree (member.Method m) =
-    record { info = method_info names c m; members = tree.members; body = Spelled m } ∷ []
+    record { info = method_info names c m; members = tree.members; body = method_body m } ∷ []
 member_sources names c tree (member.Outside h) =
     record { info = head_info names c h; members = tree.members; body = Unspelled } ∷ []
 member_sources names c tree _ = []
@@ -58,7 +58,7 @@ abbrev pub is_unspelled : Body → Bool
 is_unspelled Unspelled = true
 is_unspelled _ = false
 
--- whether a method is outside the subset: no tree spells it
+-- whether a method is outside the subset: no tree spells it, or a statement in it is not lowered
 abbrev pub is_outside : Folder → Source → Bool
 is_outside folder s = is_unspelled s.body
 

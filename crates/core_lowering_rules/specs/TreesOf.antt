@@ -15,9 +15,13 @@ use Rattle.java_tree.specs.declared.statements.VariableTree.{VariableTree}
 use Rattle.java_tree.specs.declared.statements.StartTree.{StartTree}
 use Rattle.java_tree.specs.declared.statements.StartTree.TheVariants as start
 use Rattle.java_tree.specs.declared.statements.Statement.{Statement}
-use Rattle.java_tree.specs.declared.statements.Statement.TheOpen.{Statement-F}
+use Rattle.java_tree.specs.declared.statements.TryTree.{TryTree}
+use Rattle.java_tree.specs.declared.statements.CatchTree.{CatchTree}
+use Rattle.java_tree.specs.declared.statements.GroupTree.{GroupTree}
+use Rattle.java_tree.specs.declared.statements.Statement.TheOpen.{Statement-F, TryTree-F, CatchTree-F, GroupTree-F}
 use Rattle.java_tree.specs.declared.statements.Statement.TheOpen as statement
-use Rattle.java_tree.specs.declared.statements.Statement.TheFolds.{fold-Statement}
+use Rattle.java_tree.specs.declared.statements.Statement.TheFolds.{fold-Statement, fold-TryTree, fold-CatchTree}
+use Rattle.java_tree.specs.declared.statements.Statement.TheFolds.{fold-GroupTree}
 use Rattle.java_tree.specs.View.{ty_of}
 use Rattle.core_lowering_rules.specs.Trees.{Expr, Prim, Text, Null, This, ClassOf, Read, Unary, Cast, Logical, Binary}
 use Rattle.core_lowering_rules.specs.Trees.{Conditional, Assign, Combine, Count, Paren, Call, CallOn, New, NewArray, NewItems}
@@ -109,7 +113,8 @@ abbrev pub if_of : Expr → Stmt → Option Stmt → Stmt
 if_of e s None = If e s
 if_of e s (Some t) = IfElse e s t
 
-abbrev pub stmt_step : Statement-F Stmt → Stmt
+-- Of what is `Empty` here but a `;`, nothing is lowered (`LoweredForms`): no method in which it stands has code.
+abbrev pub stmt_step : Statement-F Stmt Stmt Stmt Stmt → Stmt
 stmt_step (statement.Block ss) = Block (pack_stmts ss.items)
 stmt_step (statement.Local l) = Local (ty_of l.kind) (map variable_of l.variables)
 stmt_step (statement.Expr e) = Run (expr_of e)
@@ -121,6 +126,32 @@ stmt_step (statement.ForEach is_final t x e s) = ForEach (ty_of t) x (expr_of e)
 stmt_step (statement.Sync place e ss) = Sync place (expr_of e) (pack_stmts ss.items)
 stmt_step (statement.Return e) = Return (option_map expr_of e)
 stmt_step statement.Empty = Empty
+stmt_step (statement.Do s e) = Empty
+stmt_step (statement.Throw place e) = Empty
+stmt_step (statement.Break x) = Empty
+stmt_step (statement.Continue x) = Empty
+stmt_step (statement.Labelled x s) = Empty
+stmt_step (statement.Assert e f) = Empty
+stmt_step (statement.Switch e gs) = Empty
+stmt_step (statement.Try t) = Empty
+
+abbrev pub catch_step : CatchTree-F Stmt Stmt Stmt Stmt → Stmt
+catch_step c = Empty
+
+abbrev pub group_step : GroupTree-F Stmt Stmt Stmt Stmt → Stmt
+group_step g = Empty
+
+abbrev pub try_step : TryTree-F Stmt Stmt Stmt Stmt → Stmt
+try_step t = Empty
 
 abbrev pub stmt_of : Statement → Stmt
-stmt_of = fold-Statement Stmt stmt_step
+stmt_of = fold-Statement Stmt Stmt Stmt Stmt stmt_step catch_step group_step try_step
+
+abbrev pub catch_of : CatchTree → Stmt
+catch_of = fold-CatchTree Stmt Stmt Stmt Stmt stmt_step catch_step group_step try_step
+
+abbrev pub group_of : GroupTree → Stmt
+group_of = fold-GroupTree Stmt Stmt Stmt Stmt stmt_step catch_step group_step try_step
+
+abbrev pub try_of : TryTree → Stmt
+try_of = fold-TryTree Stmt Stmt Stmt Stmt stmt_step catch_step group_step try_step

@@ -37,10 +37,9 @@ java_parser_grammar::specs::StatementReading::variables_at, // statements
 java_parser_grammar::specs::StatementReading::locals_at, // statements
 java_parser_grammar::specs::StatementReading::condition_at, // statements
 java_parser_grammar::specs::StatementReading::stmts_at, java_parser_grammar::specs::StatementReading::if_at, // statements
-java_parser_grammar::specs::StatementReading::while_at, java_parser_grammar::specs::StatementReading::for_from, // statements
+java_parser_grammar::specs::StatementReading::pieces_at, java_parser_grammar::specs::StatementReading::for_from, // statements
 java_parser_grammar::specs::StatementReading::each_from, java_parser_grammar::specs::StatementReading::for_typed, // statements
 java_parser_grammar::specs::StatementReading::for_run, java_parser_grammar::specs::StatementReading::for_at, // statements
-java_parser_grammar::specs::StatementReading::sync_at, java_parser_grammar::specs::StatementReading::return_at, // statements
 java_parser_grammar::specs::StatementReading::local_at, java_parser_grammar::specs::StatementReading::run_line_at, // statements
 java_parser_grammar::specs::StatementReading::stmt_at, java_parser_grammar::specs::StatementReading::block_at, // statements
 ))]

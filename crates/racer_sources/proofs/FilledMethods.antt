@@ -1,6 +1,6 @@
 -- Two methods with one tree without places, that keep places of the same tokens, are lowered from the same trees.
 use Rattle.std.proofs.Common.{◌≡◌, ℕ, Bool, true, false, cond, List, [], ◌∷◌, ◌++◌, None, map, refl, ap, sym, ◌∙◌}
-use Rattle.std.proofs.Common.{append-nil, append_assoc}
+use Rattle.std.proofs.Common.{append-nil, append_assoc, subst}
 use Rattle.java_tree.specs.declared.words.Ident.{Ident}
 use Rattle.java_tree.specs.declared.words.Spelled.{Spelled}
 use Rattle.java_tree.specs.declared.types.TypeTree.{TypeTree}
@@ -22,10 +22,11 @@ use Rattle.java_tree.specs.View.{ty_of, parameter_of, result_of, method_of}
 use Rattle.java_tree.specs.View as viewed
 use Rattle.java_parser_methods.proofs.TypeCounts.{ty_count}
 use Rattle.core_lowering_rules.specs.Conditions.{kept_of}
+use Rattle.core_lowering_rules.specs.LoweredForms.{are_lowered}
 use Rattle.core_lowering_rules.specs.Methods.{body_of}
 use Rattle.core_lowering_rules.specs.Trees.{Init, Stmts}
 use Rattle.core_lowering_rules.specs.TreesOf.{init_of}
-use Rattle.racer_sources.proofs.FilledTrees.{Filled, filled, ident, behind, skip, two, two-is, each, init, stmts}
+use Rattle.racer_sources.proofs.FilledTrees.{Filled, filled, ident, behind, skip, one, one-is, two-is, each, init, stmts}
 use Rattle.racer_sources.proofs.FilledExpressions.{behind-type, init-is}
 use Rattle.racer_sources.proofs.FilledStatements.{stmts-are}
 
@@ -36,7 +37,7 @@ same_initialiser i j v p =
     sym (init-is i []) ∙ ap (λ x. init x (init_places i [])) v ∙ ap (init (viewed.init_of j)) p ∙ init-is j [] in
     ap (λ (g : Filled Init). g.tree) e
 
--- ---- what is lowered of a method, beside its modifiers and its result
+-- ---- what is seen of a method, beside its modifiers, its result and its body
 
 pub record SeenParameter : Type 0 where
   pub kind : Ty
@@ -45,13 +46,12 @@ pub record SeenParameter : Type 0 where
 pub record Seen : Type 0 where
   pub name : Ident
   pub parameters : List SeenParameter
-  pub body : Stmts
 
 abbrev pub seen_parameter : ParameterTree → SeenParameter
 seen_parameter p = record { kind = ty_of p.kind; name = p.name }
 
 abbrev pub seen : MethodTree → Seen
-seen m = record { name = m.name; parameters = map seen_parameter m.parameters; body = body_of m }
+seen m = record { name = m.name; parameters = map seen_parameter m.parameters }
 
 -- ---- made from the tree without places
 
@@ -69,15 +69,18 @@ abbrev skip_types : List Ty → Places → Places
 skip_types [] ps = ps
 skip_types (t ∷ ts) ps = skip_types ts (skip (ty_count t) ps)
 
-abbrev made : Ident → List SeenParameter → Stmts → Seen
-made x ps ss = record { name = x; parameters = ps; body = ss }
+abbrev made : Ident → List SeenParameter → Seen
+made x ps = record { name = x; parameters = ps }
 
 abbrev from_name : view.Method → Places → Filled Seen
-from_name m ps =
-    two (made (ident m.name ps)) (each parameter m.parameters (behind ps)) (λ qs. stmts m.body (skip_types m.throws qs))
+from_name m ps = one (made (ident m.name ps)) (each parameter m.parameters (behind ps))
 
-abbrev method : view.Method → Places → Filled Seen
-method m ps = from_name m (skip (result_count m.result) ps)
+abbrev head : view.Method → Places → Filled Seen
+head m ps = from_name m (skip (result_count m.result) ps)
+
+-- behind the parameters
+abbrev body : view.Method → Places → Filled Stmts
+body m ps = stmts m.body (skip_types m.throws ps)
 
 -- ---- the places that are kept
 
@@ -169,18 +172,36 @@ types-behind (t ∷ ts) ps =
     (behind-type t (λ qs. filled (skip_types (map ty_of ts) qs) []) (others ++ ps)
     (ap (λ qs. filled qs []) (types-behind ts ps)))
 
-method-is : (m : MethodTree) → method (method_of m) (method_places m) ≡ filled (seen m) []
-method-is m =
-    let v = method_of m in
-    let body = each_puts (map stmt_places m.body) [] in
-    ap (from_name v)
+head-is : (m : MethodTree) → head (method_of m) (method_places m) ≡ filled (seen m) (ends_of m)
+head-is m =
+    ap (from_name (method_of m))
     (result-behind m.result (m.name.place ∷ each_puts (map parameter_places m.parameters) (ends_of m)))
-    ∙ two-is (made m.name) (λ qs. stmts v.body (skip_types v.throws qs)) (parameters-are m.parameters (ends_of m))
-    (ap (stmts v.body) (types-behind m.throws body) ∙ stmts-are m.body [])
+    ∙ one-is (made m.name) (parameters-are m.parameters (ends_of m))
+
+heads-alike : (m n : MethodTree) → method_of m ≡ method_of n → method_marks m ≡ method_marks n
+    → filled (seen m) (ends_of m) ≡ filled (seen n) (ends_of n)
+heads-alike m n v k =
+    let places : method_places m ≡ method_places n = sym (method-kept m) ∙ ap kept_of k ∙ method-kept n in
+    sym (head-is m) ∙ ap (λ x. head x (method_places m)) v ∙ ap (head (method_of n)) places ∙ head-is n
 
 pub same_seen : (m n : MethodTree) → method_of m ≡ method_of n → method_marks m ≡ method_marks n → seen m ≡ seen n
-same_seen m n v k =
-    let places : method_places m ≡ method_places n = sym (method-kept m) ∙ ap kept_of k ∙ method-kept n in
-    let e : filled (seen m) [] ≡ filled (seen n) [] =
-    sym (method-is m) ∙ ap (λ x. method x (method_places m)) v ∙ ap (method (method_of n)) places ∙ method-is n in
-    ap (λ (g : Filled Seen). g.tree) e
+same_seen m n v k = ap (λ (g : Filled Seen). g.tree) (heads-alike m n v k)
+
+-- ---- a body that is lowered
+
+abbrev IsLowered : view.Method → Type 0
+IsLowered v = are_lowered v.body ≡ true
+
+body-is : (m : MethodTree) → IsLowered (method_of m) → body (method_of m) (ends_of m) ≡ filled (body_of m) []
+body-is m low =
+    let v = method_of m in
+    ap (stmts v.body) (types-behind m.throws (each_puts (map stmt_places m.body) [])) ∙ stmts-are m.body low []
+
+pub same_body : (m n : MethodTree) → method_of m ≡ method_of n → method_marks m ≡ method_marks n
+    → IsLowered (method_of m) → body_of m ≡ body_of n
+same_body m n v k low =
+    let ends : ends_of m ≡ ends_of n = ap (λ (g : Filled Seen). g.left) (heads-alike m n v k) in
+    let e : filled (body_of m) [] ≡ filled (body_of n) [] =
+    sym (body-is m low) ∙ ap (λ x. body x (ends_of m)) v ∙ ap (body (method_of n)) ends
+    ∙ body-is n (subst IsLowered v low) in
+    ap (λ (g : Filled Stmts). g.tree) e

@@ -1,5 +1,5 @@
 -- Statements that are lowered are made from those without places, and the places that are kept.
-use Rattle.std.proofs.Common.{◌≡◌, List, [], ◌∷◌, Option, Some, None, map, refl, ap, sym, ◌∙◌, subst, rules}
+use Rattle.std.proofs.Common.{◌≡◌, true, List, [], ◌∷◌, Option, Some, None, map, refl, ap, sym, ◌∙◌, subst, rules}
 use Rattle.std.specs.Prelude.{option_map}
 use Rattle.java_tree.specs.declared.expressions.Expression.{Expression}
 use Rattle.java_tree.specs.declared.expressions.Initialiser.{Initialiser}
@@ -7,6 +7,9 @@ use Rattle.java_tree.specs.declared.statements.VariableTree.{VariableTree}
 use Rattle.java_tree.specs.declared.statements.LocalsTree.{LocalsTree}
 use Rattle.java_tree.specs.declared.statements.StartTree.{StartTree}
 use Rattle.java_tree.specs.declared.statements.StartTree.TheVariants as starts
+use Rattle.java_tree.specs.declared.statements.CatchTree.{CatchTree}
+use Rattle.java_tree.specs.declared.statements.GroupTree.{GroupTree}
+use Rattle.java_tree.specs.declared.statements.TryTree.{TryTree}
 use Rattle.java_tree.specs.declared.statements.Statement.{Statement, roll-Statement, map-Statement}
 use Rattle.java_tree.specs.declared.statements.Statement.TheOpen as statement
 use Rattle.java_tree.specs.declared.statements.Statement.TheFolds.{ind-Statement, the_lemmas}
@@ -20,6 +23,9 @@ use Rattle.core_lowering_rules.specs.Trees.{Variable, Declares, Runs, Stmt, Run,
 use Rattle.core_lowering_rules.specs.Trees.{Return, Block, expr_then, stmt_then, pack_exprs, pack_stmts}
 use Rattle.core_lowering_rules.specs.TreesOf.{expr_of, init_of, variable_of, start_of, stmt_of}
 use Rattle.core_lowering_rules.specs.TreesOf as lowered
+use Rattle.core_lowering_rules.specs.LoweredForms.{is_lowered, are_lowered}
+use Rattle.core_code.proofs.BoolParts.{first_part, last_part}
+use Rattle.core_lowering_rules.proofs.LoweredTrees.{not-lowered, no-try}
 use Rattle.racer_sources.proofs.FilledTrees.{ident, two, behind}
 use Rattle.racer_sources.proofs.FilledTrees.{Filled, filled, one-is, two-is, three-is, four-is, expr, exprs, init}
 use Rattle.racer_sources.proofs.FilledTrees.{each, maybe, begun, variable, variables, start, stmt, stmts}
@@ -72,29 +78,58 @@ start-filled (starts.Expressions all) rest = one-is Runs (all-filled all rest)
 
 -- ---- statements
 
+abbrev IsLowered : view.Stmt → Type 0
+IsLowered s = is_lowered s ≡ true
+
+abbrev AreLowered : view.Stmts → Type 0
+AreLowered ss = are_lowered ss ≡ true
+
 abbrev pub HasStmt : Statement → Type 0
-HasStmt s = (rest : Places) → stmt (viewed.stmt_of s) (stmt_places s rest) ≡ filled (stmt_of s) rest
+HasStmt s =
+    IsLowered (viewed.stmt_of s) → (rest : Places)
+    → stmt (viewed.stmt_of s) (stmt_places s rest) ≡ filled (stmt_of s) rest
 
 abbrev Stmts : Type 0
 Stmts = (s : Statement) × HasStmt s
 
+-- nothing is said of the parts of statements that are not lowered
+abbrev Catches : Type 0
+Catches = CatchTree × Unit {0}
+
+abbrev Groups : Type 0
+Groups = GroupTree × Unit {0}
+
+abbrev Tries : Type 0
+Tries = TryTree × Unit {0}
+
 abbrev Layer : Type 0
-Layer = statement.Statement-F Stmts
+Layer = statement.Statement-F Stmts Catches Groups Tries
 
 abbrev Plain : Type 0
-Plain = statement.Statement-F Statement
+Plain = statement.Statement-F Statement CatchTree GroupTree TryTree
 
 abbrev plain : Layer → Plain
-plain y = map-Statement Stmts Statement (λ s. s.0) y
+plain y =
+    map-Statement Stmts Catches Groups Tries Statement CatchTree GroupTree TryTree (λ s. s.0) (λ c. c.0) (λ g. g.0)
+    (λ t. t.0) y
 
 abbrev places_in : Plain → Puts
-places_in x = kept.stmt_step (map-Statement Statement Puts stmt_places x)
+places_in x =
+    kept.stmt_step
+    (map-Statement Statement CatchTree GroupTree TryTree Puts Puts Puts Puts stmt_places kept.catch_places
+    kept.group_places kept.try_places x)
 
 abbrev viewed_in : Plain → view.Stmt
-viewed_in x = viewed.stmt_step (map-Statement Statement view.Stmt viewed.stmt_of x)
+viewed_in x =
+    viewed.stmt_step
+    (map-Statement Statement CatchTree GroupTree TryTree view.Stmt view.Pieces viewed.Group view.Stmt viewed.stmt_of
+    viewed.catch_of viewed.group_of viewed.try_of x)
 
 abbrev lowered_in : Plain → Stmt
-lowered_in x = lowered.stmt_step (map-Statement Statement Stmt stmt_of x)
+lowered_in x =
+    lowered.stmt_step
+    (map-Statement Statement CatchTree GroupTree TryTree Stmt Stmt Stmt Stmt stmt_of lowered.catch_of lowered.group_of
+    lowered.try_of x)
 
 abbrev plain_all : List Stmts → List Statement
 plain_all ss = map (λ s. s.0) ss
@@ -102,64 +137,79 @@ plain_all ss = map (λ s. s.0) ss
 abbrev of : Stmts → Places → Filled Stmt
 of s = stmt (viewed.stmt_of s.0)
 
-parts-filled : (ss : List Stmts) (rest : Places)
+parts-filled : (ss : List Stmts) → AreLowered (view.pack_stmts (map viewed.stmt_of (plain_all ss))) → (rest : Places)
     → stmts (view.pack_stmts (map viewed.stmt_of (plain_all ss))) (each_puts (map stmt_places (plain_all ss)) rest)
     ≡ filled (pack_stmts (map stmt_of (plain_all ss))) rest
-parts-filled [] rest = refl
-parts-filled (s ∷ ss) rest =
+parts-filled [] low rest = refl
+parts-filled (s ∷ ss) low rest =
+    let first = is_lowered (viewed.stmt_of s.0) in
     two-is stmt_then (stmts (view.pack_stmts (map viewed.stmt_of (plain_all ss))))
-    (s.1 (each_puts (map stmt_places (plain_all ss)) rest)) (parts-filled ss rest)
+    (s.1 (first_part first _ low) (each_puts (map stmt_places (plain_all ss)) rest))
+    (parts-filled ss (last_part first _ low) rest)
 
-stmt-filled : (y : Layer) (rest : Places)
+stmt-filled : (y : Layer) → IsLowered (viewed_in (plain y)) → (rest : Places)
     → stmt (viewed_in (plain y)) (places_in (plain y) rest) ≡ filled (lowered_in (plain y)) rest
-stmt-filled (statement.Block ss) rest = one-is Block (parts-filled ss.items rest)
-stmt-filled (statement.Local l) rest = one-is (Local (ty_of l.kind)) (locals-filled l rest)
-stmt-filled (statement.Expr e) rest = one-is Run (expr-is e rest)
-stmt-filled (statement.If e s None) rest =
-    two-is If (of s.value) (expr-is e (stmt_places s.value.0 rest)) (s.value.1 rest)
-stmt-filled (statement.If e s (Some t)) rest =
+stmt-filled (statement.Block ss) low rest = one-is Block (parts-filled ss.items low rest)
+stmt-filled (statement.Local l) low rest = one-is (Local (ty_of l.kind)) (locals-filled l rest)
+stmt-filled (statement.Expr e) low rest = one-is Run (expr-is e rest)
+stmt-filled (statement.If e s None) low rest =
+    two-is If (of s.value) (expr-is e (stmt_places s.value.0 rest)) (s.value.1 low rest)
+stmt-filled (statement.If e s (Some t)) low rest =
+    let first = is_lowered (viewed.stmt_of s.value.0) in
     three-is IfElse (of s.value) (of t.value) (expr-is e (stmt_places s.value.0 (stmt_places t.value.0 rest)))
-    (s.value.1 (stmt_places t.value.0 rest)) (t.value.1 rest)
-stmt-filled (statement.While e s) rest =
-    two-is While (of s.value) (expr-is e (stmt_places s.value.0 rest)) (s.value.1 rest)
-stmt-filled (statement.For i condition updates s) rest =
+    (s.value.1 (first_part first _ low) (stmt_places t.value.0 rest)) (t.value.1 (last_part first _ low) rest)
+stmt-filled (statement.While e s) low rest =
+    two-is While (of s.value) (expr-is e (stmt_places s.value.0 rest)) (s.value.1 low rest)
+stmt-filled (statement.For i condition updates s) low rest =
     let last = stmt_places s.value.0 rest in
     let third = each_puts (map expr_places updates.items) last in
     four-is For (maybe expr (option_map viewed.expr_of condition))
     (exprs (view.pack_exprs (map viewed.expr_of updates.items))) (of s.value)
     (start-filled i (maybe_puts (option_map expr_places condition) third)) (some-filled condition third)
-    (all-filled updates.items last) (s.value.1 rest)
-stmt-filled (statement.ForEach is_final t x e s) rest =
+    (all-filled updates.items last) (s.value.1 low rest)
+stmt-filled (statement.ForEach is_final t x e s) low rest =
     let last = expr_places e (stmt_places s.value.0 rest) in
     behind-type t
     (λ ps. two (ForEach (ty_of t) (ident x.text ps)) (expr (viewed.expr_of e) (behind ps)) (of s.value))
     (x.place ∷ last)
-    (two-is (ForEach (ty_of t) x) (of s.value) (expr-is e (stmt_places s.value.0 rest)) (s.value.1 rest))
-stmt-filled (statement.Sync place e ss) rest =
+    (two-is (ForEach (ty_of t) x) (of s.value) (expr-is e (stmt_places s.value.0 rest)) (s.value.1 low rest))
+stmt-filled (statement.Sync place e ss) low rest =
     two-is (Sync place) (stmts (view.pack_stmts (map viewed.stmt_of (plain_all ss.items))))
-    (expr-is e (each_puts (map stmt_places (plain_all ss.items)) rest)) (parts-filled ss.items rest)
-stmt-filled (statement.Return e) rest = one-is Return (some-filled e rest)
-stmt-filled statement.Empty rest = refl
+    (expr-is e (each_puts (map stmt_places (plain_all ss.items)) rest)) (parts-filled ss.items low rest)
+stmt-filled (statement.Return e) low rest = one-is Return (some-filled e rest)
+stmt-filled statement.Empty low rest = refl
+stmt-filled (statement.Do s e) low rest = absurd (not-lowered low)
+stmt-filled (statement.Throw place e) low rest = absurd (not-lowered low)
+stmt-filled (statement.Break x) low rest = absurd (not-lowered low)
+stmt-filled (statement.Continue x) low rest = absurd (not-lowered low)
+stmt-filled (statement.Labelled x s) low rest = absurd (not-lowered low)
+stmt-filled (statement.Assert e f) low rest = absurd (not-lowered low)
+stmt-filled (statement.Switch e gs) low rest = absurd (not-lowered low)
+stmt-filled (statement.Try t) low rest = absurd (not-lowered (sym (no-try t.value.0) ∙ low))
 
 stmt-case : (y : Layer) → HasStmt (roll-Statement (plain y))
-stmt-case y rest =
+stmt-case y low rest =
     let places : stmt_places (roll-Statement (plain y)) ≡ places_in (plain y) = search (rules, the_lemmas) in
     let seen : viewed.stmt_of (roll-Statement (plain y)) ≡ viewed_in (plain y) = search (rules, the_lemmas) in
     let lower : stmt_of (roll-Statement (plain y)) ≡ lowered_in (plain y) = search (rules, the_lemmas) in
     ap (λ (f : Puts). stmt (viewed.stmt_of (roll-Statement (plain y))) (f rest)) places
-    ∙ ap (λ v. stmt v (places_in (plain y) rest)) seen ∙ stmt-filled y rest
+    ∙ ap (λ v. stmt v (places_in (plain y) rest)) seen ∙ stmt-filled y (subst IsLowered seen low) rest
     ∙ ap (λ (t : Stmt). filled t rest) (sym lower)
 
 stmt-has : (x : Plain) (y : Layer) → plain y ≡ x → HasStmt (roll-Statement x)
 stmt-has x y is = subst (λ z. HasStmt (roll-Statement z)) is (stmt-case y)
 
 stmt-is : (s : Statement) → HasStmt s
-stmt-is = ind-Statement HasStmt stmt-has
+stmt-is =
+    ind-Statement HasStmt (λ c. Unit {0}) (λ g. Unit {0}) (λ t. Unit {0}) stmt-has (λ x y is. tt) (λ x y is. tt)
+    (λ x y is. tt)
 
-pub stmts-are : (ss : List Statement) (rest : Places)
+pub stmts-are : (ss : List Statement) → AreLowered (view.pack_stmts (map viewed.stmt_of ss)) → (rest : Places)
     → stmts (view.pack_stmts (map viewed.stmt_of ss)) (each_puts (map stmt_places ss) rest)
     ≡ filled (pack_stmts (map stmt_of ss)) rest
-stmts-are [] rest = refl
-stmts-are (s ∷ ss) rest =
-    two-is stmt_then (stmts (view.pack_stmts (map viewed.stmt_of ss))) (stmt-is s (each_puts (map stmt_places ss) rest))
-    (stmts-are ss rest)
+stmts-are [] low rest = refl
+stmts-are (s ∷ ss) low rest =
+    let first = is_lowered (viewed.stmt_of s) in
+    two-is stmt_then (stmts (view.pack_stmts (map viewed.stmt_of ss)))
+    (stmt-is s (first_part first _ low) (each_puts (map stmt_places ss) rest))
+    (stmts-are ss (last_part first _ low) rest)

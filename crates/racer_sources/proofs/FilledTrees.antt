@@ -138,7 +138,7 @@ abbrev mutual
   init (view.Value e) ps = one Value (expr e ps)
   init (view.Items items) ps = one Items (array items ps)
 
--- ---- statements
+-- ---- statements; nothing is said of those that are not lowered
 
 abbrev pub each : {A B : Type 0} → (A → Places → Filled B) → List A → Places → Filled (List B)
 each f [] ps = filled [] ps
@@ -168,14 +168,18 @@ abbrev mutual
   stmt (view.Run e) ps = one Run (expr e ps)
   stmt (view.If e s) ps = two If (expr e ps) (stmt s)
   stmt (view.IfElse e s t) ps = three IfElse (expr e ps) (stmt s) (stmt t)
-  stmt (view.While e s) ps = two While (expr e ps) (stmt s)
   stmt (view.For i condition updates s) ps =
       four For (start i ps) (maybe expr condition) (exprs updates) (stmt s)
   stmt (view.ForEach is_final t x e s) ps =
       two (ForEach t (ident x (skip (ty_count t) ps))) (expr e (behind (skip (ty_count t) ps))) (stmt s)
-  stmt (view.Sync e ss) ps = two (Sync (first ps)) (expr e (behind ps)) (stmts ss)
-  stmt (view.Return e) ps = one Return (maybe expr e ps)
+  stmt (view.Labelled x s) ps = filled Empty ps
   stmt view.Empty ps = filled Empty ps
+  -- by what stands behind the keyword: of the rows that are lowered no two have the same
+  stmt (view.Row word (view.a_condition e (view.a_body s rest))) ps = two While (expr e ps) (stmt s)
+  stmt (view.Row word (view.a_condition e (view.a_block ss rest))) ps =
+      two (Sync (first ps)) (expr e (behind ps)) (stmts ss)
+  stmt (view.Row word (view.maybe_an_expr e rest)) ps = one Return (maybe expr e ps)
+  stmt (view.Row word _) ps = filled Empty ps
 
   pub stmts : view.Stmts → Places → Filled Stmts
   stmts view.no_stmt ps = filled no_stmt ps

@@ -1,5 +1,5 @@
 -- Methods that are the same have the same code and variables.
-use Rattle.std.proofs.Common.{◌≡◌, ℕ, Bool, cond, List, [], ◌∷◌, ◌++◌, codes, map}
+use Rattle.std.proofs.Common.{◌≡◌, ℕ, Bool, true, false, cond, List, [], ◌∷◌, ◌++◌, codes, map}
 use Rattle.std.proofs.Common.{refl, ap, ap₂, sym, ◌∙◌, subst}
 use Rattle.std.specs.List.{AllZip, flat_map, list_any}
 use Rattle.racer_base.specs.declared.ids.ClassId.{ClassId}
@@ -15,7 +15,7 @@ use Rattle.java_tree.specs.declared.methods.ParameterTree.{ParameterTree}
 use Rattle.java_tree.specs.declared.methods.ResultTree.{ResultTree}
 use Rattle.java_tree.specs.declared.methods.ResultTree.TheVariants as result
 use Rattle.java_tree.specs.Trees as view
-use Rattle.java_tree.specs.View.{ty_of, result_of}
+use Rattle.java_tree.specs.View.{ty_of, result_of, method_of}
 use Rattle.java_parser_grammar.specs.declared.unit.ClassTree.{ClassTree}
 use Rattle.java_parser_grammar.specs.declared.unit.Member.{Member}
 use Rattle.java_parser_grammar.specs.declared.unit.Member.TheVariants as member
@@ -34,9 +34,11 @@ use Rattle.core_lowering_rules.specs.Methods.{parameters_declared, field_begun, 
 use Rattle.core_lowering_rules.specs.Methods.{locked, body_code, ended, spelled_code, code_in, method_code, kinds_in}
 use Rattle.core_lowering_rules.specs.Methods.{method_kinds}
 use Rattle.core_lowering_rules.specs.Methods as methods
+use Rattle.core_lowering_rules.specs.LoweredForms.{are_lowered, method_body}
 use Rattle.core_lowering_rules.specs.Programs.{member_sources, default_sources, class_sources, is_unspelled}
 use Rattle.core_code.specs.declared.code.Op.TheVariants.{Drop}
-use Rattle.racer_sources.proofs.FilledMethods.{SeenParameter, Seen, seen_parameter, seen, same_seen, same_initialiser}
+use Rattle.racer_sources.proofs.FilledMethods.{SeenParameter, Seen, seen_parameter, seen, same_seen, same_body}
+use Rattle.racer_sources.proofs.FilledMethods.{same_initialiser}
 use Rattle.racer_sources.proofs.ZippedLists.{same_4, zip-flat, zip-append, zip-zips, zip-unless}
 use Rattle.racer_sources.proofs.SameMembers.{by-form, same_modifiers, constructor-alike, modifiers-alike}
 use Rattle.racer_sources.proofs.SameMembers.{constructs-alike, method-alike, head-alike, default-alike}
@@ -45,7 +47,7 @@ use Rattle.racer_sources.proofs.SameMembers.{constructs-alike, method-alike, hea
 
 abbrev pub SameBody : Body → Body → Type 0
 SameBody Default Default = Unit {0}
-SameBody (Spelled m) (Spelled n) = SameMethod m n
+SameBody (Spelled m) (Spelled n) = SameMethod m n × (are_lowered (method_of m).body ≡ true)
 SameBody Unspelled Unspelled = Unit {0}
 SameBody _ _ = ⊥
 
@@ -54,12 +56,23 @@ pub record SameSource (s t : Source) : Type 0 where
   pub members : AllZip SameMember s.members t.members
   pub body : SameBody s.body t.body
 
+either-same : (b : Bool) (m n : MethodTree) → are_lowered (method_of m).body ≡ b → SameMethod m n
+    → SameBody (cond b (Spelled m) Unspelled) (cond b (Spelled n) Unspelled)
+either-same true m n low h = (h, low)
+either-same false m n low h = tt
+
+bodies-same : (m n : MethodTree) → SameMethod m n → SameBody (method_body m) (method_body n)
+bodies-same m n h =
+    subst (λ b. SameBody (method_body m) (cond b (Spelled n) Unspelled))
+    (ap (λ (v : view.Method). are_lowered v.body) h.0) (either-same (are_lowered (method_of m).body) m n refl h)
+
 module _ (names : List (List ℕ)) (c : ClassId) (a b : ClassTree) (same : SameClass a b) where
   members-same : (x y : Member) → SameMember x y
       → AllZip SameSource (member_sources names c a x) (member_sources names c b y)
   members-same =
       by-form (λ x y. AllZip SameSource (member_sources names c a x) (member_sources names c b y)) (λ f g h. tt)
-      (λ m n h. (record { info = method-alike names c m n h; members = same.members; body = h }, tt))
+      (λ m n h.
+      (record { info = method-alike names c m n h; members = same.members; body = bodies-same m n h }, tt))
       (λ h k e. (record { info = head-alike names c h k e; members = same.members; body = tt }, tt)) (λ p q e. tt)
 
   abbrev default_of : ClassTree → Source
@@ -146,11 +159,11 @@ spelled constructs fields ms ss context =
     cond constructs (fields ++ body) body
 
 spelled-alike : (context : Context) (xs ys : List Member) → AllZip SameMember xs ys → (m n : MethodTree)
-    → SameMethod m n → spelled_code context xs m ≡ spelled_code context ys n
-spelled-alike context xs ys h m n same =
+    → SameMethod m n → body_of m ≡ body_of n → spelled_code context xs m ≡ spelled_code context ys n
+spelled-alike context xs ys h m n same body =
     same_4 (λ constructs fields ms ss. spelled constructs fields ms ss context) (constructor-alike m n same.0)
     (fields-alike context xs ys h) (modifiers-alike m n same.0)
-    (ap (λ (s : Seen). s.body) (same_seen m n same.0 same.1))
+    body
 
 code-alike : (context : Context) (s t : Source) → AllZip SameMember s.members t.members → (x y : Body) → SameBody x y
     → code_in context s x ≡ code_in context t y
@@ -160,9 +173,10 @@ code-alike context s t h Default Unspelled k = absurd k
 code-alike context s t h (Spelled m) Default k = absurd k
 code-alike context s t h (Spelled m) (Spelled n) k =
     ap (λ inside. ended context (spelled_code inside s.members m))
-    (parameters-alike context m n (same_seen m n k.0 k.1))
+    (parameters-alike context m n (same_seen m n k.0.0 k.0.1))
     ∙ ap (ended context)
-    (spelled-alike (parameters_declared context n.parameters) s.members t.members h m n k)
+    (spelled-alike (parameters_declared context n.parameters) s.members t.members h m n k.0
+    (same_body m n k.0.0 k.0.1 k.1))
 code-alike context s t h (Spelled m) Unspelled k = absurd k
 code-alike context s t h Unspelled Default k = absurd k
 code-alike context s t h Unspelled (Spelled n) k = absurd k
@@ -175,9 +189,8 @@ kinds-alike context s t e Default (Spelled n) k = absurd k
 kinds-alike context s t e Default Unspelled k = absurd k
 kinds-alike context s t e (Spelled m) Default k = absurd k
 kinds-alike context s t e (Spelled m) (Spelled n) k =
-    let same = same_seen m n k.0 k.1 in
-    ap₂ (λ inside ss. (after_all inside ss).kinds) (parameters-alike context m n same)
-    (ap (λ (x : Seen). x.body) same)
+    ap₂ (λ inside ss. (after_all inside ss).kinds) (parameters-alike context m n (same_seen m n k.0.0 k.0.1))
+    (same_body m n k.0.0 k.0.1 k.1)
 kinds-alike context s t e (Spelled m) Unspelled k = absurd k
 kinds-alike context s t e Unspelled Default k = absurd k
 kinds-alike context s t e Unspelled (Spelled n) k = absurd k
@@ -201,7 +214,7 @@ results-alike kind Default (Spelled n) k = absurd k
 results-alike kind Default Unspelled k = absurd k
 results-alike kind (Spelled m) Default k = absurd k
 results-alike kind (Spelled m) (Spelled n) k =
-    result-is kind m.result ∙ ap (λ (v : view.Method). result_by kind v.result) k.0 ∙ sym (result-is kind n.result)
+    result-is kind m.result ∙ ap (λ (v : view.Method). result_by kind v.result) k.0.0 ∙ sym (result-is kind n.result)
 results-alike kind (Spelled m) Unspelled k = absurd k
 results-alike kind Unspelled Default k = absurd k
 results-alike kind Unspelled (Spelled n) k = absurd k
