@@ -40,18 +40,11 @@ unfolding callees_at
 analysed_callees code = callees_are false code
 
 -- the rows of parts
-pub all_rows_are : (methods : List MethodCore) →
-    callee_rows true methods ≡ map (λ (m : Method). all_calls_in m.code) (map method_of methods)
-all_rows_are [] = refl
-all_rows_are (m ∷ ms) =
-    ap (λ (row : List MethodId). row ∷ callee_rows true ms) (all_callees (tree_of m.code))
-    ∙ ap (λ (rows : List (List MethodId)). all_calls_in (tree_of m.code) ∷ rows) (all_rows_are ms)
-
 pub rows_are : (methods : List MethodCore) →
-    map different (callee_rows false methods) ≡ map (λ (m : Method). different (calls_in m.code))
+    map different (callee_rows methods) ≡ map (λ (m : Method). different (calls_in m.code))
     (map method_of methods)
 rows_are [] = refl
 rows_are (m ∷ ms) =
-    ap (λ (row : List MethodId). different row ∷ map different (callee_rows false ms))
+    ap (λ (row : List MethodId). different row ∷ map different (callee_rows ms))
     (analysed_callees (tree_of m.code))
     ∙ ap (λ (rows : List (List MethodId)). different (calls_in (tree_of m.code)) ∷ rows) (rows_are ms)

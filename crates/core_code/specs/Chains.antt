@@ -1,4 +1,4 @@
--- A contract of a public call rests on this: `on_cycles`, and `recursive` of core_code. Chains of calls.
+-- A contract of a public call rests on this: `on_cycles`. Chains of calls.
 use Rattle.std.specs.Prelude.{Bool, false, List, [], ◌∷◌, Contains, slice_index_or, IsTrue, ◌↔◌}
 use Rattle.racer_base.specs.declared.ids.MethodId.{MethodId}
 

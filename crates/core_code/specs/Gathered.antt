@@ -20,5 +20,6 @@ callees_of all (Choice left right) = callees_of all left ++ callees_of all right
 callees_of all (Loop body) = callees_of all body
 callees_of all (Sync lock body) = callees_of all body
 
-abbrev pub callee_rows : Bool → List MethodCore → List (List MethodId)
-callee_rows all methods = map (λ (m : MethodCore). callees_of all (tree_of m.code)) methods
+-- for each method the analysed methods that it calls
+abbrev pub callee_rows : List MethodCore → List (List MethodId)
+callee_rows methods = map (λ (m : MethodCore). callees_of false (tree_of m.code)) methods

@@ -1,5 +1,5 @@
--- A contract of a public call rests on this: `recursive`. Which methods call which, whatever their status, and which
--- are recursive.
+-- A contract of a public call rests on this: `all_callees`, and `lower` of core_lowering. Which methods call which,
+-- whatever their status, and which are recursive.
 use Rattle.std.specs.Prelude.{Bool, List, [], ◌∷◌, map}
 use Rattle.std.specs.List.{flat_map}
 use Rattle.racer_base.specs.declared.ids.MethodId.{MethodId}

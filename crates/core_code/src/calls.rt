@@ -2,9 +2,9 @@
 ghost use Rattle.std.specs.Prelude.{◌≡◌, ◌++◌, OnOk, IfOk, map, option_to_list, true};
 ghost use Rattle.core_code.specs.Tree.{tree_of, in_sequence};
 ghost use Rattle.core_code.specs.Recursion.{all_calls_in};
-ghost use Rattle.core_code.specs.Gathered.{callees_of_op, callees_of, callee_rows};
+ghost use Rattle.core_code.specs.Gathered.{callees_of_op, callees_of};
 
-use crate::{Code, MethodCore, Op};
+use crate::{Code, Op};
 use racer_base::{Items, Memory, MethodId};
 use std::alloc::Global;
 
@@ -73,18 +73,4 @@ pub fn all_callees(alloc: Global, code: &Code) -> Result<Vec<MethodId>, Memory>
     ensures { IfOk result (λ made. made.items ≡ all_calls_in (tree_of code.now)) }
 {
     callees(alloc, code, true)
-}
-
-/// For each method the methods that it calls: also those that are not analysed.
-pub(crate) fn callee_rows(
-    alloc: Global,
-    methods: &[MethodCore],
-) -> Result<Vec<Items<MethodId>>, Memory>
-    ensures { IfOk result (λ rows. rows.items ≡ callee_rows true methods.now) }
-{
-    let mut rows = Vec::new(alloc);
-    for method in methods {
-        rows.push(Items::from(callees(alloc, &method.code, true)?))?;
-    }
-    Ok(rows)
 }

@@ -13,6 +13,12 @@
 //! The row of a method is the list at its number, and has what it calls. Contracts see rows as a list of lists
 //! (`specs/Chains.antt`). `on_cycles` and `falling_numbers` take time linear in the methods and their calls, and call
 //! no function of their own as deep as a chain of calls.
+//!
+//! What a program keeps is thirteen tests of a few lines, each true of the program of nothing; kinds, ends and ranks
+//! are asked of analysed methods alone. Calls as a graph are lists of methods and no code, so they need no program.
+//! Cycles are found by a walk that puts groups of methods together: the path has the methods that were met and have no
+//! number yet, in groups whose methods lead to one another; a call to the path joins all groups from that one on, and
+//! a last group without calls left is a component. It has no stack of visits: calls that are left lie on one list.
 #![tactic(auto)]
 
 mod calls;
@@ -26,7 +32,6 @@ mod lookups;
 mod parts;
 mod piece;
 mod program;
-mod recursion;
 mod row_making;
 mod rows;
 mod touch;
@@ -40,7 +45,6 @@ pub use falling::falling_numbers;
 pub use parts::{ClassCore, FieldCore, MethodCore, Parts};
 pub use piece::Piece;
 pub use program::Program;
-pub use recursion::recursive;
 pub use row_making::call_rows;
 pub use rows::CallRows;
 pub use touch::is_write;

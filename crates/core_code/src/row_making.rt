@@ -60,7 +60,7 @@ fn push_rows(
     rows: &mut Vec<Items<MethodId>>,
 ) -> Result<(), Memory>
     ensures { OnOk result (rows.new.items ≡
-        rows.old.items ++ map wanted.different (callee_rows false methods.now)) }
+        rows.old.items ++ map wanted.different (callee_rows methods.now)) }
 {
     let mut stamps = vec![in alloc; 0; methods.len()]?;
     for number in 0..methods.len() {

@@ -1,7 +1,7 @@
 -- A method is made of its parts.
 use Rattle.std.proofs.Common.{◌≡◌, ℕ, Bool, List, Option}
 use Rattle.racer_base.specs.declared.ids.Kind.{Kind}
-use Rattle.java_tree.specs.SameParts.{both_5}
+use Rattle.core_lowering_rules.proofs.ZippedLists.{same_5}
 use Rattle.core_code.specs.declared.code.Reason.{Reason}
 use Rattle.core_code.specs.Tree.{Tree}
 use Rattle.core_code.specs.Core.{Method}
@@ -31,4 +31,4 @@ pub method-made : (folder : Folder) (s : Source) (status : Option Reason) (name 
     parameters ≡ s.info.parameters → variables ≡ method_kinds folder s → entry ≡ is_entry folder s.info status →
     code ≡ code_in folder s → method_with s status name parameters variables entry code ≡ method_core folder s status
 method-made folder s status name parameters variables entry code a b c d e =
-    both_5 (method_with s status) a b c d e
+    same_5 (method_with s status) a b c d e

@@ -8,7 +8,7 @@ use Rattle.std.proofs.lemmas.List.Sums.{sum_by-cons}
 use Rattle.std.proofs.lemmas.Option.{same_Some, none-some, slice_get_within}
 use Rattle.racer_base.specs.declared.ids.ClassId.{ClassId}
 use Rattle.racer_base.specs.declared.ids.MethodId.{MethodId}
-use Rattle.java_tree.specs.SameParts.{bytes_is, bytes_refl}
+use Rattle.core_lowering_rules.proofs.Texts.{bytes_is, bytes_refl}
 use Rattle.java_resolver.specs.declared.infos.MethodInfo.{MethodInfo}
 use Rattle.java_resolver.specs.Firsts.{first_that}
 use Rattle.java_resolver.specs.Meanings.{is_called, found}

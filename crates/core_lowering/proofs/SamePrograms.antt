@@ -2,7 +2,7 @@
 use Rattle.std.proofs.Common.{◌≡◌, ℕ, Bool, true, List, [], Option, map, ap, ◌∙◌}
 use Rattle.std.specs.List.{flat_map}
 use Rattle.racer_base.specs.declared.ids.MethodId.{MethodId}
-use Rattle.java_parser_grammar.specs.declared.unit.Unit as unit_type
+use Rattle.java_tree.specs.declared.unit.Unit as unit_type
 use Rattle.java_resolver.specs.declared.infos.ClassInfo.{ClassInfo}
 use Rattle.java_resolver.specs.declared.infos.FieldInfo.{FieldInfo}
 use Rattle.java_resolver.specs.declared.infos.MethodInfo.{MethodInfo}

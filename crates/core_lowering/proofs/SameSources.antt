@@ -4,10 +4,10 @@ use Rattle.std.specs.List.{flat_map, list_any}
 use Rattle.std.proofs.lemmas.List.{map-append}
 use Rattle.std.proofs.lemmas.List.Concat.{flat_map-append}
 use Rattle.racer_base.specs.declared.ids.ClassId.{ClassId}
-use Rattle.java_parser_grammar.specs.declared.unit.Unit as unit_type
-use Rattle.java_parser_grammar.specs.declared.unit.ClassTree.{ClassTree}
-use Rattle.java_parser_grammar.specs.declared.unit.Member.{Member}
-use Rattle.java_parser_grammar.specs.declared.unit.Member.TheVariants as member
+use Rattle.java_tree.specs.declared.unit.Unit as unit_type
+use Rattle.java_tree.specs.declared.unit.ClassTree.{ClassTree}
+use Rattle.java_tree.specs.declared.unit.Member.{Member}
+use Rattle.java_tree.specs.declared.unit.Member.TheVariants as member
 use Rattle.java_resolver.specs.Declarations.{trees_of, names_of, methods_of, by_class, default_constructor}
 use Rattle.java_resolver.specs.Declarations.{member_is_constructor}
 use Rattle.core_lowering_rules.specs.Methods.{Source, Default}

@@ -1,6 +1,6 @@
 -- No public contract rests on this: what is known of the methods of units.
 use Rattle.std.specs.Prelude.{◌≡◌, List, Option, map}
-use Rattle.java_parser_grammar.specs.declared.unit.Unit.{Unit}
+use Rattle.java_tree.specs.declared.unit.Unit.{Unit}
 use Rattle.java_resolver.specs.declared.table.Table.{Table}
 use Rattle.java_resolver.specs.Declarations.{classes_of, fields_of, methods_of}
 use Rattle.java_resolver.specs.Table as seen

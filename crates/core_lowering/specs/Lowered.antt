@@ -2,7 +2,7 @@
 -- and units have to be.
 use Rattle.std.specs.Prelude.{◌≡◌, ◌<◌, ℕ, List, []}
 use Rattle.racer_base.specs.declared.limits.TheConstants.{MAX_CALL_EDGES}
-use Rattle.java_parser_grammar.specs.declared.unit.Unit as unit_type
+use Rattle.java_tree.specs.declared.unit.Unit as unit_type
 use Rattle.core_lowering_rules.specs.Programs.{draft_of, call_edges}
 use Rattle.core_lowering.specs.declared.fault.LowerFault.{LowerFault}
 use Rattle.core_lowering.specs.declared.fault.LowerFault.TheVariants.{TooManyCalls, Memory}

@@ -2,7 +2,7 @@
 use Rattle.std.specs.Prelude.{List}
 use Rattle.std.specs.List.{flat_map}
 use Rattle.racer_base.specs.declared.ids.Place.{Place}
-use Rattle.java_parser_grammar.specs.declared.unit.ClassTree.{ClassTree}
+use Rattle.java_tree.specs.declared.unit.ClassTree.{ClassTree}
 use Rattle.core_lowering_rules.specs.Programs.{skipped_member}
 
 abbrev pub skipped_class : ClassTree → List Place

@@ -29,8 +29,8 @@ use crate::sources::sources_of;
 use crate::statuses::{all_recursive, own_reasons, statuses};
 use core_code::{Parts, Program, Reason, on_cycles};
 use core_lowering_methods::Source;
-use java_parser_grammar::Unit;
 use java_resolver::Table;
+use java_tree::Unit;
 use racer_base::{Items, MAX_CALL_EDGES, Memory, MethodId};
 use std::alloc::Global;
 

@@ -4,7 +4,7 @@ ghost use Rattle.std.specs.List.{flat_map};
 ghost use Rattle.core_lowering_rules.specs.Programs.{skipped_member, skipped_in, in_order};
 ghost use Rattle.core_lowering.specs.Skipped.{skipped_class};
 
-use java_parser_grammar::{ClassTree, Member, Unit};
+use java_tree::{ClassTree, Member, Unit};
 use racer_base::{Items, Memory, Place};
 use std::alloc::Global;
 

@@ -8,9 +8,8 @@ ghost use Rattle.core_lowering.specs.Parts.{part_of};
 
 use crate::lowered_forms::are_lowered;
 use core_lowering_methods::{Body, Source};
-use java_parser_grammar::{ClassTree, Member, Unit};
 use java_resolver::{MethodInfo, any_is_constructor};
-use java_tree::MethodTree;
+use java_tree::{ClassTree, Member, MethodTree, Unit};
 use racer_base::Memory;
 use std::alloc::Global;
 

@@ -12,8 +12,8 @@ use Rattle.java_tree.specs.declared.methods.FieldInitialiser.TheVariants.{Absent
 use Rattle.java_tree.specs.Formed.{Each}
 use Rattle.java_tree.specs.KeptPlaces.{kept, is_kept}
 use Rattle.java_tree.specs.MethodPlaces.{Marks, AreAt, method_marks}
-use Rattle.java_parser_grammar.specs.declared.unit.Member.{Member}
-use Rattle.java_parser_grammar.specs.declared.unit.Member.TheVariants as member
+use Rattle.java_tree.specs.declared.unit.Member.{Member}
+use Rattle.java_tree.specs.declared.unit.Member.TheVariants as member
 use Rattle.java_parser_grammar.specs.Tokens.{is_sign_token, is_name, begins_sign}
 use Rattle.java_parser_grammar.specs.Pieces.{items_of, Piece, pieces_of}
 use Rattle.java_parser_grammar.specs.Members.{Form, SkippedForm, MethodForm, FieldForm, form_by, form_of, before_parentheses}

@@ -1,6 +1,6 @@
 //! Laws of units, as functions with nothing to do.
 ghost use Rattle.std.specs.Prelude.{ℕ, ◌≤◌, List, length, IsTrue};
-ghost use Rattle.java_parser_grammar.specs.declared.unit.Unit.{Unit};
+ghost use Rattle.java_tree.specs.declared.unit.Unit.{Unit};
 ghost use Rattle.core_lowering_rules.specs.Conditions.{are_in_files, are_named};
 ghost use Rattle.core_lowering_conditions.specs.FromTokens.{AreFromTokens};
 

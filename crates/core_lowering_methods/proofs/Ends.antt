@@ -5,7 +5,7 @@ use Rattle.std.specs.List.{flat_map}
 use Rattle.java_tree.specs.declared.methods.MethodTree.{MethodTree}
 use Rattle.java_tree.specs.declared.methods.ParameterTree.{ParameterTree}
 use Rattle.java_tree.specs.View.{ty_of}
-use Rattle.java_parser_grammar.specs.declared.unit.Member.{Member}
+use Rattle.java_tree.specs.declared.unit.Member.{Member}
 use Rattle.java_resolver.specs.Declarations.{is_constructor}
 use Rattle.core_code.specs.Tree.{Tree, can_end, in_sequence}
 use Rattle.core_lowering_rules.specs.Context.{Folder, Context, Code, type_kind}

@@ -3,7 +3,7 @@ use Rattle.std.specs.Prelude.{ℕ, List, [], ◌++◌, Option, take, drop, if◌
 use Rattle.std.specs.List.{flat_map}
 use Rattle.racer_base.specs.declared.ids.VarId.{VarId}
 use Rattle.core_code.specs.declared.code.Op.TheVariants.{Outside}
-use Rattle.java_parser_grammar.specs.declared.unit.Member.{Member}
+use Rattle.java_tree.specs.declared.unit.Member.{Member}
 use Rattle.java_tree.specs.declared.methods.MethodTree.{MethodTree}
 use Rattle.java_resolver.specs.Declarations.{is_constructor}
 use Rattle.core_lowering_rules.specs.Trees.{Expr, Exprs, Start, Stmts}

@@ -20,9 +20,8 @@ use crate::sources::{Body, Source};
 use crate::statements::lower_block;
 use crate::{Context, Draft, MethodResult};
 use core_code::{Code, Reason};
-use java_parser_grammar::Member;
 use java_resolver::{MethodInfo, Table, has_word};
-use java_tree::{MethodTree, ParameterTree, ResultTree};
+use java_tree::{Member, MethodTree, ParameterTree, ResultTree};
 use racer_base::{Items, Kind, Memory};
 use std::alloc::Global;
 

@@ -8,9 +8,8 @@ ghost use Rattle.core_lowering_methods.specs.Views.{value_kind};
 
 use crate::{Context, Draft, ValueKind, assign, lower_initialiser, of_name};
 use core_code::Op;
-use java_parser_grammar::Member;
 use java_resolver::has_word;
-use java_tree::{FieldInitialiser, FieldVariable, Ident, Initialiser};
+use java_tree::{FieldInitialiser, FieldVariable, Ident, Initialiser, Member};
 use racer_base::{Kind, Memory};
 use std::alloc::Global;
 

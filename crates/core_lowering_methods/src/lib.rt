@@ -4,6 +4,12 @@
 //! `code_of` of `specs/Drafts.antt` says what is seen of a `Draft`, and an `Context` is seen as that of the definition.
 //! The code of a method and the kinds of its variables are those of core_lowering_rules's `specs/Methods.antt`, for
 //! every table of names and every method (`lower_method`).
+//!
+//! A `Draft` is seen as its code without sites: each function that adds to it has one clause on plain lists. A change
+//! that may fail half way takes the parts out and puts them back, so that the empty draft is left after a fault. The
+//! code of an access is made in two parts, its base and what is done behind it. Names of variables are looked up in an
+//! index, the innermost last. The reasons why methods are not analysed come as such and not as flags, so that the
+//! folder of the definition is a function of what the code has. Each constructor has all initialisers in its code.
 #![tactic(auto)]
 
 mod blocks;

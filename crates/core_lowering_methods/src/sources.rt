@@ -1,7 +1,6 @@
 //! What a method is made of.
-use java_parser_grammar::Member;
 use java_resolver::MethodInfo;
-use java_tree::MethodTree;
+use java_tree::{Member, MethodTree};
 
 /// The constructor that a class has without declaring it; a tree; what no tree spells, or not one that is lowered.
 #[derive(Clone, Copy)]

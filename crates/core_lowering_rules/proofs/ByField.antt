@@ -5,10 +5,10 @@ use Rattle.std.proofs.lemmas.List.{map-append}
 use Rattle.racer_base.specs.declared.ids.ClassId.{ClassId}
 use Rattle.java_tree.specs.declared.methods.FieldTree.{FieldTree}
 use Rattle.java_tree.specs.declared.methods.FieldVariable.{FieldVariable}
-use Rattle.java_parser_grammar.specs.declared.unit.Unit.{Unit}
-use Rattle.java_parser_grammar.specs.declared.unit.ClassTree.{ClassTree}
-use Rattle.java_parser_grammar.specs.declared.unit.Member.{Member}
-use Rattle.java_parser_grammar.specs.declared.unit.Member.TheVariants as member
+use Rattle.java_tree.specs.declared.unit.Unit.{Unit}
+use Rattle.java_tree.specs.declared.unit.ClassTree.{ClassTree}
+use Rattle.java_tree.specs.declared.unit.Member.{Member}
+use Rattle.java_tree.specs.declared.unit.Member.TheVariants as member
 use Rattle.java_resolver.specs.declared.infos.FieldInfo.{FieldInfo}
 use Rattle.java_resolver.specs.Declarations.{by_class, class_fields, field_info, fields_of, member_fields, names_of}
 use Rattle.java_resolver.specs.Declarations.{trees_of}

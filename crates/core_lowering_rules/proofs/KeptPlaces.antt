@@ -17,10 +17,10 @@ use Rattle.java_tree.specs.KeptPlaces.{Places, is_kept, all_places, each_puts, t
 use Rattle.java_tree.specs.MethodPlaces.{Marks, some_onto, each_marks, no_place, no_name, annotation_marks}
 use Rattle.java_tree.specs.MethodPlaces.{modifier_marks, result_places, parameter_marks, method_marks}
 use Rattle.java_tree.specs.View.{method_of}
-use Rattle.java_parser_grammar.specs.declared.unit.Unit as unit_type
-use Rattle.java_parser_grammar.specs.declared.unit.ClassTree.{ClassTree}
-use Rattle.java_parser_grammar.specs.declared.unit.Member.{Member}
-use Rattle.java_parser_grammar.specs.declared.unit.Member.TheVariants as member
+use Rattle.java_tree.specs.declared.unit.Unit as unit_type
+use Rattle.java_tree.specs.declared.unit.ClassTree.{ClassTree}
+use Rattle.java_tree.specs.declared.unit.Member.{Member}
+use Rattle.java_tree.specs.declared.unit.Member.TheVariants as member
 use Rattle.java_resolver.specs.Declarations.{trees_of}
 use Rattle.java_resolver.specs.Declarations.{by_class}
 use Rattle.core_code.proofs.BoolParts.{both, first_part, last_part}

@@ -27,3 +27,12 @@ pub mod NamedStatements
 pub mod NamedMethods
 pub mod ProgramRanks
 pub mod LoweredTrees
+pub mod FilledTrees
+pub mod FilledExpressions
+pub mod FilledStatements
+pub mod FilledMethods
+pub mod ZippedLists
+pub mod SameMembers
+pub mod SameSources
+pub mod SamePrograms
+pub mod Texts

@@ -12,8 +12,8 @@ use Rattle.java_tree.specs.declared.methods.FieldVariable.{FieldVariable}
 use Rattle.java_tree.specs.declared.methods.MethodTree.{MethodTree}
 use Rattle.java_tree.specs.declared.methods.ParameterTree.{ParameterTree}
 use Rattle.java_tree.specs.View.{ty_of}
-use Rattle.java_parser_grammar.specs.declared.unit.Member.{Member}
-use Rattle.java_parser_grammar.specs.declared.unit.Member.TheVariants as member
+use Rattle.java_tree.specs.declared.unit.Member.{Member}
+use Rattle.java_tree.specs.declared.unit.Member.TheVariants as member
 use Rattle.java_resolver.specs.Declarations.{is_constructor}
 use Rattle.java_resolver.specs.Words.{has_word}
 use Rattle.core_code.specs.declared.code.Op.TheVariants.{PushPrim, Drop, Outside}

@@ -10,8 +10,8 @@ use Rattle.java_tree.specs.declared.words.Ident.{Ident}
 use Rattle.java_tree.specs.declared.methods.FieldInitialiser.{FieldInitialiser}
 use Rattle.java_tree.specs.declared.methods.FieldInitialiser.TheVariants as field
 use Rattle.java_tree.specs.declared.methods.FieldVariable.{FieldVariable}
-use Rattle.java_parser_grammar.specs.declared.unit.Member.{Member}
-use Rattle.java_parser_grammar.specs.declared.unit.Member.TheVariants as member
+use Rattle.java_tree.specs.declared.unit.Member.{Member}
+use Rattle.java_tree.specs.declared.unit.Member.TheVariants as member
 use Rattle.java_tree.specs.View.{ty_of}
 use Rattle.java_resolver.specs.Declarations.{is_constructor}
 use Rattle.java_resolver.specs.Words.{has_word}

@@ -6,8 +6,8 @@ use Rattle.std.specs.List.{list_all}
 use Rattle.std.specs.Option.{option_or}
 use Rattle.racer_base.specs.declared.ids.MethodId.{MethodId}
 use Rattle.racer_base.specs.declared.limits.TheConstants.{MAX_PARAMETERS, MAX_LOCALS}
-use Rattle.java_parser_grammar.specs.declared.unit.Unit as unit_type
-use Rattle.java_parser_grammar.specs.declared.unit.Member.{Member}
+use Rattle.java_tree.specs.declared.unit.Unit as unit_type
+use Rattle.java_tree.specs.declared.unit.Member.{Member}
 use Rattle.java_resolver.specs.declared.infos.ClassInfo.{ClassInfo}
 use Rattle.java_resolver.specs.declared.infos.MethodInfo.{MethodInfo}
 use Rattle.java_resolver.specs.Declarations.{names_of}

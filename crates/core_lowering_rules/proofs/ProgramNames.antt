@@ -11,8 +11,8 @@ use Rattle.std.proofs.lemmas.List.Folds.{list_all-map}
 use Rattle.std.proofs.lemmas.List.Sums.{sum_by-cons}
 use Rattle.racer_base.specs.declared.ids.MethodId.{MethodId}
 use Rattle.racer_base.specs.declared.limits.TheConstants.{MAX_PARAMETERS, MAX_LOCALS}
-use Rattle.java_tree.specs.SameParts.{bytes_is, bytes_refl}
-use Rattle.java_parser_grammar.specs.declared.unit.Unit as unit_type
+use Rattle.core_lowering_rules.proofs.Texts.{bytes_is, bytes_refl}
+use Rattle.java_tree.specs.declared.unit.Unit as unit_type
 use Rattle.java_resolver.specs.declared.infos.ClassInfo.{ClassInfo}
 use Rattle.java_resolver.specs.declared.infos.MethodInfo.{MethodInfo}
 use Rattle.java_resolver.specs.declared.fault.ResolveFault.{ResolveFault}

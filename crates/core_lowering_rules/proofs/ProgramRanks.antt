@@ -9,7 +9,7 @@ use Rattle.std.proofs.lemmas.List.{length-map}
 use Rattle.std.proofs.lemmas.List.Elements.{Contains-append_left, Contains-append_right, Contains-append_cases}
 use Rattle.std.proofs.lemmas.Option.{slice_get_cases, slice_get_within}
 use Rattle.racer_base.specs.declared.ids.MethodId.{MethodId}
-use Rattle.java_parser_grammar.specs.declared.unit.Unit as unit_type
+use Rattle.java_tree.specs.declared.unit.Unit as unit_type
 use Rattle.core_code.specs.Chains.{Calls, IsChain, IsOnCycle, flag_of}
 use Rattle.core_code.specs.declared.code.Op.{Op as CoreOp}
 use Rattle.core_code.specs.declared.code.Op.TheVariants.{Call}

@@ -8,10 +8,10 @@ use Rattle.java_tree.specs.declared.methods.FieldInitialiser.TheVariants as fiel
 use Rattle.java_tree.specs.declared.methods.FieldVariable.{FieldVariable}
 use Rattle.java_tree.specs.KeptPlaces.{init_places}
 use Rattle.java_tree.specs.MethodPlaces.{Marks, method_marks}
-use Rattle.java_parser_grammar.specs.declared.unit.Unit.{Unit}
-use Rattle.java_parser_grammar.specs.declared.unit.ClassTree.{ClassTree}
-use Rattle.java_parser_grammar.specs.declared.unit.Member.{Member}
-use Rattle.java_parser_grammar.specs.declared.unit.Member.TheVariants as member
+use Rattle.java_tree.specs.declared.unit.Unit.{Unit}
+use Rattle.java_tree.specs.declared.unit.ClassTree.{ClassTree}
+use Rattle.java_tree.specs.declared.unit.Member.{Member}
+use Rattle.java_tree.specs.declared.unit.Member.TheVariants as member
 use Rattle.java_resolver.specs.declared.infos.ClassInfo.{ClassInfo}
 use Rattle.java_resolver.specs.declared.infos.FieldInfo.{FieldInfo}
 use Rattle.java_resolver.specs.Declarations.{classes_of, fields_of}

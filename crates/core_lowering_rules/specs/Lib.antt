@@ -13,7 +13,5 @@ pub mod LoweredForms
 pub mod Sites
 pub mod Programs
 pub mod ByField
-pub mod PlacedTexts
-pub mod Examples
 pub mod ProgramExamples
 pub mod Conditions

@@ -2,11 +2,11 @@
 use Rattle.std.specs.Prelude.{ℕ, false, List, [], ◌∷◌, Option, codes, map, replicate}
 use Rattle.java_tree.specs.declared.methods.ResultTree.{ResultTree}
 use Rattle.java_tree.specs.declared.methods.ResultTree.TheVariants.{Void}
-use Rattle.java_parser_grammar.specs.declared.unit.Unit.{Unit}
-use Rattle.java_parser_grammar.specs.declared.unit.Member.{Member}
-use Rattle.java_parser_grammar.specs.declared.unit.ClassTree.{ClassTree}
-use Rattle.java_parser_grammar.specs.declared.unit.HeadResult.TheVariants as head
-use Rattle.java_parser_grammar.specs.declared.unit.Member.TheVariants.{Method, Field, Skipped}
+use Rattle.java_tree.specs.declared.unit.Unit.{Unit}
+use Rattle.java_tree.specs.declared.unit.Member.{Member}
+use Rattle.java_tree.specs.declared.unit.ClassTree.{ClassTree}
+use Rattle.java_tree.specs.declared.unit.HeadResult.TheVariants as head
+use Rattle.java_tree.specs.declared.unit.Member.TheVariants.{Method, Field, Skipped}
 use Rattle.java_resolver.specs.NameExamples.{annotation, tree, words, method_tree, parameter, int, unit, at, ints}
 use Rattle.java_resolver.specs.NameExamples.{absent, outside}
 use Rattle.core_code.specs.declared.code.Reason.{Reason}

@@ -8,10 +8,10 @@ use Rattle.racer_base.specs.declared.ids.ClassId.{ClassId}
 use Rattle.racer_base.specs.declared.ids.MethodId.{MethodId}
 use Rattle.racer_base.specs.declared.ids.Place.{Place}
 use Rattle.racer_base.specs.declared.limits.TheConstants.{MAX_PARAMETERS, MAX_LOCALS}
-use Rattle.java_parser_grammar.specs.declared.unit.Unit.{Unit}
-use Rattle.java_parser_grammar.specs.declared.unit.ClassTree.{ClassTree}
-use Rattle.java_parser_grammar.specs.declared.unit.Member.{Member}
-use Rattle.java_parser_grammar.specs.declared.unit.Member.TheVariants as member
+use Rattle.java_tree.specs.declared.unit.Unit.{Unit}
+use Rattle.java_tree.specs.declared.unit.ClassTree.{ClassTree}
+use Rattle.java_tree.specs.declared.unit.Member.{Member}
+use Rattle.java_tree.specs.declared.unit.Member.TheVariants as member
 use Rattle.java_resolver.specs.declared.infos.ClassInfo.{ClassInfo}
 use Rattle.java_resolver.specs.declared.infos.FieldInfo.{FieldInfo}
 use Rattle.java_resolver.specs.declared.infos.MethodInfo.{MethodInfo}

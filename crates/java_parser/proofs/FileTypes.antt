@@ -5,7 +5,7 @@ use Rattle.std.specs.Prelude.{if◌then◌else◌}
 use Rattle.std.proofs.lemmas.List.{append-nil}
 use Rattle.racer_base.specs.declared.ids.Place.{Place}
 use Rattle.java_lexer.specs.declared.token.Token.{Token}
-use Rattle.java_parser_grammar.specs.declared.unit.ParseFault.TheVariants.{NotAUnit}
+use Rattle.java_tree.specs.declared.unit.ParseFault.TheVariants.{NotAUnit}
 use Rattle.java_parser_grammar.specs.Tokens.{begins_sign}
 use Rattle.java_parser_grammar.specs.Cuts.{joined, ends}
 use Rattle.java_parser_grammar.specs.Pieces.{Item, items_of}

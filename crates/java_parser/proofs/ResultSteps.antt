@@ -16,8 +16,8 @@ use Rattle.java_parser_grammar.proofs.Annotations.{EndsModifiers, ends_void, end
 use Rattle.java_parser_grammar.proofs.Ensuring.{of_equation, keyword_is}
 use Rattle.java_parser_grammar.proofs.SoundAnnotations.{Taken, modifiers_sound}
 use Rattle.java_parser_grammar.proofs.TypeFronts.{formed_longer}
-use Rattle.java_parser_grammar.specs.declared.unit.HeadResult.{HeadResult}
-use Rattle.java_parser_grammar.specs.declared.unit.HeadResult.TheVariants.{Void, Formed, Constructor, Unknown}
+use Rattle.java_tree.specs.declared.unit.HeadResult.{HeadResult}
+use Rattle.java_tree.specs.declared.unit.HeadResult.TheVariants.{Void, Formed, Constructor, Unknown}
 use Rattle.java_parser_grammar.specs.Heads.{EndsInResult, IsConstructor, HasHead, HeadSays, IsResult}
 use Rattle.java_parser_grammar.specs.Tokens.{plain_all}
 use Rattle.java_parser_types.specs.Tokens.{spelled}

@@ -12,15 +12,16 @@ use Rattle.java_tree.specs.Trees.{Annotation, Method}
 use Rattle.java_tree.specs.Words.{identifier}
 use Rattle.java_tree.specs.Formed.{has_some, FormedMethod}
 use Rattle.java_tree.specs.Spelling.{behind_points, names_onto, spelling}
+use Rattle.java_tree.specs.MethodPlaces.{method_marks}
 use Rattle.java_tree.specs.View.{method_of}
 use Rattle.java_parser_grammar.specs.Lookahead.{begins_with}
 use Rattle.java_parser_grammar.specs.Taking.{after_sign}
 use Rattle.java_parser_grammar.proofs.FoundJava.{one_java_method}
 use Rattle.java_parser_grammar.proofs.Taken.{sign_is}
-use Rattle.java_parser_grammar.specs.declared.unit.ClassTree.{ClassTree}
-use Rattle.java_parser_grammar.specs.declared.unit.Member.{Member}
-use Rattle.java_parser_grammar.specs.declared.unit.Member.TheVariants as member
-use Rattle.java_parser_grammar.specs.declared.unit.Unit as unit
+use Rattle.java_tree.specs.declared.unit.ClassTree.{ClassTree}
+use Rattle.java_tree.specs.declared.unit.Member.{Member}
+use Rattle.java_tree.specs.declared.unit.Member.TheVariants as member
+use Rattle.java_tree.specs.declared.unit.Unit as unit
 use Rattle.java_parser_grammar.specs.Tokens.{plain_all}
 use Rattle.java_parser_grammar.specs.Members.{Form, SkippedForm, MethodForm, FieldForm, form_of, members_of}
 use Rattle.java_parser_grammar.specs.Pieces.{Item, items_of, pieces_of}
@@ -29,7 +30,7 @@ use Rattle.java_parser_grammar.specs.Units.{BeginsAt, HasForm, IsMember, annotat
 use Rattle.java_parser_grammar.specs.Units.{IsClass, IsUnit}
 use Rattle.java_parser_grammar.proofs.Misfits.{one_cut}
 use Rattle.java_parser_methods.specs.PlacedMethods.{IsPlacedMethod}
-use Rattle.java_parser.specs.SameUnits.{SameAnnotation, SameMethod, SameMember, SameClass, SameUnit}
+use Rattle.java_tree.specs.SameUnits.{SameAnnotation, SameMember, SameClass, SameUnit}
 use Rattle.java_parser.proofs.SameFields.{two_zips, same_field}
 use Rattle.java_parser.proofs.SameHeads.{same_head}
 use Rattle.java_parser.proofs.UnitSteps.{is_other}
@@ -97,7 +98,7 @@ same_start (t ∷ ts) p q h k = sym h ∙ k
 
 abbrev pub OnePlaced : Type 0
 OnePlaced = (tokens : List Token) (a b : MethodTree) → IsPlacedMethod tokens a → IsPlacedMethod tokens b
-    → SameMethod a b
+    → (method_of a ≡ method_of b) × (method_marks a ≡ method_marks b)
 
 module _ (one : OnePlaced) (class : List ℕ) (m : List Token) where
   same_form : (form : Form) (a b : Member) → HasForm class m form a → HasForm class m form b → SameMember a b
@@ -113,8 +114,9 @@ module _ (one : OnePlaced) (class : List ℕ) (m : List Token) where
   same_form (MethodForm front name ps) (member.Method t) (member.Field g) h k = absurd k
   same_form (MethodForm front name ps) (member.Method t) (member.Skipped q) h k = absurd k
   same_form (MethodForm front name ps) (member.Method t) (member.Method u) h k =
-      one m t u (record { formed = h.0.formed; spells = h.0.spelled; stands = h.1 })
-      (record { formed = k.0.formed; spells = k.0.spelled; stands = k.1 })
+      let same = one m t u (record { formed = h.0.formed; spells = h.0.spelled; stands = h.1 })
+      (record { formed = k.0.formed; spells = k.0.spelled; stands = k.1 }) in
+      (same.0, same.1, h.2 ∙ sym k.2)
   same_form (MethodForm front name ps) (member.Method t) (member.Outside y) h k = absurd (k.0 (method_of t) h.0)
   same_form (MethodForm front name ps) (member.Outside x) (member.Field g) h k = absurd k
   same_form (MethodForm front name ps) (member.Outside x) (member.Skipped q) h k = absurd k

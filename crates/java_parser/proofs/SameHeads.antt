@@ -11,12 +11,12 @@ use Rattle.java_tree.specs.Formed.{FormedTy, is_plain_word}
 use Rattle.java_tree.specs.View.{ty_of}
 use Rattle.java_parser_grammar.specs.Taking.{is_keyword_kind}
 use Rattle.java_parser_grammar.proofs.FoundTypes.{one_type}
-use Rattle.java_parser_grammar.specs.declared.unit.HeadResult.{HeadResult}
-use Rattle.java_parser_grammar.specs.declared.unit.HeadResult.TheVariants.{Void, Formed, Constructor, Unknown}
-use Rattle.java_parser_grammar.specs.declared.unit.OutsideHead.{OutsideHead}
+use Rattle.java_tree.specs.declared.unit.HeadResult.{HeadResult}
+use Rattle.java_tree.specs.declared.unit.HeadResult.TheVariants.{Void, Formed, Constructor, Unknown}
+use Rattle.java_tree.specs.declared.unit.OutsideHead.{OutsideHead}
 use Rattle.java_parser_grammar.specs.Heads.{HasHead, HeadSays, IsResult, IsOutside, name_kept}
 use Rattle.java_parser.proofs.ResultSteps.{head_read, behind}
-use Rattle.java_parser.specs.SameUnits.{SameResult, SameHead}
+use Rattle.java_tree.specs.SameUnits.{SameResult, SameHead}
 use Rattle.java_parser.proofs.SameFields.{same_places}
 
 one_result : (front : List Token) (r s : Result) → (r ≡ NoResult → ⊥) → (s ≡ NoResult → ⊥) → HasHead front r

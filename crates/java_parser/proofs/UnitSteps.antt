@@ -5,10 +5,10 @@ use Rattle.std.specs.Prelude.{is_some}
 use Rattle.std.specs.List.{AllZip}
 use Rattle.racer_base.specs.declared.ids.Place.{Place}
 use Rattle.java_lexer.specs.declared.token.Token.{Token}
-use Rattle.java_parser_grammar.specs.declared.unit.ClassTree.{ClassTree}
-use Rattle.java_parser_grammar.specs.declared.unit.Unit as unit
-use Rattle.java_parser_grammar.specs.declared.unit.ParseFault.{ParseFault}
-use Rattle.java_parser_grammar.specs.declared.unit.ParseFault.TheVariants.{Unbalanced, TooDeep, NotAUnit, Memory}
+use Rattle.java_tree.specs.declared.unit.ClassTree.{ClassTree}
+use Rattle.java_tree.specs.declared.unit.Unit as unit
+use Rattle.java_tree.specs.declared.unit.ParseFault.{ParseFault}
+use Rattle.java_tree.specs.declared.unit.ParseFault.TheVariants.{Unbalanced, TooDeep, NotAUnit, Memory}
 use Rattle.java_parser_grammar.specs.Pieces.{items_of}
 use Rattle.java_parser_grammar.specs.Units.{BeginsAt, read_name, is_read, IsClass, IsUnit, IsFault}
 use Rattle.java_parser.specs.DeclaredTypes.{AreTypes, IsNoUnit}

@@ -14,4 +14,3 @@ pub mod WalkedTypes
 pub mod ClassNames
 pub mod NamesOfAnnotations
 pub mod ReadTypes
-pub mod SameUnits

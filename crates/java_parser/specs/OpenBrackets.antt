@@ -1,8 +1,8 @@
 -- A contract of a public call rests on this: what is said of the brackets of a file, and the code's stack of open ones.
 use Rattle.std.specs.Prelude.{◌≡◌, Bool, true, false, List, [], ◌∷◌, Option, Some, None}
 use Rattle.java_lexer.specs.declared.token.Token.{Token}
-use Rattle.java_parser_grammar.specs.declared.unit.ParseFault.{ParseFault}
-use Rattle.java_parser_grammar.specs.declared.unit.ParseFault.TheVariants.{Unbalanced, TooDeep, NotAUnit, Memory}
+use Rattle.java_tree.specs.declared.unit.ParseFault.{ParseFault}
+use Rattle.java_tree.specs.declared.unit.ParseFault.TheVariants.{Unbalanced, TooDeep, NotAUnit, Memory}
 use Rattle.java_parser_grammar.specs.Brackets.{unbalanced, too_deep}
 
 -- the innermost first, of a list that has it last; others are further out

@@ -10,8 +10,8 @@ use Rattle.java_tree.specs.Nesting.{result_nesting}
 use Rattle.java_tree.specs.KeptPlaces.{kept, ty_places}
 use Rattle.java_tree.specs.View.{ty_of}
 use Rattle.java_parser_grammar.specs.MethodReading.{modifiers_at}
-use Rattle.java_parser_grammar.specs.declared.unit.HeadResult.{HeadResult}
-use Rattle.java_parser_grammar.specs.declared.unit.HeadResult.TheVariants.{Void, Formed, Constructor, Unknown}
+use Rattle.java_tree.specs.declared.unit.HeadResult.{HeadResult}
+use Rattle.java_tree.specs.declared.unit.HeadResult.TheVariants.{Void, Formed, Constructor, Unknown}
 use Rattle.java_parser_grammar.specs.Tokens.{plain_all}
 
 -- all of the tokens are this result

@@ -5,8 +5,8 @@ ghost use Rattle.java_parser_grammar.specs.Brackets.{unbalanced, too_deep};
 ghost use Rattle.java_parser.specs.OpenBrackets.{open_onto, IsOpened, IsBalanced, IsBracketFault};
 
 use java_lexer::{Token, TokenKind};
-use java_parser_grammar::ParseFault;
 use java_parser_types::look::is_sign;
+use java_tree::ParseFault;
 use racer_base::{MAX_BRACKET_NESTING, Memory, Place};
 use std::alloc::Global;
 

@@ -13,7 +13,7 @@ use crate::members::members;
 use crate::pieces::next_piece;
 use crate::tests_of_tokens::{begins_sign, begins_word};
 use java_lexer::Token;
-use java_parser_grammar::ClassTree;
+use java_tree::ClassTree;
 use racer_base::{Memory, Text};
 use std::alloc::Global;
 

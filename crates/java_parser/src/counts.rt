@@ -2,12 +2,11 @@
 ghost use Rattle.std.specs.Prelude.{◌≡◌, ◌<◌, ◌≤◌, ◌^◌, suc, length, codes};
 ghost use Rattle.std.specs.List.{list_any};
 ghost use Rattle.java_parser_grammar.specs.Pieces.{items_of};
-ghost use Rattle.java_parser_grammar.specs.Heads.{commas_among, parameters_among, has_static, has_synchronized};
+ghost use Rattle.java_parser_grammar.specs.Heads.{commas_among, parameters_among, has_static};
 
 use super::items::next_item;
 use super::tests_of_tokens::{begins_angle, begins_sign, begins_word};
 use java_lexer::Token;
-use java_parser_types::look::is_keyword;
 
 /// How many commas stand outside brackets, `<` and `>` among these.
 fn commas(tokens: &[Token]) -> u32
@@ -49,20 +48,6 @@ pub fn has_static(front: &[Token]) -> bool
     let mut rest = front;
     while let Some((item, after)) = next_item(rest) {
         if begins_word(item, "static") {
-            return true;
-        }
-        rest = after;
-    }
-    false
-}
-
-/// Whether `synchronized` stands among the tokens.
-pub fn has_synchronized(tokens: &[Token]) -> bool
-    ensures { result ≡ has_synchronized tokens.now }
-{
-    let mut rest = tokens;
-    while let Some((token, after)) = rest.split_first() {
-        if is_keyword(token, "synchronized") {
             return true;
         }
         rest = after;

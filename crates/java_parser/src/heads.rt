@@ -4,10 +4,11 @@ ghost use Rattle.java_parser_grammar.specs.Heads.{name_kept, parameters_among, I
 ghost use Rattle.java_parser_grammar.specs.Pieces.{items_of, inside};
 
 use super::results::head_result;
-use crate::counts::{has_static, has_synchronized, parameters};
+use crate::counts::{has_static, parameters};
 use crate::items::inside;
 use java_lexer::Token;
-use java_parser_grammar::{HeadResult, OutsideHead};
+use java_parser_methods::has_synchronized;
+use java_tree::{HeadResult, OutsideHead};
 use racer_base::{Memory, Text};
 use std::alloc::Global;
 

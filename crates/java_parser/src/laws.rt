@@ -1,23 +1,19 @@
 //! Laws of files that are units.
-ghost use Rattle.std.specs.Prelude.{◌≡◌, ℕ, List, IfOk};
+ghost use Rattle.std.specs.Prelude.{◌≡◌, ℕ, List};
 ghost use Rattle.java_lexer.specs.declared.token.Token.{Token};
 ghost use Rattle.java_tree.specs.declared.methods.MethodTree as code;
 ghost use Rattle.java_tree.specs.Formed.{FormedMethod};
 ghost use Rattle.java_tree.specs.Spelling.{spelling};
 ghost use Rattle.java_tree.specs.Trees.{Method};
 ghost use Rattle.java_tree.specs.View.{method_of};
-ghost use Rattle.java_parser_grammar.specs.declared.unit.Member.TheVariants as member;
-ghost use Rattle.java_parser_grammar.specs.declared.unit.Unit as unit;
+ghost use Rattle.java_tree.specs.declared.unit.Member.TheVariants as member;
+ghost use Rattle.java_tree.specs.declared.unit.Unit as unit;
 ghost use Rattle.java_parser_grammar.specs.Tokens.{plain_all};
 ghost use Rattle.java_parser_grammar.specs.Units.{IsMember, IsUnit};
-ghost use Rattle.java_parser.specs.SameUnits.{SameUnit};
+ghost use Rattle.java_tree.specs.SameUnits.{SameUnit};
 
 use java_parser_grammar::grammar_laws;
 use java_parser_methods::laws::one_placed_method;
-use java_tree::{MethodTree, Spelled};
-use java_tree_spelling::spell;
-use racer_base::Memory;
-use std::alloc::Global;
 
 /// A file is one unit at most: two that it is are the same, with the places of their trees.
 pub fn one_unit()
@@ -33,20 +29,10 @@ pub fn one_method()
         → spelling other ≡ plain_all tokens → other ≡ method_of tree }
 {}
 
-/// Reading is unique: of two formed trees, places aside, equal spellings mean equal trees. Both spellings are given.
-pub fn unique_reading(
-    alloc: Global,
-    first: &MethodTree,
-    second: &MethodTree,
-) -> Result<(Vec<Spelled>, Vec<Spelled>), Memory>
-    requires formed { FormedMethod (method_of first.now) }
-    requires other_formed { FormedMethod (method_of second.now) }
-    ensures spelled { IfOk result (λ x. x.0.items ≡ spelling (method_of first.now)) }
-    ensures other_spelled { IfOk result (λ x. x.1.items ≡ spelling (method_of second.now)) }
-    ensures one { IfOk result (λ x. x.0.items ≡ x.1.items → method_of first.now ≡ method_of second.now) }
+/// Reading is unique: of two formed trees, places aside, equal spellings mean equal trees.
+pub fn unique_reading()
+    ensures { (first second : code.MethodTree) → FormedMethod (method_of first) → FormedMethod (method_of second)
+        → spelling (method_of first) ≡ spelling (method_of second) → method_of first ≡ method_of second }
 {
     grammar_laws::one_method();
-    let spelled = spell(alloc, first)?;
-    let other = spell(alloc, second)?;
-    Ok((spelled, other))
 }

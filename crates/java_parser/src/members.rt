@@ -5,7 +5,7 @@ ghost use Rattle.java_tree.specs.KeptPlaces.{kept};
 ghost use Rattle.java_tree.specs.MethodPlaces.{method_marks, AreAt};
 ghost use Rattle.java_tree.specs.Trees.{Method};
 ghost use Rattle.java_tree.specs.View.{method_of};
-ghost use Rattle.java_parser_grammar.specs.Heads.{IsMethod};
+ghost use Rattle.java_parser_grammar.specs.Heads.{IsMethod, has_synchronized};
 ghost use Rattle.java_parser_grammar.specs.Members.{members_of, MethodForm, FieldForm};
 ghost use Rattle.java_parser_grammar.specs.Units.{BeginsAt, HasForm, IsMember};
 ghost use Rattle.java_parser_types.specs.declared.error.ReadError.TheVariants.{Unformed};
@@ -17,10 +17,9 @@ use crate::forms::{Form, form_of};
 use crate::tests_of_tokens::first_place;
 use crate::types::members as parts;
 use java_lexer::Token;
-use java_parser_grammar::Member;
 use java_parser_methods::read_method;
 use java_parser_types::ReadError;
-use java_tree::{MethodTree, ResultTree};
+use java_tree::{Member, MethodTree, ResultTree};
 use racer_base::{Items, MAX_NESTING, Memory, Place};
 use std::alloc::Global;
 
@@ -52,6 +51,7 @@ fn method(alloc: Global, class: &str, member: &[Token]) -> Result<MethodTree, Re
     requires { length member.now < 2 ^ 32 }
     ensures read { IfOk result (λ tree. IsMethod class.now member.now (method_of tree)) }
     ensures places { IfOk result (λ tree. AreAt (method_marks tree) (kept member.now)) }
+    ensures synchronized { IfOk result (λ tree. tree.has_synchronized ≡ has_synchronized member.now) }
     ensures none { IsErrOf result Unformed → (m : Method) → IsMethod class.now member.now m → ⊥ }
 {
     let tree = read_method(alloc, MAX_NESTING, member)?;

@@ -9,10 +9,10 @@ use super::fronts::cut;
 use super::last_parts::last_part;
 use crate::pieces::{is_annotation, next_piece};
 use java_lexer::Token;
-use java_parser_grammar::HeadResult;
 use java_parser_methods::annotations::modifiers;
 use java_parser_types::look::is_keyword;
 use java_parser_types::{ReadError, read_type};
+use java_tree::HeadResult;
 use racer_base::{MAX_NESTING, Memory, Text};
 use std::alloc::Global;
 

@@ -8,7 +8,7 @@ ghost use Rattle.java_parser.specs.DeclaredTypes.{AreTypes, IsNoUnit};
 use super::bodies::{is_lone, next_member};
 use super::declarations::{Seen, first_declaration};
 use java_lexer::Token;
-use java_parser_grammar::ParseFault;
+use java_tree::ParseFault;
 use racer_base::{Memory, Place};
 use std::alloc::Global;
 

@@ -10,7 +10,7 @@ use crate::balance::check_brackets;
 use crate::tests_of_tokens::first_place;
 use crate::types::types;
 use java_lexer::{Lexed, Token};
-use java_parser_grammar::{ClassTree, ParseFault, Unit};
+use java_tree::{ClassTree, ParseFault, Unit};
 use racer_base::{Items, Memory};
 use std::alloc::Global;
 

@@ -7,7 +7,7 @@ use Rattle.java_lexer.specs.declared.token.Token.{Token}
 use Rattle.java_tree.specs.declared.words.Spelled.{Spelled}
 use Rattle.java_tree.specs.Words.{sign}
 use Rattle.java_tree.specs.Examples.{space, between_spaces, token_of}
-use Rattle.java_parser_grammar.specs.declared.unit.ParseFault.TheVariants.{NotAUnit}
+use Rattle.java_tree.specs.declared.unit.ParseFault.TheVariants.{NotAUnit}
 use Rattle.java_parser_grammar.specs.Pieces.{Item, items_of, inside, pieces_of}
 use Rattle.java_parser_grammar.specs.Units.{IsFault}
 use Rattle.java_parser_grammar.specs.Declarations.{types_among}

@@ -14,19 +14,19 @@ use Rattle.java_tree.specs.KeptPlaces.{kept}
 use Rattle.java_tree.specs.MethodPlaces.{method_marks, AreAt}
 use Rattle.java_tree.specs.View.{method_of, annotation_of}
 use Rattle.java_parser_grammar.specs.Lookahead.{begins_with}
-use Rattle.java_parser_grammar.specs.declared.unit.Member.{Member}
-use Rattle.java_parser_grammar.specs.declared.unit.Member.TheVariants as member
-use Rattle.java_parser_grammar.specs.declared.unit.ClassTree.{ClassTree}
-use Rattle.java_parser_grammar.specs.declared.unit.Unit as unit
-use Rattle.java_parser_grammar.specs.declared.unit.ParseFault.{ParseFault}
-use Rattle.java_parser_grammar.specs.declared.unit.ParseFault.TheVariants.{Unbalanced, TooDeep, NotAUnit, Memory}
+use Rattle.java_tree.specs.declared.unit.Member.{Member}
+use Rattle.java_tree.specs.declared.unit.Member.TheVariants as member
+use Rattle.java_tree.specs.declared.unit.ClassTree.{ClassTree}
+use Rattle.java_tree.specs.declared.unit.Unit as unit
+use Rattle.java_tree.specs.declared.unit.ParseFault.{ParseFault}
+use Rattle.java_tree.specs.declared.unit.ParseFault.TheVariants.{Unbalanced, TooDeep, NotAUnit, Memory}
 use Rattle.java_parser_grammar.specs.Tokens.{plain_all, begins, begins_sign, begins_word, first_place}
 use Rattle.java_parser_grammar.specs.Cuts.{joined}
 use Rattle.java_parser_grammar.specs.Brackets.{unbalanced, too_deep}
 use Rattle.java_parser_grammar.specs.Pieces.{Item, items_of, Piece, pieces_of, is_annotation, inside}
 use Rattle.java_parser_grammar.specs.Declarations.{is_type_modifier, types_among, AreDeclarations, IsMisfit}
 use Rattle.java_parser_grammar.specs.Members.{members_of, behind_words, Form, SkippedForm, MethodForm, FieldForm, form_of}
-use Rattle.java_parser_grammar.specs.Heads.{IsMethod, IsOutside}
+use Rattle.java_parser_grammar.specs.Heads.{IsMethod, IsOutside, has_synchronized}
 use Rattle.java_parser_grammar.specs.FieldDivisions.{AreFields}
 
 -- the first token stands at this place
@@ -36,11 +36,13 @@ BeginsAt (t ∷ ts) place = t.place ≡ place
 
 -- ---- members
 
--- the tokens of a member of this form are read as this; the tree of a method keeps their places, that of its name also
+-- the tokens of a member of this form are read as this; the tree of a method keeps their places, that of its name also,
+-- and whether `synchronized` stands among them
 abbrev pub HasForm : (class : List ℕ) → List Token → Form → Member → Type 0
 HasForm class m SkippedForm (member.Skipped place) = BeginsAt m place
 HasForm class m (MethodForm front name parentheses) (member.Method tree) =
     IsMethod class m (method_of tree) × AreAt (method_marks tree) (kept m)
+    × (tree.has_synchronized ≡ has_synchronized m)
 HasForm class m (MethodForm front name parentheses) (member.Outside head) =
     ((tree : Method) → IsMethod class m tree → ⊥) × IsOutside class front name parentheses m head
 HasForm class m FieldForm (member.Field f) = AreFields m f

@@ -6,7 +6,6 @@ pub mod RowLoops
 pub mod TryParts
 pub mod WholeMethods
 pub mod LedMarks
-pub mod TypeCounts
 pub mod SameMarks
 pub mod SignatureSteps
 pub mod PassedOn

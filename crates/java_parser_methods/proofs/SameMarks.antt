@@ -16,7 +16,7 @@ use Rattle.java_lexer.specs.declared.token.TokenKind.TheVariants as kind
 use Rattle.java_tree.specs.Trees.{Word}
 use Rattle.java_tree.specs.Words.{keyword}
 use Rattle.java_tree.specs.View.{ty_of, annotation_of, modifier_of, result_of, parameter_of, method_of}
-use Rattle.java_parser_methods.proofs.TypeCounts.{ty_count, ty_counts}
+use Rattle.java_tree.proofs.TypeCounts.{ty_count, ty_counts}
 
 -- what is left of the places behind two lists of marks, and that equal rests make the whole equal
 record Behind (f g : Marks → Marks) (r s : Marks) : Type 0 where

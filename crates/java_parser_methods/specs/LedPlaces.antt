@@ -1,4 +1,4 @@
--- No public contract rests on this: from the places of some tokens to those behind what was read.
+-- A contract of a public call rests on this: `annotation`. From the places of tokens to those behind what was read.
 use Rattle.java_tree.specs.KeptPlaces.{Places}
 use Rattle.java_tree.specs.MethodPlaces.{Marks, AreAt}
 

@@ -1,4 +1,7 @@
 //! Methods of Java, read from their tokens.
+//!
+//! What stands behind `case` is read at the level of a conditional (JLS 14.11). `goes_on word s` says for `else`,
+//! `catch` and `finally` whether a word would belong to s where it stands behind it.
 #![tactic(auto)]
 
 pub mod annotations;
@@ -18,6 +21,8 @@ mod switches;
 mod tries;
 mod try_heads;
 mod whole;
+mod words;
 
 pub use java_parser_types::ReadError;
 pub use whole::read_method;
+pub use words::has_synchronized;

@@ -7,6 +7,7 @@ ghost use Rattle.java_tree.specs.MethodPlaces.{AreAt};
 ghost use Rattle.java_parser_methods.specs.LedPlaces.{Leads};
 ghost use Rattle.java_tree.specs.Trees.{pack_stmts};
 ghost use Rattle.java_tree.specs.View.{stmt_of, modifier_of, result_of, method_of};
+ghost use Rattle.java_parser_grammar.specs.Heads.{has_synchronized};
 ghost use Rattle.java_parser_grammar.specs.MethodReading.{result_at};
 ghost use Rattle.java_parser_methods.specs.SignatureReading.{signature_of, signature_marks, method_with, last_block_at};
 ghost use Rattle.java_parser_methods.specs.SignatureReading.{whole_named_at, whole_method_at};
@@ -18,6 +19,7 @@ use super::annotations::modifiers;
 use super::lookahead::is_constructor;
 use super::signatures::{Signature, read_signature};
 use super::statements::read_block;
+use super::words::has_synchronized;
 use java_lexer::Token;
 use java_parser_types::error::ReadError;
 use java_parser_types::look::after_keyword;
@@ -71,11 +73,13 @@ fn method(
     given: ResultTree,
     signature: Signature,
     body: Vec<Statement>,
+    has_synchronized: bool,
 ) -> MethodTree
     ensures gives { method_of result ≡ method_with (map modifier_of modifiers) (result_of given)
         (signature_of signature) (pack_stmts (map stmt_of body.items)) }
     ensures places { method_marks result ≡ each_marks modifier_marks modifiers (some_onto (result_places given)
         (signature_marks signature (some_onto (each_puts (map stmt_places body.items) []) []))) }
+    ensures synchronized { result.has_synchronized ≡ has_synchronized }
 {
     MethodTree {
         modifiers,
@@ -84,16 +88,19 @@ fn method(
         parameters: Items::from(signature.parameters),
         throws: Items::from(signature.throws),
         body: Items::from(body),
+        has_synchronized,
     }
 }
 
-/// The method that these tokens are from its name on, behind these modifiers and what it gives.
+/// The method that these tokens are from its name on, behind these modifiers and what it gives; whether it has the word
+/// `synchronized` is known.
 #[tactic(auto, unfolding(crate::specs::SignatureReading::whole_named_at))]
 fn method_from_name(
     alloc: Global,
     limit: u32,
     modifiers: Items<ModifierTree>,
     given: ResultTree,
+    has_synchronized: bool,
     tokens: &[Token],
 ) -> Result<MethodTree, ReadError>
     requires few { length tokens.now < 2 ^ 32 }
@@ -102,10 +109,11 @@ fn method_from_name(
         (result_of given) (map spelled tokens.now)) }
     ensures places { IfOk result (λ tree. (start : Places) → Leads (λ rest. each_marks modifier_marks modifiers
         (some_onto (result_places given) rest)) start (kept tokens.now) → AreAt (method_marks tree) start) }
+    ensures synchronized { IfOk result (λ tree. tree.has_synchronized ≡ has_synchronized) }
 {
     let (signature, rest) = read_signature(alloc, limit, tokens)?;
     let body = last_block(alloc, limit, rest)?;
-    Ok(method(modifiers, given, signature, body))
+    Ok(method(modifiers, given, signature, body, has_synchronized))
 }
 
 /// The method that all these tokens are.
@@ -115,8 +123,10 @@ pub fn read_method(alloc: Global, limit: u32, tokens: &[Token]) -> Result<Method
     requires room { suc (suc limit) < 2 ^ 32 }
     ensures gives { Gives method_of result (whole_method_at method_readers limit (map spelled tokens.now)) }
     ensures places { IfOk result (λ tree. AreAt (method_marks tree) (kept tokens.now)) }
+    ensures synchronized { IfOk result (λ tree. tree.has_synchronized ≡ has_synchronized tokens.now) }
 {
+    let locks = has_synchronized(tokens);
     let (modifiers, rest) = modifiers(alloc, tokens)?;
     let (given, rest) = result_tree(alloc, limit, rest)?;
-    method_from_name(alloc, limit, Items::from(modifiers), given, rest)
+    method_from_name(alloc, limit, Items::from(modifiers), given, locks, rest)
 }

@@ -8,6 +8,7 @@ ghost use Rattle.java_tree.specs.Nesting.{method_nesting};
 ghost use Rattle.java_tree.specs.KeptPlaces.{kept};
 ghost use Rattle.java_tree.specs.MethodPlaces.{method_marks, AreAt};
 ghost use Rattle.java_tree.specs.View.{method_of};
+ghost use Rattle.java_parser_grammar.specs.Heads.{has_synchronized};
 ghost use Rattle.java_parser_types.specs.Tokens.{spelled};
 
 use super::methods;
@@ -23,6 +24,7 @@ pub fn read_method(alloc: Global, limit: u32, tokens: &[Token]) -> Result<Method
     ensures formed { IfOk result (λ tree. FormedMethod (method_of tree)) }
     ensures spelled { IfOk result (λ tree. spelling (method_of tree) ≡ map spelled tokens.now) }
     ensures places { IfOk result (λ tree. AreAt (method_marks tree) (kept tokens.now)) }
+    ensures synchronized { IfOk result (λ tree. tree.has_synchronized ≡ has_synchronized tokens.now) }
     ensures small { IfOk result (λ tree. method_nesting (method_of tree) ≤ limit) }
     ensures only { IfOk result (λ tree. (other : Method) → FormedMethod other
         → spelling other ≡ map spelled tokens.now → other ≡ method_of tree) }

@@ -26,6 +26,7 @@ use Rattle.java_tree.specs.Formed.{Each, FormedTy, FormedStmts, FormedResult, Fo
 use Rattle.java_tree.specs.Formed.{FormedMethod}
 use Rattle.java_tree.specs.View.{ty_of, name_of, annotation_of, modifier_of, result_of, parameter_of, method_of}
 use Rattle.java_parser_grammar.specs.Tokens.{plain_all}
+use Rattle.java_parser_grammar.specs.Heads.{has_synchronized}
 use Rattle.java_parser_totality.specs.Totality.{most}
 use Rattle.java_parser_totality.proofs.Parts.{Made, Makes, Maker, maker, word, word-made, placed, placed-made, nothing}
 use Rattle.java_parser_totality.proofs.Parts.{nothing-made, and, IsAs, as-made, Front, front, kind-seen, kept-tail, unkept-tail}
@@ -437,10 +438,12 @@ same-method m p q r s t u =
 
 pub method-made : (ts : List Token) (m : Method) → length ts < most → FormedMethod m → plain_all ts ≡ spelling m
     → (tree : MethodTree) × (method_of tree ≡ m) × AreAt (method_marks tree) (kept ts)
+    × (tree.has_synchronized ≡ has_synchronized ts)
 method-made ts m few f e = first ((a_head m f).made ts (block_onto m.body []) few e) where
   second : (h : Made AreAt (a_head m f).part ts (block_onto m.body []))
       → Made Same (a_block m.body f.4).part h.behind []
       → (tree : MethodTree) × (method_of tree ≡ m) × AreAt (method_marks tree) (kept ts)
+      × (tree.has_synchronized ≡ has_synchronized ts)
   second h b =
       let x = h.tree in
       let y = b.tree.1.0 in
@@ -454,11 +457,14 @@ method-made ts m few f e = first ((a_head m f).made ts (block_onto m.body []) fe
           parameters = x.1.1.1.1.0;
           throws = x.1.1.1.1.1.1;
           body = y;
+          has_synchronized = has_synchronized ts;
         },
         same-method m h.is.0 h.is.1.0 h.is.1.1.0 h.is.1.1.1.1.0 h.is.1.1.1.1.1.1 b.is.1.0,
         h.fits (some_onto body []) (subst (AreAt (some_onto body [])) placed (all-at body)),
+        refl,
       )
 
   first : Made AreAt (a_head m f).part ts (block_onto m.body [])
       → (tree : MethodTree) × (method_of tree ≡ m) × AreAt (method_marks tree) (kept ts)
+      × (tree.has_synchronized ≡ has_synchronized ts)
   first h = second h ((a_block m.body f.4).made h.behind [] (omega (arith, few, h.shorter)) h.spelled)

@@ -9,9 +9,9 @@ use Rattle.java_tree.specs.Spelling.{modifiers_onto, result_onto, ty_onto}
 use Rattle.java_tree.specs.Formed.{FormedTy, FormedModifier, is_method_modifier}
 use Rattle.java_tree.specs.KeptPlaces.{kept, ty_places}
 use Rattle.java_tree.specs.View.{ty_of}
-use Rattle.java_parser_grammar.specs.declared.unit.HeadResult.{HeadResult}
-use Rattle.java_parser_grammar.specs.declared.unit.HeadResult.TheVariants.{Void, Formed, Constructor, Unknown}
-use Rattle.java_parser_grammar.specs.declared.unit.OutsideHead.{OutsideHead}
+use Rattle.java_tree.specs.declared.unit.HeadResult.{HeadResult}
+use Rattle.java_tree.specs.declared.unit.HeadResult.TheVariants.{Void, Formed, Constructor, Unknown}
+use Rattle.java_tree.specs.declared.unit.OutsideHead.{OutsideHead}
 use Rattle.java_parser_grammar.specs.Tokens.{plain_all, AreLast}
 use Rattle.java_parser_grammar.specs.Pieces.{items_of, inside}
 use Rattle.java_parser_grammar.specs.Heads.{EndsInResult, without_annotations, IsConstructor, HasHead, HeadSays, IsResult}

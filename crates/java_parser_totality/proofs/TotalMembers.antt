@@ -13,15 +13,15 @@ use Rattle.java_tree.specs.MethodPlaces.{method_marks, AreAt}
 use Rattle.java_tree.specs.View.{method_of}
 use Rattle.java_parser_grammar.specs.JavaReaders.{method_readers}
 use Rattle.java_parser_grammar.specs.MethodReading.{method_at}
-use Rattle.java_parser_grammar.specs.declared.unit.Member.{Member}
-use Rattle.java_parser_grammar.specs.declared.unit.Member.TheVariants as member
+use Rattle.java_tree.specs.declared.unit.Member.{Member}
+use Rattle.java_tree.specs.declared.unit.Member.TheVariants as member
 use Rattle.java_parser_grammar.specs.Tokens.{plain_all, is_sign_token, is_name, begins_sign}
 use Rattle.java_parser_grammar.specs.Cuts.{joined, ends}
 use Rattle.java_parser_grammar.specs.Pieces.{Piece, items_of, pieces_of}
 use Rattle.java_parser_grammar.specs.Members.{is_endless, is_block, is_modifier, behind_words, begins_type, before_parentheses}
 use Rattle.java_parser_grammar.specs.Members.{name_at_end, Form, SkippedForm, MethodForm, FieldForm, form_by, form_of}
-use Rattle.java_parser_grammar.specs.declared.unit.OutsideHead.{OutsideHead}
-use Rattle.java_parser_grammar.specs.Heads.{IsMethod, IsOutside}
+use Rattle.java_tree.specs.declared.unit.OutsideHead.{OutsideHead}
+use Rattle.java_parser_grammar.specs.Heads.{IsMethod, IsOutside, has_synchronized}
 use Rattle.java_parser_grammar.specs.Units.{BeginsAt, HasForm, IsMember}
 use Rattle.java_parser_grammar.proofs.FoundJava.{EndsExpr, java_finds}
 use Rattle.java_parser_grammar.proofs.Joined.{joined_pieces}
@@ -136,10 +136,12 @@ module _ (class : List ℕ) (m : List Token) (few : length m < most) (front : Li
     of h = (member.Outside h.0, (none, h.1))
 
   abbrev Tree : Method → Type 0
-  Tree t = (tree : MethodTree) × (method_of tree ≡ t) × AreAt (method_marks tree) (kept m)
+  Tree t =
+      (tree : MethodTree) × (method_of tree ≡ t) × AreAt (method_marks tree) (kept m)
+      × (tree.has_synchronized ≡ has_synchronized m)
 
   inside-class : (t : Method) → IsMethod class m t → Tree t → AMember class m (MethodForm front name parentheses)
-  inside-class t is h = (member.Method h.0, (subst (IsMethod class m) (sym h.1) is, h.2))
+  inside-class t is h = (member.Method h.0, (subst (IsMethod class m) (sym h.1) is, h.2, h.3))
 
   method-read : (t : Method) → method_at method_readers MAX_NESTING (plain_all m) ≡ Some t
       → Decided (Constructed class t) → AMember class m (MethodForm front name parentheses)

@@ -6,9 +6,9 @@ use Rattle.racer_base.specs.declared.ids.FileId.{FileId}
 use Rattle.java_lexer.specs.declared.token.Token.{Token}
 use Rattle.java_lexer.specs.declared.token.Lexed.{Lexed}
 use Rattle.java_lexer.specs.JavaTokens.{lexed_answer}
-use Rattle.java_parser_grammar.specs.declared.unit.Unit as unit
-use Rattle.java_parser_grammar.specs.declared.unit.ParseFault.{ParseFault}
-use Rattle.java_parser_grammar.specs.declared.unit.ParseFault.TheVariants.{Memory}
+use Rattle.java_tree.specs.declared.unit.Unit as unit
+use Rattle.java_tree.specs.declared.unit.ParseFault.{ParseFault}
+use Rattle.java_tree.specs.declared.unit.ParseFault.TheVariants.{Memory}
 use Rattle.java_parser_grammar.specs.Units.{IsUnit, IsFault}
 
 -- a list in memory has fewer elements than this

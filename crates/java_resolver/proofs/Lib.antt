@@ -3,7 +3,6 @@ mod FirstOnes
 mod Repeats
 mod LastNames
 mod PartKinds
-mod Variables
 mod ByClass
 mod Loops
 mod Searches

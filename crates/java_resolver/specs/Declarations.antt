@@ -12,19 +12,18 @@ use Rattle.java_tree.specs.declared.methods.MethodTree.{MethodTree}
 use Rattle.java_tree.specs.declared.methods.ParameterTree.{ParameterTree}
 use Rattle.java_tree.specs.declared.methods.ResultTree.{ResultTree}
 use Rattle.java_tree.specs.declared.methods.ResultTree.TheVariants as result
-use Rattle.java_tree.specs.Spelling.{spelling}
-use Rattle.java_tree.specs.View.{ty_of, method_of}
-use Rattle.java_parser_grammar.specs.declared.unit.Unit.{Unit}
-use Rattle.java_parser_grammar.specs.declared.unit.ClassTree.{ClassTree}
-use Rattle.java_parser_grammar.specs.declared.unit.Member.{Member}
-use Rattle.java_parser_grammar.specs.declared.unit.Member.TheVariants.{Field, Method, Outside, Skipped}
-use Rattle.java_parser_grammar.specs.declared.unit.OutsideHead.{OutsideHead}
-use Rattle.java_parser_grammar.specs.declared.unit.HeadResult.{HeadResult}
-use Rattle.java_parser_grammar.specs.declared.unit.HeadResult.TheVariants as head
+use Rattle.java_tree.specs.View.{ty_of}
+use Rattle.java_tree.specs.declared.unit.Unit.{Unit}
+use Rattle.java_tree.specs.declared.unit.ClassTree.{ClassTree}
+use Rattle.java_tree.specs.declared.unit.Member.{Member}
+use Rattle.java_tree.specs.declared.unit.Member.TheVariants.{Field, Method, Outside, Skipped}
+use Rattle.java_tree.specs.declared.unit.OutsideHead.{OutsideHead}
+use Rattle.java_tree.specs.declared.unit.HeadResult.{HeadResult}
+use Rattle.java_tree.specs.declared.unit.HeadResult.TheVariants as head
 use Rattle.java_resolver.specs.declared.infos.ClassInfo.{ClassInfo}
 use Rattle.java_resolver.specs.declared.infos.FieldInfo.{FieldInfo}
 use Rattle.java_resolver.specs.declared.infos.MethodInfo.{MethodInfo}
-use Rattle.java_resolver.specs.Words.{is_annotation_named, has_word, is_annotated, is_synchronized}
+use Rattle.java_resolver.specs.Words.{is_annotation_named, has_word, is_annotated}
 use Rattle.java_resolver.specs.TypeKinds.{kind_of}
 
 -- ---- classes
@@ -33,9 +32,9 @@ use Rattle.java_resolver.specs.TypeKinds.{kind_of}
 abbrev pub trees_of : List Unit → List ClassTree
 trees_of = flat_map (λ (u : Unit). u.classes)
 
--- whether `synchronized` stands among the tokens of a method or constructor
+-- whether `synchronized` stands among the tokens of a method or constructor, which is kept by who reads them
 abbrev pub has_synchronized : Member → Bool
-has_synchronized (Method m) = list_any is_synchronized (spelling (method_of m))
+has_synchronized (Method m) = m.has_synchronized
 has_synchronized (Outside h) = h.has_synchronized
 has_synchronized (Field f) = false
 has_synchronized (Skipped place) = false

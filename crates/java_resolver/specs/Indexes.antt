@@ -1,7 +1,7 @@
 -- No public contract rests on this: that numbers by names and keys are those of the first elements there.
 use Rattle.std.specs.Prelude.{◌≡◌, ℕ, Bool, true, false, not, ◌&&◌, ◌||◌, List, bytes_eq, length, map}
 use Rattle.std.specs.Borrow.{Bor}
-use Rattle.java_parser_grammar.specs.declared.unit.ClassTree.{ClassTree}
+use Rattle.java_tree.specs.declared.unit.ClassTree.{ClassTree}
 use Rattle.java_resolver.specs.declared.infos.ClassInfo.{ClassInfo}
 use Rattle.java_resolver.specs.declared.infos.FieldInfo.{FieldInfo}
 use Rattle.java_resolver.specs.declared.infos.MethodInfo.{MethodInfo}

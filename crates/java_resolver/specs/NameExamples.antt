@@ -16,11 +16,12 @@ use Rattle.java_tree.specs.declared.methods.MethodTree.{MethodTree}
 use Rattle.java_tree.specs.declared.methods.ParameterTree.{ParameterTree}
 use Rattle.java_tree.specs.declared.methods.ResultTree.{ResultTree}
 use Rattle.java_tree.specs.Trees.{Ty, Typed, Named, no_part, part_then, Part}
-use Rattle.java_parser_grammar.specs.declared.unit.Unit.{Unit}
-use Rattle.java_parser_grammar.specs.declared.unit.ClassTree.{ClassTree}
-use Rattle.java_parser_grammar.specs.declared.unit.Member.{Member}
-use Rattle.java_parser_grammar.specs.declared.unit.Member.TheVariants.{Outside}
-use Rattle.java_parser_grammar.specs.declared.unit.HeadResult.{HeadResult}
+use Rattle.java_tree.specs.declared.unit.Unit.{Unit}
+use Rattle.java_tree.specs.declared.unit.ClassTree.{ClassTree}
+use Rattle.java_tree.specs.declared.unit.Member.{Member}
+use Rattle.java_tree.specs.declared.unit.Member.TheVariants.{Outside}
+use Rattle.java_tree.specs.declared.unit.HeadResult.{HeadResult}
+use Rattle.java_resolver.specs.Words.{has_word}
 use Rattle.java_resolver.specs.declared.infos.ClassInfo.{ClassInfo}
 use Rattle.java_resolver.specs.declared.infos.FieldInfo.{FieldInfo}
 use Rattle.java_resolver.specs.declared.infos.MethodInfo.{MethodInfo}
@@ -65,7 +66,7 @@ ints modifiers variables = record { modifiers = words modifiers; kind = int 0; v
 abbrev pub absent : List ℕ → ℕ → FieldVariable
 absent name column = record { name = ident name column; initialiser = Absent }
 
--- a method or constructor with an empty body
+-- a method or constructor with an empty body: `synchronized` stands in it where it is one of the modifiers
 abbrev pub method_tree : List ModifierTree → ResultTree → List ℕ → List ParameterTree → MethodTree
 method_tree modifiers result name parameters =
     record {
@@ -75,6 +76,7 @@ method_tree modifiers result name parameters =
       parameters = parameters;
       throws = [];
       body = [];
+      has_synchronized = has_word (codes "synchronized") modifiers;
     }
 
 abbrev pub parameter : TypeTree → ParameterTree

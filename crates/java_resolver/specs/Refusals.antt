@@ -4,7 +4,7 @@ use Rattle.std.specs.Prelude.{ℕ, Bool, ◌&&◌, List, [], ◌∷◌, ◌++◌
 use Rattle.std.specs.Prelude.{◌==◌, if◌then◌else◌, option_map}
 use Rattle.std.specs.Option.{option_or}
 use Rattle.racer_base.specs.declared.limits.TheConstants.{MAX_CLASSES, MAX_METHODS}
-use Rattle.java_parser_grammar.specs.declared.unit.Unit.{Unit}
+use Rattle.java_tree.specs.declared.unit.Unit.{Unit}
 use Rattle.java_resolver.specs.declared.infos.ClassInfo.{ClassInfo}
 use Rattle.java_resolver.specs.declared.infos.FieldInfo.{FieldInfo}
 use Rattle.java_resolver.specs.declared.infos.MethodInfo.{MethodInfo}

@@ -1,9 +1,6 @@
 -- A contract of a public call rests on this: the words and annotations that a declaration has.
-use Rattle.std.specs.Prelude.{ℕ, Bool, true, false, ◌&&◌, List, [], ◌∷◌, codes, bytes_eq}
+use Rattle.std.specs.Prelude.{ℕ, Bool, false, List, [], ◌∷◌, bytes_eq}
 use Rattle.std.specs.List.{list_any}
-use Rattle.java_lexer.specs.declared.token.TokenKind.{TokenKind}
-use Rattle.java_lexer.specs.declared.token.TokenKind.TheVariants as kind
-use Rattle.java_tree.specs.declared.words.Spelled.{Spelled}
 use Rattle.java_tree.specs.declared.methods.AnnotationTree.{AnnotationTree}
 use Rattle.java_tree.specs.declared.methods.ModifierTree.{ModifierTree}
 use Rattle.java_tree.specs.declared.methods.ModifierTree.TheVariants.{Word, Annotated}
@@ -33,10 +30,3 @@ has_word word = list_any (is_word word)
 -- whether an annotation of this name stands among the modifiers
 abbrev pub is_annotated : List ℕ → List ModifierTree → Bool
 is_annotated name = list_any (is_modifier_named name)
-
-abbrev pub is_keyword : TokenKind → Bool
-is_keyword kind.Keyword = true
-is_keyword _ = false
-
-abbrev pub is_synchronized : Spelled → Bool
-is_synchronized t = is_keyword t.kind && bytes_eq t.text (codes "synchronized")

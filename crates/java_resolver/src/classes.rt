@@ -10,7 +10,7 @@ use crate::fault::ResolveFault;
 use crate::infos::ClassInfo;
 use crate::numbers::{Key, Named, add_number, no_numbers, number_at};
 use crate::words::is_checked;
-use java_parser_grammar::{ClassTree, Unit};
+use java_tree::{ClassTree, Unit};
 use racer_base::{ClassId, Memory};
 use std::alloc::Global;
 use std::marker::Model;
@@ -96,11 +96,10 @@ pub fn class_trees<'a>(alloc: Global, units: &'a [Unit]) -> Result<Vec<&'a Class
 fn class_info(alloc: Global, tree: &ClassTree) -> Result<ClassInfo, Memory>
     ensures { IfOk result (λ info. info ≡ class_info tree.now) }
 {
-    let checked = is_checked(alloc, tree)?;
     Ok(ClassInfo {
         name: tree.name.clone()?,
         place: tree.place,
-        checked,
+        checked: is_checked(tree),
     })
 }
 

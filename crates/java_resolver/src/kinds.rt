@@ -6,8 +6,7 @@ ghost use Rattle.java_resolver.specs.Declarations.{class_names, result_kind, hea
 ghost use Rattle.java_resolver.specs.TypeKinds.{base_kind, kind_of};
 
 use crate::classes::Classes;
-use java_parser_grammar::HeadResult;
-use java_tree::{BaseType, ResultTree, TypePart, TypeTree};
+use java_tree::{BaseType, HeadResult, ResultTree, TypePart, TypeTree};
 use racer_base::{ClassId, Kind};
 
 /// The kind of a type of this one name.

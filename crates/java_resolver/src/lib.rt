@@ -2,6 +2,11 @@
 //!
 //! `specs/Declarations.antt` says what the units of a folder declare, as lists in source order;
 //! `specs/Meanings.antt` what a simple name means, and which method is called; `specs/Refusals.antt` what is refused.
+//!
+//! The lists are gathered first and judged after, so that gathering is an equation with one error, and the order of
+//! refusals is the order of calls in `resolve`. Fields are kept a second time by those that are static, so that a name
+//! in a static method is looked up once too. A constructor is named `<new>`, which is no name of Java, and is an
+//! instance method; a class that declares none has one first among its methods, at the place of its name.
 #![tactic(auto)]
 
 mod classes;

@@ -17,8 +17,9 @@ use crate::infos::MethodInfo;
 use crate::kinds::{head_kind, kind_of, result_kind};
 use crate::numbers::{Named, add_number, no_numbers, number_at, number_of};
 use crate::words::{has_word, is_annotated};
-use java_parser_grammar::{ClassTree, HeadResult, Member, OutsideHead};
-use java_tree::{MethodTree, ParameterTree, ResultTree};
+use java_tree::{
+    ClassTree, HeadResult, Member, MethodTree, OutsideHead, ParameterTree, ResultTree,
+};
 use racer_base::{ClassId, Items, Kind, MAX_CLASSES, MAX_METHODS, Memory, MethodId, Text};
 use std::alloc::Global;
 use std::marker::Model;

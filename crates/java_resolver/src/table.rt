@@ -1,7 +1,6 @@
 //! The table of names.
-ghost use Rattle.std.specs.Prelude.{◌≡◌, bytes_eq, IfOk, IfErr, None, option_copied};
+ghost use Rattle.std.specs.Prelude.{◌≡◌, IfOk, IfErr, None};
 ghost use Rattle.java_resolver.specs.Declarations.{classes_of, fields_of, methods_of};
-ghost use Rattle.java_resolver.specs.Firsts.{last_that};
 ghost use Rattle.java_resolver.specs.Refusals.{refusal};
 ghost use Rattle.java_resolver.specs.Faults.{IsFault};
 ghost use Rattle.java_resolver.specs.Table as table;
@@ -12,9 +11,7 @@ use crate::fields::{Fields, fields_of};
 use crate::infos::{ClassInfo, FieldInfo, MethodInfo};
 use crate::kinds::kind_of;
 use crate::methods::{Methods, methods_of};
-use crate::scope::{Meaning, Scope, ScopeVariable};
-use java_parser_grammar::Unit;
-use java_tree::TypeTree;
+use java_tree::{TypeTree, Unit};
 use racer_base::{ClassId, FieldId, Kind, MethodId};
 use std::alloc::Global;
 
@@ -31,7 +28,7 @@ impl Table {
     ghost use Rattle.java_tree.specs.View.{ty_of};
     ghost use Rattle.java_resolver.specs.Declarations.{class_names};
     ghost use Rattle.java_resolver.specs.TypeKinds.{class_named, kind_of};
-    ghost use Rattle.java_resolver.specs.Meanings.{meaning, found, field_named};
+    ghost use Rattle.java_resolver.specs.Meanings.{found, field_named};
     ghost use Rattle.java_resolver.specs.Table.{classes, fields, methods};
 
     /// The classes, in source order.
@@ -53,22 +50,6 @@ impl Table {
         ensures { result.now ≡ methods self.now }
     {
         self.methods.as_slice()
-    }
-
-    /// What a simple name means at a place (JLS 6.4.1, 6.5).
-    pub fn meaning(&self, scope: &Scope, name: &str) -> Meaning
-        ensures { result ≡ meaning (classes self.now) (fields self.now) scope.now name.now }
-    {
-        if let Some(variable) = variable_named(scope.variables.as_slice(), name) {
-            return Meaning::Variable(variable.id, variable.kind);
-        }
-        if let Some(field) = self.fields.named(scope.class, scope.is_static, name) {
-            return Meaning::Field(field);
-        }
-        match self.classes.named(name) {
-            Some(class) => Meaning::Class(class),
-            None => Meaning::Opaque,
-        }
     }
 
     /// The class of a name.
@@ -98,21 +79,6 @@ impl Table {
     {
         self.methods.named(c, name, count)
     }
-}
-
-/// The last of the variables of this name.
-fn variable_named<'a>(variables: &'a [ScopeVariable], name: &str) -> Option<&'a ScopeVariable>
-    ensures { option_copied result ≡ last_that (λ v. bytes_eq v.name name.now) variables.now }
-{
-    let mut left = variables.len();
-    while left > 0 {
-        left -= 1;
-        let variable = &variables[left];
-        if variable.name.as_str() == name {
-            return Some(variable);
-        }
-    }
-    None
 }
 
 /// The table of these units, which are those of the files of a folder, in order.

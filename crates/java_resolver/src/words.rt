@@ -1,18 +1,12 @@
 //! The words and annotations of declarations.
-ghost use Rattle.std.specs.Prelude.{◌≡◌, IfOk};
+ghost use Rattle.std.specs.Prelude.{◌≡◌};
 ghost use Rattle.std.specs.List.{list_any};
-ghost use Rattle.java_tree.specs.Spelling.{spelling};
-ghost use Rattle.java_tree.specs.View.{method_of};
 ghost use Rattle.java_resolver.specs.Words.{ends_with, is_annotation_named, is_modifier_named, is_word, has_word};
-ghost use Rattle.java_resolver.specs.Words.{is_annotated, is_synchronized};
+ghost use Rattle.java_resolver.specs.Words.{is_annotated};
 ghost use Rattle.java_resolver.specs.Declarations.{has_synchronized, is_checked};
 
-use java_lexer::TokenKind;
-use java_parser_grammar::{ClassTree, Member};
-use java_tree::{AnnotationTree, MethodTree, ModifierTree, Spelled};
-use java_tree_spelling::spell;
-use racer_base::{Memory, Text};
-use std::alloc::Global;
+use java_tree::{AnnotationTree, ClassTree, Member, ModifierTree};
+use racer_base::Text;
 
 /// Whether the last of the names is this one.
 #[tactic(auto, using(crate::proofs::LastNames::ends_with_last))]
@@ -81,66 +75,39 @@ fn has_annotation(annotations: &[AnnotationTree], name: &str) -> bool
     false
 }
 
-/// Whether a token is the word `synchronized`.
-fn is_synchronized(token: &Spelled) -> bool
-    ensures { result ≡ is_synchronized token.now }
+/// Whether the word `synchronized` stands in a method or constructor.
+fn has_synchronized(member: &Member) -> bool
+    ensures { result ≡ has_synchronized member.now }
 {
-    token.kind == TokenKind::Keyword && token.text.as_str() == "synchronized"
+    match member {
+        Member::Method(method) => method.has_synchronized,
+        Member::Outside(head) => head.has_synchronized,
+        Member::Field(_) | Member::Skipped(_) => false,
+    }
 }
 
-/// Whether the word `synchronized` stands among the tokens.
-fn have_synchronized(tokens: &[Spelled]) -> bool
-    ensures { result ≡ list_any is_synchronized tokens.now }
+/// Whether the word `synchronized` stands in one of the methods and constructors.
+fn any_has_synchronized(members: &[Member]) -> bool
+    ensures { result ≡ list_any has_synchronized members.now }
 {
-    for token in tokens {
-        if is_synchronized(token) {
+    for member in members {
+        if has_synchronized(member) {
             return true;
         }
     }
     false
 }
 
-/// Whether the word `synchronized` stands in a method.
-fn method_has_synchronized(alloc: Global, method: &MethodTree) -> Result<bool, Memory>
-    ensures { IfOk result (λ has. has ≡ list_any is_synchronized (spelling (method_of method.now))) }
-{
-    let tokens = spell(alloc, method)?;
-    Ok(have_synchronized(tokens.as_slice()))
-}
-
-/// Whether the word `synchronized` stands in a method or constructor.
-fn has_synchronized(alloc: Global, member: &Member) -> Result<bool, Memory>
-    ensures { IfOk result (λ has. has ≡ has_synchronized member.now) }
-{
-    match member {
-        Member::Method(method) => method_has_synchronized(alloc, method),
-        Member::Outside(head) => Ok(head.has_synchronized),
-        Member::Field(_) | Member::Skipped(_) => Ok(false),
-    }
-}
-
-/// Whether the word `synchronized` stands in one of the methods and constructors.
-fn any_has_synchronized(alloc: Global, members: &[Member]) -> Result<bool, Memory>
-    ensures { IfOk result (λ has. has ≡ list_any has_synchronized members.now) }
-{
-    for member in members {
-        if has_synchronized(alloc, member)? {
-            return Ok(true);
-        }
-    }
-    Ok(false)
-}
-
 /// Whether a class is analysed for races.
-pub fn is_checked(alloc: Global, class: &ClassTree) -> Result<bool, Memory>
-    ensures { IfOk result (λ checked. checked ≡ is_checked class.now) }
+pub fn is_checked(class: &ClassTree) -> bool
+    ensures { result ≡ is_checked class.now }
 {
     let annotations = class.annotations.as_slice();
     if has_annotation(annotations, "NotThreadSafe") {
-        return Ok(false);
+        return false;
     }
     if has_annotation(annotations, "ThreadSafe") {
-        return Ok(true);
+        return true;
     }
-    any_has_synchronized(alloc, class.members.as_slice())
+    any_has_synchronized(class.members.as_slice())
 }

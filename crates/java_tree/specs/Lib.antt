@@ -12,8 +12,4 @@ pub mod MethodPlaces
 pub mod Examples
 pub mod StatementExamples
 pub mod PlacedExamples
-pub mod Sameness
-pub mod SameParts
-pub mod SameTrees
-pub mod SameMethods
-pub mod SameLaws
+pub mod SameUnits

@@ -37,7 +37,8 @@ pub struct ParameterTree {
     pub name: Ident,
 }
 
-/// A method or a constructor with its body.
+/// A method or a constructor with its body. Whether `synchronized` stands among its tokens is kept by who reads them, and
+/// is no part of what trees are compared by.
 #[derive(Drop)]
 pub struct MethodTree {
     pub modifiers: Items<ModifierTree>,
@@ -46,6 +47,7 @@ pub struct MethodTree {
     pub parameters: Items<ParameterTree>,
     pub throws: Items<TypeTree>,
     pub body: Items<Statement>,
+    pub has_synchronized: bool,
 }
 
 /// A declaration of fields.

@@ -9,7 +9,7 @@ use Rattle.std.specs.List.{list_all}
 use Rattle.std.specs.FinMap.{get}
 use Rattle.racer_base.specs.Outside.{Told, Files}
 use Rattle.racer_base.specs.declared.ids.FileId.{FileId}
-use Rattle.java_parser_grammar.specs.declared.unit.Unit as unit
+use Rattle.java_tree.specs.declared.unit.Unit as unit
 use Rattle.racer_sources.specs.declared.refusal.Refusal.{Refusal}
 use Rattle.racer_sources.specs.declared.fault.SourceFault.{SourceFault}
 use Rattle.racer_sources.specs.declared.fault.SourceFault.TheVariants.{Refused, Failed, Memory}

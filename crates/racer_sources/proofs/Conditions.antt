@@ -4,7 +4,7 @@ use Rattle.std.proofs.Common.{Option, None, Some, string_bytes}
 use Rattle.std.specs.Option.{IfSome}
 use Rattle.racer_base.specs.Outside.{Told, Files}
 use Rattle.std.specs.Prelude.{IsTrue}
-use Rattle.java_parser_grammar.specs.declared.unit.Unit as unit
+use Rattle.java_tree.specs.declared.unit.Unit as unit
 use Rattle.java_resolver.specs.declared.table.Table.{Table}
 use Rattle.core_lowering_rules.specs.Conditions.{are_in_files, are_named}
 use Rattle.core_lowering_conditions.specs.FromTokens.{AreFromTokens}

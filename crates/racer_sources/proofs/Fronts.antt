@@ -8,7 +8,7 @@ use Rattle.std.specs.FinMap.{get}
 use Rattle.racer_base.specs.Outside.{Told}
 use Rattle.racer_base.specs.declared.ids.FileId.{FileId}
 use Rattle.racer_base.specs.declared.limits.TheConstants.{MAX_FILE_BYTES}
-use Rattle.java_parser_grammar.specs.declared.unit.Unit as unit
+use Rattle.java_tree.specs.declared.unit.Unit as unit
 use Rattle.racer_sources.specs.declared.refusal.Refusal.{Refusal}
 use Rattle.racer_sources.specs.declared.refusal.Refusal.TheVariants.{TooManyFiles, TooLong, TooManyBytes, NotUtf8}
 use Rattle.racer_sources.specs.declared.refusal.Refusal.TheVariants.{BadCharacter, Unclosed, BadLiteral, Unbalanced}

@@ -4,7 +4,7 @@ use Rattle.std.specs.List.{AllZip}
 use Rattle.java_lexer.specs.declared.token.Token.{Token}
 use Rattle.java_lexer.specs.declared.token.Lexed.{Lexed}
 use Rattle.java_lexer.specs.declared.fault.LexFault.{LexFault}
-use Rattle.java_parser_grammar.specs.declared.unit.Unit as unit
+use Rattle.java_tree.specs.declared.unit.Unit as unit
 use Rattle.java_parser_grammar.specs.Units.{IsUnit}
 use Rattle.racer_sources.specs.Sources.{AreReadFrom}
 

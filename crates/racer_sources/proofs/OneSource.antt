@@ -6,7 +6,7 @@ use Rattle.std.proofs.lemmas.Bool.{false≢true}
 use Rattle.racer_base.specs.Outside.{Files}
 use Rattle.racer_base.specs.declared.ids.MethodId.{MethodId}
 use Rattle.racer_base.specs.declared.limits.TheConstants.{MAX_FILES, MAX_CALL_EDGES}
-use Rattle.java_parser_grammar.specs.declared.unit.Unit as unit
+use Rattle.java_tree.specs.declared.unit.Unit as unit
 use Rattle.java_resolver.specs.declared.fault.ResolveFault.{ResolveFault}
 use Rattle.java_resolver.specs.declared.fault.ResolveFault.TheVariants as resolve
 use Rattle.java_resolver.specs.Refusals.{refusal}

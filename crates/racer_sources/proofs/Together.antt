@@ -6,7 +6,7 @@ use Rattle.std.specs.Option.{IfSome}
 use Rattle.racer_base.specs.Outside.{Files, Told}
 use Rattle.racer_base.specs.declared.ids.FileId.{FileId}
 use Rattle.racer_base.specs.declared.limits.TheConstants.{MAX_FILES}
-use Rattle.java_parser_grammar.specs.declared.unit.Unit as unit
+use Rattle.java_tree.specs.declared.unit.Unit as unit
 use Rattle.java_resolver.specs.declared.fault.ResolveFault.{ResolveFault}
 use Rattle.java_resolver.specs.declared.fault.ResolveFault.TheVariants as resolve
 use Rattle.java_resolver.specs.Refusals.{refusal}

@@ -2,7 +2,7 @@
 use Rattle.std.specs.Prelude.{◌≡◌, ℕ, List, Result, Ok, Err, Some}
 use Rattle.racer_base.specs.declared.outside.FolderFault.{FolderFault}
 use Rattle.racer_base.specs.declared.outside.FolderFault.TheVariants as folder
-use Rattle.java_parser_grammar.specs.declared.unit.Unit as unit
+use Rattle.java_tree.specs.declared.unit.Unit as unit
 use Rattle.java_resolver.specs.declared.fault.ResolveFault.{ResolveFault}
 use Rattle.java_resolver.specs.declared.fault.ResolveFault.TheVariants as resolve
 use Rattle.java_resolver.specs.Refusals.{refusal}

@@ -6,7 +6,7 @@ use Rattle.racer_base.specs.Outside.{Files, Told}
 use Rattle.racer_base.specs.declared.outside.FolderFault.{FolderFault}
 use Rattle.racer_base.specs.declared.outside.FolderFault.TheVariants.{Memory}
 use Rattle.racer_base.specs.Causes.{IsCause}
-use Rattle.java_parser_grammar.specs.declared.unit.Unit as unit
+use Rattle.java_tree.specs.declared.unit.Unit as unit
 use Rattle.java_resolver.specs.declared.table.Table.{Table}
 use Rattle.java_resolver.specs.Declarations.{classes_of, fields_of, methods_of}
 use Rattle.java_resolver.specs.Refusals.{refusal}

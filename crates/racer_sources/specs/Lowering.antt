@@ -1,7 +1,7 @@
 -- No public contract rests on this: what accepted units are lowered to.
 use Rattle.std.specs.Prelude.{◌≡◌, ℕ, ◌<◌, ◌≤◌, List}
 use Rattle.racer_base.specs.declared.limits.TheConstants.{MAX_CALL_EDGES}
-use Rattle.java_parser_grammar.specs.declared.unit.Unit as unit
+use Rattle.java_tree.specs.declared.unit.Unit as unit
 use Rattle.core_lowering_rules.specs.Programs.{IsLowered}
 use Rattle.core_lowering.specs.Lowered.{calls_of}
 use Rattle.core_code.specs.Program.{core}

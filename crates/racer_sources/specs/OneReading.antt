@@ -3,7 +3,7 @@
 use Rattle.std.specs.Prelude.{◌≡◌, ℕ, Bool, List}
 use Rattle.racer_base.specs.Outside.{Files}
 use Rattle.racer_base.specs.declared.ids.MethodId.{MethodId}
-use Rattle.java_parser_grammar.specs.declared.unit.Unit as unit
+use Rattle.java_tree.specs.declared.unit.Unit as unit
 use Rattle.java_resolver.specs.Refusals.{refusal}
 use Rattle.core_lowering_rules.specs.Programs.{program_of}
 use Rattle.racer_sources.specs.Sources.{AreReadFrom}

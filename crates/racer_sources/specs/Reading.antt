@@ -8,7 +8,7 @@ use Rattle.racer_base.specs.Outside.{Files, IsRise}
 use Rattle.racer_base.specs.declared.ids.FileId.{FileId}
 use Rattle.racer_base.specs.declared.outside.FolderFault.{FolderFault}
 use Rattle.racer_base.specs.declared.outside.FolderFault.TheVariants as folder
-use Rattle.java_parser_grammar.specs.declared.unit.Unit as unit
+use Rattle.java_tree.specs.declared.unit.Unit as unit
 use Rattle.racer_sources.specs.declared.refusal.Refusal.{Refusal}
 use Rattle.racer_sources.specs.declared.fault.SourceFault.{SourceFault}
 use Rattle.racer_sources.specs.declared.fault.SourceFault.TheVariants.{Refused, Failed, Memory}

@@ -11,9 +11,9 @@ use Rattle.java_lexer.specs.declared.fault.LexFault.{LexFault}
 use Rattle.java_lexer.specs.declared.fault.LexFault.TheVariants as lexical
 use Rattle.java_lexer.specs.declared.token.Lexed.{Lexed}
 use Rattle.java_lexer.specs.JavaTokens.{lexed_answer}
-use Rattle.java_parser_grammar.specs.declared.unit.Unit as unit
-use Rattle.java_parser_grammar.specs.declared.unit.ParseFault.{ParseFault}
-use Rattle.java_parser_grammar.specs.declared.unit.ParseFault.TheVariants as parse
+use Rattle.java_tree.specs.declared.unit.Unit as unit
+use Rattle.java_tree.specs.declared.unit.ParseFault.{ParseFault}
+use Rattle.java_tree.specs.declared.unit.ParseFault.TheVariants as parse
 use Rattle.java_parser_grammar.specs.Units.{IsUnit, IsFault}
 use Rattle.java_resolver.specs.declared.fault.ResolveFault.{ResolveFault}
 use Rattle.java_resolver.specs.declared.fault.ResolveFault.TheVariants as resolve

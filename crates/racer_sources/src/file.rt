@@ -11,7 +11,7 @@ use crate::fault::SourceFault;
 use crate::refusal::Refusal;
 use java_lexer::{LexFault, Lexed, lex};
 use java_parser::parse_unit;
-use java_parser_grammar::{ParseFault, Unit};
+use java_tree::{ParseFault, Unit};
 use racer_base::{FileId, MAX_FILE_BYTES, MAX_FOLDER_BYTES};
 use std::alloc::Global;
 

@@ -12,8 +12,8 @@ use crate::names::source_names;
 use crate::refusal::Refusal;
 use crate::units::read_all;
 use java_parser::let_all_go;
-use java_parser_grammar::Unit;
 use java_resolver::{ResolveFault, Table, resolve};
+use java_tree::Unit;
 use racer_base::{Folder, FolderFault, MAX_FILES, Text};
 use std::alloc::Global;
 

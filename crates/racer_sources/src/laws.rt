@@ -1,33 +1,20 @@
-//! Laws of the definitions, as functions with nothing to do: units that are the same, equal but for the form of their
-//! trees in memory, have one program, and so have files and folders.
-ghost use Rattle.std.specs.Prelude.{◌≡◌, ℕ, Bool, List};
+//! Laws of the definitions, as functions with nothing to do: files and folders have one program, as units that are the
+//! same have.
+ghost use Rattle.std.specs.Prelude.{◌≡◌, ℕ, List};
 ghost use Rattle.std.specs.List.{AllZip};
-ghost use Rattle.racer_base.specs.declared.ids.MethodId.{MethodId};
 ghost use Rattle.java_lexer.specs.declared.token.Token.{Token};
-ghost use Rattle.java_parser_grammar.specs.declared.unit.Unit as unit;
+ghost use Rattle.java_tree.specs.declared.unit.Unit as unit;
 ghost use Rattle.java_parser_grammar.specs.Units.{IsUnit};
-ghost use Rattle.java_resolver.specs.Refusals.{refusal};
 ghost use Rattle.core_code.specs.Core.{Core};
-ghost use Rattle.core_lowering_rules.specs.Programs.{program_of, draft_of, call_edges, IsLowered};
-ghost use Rattle.java_parser.specs.SameUnits.{SameUnit};
+ghost use Rattle.core_lowering_rules.specs.Programs.{IsLowered};
+ghost use Rattle.java_tree.specs.SameUnits.{SameUnit};
 ghost use Rattle.racer_base.specs.Outside.{Files};
 ghost use Rattle.racer_sources.specs.OneReading.{OneReading, OneSource};
 ghost use Rattle.racer_sources.specs.Programs.{IsProgram};
 ghost use Rattle.racer_sources.specs.Sources.{source_names, contents};
 
+use core_lowering_rules::laws::one_program;
 use java_parser::laws::one_unit;
-
-/// Units that are the same are refused alike, and have one program: one whichever methods are taken for recursive, and
-/// one whose recursive methods are told.
-pub fn one_program()
-    ensures refused { (us vs : List unit.Unit) → AllZip SameUnit us vs → refusal us ≡ refusal vs }
-    ensures program { (us vs : List unit.Unit) → AllZip SameUnit us vs → (files : List (List ℕ))
-        → (is_recursive : MethodId → Bool) → program_of files us is_recursive ≡ program_of files vs is_recursive }
-    ensures edges { (us vs : List unit.Unit) → AllZip SameUnit us vs → (files : List (List ℕ))
-        → call_edges (draft_of files us) ≡ call_edges (draft_of files vs) }
-    ensures lowered { (us vs : List unit.Unit) → AllZip SameUnit us vs → (files : List (List ℕ)) (p q : Core)
-        → IsLowered files us p → IsLowered files vs q → p ≡ q }
-{}
 
 /// Files with these tokens are read as units that are the same, so they have one program.
 pub fn one_program_of_tokens()
@@ -38,6 +25,7 @@ pub fn one_program_of_tokens()
         → IsLowered files vs q → p ≡ q }
 {
     one_unit();
+    one_program();
 }
 
 /// Files are read in one way, as far as a program sees it.

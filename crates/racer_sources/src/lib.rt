@@ -4,6 +4,9 @@
 //! `specs/Sources.antt` says what the sources of a folder are, `specs/Lines.antt` the line of each refusal,
 //! `specs/Finding.antt` what is given of them, and `specs/Programs.antt` what the program is, with the last of the
 //! reasons for a refusal, which is that of calls.
+//!
+//! A reason is a variant, and its line a function of it and of the files' names. A file is asked for one byte more
+//! than it may have, so that what is longer is refused by its length. The tokens of one file are held at a time.
 #![tactic(auto)]
 
 mod fault;

@@ -8,7 +8,7 @@ ghost use Rattle.racer_sources.specs.Finding as finding;
 use crate::fault::SourceFault;
 use crate::file::file_unit;
 use java_parser::{let_all_go, put_unit};
-use java_parser_grammar::Unit;
+use java_tree::Unit;
 use racer_base::{FileId, Folder, MAX_FILE_BYTES};
 use std::alloc::Global;
 

@@ -6,7 +6,7 @@ use Rattle.std.specs.Prelude.{option_map, nat_lt}
 use Rattle.std.specs.Option.{option_or}
 use Rattle.std.proofs.lemmas.Bool.{cases_lt}
 use Rattle.racer_base.specs.declared.limits.TheConstants.{MAX_CALL_EDGES, MAX_CLASSES, MAX_METHODS}
-use Rattle.java_parser_grammar.specs.declared.unit.Unit as unit
+use Rattle.java_tree.specs.declared.unit.Unit as unit
 use Rattle.java_resolver.specs.declared.fault.ResolveFault.{ResolveFault}
 use Rattle.java_resolver.specs.declared.fault.ResolveFault.TheVariants as resolve
 use Rattle.java_resolver.specs.declared.table.Table.{Table}

@@ -15,9 +15,9 @@ use Rattle.java_lexer.specs.declared.token.Lexed.{Lexed}
 use Rattle.java_lexer.specs.Divisions.{undivided}
 use Rattle.java_lexer.specs.JavaKinds.{java_lexis}
 use Rattle.java_lexer.specs.JavaTokens.{divided_answer, lexed_answer}
-use Rattle.java_parser_grammar.specs.declared.unit.Unit as unit
-use Rattle.java_parser_grammar.specs.declared.unit.ParseFault.{ParseFault}
-use Rattle.java_parser_grammar.specs.declared.unit.ParseFault.TheVariants as parse
+use Rattle.java_tree.specs.declared.unit.Unit as unit
+use Rattle.java_tree.specs.declared.unit.ParseFault.{ParseFault}
+use Rattle.java_tree.specs.declared.unit.ParseFault.TheVariants as parse
 use Rattle.java_parser_grammar.specs.Units.{IsFault}
 use Rattle.java_resolver.specs.declared.fault.ResolveFault.{ResolveFault}
 use Rattle.java_resolver.specs.declared.fault.ResolveFault.TheVariants as resolve

@@ -4,7 +4,7 @@
 use Rattle.std.specs.Prelude.{◌≡◌, ℕ, ◌<◌, ◌≤◌, ◌⊎◌, Bool, List, Some, None, length}
 use Rattle.racer_base.specs.declared.ids.MethodId.{MethodId}
 use Rattle.racer_base.specs.declared.limits.TheConstants.{MAX_CALL_EDGES}
-use Rattle.java_parser_grammar.specs.declared.unit.Unit as unit
+use Rattle.java_tree.specs.declared.unit.Unit as unit
 use Rattle.java_resolver.specs.declared.fault.ResolveFault.{ResolveFault}
 use Rattle.java_resolver.specs.declared.fault.ResolveFault.TheVariants as resolve
 use Rattle.java_resolver.specs.declared.table.Table.{Table}

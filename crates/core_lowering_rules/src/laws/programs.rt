@@ -2,10 +2,10 @@
 ghost use Rattle.std.specs.Prelude.{◌≡◌, ℕ, Bool, List, [], ◌∷◌, Some, None, true, false, codes, map, IsTrue};
 ghost use Rattle.racer_base.specs.declared.ids.MethodId.{MethodId};
 ghost use Rattle.java_tree.specs.declared.methods.ResultTree.TheVariants.{Constructor, Void};
-ghost use Rattle.java_parser_grammar.specs.declared.unit.Unit.{Unit};
-ghost use Rattle.java_parser_grammar.specs.declared.unit.HeadResult.TheVariants as head;
-ghost use Rattle.java_parser_grammar.specs.declared.unit.ClassTree.{ClassTree};
-ghost use Rattle.java_parser_grammar.specs.declared.unit.Member.TheVariants.{Field};
+ghost use Rattle.java_tree.specs.declared.unit.Unit.{Unit};
+ghost use Rattle.java_tree.specs.declared.unit.HeadResult.TheVariants as head;
+ghost use Rattle.java_tree.specs.declared.unit.ClassTree.{ClassTree};
+ghost use Rattle.java_tree.specs.declared.unit.Member.TheVariants.{Field};
 ghost use Rattle.java_resolver.specs.NameExamples.{outside, ints, absent};
 ghost use Rattle.java_resolver.specs.Declarations.{field_info, fields_of, names_of};
 ghost use Rattle.java_resolver.specs.Refusals.{refusal};

@@ -6,8 +6,8 @@ ghost use Rattle.java_tree.specs.declared.methods.FieldInitialiser.TheVariants.{
 ghost use Rattle.java_tree.specs.Trees.{Value, Name};
 ghost use Rattle.java_tree.specs.KeptPlaces.{init_places};
 ghost use Rattle.java_tree.specs.View.{init_of};
-ghost use Rattle.java_parser_grammar.specs.declared.unit.HeadResult.TheVariants.{Unknown};
-ghost use Rattle.java_parser_grammar.specs.declared.unit.ParseFault.TheVariants as fault;
+ghost use Rattle.java_tree.specs.declared.unit.HeadResult.TheVariants.{Unknown};
+ghost use Rattle.java_tree.specs.declared.unit.ParseFault.TheVariants as fault;
 ghost use Rattle.java_parser_grammar.specs.FieldDivisions.{IsVariable};
 ghost use Rattle.java_parser_grammar.specs.Heads.{IsConstructor, IsResult};
 ghost use Rattle.java_parser_grammar.specs.Units.{IsUnit, IsFault};

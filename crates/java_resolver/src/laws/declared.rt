@@ -1,8 +1,8 @@
 //! What classes declare.
 ghost use Rattle.std.specs.Prelude.{◌≡◌, [], ◌∷◌, true, false, codes, map};
 ghost use Rattle.racer_base.specs.declared.ids.Kind.TheVariants as kind;
-ghost use Rattle.java_parser_grammar.specs.declared.unit.Member.TheVariants.{Skipped};
-ghost use Rattle.java_parser_grammar.specs.declared.unit.HeadResult.TheVariants as head;
+ghost use Rattle.java_tree.specs.declared.unit.Member.TheVariants.{Skipped};
+ghost use Rattle.java_tree.specs.declared.unit.HeadResult.TheVariants as head;
 ghost use Rattle.java_resolver.specs.declared.infos.MethodInfo.{MethodInfo};
 ghost use Rattle.java_resolver.specs.Declarations.{is_checked, methods_of, default_constructor, member_methods};
 ghost use Rattle.java_resolver.specs.NameExamples.{at, class, annotation, tree, outside, unit};

@@ -4,7 +4,7 @@ ghost use Rattle.racer_base.specs.declared.ids.Kind.TheVariants as kind;
 ghost use Rattle.java_tree.specs.declared.methods.ModifierTree.TheVariants.{Annotated};
 ghost use Rattle.java_tree.specs.declared.methods.ResultTree.TheVariants.{Constructor, Void, Of};
 ghost use Rattle.java_tree.specs.View.{ty_of};
-ghost use Rattle.java_parser_grammar.specs.declared.unit.Member.TheVariants.{Field, Method};
+ghost use Rattle.java_tree.specs.declared.unit.Member.TheVariants.{Field, Method};
 ghost use Rattle.java_resolver.specs.declared.infos.FieldInfo.{FieldInfo};
 ghost use Rattle.java_resolver.specs.declared.infos.MethodInfo.{MethodInfo};
 ghost use Rattle.java_resolver.specs.TypeKinds.{kind_of};

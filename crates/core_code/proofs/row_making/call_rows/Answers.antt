@@ -14,7 +14,7 @@ pub ranks_of-requires : goal.ranks_of-requires
 ranks_of-requires c =
     c.as_slice.ensures.value
     ∙ c.in_ok-push_rows.ensures
-    ∙ ap (λ (rows : List (List MethodId)). rows ++ map different (callee_rows false c.methods.result.now))
+    ∙ ap (λ (rows : List (List MethodId)). rows ++ map different (callee_rows c.methods.result.now))
     c.new-rows.ensures.items
     ∙ rows_are c.methods.result.now
     ∙ ap (λ (ms : List Method). map (λ (m : Method). different (calls_in m.code)) ms) c.methods.ensures
@@ -23,7 +23,7 @@ pub returns : goal.returns
 returns c =
     let made : c.push_rows.new.rows.items ≡ rows_of (core c.args.program.now) =
     c.in_ok-push_rows.ensures
-    ∙ ap (λ (rows : List (List MethodId)). rows ++ map different (callee_rows false c.methods.result.now))
+    ∙ ap (λ (rows : List (List MethodId)). rows ++ map different (callee_rows c.methods.result.now))
     c.new-rows.ensures.items
     ∙ rows_are c.methods.result.now
     ∙ ap (λ (ms : List Method). map (λ (m : Method). different (calls_in m.code)) ms) c.methods.ensures in

@@ -24,7 +24,7 @@ loop-number-preserved c =
     let row = λ (m : MethodCore). different (callees_of false (tree_of m.code)) in
     record {
       rows =
-          one_turn (λ (methods : List MethodCore). map different (callee_rows false methods))
+          one_turn (λ (methods : List MethodCore). map different (callee_rows methods))
           (λ (m : MethodCore). row m ∷ []) c.args.methods.now
           c.loop-number.number c.index-methods-number.result rows c.push.new.self.items (λ m ms. refl)
           c.loop-number-test.true c.index-methods-number.is
@@ -46,6 +46,6 @@ different-requires c =
 
 pub returns : goal.returns
 returns c =
-    at_end (λ (methods : List MethodCore). map different (callee_rows false methods)) c.args.methods.now
+    at_end (λ (methods : List MethodCore). map different (callee_rows methods)) c.args.methods.now
     c.loop-number.number c.loop-number.rows.items refl c.loop-number-test.false
     ∙ c.loop-number.invariant.rows

@@ -3,7 +3,7 @@ use Rattle.racer_base.specs.declared.ids.Place.{Place}
 use Rattle.core_code.specs.declared.parts.ClassCore.{ClassCore}
 use Rattle.core_code.specs.declared.parts.FieldCore.{FieldCore}
 use Rattle.core_code.specs.Core.{Core, Method}
-use Rattle.java_tree.specs.SameParts.{both_5}
+use Rattle.core_lowering_rules.proofs.ZippedLists.{same_5}
 use Rattle.core_lowering_rules.specs.Programs.{class_core, field_core}
 use Rattle.core_lowering.proofs.programs.parts.Goals as goal
 
@@ -13,6 +13,6 @@ core_with files skipped classes fields methods =
 
 pub returns : goal.returns
 returns c =
-    both_5 core_with c.in_ok-file_names.ensures c.in_ok-skipped_of.ensures
+    same_5 core_with c.in_ok-file_names.ensures c.in_ok-skipped_of.ensures
     (c.in_ok-classes.ensures ∙ ap (map class_core) c.classes.ensures)
     (c.in_ok-fields.ensures ∙ ap (map field_core) c.fields.ensures) c.in_ok-methods.ensures

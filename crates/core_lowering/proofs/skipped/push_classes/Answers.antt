@@ -1,6 +1,6 @@
 use Rattle.std.proofs.Common.{List, ◌++◌, refl, ap, ◌∙◌}
 use Rattle.std.specs.List.{flat_map}
-use Rattle.java_parser_grammar.specs.declared.unit.Member.{Member}
+use Rattle.java_tree.specs.declared.unit.Member.{Member}
 use Rattle.core_lowering_rules.specs.Programs.{skipped_member}
 use Rattle.core_lowering.specs.Skipped.{skipped_class}
 use Rattle.core_lowering.proofs.Loops.{flat_map-step, ended}

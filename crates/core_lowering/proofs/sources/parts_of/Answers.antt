@@ -1,6 +1,6 @@
 use Rattle.std.proofs.Common.{List, ◌++◌, map, refl, ap, ◌∙◌}
 use Rattle.std.specs.List.{flat_map}
-use Rattle.java_parser_grammar.specs.declared.unit.ClassTree.{ClassTree}
+use Rattle.java_tree.specs.declared.unit.ClassTree.{ClassTree}
 use Rattle.core_lowering.specs.Parts.{MethodPart, part_of, class_parts, unit_parts, parts_of}
 use Rattle.core_lowering.proofs.Loops.{flat_map-step, ended}
 use Rattle.core_lowering.proofs.sources.parts_of.Goals as goal

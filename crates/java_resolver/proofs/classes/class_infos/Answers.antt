@@ -1,6 +1,6 @@
 use Rattle.std.proofs.Common.{◌≡◌, List, [], ◌∷◌, ◌++◌, map, refl, ap, ◌∙◌, arith}
 use Rattle.std.specs.Borrow.{Bor}
-use Rattle.java_parser_grammar.specs.declared.unit.ClassTree.{ClassTree}
+use Rattle.java_tree.specs.declared.unit.ClassTree.{ClassTree}
 use Rattle.java_resolver.specs.declared.infos.ClassInfo.{ClassInfo}
 use Rattle.java_resolver.specs.Declarations.{class_info}
 use Rattle.java_resolver.specs.Indexes.{trees_behind}

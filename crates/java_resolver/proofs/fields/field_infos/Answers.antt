@@ -1,6 +1,6 @@
 use Rattle.std.proofs.Common.{List, ◌++◌, ap, ◌∙◌}
 use Rattle.std.specs.List.{flat_map}
-use Rattle.java_parser_grammar.specs.declared.unit.Member.{Member}
+use Rattle.java_tree.specs.declared.unit.Member.{Member}
 use Rattle.java_resolver.specs.Declarations.{class_names, class_fields, member_fields}
 use Rattle.java_resolver.proofs.ByClass.{by_class-next}
 use Rattle.java_resolver.proofs.fields.field_infos.Goals as goal

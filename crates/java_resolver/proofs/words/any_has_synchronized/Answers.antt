@@ -6,13 +6,13 @@ use Rattle.java_resolver.proofs.words.any_has_synchronized.Goals as goal
 pub loop-member-preserved : goal.loop-member-preserved
 loop-member-preserved c =
     passed has_synchronized c.args.members.now c.loop-member.member-index c.member-item.result
-    c.loop-member-test.true c.member-item.is (sym c.in_ok-has_synchronized.ensures ∙ c.if-branch.false)
+    c.loop-member-test.true c.member-item.is (sym c.has_synchronized.ensures ∙ c.if-has_synchronized.false)
     c.loop-member.invariant
 
-pub returns-then-branch : goal.returns-then-branch
-returns-then-branch c =
+pub returns-then-has_synchronized : goal.returns-then-has_synchronized
+returns-then-has_synchronized c =
     found has_synchronized c.args.members.now c.loop-member.member-index c.member-item.result
-    c.loop-member-test.true c.member-item.is (sym c.in_ok-has_synchronized.ensures ∙ c.if-branch.true)
+    c.loop-member-test.true c.member-item.is (sym c.has_synchronized.ensures ∙ c.if-has_synchronized.true)
     c.loop-member.invariant
 
 pub returns : goal.returns

@@ -1,5 +1,5 @@
 use Rattle.std.proofs.Common.{subst}
-use Rattle.java_parser_grammar.specs.declared.unit.ParseFault.{ParseFault}
+use Rattle.java_tree.specs.declared.unit.ParseFault.{ParseFault}
 use Rattle.java_parser_grammar.specs.Units.{IsFault}
 use Rattle.racer_sources.proofs.file.unit_fault.Goals as goal
 

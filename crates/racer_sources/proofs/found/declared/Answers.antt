@@ -1,6 +1,6 @@
 use Rattle.std.proofs.Common.{◌≡◌, ◌∙◌, List, None, string_bytes, sym, subst}
 use Rattle.std.proofs.lemmas.List.{length-map}
-use Rattle.java_parser_grammar.specs.declared.unit.Unit as unit
+use Rattle.java_tree.specs.declared.unit.Unit as unit
 use Rattle.java_resolver.specs.Refusals.{refusal}
 use Rattle.racer_sources.specs.Finding.{IsTableOf}
 use Rattle.racer_sources.specs.Declaring.{IsDeclaredFault}

@@ -1,7 +1,6 @@
 use Rattle.java_parser_grammar.specs.Units.{IsUnit}
-use Rattle.java_parser.specs.SameUnits.{SameUnit}
+use Rattle.java_tree.specs.SameUnits.{SameUnit}
 use Rattle.java_parser.proofs.SameFields.{two_zips}
-use Rattle.racer_sources.proofs.SamePrograms.{lowered-alike}
 use Rattle.racer_sources.proofs.laws.one_program_of_tokens.Goals as goal
 
 pub returns-clause-same : goal.returns-clause-same
@@ -9,4 +8,4 @@ returns-clause-same c tokens us vs h k = two_zips IsUnit IsUnit SameUnit c.one_u
 
 pub returns-clause-lowered : goal.returns-clause-lowered
 returns-clause-lowered c tokens us vs h k files p q =
-    lowered-alike us vs (two_zips IsUnit IsUnit SameUnit c.one_unit.ensures tokens us vs h k) files p q
+    c.one_program.ensures.lowered us vs (two_zips IsUnit IsUnit SameUnit c.one_unit.ensures tokens us vs h k) files p q

@@ -1,6 +1,6 @@
 use Rattle.std.proofs.Common.{◌≤◌, List, String, Global, map, string_bytes, sym, subst}
 use Rattle.std.specs.Prelude.{IsTrue}
-use Rattle.java_parser_grammar.specs.declared.unit.Unit as unit
+use Rattle.java_tree.specs.declared.unit.Unit as unit
 use Rattle.core_lowering_rules.specs.Conditions.{are_in_files, are_named}
 use Rattle.racer_base.specs.declared.limits.TheConstants.{MAX_CALL_EDGES}
 use Rattle.core_code.specs.Program.{core}

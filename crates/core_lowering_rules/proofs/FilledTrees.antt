@@ -1,0 +1,186 @@
+-- The tree that is lowered, made from a tree without places and the places that its tokens kept.
+use Rattle.std.proofs.Common.{◌≡◌, ℕ, suc, zero, List, [], ◌∷◌, ◌++◌, Option, Some, None, length, refl, ap, ◌∙◌}
+use Rattle.racer_base.specs.declared.ids.Place.{Place}
+use Rattle.java_tree.specs.declared.words.Ident.{Ident}
+use Rattle.java_tree.specs.KeptPlaces.{Places}
+use Rattle.java_tree.specs.Trees.{Ty}
+use Rattle.java_tree.specs.Trees as view
+use Rattle.java_tree.proofs.TypeCounts.{ty_count}
+use Rattle.core_lowering_rules.specs.Trees.{Expr, This, ClassOf, Read, Unary, Cast, Conditional, Count, Call, CallOn, New}
+use Rattle.core_lowering_rules.specs.Trees.{NewArray, NewItems, Paren, Named, Selected, Element, Exprs, no_expr, expr_then}
+use Rattle.core_lowering_rules.specs.Trees.{Init, Value, Items, Inits, no_init, init_then, Variable, Start, Declares, Runs}
+use Rattle.core_lowering_rules.specs.Trees.{Stmt, Run, Local, If, IfElse, While, For, ForEach, Sync, Return, Block, Empty}
+use Rattle.core_lowering_rules.specs.Trees.{Stmts, no_stmt, stmt_then}
+use Rattle.core_lowering_rules.specs.TreesOf.{access_of, assignment, binary, prefix, literal}
+
+-- ---- what is made, and the places that are left
+
+pub record Filled (A : Type 0) : Type 0 where
+  pub tree : A
+  pub left : Places
+
+abbrev pub filled : {A : Type 0} → A → Places → Filled A
+filled x ps = record { tree = x; left = ps }
+
+abbrev nowhere : Place
+nowhere = record { file = record { 0 = 0 }; line = 0; column = 0 }
+
+abbrev pub first : Places → Place
+first [] = nowhere
+first (p ∷ ps) = p
+
+abbrev pub behind : Places → Places
+behind [] = []
+behind (p ∷ ps) = ps
+
+abbrev pub skip : ℕ → Places → Places
+skip zero ps = ps
+skip (suc n) ps = skip n (behind ps)
+
+abbrev pub ident : List ℕ → Places → Ident
+ident x ps = record { text = x; place = first ps }
+
+abbrev pub one : {A B : Type 0} → (A → B) → Filled A → Filled B
+one f g = filled (f g.tree) g.left
+
+abbrev pub two : {A B C : Type 0} → (A → B → C) → Filled A → (Places → Filled B) → Filled C
+two f g h = one (f g.tree) (h g.left)
+
+abbrev pub three : {A B C D : Type 0} → (A → B → C → D) → Filled A → (Places → Filled B) → (Places → Filled C)
+    → Filled D
+three f g h k = two (f g.tree) (h g.left) k
+
+abbrev pub four : {A B C D E : Type 0} → (A → B → C → D → E) → Filled A → (Places → Filled B) → (Places → Filled C)
+    → (Places → Filled D) → Filled E
+four f g h k l = three (f g.tree) (h g.left) k l
+
+-- one behind which so many places are passed over
+abbrev pub passing : {A : Type 0} → ℕ → Filled A → Filled A
+passing n g = filled g.tree (skip n g.left)
+
+pub one-is : {A B : Type 0} (f : A → B) {g : Filled A} {a : A} {rest : Places} → g ≡ filled a rest
+    → one f g ≡ filled (f a) rest
+one-is f e = ap (one f) e
+
+pub two-is : {A B C : Type 0} (f : A → B → C) {g : Filled A} (h : Places → Filled B) {a : A} {b : B} {ps rest : Places}
+    → g ≡ filled a ps → h ps ≡ filled b rest → two f g h ≡ filled (f a b) rest
+two-is f h {a = a} e k = ap (λ x. two f x h) e ∙ ap (one (f a)) k
+
+pub three-is : {A B C D : Type 0} (f : A → B → C → D) {g : Filled A} (h : Places → Filled B) (k : Places → Filled C)
+    {a : A} {b : B} {c : C} {ps qs rest : Places} → g ≡ filled a ps → h ps ≡ filled b qs → k qs ≡ filled c rest
+    → three f g h k ≡ filled (f a b c) rest
+three-is f h k {a = a} d e i = ap (λ x. three f x h k) d ∙ two-is (f a) k e i
+
+pub four-is : {A B C D E : Type 0} (f : A → B → C → D → E) {g : Filled A} (h : Places → Filled B)
+    (k : Places → Filled C) (l : Places → Filled D) {a : A} {b : B} {c : C} {d : D} {ps qs rs rest : Places}
+    → g ≡ filled a ps → h ps ≡ filled b qs → k qs ≡ filled c rs → l rs ≡ filled d rest
+    → four f g h k l ≡ filled (f a b c d) rest
+four-is f h k l {a = a} i j m n = ap (λ x. four f x h k l) i ∙ three-is (f a) k l j m n
+
+pub skip-is : (xs ys : Places) (n : ℕ) → length xs ≡ n → skip n (xs ++ ys) ≡ ys
+skip-is [] ys zero e = refl
+skip-is [] ys (suc n) e = absurd cc
+skip-is (x ∷ xs) ys zero e = absurd cc
+skip-is (x ∷ xs) ys (suc n) e = skip-is xs ys n cc
+
+pub passing-is : {A : Type 0} (n : ℕ) {g : Filled A} {a : A} (xs rest : Places) → length xs ≡ n
+    → g ≡ filled a (xs ++ rest) → passing n g ≡ filled a rest
+passing-is n {a = a} xs rest long e = ap (passing n) e ∙ ap (filled a) (skip-is xs rest n long)
+
+-- ---- expressions
+
+abbrev pub filled_names : List (List ℕ) → Places → Filled (List Ident)
+filled_names [] ps = filled [] ps
+filled_names (x ∷ xs) ps = one (λ (l : List Ident). ident x ps ∷ l) (filled_names xs (behind ps))
+
+-- a name behind a tree
+abbrev pub then_name : {A B : Type 0} → (A → Ident → B) → List ℕ → Filled A → Filled B
+then_name f x g = filled (f g.tree (ident x g.left)) (behind g.left)
+
+-- a name and arguments behind a tree
+abbrev pub called : Filled Expr → List ℕ → (Places → Filled Exprs) → Filled Expr
+called g x h = one (CallOn g.tree (ident x g.left)) (h (behind g.left))
+
+abbrev mutual
+  pub expr : view.Expr → Places → Filled Expr
+  expr (view.Assign a op b) ps = two (λ x y. assignment op (access_of x) y) (expr a ps) (expr b)
+  expr (view.Conditional a b c) ps = three Conditional (expr a ps) (expr b) (expr c)
+  expr (view.Binary a op b) ps = two (binary op) (expr a ps) (expr b)
+  expr (view.InstanceOf a t) ps = passing (ty_count t) (one Unary (expr a ps))
+  expr (view.Prefix op a) ps = one (prefix op) (expr a ps)
+  expr (view.Cast t a) ps = one (Cast t) (expr a (skip (ty_count t) ps))
+  expr (view.Postfix a op) ps = one (λ x. Count (access_of x)) (expr a ps)
+  expr (view.Literal k text) ps = filled (literal k text) ps
+  expr view.This ps = filled This ps
+  expr (view.Name x) ps = filled (Read (Named (ident x ps))) (behind ps)
+  expr (view.Paren a) ps = one Paren (expr a ps)
+  expr (view.Field a x) ps = then_name (λ t i. Read (Selected t i)) x (expr a ps)
+  expr (view.Index a i) ps = two (λ x y. Read (Element x y)) (expr a ps) (expr i)
+  expr (view.Call x all) ps = one (Call (ident x ps)) (exprs all (behind ps))
+  expr (view.CallOn a x all) ps = called (expr a ps) x (exprs all)
+  expr (view.ClassOf xs) ps = one ClassOf (filled_names xs ps)
+  expr (view.New t all) ps = one (New (first ps) t) (exprs all (skip (ty_count t) (behind ps)))
+  expr (view.NewArray t lengths n) ps = one (NewArray (first ps)) (exprs lengths (skip (ty_count t) (behind ps)))
+  expr (view.NewItems t n items) ps = one (NewItems (first ps)) (array items (skip (ty_count t) (behind ps)))
+
+  pub exprs : view.Exprs → Places → Filled Exprs
+  exprs view.no_expr ps = filled no_expr ps
+  exprs (view.expr_then e es) ps = two expr_then (expr e ps) (exprs es)
+
+  pub array : view.Array → Places → Filled Inits
+  array (view.Braces is comma) ps = inits is ps
+
+  pub inits : view.Inits → Places → Filled Inits
+  inits view.no_init ps = filled no_init ps
+  inits (view.init_then i is) ps = two init_then (init i ps) (inits is)
+
+  pub init : view.Init → Places → Filled Init
+  init (view.Value e) ps = one Value (expr e ps)
+  init (view.Items items) ps = one Items (array items ps)
+
+-- ---- statements; nothing is said of those that are not lowered
+
+abbrev pub each : {A B : Type 0} → (A → Places → Filled B) → List A → Places → Filled (List B)
+each f [] ps = filled [] ps
+each f (x ∷ xs) ps = two (λ y ys. y ∷ ys) (f x ps) (each f xs)
+
+abbrev pub maybe : {A B : Type 0} → (A → Places → Filled B) → Option A → Places → Filled (Option B)
+maybe f None ps = filled None ps
+maybe f (Some x) ps = one Some (f x ps)
+
+abbrev pub begun : Ident → Option Init → Variable
+begun x i = record { name = x; initialiser = i }
+
+abbrev pub variable : view.Variable → Places → Filled Variable
+variable v ps = one (begun (ident v.name ps)) (maybe init v.initialiser (behind ps))
+
+abbrev pub variables : view.Locals → Places → Filled (List Variable)
+variables l ps = each variable l.variables (skip (ty_count l.kind) ps)
+
+abbrev pub start : view.Start → Places → Filled Start
+start (view.Declares l) ps = one (Declares l.kind) (variables l ps)
+start (view.Runs es) ps = one Runs (exprs es ps)
+
+abbrev mutual
+  pub stmt : view.Stmt → Places → Filled Stmt
+  stmt (view.Block ss) ps = one Block (stmts ss ps)
+  stmt (view.Local l) ps = one (Local l.kind) (variables l ps)
+  stmt (view.Run e) ps = one Run (expr e ps)
+  stmt (view.If e s) ps = two If (expr e ps) (stmt s)
+  stmt (view.IfElse e s t) ps = three IfElse (expr e ps) (stmt s) (stmt t)
+  stmt (view.For i condition updates s) ps =
+      four For (start i ps) (maybe expr condition) (exprs updates) (stmt s)
+  stmt (view.ForEach is_final t x e s) ps =
+      two (ForEach t (ident x (skip (ty_count t) ps))) (expr e (behind (skip (ty_count t) ps))) (stmt s)
+  stmt (view.Labelled x s) ps = filled Empty ps
+  stmt view.Empty ps = filled Empty ps
+  -- by what stands behind the keyword: of the rows that are lowered no two have the same
+  stmt (view.Row word (view.a_condition e (view.a_body s rest))) ps = two While (expr e ps) (stmt s)
+  stmt (view.Row word (view.a_condition e (view.a_block ss rest))) ps =
+      two (Sync (first ps)) (expr e (behind ps)) (stmts ss)
+  stmt (view.Row word (view.maybe_an_expr e rest)) ps = one Return (maybe expr e ps)
+  stmt (view.Row word _) ps = filled Empty ps
+
+  pub stmts : view.Stmts → Places → Filled Stmts
+  stmts view.no_stmt ps = filled no_stmt ps
+  stmts (view.stmt_then s ss) ps = two stmt_then (stmt s ps) (stmts ss)

@@ -1,0 +1,294 @@
+-- Members that are the same declare the same.
+use Rattle.std.proofs.Common.{◌≡◌, ℕ, Bool, true, false, not, ◌&&◌, ◌||◌, cond, List, [], ◌∷◌, ◌++◌, codes, map}
+use Rattle.std.proofs.Common.{replicate}
+use Rattle.std.proofs.Common.{refl, ap, ap₂, sym, ◌∙◌}
+use Rattle.std.specs.List.{list_any}
+use Rattle.racer_base.specs.declared.ids.ClassId.{ClassId}
+use Rattle.racer_base.specs.declared.ids.Kind.{Kind}
+use Rattle.racer_base.specs.declared.ids.Kind.TheVariants as kind
+use Rattle.racer_base.specs.declared.ids.Place.{Place}
+use Rattle.java_tree.specs.declared.words.Ident.{Ident}
+use Rattle.java_tree.specs.declared.methods.AnnotationTree.{AnnotationTree}
+use Rattle.java_tree.specs.declared.methods.FieldTree.{FieldTree}
+use Rattle.java_tree.specs.declared.methods.FieldVariable.{FieldVariable}
+use Rattle.java_tree.specs.declared.methods.MethodTree.{MethodTree}
+use Rattle.java_tree.specs.declared.methods.ModifierTree as modifiers
+use Rattle.java_tree.specs.declared.methods.ModifierTree.TheVariants as modifier
+use Rattle.java_tree.specs.declared.methods.ParameterTree.{ParameterTree}
+use Rattle.java_tree.specs.declared.methods.ResultTree.{ResultTree}
+use Rattle.java_tree.specs.declared.methods.ResultTree.TheVariants as result
+use Rattle.java_tree.specs.Trees.{Ty}
+use Rattle.java_tree.specs.Trees as view
+use Rattle.java_tree.specs.View.{ty_of, modifier_of, result_of, method_of}
+use Rattle.java_tree.specs.declared.unit.ClassTree.{ClassTree}
+use Rattle.java_tree.specs.declared.unit.HeadResult.{HeadResult}
+use Rattle.java_tree.specs.declared.unit.HeadResult.TheVariants as head
+use Rattle.java_tree.specs.declared.unit.Member.{Member}
+use Rattle.java_tree.specs.declared.unit.Member.TheVariants as member
+use Rattle.java_tree.specs.declared.unit.OutsideHead.{OutsideHead}
+use Rattle.java_tree.specs.SameUnits.{SameAnnotation, SameVariable, SameField, SameMethod, SameResult, SameHead}
+use Rattle.java_tree.specs.SameUnits.{SameMember, SameClass}
+use Rattle.java_resolver.specs.declared.infos.ClassInfo.{ClassInfo}
+use Rattle.java_resolver.specs.declared.infos.FieldInfo.{FieldInfo}
+use Rattle.java_resolver.specs.declared.infos.MethodInfo.{MethodInfo}
+use Rattle.java_resolver.specs.TypeKinds.{kind_of}
+use Rattle.java_resolver.specs.Words.{has_word, is_annotated}
+use Rattle.java_resolver.specs.Declarations.{has_synchronized, has_annotation, is_checked, class_info, field_info}
+use Rattle.java_resolver.specs.Declarations.{member_fields, class_fields, constructor_name, result_kind, is_constructor}
+use Rattle.java_resolver.specs.Declarations.{kinds_of, method_info, head_kind, is_constructor_head, head_info}
+use Rattle.java_resolver.specs.Declarations.{default_constructor, member_methods}
+use Rattle.java_resolver.specs.Declarations.{member_is_constructor, class_methods}
+use Rattle.core_lowering_rules.proofs.FilledMethods.{SeenParameter, Seen, seen_parameter, seen, same_seen}
+use Rattle.core_lowering_rules.proofs.ZippedLists.{same_3, same_5, zip-equal, zip-map, zip-flat, zip-any}
+use Rattle.core_lowering_rules.proofs.ZippedLists.{map-injective}
+
+-- ---- by cases
+
+-- what holds of two of each form holds of two members that are the same
+pub by-form : (P : Member → Member → Type 0) → ((f g : FieldTree) → SameField f g → P (member.Field f) (member.Field g))
+    → ((m n : MethodTree) → SameMethod m n → P (member.Method m) (member.Method n))
+    → ((a b : OutsideHead) → SameHead a b → P (member.Outside a) (member.Outside b))
+    → ((p q : Place) → p ≡ q → P (member.Skipped p) (member.Skipped q)) → (x y : Member) → SameMember x y → P x y
+by-form P of-field of-method of-head of-place (member.Field f) (member.Field g) h = of-field f g h
+by-form P of-field of-method of-head of-place (member.Field f) (member.Method n) h = absurd h
+by-form P of-field of-method of-head of-place (member.Field f) (member.Outside b) h = absurd h
+by-form P of-field of-method of-head of-place (member.Field f) (member.Skipped q) h = absurd h
+by-form P of-field of-method of-head of-place (member.Method m) (member.Field g) h = absurd h
+by-form P of-field of-method of-head of-place (member.Method m) (member.Method n) h = of-method m n h
+by-form P of-field of-method of-head of-place (member.Method m) (member.Outside b) h = absurd h
+by-form P of-field of-method of-head of-place (member.Method m) (member.Skipped q) h = absurd h
+by-form P of-field of-method of-head of-place (member.Outside a) (member.Field g) h = absurd h
+by-form P of-field of-method of-head of-place (member.Outside a) (member.Method n) h = absurd h
+by-form P of-field of-method of-head of-place (member.Outside a) (member.Outside b) h = of-head a b h
+by-form P of-field of-method of-head of-place (member.Outside a) (member.Skipped q) h = absurd h
+by-form P of-field of-method of-head of-place (member.Skipped p) (member.Field g) h = absurd h
+by-form P of-field of-method of-head of-place (member.Skipped p) (member.Method n) h = absurd h
+by-form P of-field of-method of-head of-place (member.Skipped p) (member.Outside b) h = absurd h
+by-form P of-field of-method of-head of-place (member.Skipped p) (member.Skipped q) h = of-place p q h
+
+-- ---- modifiers and annotations
+
+pub same_annotation : (a b : AnnotationTree) → SameAnnotation a b → a ≡ b
+same_annotation a b e =
+    ap {B = AnnotationTree} (λ (v : view.Annotation). record { names = v.names; arguments = v.arguments }) e
+
+same_modifier : (m n : modifiers.ModifierTree) → modifier_of m ≡ modifier_of n → m ≡ n
+same_modifier (modifier.Word x) (modifier.Word y) e = ap modifier.Word (cc e)
+same_modifier (modifier.Word x) (modifier.Annotated b) e = absurd (cc e)
+same_modifier (modifier.Annotated a) (modifier.Word y) e = absurd (cc e)
+same_modifier (modifier.Annotated a) (modifier.Annotated b) e = ap modifier.Annotated (same_annotation a b (cc e))
+
+pub same_modifiers : (ms ns : List modifiers.ModifierTree) → map modifier_of ms ≡ map modifier_of ns → ms ≡ ns
+same_modifiers ms ns e = map-injective modifier_of same_modifier ms ns e
+
+-- ---- classes
+
+synchronized-alike : (x y : Member) → SameMember x y → has_synchronized x ≡ has_synchronized y
+synchronized-alike =
+    by-form (λ x y. has_synchronized x ≡ has_synchronized y) (λ f g h. refl)
+    (λ m n h. h.2) (λ a b h. h.has_synchronized) (λ p q e. refl)
+
+abbrev checked : (safe unsafe locks : Bool) → Bool
+checked safe unsafe locks = (safe || locks) && not unsafe
+
+checked-alike : (a b : ClassTree) → SameClass a b → is_checked a ≡ is_checked b
+checked-alike a b h =
+    let same : a.annotations ≡ b.annotations =
+    zip-equal SameAnnotation same_annotation a.annotations b.annotations h.annotations in
+    same_3 checked (ap (λ notes. has_annotation (codes "ThreadSafe") (record a { annotations = notes })) same)
+    (ap (λ notes. has_annotation (codes "NotThreadSafe") (record a { annotations = notes })) same)
+    (zip-any SameMember has_synchronized synchronized-alike a.members b.members h.members)
+
+abbrev class_by : List ℕ → Place → Bool → ClassInfo
+class_by x p c = record { name = x; place = p; checked = c }
+
+pub class-alike : (a b : ClassTree) → SameClass a b → class_info a ≡ class_info b
+class-alike a b h = same_3 class_by h.name h.place (checked-alike a b h)
+
+-- ---- fields
+
+module _ (names : List (List ℕ)) (c : ClassId) where
+  abbrev field_by : List modifiers.ModifierTree → Ty → List ℕ → Place → FieldInfo
+  field_by ms t x p =
+      record {
+        class = c;
+        name = x;
+        place = p;
+        kind = kind_of names t;
+        is_static = has_word (codes "static") ms;
+        is_final = has_word (codes "final") ms;
+        is_volatile = has_word (codes "volatile") ms;
+      }
+
+  variables-alike : (f g : FieldTree) → SameField f g
+      → map (field_info names c f) f.variables ≡ map (field_info names c g) g.variables
+  variables-alike f g h =
+      let words = same_modifiers f.modifiers g.modifiers h.modifiers in
+      zip-map SameVariable (field_info names c f)
+      (λ v w k. ap₂ (field_by f.modifiers (ty_of f.kind)) k.0 k.1) f.variables g.variables h.variables
+      ∙ ap (λ ms. map (λ (v : FieldVariable). field_by ms (ty_of f.kind) v.name.text v.name.place) g.variables) words
+      ∙ ap (λ t. map (λ (v : FieldVariable). field_by g.modifiers t v.name.text v.name.place) g.variables) h.kind.0
+
+  fields-alike : (x y : Member) → SameMember x y → member_fields names c x ≡ member_fields names c y
+  fields-alike =
+      by-form (λ x y. member_fields names c x ≡ member_fields names c y) variables-alike (λ m n h. refl)
+      (λ a b h. refl) (λ p q e. refl)
+
+  pub class_fields-alike : (a b : ClassTree) → SameClass a b → class_fields names c a ≡ class_fields names c b
+  class_fields-alike a b h =
+      zip-flat SameMember (member_fields names c) (member_fields names c) fields-alike a.members b.members h.members
+
+-- ---- methods
+
+abbrev pub has_no_result : view.Result → Bool
+has_no_result view.NoResult = true
+has_no_result view.VoidResult = false
+has_no_result (view.TypeResult t) = false
+
+constructor-is : (r : ResultTree) → is_constructor r ≡ has_no_result (result_of r)
+constructor-is result.Constructor = refl
+constructor-is result.Void = refl
+constructor-is (result.Of t) = refl
+
+pub constructor-alike : (m n : MethodTree) → method_of m ≡ method_of n
+    → is_constructor m.result ≡ is_constructor n.result
+constructor-alike m n e =
+    constructor-is m.result ∙ ap (λ (v : view.Method). has_no_result v.result) e ∙ sym (constructor-is n.result)
+
+pub modifiers-alike : (m n : MethodTree) → method_of m ≡ method_of n → m.modifiers ≡ n.modifiers
+modifiers-alike m n e = same_modifiers m.modifiers n.modifiers (ap (λ (v : view.Method). v.modifiers) e)
+
+head_constructor-alike : (r s : HeadResult) → SameResult r s → is_constructor_head r ≡ is_constructor_head s
+head_constructor-alike head.Void head.Void h = refl
+head_constructor-alike head.Void (head.Formed u) h = refl
+head_constructor-alike head.Void head.Constructor h = absurd h
+head_constructor-alike head.Void head.Unknown h = refl
+head_constructor-alike (head.Formed t) head.Void h = refl
+head_constructor-alike (head.Formed t) (head.Formed u) h = refl
+head_constructor-alike (head.Formed t) head.Constructor h = absurd h
+head_constructor-alike (head.Formed t) head.Unknown h = refl
+head_constructor-alike head.Constructor head.Void h = absurd h
+head_constructor-alike head.Constructor (head.Formed u) h = absurd h
+head_constructor-alike head.Constructor head.Constructor h = refl
+head_constructor-alike head.Constructor head.Unknown h = absurd h
+head_constructor-alike head.Unknown head.Void h = refl
+head_constructor-alike head.Unknown (head.Formed u) h = refl
+head_constructor-alike head.Unknown head.Constructor h = absurd h
+head_constructor-alike head.Unknown head.Unknown h = refl
+
+member_constructor-alike : (x y : Member) → SameMember x y → member_is_constructor x ≡ member_is_constructor y
+member_constructor-alike =
+    by-form (λ x y. member_is_constructor x ≡ member_is_constructor y) (λ f g h. refl)
+    (λ m n h. constructor-alike m n h.0) (λ a b h. head_constructor-alike a.result b.result h.result) (λ p q e. refl)
+
+pub constructs-alike : (a b : ClassTree) → SameClass a b
+    → list_any member_is_constructor a.members ≡ list_any member_is_constructor b.members
+constructs-alike a b h =
+    zip-any SameMember member_is_constructor member_constructor-alike a.members b.members h.members
+
+module _ (names : List (List ℕ)) (c : ClassId) where
+  abbrev kind_by : view.Result → Kind
+  kind_by view.NoResult = kind.Declared c
+  kind_by view.VoidResult = kind.Plain
+  kind_by (view.TypeResult t) = kind_of names t
+
+  result-is : (r : ResultTree) → result_kind names c r ≡ kind_by (result_of r)
+  result-is result.Constructor = refl
+  result-is result.Void = refl
+  result-is (result.Of t) = refl
+
+  result-alike : (m n : MethodTree) → method_of m ≡ method_of n
+      → result_kind names c m.result ≡ result_kind names c n.result
+  result-alike m n e =
+      result-is m.result ∙ ap (λ (v : view.Method). kind_by v.result) e ∙ sym (result-is n.result)
+
+  kinds-are : (ps : List ParameterTree)
+      → kinds_of names ps ≡ map (λ (p : SeenParameter). kind_of names p.kind) (map seen_parameter ps)
+  kinds-are [] = refl
+  kinds-are (p ∷ ps) = ap (λ l. kind_of names (ty_of p.kind) ∷ l) (kinds-are ps)
+
+  kinds-alike : (m n : MethodTree) → seen m ≡ seen n → kinds_of names m.parameters ≡ kinds_of names n.parameters
+  kinds-alike m n e =
+      kinds-are m.parameters ∙ ap (λ (s : Seen). map (λ (p : SeenParameter). kind_of names p.kind) s.parameters) e
+      ∙ sym (kinds-are n.parameters)
+
+  abbrev method_by : List modifiers.ModifierTree → Bool → Kind → List Kind → Ident → MethodInfo
+  method_by ms constructs r ps x =
+      record {
+        class = c;
+        name = cond constructs constructor_name x.text;
+        place = x.place;
+        parameters = ps;
+        result = r;
+        is_static = has_word (codes "static") ms && not constructs;
+        is_private = has_word (codes "private") ms;
+        is_constructor = constructs;
+        main = is_annotated (codes "MainThread") ms || is_annotated (codes "UiThread") ms;
+        not_thread_safe = is_annotated (codes "NotThreadSafe") ms;
+      }
+
+  pub method-alike : (m n : MethodTree) → SameMethod m n → method_info names c m ≡ method_info names c n
+  method-alike m n h =
+      let same = same_seen m n h.0 h.1 in
+      same_5 method_by (modifiers-alike m n h.0) (constructor-alike m n h.0) (result-alike m n h.0)
+      (kinds-alike m n same) (ap (λ (s : Seen). s.name) same)
+
+  -- ---- methods without a tree
+
+  abbrev head_by : Kind → Bool → List ℕ → Place → ℕ → Bool → MethodInfo
+  head_by k constructs x p n fixed =
+      record {
+        class = c;
+        name = x;
+        place = p;
+        parameters = replicate n kind.Other;
+        result = k;
+        is_static = fixed && not constructs;
+        is_private = false;
+        is_constructor = constructs;
+        main = false;
+        not_thread_safe = false;
+      }
+
+  abbrev head_with : HeadResult → List ℕ → Place → ℕ → Bool → MethodInfo
+  head_with r = head_by (head_kind names c r) (is_constructor_head r)
+
+  head_result-alike : (r s : HeadResult) → SameResult r s → head_with r ≡ head_with s
+  head_result-alike head.Void head.Void h = refl
+  head_result-alike head.Void (head.Formed u) h = absurd h
+  head_result-alike head.Void head.Constructor h = absurd h
+  head_result-alike head.Void head.Unknown h = absurd h
+  head_result-alike (head.Formed t) head.Void h = absurd h
+  head_result-alike (head.Formed t) (head.Formed u) h = ap (λ v. head_by (kind_of names v) false) h.0
+  head_result-alike (head.Formed t) head.Constructor h = absurd h
+  head_result-alike (head.Formed t) head.Unknown h = absurd h
+  head_result-alike head.Constructor head.Void h = absurd h
+  head_result-alike head.Constructor (head.Formed u) h = absurd h
+  head_result-alike head.Constructor head.Constructor h = refl
+  head_result-alike head.Constructor head.Unknown h = absurd h
+  head_result-alike head.Unknown head.Void h = absurd h
+  head_result-alike head.Unknown (head.Formed u) h = absurd h
+  head_result-alike head.Unknown head.Constructor h = absurd h
+  head_result-alike head.Unknown head.Unknown h = refl
+
+  pub head-alike : (a b : OutsideHead) → SameHead a b → head_info names c a ≡ head_info names c b
+  head-alike a b h =
+      same_5 (λ (f : List ℕ → Place → ℕ → Bool → MethodInfo) x p n fixed. f x p n fixed)
+      (head_result-alike a.result b.result h.result) h.name h.place h.parameters h.is_static
+
+  -- ---- the methods of a class
+
+  methods-alike : (x y : Member) → SameMember x y → member_methods names c x ≡ member_methods names c y
+  methods-alike =
+      by-form (λ x y. member_methods names c x ≡ member_methods names c y) (λ f g h. refl)
+      (λ m n h. ap (λ i. i ∷ []) (method-alike m n h)) (λ a b h. ap (λ i. i ∷ []) (head-alike a b h)) (λ p q e. refl)
+
+  pub default-alike : (a b : ClassTree) → SameClass a b → default_constructor c a ≡ default_constructor c b
+  default-alike a b h = ap (λ p. default_constructor c (record a { place = p })) h.place
+
+  pub class_methods-alike : (a b : ClassTree) → SameClass a b → class_methods names c a ≡ class_methods names c b
+  class_methods-alike a b h =
+      same_3 (λ (constructs : Bool) (i : MethodInfo) (others : List MethodInfo). cond constructs [] (i ∷ []) ++ others)
+      (constructs-alike a b h) (default-alike a b h)
+      (zip-flat SameMember (member_methods names c) (member_methods names c) methods-alike a.members
+      b.members h.members)

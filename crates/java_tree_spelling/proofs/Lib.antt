@@ -1,2 +1,0 @@
-pub mod BracketPairs
-pub mod Chains
