@@ -299,26 +299,3 @@ added_path kept new x Added a is = a.2
 added_path kept new x Present a is = a.1 ∙ sym (paths-present kept x a.0)
 added_path kept new x Full a is = elim is [ inl e ↦ cc | inr e ↦ cc ]
 added_path kept new x Memory a is = elim is [ inl e ↦ cc | inr e ↦ cc ]
-
-pub added_key : (kept new : List Access) (x : Access) (answer : Adding) →
-    IsAnswer (list_any (λ r. same_key r x) kept) (length kept) kept new (kept ++ x ∷ []) answer
-    → (answer ≡ Added) ⊎ (answer ≡ Present) → new ≡ key_added kept x
-added_key kept new x Added a is = a.2 ∙ ap (λ (b : Bool). cond b kept (kept ++ x ∷ [])) (sym a.0)
-added_key kept new x Present a is = a.1 ∙ ap (λ (b : Bool). cond b kept (kept ++ x ∷ [])) (sym a.0)
-added_key kept new x Full a is = elim is [ inl e ↦ cc | inr e ↦ cc ]
-added_key kept new x Memory a is = elim is [ inl e ↦ cc | inr e ↦ cc ]
-
-one_more : (b : Bool) (kept : List Access) (x : Access) → length (cond b kept (kept ++ x ∷ [])) ≤ length kept + 1
-one_more true kept x = omega arith
-one_more false kept x = omega (arith, length-append kept (x ∷ []))
-
-pub key_added-count : (kept : List Access) (x : Access) → length (key_added kept x) ≤ length kept + 1
-key_added-count kept x = one_more (list_any (λ earlier. same_key earlier x) kept) kept x
-
-one_path_more : (b : Bool) (n m : ℕ) → m ≡ cond b n (n + 1) → m ≤ n + 1
-one_path_more true n m e = omega arith
-one_path_more false n m e = omega arith
-
-pub path_added-count : (kept : PathSet) (x : Path) → set.len (set.insert kept x) ≤ set.len kept + 1
-path_added-count kept x =
-    one_path_more (set.contains kept x) (set.len kept) _ (set.len-insert path_cmp-total kept x)

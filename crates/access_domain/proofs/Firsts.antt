@@ -1,10 +1,8 @@
 -- The firsts of a list with one more element.
-use Rattle.std.proofs.Common.{◌≡◌, ◌+◌, ◌<◌, Bool, true, false, cond, not, ◌||◌, List, [], ◌∷◌, ◌++◌, length, filter}
-use Rattle.std.proofs.Common.{refl, sym, ap, ◌∙◌, arith, length-append}
+use Rattle.std.proofs.Common.{◌≡◌, Bool, true, false, cond, not, ◌||◌, List, [], ◌∷◌, ◌++◌, filter}
+use Rattle.std.proofs.Common.{refl, sym, ap, ◌∙◌}
 use Rattle.std.specs.List.{list_any}
-use Rattle.racer_base.specs.declared.limits.TheConstants.{MAX_SUMMARY_KEYS}
-use Rattle.access_domain.specs.declared.access.Access.{Access}
-use Rattle.access_domain.specs.Records.{same_key, firsts, IsWithin}
+use Rattle.access_domain.specs.Records.{firsts}
 
 first_false : (a b : Bool) → (a || b) ≡ false → a ≡ false
 first_false true b h = h
@@ -42,19 +40,6 @@ firsts-new {X} same (x ∷ xs) y none =
     ap (λ zs. x ∷ filter (λ z. not (same x z)) zs) (firsts-new same xs y later)
     ∙ ap (λ zs. x ∷ zs) (filter_push (λ z. not (same x z)) (firsts same xs) y)
     ∙ ap (λ b. x ∷ (filter (λ z. not (same x z)) (firsts same xs) ++ cond (not b) (y ∷ []) [])) here
-
-pub IsWithin-push : (records : List Access) (access : Access) → IsWithin records →
-    list_any (λ r. same_key r access) records ≡ false → length records < MAX_SUMMARY_KEYS →
-    IsWithin (records ++ access ∷ [])
-IsWithin-push records access w new room =
-    let long : length (records ++ access ∷ []) ≡ length records + 1 = length-append records (access ∷ []) in
-    record {
-      firsts = firsts-new same_key records access new ∙ ap (λ rs. rs ++ access ∷ []) w.firsts;
-      limit = omega arith;
-    }
-
-pub IsWithin-none : IsWithin []
-IsWithin-none = record { firsts = refl; limit = omega arith }
 
 -- one that is the same as an earlier one is not among the firsts
 pub firsts-old : {X : Type 0} (same : X → X → Bool) (xs : List X) (y : X) → list_any (λ x. same x y) xs ≡ true →

@@ -2,9 +2,7 @@ pub mod Different
 pub mod Firsts
 pub mod RecordOrigins
 pub mod AdditionLemmas
-pub mod KeysOfRecords
 pub mod ReachedPaths
 pub mod NumberedKeys
 pub mod NumberedReading
 pub mod MethodOutcomes
-pub mod KeysOfFronts

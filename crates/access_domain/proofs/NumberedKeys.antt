@@ -1,6 +1,7 @@
 -- The keys of records whose paths are numbers: a record's key is among them exactly where one of them has it.
 use Rattle.std.proofs.Common.{◌≡◌, cond, ◌&&◌, ◌||◌, ℕ, Bool, true, false, List, [], ◌∷◌, ◌++◌, map, nat_eq, refl}
 use Rattle.std.proofs.Common.{sym, ap, ◌∙◌}
+use Rattle.std.specs.Bool.{beq}
 use Rattle.std.specs.List.{list_any}
 use Rattle.std.proofs.lemmas.Bool.{eqb-true, eq-eqb}
 use Rattle.indexmap.specs.IndexSet.{insert_key}
@@ -9,7 +10,17 @@ use Rattle.access_domain.specs.declared.numbered.NumberedKey.{NumberedKey}
 use Rattle.access_domain.specs.Numbered.{numbered_key_eq, numbered_key_of, same_numbered_key, HasNumberedKeysOf}
 use Rattle.core_code.specs.Touches.{is_write}
 use Rattle.access_domain.specs.Records.{same_flag}
-use Rattle.access_domain.proofs.KeysOfRecords.{flags_back, grouped}
+
+flags_back : (a b : Bool) → beq a b ≡ same_flag b a
+flags_back true true = refl
+flags_back true false = refl
+flags_back false true = refl
+flags_back false false = refl
+
+grouped : (p q r s : Bool) → (p && (q && (r && s))) ≡ (p && q && r && s)
+grouped true true r s = refl
+grouped true false r s = refl
+grouped false q r s = refl
 
 both_ways : (a b : Bool) → (a ≡ true → b ≡ true) → (b ≡ true → a ≡ true) → a ≡ b
 both_ways true b f g = sym (f refl)

@@ -1,6 +1,5 @@
 -- A contract of a public call rests on this: the list of files.
 pub mod Records
-pub mod Keys
 pub mod Additions
 pub mod Findings
 pub mod FlowContext

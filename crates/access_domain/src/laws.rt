@@ -1,5 +1,6 @@
 //! Laws of the analysis, and its values on small programs.
 ghost use Rattle.std.specs.Prelude.{◌≡◌, ℕ, Bool, true, false, [], ◌∷◌, ◌++◌, ◌<◌, ◌≤◌, None, Some, option_map, List};
+ghost use Rattle.std.specs.Prelude.{length};
 ghost use Rattle.std.specs.Prelude.{Contains};
 ghost use Rattle.std.specs.List.{list_any};
 ghost use Rattle.std.specs.FinSet as set;
@@ -9,6 +10,7 @@ ghost use Rattle.access_paths.specs.declared.path.Path.{Path};
 ghost use Rattle.access_paths.specs.declared.path.Root.TheVariants.{Formal};
 ghost use Rattle.access_paths.specs.Paths.{alone, some_path};
 ghost use Rattle.access_paths.specs.Order.{path_cmp};
+ghost use Rattle.access_paths.specs.Table.{IsTable};
 ghost use Rattle.owner_domain.specs.declared.value.Value.TheVariants.{Named, Unnamed};
 ghost use Rattle.owner_domain.specs.declared.value.State.{State};
 ghost use Rattle.core_code.specs.Calls.{method_at, rank_of};
@@ -16,10 +18,12 @@ ghost use Rattle.core_code.specs.Core.{Core, Method};
 ghost use Rattle.core_code.specs.Pair.{pair};
 ghost use Rattle.core_code.specs.Tree.{Tree};
 ghost use Rattle.access_domain.specs.declared.access.Access.{Access};
+ghost use Rattle.access_domain.specs.declared.numbered.NumberedAccess.{NumberedAccess};
 ghost use Rattle.access_domain.specs.declared.summary.Outcome.TheVariants.{Summary as Held};
 ghost use Rattle.access_domain.specs.Findings.{Findings, Whole};
 ghost use Rattle.access_domain.specs.Flow.{flow};
 ghost use Rattle.access_domain.specs.FlowContext.{FlowContext, given_of};
+ghost use Rattle.access_domain.specs.Numbered.{read_access, read_accesses, same_numbered_key, AreNumbered};
 ghost use Rattle.access_domain.specs.Operations.{Effects};
 ghost use Rattle.access_domain.specs.Origins.{HasOrigin};
 ghost use Rattle.access_domain.specs.Records.{different_paths, first_of_keys, same_key};
@@ -27,6 +31,15 @@ ghost use Rattle.access_domain.specs.Outcomes.{outcome_among};
 ghost use Rattle.access_domain.specs.Summaries.{outcome_of, outcomes_of, known_of, known_of_callees, effects_of};
 ghost use Rattle.access_domain.specs.Examples.{mix, join, statics, throws, field, method, class, this_path, formal_path};
 ghost use Rattle.access_domain.specs.Examples.{access, access_below};
+
+/// A record whose path is a number has the key of one of some others exactly where what it is in a table has the key of
+/// what one of them is: so records that are added by their numbers are the first of each key.
+pub fn numbers_keep_keys()
+    ensures { (table : List Path) (records : List NumberedAccess) (a : NumberedAccess) → IsTable table →
+        AreNumbered table records → a.path < length table →
+        list_any (λ r. same_key r (read_access table a)) (read_accesses table records) ≡
+        list_any (λ r. same_numbered_key r a) records }
+{}
 
 /// A write, and two writes under a lock.
 pub fn pair_row()

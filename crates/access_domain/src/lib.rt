@@ -17,6 +17,11 @@
 //! - `specs/Summaries.antt`: what is known of a method by rank, its outcome (`outcome_of`), and those of all.
 //! - `specs/OutcomeRecords.antt`: the records of a method, by its outcome.
 //! - `specs/Outcomes.antt`: the outcomes of all as the code holds them, and what they have of one method.
+//!
+//! Records and wobbly paths are kept with an order of their keys beside them: an addition looks its key up before it
+//! takes memory, so `Present` and `Full` come whatever the memory. A finished summary has no set of keys. What a call
+//! passes is a record over any type, a value for `this` and a list for parameters; a static callee's first value stands
+//! for both `this` and parameter 0, and its code names no `this`.
 #![tactic(auto)]
 
 mod access;

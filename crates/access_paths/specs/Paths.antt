@@ -1,4 +1,4 @@
--- A contract of a public call rests on this: when two paths are the same, prefixes, and extension by a field.
+-- A contract of a public call rests on this: when two paths are the same, fronts, and extension by a field.
 use Rattle.std.specs.Prelude.{ℕ, Bool, true, false, ◌&&◌, List, [], ◌∷◌, ◌++◌, Option, None, Some, length, take}
 use Rattle.std.specs.Prelude.{nat_eq, nat_lt, if◌then◌else◌}
 use Rattle.std.specs.Option.{option_and_then}
@@ -38,10 +38,6 @@ some_path c f = record { root = SomeOf c; fields = f ∷ [] }
 -- the path of the first so many fields
 abbrev pub front : ℕ → Path → Path
 front n p = record { root = p.root; fields = take n p.fields }
-
--- whether the second goes on from the first
-abbrev pub is_prefix : Path → Path → Bool
-is_prefix p q = same_path p (front (length p.fields) q)
 
 -- `p.f`, which exists where p has fewer fields than the limit
 abbrev pub extended : Path → FieldId → Option Path

@@ -1,6 +1,5 @@
 -- A contract of a public call rests on this: the text of a path, for given names of the classes and fields.
-use Rattle.std.specs.Prelude.{ℕ, Bool, true, ◌&&◌, List, [], ◌∷◌, ◌++◌, codes, nat_lt, slice_index_or}
-use Rattle.std.specs.List.{list_all}
+use Rattle.std.specs.Prelude.{ℕ, List, [], ◌∷◌, ◌++◌, codes, slice_index_or}
 use Rattle.std.specs.Fmt.{decimal}
 use Rattle.racer_base.specs.declared.ids.FieldId.{FieldId}
 use Rattle.access_paths.specs.declared.path.Root.{Root}
@@ -24,16 +23,3 @@ fields_text field_names (f ∷ fs) = codes "." ++ name_at field_names f.0 ++ fie
 
 abbrev pub path_text : List (List ℕ) → List (List ℕ) → Path → List ℕ
 path_text class_names field_names p = root_text class_names p.root ++ fields_text field_names p.fields
-
--- whether there are names for a path's classes and fields
-abbrev pub is_named_root : ℕ → Root → Bool
-is_named_root classes This = true
-is_named_root classes (Class c) = nat_lt c.0 classes
-is_named_root classes (Formal i) = true
-is_named_root classes (SomeOf c) = nat_lt c.0 classes
-
-abbrev pub are_named_fields : ℕ → List FieldId → Bool
-are_named_fields fields = list_all (λ f. nat_lt f.0 fields)
-
-abbrev pub is_named : ℕ → ℕ → Path → Bool
-is_named classes fields p = is_named_root classes p.root && are_named_fields fields p.fields

@@ -8,7 +8,7 @@ ghost use Rattle.std.specs.FinSet.{IsAntisymmetric};
 ghost use Rattle.racer_base.specs.declared.ids.FieldId.{FieldId};
 ghost use Rattle.access_paths.specs.declared.path.Path.{Path};
 ghost use Rattle.access_paths.specs.declared.path.Root.TheVariants.{This, Class, Formal, Some as SomeOf};
-ghost use Rattle.access_paths.specs.Paths.{same_path, extended_along, extended, is_prefix, alone};
+ghost use Rattle.access_paths.specs.Paths.{same_path, extended_along, extended, alone};
 ghost use Rattle.access_paths.specs.Order.{path_cmp};
 ghost use Rattle.access_paths.specs.Table.{IsTable, interned, path_at};
 ghost use Rattle.access_paths.specs.Text.{path_text};

@@ -1,7 +1,7 @@
 //! Paths.
 ghost use Rattle.std.specs.Prelude.{◌≡◌, false, IfOk};
 ghost use Rattle.access_paths.specs.Order.{path_cmp, root_form, root_number};
-ghost use Rattle.access_paths.specs.Paths.{alone, some_path, extended, is_prefix, is_some_root};
+ghost use Rattle.access_paths.specs.Paths.{alone, some_path, front, extended, is_some_root};
 
 use crate::PathFields;
 use racer_base::{ClassId, FieldId, MAX_PATH_FIELDS, Memory};
@@ -101,11 +101,16 @@ impl Path {
         }))
     }
 
-    /// Whether the other path goes on from this one, or is the same.
-    pub fn is_prefix(&self, other: &Path) -> bool
-        ensures { result ≡ is_prefix self.now other.now }
+    /// The path of the first so many fields, which is the path itself where it has no more.
+    pub fn front(&self, alloc: Global, fields: usize) -> Result<Path, Memory>
+        ensures { IfOk result (λ made. made ≡ front fields self.now) }
     {
-        self.root == other.root && other.fields.as_slice().starts_with(self.fields.as_slice())
+        let all = self.fields.as_slice();
+        let count = fields.min(self.fields.len());
+        Ok(Path {
+            root: self.root,
+            fields: PathFields::from_vec(Vec::from_slice(alloc, &all[..count])?),
+        })
     }
 
     /// A path that is equal to this one.

@@ -1,6 +1,7 @@
 -- What a callee returns begins at something known in its caller, where all that is passed does.
 use Rattle.std.proofs.Common.{◌≡◌, ℕ, zero, suc, Bool, true, false, cond, ◌&&◌, List, [], ◌∷◌, ◌++◌, length, drop}
-use Rattle.std.proofs.Common.{nat_lt, None, Some, slice_index_or, refl}
+use Rattle.std.proofs.Common.{nat_lt, None, Some, slice_index_or, refl, ap, ◌∙◌}
+use Rattle.std.specs.Prelude.{Result, Ok, Err, IfOk}
 use Rattle.std.specs.List.{list_all}
 use Rattle.std.proofs.lemmas.Bool.{false≢true}
 use Rattle.racer_base.specs.declared.ids.FieldId.{FieldId}
@@ -10,6 +11,8 @@ use Rattle.access_paths.specs.declared.path.Root.{Root}
 use Rattle.access_paths.specs.declared.path.Root.TheVariants.{This, Class, Formal, Some as SomeOf}
 use Rattle.owner_domain.specs.declared.value.Value.{Value}
 use Rattle.owner_domain.specs.declared.value.Value.TheVariants.{Owned, Named, Unnamed}
+use Rattle.owner_domain.specs.declared.numbered.NumberedValue.{NumberedValue}
+use Rattle.owner_domain.specs.Numbered.{read_value}
 use Rattle.owner_domain.specs.Values.{along, field_value, has_known_root, named_or_unnamed}
 use Rattle.access_domain.specs.Substitution.{actuals_from, root_value, substituted_value}
 use Rattle.call_subst.specs.Numbered.{AreKnown}
@@ -67,3 +70,10 @@ value-known is_static values known Unnamed = refl
 value-known is_static values known (Named p) =
     along-known (root_value (actuals_from is_static values) p.root) p.fields
     (root-known is_static values known p.root)
+
+-- a number of a value that begins at something known where something else does
+pub number-known : {E : Type 0} (r : Result NumberedValue E) (table : List Path) (v : Value) (K : Type 0) →
+    IfOk r (λ made. read_value table made ≡ v) → (K → has_known_root v ≡ true) →
+    IfOk r (λ made. K → has_known_root (read_value table made) ≡ true)
+number-known (Ok made) table v K is known = λ k. ap has_known_root is ∙ known k
+number-known (Err e) table v K is known = tt

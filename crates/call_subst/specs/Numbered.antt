@@ -7,16 +7,18 @@ use Rattle.access_paths.specs.Order.{PathSet}
 use Rattle.access_paths.specs.Table.{path_at}
 use Rattle.owner_domain.specs.declared.value.Value.{Value}
 use Rattle.owner_domain.specs.declared.numbered.NumberedValue.{NumberedValue}
-use Rattle.owner_domain.specs.Numbered.{read_value, IsInRange, AllInRange}
+use Rattle.owner_domain.specs.Numbered.{read_value}
 use Rattle.owner_domain.specs.Values.{has_known_root}
+use Rattle.access_domain.specs.declared.access.Access.{Access}
 use Rattle.access_domain.specs.declared.summary.Summary.{Summary}
 use Rattle.access_domain.specs.Findings.{Findings, summary_from}
-use Rattle.access_domain.specs.Numbered.{read_accesses, AreNumbered}
+use Rattle.access_domain.specs.Numbered.{AreNumbered}
 use Rattle.access_domain.specs.Records.{different_paths}
 use Rattle.access_domain.specs.Substitution.{substituted}
 use Rattle.call_subst.specs.Calls.{given, actuals}
+use Rattle.call_subst.specs.Substitutes.{AreFindings}
 use Rattle.call_subst.specs.declared.naming.Call.{Call}
-use Rattle.call_subst.specs.declared.numbered.Replaced.{Replaced}
+use Rattle.call_subst.specs.declared.substitution.Replaced.{Replaced}
 
 abbrev pub read_values : List Path → List NumberedValue → List Value
 read_values table = map (read_value table)
@@ -31,11 +33,6 @@ read_set table numbers = set.from_list (read_paths table numbers)
 abbrev pub AreKnown : List Value → Type 0
 AreKnown values = list_all has_known_root values ≡ true
 
--- the numbers are the table's, and no path begins at some object of a class
-pub record AreActuals (table : List Path) (values : List NumberedValue) : Type 0 where
-  pub range : AllInRange table values
-  pub known : AreKnown (read_values table values)
-
 abbrev pub AreBelow : ℕ → List ℕ → Type 0
 AreBelow limit [] = Unit {0}
 AreBelow limit (n ∷ rest) = (n < limit) × AreBelow limit rest
@@ -45,23 +42,12 @@ pub record AreWobbly (table : List Path) (numbers : List ℕ) : Type 0 where
   pub range : AreBelow (length table) numbers
   pub different : different_paths (read_paths table numbers) ≡ read_paths table numbers
 
--- what is replaced, in a table
-abbrev pub read_replaced : List Path → Replaced → Summary
-read_replaced table made =
-    record {
-      accesses = read_accesses table made.accesses.items;
-      wobbly = read_set table made.wobbly.items;
-      result = read_value table made.result;
-    }
-
--- all numbers are the table's; the wobbly paths are different, and the result's path begins at something known
+-- all numbers are the table's, and the wobbly paths are different
 pub record AreReplaced (table : List Path) (made : Replaced) : Type 0 where
   pub accesses : AreNumbered table made.accesses.items
   pub wobbly : AreWobbly table made.wobbly.items
-  pub result : IsInRange table made.result
-  pub known : has_known_root (read_value table made.result) ≡ true
 
--- whatever findings the callee's summary holds, what is made holds these in the caller's values
-abbrev pub IsReplaced : Call → Summary → Summary → Type 0
-IsReplaced call summary made = (found : Findings) → summary_from found ≡ summary →
-    made ≡ summary_from (substituted (given call) (actuals call) found call.locked call.site)
+-- whatever findings the callee's summary holds, these records and wobbly paths are theirs in the caller's values
+abbrev pub IsReplaced : Call → Summary → List Access → PathSet → Type 0
+IsReplaced call summary records wobbly = (found : Findings) → summary_from found ≡ summary →
+    AreFindings (substituted (given call) (actuals call) found call.locked call.site) records wobbly

@@ -4,7 +4,7 @@ ghost use Rattle.owner_domain.specs.declared.value.Value.TheVariants.{Unnamed as
 ghost use Rattle.owner_domain.specs.Values.{along};
 ghost use Rattle.core_code.specs.Program.{core};
 ghost use Rattle.access_domain.specs.FlowContext.{is_static_method};
-ghost use Rattle.access_domain.specs.Substitution.{value_named, substituted_value, substituted_path};
+ghost use Rattle.access_domain.specs.Substitution.{value_named, substituted_path};
 ghost use Rattle.call_subst.specs.Calls.{given, actuals};
 
 use access_domain::path_reached;
@@ -79,18 +79,6 @@ pub fn value_named(alloc: Global, call: &Call, path: &Path) -> Result<Value, Mem
         }
         Root::Class(_) => Value::Named(Path::alone(alloc, path.root)).along(alloc, fields),
         Root::Some(_) => Ok(Value::Unnamed),
-    }
-}
-
-/// A value of the callee, in the caller.
-pub fn value_there(alloc: Global, call: &Call, value: &Value) -> Result<Value, Memory>
-    ensures { IfOk result (λ made.
-        made ≡ substituted_value (actuals call.now) value.now) }
-{
-    match value {
-        Value::Owned => Ok(Value::Owned),
-        Value::Named(path) => value_named(alloc, call, path),
-        Value::Unnamed => Ok(Value::Unnamed),
     }
 }
 

@@ -5,9 +5,14 @@ use Rattle.access_paths.specs.Table.{IsTable, path_at}
 use Rattle.access_paths.proofs.Numbers.{equal_numbers}
 use Rattle.owner_domain.specs.declared.value.Value.TheVariants as value
 use Rattle.owner_domain.specs.Values.{same_value, names_of, joined, lost, joined_values, lost_values}
+use Rattle.owner_domain.specs.Values.{joined_state, lost_state}
 use Rattle.owner_domain.specs.declared.numbered.NumberedValue.{NumberedValue}
 use Rattle.owner_domain.specs.declared.numbered.NumberedValue.TheVariants.{Owned, Named, Unnamed}
-use Rattle.owner_domain.specs.Numbered.{read_value, IsInRange, AllInRange, same_number, numbers_of, joined_number, lost_number, joined_numbers, lost_numbers}
+use Rattle.owner_domain.specs.declared.numbered.NumberedState.{NumberedState}
+use Rattle.owner_domain.specs.Numbered.{read_value, read_state, IsInRange, AllInRange, AreInRange, same_number}
+use Rattle.owner_domain.specs.Numbered.{numbers_of, joined_number, lost_number, joined_numbers, lost_numbers}
+use Rattle.owner_domain.specs.Slots.{met_numbers, lost_by}
+use Rattle.owner_domain.proofs.NumbersJoined.{all-joined-in-range}
 
 module _ (table : List Path) (is_table : IsTable table) where
   same-read : (a b : NumberedValue) → IsInRange table a → IsInRange table b →
@@ -64,3 +69,24 @@ module _ (table : List Path) (is_table : IsTable table) where
   all-lost-read (x ∷ xs) (y ∷ ys) p q =
       all-map-append (lost_number x y) (lost_numbers xs ys)
       ∙ (λ i. lost-read x y p.0 q.0 i ++ all-lost-read xs ys p.1 q.1 i)
+
+-- ---- states that meet
+
+pub met-in : (table : List Path) (s t : NumberedState) → AreInRange table s → AreInRange table (met_numbers s t)
+met-in table s t low = (
+  all-joined-in-range table s.vars t.vars low.0,
+  all-joined-in-range table s.stack t.stack low.1,
+)
+
+module _ (table : List Path) (once : IsTable table) (s t : NumberedState) (p : AreInRange table s) (q : AreInRange table t)
+  where
+    pub met-read : read_state table (met_numbers s t) ≡ joined_state (read_state table s) (read_state table t)
+    met-read = λ i. record {
+      vars = all-joined-read table once s.vars t.vars p.0 q.0 i;
+      stack = all-joined-read table once s.stack t.stack p.1 q.1 i;
+    }
+
+    pub met-lost : map (path_at table) (lost_by s t) ≡ lost_state (read_state table s) (read_state table t)
+    met-lost =
+        all-map-append table once _ _
+        ∙ (λ i. all-lost-read table once s.vars t.vars p.0 q.0 i ++ all-lost-read table once s.stack t.stack p.1 q.1 i)

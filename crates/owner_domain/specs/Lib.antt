@@ -3,3 +3,4 @@ pub mod Values
 pub mod SameValue
 pub mod Numbered
 pub mod SameNumber
+pub mod Slots

@@ -6,7 +6,6 @@ ghost use Rattle.owner_domain.specs.Values.{along};
 use access_paths::{Path, PathFields};
 use racer_base::{FieldId, Items, MAX_PATH_FIELDS, Memory};
 use std::alloc::Global;
-use std::hash::{Hash, Hasher};
 
 /// What is known of a value.
 #[derive(Drop)]
@@ -26,17 +25,6 @@ pub struct State {
 }
 
 impl Value {
-    /// A value that is equal to this one.
-    pub fn copied(&self, alloc: Global) -> Result<Value, Memory>
-        ensures { IfOk result (λ copy. copy ≡ self.now) }
-    {
-        match self {
-            Value::Owned => Ok(Value::Owned),
-            Value::Named(path) => Ok(Value::Named(path.copied(alloc)?)),
-            Value::Unnamed => Ok(Value::Unnamed),
-        }
-    }
-
     /// The value that is reached from this one by these fields in turn.
     pub fn along(&self, alloc: Global, fields: &[FieldId]) -> Result<Value, Memory>
         ensures { IfOk result (λ value. value ≡ along self.now fields.now) }
@@ -67,46 +55,4 @@ pub fn along_path(alloc: Global, path: &Path, fields: &[FieldId]) -> Result<Valu
         root: path.root,
         fields: PathFields::from_vec(longer),
     }))
-}
-
-impl PartialEq for Value {
-    ghost use Rattle.owner_domain.specs.Values.{same_value};
-    ghost use Rattle.owner_domain.specs.SameValue.{same_value-laws};
-
-    ghost eq = { same_value };
-
-    ghost laws = { same_value-laws };
-
-    fn eq(&self, other: &Value) -> bool {
-        match (self, other) {
-            (Value::Owned, Value::Owned) | (Value::Unnamed, Value::Unnamed) => true,
-            (Value::Named(path), Value::Named(other_path)) => path == other_path,
-            _ => false,
-        }
-    }
-}
-
-impl Eq for Value {
-    ghost use Rattle.owner_domain.specs.SameValue.{same_value-equivalence};
-
-    ghost laws = { same_value-equivalence };
-}
-
-impl Hash for Value {
-    ghost use Rattle.owner_domain.specs.SameValue.{value_input, value_input-respects};
-
-    ghost hash_input = { value_input };
-
-    ghost respects_eq = { value_input-respects };
-
-    fn hash<H: Hasher>(&self, state: &mut H) {
-        match self {
-            Value::Owned => 0u32.hash(state),
-            Value::Named(path) => {
-                1u32.hash(state);
-                path.hash(state);
-            }
-            Value::Unnamed => 2u32.hash(state),
-        }
-    }
 }

@@ -28,7 +28,7 @@ use Rattle.transfer.specs.Known.{known_in, callee_outcome, table_of}
 use Rattle.transfer.specs.Marks.{IsNoted, IsStopped}
 use Rattle.transfer.specs.Numbered.{read_found, read_call, IsFlowOf}
 use Rattle.transfer.specs.NotedCalls.{PassingCall}
-use Rattle.transfer.specs.Slots.{passed_numbers, replaced_numbers}
+use Rattle.owner_domain.specs.Slots.{passed_numbers, replaced_numbers}
 use Rattle.transfer.specs.Walks.{IsFlow, call_marks}
 use Rattle.transfer.proofs.Callees.{stopped-call}
 use Rattle.transfer.proofs.Longer.{passed-in, passed-read}

@@ -33,7 +33,7 @@ use Rattle.transfer.specs.declared.noted_calls.NotedCall.{NotedCall}
 use Rattle.call_subst.proofs.SameSets.{from_list-items}
 use Rattle.transfer.specs.Known.{findings_in}
 use Rattle.transfer.specs.Marks.{marks, added, paths_after, is_many, IsNoted, IsStopped, IsMarked}
-use Rattle.transfer.specs.NotedCalls.{same_call, equal_of_same_call, call_records, call_names, ArePresent, IsFound}
+use Rattle.transfer.specs.NotedCalls.{same_call, equal_of_same_call, call_records, call_names, passed_by, ArePresent, IsFound}
 use Rattle.transfer.specs.NotedCalls.{AreFound, PassingCall}
 use Rattle.transfer.specs.Numbered.{read_call, read_calls}
 use Rattle.transfer.specs.Walks.{IsFlow, call_marks}
@@ -278,58 +278,29 @@ held s = λ i. record { accesses = s.accesses; wobbly = from_list-items s.wobbly
 
 -- ---- the marks of a call
 
-abbrev found_of : List Access → PathSet → Found → Found
-found_of records wobbly found =
-    record { records = records; wobbly = wobbly; result = joined_result found.result None }
-
-added-firsts : (found : Found) (raw : List Access) (ws vs : List Path) →
-    set.from_list {R = path_cmp} ws ≡ set.from_list vs →
-    added found (marks raw ws) ≡ added found (marks (first_of_keys raw) vs)
-added-firsts found raw ws vs same = (λ i.
-    found_of (sym (firsts-added found.records raw) i)
-    (paths_added (paths-same found.wobbly ws vs same i) (lost_result found.result None)) found)
-
-many-firsts : (found : Found) (raw : List Access) (ws vs : List Path) →
-    set.from_list {R = path_cmp} ws ≡ set.from_list vs →
-    is_many found (marks raw ws) ≡ is_many found (marks (first_of_keys raw) vs)
-many-firsts found raw ws vs same = (λ i.
-    nat_lt MAX_SUMMARY_KEYS (length (sym (firsts-added found.records raw) i))
-    || nat_lt MAX_SUMMARY_KEYS
-    (set.len (paths_added (paths-same found.wobbly ws vs same i) (lost_result found.result None))))
-
-marked-firsts : {X : Type 0} (old new : Found) (raw : List Access) (ws vs : List Path) (r : Result X Stop) →
-    set.from_list {R = path_cmp} ws ≡ set.from_list vs → IsMarked old (marks raw ws) new r →
-    IsMarked old (marks (first_of_keys raw) vs) new r
-marked-firsts old new raw ws vs (Ok x) same m = (m.0 ∙ added-firsts old raw ws vs same, refl)
-marked-firsts old new raw ws vs (Err Large) same m = sym (many-firsts old raw ws vs same) ∙ m
-marked-firsts old new raw ws vs (Err Memory) same m = tt
-
-module _ (g : FlowContext) (c : PassingCall) (f : Findings) (site : SiteId) (names : List Path)
-    (same : set.from_list {R = path_cmp} names ≡ set.from_list (call_names g c f.wobbly)) where
-  to_different : set.from_list {R = path_cmp} names ≡ set.from_list (different_paths (call_names g c f.wobbly))
-  to_different = same ∙ sym (from_list-different (call_names g c f.wobbly))
+module _ (g : FlowContext) (c : PassingCall) (f : Findings) (site : SiteId) (records : List Access) (names : List Path)
+    (first : records ≡ (substituted g (passed_by g c) f c.locked site).records)
+    (same : set.from_list {R = path_cmp} names ≡
+    set.from_list (substituted g (passed_by g c) f c.locked site).wobbly) where
+  abbrev found_there : Findings
+  found_there = substituted g (passed_by g c) f c.locked site
 
   -- records, and then names, are the marks of the call
-  pub call-noted : {X : Type 0} (old mid new : Found) (raw : List Access) (r : Result X Stop) →
-      raw ≡ call_records g c f site → IsNoted old (marks raw []) mid → IsMarked mid (marks [] names) new r →
-      IsMarked old (call_marks g c f site) new r
-  call-noted old mid new raw r is m k =
-      subst (λ (rs : List Access). IsMarked old
-      (marks (first_of_keys rs) (different_paths (call_names g c f.wobbly))) new r) is
-      (marked-firsts old new raw names (different_paths (call_names g c f.wobbly)) r to_different
-      (marked-alike old (both (marks raw []) (marks [] names)) (marks raw names) new r
-      (parts-alike raw names names refl)
-      (marked-then old (marks raw []) mid (marks [] names) new r m k)))
+  pub call-noted : {X : Type 0} (old mid new : Found) (r : Result X Stop) → IsNoted old (marks records []) mid →
+      IsMarked mid (marks [] names) new r → IsMarked old (call_marks g c f site) new r
+  call-noted old mid new r m k =
+      subst (λ (rs : List Access). IsMarked old (marks rs found_there.wobbly) new r) first
+      (marked-alike old (both (marks records []) (marks [] names)) (marks records found_there.wobbly) new r
+      (parts-alike records names found_there.wobbly same)
+      (marked-then old (marks records []) mid (marks [] names) new r m k))
 
-  pub call-stopped : (old new : Found) (raw : List Access) (stop : Stop) → raw ≡ call_records g c f site →
-      IsStopped old (marks raw []) stop → IsStopped old (call_marks g c f site) stop
-  call-stopped old new raw stop is m =
-      subst (λ (rs : List Access). IsStopped old
-      (marks (first_of_keys rs) (different_paths (call_names g c f.wobbly))) stop) is
-      (marked-firsts {X = Bool} old new raw names (different_paths (call_names g c f.wobbly)) (Err stop) to_different
-      (stopped-alike old (both (marks raw []) (marks [] names)) (marks raw names) stop
-      (parts-alike raw names names refl)
-      (stopped-first old (marks raw []) (marks [] names) stop m)))
+  pub call-stopped : (old : Found) (stop : Stop) → IsStopped old (marks records []) stop →
+      IsStopped old (call_marks g c f site) stop
+  call-stopped old stop m =
+      subst (λ (rs : List Access). IsStopped old (marks rs found_there.wobbly) stop) first
+      (stopped-alike old (both (marks records []) (marks [] names)) (marks records found_there.wobbly) stop
+      (parts-alike records names found_there.wobbly same)
+      (stopped-first old (marks records []) (marks [] names) stop m))
 
 -- what stops the marks stops the call
 pub stopped-call : (g : FlowContext) (c : PassingCall) (f : Findings) (site : SiteId) (n : ℕ) (s : State) (old : Found)

@@ -14,7 +14,8 @@ use Rattle.wobbly_paths.specs.declared.wobbly.Adding.{Adding}
 use Rattle.wobbly_paths.specs.declared.wobbly.Adding.TheVariants.{Added, Present}
 use Rattle.wobbly_paths.specs.Sets.{IsAnswer}
 use Rattle.access_domain.specs.declared.numbered.NumberedAccess.{NumberedAccess}
-use Rattle.access_domain.specs.Numbered.{read_access, read_accesses, same_numbered_key}
+use Rattle.access_domain.specs.declared.access.Access.{Access}
+use Rattle.access_domain.specs.Numbered.{read_access, read_accesses, same_numbered_key, AreNumbered}
 use Rattle.access_domain.proofs.AdditionLemmas.{len-from_list}
 use Rattle.access_domain.proofs.NumberedReading.{any-read, read-added}
 use Rattle.call_subst.specs.Numbered.{read_paths, read_set, AreBelow}
@@ -29,7 +30,7 @@ use Rattle.std.proofs.lemmas.List.{append-nil, at_drop_more, at_drop_all}
 use Rattle.std.proofs.Common.{◌+◌, drop}
 use Rattle.access_domain.specs.Operations.{Effects}
 use Rattle.transfer.specs.Marks.{LeadsTo}
-use Rattle.transfer.proofs.Flows.{paths-led, paths-ended}
+use Rattle.transfer.proofs.Flows.{paths-led, paths-ended, records-led, records-ended}
 use Rattle.owner_domain.specs.declared.value.Value.{Value}
 use Rattle.owner_domain.specs.declared.value.Value.TheVariants as value
 use Rattle.owner_domain.specs.declared.numbered.NumberedValue.{NumberedValue}
@@ -203,4 +204,43 @@ numbers-done table numbers i over old now whole leads =
     leads now (Ok (tt {0}))
     (subst (λ (ps : List Path). IsNoted now (marks [] ps) now)
     (sym (at_drop_all (λ ns. read_paths table ns) numbers i over))
+    (noted-nothing now (record { vars = []; stack = [] })))
+
+-- ---- records that are noted one after another
+
+pub numbered-at : (table : List Path) (records : List NumberedAccess) (i : ℕ) (d : NumberedAccess) → i < length records →
+    AreNumbered table records → (get_or records i d).path < length table
+numbered-at table [] i d within low = absurd (omega arith)
+numbered-at table (r ∷ rs) zero d within low = low.0
+numbered-at table (r ∷ rs) (suc i) d within low =
+    let long : length (r ∷ rs) ≡ suc (length rs) = refl in numbered-at table rs i d (omega arith) low.1
+
+module _ (table : List Path) (records : List NumberedAccess) (i : ℕ) (d : NumberedAccess) (within : i < length records)
+  where
+    first_record : read_accesses table (drop i records) ≡
+        ((read_access table (get_or records i d) ∷ []) ++ read_accesses table (drop (i + 1) records))
+    first_record = at_drop_more (λ rs. read_accesses table rs) records i d within
+
+    pub each-led : (old now new : Found) (whole : Effects) →
+        LeadsTo old whole now (marks (read_accesses table (drop i records)) []) →
+        IsNoted now (marks (read_access table (get_or records i d) ∷ []) []) new →
+        LeadsTo old whole new (marks (read_accesses table (drop (i + 1) records)) [])
+    each-led old now new whole leads m =
+        records-led old whole now new (read_accesses table (drop i records)) (read_access table (get_or records i d) ∷ [])
+        (read_accesses table (drop (i + 1) records)) first_record leads m
+
+    pub each-ended : (old now last : Found) (whole : Effects) (stop : Stop) →
+        LeadsTo old whole now (marks (read_accesses table (drop i records)) []) →
+        IsStopped now (marks (read_access table (get_or records i d) ∷ []) []) stop → IsStopped old whole stop
+    each-ended old now last whole stop leads m =
+        records-ended old whole now last (read_accesses table (drop i records))
+        (read_access table (get_or records i d) ∷ []) (read_accesses table (drop (i + 1) records)) stop first_record
+        leads m
+
+pub each-done : (table : List Path) (records : List NumberedAccess) (i : ℕ) → length records ≤ i → (old now : Found)
+    (whole : Effects) → LeadsTo old whole now (marks (read_accesses table (drop i records)) []) → IsNoted old whole now
+each-done table records i over old now whole leads =
+    leads now (Ok (tt {0}))
+    (subst (λ (xs : List Access). IsNoted now (marks xs []) now)
+    (sym (at_drop_all (λ rs. read_accesses table rs) records i over))
     (noted-nothing now (record { vars = []; stack = [] })))

@@ -13,7 +13,7 @@ use Rattle.owner_domain.specs.Values.{same_value}
 use Rattle.call_subst.specs.Numbered.{read_values}
 use Rattle.transfer_loops.specs.Rounds.{same_values, same_state, rounds_of}
 use Rattle.transfer.specs.Numbered.{read_heads, IsHeadInRange, AreHeadsInRange}
-use Rattle.transfer.specs.Slots.{same_numbers, same_numbered}
+use Rattle.owner_domain.specs.Slots.{same_numbers, same_numbered}
 use Rattle.transfer.proofs.Readings.{state-longer, state-still}
 
 abbrev Left : Type 0

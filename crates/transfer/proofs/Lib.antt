@@ -1,14 +1,12 @@
 pub mod JoinedResults
 pub mod Adding
 pub mod Marking
-pub mod Stacks
 pub mod Readings
 pub mod SlotsRead
 pub mod FoundNumbers
 pub mod Flows
 pub mod NumberedSteps
 pub mod SameValues
-pub mod MetValues
 pub mod EarlyEnds
 pub mod Rounding
 pub mod HighEnough

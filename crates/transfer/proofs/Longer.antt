@@ -16,7 +16,7 @@ use Rattle.transfer.specs.declared.found.Stop.{Stop}
 use Rattle.transfer.specs.declared.numbered_found.NumberedFound.{NumberedFound}
 use Rattle.transfer.specs.Marks.{IsMarked}
 use Rattle.transfer.specs.Numbered.{read_found, AreFoundNumbers, IsFlowOf}
-use Rattle.transfer.specs.Slots.{passed_numbers}
+use Rattle.owner_domain.specs.Slots.{passed_numbers}
 use Rattle.transfer.proofs.HighEnough.{on_ok_then}
 use Rattle.transfer.proofs.Readings.{state-still, found-longer, found-still}
 use Rattle.transfer.proofs.SlotsRead.{take-in, append-in}

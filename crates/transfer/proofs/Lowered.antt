@@ -21,7 +21,8 @@ use Rattle.transfer.specs.declared.found.Stop.{Stop}
 use Rattle.transfer.specs.declared.found.Stop.TheVariants.{Large, Memory}
 use Rattle.transfer.specs.declared.numbered_found.NumberedFound.{NumberedFound}
 use Rattle.transfer.specs.declared.resuming.Passed.{Passed}
-use Rattle.transfer.specs.Lifts.{numbers_above, IsLifted, IsLowered}
+use Rattle.owner_domain.specs.Slots.{numbers_above}
+use Rattle.transfer.specs.Lifts.{IsLifted, IsLowered}
 use Rattle.transfer.specs.Marks.{IsStopped}
 use Rattle.transfer.specs.Numbered.{IsFlowOf}
 use Rattle.transfer.specs.Resumes.{heads_in, IsResumed}

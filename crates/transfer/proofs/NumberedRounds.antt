@@ -14,10 +14,10 @@ use Rattle.transfer_loops.specs.Rounds.{same_state}
 use Rattle.transfer.specs.declared.resuming.Passed.{Passed}
 use Rattle.transfer.specs.Numbered.{read_heads, IsHeadInRange, AreHeadsInRange, IsResumedIn}
 use Rattle.transfer.specs.Resumes.{heads_in, IsResumed, IsRound}
-use Rattle.transfer.specs.Slots.{met_numbers, same_numbered}
+use Rattle.owner_domain.specs.Slots.{met_numbers, same_numbered}
 use Rattle.transfer.proofs.HeadsRead.{any_left, head-at, head-in, heads-put, heads-put-in, same-state}
-use Rattle.transfer.proofs.SlotsRead.{met-in}
-use Rattle.transfer.proofs.Readings.{state-longer, state-still, met-read}
+use Rattle.owner_domain.proofs.Reading.{met-read, met-in}
+use Rattle.transfer.proofs.Readings.{state-longer, state-still}
 use Rattle.transfer.proofs.ResumedRounds.{ended_round, joined_round}
 
 abbrev Left : Type 0

@@ -41,11 +41,12 @@ use Rattle.transfer.specs.Numbered.{read_found, AreFoundNumbers, IsFlowOf}
 use Rattle.access_domain.specs.Flow.{joined_next, lost_next}
 use Rattle.owner_domain.specs.Values.{joined_state, lost_state}
 use Rattle.call_subst.specs.Numbered.{AreBelow, read_paths}
-use Rattle.transfer.specs.Slots.{top_number, pushed_number, popped_numbers, replaced_numbers, met_numbers, lost_by}
+use Rattle.owner_domain.specs.Slots.{top_number, pushed_number, popped_numbers, replaced_numbers, met_numbers, lost_by}
 use Rattle.transfer.specs.Walks.{IsFlow, moved, next_of}
 use Rattle.transfer.proofs.Flows.{record-reached, slot-below, popped-twice, noted-parts, stopped-records, stopped-paths}
-use Rattle.transfer.proofs.Readings.{met-read, lost-read, value-longer, range-longer, state-longer, state-still, found-longer}
-use Rattle.transfer.proofs.SlotsRead.{slot-in, top-read, popped-read, popped-in, replaced-read, set-read, set-in, met-in, lost-below}
+use Rattle.owner_domain.proofs.Reading.{met-read, met-lost, met-in}
+use Rattle.transfer.proofs.Readings.{value-longer, range-longer, state-longer, state-still, found-longer}
+use Rattle.transfer.proofs.SlotsRead.{slot-in, top-read, popped-read, popped-in, replaced-read, set-read, set-in, lost-below}
 
 -- ---- through a longer table
 
@@ -309,7 +310,7 @@ module _ (table : List Path) (once : IsTable table) (here other : NumberedState)
       IsMarked found (marks [] (lost_state (read_state table here) (read_state table other))) later r
   met-marked found later lost r is m =
       subst (λ (ps : List Path). IsMarked found (marks [] ps) later r)
-      (ap (read_paths table) is ∙ lost-read table once here other low other_low) m
+      (ap (read_paths table) is ∙ met-lost table once here other low other_low) m
 
 pub joined-left : (left : Bool) (s t : State) → next_of left s ≡ joined_next (next_of left s) (next_of false t)
 joined-left true s t = refl

@@ -1,22 +1,18 @@
 -- What is here and what was found, read through a table: through a longer one it is the same.
-use Rattle.std.proofs.Common.{◌≡◌, List, [], ◌∷◌, ◌++◌, Option, None, Some, option_map, refl, ap}
-use Rattle.std.proofs.Common.{◌∙◌}
+use Rattle.std.proofs.Common.{◌≡◌, List, [], ◌∷◌, Option, None, Some, option_map, refl, ap}
 use Rattle.access_paths.specs.declared.path.Path.{Path}
-use Rattle.access_paths.specs.Table.{IsTable, GoesOn}
+use Rattle.access_paths.specs.Table.{GoesOn}
 use Rattle.access_paths.proofs.Numbers.{goes_on-at, number-still}
 use Rattle.owner_domain.specs.declared.value.Value.TheVariants as value
 use Rattle.owner_domain.specs.declared.numbered.NumberedValue.{NumberedValue}
 use Rattle.owner_domain.specs.declared.numbered.NumberedValue.TheVariants.{Owned, Named, Unnamed}
 use Rattle.owner_domain.specs.declared.numbered.NumberedState.{NumberedState}
 use Rattle.owner_domain.specs.Numbered.{read_value, read_state, IsInRange, AllInRange, AreInRange}
-use Rattle.owner_domain.specs.Values.{joined_state, lost_state}
-use Rattle.owner_domain.proofs.Reading.{all-joined-read, all-lost-read, all-map-append}
 use Rattle.access_domain.proofs.NumberedReading.{accesses-longer, numbered-longer}
-use Rattle.call_subst.specs.Numbered.{read_values, read_paths}
+use Rattle.call_subst.specs.Numbered.{read_values}
 use Rattle.call_subst.proofs.NumberedSets.{set-longer, wobbly-longer}
 use Rattle.transfer.specs.declared.numbered_found.NumberedFound.{NumberedFound}
 use Rattle.transfer.specs.Numbered.{read_found, AreFoundNumbers, IsResultInRange}
-use Rattle.transfer.specs.Slots.{met_numbers, lost_by}
 
 module _ (old new : List Path) (on : GoesOn old new) where
   pub value-longer : (v : NumberedValue) → IsInRange old v → read_value new v ≡ read_value old v
@@ -66,18 +62,3 @@ module _ (old new : List Path) (on : GoesOn old new) where
         wobbly = wobbly-longer old new on f.wobbly.keys low.wobbly;
         result = result-still f.result low.result;
       }
-
--- ---- states that meet
-
-module _ (table : List Path) (once : IsTable table) (s t : NumberedState) (p : AreInRange table s) (q : AreInRange table t)
-  where
-    pub met-read : read_state table (met_numbers s t) ≡ joined_state (read_state table s) (read_state table t)
-    met-read = λ i. record {
-      vars = all-joined-read table once s.vars t.vars p.0 q.0 i;
-      stack = all-joined-read table once s.stack t.stack p.1 q.1 i;
-    }
-
-    pub lost-read : read_paths table (lost_by s t) ≡ lost_state (read_state table s) (read_state table t)
-    lost-read =
-        all-map-append table once _ _
-        ∙ (λ i. all-lost-read table once s.vars t.vars p.0 q.0 i ++ all-lost-read table once s.stack t.stack p.1 q.1 i)

@@ -19,7 +19,7 @@ use Rattle.transfer_loops.specs.Resuming.{Heads, resumed, loops}
 use Rattle.transfer.specs.declared.resuming.Passed.{Passed}
 use Rattle.transfer.specs.Numbered.{read_heads, AreHeadsInRange, IsResumedIn}
 use Rattle.transfer.specs.Resumes.{heads_in, AreLeft, IsResumed}
-use Rattle.transfer.specs.Slots.{popped_numbers}
+use Rattle.owner_domain.specs.Slots.{popped_numbers}
 use Rattle.transfer.specs.Walks.{next_of}
 use Rattle.transfer.proofs.HeadsRead.{heads-longer, heads-still}
 use Rattle.transfer.proofs.Readings.{state-longer, state-still}

@@ -14,9 +14,8 @@ use Rattle.call_subst.specs.Numbered.{read_values}
 use Rattle.call_subst.specs.Numbered.{AreBelow}
 use Rattle.owner_domain.specs.Numbered.{same_number, numbers_of, lost_number, lost_numbers}
 use Rattle.owner_domain.specs.declared.numbered.NumberedValue.TheVariants.{Owned, Named}
-use Rattle.owner_domain.proofs.NumbersJoined.{all-joined-in-range}
 use Rattle.std.proofs.Common.{true, false, cond, length}
-use Rattle.transfer.specs.Slots.{top_number, pushed_number, popped_numbers, replaced_numbers, met_numbers, lost_by}
+use Rattle.owner_domain.specs.Slots.{top_number, pushed_number, popped_numbers, replaced_numbers, lost_by}
 
 module _ (table : List Path) where
   pub slot-read : (xs : List NumberedValue) (n : ℕ) →
@@ -83,12 +82,6 @@ module _ (table : List Path) where
   set-read (x ∷ xs) (suc n) v = ap (λ ys. read_value table x ∷ ys) (set-read xs n v)
 
   -- ---- states that meet
-
-  pub met-in : (s t : NumberedState) → AreInRange table s → AreInRange table (met_numbers s t)
-  met-in s t low = (
-    all-joined-in-range table s.vars t.vars low.0,
-    all-joined-in-range table s.stack t.stack low.1,
-  )
 
   numbers-below : (v : NumberedValue) → IsInRange table v → AreBelow (length table) (numbers_of v)
   numbers-below Owned low = tt

@@ -19,7 +19,7 @@ use Rattle.transfer.specs.Heights.{IsHighEnough}
 use Rattle.transfer.specs.Marks.{IsMarked, IsNoted, IsStopped, marks}
 use Rattle.transfer.specs.NotedCalls.{AreFound}
 use Rattle.transfer.specs.Numbered.{read_found, read_calls, AreCallNumbers, IsFlowOf}
-use Rattle.transfer.specs.Slots.{popped_numbers}
+use Rattle.owner_domain.specs.Slots.{popped_numbers}
 use Rattle.transfer.specs.Walks.{IsFlow, AreRoundsDone, next_of}
 use Rattle.transfer.proofs.Callees.{marked-found, noted-found, flow-found}
 use Rattle.transfer.proofs.CallsRead.{calls-still, all-found-longer}

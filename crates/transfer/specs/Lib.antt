@@ -8,6 +8,5 @@ pub mod Callees
 pub mod Tables
 pub mod Resumes
 pub mod Heights
-pub mod Slots
 pub mod Numbered
 pub mod Lifts

@@ -1,9 +1,10 @@
 -- No public contract rests on this: code that is gone through over the upper values of a stack.
-use Rattle.std.specs.Prelude.{◌≡◌, ℕ, Bool, List, ◌++◌, option_map, map, Result, Ok, Err}
+use Rattle.std.specs.Prelude.{◌≡◌, ℕ, Bool, List, option_map, map, Result, Ok, Err}
 use Rattle.access_paths.specs.declared.path.Path.{Path}
 use Rattle.owner_domain.specs.declared.numbered.NumberedValue.{NumberedValue}
 use Rattle.owner_domain.specs.declared.numbered.NumberedState.{NumberedState}
 use Rattle.owner_domain.specs.Numbered.{read_value, read_state}
+use Rattle.owner_domain.specs.Slots.{numbers_above}
 use Rattle.core_code.specs.Tree.{Tree}
 use Rattle.access_domain.specs.FlowContext.{FlowContext}
 use Rattle.access_domain.specs.Flow.{flow}
@@ -12,10 +13,6 @@ use Rattle.transfer_bodies.specs.Reaching.{above, all_above}
 use Rattle.transfer.specs.declared.found.Stop.{Stop}
 use Rattle.transfer.specs.declared.found.Stop.TheVariants.{Memory}
 use Rattle.transfer.specs.Heights.{IsHighEnough}
-
--- the state with these values below its stack
-abbrev pub numbers_above : List NumberedValue → NumberedState → NumberedState
-numbers_above under s = record { vars = s.vars; stack = s.stack ++ under }
 
 -- these values lie below the stack of the new state in the old one, and the code finds the same over both
 pub record IsLifted (code : Tree) (under : List NumberedValue) (old new : NumberedState) : Type 0 where

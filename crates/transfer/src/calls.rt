@@ -1,37 +1,31 @@
 //! Calls.
-ghost use Rattle.std.specs.Prelude.{◌≡◌, Bool, [], IfOk, OnOk, Some};
+ghost use Rattle.std.specs.Prelude.{◌≡◌, Bool, IfOk, OnOk, Some};
 ghost use Rattle.racer_base.specs.declared.ids.SiteId.{SiteId as Site};
 ghost use Rattle.std.specs.Option.{option_copied};
 ghost use Rattle.core_code.specs.declared.code.Op.TheVariants.{Call as CallOf};
 ghost use Rattle.access_paths.specs.Table.{IsTable, GoesOn};
-ghost use Rattle.owner_domain.specs.Numbered.{read_value, read_state, IsInRange, AllInRange, AreInRange};
+ghost use Rattle.owner_domain.specs.Numbered.{read_state, AllInRange, AreInRange};
 ghost use Rattle.access_domain.specs.Findings.{Whole};
 ghost use Rattle.access_domain.specs.Operations.{op_effects, passed_from, replaced};
 ghost use Rattle.access_domain.specs.Substitution.{actuals_from, substituted_value};
-ghost use Rattle.call_subst.specs.Calls.{records_at, paths_at, substituted_at, name_at};
-ghost use Rattle.call_subst.specs.Numbered.{read_values};
 ghost use Rattle.transfer.specs.Contexts.{given};
 ghost use Rattle.transfer.specs.Known.{findings_in, callee_outcome};
-ghost use Rattle.transfer.specs.Marks.{IsMarked, marks};
+ghost use Rattle.transfer.specs.Marks.{IsMarked};
 ghost use Rattle.transfer.specs.NotedCalls.{AreFound};
 ghost use Rattle.transfer.specs.Numbered.{read_found, read_call, read_calls};
 ghost use Rattle.transfer.specs.Numbered.{AreFoundNumbers, AreCallNumbers, IsFlowOf};
-ghost use Rattle.transfer.specs.Slots.{passed_numbers};
+ghost use Rattle.owner_domain.specs.Slots.{passed_numbers};
 ghost use Rattle.transfer.specs.Walks.{IsFlow, call_marks};
 
-use crate::flow_state::FlowState;
 use crate::found::Stop;
 use crate::noted_calls::NotedCall;
 use crate::numbered_found::NumberedFound;
 use crate::operations::MethodContext;
-use access_domain::{Access, Accesses, Outcome, Summary};
-use access_paths::{Path, PathTable};
-use call_subst::{
-    Call, is_static, number_access, number_value, record_there, substitute_value, value_named,
-    values_of,
-};
+use access_domain::{Outcome, Summary};
+use access_paths::PathTable;
+use call_subst::{substitute, substitute_value};
 use indexmap::IndexSet;
-use owner_domain::{NumberedValue, Value};
+use owner_domain::{FlowState, NumberedValue};
 use racer_base::{Items, Memory, MethodId, SiteId};
 use std::alloc::Global;
 use std::sync::Arc;
@@ -128,13 +122,13 @@ fn pass(
     ensures table { OnOk result (GoesOn table.old table.new) }
 {
     let actuals = state.take(count)?;
-    let value = value_returned(
+    let value = substitute_value(
         alloc,
-        context,
+        context.program,
+        table,
         method,
         actuals.as_slice(),
         &summary.result,
-        table,
     )?;
     state.push(value)?;
     Ok(NotedCall {
@@ -142,34 +136,6 @@ fn pass(
         locked,
         actuals: Items::from(actuals),
     })
-}
-
-/// A result of a method that is called with these values, in its caller.
-fn value_returned(
-    alloc: Global,
-    context: &MethodContext,
-    method: MethodId,
-    actuals: &[NumberedValue],
-    value: &Value,
-    table: &mut PathTable,
-) -> Result<NumberedValue, Memory>
-    requires actuals { AllInRange table.old actuals.now }
-    requires once { IsTable table.old }
-    ensures value { IfOk result (λ made. read_value table.new made ≡ substituted_value
-        (actuals_from ((given context.now).is_static method) (read_values table.old actuals.now)) value.now) }
-    ensures range { IfOk result (λ made. IsInRange table.new made) }
-    ensures once { OnOk result (IsTable table.new) }
-    ensures table { OnOk result (GoesOn table.old table.new) }
-{
-    match value {
-        Value::Owned => Ok(NumberedValue::Owned),
-        Value::Unnamed => Ok(NumberedValue::Unnamed),
-        Value::Named(_) => {
-            let values = values_of(alloc, table, actuals)?;
-            let value = substitute_value(alloc, context.program, method, values.as_slice(), value)?;
-            number_value(table, value)
-        }
-    }
 }
 
 /// Notes what a call of a method with this summary finds, unless one like it was noted before.
@@ -233,129 +199,24 @@ fn note_callee(
     ensures once { OnOk result (IsTable table.new) }
     ensures table { OnOk result (GoesOn table.old table.new) }
 {
-    let Ok(actuals) = values_of(alloc, table, made.actuals.as_slice()) else {
-        return Err(Stop::Memory);
-    };
-    let call = Call {
-        program: context.program,
-        is_static: is_static(context.program, made.callee),
-        actuals: actuals.as_slice(),
-        locked: made.locked,
-        main: context.main,
+    let Ok(there) = substitute(
+        alloc,
+        context.program,
+        table,
+        made.callee,
+        summary,
+        made.actuals.as_slice(),
+        made.locked,
+        context.main,
         site,
-    };
-    let Ok(paths) = summary.wobbly.paths(alloc) else {
+    ) else {
         return Err(Stop::Memory);
     };
-    match note_records(alloc, &call, &summary.accesses, table, found) {
+    match found.note_records(there.accesses.as_slice()) {
         Ok(()) => {}
         Err(stop) => return Err(stop),
     }
-    note_names(alloc, &call, paths.as_slice(), table, found)
-}
-
-/// Notes the records of a callee, in the caller's values.
-fn note_records(
-    alloc: Global,
-    call: &Call,
-    records: &Accesses,
-    table: &mut PathTable,
-    found: &mut NumberedFound,
-) -> Result<(), Stop>
-    requires once { IsTable table.old }
-    requires numbers { AreFoundNumbers table.old found.old }
-    ensures found { IsMarked (read_found table.old found.old) (marks (records_at call.now 0 records.now) [])
-        (read_found table.new found.new) result }
-    ensures numbers { OnOk result (AreFoundNumbers table.new found.new) }
-    ensures once { OnOk result (IsTable table.new) }
-    ensures table { OnOk result (GoesOn table.old table.new) }
-{
-    for index in 0..records.len() {
-        match note_record(alloc, call, index, records.get(index), table, found) {
-            Ok(()) => {}
-            Err(stop) => return Err(stop),
-        }
-    }
-    Ok(())
-}
-
-/// Notes a record of a callee, in the caller's values.
-fn note_record(
-    alloc: Global,
-    call: &Call,
-    index: u32,
-    access: &Access,
-    table: &mut PathTable,
-    found: &mut NumberedFound,
-) -> Result<(), Stop>
-    requires once { IsTable table.old }
-    requires numbers { AreFoundNumbers table.old found.old }
-    ensures found { IsMarked (read_found table.old found.old) (marks (substituted_at call.now (index, access.now)) [])
-        (read_found table.new found.new) result }
-    ensures numbers { OnOk result (AreFoundNumbers table.new found.new) }
-    ensures once { OnOk result (IsTable table.new) }
-    ensures table { OnOk result (GoesOn table.old table.new) }
-{
-    let Ok(made) = record_there(alloc, call, index, access) else {
-        return Err(Stop::Memory);
-    };
-    let Some(made) = made else {
-        return Ok(());
-    };
-    let Ok(made) = number_access(table, made) else {
-        return Err(Stop::Memory);
-    };
-    found.note_record(made)
-}
-
-/// Notes what these paths of a callee name in the caller.
-fn note_names(
-    alloc: Global,
-    call: &Call,
-    paths: &[Path],
-    table: &mut PathTable,
-    found: &mut NumberedFound,
-) -> Result<(), Stop>
-    requires once { IsTable table.old }
-    requires numbers { AreFoundNumbers table.old found.old }
-    ensures found { IsMarked (read_found table.old found.old) (marks [] (paths_at call.now paths.now))
-        (read_found table.new found.new) result }
-    ensures numbers { OnOk result (AreFoundNumbers table.new found.new) }
-    ensures once { OnOk result (IsTable table.new) }
-    ensures table { OnOk result (GoesOn table.old table.new) }
-{
-    for path in paths {
-        match note_name(alloc, call, path, table, found) {
-            Ok(()) => {}
-            Err(stop) => return Err(stop),
-        }
-    }
-    Ok(())
-}
-
-/// Notes what a path of a callee names in the caller.
-fn note_name(
-    alloc: Global,
-    call: &Call,
-    path: &Path,
-    table: &mut PathTable,
-    found: &mut NumberedFound,
-) -> Result<(), Stop>
-    requires once { IsTable table.old }
-    requires numbers { AreFoundNumbers table.old found.old }
-    ensures found { IsMarked (read_found table.old found.old) (marks [] (name_at call.now path.now))
-        (read_found table.new found.new) result }
-    ensures numbers { OnOk result (AreFoundNumbers table.new found.new) }
-    ensures once { OnOk result (IsTable table.new) }
-    ensures table { OnOk result (GoesOn table.old table.new) }
-{
-    let Ok(value) = value_named(alloc, call, path) else {
-        return Err(Stop::Memory);
-    };
-    let Ok(value) = number_value(table, value) else {
-        return Err(Stop::Memory);
-    };
-    found.note_name(value)
+    found.note_numbers(there.wobbly.as_slice())
 }
 
 /// Takes the values that a call passes, and pushes what it returns.
@@ -380,16 +241,8 @@ pub fn move_call(
         None => state.replace(count, NumberedValue::Unnamed),
         Some(Outcome::Large) => state.replace(count, NumberedValue::Unnamed),
         Some(Outcome::Summary(summary)) => {
-            let actuals = state.take(count)?;
-            let value = value_returned(
-                alloc,
-                context,
-                method,
-                actuals.as_slice(),
-                &summary.result,
-                table,
-            )?;
-            state.push(value)
+            pass(alloc, context, false, method, count, summary, state, table)?;
+            Ok(())
         }
     }
 }

@@ -1,12 +1,12 @@
 //! Choices above a high stack: what they do not reach is taken from under them, and put back behind them.
 ghost use Rattle.std.specs.Prelude.{◌≡◌, reverse, IfOk};
 ghost use Rattle.core_code.specs.Tree.{tree_of};
-ghost use Rattle.transfer.specs.Lifts.{IsLifted, IsLowered, numbers_above};
+ghost use Rattle.owner_domain.specs.Slots.{numbers_above};
+ghost use Rattle.transfer.specs.Lifts.{IsLifted, IsLowered};
 
-use crate::flow_state::FlowState;
 use crate::found::Stop;
 use core_code::Code;
-use owner_domain::NumberedValue;
+use owner_domain::{FlowState, NumberedValue};
 use racer_base::Memory;
 use std::alloc::Global;
 use transfer_bodies::is_within;

@@ -20,7 +20,6 @@ ghost use Rattle.transfer.specs.Known.{table_of};
 ghost use Rattle.transfer.specs.Marks.{IsMarked, nothing, summary_held};
 
 use crate::calls::Callee;
-use crate::flow_state::FlowState;
 use crate::found::{Found, Stop};
 use crate::numbered_found::NumberedFound;
 use crate::operations::MethodContext;
@@ -30,7 +29,7 @@ use access_domain::{Outcome, Summary};
 use access_paths::{Path, PathTable, Root};
 use core_code::{MethodCore, Program};
 use indexmap::IndexSet;
-use owner_domain::{NumberedValue, Value};
+use owner_domain::{FlowState, NumberedValue, Value};
 use racer_base::{Kind, Memory};
 use std::alloc::Global;
 use std::mem;

@@ -4,16 +4,15 @@ ghost use Rattle.access_paths.specs.declared.path.Path.{Path as TablePath};
 ghost use Rattle.access_paths.specs.Table.{IsTable, path_at};
 ghost use Rattle.owner_domain.specs.Values.{names_of};
 ghost use Rattle.owner_domain.specs.Numbered.{read_value, IsInRange};
-ghost use Rattle.access_domain.specs.Numbered.{read_access};
+ghost use Rattle.access_domain.specs.Numbered.{read_access, read_accesses, AreNumbered};
 ghost use Rattle.call_subst.specs.Numbered.{read_paths, AreBelow};
 ghost use Rattle.transfer.specs.Marks.{IsMarked, marks, returns_of, nothing};
 ghost use Rattle.transfer.specs.Numbered.{read_found, AreFoundNumbers};
 
 use crate::found::Stop;
-use crate::meeting::lose_both;
 use access_domain::{NumberedAccess, NumberedAccesses};
 use indexmap::IndexSet;
-use owner_domain::NumberedValue;
+use owner_domain::{NumberedValue, lose_both};
 use racer_base::MAX_SUMMARY_KEYS;
 use std::alloc::Global;
 use wobbly_paths::Adding;
@@ -55,6 +54,24 @@ impl NumberedFound {
             Adding::Full => Err(Stop::Large),
             Adding::Memory => Err(Stop::Memory),
         }
+    }
+
+    /// Notes records.
+    pub fn note_records(&mut self, records: &[NumberedAccess]) -> Result<(), Stop>
+        ensures found { (table : List TablePath) → IsTable table → AreFoundNumbers table self.old → AreNumbered table
+            records.now →
+            IsMarked (read_found table self.old) (marks (read_accesses table records.now) []) (read_found table
+            self.new) result }
+        ensures numbers { OnOk result ((table : List TablePath) → IsTable table → AreFoundNumbers table self.old →
+            AreNumbered table records.now → AreFoundNumbers table self.new) }
+    {
+        for record in records {
+            match self.note_record(*record) {
+                Ok(()) => {}
+                Err(stop) => return Err(stop),
+            }
+        }
+        Ok(())
     }
 
     /// Notes the number of a wobbly path.

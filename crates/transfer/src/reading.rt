@@ -27,7 +27,7 @@ pub fn read_found(alloc: Global, table: &PathTable, found: NumberedFound) -> Res
         result,
     } = found;
     let records = records_of(alloc, table, records.into_vec().as_slice())?;
-    let records = Accesses::from_vec(alloc, records);
+    let records = Accesses::from_vec(records);
     let wobbly = paths_of(alloc, table, wobbly.as_slice())?;
     let result = result_of(alloc, table, result)?;
     Ok(Found {

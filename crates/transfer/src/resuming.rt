@@ -11,11 +11,11 @@ ghost use Rattle.transfer.specs.Contexts.{given};
 ghost use Rattle.transfer.specs.Numbered.{read_heads, IsResumedIn, IsHeadInRange};
 ghost use Rattle.transfer.specs.Walks.{next_of};
 
-use crate::flow_state::FlowState;
 use crate::lifting::lifted;
 use crate::operations::{MethodContext, move_any};
 use access_paths::PathTable;
 use core_code::Code;
+use owner_domain::FlowState;
 use racer_base::Memory;
 use std::alloc::Global;
 use std::mem;

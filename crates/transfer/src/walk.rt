@@ -15,7 +15,6 @@ ghost use Rattle.transfer.specs.Numbered.{AreCallNumbers, AreHeadsInRange, IsFlo
 ghost use Rattle.transfer.specs.Walks.{IsFlow, AreRoundsDone, next_of};
 ghost use Rattle.transfer.specs.Heights.{IsHighEnough, AreSound};
 
-use crate::flow_state::FlowState;
 use crate::found::Stop;
 use crate::lifting::{lifted, lowered};
 use crate::noted_calls::NotedCall;
@@ -25,6 +24,7 @@ use crate::resuming::{count_loops, resume};
 use access_paths::PathTable;
 use core_code::Code;
 use indexmap::IndexSet;
+use owner_domain::FlowState;
 use racer_base::Memory;
 use std::alloc::Global;
 use std::mem;

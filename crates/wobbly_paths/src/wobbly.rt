@@ -1,9 +1,7 @@
 //! A set of wobbly paths.
-ghost use Rattle.std.specs.Prelude.{◌≡◌, ◌≤◌, ◌&&◌, IfOk, MatchOption, length, nat_eq, vec_len};
-ghost use Rattle.std.specs.List.{list_any};
+ghost use Rattle.std.specs.Prelude.{◌≡◌, ◌≤◌, IfOk, MatchOption, length, vec_len};
 ghost use Rattle.std.specs.FinSet as set;
 ghost use Rattle.racer_base.specs.declared.limits.TheConstants.{MAX_SUMMARY_KEYS};
-ghost use Rattle.access_paths.specs.Paths.{front, is_prefix};
 ghost use Rattle.wobbly_paths.specs.Sets.{IsAnswer, HasNoPrefix, IsShortestPrefix};
 
 use access_paths::Path;
@@ -90,25 +88,18 @@ impl Wobbly {
         self.paths.len()
     }
 
-    /// The number of fields of the shortest proper prefix of a path, the root alone included, that is in the set.
-    pub fn unstable_prefix(&self, path: &Path) -> Option<u32>
-        ensures { MatchOption result (HasNoPrefix self.now path.now (length path.now.fields))
-            (IsShortestPrefix self.now path.now) }
+    /// The number of fields of the shortest proper prefix of a path, the root alone included, that is in the set: each
+    /// is looked up, so the size of the set hardly matters.
+    pub fn unstable_prefix(&self, alloc: Global, path: &Path) -> Result<Option<u32>, Memory>
+        ensures { IfOk result (λ found. MatchOption found (HasNoPrefix self.now path.now (length path.now.fields))
+            (IsShortestPrefix self.now path.now)) }
     {
         for fields in 0..path.fields.len() {
-            if self.has_front(path, fields) {
-                return Some(fields as u32);
+            if self.has(&path.front(alloc, fields)?) {
+                return Ok(Some(fields as u32));
             }
         }
-        None
-    }
-
-    /// Whether the path of the first so many fields is in the set.
-    fn has_front(&self, path: &Path, fields: usize) -> bool
-        requires { fields ≤ length path.now.fields }
-        ensures { result ≡ set.contains self.now (front fields path.now) }
-    {
-        has_front(&self.paths, path, fields)
+        Ok(None)
     }
 
     /// The paths of the set, each once, in no stated order.
@@ -119,18 +110,6 @@ impl Wobbly {
     {
         copies(alloc, &self.paths)
     }
-}
-
-/// Whether the path of the first so many fields is among these.
-fn has_front(paths: &BTreeSet<Path>, path: &Path, fields: usize) -> bool
-    ensures { result ≡ list_any (λ p. nat_eq (length p.fields) fields && is_prefix p path.now) paths.now.keys }
-{
-    for prefix in paths {
-        if prefix.fields.len() == fields && prefix.is_prefix(path) {
-            return true;
-        }
-    }
-    false
 }
 
 /// Paths that are equal to these, in order.

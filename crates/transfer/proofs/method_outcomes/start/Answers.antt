@@ -9,7 +9,7 @@ use Rattle.call_subst.specs.Numbered.{read_values}
 use Rattle.core_code.specs.Core.{method_of}
 use Rattle.access_domain.specs.Summaries.{passed_values}
 use Rattle.transfer.proofs.SlotsRead.{append-in}
-use Rattle.transfer.proofs.Stacks.{replicate-turn}
+use Rattle.owner_domain.proofs.Stacks.{replicate-turn}
 use Rattle.transfer.proofs.method_outcomes.start.Goals as goal
 
 pub loop-local-init : goal.loop-local-init

@@ -4,7 +4,7 @@ use Rattle.access_paths.proofs.Numbers.{goes_on-trans}
 use Rattle.owner_domain.specs.Numbered.{read_state}
 use Rattle.access_domain.specs.Operations.{top}
 use Rattle.transfer.specs.Numbered.{read_found}
-use Rattle.transfer.specs.Slots.{pushed_number}
+use Rattle.owner_domain.specs.Slots.{pushed_number}
 use Rattle.transfer.proofs.Readings.{found-still}
 use Rattle.transfer.proofs.NumberedSteps.{access-marked, get-state, get-in}
 use Rattle.transfer.proofs.operations.get.Goals as goal

@@ -4,7 +4,7 @@ use Rattle.core_code.specs.declared.code.Op.{Op as CoreOp}
 use Rattle.owner_domain.specs.Numbered.{read_state}
 use Rattle.access_domain.specs.Operations.{op_effects}
 use Rattle.transfer.specs.Contexts.{given}
-use Rattle.transfer.specs.Slots.{pushed_number}
+use Rattle.owner_domain.specs.Slots.{pushed_number}
 use Rattle.transfer.proofs.NumberedSteps.{get-state, get-in, set-state, set-state-in}
 use Rattle.transfer.proofs.operations.move_any.Goals as goal
 

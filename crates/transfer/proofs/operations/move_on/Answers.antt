@@ -6,7 +6,7 @@ use Rattle.owner_domain.specs.declared.value.State.{State}
 use Rattle.owner_domain.specs.declared.value.Value.TheVariants.{Unnamed as NoName}
 use Rattle.access_domain.specs.Operations.{replaced}
 use Rattle.owner_domain.specs.Numbered.{read_state}
-use Rattle.transfer.specs.Slots.{pushed_number, replaced_numbers}
+use Rattle.owner_domain.specs.Slots.{pushed_number, replaced_numbers}
 use Rattle.transfer.specs.Walks.{moved}
 use Rattle.transfer.proofs.SlotsRead.{slot-in, pushed-in, replaced-in}
 use Rattle.transfer.proofs.NumberedSteps.{moved-in, replaced-to, root-pushed, root-in}

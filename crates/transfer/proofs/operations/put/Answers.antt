@@ -5,7 +5,7 @@ use Rattle.owner_domain.specs.Numbered.{read_state, AreInRange}
 use Rattle.owner_domain.specs.Values.{field_value}
 use Rattle.access_domain.specs.Operations.{top}
 use Rattle.transfer.specs.Numbered.{read_found}
-use Rattle.transfer.specs.Slots.{pushed_number, popped_numbers}
+use Rattle.owner_domain.specs.Slots.{pushed_number, popped_numbers}
 use Rattle.transfer.proofs.Readings.{found-still, range-longer}
 use Rattle.transfer.proofs.SlotsRead.{popped-in}
 use Rattle.transfer.proofs.NumberedSteps.{store-stopped, names-stopped, store-flows, put-in, top-range}

@@ -25,7 +25,7 @@ use Rattle.transfer.proofs.ResumedRounds.{round_goes_on, round_ends, loop_kept, 
 use Rattle.transfer.proofs.Resumptions.{op-resumed, choice-resumed, sync-resumed}
 use Rattle.transfer.proofs.Resumptions.{through-more, through-number}
 use Rattle.transfer.proofs.ResumedParts.{passed-behind, through-done, through-passed, room-right}
-use Rattle.transfer.proofs.SlotsRead.{met-in}
+use Rattle.owner_domain.proofs.Reading.{met-in}
 use Rattle.transfer.proofs.WalkedNumbers.{copied-in, always}
 use Rattle.transfer.proofs.Lowered.{lifted-in, lowered-in, lowered-resumed}
 use Rattle.transfer.proofs.resuming.+resumes.Goals as goal

@@ -3,7 +3,7 @@ use Rattle.owner_domain.specs.declared.numbered.NumberedState.{NumberedState}
 use Rattle.owner_domain.specs.Numbered.{read_state}
 use Rattle.transfer_loops.specs.Resuming.{entered}
 use Rattle.transfer.specs.Numbered.{IsHeadInRange}
-use Rattle.transfer.specs.Slots.{met_numbers}
+use Rattle.owner_domain.specs.Slots.{met_numbers}
 use Rattle.transfer.proofs.NumberedSteps.{met-state, met-state-in}
 use Rattle.transfer.proofs.resuming.go_on.Goals as goal
 

@@ -1,6 +1,6 @@
 use Rattle.std.proofs.Common.{◌∙◌, Ok, Err}
 use Rattle.transfer.specs.Numbered.{read_found}
-use Rattle.transfer.proofs.MetValues.{kept-numbered}
+use Rattle.owner_domain.proofs.MetValues.{kept-numbered}
 use Rattle.transfer.proofs.NumberedSteps.{met-state, met-state-in, met-below, met-marked}
 use Rattle.transfer.proofs.walk.meet.Goals as goal
 

@@ -1,7 +1,7 @@
 use Rattle.std.proofs.Common.{◌≡◌, ℕ, ◌+◌, ◌-◌, List, Option, None, ◌++◌, replicate, sym, ap, ◌∙◌, arith}
 use Rattle.std.proofs.lemmas.List.{append-nil}
 use Rattle.transfer.specs.Callees.{SharedFinished}
-use Rattle.transfer.proofs.Stacks.{replicate-turn}
+use Rattle.owner_domain.proofs.Stacks.{replicate-turn}
 use Rattle.transfer.proofs.whole.empty.Goals as goal
 
 pub loop-place-preserved : goal.loop-place-preserved

@@ -19,7 +19,7 @@ returns-clause-found c = λ table once numbers low.
     let value = c.args.value in
     let earlier_low = earlier-in table old earlier numbers c.in-Some.is in
     let lost : c.as_slice.result.now ≡ lost_number earlier value =
-    c.as_slice.ensures.value ∙ c.in-Ok.ensures
+    c.as_slice.ensures.value ∙ c.in-Ok.ensures.lost
     ∙ ap (λ (ns : List ℕ). ns ++ lost_number earlier value) c.new-lost.ensures.items in
     returned-other table once earlier value earlier_low low old c.in-Some.is c.as_slice.result.now
     (sym c.eq.ensures ∙ c.if-eq.false) lost (read_found table c.note_numbers.new.self) c.note_numbers.result
