@@ -15,5 +15,6 @@ pub mod Answers
 pub mod View
 pub mod Weights
 pub mod Legs
+pub mod Advances
 pub mod Examples
 pub mod Behind

@@ -15,4 +15,4 @@ pub mod AloneTo
 pub mod Beside
 pub mod Gathering
 pub mod LegSteps
-pub mod LookedSteps
+pub mod LookedReads

@@ -1,8 +1,8 @@
--- A contract of a public call rests on this: what an answer of `way` says.
+-- A contract of a public call rests on this: what a way that is taken is, and why one is not.
 use Rattle.std.specs.Prelude.{◌≡◌, ℕ, ◌≤◌, ◌<◌, min, [], Some, Result, Ok, Err, slice_get}
 use Rattle.racer_base.specs.declared.limits.TheConstants.{MAX_WAY_STEPS}
 use Rattle.core_ways.specs.declared.taken.WayFault.{WayFault}
-use Rattle.core_ways.specs.declared.taken.WayFault.TheVariants.{Unread, Long, Memory}
+use Rattle.core_ways.specs.declared.taken.WayFault.TheVariants.{Unread, Long}
 use Rattle.core_ways.specs.declared.taken.WayTaken.{WayTaken}
 use Rattle.core_ways.specs.Ways.{Trip}
 
@@ -28,4 +28,3 @@ abbrev pub IsWay : Trip → Result WayTaken WayFault → Type 0
 IsWay trip (Ok taken) = IsTaken trip taken
 IsWay trip (Err (Unread place)) = slice_get trip.unread 0 ≡ Some place
 IsWay trip (Err (Long steps)) = IsLong trip steps
-IsWay trip (Err Memory) = Unit {0}

@@ -1,4 +1,5 @@
--- No public contract rests on this: the path to a site, and code that is gone into along a path.
+-- A contract of a public call rests on this: `SiteWays::find` of core_ways_sites. The path to a site, and code that is
+-- gone into along a path.
 use Rattle.std.specs.Prelude.{ℕ, suc, Bool, true, false, List, [], ◌∷◌, ◌++◌, Option, None, Some, option_map}
 use Rattle.std.specs.Prelude.{if◌then◌else◌}
 use Rattle.std.specs.Borrow.{Bor}

@@ -1,16 +1,10 @@
 //! The two ways of a warning.
-ghost use Rattle.std.specs.Prelude.{IfOk};
-ghost use Rattle.core_code.specs.Program.{core};
-ghost use Rattle.access_domain.specs.Outcomes.{AreOutcomes};
 ghost use Rattle.core_ways.specs.Answers.{IsLong, IsTaken, IsWay};
-ghost use Rattle.core_ways.specs.Ways.{Trip, way_of};
+ghost use Rattle.core_ways.specs.Ways.{Trip};
 ghost use Rattle.core_ways.specs.WayPairs.{IsWayPair};
 
-use crate::{WayFault, WayTaken, way};
-use access_domain::Outcomes;
-use core_code::Program;
-use racer_base::{Memory, MethodId, Place};
-use std::alloc::Global;
+use crate::{WayFault, WayTaken};
+use racer_base::{MethodId, Place};
 
 /// Two ways, in running order; or what is known in their place.
 #[derive(Drop)]
@@ -30,53 +24,23 @@ pub struct Target {
 }
 
 /// What is known where the first way is taken.
-pub fn behind_taken(first: WayTaken, second: Result<WayTaken, WayFault>) -> Result<WayPair, Memory>
-    ensures { (a b : Trip) → IsTaken a first → IsWay b second → IfOk result (λ both. IsWayPair a b both) }
+pub fn behind_taken(first: WayTaken, second: Result<WayTaken, WayFault>) -> WayPair
+    ensures { (a b : Trip) → IsTaken a first → IsWay b second → IsWayPair a b result }
 {
     match second {
-        Ok(second) => Ok(WayPair::Taken(first, second)),
-        Err(WayFault::Unread(place)) => Ok(WayPair::Unread(place)),
-        Err(WayFault::Long(steps)) => Ok(WayPair::Long(steps)),
-        Err(WayFault::Memory) => Err(Memory),
+        Ok(second) => WayPair::Taken(first, second),
+        Err(WayFault::Unread(place)) => WayPair::Unread(place),
+        Err(WayFault::Long(steps)) => WayPair::Long(steps),
     }
 }
 
 /// What is known where the first way has so many steps.
-pub fn behind_long(steps: u32, second: Result<WayTaken, WayFault>) -> Result<WayPair, Memory>
-    ensures { (a b : Trip) → IsLong a steps → IsWay b second → IfOk result (λ both. IsWayPair a b both) }
+pub fn behind_long(steps: u32, second: Result<WayTaken, WayFault>) -> WayPair
+    ensures { (a b : Trip) → IsLong a steps → IsWay b second → IsWayPair a b result }
 {
     match second {
-        Ok(_) => Ok(WayPair::Long(steps)),
-        Err(WayFault::Unread(at)) => Ok(WayPair::Unread(at)),
-        Err(WayFault::Long(_)) => Ok(WayPair::Long(steps)),
-        Err(WayFault::Memory) => Err(Memory),
-    }
-}
-
-/// The ways to two records, in running order.
-pub fn ways(
-    alloc: Global,
-    program: &Program,
-    outcomes: &Outcomes,
-    first: Target,
-    second: Target,
-) -> Result<WayPair, Memory>
-    requires { AreOutcomes (core program.now) outcomes.now.items }
-    ensures { IfOk result (λ both. IsWayPair (way_of (core program.now) first.method first.access)
-        (way_of (core program.now) second.method second.access) both) }
-{
-    match way(alloc, program, outcomes, first.method, first.access) {
-        Ok(first) => behind_taken(
-            first,
-            way(alloc, program, outcomes, second.method, second.access),
-        ),
-        Err(WayFault::Unread(place)) => Ok(WayPair::Unread(place)),
-        Err(WayFault::Long(steps)) => {
-            behind_long(
-                steps,
-                way(alloc, program, outcomes, second.method, second.access),
-            )
-        }
-        Err(WayFault::Memory) => Err(Memory),
+        Ok(_) => WayPair::Long(steps),
+        Err(WayFault::Unread(at)) => WayPair::Unread(at),
+        Err(WayFault::Long(_)) => WayPair::Long(steps),
     }
 }

@@ -1,4 +1,4 @@
--- No public contract rests on this: a path with one field more.
+-- A contract of a public call rests on this: the law `legs_meet_records`. A path with one field more.
 use Rattle.std.proofs.Common.{◌≡◌, ◌<◌, Bool, true, false, cond, List, [], ◌∷◌, ◌++◌, None, Some, length, nat_lt}
 use Rattle.std.proofs.Common.{refl, ap}
 use Rattle.std.proofs.lemmas.Bool.{ltb-true, lt-ltb}

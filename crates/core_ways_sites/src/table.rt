@@ -115,15 +115,14 @@ fn taken(gone: Gone) -> Result<WayTaken, WayFault>
 }
 
 /// Two ways in running order.
-fn both(first: Gone, second: Gone) -> Result<WayPair, Memory>
+fn both(first: Gone, second: Gone) -> WayPair
     ensures { (a b : Trip) → IsGone a first.count first.turns.items → IsGone b second.count second.turns.items →
-        IfOk result (λ both. IsWayPair a b both) }
+        IsWayPair a b result }
 {
     match taken(first) {
         Ok(first) => behind_taken(first, taken(second)),
-        Err(WayFault::Unread(place)) => Ok(WayPair::Unread(place)),
+        Err(WayFault::Unread(place)) => WayPair::Unread(place),
         Err(WayFault::Long(steps)) => behind_long(steps, taken(second)),
-        Err(WayFault::Memory) => Err(Memory),
     }
 }
 
@@ -291,6 +290,6 @@ impl SiteWays {
     {
         let first = self.go_to_record(program, outcomes, first)?;
         let second = self.go_to_record(program, outcomes, second)?;
-        both(first, second)
+        Ok(both(first, second))
     }
 }

@@ -1,4 +1,8 @@
 //! The marks of a run's warnings, made in as many threads as there are processors.
+//!
+//! Groups are of one length, two for each processor: a group an entry would not share the work where one entry has
+//! most warnings, and a thread a warning would begin each walk anew. Where a thread cannot be started its part is done
+//! by the one that wanted it.
 #![tactic(auto)]
 
 ghost use Rattle.std.specs.List.{flat_map};

@@ -1,8 +1,11 @@
 -- A confirmed warning's objects are right for its entries, and its run races, so its witness can be replayed.
-use Rattle.std.proofs.Common.{◌≡◌, Bool, true, false, not, ◌&&◌, ◌||◌, List, None, Some, is_none, sym, ap}
-use Rattle.std.proofs.Common.{subst, ◌∙◌}
+use Rattle.std.proofs.Common.{◌≡◌, ℕ, Bool, true, false, not, ◌&&◌, ◌||◌, List, None, Some, is_none, sym, ap}
+use Rattle.std.proofs.Common.{subst, map, option_map, slice_get, ◌∙◌}
+use Rattle.std.proofs.lemmas.Option.{slice_get-map}
 use Rattle.std.specs.Prelude.{IsTrue, Result, Ok, Err, IfOk}
+use Rattle.std.specs.Global.{Global}
 use Rattle.std.specs.List.{Contains, list_all}
+use Rattle.std.specs.declared.vec.Vec.{Vec}
 use Rattle.racer_base.specs.declared.ids.MethodId.{MethodId}
 use Rattle.core_code.specs.declared.program.Program.{Program}
 use Rattle.core_code.specs.Calls.{is_analysed, method_at}
@@ -22,9 +25,9 @@ use Rattle.core_ways.specs.Marks.{Said, Unnamed, Unstable, Unread, Long, Blocked
 use Rattle.witness_build_laws.specs.Warned.{pair_of, warning_mark}
 use Rattle.witness_build_laws.proofs.ConfirmedRun.{IsFound, confirmed-found}
 use Rattle.witness_build_laws.proofs.ConfirmedWarnings.{confirmed-warnings-race}
-use Rattle.core_ways_objects.specs.Reached.{is_right, roots_of}
-use Rattle.core_ways_objects.proofs.RightObjects.{objects-right}
-use Rattle.witness_build.specs.Replayed.{AreRight, CanReplay, DoRace, IfConfirmed}
+use Rattle.core_semantics_kinds.specs.Reached.{is_right, roots_of}
+use Rattle.core_semantics_kinds.proofs.RightObjects.{objects-right}
+use Rattle.witness_build.specs.Replayed.{AreRight, CanReplay, DoRace, HaveConfirmed, IfConfirmed}
 
 -- an entry of a program is analysed
 entry-analysed : (p : Program) (m : MethodId) (method : Method) → method_at (core_of p) m ≡ Some method →
@@ -88,18 +91,36 @@ if-confirmed P (Long steps) mark is holds = tt
 if-confirmed P (Blocked thread at) mark is holds = tt
 if-confirmed P (Confirmed objects legs) mark is holds = holds objects legs (sym is)
 
-pub marked-right : {E : Type 0} (p : Program) (w : Warning) (r : Result Mark E) →
-    IfOk r (λ mark. said_by mark ≡ warning_mark (core_of p) w) → Contains (warnings (core_of p)) w →
-    IfOk r (λ mark. IfConfirmed (λ objects legs. AreRight (core_of p) w objects) (said_by mark))
-marked-right p w (Ok mark) is listed =
-    if-confirmed (λ objects legs. AreRight (core_of p) w objects) (said_by mark) (warning_mark (core_of p) w) is
-    (λ objects legs confirmed. are-right p w objects legs listed confirmed)
-marked-right p w (Err error) is listed = is
+-- the mark at a place is that of the warning there
+mark-there : (core : Core) (found : List Warning) (marks : List Mark) →
+    map said_by marks ≡ map (warning_mark core) found → (k : ℕ) (w : Warning) (mark : Mark) → slice_get found k ≡ Some w → slice_get marks k ≡ Some mark →
+    said_by mark ≡ warning_mark core w
+mark-there core found marks are k w mark of is =
+    let same : Some (said_by mark) ≡ Some (warning_mark core w) =
+    sym (ap (option_map said_by) is)
+    ∙ sym (slice_get-map said_by marks k)
+    ∙ ap (λ (said : List Said). slice_get said k) are
+    ∙ slice_get-map (warning_mark core) found k
+    ∙ ap (option_map (warning_mark core)) of in
+    cc
 
-pub marked-race : {E : Type 0} (p : Program) (w : Warning) (r : Result Mark E) →
-    IfOk r (λ mark. said_by mark ≡ warning_mark (core_of p) w) → Contains (warnings (core_of p)) w →
-    IfOk r (λ mark. IfConfirmed (DoRace (core_of p) w) (said_by mark))
-marked-race p w (Ok mark) is listed =
-    if-confirmed (DoRace (core_of p) w) (said_by mark) (warning_mark (core_of p) w) is
+abbrev AreMarked : {E : Type 0} → Core → List Warning → Result (Vec Mark Global) E → Type 0
+AreMarked core found r = IfOk r (λ marks. map said_by marks.items ≡ map (warning_mark core) found)
+
+pub marked-right : {E : Type 0} (p : Program) (found : List Warning) (r : Result (Vec Mark Global) E) →
+    AreMarked (core_of p) found r →
+    IfOk r (λ marks. HaveConfirmed (core_of p) (λ w objects legs. AreRight (core_of p) w objects) found marks.items)
+marked-right p found (Ok marks) are = λ k w mark of is listed.
+    if-confirmed (λ objects legs. AreRight (core_of p) w objects) (said_by mark) (warning_mark (core_of p) w)
+    (mark-there (core_of p) found marks.items are k w mark of is)
+    (λ objects legs confirmed. are-right p w objects legs listed confirmed)
+marked-right p found (Err error) are = are
+
+pub marked-race : {E : Type 0} (p : Program) (found : List Warning) (r : Result (Vec Mark Global) E) →
+    AreMarked (core_of p) found r →
+    IfOk r (λ marks. HaveConfirmed (core_of p) (DoRace (core_of p)) found marks.items)
+marked-race p found (Ok marks) are = λ k w mark of is listed.
+    if-confirmed (DoRace (core_of p) w) (said_by mark) (warning_mark (core_of p) w)
+    (mark-there (core_of p) found marks.items are k w mark of is)
     (λ objects legs confirmed. do-race p w objects legs listed confirmed)
-marked-race p w (Err error) is listed = is
+marked-race p found (Err error) are = are

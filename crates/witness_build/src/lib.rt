@@ -1,7 +1,7 @@
 //! The marks of warnings: what is known of each, with a run that ends in a race where it is confirmed.
 //!
-//! `mark` gives the mark that `specs/Warned.antt` of `witness_build_laws` defines. `specs/Replayed.antt` says what a
-//! confirmed one has more, so that the file of its witness can be replayed.
+//! `marks_of` gives the marks that `specs/Warned.antt` of `witness_build_laws` defines. `specs/Replayed.antt` says what
+//! a confirmed one has more, so that the file of its witness can be replayed.
 #![tactic(auto)]
 
 pub mod laws;
@@ -9,5 +9,4 @@ mod marking;
 mod marks;
 mod prefixes;
 
-pub use marking::mark;
 pub use marks::marks_of;

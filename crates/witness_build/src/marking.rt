@@ -1,6 +1,5 @@
 //! The mark of a warning.
 ghost use Rattle.std.specs.Prelude.{◌≡◌, ◌+◌, ◌<◌, ◌∷◌, [], IfOk, OnOk, option_map};
-ghost use Rattle.std.specs.List.{Contains};
 ghost use Rattle.core_code.specs.Program.{core};
 ghost use Rattle.access_domain.specs.Outcomes.{AreOutcomes};
 ghost use Rattle.core_semantics.specs.declared.object.Start.TheVariants.{All};
@@ -9,25 +8,23 @@ ghost use Rattle.core_semantics.specs.View.{state_of};
 ghost use Rattle.core_ways.specs.Marks.{blocked_at, is_locked, leg_of, mark_by_calls, mark_by_run, said_by};
 ghost use Rattle.core_ways.specs.Ways.{Trip, way_of};
 ghost use Rattle.core_ways.specs.WayPairs.{IsWayPair, AreShort, IsShort, said_of};
-ghost use Rattle.witness_build_apart.specs.RunLegs.{IsSaid};
+ghost use Rattle.witness_build_apart_laws.specs.RunLegs.{IsSaid};
 ghost use Rattle.witness_build_walks.specs.Told.{AreWalks};
 ghost use Rattle.core_ways_sites.specs.Known.{IsKnown};
-ghost use Rattle.race_pairs.specs.Warnings.{warnings};
 ghost use Rattle.witness_build_laws.specs.Warned.{pair_of, warning_mark};
-ghost use Rattle.witness_build.specs.Replayed.{AreRight, DoRace, IfConfirmed};
 
 use crate::prefixes::unstable_prefix;
 use access_domain::{Outcomes, record_of};
 use core_code::Program;
 use core_semantics::{Machine, Start, begin};
 use core_ways::{
-    Leg, LegTurns, Mark, Objects, Target, WayPair, WayTaken, Witness, let_go, run_leg,
+    Leg, LegEnd, LegTurns, Mark, Objects, Target, WayPair, WayTaken, Witness, let_go, run_leg,
 };
-use core_ways_sites::{SiteWays, let_go as let_ways_go};
+use core_ways_sites::SiteWays;
 use race_pairs::Warning;
 use racer_base::{Items, Memory, Place};
 use std::alloc::Global;
-use witness_build_walks::{Walked, Walks, let_go as let_walks_go};
+use witness_build_walks::{Walked, Walks};
 
 /// A thread that cannot make its leg, and where it is then. A leg along a way stops at a place.
 fn blocked(thread: u32, place: Option<Place>) -> Mark
@@ -66,12 +63,12 @@ fn mark_of_stopped<'a>(
     ensures { IfOk result (λ stopped. IsSaid (core program.now) (leg_of first.now) (leg_of second.now)
         (state_of machine.old) objects.new (option_map said_by stopped)) }
 {
-    if !run_leg(program, machine, objects, first)? {
+    let LegEnd::Came(_) = run_leg(program, machine, objects, first)? else {
         return Ok(Some(blocked(first.thread, machine.place(first.thread))));
-    }
-    if !run_leg(program, machine, objects, second)? {
+    };
+    let LegEnd::Came(_) = run_leg(program, machine, objects, second)? else {
         return Ok(Some(blocked(second.thread, machine.place(second.thread))));
-    }
+    };
     Ok(None)
 }
 
@@ -228,31 +225,7 @@ fn mark_by_ways<'a>(
     }
 }
 
-/// The mark of a warning, with a run that ends in its race where it is confirmed.
-///
-/// The time grows with the code that the two ways pass, and with their steps.
-pub fn mark(
-    alloc: Global,
-    program: &Program,
-    outcomes: &Outcomes,
-    warning: &Warning,
-) -> Result<Mark, Memory>
-    requires { AreOutcomes (core program.now) outcomes.now.items }
-    ensures mark { IfOk result (λ mark. said_by mark ≡ warning_mark (core program.now) warning.now) }
-    ensures objects { Contains (warnings (core program.now)) warning.now → IfOk result (λ mark.
-        IfConfirmed (λ objects legs. AreRight (core program.now) warning.now objects) (said_by mark)) }
-    ensures race { Contains (warnings (core program.now)) warning.now → IfOk result (λ mark.
-        IfConfirmed (DoRace (core program.now) warning.now) (said_by mark)) }
-{
-    let mut known = SiteWays::new(alloc);
-    let mut walks = Walks::new(alloc);
-    let mark = mark_from(alloc, program, outcomes, &mut known, &mut walks, warning);
-    let_walks_go(walks);
-    let_ways_go(known);
-    mark
-}
-
-/// The same, with what is known of ways and walks that go on from one warning to the next.
+/// The mark of a warning, with what is known of ways and walks that go on from one warning to the next.
 pub(crate) fn mark_from<'a>(
     alloc: Global,
     program: &'a Program,

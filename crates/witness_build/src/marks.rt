@@ -6,6 +6,7 @@ ghost use Rattle.core_ways.specs.Marks.{said_by};
 ghost use Rattle.witness_build_laws.specs.Warned.{warning_mark};
 ghost use Rattle.witness_build_walks.specs.Told.{AreWalks};
 ghost use Rattle.core_ways_sites.specs.Known.{IsKnown};
+ghost use Rattle.witness_build.specs.Replayed.{AreRight, DoRace, HaveConfirmed};
 
 use crate::marking::mark_from;
 use access_domain::Outcomes;
@@ -58,7 +59,11 @@ fn marks_from<'a>(
     Ok(marks)
 }
 
-/// The marks of these warnings of a program whose methods have these outcomes, in order.
+/// The marks of these warnings of a program whose methods have these outcomes, in order, each with a run that ends in
+/// the race of its warning where it is confirmed.
+///
+/// The time grows with the code that the ways pass, and with their steps. Each method is gone through once, and what
+/// the ways to records of one method have in common is walked once.
 pub fn marks_of(
     alloc: Global,
     program: &Program,
@@ -66,8 +71,12 @@ pub fn marks_of(
     found: &[Warning],
 ) -> Result<Vec<Mark>, Memory>
     requires { AreOutcomes (core program.now) outcomes.now.items }
-    ensures { IfOk result (λ marks.
+    ensures marks { IfOk result (λ marks.
         map said_by marks.items ≡ map (warning_mark (core program.now)) found.now) }
+    ensures objects { IfOk result (λ marks. HaveConfirmed (core program.now)
+        (λ w objects legs. AreRight (core program.now) w objects) found.now marks.items) }
+    ensures race { IfOk result (λ marks. HaveConfirmed (core program.now) (DoRace (core program.now)) found.now
+        marks.items) }
 {
     let mut known = SiteWays::new(alloc);
     let mut walks = Walks::new(alloc);

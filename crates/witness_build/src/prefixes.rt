@@ -1,21 +1,20 @@
 //! The shortest prefix of a path that may name another object later.
-ghost use Rattle.std.specs.Prelude.{◌≡◌, Some as SomeOf, IfOk, length};
+ghost use Rattle.std.specs.Prelude.{◌≡◌, IfOk, length};
 ghost use Rattle.std.specs.Option.{option_copied};
 ghost use Rattle.core_code.specs.Program.{core};
 ghost use Rattle.access_domain.specs.Outcomes.{AreOutcomes};
-ghost use Rattle.access_paths.specs.Paths.{front};
 ghost use Rattle.core_ways.specs.Stable.{unstable_prefix};
 ghost use Rattle.witness_build.specs.ShortestPrefix.{IsLeast, holds_front, least};
 
 use access_domain::{Outcomes, wobbly_of};
-use access_paths::{Path, PathFields};
+use access_paths::Path;
 use core_code::Program;
 use racer_base::{Memory, MethodId};
 use std::alloc::Global;
 use wobbly_paths::Wobbly;
 
 /// The smaller of two numbers, of those that there are.
-fn least(a: Option<usize>, b: Option<usize>) -> Option<usize>
+fn least(a: Option<u32>, b: Option<u32>) -> Option<u32>
     ensures { result ≡ least a b }
 {
     match a {
@@ -27,40 +26,15 @@ fn least(a: Option<usize>, b: Option<usize>) -> Option<usize>
     }
 }
 
-/// The path of the first so many fields.
-fn front(alloc: Global, path: &Path, fields: usize) -> Result<Path, Memory>
-    ensures { IfOk result (λ made. made ≡ front fields path.now) }
-{
-    let all = path.fields.as_slice();
-    let count = fields.min(path.fields.len());
-    Ok(Path {
-        root: path.root,
-        fields: PathFields::from_vec(Vec::from_slice(alloc, &all[..count])?),
-    })
-}
-
-/// How many fields the shortest proper prefix of a path has that is in a set.
-fn prefix_among(alloc: Global, wobbly: &Wobbly, path: &Path) -> Result<Option<usize>, Memory>
-    ensures { IfOk result (λ least. IsLeast (holds_front (SomeOf wobbly.now) path.now) (length path.now.fields) least) }
-{
-    for fields in 0..path.fields.len() {
-        let prefix = front(alloc, path, fields)?;
-        if wobbly.has(&prefix) {
-            return Ok(Some(fields));
-        }
-    }
-    Ok(None)
-}
-
-/// The same, where there is a set.
-fn prefix_in(alloc: Global, wobbly: Option<&Wobbly>, path: &Path) -> Result<Option<usize>, Memory>
+/// How many fields the shortest proper prefix of a path has that is in a set, where there is a set.
+fn prefix_in(alloc: Global, wobbly: Option<&Wobbly>, path: &Path) -> Result<Option<u32>, Memory>
     ensures { IfOk result (λ least. IsLeast (holds_front (option_copied wobbly.entry) path.now)
         (length path.now.fields) least) }
 {
     let Some(wobbly) = wobbly else {
         return Ok(None);
     };
-    prefix_among(alloc, wobbly, path)
+    wobbly.unstable_prefix(alloc, path)
 }
 
 /// The shortest proper prefix of a path that is wobbly in one of two methods.
@@ -78,7 +52,7 @@ pub(crate) fn unstable_prefix(
     let first = prefix_in(alloc, wobbly_of(outcomes, m1), path)?;
     let second = prefix_in(alloc, wobbly_of(outcomes, m2), path)?;
     match least(first, second) {
-        Some(fields) => Ok(Some(front(alloc, path, fields)?)),
+        Some(fields) => Ok(Some(path.front(alloc, fields as usize)?)),
         None => Ok(None),
     }
 }

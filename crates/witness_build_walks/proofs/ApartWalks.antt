@@ -18,15 +18,15 @@ use Rattle.core_ways.specs.Ends.{Stopped, leg_end, leg_reads}
 use Rattle.core_ways.specs.Gathered.{gathered}
 use Rattle.core_ways.specs.Marks.{Confirmed, blocked_at, leg_of, mark_by_run}
 use Rattle.core_ways.proofs.Gathering.{gathered-again}
-use Rattle.witness_build_apart.specs.Goes.{leg_goes}
-use Rattle.witness_build_apart.specs.Looks.{leg_looks}
-use Rattle.witness_build_apart.specs.RunLegs.{AreRead}
-use Rattle.witness_build_apart.specs.Starts.{entry_of}
-use Rattle.witness_build_apart.specs.Stores.{is_spot, leg_stores}
-use Rattle.witness_build_apart.proofs.Marks.{goes-past}
-use Rattle.witness_build_apart.proofs.SaidByRun.{few-gathered}
-use Rattle.witness_build_apart.specs.Walked.{AreWalked}
-use Rattle.witness_build_apart.proofs.Walked.{walked-both, walked-first, walked-second}
+use Rattle.witness_build_apart_laws.specs.Goes.{leg_goes}
+use Rattle.witness_build_apart_laws.specs.Looks.{leg_looks}
+use Rattle.witness_build_apart_laws.specs.RunLegs.{AreRead}
+use Rattle.witness_build_apart_laws.specs.Starts.{entry_of}
+use Rattle.witness_build_apart_laws.specs.Stores.{is_spot, leg_stores}
+use Rattle.witness_build_apart_laws.proofs.Marks.{goes-past}
+use Rattle.witness_build_apart_laws.proofs.SaidByRun.{few-gathered}
+use Rattle.witness_build_apart_laws.specs.Walked.{AreWalked}
+use Rattle.witness_build_apart_laws.proofs.Walked.{walked-both, walked-first, walked-second}
 use Rattle.witness_build_walks.specs.declared.walk.Walk.{Walk}
 use Rattle.witness_build_walks.specs.Told.{AreApart, IsGone, place_at}
 use Rattle.witness_build_walks.specs.Walks.{AreKept, HasGone, IsAlong, entry_state, fields_of}

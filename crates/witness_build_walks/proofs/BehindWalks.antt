@@ -13,10 +13,10 @@ use Rattle.core_ways.specs.Ends.{leg_end, leg_reads}
 use Rattle.core_ways.specs.Gathered.{gathered}
 use Rattle.core_ways.specs.Marks.{Confirmed, blocked_at, leg_of}
 use Rattle.core_ways.proofs.Gathering.{gathered-again}
-use Rattle.witness_build_apart.specs.Goes.{leg_goes}
-use Rattle.witness_build_apart.specs.Starts.{entry_of}
-use Rattle.witness_build_apart.proofs.Behind.{behind-blocked, behind-confirmed}
-use Rattle.witness_build_apart.proofs.SaidByRun.{few-gathered}
+use Rattle.witness_build_apart_laws.specs.Goes.{leg_goes}
+use Rattle.witness_build_apart_laws.specs.Starts.{entry_of}
+use Rattle.witness_build_apart_laws.proofs.Behind.{behind-blocked, behind-confirmed}
+use Rattle.witness_build_apart_laws.proofs.SaidByRun.{few-gathered}
 use Rattle.witness_build_walks.specs.declared.walk.Walk.{Walk}
 use Rattle.witness_build_walks.specs.declared.walks.Walked.{Walked}
 use Rattle.witness_build_walks.specs.declared.walks.Walked.TheVariants as code

@@ -11,7 +11,7 @@ use Rattle.access_paths.specs.Paths.{same_field}
 use Rattle.core_semantics.specs.declared.object.Object.{Object}
 use Rattle.core_semantics.specs.Changes.{Change, Quiet, Stores, Loud, Spot, field_change}
 use Rattle.core_semantics.specs.Objects.{same_object}
-use Rattle.witness_build_apart.specs.Stores.{is_spot, noted, stored_both}
+use Rattle.witness_build_apart_laws.specs.Stores.{is_spot, noted, stored_both}
 use Rattle.witness_build_walks.specs.Walks.{AreKept, IsNoted, field_cmp, fields_of, is_in, is_loud_behind, written}
 
 in-push : (xs : List FieldId) (g f : FieldId) → is_in (xs ++ g ∷ []) f ≡ (is_in xs f || same_field g f)

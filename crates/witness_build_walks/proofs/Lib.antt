@@ -3,6 +3,7 @@ pub mod Fronts
 pub mod Sights
 pub mod WalkSteps
 pub mod WalkTurns
+pub mod TurnedSteps
 pub mod ApartWalks
 pub mod BehindWalks
 pub mod Trunks

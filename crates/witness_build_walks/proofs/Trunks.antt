@@ -8,12 +8,13 @@ use Rattle.core_semantics.specs.declared.object.Start.TheVariants.{All}
 use Rattle.core_semantics.specs.Changes.{Spot}
 use Rattle.core_semantics.specs.Runs.{begun}
 use Rattle.core_semantics.specs.State.{State}
-use Rattle.core_ways.specs.Ends.{Going, leg_reads}
+use Rattle.core_semantics.specs.Advances.{Going}
+use Rattle.core_ways.specs.Ends.{leg_reads}
 use Rattle.core_ways.specs.Gathered.{gathered}
 use Rattle.core_ways.proofs.Gathering.{gathered-again}
-use Rattle.witness_build_apart.specs.Goes.{leg_goes}
-use Rattle.witness_build_apart.specs.Looks.{leg_looks}
-use Rattle.witness_build_apart.specs.Stores.{leg_stores}
+use Rattle.witness_build_apart_laws.specs.Goes.{leg_goes}
+use Rattle.witness_build_apart_laws.specs.Looks.{leg_looks}
+use Rattle.witness_build_apart_laws.specs.Stores.{leg_stores}
 use Rattle.witness_build_walks.specs.declared.walk.Walk.{Walk}
 use Rattle.witness_build_walks.specs.Walks.{AreKept, IsNoted, IsSame, IsWalk, entry_state, fields_of}
 use Rattle.witness_build_walks.proofs.KeptFields.{same-kept}

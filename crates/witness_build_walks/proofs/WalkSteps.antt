@@ -17,14 +17,15 @@ use Rattle.core_semantics.specs.Runs.{Access, begun, frame_touch, innermost, is_
 use Rattle.core_semantics.specs.Runs.{todo_touch, value_read, wants_turn}
 use Rattle.core_semantics.specs.State.{Frame, State, Todo, Op, Choice, Loop, Sync, Unlock}
 use Rattle.core_semantics.specs.View.{state_of}
-use Rattle.core_ways.specs.Ends.{Going, leg_reads, one_step, reads_behind, step_reads}
+use Rattle.core_semantics.specs.Advances.{Going, one_step}
+use Rattle.core_ways.specs.Ends.{leg_reads, reads_behind, step_reads}
 use Rattle.core_ways.specs.Gathered.{gathered, paths_of}
 use Rattle.core_ways.specs.Marks.{given_by, next_read}
 use Rattle.core_ways.proofs.Gathering.{gathered-append}
-use Rattle.witness_build_apart.specs.Goes.{goes_behind, leg_goes}
-use Rattle.witness_build_apart.specs.Looks.{leg_looks, looks_behind}
-use Rattle.witness_build_apart.specs.Stores.{leg_stores, noted, stored_both, stores_behind}
-use Rattle.witness_build_apart.proofs.Prefixes.{goes-on, looks-go-on, reads-go-on, stores-go-on}
+use Rattle.witness_build_apart_laws.specs.Goes.{goes_behind, leg_goes}
+use Rattle.witness_build_apart_laws.specs.Looks.{leg_looks, looks_behind}
+use Rattle.witness_build_apart_laws.specs.Stores.{leg_stores, noted, stored_both, stores_behind}
+use Rattle.witness_build_apart_laws.proofs.Prefixes.{goes-on, looks-go-on, reads-go-on, stores-go-on}
 use Rattle.witness_build_walks.specs.declared.walk.Walk.{Walk}
 use Rattle.witness_build_walks.specs.Walks.{AreKept, IsNoted, IsStopped, IsWalk, entry_state, fields_of, is_loud_behind, listed}
 use Rattle.witness_build_walks.specs.Walks.{written}

@@ -5,12 +5,13 @@ use Rattle.core_code.specs.Core.{Core}
 use Rattle.core_semantics.specs.declared.answer.Turn.{Turn}
 use Rattle.core_semantics.specs.Changes.{Spot, step_looks}
 use Rattle.core_semantics.specs.View.{state_of}
-use Rattle.core_ways.specs.Ends.{Going, end_behind, leg_end, leg_reads, one_step}
+use Rattle.core_semantics.specs.Advances.{Going, one_step}
+use Rattle.core_ways.specs.Ends.{end_behind, leg_end, leg_reads}
 use Rattle.core_ways.specs.Gathered.{gathered}
-use Rattle.witness_build_apart.specs.Goes.{leg_goes}
-use Rattle.witness_build_apart.specs.Looks.{leg_looks, looks_behind}
-use Rattle.witness_build_apart.specs.Stores.{leg_stores}
-use Rattle.witness_build_apart.proofs.Prefixes.{ends-on, goes-on, looks-go-on, reads-go-on, stores-go-on}
+use Rattle.witness_build_apart_laws.specs.Goes.{leg_goes}
+use Rattle.witness_build_apart_laws.specs.Looks.{leg_looks, looks_behind}
+use Rattle.witness_build_apart_laws.specs.Stores.{leg_stores}
+use Rattle.witness_build_apart_laws.proofs.Prefixes.{ends-on, goes-on, looks-go-on, reads-go-on, stores-go-on}
 use Rattle.witness_build_walks.specs.declared.walk.Walk.{Walk}
 use Rattle.witness_build_walks.specs.Walks.{AreKept, IsAlong, IsHalted, IsNoted, IsWalk, entry_state, fields_of}
 use Rattle.witness_build_walks.proofs.KeptFields.{both-kept, fields-both, noted-still, same-kept}

@@ -13,7 +13,7 @@ use Rattle.core_ways.specs.declared.mark.Leg.{Leg as LegTaken}
 use Rattle.core_ways.specs.Ends.{Past, Stopped, leg_end, leg_reads}
 use Rattle.core_ways.specs.Gathered.{gathered}
 use Rattle.core_ways.specs.Marks.{blocked_at, mark_by_run}
-use Rattle.witness_build_apart.specs.RunLegs.{AreRead}
+use Rattle.witness_build_apart_laws.specs.RunLegs.{AreRead}
 use Rattle.witness_build_walks.specs.declared.walk.Walk.{Walk}
 use Rattle.witness_build_walks.specs.declared.walks.Walked.{Walked}
 use Rattle.witness_build_walks.specs.declared.walks.Walked.TheVariants as code

@@ -17,14 +17,14 @@ use Rattle.core_semantics.specs.declared.object.Start.TheVariants.{All}
 use Rattle.core_semantics.specs.Changes.{Spot, step_looks}
 use Rattle.core_semantics.specs.Runs.{begun}
 use Rattle.core_semantics.specs.State.{State}
-use Rattle.core_semantics.specs.Steps.{Next}
 use Rattle.core_semantics.specs.View.{state_of}
-use Rattle.core_ways.specs.Ends.{Stopped, leg_end, leg_reads, made_of, one_step}
+use Rattle.core_semantics.specs.Advances.{one_step}
+use Rattle.core_ways.specs.Ends.{Stopped, leg_end, leg_reads}
 use Rattle.core_ways.specs.Gathered.{gathered}
 use Rattle.core_ways.specs.declared.mark.Leg.{Leg}
-use Rattle.witness_build_apart.specs.Goes.{leg_goes}
-use Rattle.witness_build_apart.specs.Looks.{leg_looks}
-use Rattle.witness_build_apart.specs.Stores.{leg_stores}
+use Rattle.witness_build_apart_laws.specs.Goes.{leg_goes}
+use Rattle.witness_build_apart_laws.specs.Looks.{leg_looks}
+use Rattle.witness_build_apart_laws.specs.Stores.{leg_stores}
 use Rattle.witness_build_walks.specs.declared.walk.Walk.{Walk}
 
 -- the order in which a walk keeps fields
@@ -83,11 +83,6 @@ pub record IsAtEntry (t : ℕ) (m : MethodId) (w : Walk) : Type 0 where
   pub method : w.method ≡ m
   pub steps : w.steps ≡ 0
   pub turns : w.turns.items ≡ []
-
--- whether a step was made, and what is so then
-abbrev pub IsMade : Next State → State → State → Bool → Type 0
-IsMade next old new true = made_of next ≡ Some new
-IsMade next old new false = (made_of next ≡ None) × (new ≡ old)
 
 -- a step was made with these turns, which stand behind those before
 pub record HasTurned (core : Core) (t : ℕ) (rest left : List Turn) (old new : State)

@@ -6,7 +6,7 @@ ghost use Rattle.core_semantics.specs.declared.object.Start.TheVariants.{All};
 ghost use Rattle.core_semantics.specs.Runs.{begun};
 ghost use Rattle.core_ways.specs.declared.mark.Leg.{Leg};
 ghost use Rattle.core_ways.specs.Marks.{leg_of};
-ghost use Rattle.witness_build_apart.specs.Starts.{entry_of};
+ghost use Rattle.witness_build_apart_laws.specs.Starts.{entry_of};
 ghost use Rattle.witness_build_walks.specs.Told.{AreApart, IsGone, IsTold, place_at};
 
 use crate::walk::Walk;

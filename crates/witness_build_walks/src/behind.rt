@@ -9,7 +9,7 @@ ghost use Rattle.core_semantics.specs.Runs.{begun};
 ghost use Rattle.core_ways.specs.declared.mark.Leg.{Leg as LegTaken};
 ghost use Rattle.core_ways.specs.Gathered.{gathered};
 ghost use Rattle.core_ways.specs.Marks.{leg_of};
-ghost use Rattle.witness_build_apart.specs.Starts.{entry_of};
+ghost use Rattle.witness_build_apart_laws.specs.Starts.{entry_of};
 ghost use Rattle.witness_build_walks.specs.Told.{IsGone, IsRunOn, IsTold};
 
 use crate::along::Course;
@@ -17,7 +17,7 @@ use crate::walk::Walk;
 use crate::walks::Walked;
 use core_code::Program;
 use core_semantics::Machine;
-use core_ways::{Leg, Objects, let_go, run_leg};
+use core_ways::{Leg, LegEnd, Objects, let_go, run_leg};
 use racer_base::Memory;
 
 /// Adds what a walk was given.
@@ -40,9 +40,9 @@ fn run_on<'a>(
         objects.old objects.new walked) }
 {
     add_given(objects, given)?;
-    if !run_leg(program, machine, objects, leg)? {
+    let LegEnd::Came(_) = run_leg(program, machine, objects, leg)? else {
         return Ok(Walked::Stopped(leg.thread, machine.place(leg.thread)));
-    }
+    };
     Ok(Walked::Past)
 }
 

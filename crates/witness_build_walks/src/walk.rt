@@ -1,18 +1,17 @@
 //! A walk, and one step of it.
-ghost use Rattle.std.specs.Prelude.{◌≡◌, ◌<◌, ◌++◌, List, IfOk, OnOk};
+ghost use Rattle.std.specs.Prelude.{◌≡◌, ◌<◌, ◌++◌, List, IfOk, OnOk, slice_get};
 ghost use Rattle.racer_base.specs.declared.ids.FieldId.{FieldId};
 ghost use Rattle.racer_base.specs.declared.limits.TheConstants.{MAX_WAY_STEPS};
 ghost use Rattle.core_code.specs.Program.{core};
 ghost use Rattle.core_semantics.specs.Changes.{next_sight};
 ghost use Rattle.core_semantics.specs.Runs.{next_value, wants_turn};
-ghost use Rattle.core_semantics.specs.Steps.{step};
 ghost use Rattle.core_semantics.specs.View.{state_of};
-ghost use Rattle.witness_build_walks.specs.Walks.{AreKept, IsAtEntry, IsMade, IsOnward, IsTurned, IsWalk};
+ghost use Rattle.witness_build_walks.specs.Walks.{AreKept, IsAtEntry, IsOnward, IsTurned, IsWalk};
 ghost use Rattle.witness_build_walks.specs.Walks.{is_loud_behind, listed};
 ghost use Rattle.witness_build_walks.specs.Walks.{written};
 
 use core_code::Program;
-use core_semantics::{FieldChange, Machine, Sight, Start, StepAnswer, Turn, Value, begin};
+use core_semantics::{FieldChange, Machine, Sight, Start, Turn, Value, begin};
 use core_ways::Objects;
 use racer_base::{FieldId, Memory, MethodId};
 use std::alloc::Global;
@@ -61,25 +60,6 @@ pub(crate) fn walk_from_entry<'a>(
     })
 }
 
-/// A step with this turn; whether it was made.
-fn is_made<'a>(
-    program: &'a Program,
-    machine: &mut Machine<'a>,
-    thread: u32,
-    turn: Turn,
-) -> Result<bool, Memory>
-    ensures { IfOk result (λ made. IsMade (step (core program.now) (state_of machine.old) thread turn)
-        (state_of machine.old) (state_of machine.new) made) }
-{
-    match machine.step(program, thread, turn) {
-        StepAnswer::Stepped => Ok(true),
-        StepAnswer::Stuck(_) => Ok(false),
-        StepAnswer::Done => Ok(false),
-        StepAnswer::Held(_) => Ok(false),
-        StepAnswer::Memory => Err(Memory),
-    }
-}
-
 /// The value that a step reads, which is seen so before it is made.
 fn value_in(
     program: &Program,
@@ -96,6 +76,13 @@ fn value_in(
     machine.next_value(program, thread)
 }
 
+/// The next of these turns.
+fn next_turn(turns: &[Turn]) -> Option<Turn>
+    ensures { result ≡ slice_get turns.now 0 }
+{
+    turns.get(0).copied()
+}
+
 /// A step, with the next of these turns where it takes one; the turns that are left, where it was made.
 fn turn_on<'a, 't>(
     program: &'a Program,
@@ -109,22 +96,17 @@ fn turn_on<'a, 't>(
     ensures { IfOk result (λ left. IsTurned (core program.now) thread rest.now (state_of machine.old)
         (state_of machine.new) turns.old.items turns.new.items left) }
 {
+    let Some(left) = machine.advance(program, thread, rest)? else {
+        return Ok(None);
+    };
     if !takes_turn {
-        if !is_made(program, machine, thread, Turn::Right)? {
-            return Ok(None);
-        }
-        return Ok(Some(rest));
+        return Ok(Some(left));
     }
-    match rest {
-        [] => Ok(None),
-        [turn, left @ ..] => {
-            if !is_made(program, machine, thread, *turn)? {
-                return Ok(None);
-            }
-            turns.push(*turn)?;
-            Ok(Some(left))
-        }
-    }
+    let Some(turn) = next_turn(rest) else {
+        return Ok(None);
+    };
+    turns.push(turn)?;
+    Ok(Some(left))
 }
 
 /// Adds the field that a step reads.

@@ -7,7 +7,7 @@ use Rattle.core_semantics.specs.Runs.{begun}
 use Rattle.core_ways.specs.declared.mark.Mark.{Mark}
 use Rattle.core_ways.specs.Marks.{leg_of, said_by}
 use Rattle.std.proofs.Common.{Option}
-use Rattle.witness_build_apart.specs.RunLegs.{IsSaid}
+use Rattle.witness_build_apart_laws.specs.RunLegs.{IsSaid}
 use Rattle.witness_build.proofs.marking.mark_by_run.Goals as goal
 
 pub invariant_of-result : goal.invariant_of-result

@@ -1,8 +1,0 @@
-use Rattle.core_ways_objects.proofs.HeldObjects.{held-lead, stored-lead}
-use Rattle.core_ways_objects.proofs.laws.held_objects_lead.Goals as goal
-
-pub returns-clause-held : goal.returns-clause-held
-returns-clause-held c = held-lead
-
-pub returns-clause-stored : goal.returns-clause-stored
-returns-clause-stored c = stored-lead

@@ -1,8 +1,0 @@
-use Rattle.witness_build_apart.proofs.Behind.{behind-blocked, behind-confirmed}
-use Rattle.witness_build_apart.proofs.laws.legs_behind_others_tell_marks.Goals as goal
-
-pub returns-clause-blocked : goal.returns-clause-blocked
-returns-clause-blocked c = behind-blocked
-
-pub returns-clause-confirmed : goal.returns-clause-confirmed
-returns-clause-confirmed c = behind-confirmed

@@ -1,5 +1,0 @@
-use Rattle.witness_build_apart.proofs.Beginnings.{looks-avoid}
-use Rattle.witness_build_apart.proofs.laws.looks_tell_what_is_avoided.Goals as goal
-
-pub returns : goal.returns
-returns c = looks-avoid

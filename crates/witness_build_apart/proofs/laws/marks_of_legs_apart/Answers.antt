@@ -1,8 +1,0 @@
-use Rattle.witness_build_apart.proofs.Marks.{apart-blocked, apart-confirmed}
-use Rattle.witness_build_apart.proofs.laws.marks_of_legs_apart.Goals as goal
-
-pub returns-clause-confirmed : goal.returns-clause-confirmed
-returns-clause-confirmed c = apart-confirmed
-
-pub returns-clause-blocked : goal.returns-clause-blocked
-returns-clause-blocked c = apart-blocked
