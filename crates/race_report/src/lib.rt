@@ -15,4 +15,4 @@ mod text;
 
 pub use made::made_text;
 pub use mode::Mode;
-pub use reports::{report, report_text};
+pub use reports::report;

@@ -111,9 +111,8 @@ fn push_report(
     }
 }
 
-/// The report of a program, of the outcomes of its methods, of its warnings and of their marks, one a warning, as a
-/// text.
-pub fn report_text(
+/// The report of a program, of the outcomes of its methods, of its warnings and of their marks, one a warning.
+pub fn report(
     alloc: Global,
     mode: Mode,
     program: &Program,
@@ -129,22 +128,4 @@ pub fn report_text(
     let mut text = Written::new(alloc);
     push_report(&mut text, mode, program, outcomes, found, marks);
     text.finished()
-}
-
-/// The report of a program, of the outcomes of its methods, of its warnings and of their marks, one a warning.
-pub fn report(
-    alloc: Global,
-    mode: Mode,
-    program: &Program,
-    outcomes: &Outcomes,
-    found: &[Warning],
-    marks: &[Mark],
-) -> Result<Vec<u8>, Memory>
-    requires outcomes { AreOutcomes (core program.now) outcomes.now.items }
-    requires found { found.now ≡ pairs.warnings (core program.now) }
-    requires marks { map said_by marks.now ≡ map (warning_mark (core program.now)) found.now }
-    ensures { IfOk result (λ bytes. bytes.items ≡ said.report mode (core program.now)) }
-{
-    let text = report_text(alloc, mode, program, outcomes, found, marks)?;
-    Ok(text.into_bytes())
 }

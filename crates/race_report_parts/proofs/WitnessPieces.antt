@@ -18,7 +18,7 @@ use Rattle.race_report_parts.specs.Marks.{start_text, turn_text}
 use Rattle.race_report_parts.specs.Texts.{class_names}
 use Rattle.race_report_parts.specs.Told.{Sides}
 use Rattle.race_report_parts.specs.WitnessFiles.{entry_text, file_of_run}
-use Rattle.race_report_parts.specs.Pieces.{leg_numbers, leg_object, witness_member}
+use Rattle.race_report_parts.specs.Pieces.{leg_numbers, leg_object, witness_member, witness_object}
 use Rattle.race_report_parts.proofs.JsonPieces.{one}
 
 letters_alone : (turns : List Turn) → map letter turns ≡ flat_map turn_text turns
@@ -46,23 +46,52 @@ leg_told leg =
     ∙ ap (λ (t : List ℕ). leg_numbers leg ++ (codes ",\"turns\":" ++ compact_text (string t)) ++ codes "}")
     (letters_alone leg.turns)
 
-file_pieces : (c e f l m o w : Data) →
-    compact_text (object (put (codes "witness") (object (put (codes "version") (count 1) (put (codes "objects") o
+file_pieces : (c e f l m o : Data) →
+    compact_text (object (put (codes "version") (count 1) (put (codes "objects") o
     (put (codes "legs") (array (items_of (l ∷ m ∷ []))) (put (codes "entries") (array (items_of (e ∷ f ∷ [])))
-    (put (codes "class") c no_members)))))) (put (codes "word") w no_members))) ≡
-    codes "{" ++ codes "\"witness\":{\"class\":" ++ compact_text c ++ codes ",\"entries\":[" ++ compact_text e
-    ++ codes "," ++ compact_text f ++ codes "]" ++ codes ",\"legs\":[" ++ compact_text l ++ codes ","
-    ++ compact_text m ++ codes "]" ++ codes ",\"objects\":" ++ compact_text o ++ codes ",\"version\":1},"
-    ++ codes "\"word\":" ++ compact_text w ++ codes "}"
+    (put (codes "class") c no_members)))))) ≡
+    codes "{\"class\":" ++ compact_text c ++ codes ",\"entries\":[" ++ compact_text e ++ codes ","
+    ++ compact_text f ++ codes "]" ++ codes ",\"legs\":[" ++ compact_text l ++ codes "," ++ compact_text m
+    ++ codes "]" ++ codes ",\"objects\":" ++ compact_text o ++ codes ",\"version\":1}"
 unfolding serde_json_on_literals
-file_pieces c e f l m o w = simp (one, append_assoc)
+file_pieces c e f l m o = simp (one, append_assoc)
 
-file_grouped : (brace class c entries e comma f bracket legs l m objects o version word w end : List ℕ) →
-    brace ++ class ++ c ++ entries ++ e ++ comma ++ f ++ bracket ++ legs ++ l ++ comma ++ m ++ bracket ++ objects ++ o
-    ++ version ++ word ++ w ++ end ≡
-    brace ++ ((class ++ c) ++ ((entries ++ e) ++ (comma ++ f) ++ bracket) ++ ((legs ++ l) ++ (comma ++ m) ++ bracket)
-    ++ (objects ++ o) ++ version) ++ (word ++ w) ++ end
-file_grouped brace class c entries e comma f bracket legs l m objects o version word w end = simp append_assoc
+file_grouped : (class c entries e comma f bracket legs l m objects o version : List ℕ) →
+    class ++ c ++ entries ++ e ++ comma ++ f ++ bracket ++ legs ++ l ++ comma ++ m ++ bracket ++ objects ++ o
+    ++ version ≡
+    (class ++ c) ++ ((entries ++ e) ++ (comma ++ f) ++ bracket) ++ ((legs ++ l) ++ (comma ++ m) ++ bracket)
+    ++ (objects ++ o) ++ version
+file_grouped class c entries e comma f bracket legs l m objects o version = simp append_assoc
+
+-- the witness file of a run
+pub file_told : (core : Core) (sides : Sides) (objects : List StartPath) (first second : Leg) →
+    compact_text (data_of (file_of_run core sides objects first second)) ≡
+    witness_object core sides objects first second
+file_told core sides objects first second =
+    let class : Data = string (name_at (class_names core) sides.first.method.class.0) in
+    let entry : Data = string (entry_text sides.first.method) in
+    let partner : Data = string (entry_text sides.partner.method) in
+    let starts : Data = texts_data (map (start_text core) objects) in
+    let whole : List ℕ → List ℕ → List ℕ = λ (l : List ℕ) (m : List ℕ).
+    codes "{\"class\":" ++ compact_text class ++ codes ",\"entries\":[" ++ compact_text entry ++ codes ","
+    ++ compact_text partner ++ codes "]" ++ codes ",\"legs\":[" ++ l ++ codes "," ++ m ++ codes "]"
+    ++ codes ",\"objects\":" ++ compact_text starts ++ codes ",\"version\":1}" in
+    file_pieces class entry partner (leg_data first) (leg_data second) starts
+    ∙ (λ i. whole (leg_told first i) (leg_told second i))
+    ∙ file_grouped (codes "{\"class\":") (compact_text class) (codes ",\"entries\":[") (compact_text entry)
+    (codes ",") (compact_text partner) (codes "]") (codes ",\"legs\":[") (leg_object first) (leg_object second)
+    (codes ",\"objects\":") (compact_text starts) (codes ",\"version\":1}")
+
+mark_pieces : (file word : Data) →
+    compact_text (object (put (codes "witness") file (put (codes "word") word no_members))) ≡
+    codes "{" ++ codes "\"witness\":" ++ compact_text file ++ codes "," ++ codes "\"word\":" ++ compact_text word
+    ++ codes "}"
+unfolding serde_json_on_literals
+mark_pieces file word = simp append_assoc
+
+mark_grouped : (brace name file comma word w end : List ℕ) →
+    brace ++ name ++ file ++ comma ++ word ++ w ++ end ≡ brace ++ (name ++ file ++ comma) ++ (word ++ w) ++ end
+mark_grouped brace name file comma word w end = simp append_assoc
 
 -- the object of a confirmed mark
 pub witness_told : (core : Core) (sides : Sides) (objects : List StartPath) (first second : Leg) (word : Data) →
@@ -71,18 +100,7 @@ pub witness_told : (core : Core) (sides : Sides) (objects : List StartPath) (fir
     codes "{" ++ witness_member core sides objects first second ++ (codes "\"word\":" ++ compact_text word)
     ++ codes "}"
 witness_told core sides objects first second word =
-    let class : Data = string (name_at (class_names core) sides.first.method.class.0) in
-    let entry : Data = string (entry_text sides.first.method) in
-    let partner : Data = string (entry_text sides.partner.method) in
-    let starts : Data = texts_data (map (start_text core) objects) in
-    let whole : List ℕ → List ℕ → List ℕ = λ (l : List ℕ) (m : List ℕ).
-    codes "{" ++ codes "\"witness\":{\"class\":" ++ compact_text class ++ codes ",\"entries\":[" ++ compact_text entry
-    ++ codes "," ++ compact_text partner ++ codes "]" ++ codes ",\"legs\":[" ++ l ++ codes "," ++ m ++ codes "]"
-    ++ codes ",\"objects\":" ++ compact_text starts ++ codes ",\"version\":1}," ++ codes "\"word\":"
-    ++ compact_text word ++ codes "}" in
-    file_pieces class entry partner (leg_data first) (leg_data second) starts word
-    ∙ (λ i. whole (leg_told first i) (leg_told second i))
-    ∙ file_grouped (codes "{") (codes "\"witness\":{\"class\":") (compact_text class) (codes ",\"entries\":[")
-    (compact_text entry) (codes ",") (compact_text partner) (codes "]") (codes ",\"legs\":[") (leg_object first)
-    (leg_object second) (codes ",\"objects\":") (compact_text starts) (codes ",\"version\":1},") (codes "\"word\":")
+    let file : Data = data_of (file_of_run core sides objects first second) in
+    mark_pieces file word
+    ∙ mark_grouped (codes "{") (codes "\"witness\":") (compact_text file) (codes ",") (codes "\"word\":")
     (compact_text word) (codes "}")

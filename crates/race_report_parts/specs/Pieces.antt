@@ -16,12 +16,13 @@ use Rattle.race_pairs.specs.declared.warning.Warning.{Warning}
 use Rattle.core_semantics.specs.declared.object.StartPath.{StartPath}
 use Rattle.core_semantics.specs.Legs.{Leg}
 use Rattle.core_ways.specs.Marks.{Said, Unstable, Unread, Long, Blocked, Confirmed}
+use Rattle.witness_text_files.specs.Written.{data_of}
 use Rattle.race_report_parts.specs.declared.written.Written.{Written}
 use Rattle.race_report_parts.specs.Written.{Lasts}
 use Rattle.race_report_parts.specs.Marks.{mark_word, start_text, turn_text}
 use Rattle.race_report_parts.specs.Texts.{class_names, place_text, method_text, path_text, touch_text, value_text}
 use Rattle.race_report_parts.specs.Told.{access_text, Side, Sides}
-use Rattle.race_report_parts.specs.WitnessFiles.{entry_text}
+use Rattle.race_report_parts.specs.WitnessFiles.{entry_text, file_of_run}
 use Rattle.race_report_parts.specs.Json.{values, not_analysed_values, summary_values, place_value, warning_values}
 
 -- Items of an array were put, where no piece was left out: `later` says whether one stands before them, and `behind`
@@ -126,12 +127,17 @@ abbrev pub legs_member : Leg → Leg → List ℕ
 legs_member first second =
     (codes ",\"legs\":[" ++ leg_object first) ++ (codes "," ++ leg_object second) ++ codes "]"
 
--- the file of a run
+-- the witness file of a run
+abbrev pub witness_object : Core → Sides → List StartPath → Leg → Leg → List ℕ
+witness_object core sides objects first second =
+    (codes "{\"class\":" ++ class_string core sides.first.method.class)
+    ++ entries_member sides.first.method sides.partner.method ++ legs_member first second
+    ++ (codes ",\"objects\":" ++ starts_strings core objects) ++ codes ",\"version\":1}"
+
+-- the member of a mark that is this file
 abbrev pub witness_member : Core → Sides → List StartPath → Leg → Leg → List ℕ
 witness_member core sides objects first second =
-    (codes "\"witness\":{\"class\":" ++ class_string core sides.first.method.class)
-    ++ entries_member sides.first.method sides.partner.method ++ legs_member first second
-    ++ (codes ",\"objects\":" ++ starts_strings core objects) ++ codes ",\"version\":1},"
+    codes "\"witness\":" ++ compact_text (data_of (file_of_run core sides objects first second)) ++ codes ","
 
 -- the members of the mark of a warning before its word
 abbrev pub detail_text : Core → Sides → Said → List ℕ

@@ -14,6 +14,11 @@
 //! - `specs/Report.antt`: the lines of the report.
 //! - `specs/Json.antt`: the report as one object.
 //! - `specs/Pieces.antt`: the pieces of the object's text, as they are put behind one another.
+//!
+//! Each report makes one table of places a method, since sites are 0, 1 and so on. Places are followed over at most as
+//! many methods as there are, which a law shows to be enough. Two wobbly paths with one text are two lines. A witness
+//! is put start path by start path, since some have hundreds of megabytes. Legs are told in the order in which they
+//! run.
 #![tactic(auto)]
 
 mod json;
@@ -43,7 +48,9 @@ pub use sides::{Side, Sides, sides_of};
 pub use summary_lines::push_summaries;
 pub use tables::{Site, place_at, sites};
 pub use texts::{
-    push_access, push_line, push_method, push_path, push_place, push_record, push_value, touch_text,
+    class_name, push_access, push_line, push_method, push_path, push_place, push_record,
+    push_value, touch_text,
 };
+pub use witness::push_entry;
 pub use wobbly::wobbly_texts;
 pub use written::{Written, push_count, push_end, push_number, push_space, push_text};

@@ -25,7 +25,8 @@ fn name_at(names: &[Text], number: u32) -> &str
     }
 }
 
-pub(crate) fn class_name(program: &Program, class: ClassId) -> &str
+/// The name of a class, empty where there is none of this number.
+pub fn class_name(program: &Program, class: ClassId) -> &str
     ensures { result.now ≡ paths.name_at (said.class_names (core program.now)) class.0 }
 {
     match program.classes().get(class.0 as usize) {

@@ -1,4 +1,4 @@
-//! The witness file of a run as a member of a mark, put behind a text start path by start path.
+//! The witness file of a run, put behind a text start path by start path.
 ghost use Rattle.std.specs.Prelude.{◌≡◌, ◌++◌};
 ghost use Rattle.serde_json.specs.Data.{string};
 ghost use Rattle.serde_json.specs.Written.{compact_text};
@@ -6,9 +6,10 @@ ghost use Rattle.std.specs.List.{flat_map};
 ghost use Rattle.core_code.specs.Core.{method_of};
 ghost use Rattle.core_code.specs.Program.{core};
 ghost use Rattle.core_ways.specs.Marks.{leg_of};
+ghost use Rattle.witness_text_files.specs.Written.{data_of};
 ghost use Rattle.race_report_parts.specs.Marks as said;
 ghost use Rattle.race_report_parts.specs.Sides.{sides_told};
-ghost use Rattle.race_report_parts.specs.WitnessFiles.{entry_text};
+ghost use Rattle.race_report_parts.specs.WitnessFiles.{entry_text, file_of_run};
 ghost use Rattle.race_report_parts.specs.Written.{Puts};
 ghost use Rattle.race_report_parts.specs.Pieces as pieces;
 
@@ -20,7 +21,7 @@ use core_semantics::{StartPath, Turn};
 use core_ways::{Leg, Witness};
 
 /// Puts `NAME/PARAMETERS` behind a text.
-fn push_entry(text: &mut Written, method: &MethodCore)
+pub fn push_entry(text: &mut Written, method: &MethodCore)
     ensures { Puts (entry_text (method_of method.now)) text.old text.new }
 {
     push_text(text, method.name.as_str());
@@ -108,7 +109,20 @@ fn push_legs(text: &mut Written, first: &Leg, second: &Leg)
     push_text(text, "]")
 }
 
-/// The file of a run.
+/// The witness file of a run, as its compact text.
+fn push_witness_file(text: &mut Written, program: &Program, sides: &Sides<'_>, witness: &Witness)
+    ensures { Puts (compact_text (data_of (file_of_run (core program.now) (sides_told sides.now) witness.now.objects
+        (leg_of witness.now.first) (leg_of witness.now.second)))) text.old text.new }
+{
+    let class = sides.first.method.class;
+    push_class_string(text, "{\"class\":", program, class);
+    push_entries(text, sides.first.method, sides.partner.method);
+    push_legs(text, &witness.first, &witness.second);
+    push_start_strings(text, ",\"objects\":", program, witness.objects.as_slice());
+    push_text(text, ",\"version\":1}")
+}
+
+/// The member of a mark that is the witness file of its run.
 pub(crate) fn push_witness_member(
     text: &mut Written,
     program: &Program,
@@ -118,10 +132,7 @@ pub(crate) fn push_witness_member(
     ensures { Puts (pieces.witness_member (core program.now) (sides_told sides.now) witness.now.objects
         (leg_of witness.now.first) (leg_of witness.now.second)) text.old text.new }
 {
-    let class = sides.first.method.class;
-    push_class_string(text, "\"witness\":{\"class\":", program, class);
-    push_entries(text, sides.first.method, sides.partner.method);
-    push_legs(text, &witness.first, &witness.second);
-    push_start_strings(text, ",\"objects\":", program, witness.objects.as_slice());
-    push_text(text, ",\"version\":1},")
+    push_text(text, "\"witness\":");
+    push_witness_file(text, program, sides, witness);
+    push_text(text, ",")
 }

@@ -22,9 +22,17 @@ impl Written {
     pub fn new(alloc: Global) -> Written
         ensures { string_bytes result.so_far ≡ [] }
     {
+        Written::behind(alloc, String::new(alloc))
+    }
+
+    /// This text so far, which is not copied.
+    pub fn behind(alloc: Global, so_far: String) -> Written
+        ensures text { string_bytes result.so_far ≡ string_bytes so_far }
+        ensures is_whole { result.is_cut ≡ false }
+    {
         Written {
             alloc,
-            so_far: String::new(alloc),
+            so_far,
             is_cut: false,
         }
     }

@@ -19,8 +19,8 @@ use access_domain::Outcomes;
 use core_code::{Program, call_rows};
 use demand_pool::{Pooled, run_pool};
 use race_pairs::{Warning, warnings};
-use race_report::{Mode, report_text};
-use race_report_parts::{Written, push_text};
+use race_report::{Mode, report};
+use race_report_parts::Written;
 use racer_base::{Folder, FolderFault, Gate, Memory, Text};
 use racer_run_history::push_history;
 use racer_run_marks::marks_in_threads;
@@ -59,7 +59,7 @@ pub fn said_of<R: Threads + Sync>(
 {
     let found = warnings(alloc, program, outcomes)?;
     let marks = marks_in_threads(rt, alloc, program, outcomes, found.as_slice())?;
-    let text = report_text(
+    let text = report(
         alloc,
         mode,
         program,
@@ -121,11 +121,11 @@ fn with_history(
     if !asked {
         return Ok(said);
     }
-    let mut text = Written::new(alloc);
-    push_text(&mut text, said.text.as_str());
+    let RunOutput { status, text } = said;
+    let mut text = Written::behind(alloc, text.into_string(alloc)?);
     push_history(&mut text, program, history);
     Ok(RunOutput {
-        status: said.status,
+        status,
         text: Text::from(text.finished()?),
     })
 }

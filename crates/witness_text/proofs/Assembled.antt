@@ -34,13 +34,14 @@ use Rattle.core_semantics.specs.Runs.{begun, races}
 use Rattle.core_semantics.specs.State.{State}
 use Rattle.race_report_parts.specs.Marks.{start_root_text, start_text}
 use Rattle.race_report_parts.specs.Texts.{class_names, field_names}
-use Rattle.core_ways_objects.specs.Reached.{Reached, Roots, TheClass, behind, behind_field, has_field, is_right}
-use Rattle.core_ways_objects.specs.Reached.{reached_from, roots_of}
+use Rattle.core_semantics_kinds.specs.Reached.{Reached, Roots, TheClass, behind, behind_field, has_field, is_right}
+use Rattle.core_semantics_kinds.specs.Reached.{reached_from, roots_of}
 use Rattle.witness_text.specs.declared.verdict.Verdict.TheVariants.{Races}
+use Rattle.witness_text.specs.Replaying.{IsRunOf}
+use Rattle.witness_text_files.specs.Files.{File}
 use Rattle.race_report_parts.specs.WitnessFiles.{entry_text, file_named}
 use Rattle.witness_text_names.specs.Names.{entry_named}
-use Rattle.witness_text_names.specs.Objects.{object_named, objects_named, path_along, path_named}
-use Rattle.witness_text_names.specs.declared.objects.Named.TheVariants.{All as AllNamed}
+use Rattle.witness_text_names.specs.Objects.{object_named, path_along, path_named}
 use Rattle.witness_text.specs.Verdicts.{entries_verdict, race_verdict, run_verdict, verdict}
 use Rattle.witness_text.proofs.Differing.{in-at, mapped-at, passes-in}
 use Rattle.witness_text.proofs.EntriesFound.{entry-few, entry-found}
@@ -51,17 +52,14 @@ use Rattle.witness_text.proofs.RootsFound.{IsRoot, all-are, class-word, root-fou
 use Rattle.witness_text.proofs.Replayed.{AreNamed, all-named, legs-end, race-is}
 
 -- the verdict where the entries are found, and the objects are named
-pub verdict-races : (core : Core) (m1 m2 : MethodId) (f g : Method) (objects : List StartPath) (a b : Leg)
-    (end : State) →
-    entry_named core (name_at (class_names core) f.class.0) (entry_text f) ≡ Some (m1.0, f) →
-    entry_named core (name_at (class_names core) f.class.0) (entry_text g) ≡ Some (m2.0, g) →
-    objects_named core f g (map (start_text core) objects) ≡ AllNamed objects →
-    run core (a ∷ b ∷ []) (begun core m1 m2 (Only objects)) ≡ Some end → races end ≡ true →
-    verdict core (file_named core f g (map (start_text core) objects) a b) ≡ Races
-verdict-races core m1 m2 f g objects a b end first second named came race =
-    (λ i. entries_verdict core (file_named core f g (map (start_text core) objects) a b) (first i) (second i))
-    ∙ ap (run_verdict core (file_named core f g (map (start_text core) objects) a b) m1 m2) named
-    ∙ legs-end core race_verdict 0 (a ∷ b ∷ []) (begun core m1 m2 (Only objects)) end came
+pub verdict-races : (core : Core) (file : File) (m1 m2 : MethodId) (objects : List StartPath) (end : State) →
+    IsRunOf core file m1 m2 objects →
+    run core (file.first ∷ file.second ∷ []) (begun core m1 m2 (Only objects)) ≡ Some end → races end ≡ true →
+    verdict core file ≡ Races
+verdict-races core file m1 m2 objects end is came race =
+    (λ i. entries_verdict core file (is.is_entry i) (is.is_partner i))
+    ∙ ap (run_verdict core file m1 m2) is.are_objects
+    ∙ legs-end core race_verdict 0 (file.first ∷ file.second ∷ []) (begun core m1 m2 (Only objects)) end came
     ∙ race-is end race
 
 -- ---- bytes that are no dots
@@ -218,16 +216,20 @@ module _ (p : Program) (f g : Method) (few_f : length f.parameters < 2 ^ 64) (fe
           (list_all (is_right (core_of p) (roots_of f g)) qs) h),
     )
 
-pub written-replays : (p : Program) (m1 m2 : MethodId) (f g : Method) (objects : List StartPath) (a b : Leg)
-    (end : State) → method_at (core_of p) m1 ≡ Some f → method_at (core_of p) m2 ≡ Some g → f.entry ≡ true →
-    g.entry ≡ true → f.class ≡ g.class → list_all (is_right (core_of p) (roots_of f g)) objects ≡ true →
-    run (core_of p) (a ∷ b ∷ []) (begun (core_of p) m1 m2 (Only objects)) ≡ Some end → races end ≡ true →
-    verdict (core_of p) (file_named (core_of p) f g (map (start_text (core_of p)) objects) a b) ≡ Races
-written-replays p m1 m2 f g objects a b end is_f is_g entry_f entry_g class right came race =
+-- the file names these methods and objects
+pub written-named : (p : Program) (m1 m2 : MethodId) (f g : Method) (objects : List StartPath) (a b : Leg) →
+    method_at (core_of p) m1 ≡ Some f → method_at (core_of p) m2 ≡ Some g → f.entry ≡ true → g.entry ≡ true →
+    f.class ≡ g.class → list_all (is_right (core_of p) (roots_of f g)) objects ≡ true →
+    IsRunOf (core_of p) (file_named (core_of p) f g (map (start_text (core_of p)) objects) a b) m1 m2 objects
+written-named p m1 m2 f g objects a b is_f is_g entry_f entry_g class right =
     let core : Core = core_of p in
     let few_f : length f.parameters < 2 ^ 64 = entry-few p f (in-at core.methods m1.0 f is_f) entry_f in
     let few_g : length g.parameters < 2 ^ 64 = entry-few p g (in-at core.methods m2.0 g is_g) entry_g in
-    verdict-races core m1 m2 f g objects a b end (entry-found p m1 f is_f entry_f)
-    (ap (λ (c : ClassId). entry_named core (name_at (class_names core) c.0) (entry_text g)) class
-    ∙ entry-found p m2 g is_g entry_g)
-    (all-named core f g objects (objects-found p f g few_f few_g objects right)) came race
+    record {
+      entry = f;
+      partner = g;
+      is_entry = entry-found p m1 f is_f entry_f;
+      is_partner = ap (λ (c : ClassId). entry_named core (name_at (class_names core) c.0) (entry_text g)) class
+          ∙ entry-found p m2 g is_g entry_g;
+      are_objects = all-named core f g objects (objects-found p f g few_f few_g objects right);
+    }

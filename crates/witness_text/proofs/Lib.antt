@@ -9,5 +9,6 @@ pub mod NamesInTexts
 pub mod Replayed
 pub mod ReportReplays
 pub mod RootsFound
+pub mod ShownWitnesses
 pub mod Warnings
 pub mod WithinLimits

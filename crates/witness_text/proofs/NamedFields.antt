@@ -16,8 +16,8 @@ use Rattle.core_code.specs.Program.{core as core_of}
 use Rattle.core_code.proofs.BoolParts.{first_part, last_part}
 use Rattle.core_semantics.specs.declared.object.StartPath.{StartPath}
 use Rattle.core_semantics.specs.Objects.{lengthened, root_path}
-use Rattle.core_ways_objects.specs.Reached.{ObjectOf, Reached, Roots, TheClass, behind, behind_field, object_of}
-use Rattle.core_ways_objects.specs.Reached.{reached_from}
+use Rattle.core_semantics_kinds.specs.Reached.{ObjectOf, Reached, Roots, TheClass, behind, behind_field, object_of}
+use Rattle.core_semantics_kinds.specs.Reached.{reached_from}
 use Rattle.witness_text_names.specs.Names.{class_in, field_named, is_field_named}
 use Rattle.witness_text_names.specs.Objects.{one_field, path_along}
 use Rattle.witness_text.proofs.FirstFound.{found-first}

@@ -45,7 +45,7 @@ legs-end core ends i (leg ∷ legs) s end e =
 
 -- a leg that is made whole
 pub through : (core : Core) (ends : State → Verdict) (i : ℕ) (leg : Leg) (legs : List Leg) (r : Ran) (to : State) →
-    IsReplayed (replayed 0 leg.steps r) None to →
+    IsReplayed (replayed leg.steps r) None to →
     behind_ran core ends i leg legs r ≡ legs_verdict core ends (suc i) legs to
 through core ends i leg legs (Came end []) to is = ap (legs_verdict core ends (suc i) legs) is
 through core ends i leg legs (Came end (turn ∷ turns)) to is = absurd is

@@ -24,7 +24,7 @@ use Rattle.core_semantics.specs.declared.object.StartRoot.{StartRoot}
 use Rattle.core_semantics.specs.declared.object.StartRoot.TheVariants.{This, Class, Param}
 use Rattle.race_report_parts.specs.Marks.{start_root_text}
 use Rattle.race_report_parts.specs.Texts.{class_names}
-use Rattle.core_ways_objects.specs.Reached.{object_of, parameter_root, roots_of}
+use Rattle.core_semantics_kinds.specs.Reached.{object_of, parameter_root, roots_of}
 use Rattle.witness_text_names.specs.Names.{all_roots, class_roots, parameters_of, root_named}
 use Rattle.witness_text.proofs.Differing.{found-one, in-at, passes-in}
 use Rattle.witness_text.proofs.EntriesFound.{class-there, one-class}

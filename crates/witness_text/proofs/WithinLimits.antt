@@ -30,7 +30,7 @@ use Rattle.race_report_parts.specs.WitnessFiles.{file_named}
 use Rattle.witness_build_laws.specs.Warned.{pair_of, warning_mark}
 use Rattle.witness_build_laws.proofs.MarkParts.{IsConfirmedBy, mark-parts}
 use Rattle.witness_build.proofs.FewTurns.{few-way}
-use Rattle.witness_build_apart.proofs.LegEnds.{leg-count, run-reads}
+use Rattle.witness_build_apart_laws.proofs.LegEnds.{leg-count, run-reads}
 use Rattle.witness_text_files.proofs.ReadBack.{IsLeg, IsWithin}
 
 -- ---- the parts of a confirmed mark

@@ -1,6 +1,5 @@
 -- A contract of a public call rests on this: the list of files.
 pub mod Verdicts
-pub mod Witnesses
 pub mod Replays
 pub mod Lines
 pub mod Replaying

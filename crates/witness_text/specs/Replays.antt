@@ -1,5 +1,5 @@
 -- No public contract rests on this: a leg that is run, as far as it comes.
-use Rattle.std.specs.Prelude.{◌≡◌, ℕ, ◌+◌, [], ◌∷◌, Option, None, Some}
+use Rattle.std.specs.Prelude.{◌≡◌, ℕ, [], ◌∷◌, Option, None, Some}
 use Rattle.core_semantics.specs.Legs.{Ran, Came, Halted}
 use Rattle.core_semantics.specs.State.{State}
 
@@ -8,11 +8,11 @@ pub data Replayed : Type 0 where
   Through : (to : State) → Replayed
   Stops : (steps : ℕ) → Replayed
 
--- of a leg of so many steps, of which some were made before
-abbrev pub replayed : ℕ → ℕ → Ran → Replayed
-replayed made most (Came to []) = Through to
-replayed made most (Came to (turn ∷ turns)) = Stops most
-replayed made most (Halted halt at steps) = Stops (made + steps)
+-- of a leg of so many steps
+abbrev pub replayed : ℕ → Ran → Replayed
+replayed most (Came to []) = Through to
+replayed most (Came to (turn ∷ turns)) = Stops most
+replayed most (Halted halt at steps) = Stops steps
 
 -- what is told of it, and the state behind it
 abbrev pub IsReplayed : Replayed → Option ℕ → State → Type 0

@@ -34,7 +34,7 @@ fn run_verdict(
 {
     let start = Start::Only(objects);
     let mut machine = begin(alloc, program, first.number, second.number, start)?;
-    let verdict = legs_verdict(program, &mut machine, file);
+    let verdict = legs_verdict(alloc, program, &mut machine, file);
     let_go(machine);
     verdict
 }

@@ -1,8 +1,10 @@
 //! What is read of files, each as its text, and what is written.
-ghost use Rattle.std.specs.Prelude.{◌≡◌, [], ◌∷◌, ◌++◌, Some, Ok as Read, codes, map, option_map};
+ghost use Rattle.std.specs.Prelude.{◌≡◌, [], ◌∷◌, ◌++◌, Some, Ok as Read, codes, map, option_map, IsUtf8};
 ghost use Rattle.serde_json.specs.Read.{read};
 ghost use Rattle.serde_json.specs.Written.{compact_text};
 ghost use Rattle.witness_text_files.specs.declared.fault.Field.TheVariants.{Version, Class, Entries, Objects, Legs};
+ghost use Rattle.witness_text_files.specs.declared.file.WitnessFile.{WitnessFile};
+ghost use Rattle.witness_text_files.specs.Answers.{IsFile, seen};
 ghost use Rattle.witness_text_files.specs.Files.{file_of};
 ghost use Rattle.witness_text_files.specs.Examples.{AFile, Lacks, NoJson, answered, gate, gate_text, nested};
 ghost use Rattle.witness_text_files.specs.Examples.{with_class};
@@ -51,4 +53,9 @@ pub fn rows_of_texts()
 pub fn gate_row()
     ensures read { option_map file_of (read gate_text) ≡ Some (Read gate) }
     ensures written { compact_text (data_of gate) ≡ gate_text }
+{}
+
+/// The compact text of a witness file is read as that file, whatever it says. A text that is written is in UTF-8.
+pub fn written_files_are_read()
+    ensures { (f : WitnessFile) → IsUtf8 (compact_text (data_of (seen f))) → IsFile (compact_text (data_of (seen f))) f }
 {}

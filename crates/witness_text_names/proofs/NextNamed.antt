@@ -9,7 +9,7 @@ use Rattle.racer_base.specs.declared.ids.FieldId.{FieldId}
 use Rattle.core_code.specs.declared.parts.FieldCore.{FieldCore}
 use Rattle.core_code.specs.Core.{Core}
 use Rattle.core_code.specs.KindCheck as kinds
-use Rattle.core_ways_objects.specs.Reached.{Reached, behind, behind_field}
+use Rattle.core_semantics_kinds.specs.Reached.{Reached, behind, behind_field}
 use Rattle.witness_text_names.specs.Indexes.{FieldIndex, FindsFields, field_among, field_at, next_named}
 use Rattle.witness_text_names.specs.Names.{class_in, field_named}
 

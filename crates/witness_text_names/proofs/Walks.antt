@@ -8,7 +8,7 @@ use Rattle.core_code.specs.Core.{Core, Method}
 use Rattle.core_semantics.specs.declared.object.StartPath.{StartPath}
 use Rattle.core_semantics.specs.declared.object.StartRoot.{StartRoot}
 use Rattle.core_semantics.specs.Objects.{lengthened, root_path}
-use Rattle.core_ways_objects.specs.Reached.{Reached, Roots, behind, reached_from, roots_of}
+use Rattle.core_semantics_kinds.specs.Reached.{Reached, Roots, behind, reached_from, roots_of}
 use Rattle.witness_text_names.specs.Indexes.{Walk, fields_walked, next_named, walked}
 use Rattle.witness_text_names.specs.Names.{field_named, names_in, root_named}
 use Rattle.witness_text_names.specs.Objects.{object_named, path_along, path_named}

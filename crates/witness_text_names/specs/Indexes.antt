@@ -14,8 +14,8 @@ use Rattle.core_code.specs.Core.{Core, method_of}
 use Rattle.core_code.specs.Names.{same_text}
 use Rattle.core_semantics.specs.declared.object.StartRoot.{StartRoot}
 use Rattle.race_report_parts.specs.Marks.{start_root_text}
-use Rattle.core_ways_objects.specs.Reached as right
-use Rattle.core_ways_objects.specs.Reached.{behind}
+use Rattle.core_semantics_kinds.specs.Reached as right
+use Rattle.core_semantics_kinds.specs.Reached.{behind}
 use Rattle.witness_text_names.specs.declared.entries.Entry.{Entry}
 use Rattle.witness_text_names.specs.declared.reached.Reached.{Reached}
 use Rattle.witness_text_names.specs.declared.reached.Reached.TheVariants as code

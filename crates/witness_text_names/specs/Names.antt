@@ -14,7 +14,7 @@ use Rattle.core_semantics.specs.declared.object.StartRoot.{StartRoot}
 use Rattle.core_semantics.specs.declared.object.StartRoot.TheVariants.{This, Class, Param}
 use Rattle.race_report_parts.specs.Marks.{start_root_text}
 use Rattle.race_report_parts.specs.Texts.{class_names}
-use Rattle.core_ways_objects.specs.Reached.{ObjectOf, Reached, TheClass}
+use Rattle.core_semantics_kinds.specs.Reached.{ObjectOf, Reached, TheClass}
 use Rattle.race_report_parts.specs.WitnessFiles.{entry_text}
 
 -- ---- entries

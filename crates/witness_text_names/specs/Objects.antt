@@ -3,7 +3,7 @@ use Rattle.std.specs.Prelude.{ℕ, suc, List, [], ◌∷◌, Option, None, Some,
 use Rattle.core_code.specs.Core.{Core, Method}
 use Rattle.core_semantics.specs.declared.object.StartPath.{StartPath}
 use Rattle.core_semantics.specs.Objects.{lengthened, root_path}
-use Rattle.core_ways_objects.specs.Reached.{Roots, reached_from, roots_of}
+use Rattle.core_semantics_kinds.specs.Reached.{Roots, reached_from, roots_of}
 use Rattle.witness_text_names.specs.declared.objects.Named.{Named}
 use Rattle.witness_text_names.specs.declared.objects.Named.TheVariants.{All, NoneAt}
 use Rattle.witness_text_names.specs.Names.{field_named, names_in, root_named}

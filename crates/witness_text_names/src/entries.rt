@@ -2,15 +2,13 @@
 ghost use Rattle.std.specs.Prelude.{◌≡◌, IfOk, option_map, string_bytes};
 ghost use Rattle.core_code.specs.Core.{method_of};
 ghost use Rattle.core_code.specs.Program.{core};
-ghost use Rattle.access_paths.specs.Text.{name_at};
-ghost use Rattle.race_report_parts.specs.Texts as said;
 ghost use Rattle.witness_text_names.specs.Indexes.{found_by};
 ghost use Rattle.witness_text_names.specs.Names as named;
 ghost use Rattle.race_report_parts.specs.WitnessFiles as texts;
 
 use core_code::{MethodCore, Program};
-use race_report_parts::{Written, push_count, push_text};
-use racer_base::{ClassId, Memory, MethodId};
+use race_report_parts::{Written, class_name, push_entry};
+use racer_base::{Memory, MethodId};
 use std::alloc::Global;
 
 /// A method with its number.
@@ -31,24 +29,12 @@ pub(crate) fn number_of(index: usize) -> Result<u32, Memory>
 }
 
 /// The text of an entry: its name, a slash and how many parameters it has.
-pub fn entry_text(alloc: Global, method: &MethodCore) -> Result<String, Memory>
+fn entry_text(alloc: Global, method: &MethodCore) -> Result<String, Memory>
     ensures { IfOk result (λ text. string_bytes text ≡ texts.entry_text (method_of method.now)) }
 {
     let mut text = Written::new(alloc);
-    push_text(&mut text, method.name.as_str());
-    push_text(&mut text, "/");
-    push_count(&mut text, method.parameters.len());
+    push_entry(&mut text, method);
     text.finished()
-}
-
-/// The name of a class, empty where there is none of this number.
-pub fn class_name(program: &Program, class: ClassId) -> &str
-    ensures { result.now ≡ name_at (said.class_names (core program.now)) class.0 }
-{
-    match program.classes().get(class.0 as usize) {
-        None => "",
-        Some(class) => class.name.as_str(),
-    }
 }
 
 /// Whether a method is the entry of this text of the class of this name.

@@ -16,5 +16,5 @@ mod reached;
 mod roots;
 mod walk;
 
-pub use entries::{Entry, class_name, entry_named, entry_text};
+pub use entries::{Entry, entry_named};
 pub use objects::{Named, objects_named};

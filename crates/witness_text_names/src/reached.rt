@@ -1,7 +1,7 @@
 //! What a start path leads to.
 ghost use Rattle.std.specs.Prelude.{◌≡◌, option_map};
 ghost use Rattle.core_code.specs.Core.{method_of};
-ghost use Rattle.core_ways_objects.specs.Reached.{behind_field, object_of, parameter_root, roots_of};
+ghost use Rattle.core_semantics_kinds.specs.Reached.{behind_field, object_of, parameter_root, roots_of};
 ghost use Rattle.witness_text_names.specs.Indexes.{reached_of};
 ghost use Rattle.witness_text_names.specs.Names.{class_in};
 

@@ -1,13 +1,6 @@
-use Rattle.std.proofs.Common.{◌++◌, ℕ, List, ap, codes}
-use Rattle.core_code.specs.Program.{core}
-use Rattle.core_semantics.specs.declared.object.StartPath.{StartPath}
-use Rattle.race_report_parts.specs.Pieces.{starts_strings}
-use Rattle.race_report_parts.proofs.PutChains.{five, same_piece}
+use Rattle.race_report_parts.proofs.PutChains.{three}
 use Rattle.race_report_parts.proofs.witness.push_witness_member.Goals as goal
 
 pub returns : goal.returns
 returns c =
-    let program = core c.args.program.now in
-    let starts : List StartPath → List ℕ = λ all. codes ",\"objects\":" ++ starts_strings program all in
-    five c.push_class_string.ensures c.push_entries.ensures c.push_legs.ensures (same_piece c.push_start_strings.ensures
-    (ap starts c.as_slice.ensures)) c.push_text.ensures
+    three c.push_text.ensures c.push_witness_file.ensures c.push_text-2.ensures

@@ -20,7 +20,7 @@ returns c =
     let other = runs p second.thread second.steps second.turns between in
     c.race_verdict.ensures
     ∙ sym (through p race_verdict 0 first (second ∷ []) one between
-    (subst (λ (o : Option ℕ). IsReplayed (replayed 0 first.steps one) o between) c.in_default.is c.in_ok-steps.ensures)
+    (subst (λ (o : Option ℕ). IsReplayed (replayed first.steps one) o between) c.in_default.is c.in_ok-steps.ensures)
     ∙ through p race_verdict 1 second [] other end
-    (subst (λ (o : Option ℕ). IsReplayed (replayed 0 second.steps other) o end) c.in_default-2.is
+    (subst (λ (o : Option ℕ). IsReplayed (replayed second.steps other) o end) c.in_default-2.is
     c.in_ok-steps-2.ensures))
