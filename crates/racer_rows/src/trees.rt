@@ -1,9 +1,8 @@
 //! The parts of members, as one line says them.
 use crate::page::Page;
-use java_parser_grammar::HeadResult;
 use java_tree::{
-    AnnotationTree, BaseType, FieldInitialiser, FieldVariable, ModifierTree, ParameterTree,
-    ResultTree, TypeTree,
+    AnnotationTree, BaseType, FieldInitialiser, FieldVariable, HeadResult, ModifierTree,
+    ParameterTree, ResultTree, TypeTree,
 };
 
 /// An annotation: its names, and what stands in its brackets.

@@ -6,8 +6,7 @@ use crate::trees::{
 };
 use java_lexer::Lexed;
 use java_parser::{let_go, parse_unit};
-use java_parser_grammar::{ClassTree, Member, OutsideHead, ParseFault, Unit};
-use java_tree::{FieldTree, MethodTree};
+use java_tree::{ClassTree, FieldTree, Member, MethodTree, OutsideHead, ParseFault, Unit};
 use std::alloc::Global;
 
 fn put_field(page: &mut Page, field: &FieldTree) {
