@@ -12,6 +12,10 @@
 //! met is the answer of the pool.
 //!
 //! The gate is called behind each take of a method and before each publication, by workers and by the rest alike.
+//!
+//! A worker that meets want of memory ends the run with it. What workers are given is one struct of references, for
+//! the loop of a thread and for the rest alike. A worker is let work from outside too (`run_workers`), so that the
+//! store can be tried without what follows the join.
 #![tactic(auto)]
 
 mod given;

@@ -1,5 +1,9 @@
 //! What every crate of the analyser stands on: numbers and places of what was read, small types that
 //! contracts see as lists, the limits, the traits of the outside, and standard output.
+//!
+//! A text of up to 16 bytes lies in the `Text` itself, so that most tokens take no memory of their own; one that was
+//! made of a `String` gives that one back. Standard output is written without a buffer, so there is nothing to flush.
+//! The forms of the outside are crates of their own, since every other crate waits for this one and loads it.
 #![tactic(auto)]
 
 mod ids;

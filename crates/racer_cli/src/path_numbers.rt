@@ -2,25 +2,24 @@
 use crate::store_alone::{TEN, program};
 use access_domain::{Access, Accesses, Summary};
 use access_paths::{Path, PathFields, PathTable, Root};
-use call_subst::substitute_numbered;
+use call_subst::{substitute, substitute_value};
 use core_code::Program;
-use owner_domain::{NumberedState, NumberedValue, Value, join_numbered};
-use racer_base::{FieldId, Items, Memory, MethodId, SiteId, Touch};
+use owner_domain::{FlowState, NumberedValue, Value};
+use racer_base::{FieldId, Memory, MethodId, SiteId, Touch, VarId};
 use std::alloc::Global;
 use std::test::Fail;
 use wobbly_paths::{Adding, Wobbly};
 
 /// Whether paths get the next numbers, and one that is there keeps its own.
 fn numbers_are_given(alloc: Global) -> Result<bool, Memory> {
-    let this = Path::alone(alloc, Root::This);
     let parameter = Path::alone(alloc, Root::Formal(1));
     let mut table = PathTable::new(alloc);
-    let first = table.intern(&this)?;
-    let second = table.intern(&parameter)?;
+    let first = table.number_of(Path::alone(alloc, Root::This))?;
+    let second = table.number_of(parameter.copied(alloc)?)?;
     let is_kept = *table.path_of(second) == parameter;
-    let again = table.intern(&this)?;
+    let again = table.number_of(Path::alone(alloc, Root::This))?;
     let longer = table.lengthened(again, FieldId(7))?;
-    let twice = table.intern(&parameter)?;
+    let twice = table.number_of(parameter)?;
     Ok(first == 0 && second == 1 && is_kept && again == 0 && longer == Some(2) && twice == 1)
 }
 
@@ -32,22 +31,25 @@ fn paths_end_at_sixteen_fields(alloc: Global) -> Result<bool, Memory> {
         fields,
     };
     let mut table = PathTable::new(alloc);
-    let number = table.intern(&long)?;
+    let number = table.number_of(long)?;
     let longer = table.lengthened(number, FieldId(1))?;
     Ok(number == 0 && longer.is_none())
 }
 
-/// Values in the variables, and nothing on the stack.
-fn state(alloc: Global, values: &[NumberedValue]) -> Result<NumberedState, Memory> {
-    Ok(NumberedState {
-        vars: Items::from(Vec::from_slice(alloc, values)?),
-        stack: Items::from(Vec::new(alloc)),
-    })
+/// These variables, and nothing on the stack.
+fn state(alloc: Global, values: &[NumberedValue]) -> Result<FlowState, Memory> {
+    Ok(FlowState::new(alloc, Vec::from_slice(alloc, values)?))
+}
+
+/// The value of a variable.
+fn variable(state: &mut FlowState, number: u32) -> Result<NumberedValue, Memory> {
+    state.push_variable(VarId(number))?;
+    Ok(state.pop())
 }
 
 /// Whether a join keeps what is the same, and loses both names of what is not.
 fn names_are_lost(alloc: Global) -> Result<bool, Memory> {
-    let a = state(
+    let mut a = state(
         alloc,
         &[
             NumberedValue::Named(4),
@@ -65,18 +67,28 @@ fn names_are_lost(alloc: Global) -> Result<bool, Memory> {
             NumberedValue::Unnamed,
         ],
     )?;
-    let (joined, lost) = join_numbered(alloc, &a, &b)?;
+    let (changed, lost) = a.meet_losing(alloc, b)?;
     let values = [
+        variable(&mut a, 0)?,
+        variable(&mut a, 1)?,
+        variable(&mut a, 2)?,
+        variable(&mut a, 3)?,
+    ];
+    let joined = [
         NumberedValue::Named(4),
         NumberedValue::Unnamed,
         NumberedValue::Unnamed,
         NumberedValue::Unnamed,
     ];
-    Ok(joined.vars.as_slice() == values.as_slice() && lost.as_slice() == [5, 6, 7, 8].as_slice())
+    Ok(
+        changed
+            && values.as_slice() == joined.as_slice()
+            && lost.as_slice() == [5, 6, 7, 8].as_slice(),
+    )
 }
 
-/// A read of a field of the first parameter, under some lock or not.
-fn access(alloc: Global, locked: bool) -> Result<Access, Memory> {
+/// A read of a field of the first parameter, under some lock.
+fn access(alloc: Global) -> Result<Access, Memory> {
     let parameter = Path::alone(alloc, Root::Formal(0));
     let Some(path) = parameter.extended(alloc, FieldId(0))? else {
         return Err(Memory);
@@ -84,25 +96,21 @@ fn access(alloc: Global, locked: bool) -> Result<Access, Memory> {
     Ok(Access {
         path,
         kind: Touch::Read,
-        locked,
+        locked: true,
         main: false,
         site: SiteId(0),
         below: None,
     })
 }
 
-/// Such a read under a lock and one without, of a method that loses its first parameter and returns it.
+/// Such a read under a lock, of a method that loses its first parameter and returns it.
 fn summary(alloc: Global) -> Result<Summary, Memory> {
-    let mut accesses = Accesses::new(alloc);
+    let mut records = Vec::new(alloc);
+    records.push(access(alloc)?)?;
     let mut wobbly = Wobbly::new(alloc);
-    let both = (
-        accesses.add(access(alloc, true)?),
-        accesses.add(access(alloc, false)?),
-        wobbly.add(Path::alone(alloc, Root::Formal(0))),
-    );
-    match both {
-        (Adding::Added, Adding::Added, Adding::Added) => Ok(Summary {
-            accesses,
+    match wobbly.add(Path::alone(alloc, Root::Formal(0))) {
+        Adding::Added => Ok(Summary {
+            accesses: Accesses::from_vec(records),
             wobbly,
             result: Value::Named(Path::alone(alloc, Root::Formal(0))),
         }),
@@ -113,10 +121,10 @@ fn summary(alloc: Global) -> Result<Summary, Memory> {
 /// Whether records, wobbly paths and the result get the numbers of what an instance method's first parameter is given.
 fn numbers_are_put_in(alloc: Global, program: &Program, callee: MethodId) -> Result<bool, Memory> {
     let mut table = PathTable::new(alloc);
-    let passed = table.intern(&Path::alone(alloc, Root::Formal(5)))?;
+    let passed = table.number_of(Path::alone(alloc, Root::Formal(5)))?;
     let actuals = [NumberedValue::Owned, NumberedValue::Named(passed)];
     let summary = summary(alloc)?;
-    let made = substitute_numbered(
+    let made = substitute(
         alloc,
         program,
         &mut table,
@@ -127,16 +135,22 @@ fn numbers_are_put_in(alloc: Global, program: &Program, callee: MethodId) -> Res
         false,
         SiteId(4),
     )?;
-    let [first, second] = made.accesses.as_slice() else {
+    let returned = substitute_value(
+        alloc,
+        program,
+        &mut table,
+        callee,
+        actuals.as_slice(),
+        &summary.result,
+    )?;
+    let [record] = made.accesses.as_slice() else {
         return Ok(false);
     };
     Ok(
-        first.path == 1
-            && first.locked
-            && second.path == 1
-            && !second.locked
+        record.path == 1
+            && record.locked
             && made.wobbly.as_slice() == [passed].as_slice()
-            && made.result == NumberedValue::Named(passed),
+            && returned == NumberedValue::Named(passed),
     )
 }
 

@@ -1,4 +1,4 @@
--- No public contract rests on this: the command as `clap` sees it.
+-- A contract of a public call rests on this: the law `words_are_read`. The command as `clap` sees it.
 use Rattle.std.specs.Prelude.{Bool, true, false, List, [], ◌∷◌, ◌++◌, Some, codes, fold, map}
 use Rattle.clap.specs.Kinds.{Kinds}
 use Rattle.clap.specs.Walk.{Rule, rule_of}

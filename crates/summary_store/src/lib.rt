@@ -27,6 +27,11 @@
 //! memory for it. `Store::demand` looks there first, and takes no lock where the callee's piece is found. `Store::find`
 //! looks nowhere else, and lends the piece in place of a copy. That it is right is kept by the type of what a cell
 //! holds; no proof rests on a cell's being set.
+//!
+//! Parked methods are one list of pairs in the order of parking, and a method stands in a list where it is counted
+//! there at least once. A piece is copied by its counter and a pass counts what it found: both can come to their end,
+//! which is want of memory. The history alone takes room at the start. Which workers have left stands beside the
+//! lists.
 #![tactic(auto)]
 
 mod cells;

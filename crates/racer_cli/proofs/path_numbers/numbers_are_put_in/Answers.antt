@@ -1,24 +1,24 @@
-use Rattle.std.proofs.Common.{◌≡◌, ◌<◌, List, [], ◌∷◌, Some, length, slice_get, true, ap, ◌∙◌, sym, subst}
-use Rattle.std.specs.List.{list_all}
+use Rattle.std.proofs.Common.{◌≡◌, List, Some, slice_get, sym, subst}
 use Rattle.access_paths.specs.declared.path.Path.{Path}
-use Rattle.access_paths.proofs.Numbers.{number-at, number-below}
-use Rattle.owner_domain.specs.declared.value.Value.{Value}
-use Rattle.owner_domain.specs.declared.value.Value.TheVariants.{Owned, Named}
+use Rattle.access_paths.proofs.Numbers.{number-below, number-still}
 use Rattle.owner_domain.specs.declared.numbered.NumberedValue.{NumberedValue}
-use Rattle.owner_domain.specs.Numbered.{read_value, IsInRange, AllInRange}
-use Rattle.owner_domain.specs.Values.{has_known_root}
-use Rattle.call_subst.specs.Numbered.{AreActuals}
+use Rattle.owner_domain.specs.Numbered.{AllInRange}
 use Rattle.racer_cli.proofs.path_numbers.numbers_are_put_in.Goals as goal
 
-pub substitute_numbered-requires : goal.substitute_numbered-requires
-substitute_numbered-requires c =
-    let table : List Path = c.intern.new.self in
-    let n = c.in_ok-passed.passed in
+pub substitute-requires : goal.substitute-requires
+substitute-requires c =
+    let table : List Path = c.number_of.new.self in
     let path : Path = c.alone.result in
+    let at : slice_get table c.in_ok-passed.passed ≡ Some path = c.in_ok-passed.ensures.number in
+    subst (λ (values : List NumberedValue). AllInRange table values) (sym c.as_slice.ensures)
+    (tt, (number-below table c.in_ok-passed.passed path at, tt))
+
+pub substitute_value-requires : goal.substitute_value-requires
+substitute_value-requires c =
+    let table : List Path = c.number_of.new.self in
+    let new : List Path = c.substitute.new.table in
+    let path : Path = c.alone.result in
+    let n = c.in_ok-passed.passed in
     let at : slice_get table n ≡ Some path = c.in_ok-passed.ensures.number in
-    subst (λ (values : List NumberedValue). AreActuals table values) (sym c.as_slice.ensures)
-    (record {
-      range = (tt, (number-below table n path at, tt));
-      known = ap (λ (p : Path). list_all has_known_root (Owned ∷ Named p ∷ []))
-          (number-at table n path at ∙ c.alone.ensures);
-    })
+    subst (λ (values : List NumberedValue). AllInRange new values) (sym c.as_slice-2.ensures)
+    (tt, (number-still table new n c.in_ok-made.ensures.table (number-below table n path at), tt))
