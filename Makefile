@@ -3,8 +3,7 @@
 PREFIX = /usr/local
 to = $(DESTDIR)$(PREFIX)
 scripts = racer-diff racer-history racer-html racer-packages racer-sarif racer-summary racer-witness
-modules = $(wildcard tools/java_*.py tools/package_*.py tools/page_*.py tools/report_*.py tools/script_*.py \
-	tools/witness_*.py) tools/page.css tools/page.js tools/page_reading.html
+modules = $(wildcard $(foreach of,java_*.py package_*.py page.* page_* report_*.py script_*.py witness_*.py,tools/lib/$(of)))
 
 .PHONY: install uninstall
 

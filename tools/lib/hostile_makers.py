@@ -3,7 +3,7 @@ import json
 import re
 from pathlib import Path
 
-TOP = Path(__file__).resolve().parent.parent
+TOP = Path(__file__).resolve().parent.parent.parent
 MEBIBYTE = 1 << 20
 TOKEN = re.compile(rb"\s+|\w+|[^\w\s]")
 STATEMENT = re.compile(rb"[^;{}]*[;{}]?")

@@ -14,9 +14,10 @@ NO_REPORT = (ValueError, KeyError, TypeError, AttributeError, IndexError)
 def own_racer():
     """The script racer of this checkout, or of where `make install` has put it; nothing where there is none."""
     here = os.path.dirname(os.path.realpath(__file__))
-    for place in (os.path.join(here, os.pardir, "racer"), os.path.join(here, os.pardir, os.pardir, "bin", "racer")):
-        if os.path.isfile(place):
-            return os.path.realpath(place)
+    for place in ("racer", "bin/racer"):
+        path = os.path.join(here, os.pardir, os.pardir, place)
+        if os.path.isfile(path):
+            return os.path.realpath(path)
     return None
 
 
