@@ -14,14 +14,17 @@ use Rattle.java_tree.specs.Trees as view
 use Rattle.java_tree.specs.View.{ty_of, name_of}
 use Rattle.java_tree.specs.View as viewed
 use Rattle.java_tree.proofs.TypeCounts.{ty_count, ty_counts}
-use Rattle.core_lowering_rules.specs.Trees.{Expr, Init, Inits, ClassOf, Read, Unary, Cast, Conditional, Count, Call, CallOn}
-use Rattle.core_lowering_rules.specs.Trees.{New, NewArray, NewItems, Paren, Selected, Element, expr_then, init_then, Value}
+use Rattle.core_lowering_rules.specs.Trees.{Expr, Init, Inits, ClassOf, Read, Unary, Cast, Conditional, Count, Call}
+use Rattle.core_lowering_rules.specs.Trees.{CallOn}
+use Rattle.core_lowering_rules.specs.Trees.{New, NewArray, NewItems, Paren, Selected, Element, expr_then, init_then}
+use Rattle.core_lowering_rules.specs.Trees.{Value}
 use Rattle.core_lowering_rules.specs.Trees.{Items, pack_exprs, pack_inits}
 use Rattle.core_lowering_rules.specs.TreesOf.{access_of, assignment, binary, prefix, expr_of, init_of, items_of}
 use Rattle.core_lowering_rules.specs.Trees as tree
 use Rattle.core_lowering_rules.specs.TreesOf as lowered
 use Rattle.core_lowering_rules.proofs.FilledTrees.{Filled, filled, skip, skip-is, one-is, two-is, three-is}
-use Rattle.core_lowering_rules.proofs.FilledTrees.{passing-is, filled_names, then_name, called, expr, exprs, array, inits, init}
+use Rattle.core_lowering_rules.proofs.FilledTrees.{passing-is, filled_names, then_name, called, expr, exprs, array}
+use Rattle.core_lowering_rules.proofs.FilledTrees.{inits, init}
 
 abbrev pub HasExpr : Expression → Type 0
 HasExpr e = (rest : Places) → expr (viewed.expr_of e) (expr_places e rest) ≡ filled (expr_of e) rest

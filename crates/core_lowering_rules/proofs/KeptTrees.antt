@@ -35,8 +35,10 @@ use Rattle.core_lowering_rules.specs.Trees.{Expr, Text, This, ClassOf, Read, Una
 use Rattle.core_lowering_rules.specs.Trees.{Assign, Combine, Count, Call, CallOn, New, NewArray, NewItems, Paren}
 use Rattle.core_lowering_rules.specs.Trees as tree
 use Rattle.core_lowering_rules.specs.Trees.{Init, Inits, Stmt, pack_exprs, pack_inits, pack_stmts}
-use Rattle.core_lowering_rules.specs.TreesOf.{access_of, literal, is_assignment, assignment, is_logical, binary, is_count}
-use Rattle.core_lowering_rules.specs.TreesOf.{prefix, call, expr_of, init_of, items_of, variable_of, start_of, if_of, stmt_of}
+use Rattle.core_lowering_rules.specs.TreesOf.{access_of, literal, is_assignment, assignment, is_logical, binary}
+use Rattle.core_lowering_rules.specs.TreesOf.{is_count}
+use Rattle.core_lowering_rules.specs.TreesOf.{prefix, call, expr_of, init_of, items_of, variable_of, start_of, if_of}
+use Rattle.core_lowering_rules.specs.TreesOf.{stmt_of}
 use Rattle.core_lowering_rules.specs.TreesOf.{catch_of, group_of, try_of}
 use Rattle.core_lowering_rules.specs.TreesOf as lowered
 use Rattle.core_lowering_rules.specs.LoweredForms.{is_lowered, are_lowered}

@@ -27,8 +27,10 @@ use Rattle.core_code.specs.KindCheck.{after_set}
 use Rattle.core_lowering_rules.specs.ValueKinds.{ValueKind, Of}
 use Rattle.core_lowering_rules.specs.ValueKinds as value
 use Rattle.core_lowering_rules.specs.Context.{Context, Code, op_at, op, push_this, push_own_class}
-use Rattle.core_lowering_rules.specs.Assignments.{Storage, InVariable, InField, Elsewhere, kind_in, in_field, of_meaning, of_name}
-use Rattle.core_lowering_rules.specs.Assignments.{of_class, of_object, of_value, selected, element, read, assigned, combined}
+use Rattle.core_lowering_rules.specs.Assignments.{Storage, InVariable, InField, Elsewhere, kind_in, in_field}
+use Rattle.core_lowering_rules.specs.Assignments.{of_meaning, of_name}
+use Rattle.core_lowering_rules.specs.Assignments.{of_class, of_object, of_value, selected, element, read, assigned}
+use Rattle.core_lowering_rules.specs.Assignments.{combined}
 use Rattle.core_lowering_rules.specs.Assignments.{counted, field_at}
 use Rattle.core_lowering_rules.specs.Programs.{field_core}
 use Rattle.core_lowering_rules.proofs.Suits.{Suits, fits-suits, suits-own, class_same}

@@ -25,7 +25,8 @@ use Rattle.core_code.specs.KindCheck.{Kinds, and_then, below_fitting, after_call
 use Rattle.core_lowering_rules.specs.ValueKinds.{ValueKind, Of}
 use Rattle.core_lowering_rules.specs.ValueKinds as value
 use Rattle.core_lowering_rules.specs.Context.{Context, Code, op_at, op, converted, push_this, is_analysed}
-use Rattle.core_lowering_rules.specs.Calls.{Callee, Missing, OfClass, OfObject, info_at, callee_of, callee_found, callee_in}
+use Rattle.core_lowering_rules.specs.Calls.{Callee, Missing, OfClass, OfObject, info_at, callee_of, callee_found}
+use Rattle.core_lowering_rules.specs.Calls.{callee_in}
 use Rattle.core_lowering_rules.specs.Calls.{if_static, own_callee, callee_on, result_of, result_kind}
 use Rattle.core_lowering_rules.specs.Calls.{parameters_of, parameter_kinds, call_at, Passing, called, called_on_value}
 use Rattle.core_lowering_rules.specs.Calls.{called_on}

@@ -12,14 +12,16 @@ use Rattle.core_lowering_rules.specs.Trees.{Expr, Text, This, ClassOf, Read, Una
 use Rattle.core_lowering_rules.specs.Trees.{Assign}
 use Rattle.core_lowering_rules.specs.Trees as tree
 use Rattle.core_lowering_rules.specs.Trees.{Combine, Count, Call, CallOn, New, NewArray, NewItems, Paren, Access, Named}
-use Rattle.core_lowering_rules.specs.Trees.{Selected, Element, NoAccess, Exprs, no_expr, expr_then, Init, Value, Items, Inits}
+use Rattle.core_lowering_rules.specs.Trees.{Selected, Element, NoAccess, Exprs, no_expr, expr_then, Init, Value}
+use Rattle.core_lowering_rules.specs.Trees.{Items, Inits}
 use Rattle.core_lowering_rules.specs.Trees.{no_init, init_then, count_exprs, count_inits}
 use Rattle.core_lowering_rules.specs.ValueKinds.{ValueKind, Of, common_kind}
 use Rattle.core_lowering_rules.specs.Context.{Context, Code, op, choice, push_this, type_kind}
 use Rattle.core_lowering_rules.specs.Assignments.{kind_in}
 use Rattle.core_lowering_rules.specs.Calls.{own_callee}
 use Rattle.core_lowering_rules.specs.Expressions.{class_before, class_written, class_object, kind}
-use Rattle.core_lowering_rules.specs.Expressions.{access_kind, init_kind, cast, code, storage, passed, init_code, items_code}
+use Rattle.core_lowering_rules.specs.Expressions.{access_kind, init_kind, cast, code, storage, passed, init_code}
+use Rattle.core_lowering_rules.specs.Expressions.{items_code}
 use Rattle.core_lowering_rules.proofs.Suits.{suits-common, joined_stack-top, class_same}
 use Rattle.core_lowering_rules.proofs.Runs.{Runs, nothing, followed, once, chosen, outside}
 use Rattle.core_lowering_rules.proofs.Runs.{in_turn_3}
@@ -28,7 +30,8 @@ use Rattle.core_lowering_rules.proofs.KindedAccesses.{Leaves, LeavesMany, IsStor
 use Rattle.core_lowering_rules.proofs.KindedAccesses.{assigned-leaves}
 use Rattle.core_lowering_rules.proofs.KindedAccesses.{combined-leaves, counted-leaves, no_values, is-named, is-selected}
 use Rattle.core_lowering_rules.proofs.KindedAccesses.{is-element, kind_in-selected}
-use Rattle.core_lowering_rules.proofs.KindedCalls.{PassedTo, passed-none, passed-bare, passed-kind, is-own, called-leaves}
+use Rattle.core_lowering_rules.proofs.KindedCalls.{PassedTo, passed-none, passed-bare, passed-kind, is-own}
+use Rattle.core_lowering_rules.proofs.KindedCalls.{called-leaves}
 use Rattle.core_lowering_rules.proofs.KindedCalls.{called_on-leaves, not_made, made-leaves, one_more}
 
 -- the kind of what is stored

@@ -57,18 +57,11 @@ use Rattle.core_lowering_rules.proofs.Runs as runs
 use Rattle.core_lowering_rules.proofs.Stands.{Stands, IsResult, HasMethod}
 use Rattle.core_lowering_rules.proofs.KindedAccesses.{Leaves, pushes, assigned-leaves, is-named}
 use Rattle.core_lowering_rules.proofs.KindedExpressions.{init-leaves}
-use Rattle.core_lowering_rules.proofs.GrownScopes.{Grows, grows-same, grows-then, grows-declared, grows-after_all, HasKinds}
-use Rattle.core_lowering_rules.proofs.GrownScopes.{has-earlier, declared-stands, after_all-stands}
+use Rattle.core_lowering_rules.proofs.GrownScopes.{grows-after_all, grows-parameters, HasKinds, has-earlier}
+use Rattle.core_lowering_rules.proofs.GrownScopes.{after_all-stands, parameters-stand}
 use Rattle.core_lowering_rules.proofs.KindedStatements.{Keeps, closed-keeps, returned-keeps, stmts-keep}
 
 -- ---- parameters
-
-grows-parameters : (context : Context) (ps : List ParameterTree) → Grows context (parameters_declared context ps)
-grows-parameters context [] = grows-same context
-grows-parameters context (p ∷ ps) =
-    let k = type_kind context (ty_of p.kind) in
-    grows-then context (declared context k p.name) (parameters_declared (declared context k p.name) ps)
-    (grows-declared context k p.name) (grows-parameters (declared context k p.name) ps)
 
 abbrev parameter_kind : Context → ParameterTree → Kind
 parameter_kind context p = type_kind context (ty_of p.kind)
@@ -82,15 +75,6 @@ kinds-parameters context (p ∷ ps) =
     ∙ append_assoc context.kinds (k ∷ []) (map (parameter_kind context) ps)
 
 module _ (core : Core) (m : Method) where
-  parameters-stand : (context : Context) (ps : List ParameterTree) → Stands core m context →
-      HasKinds m (parameters_declared context ps) → Stands core m (parameters_declared context ps)
-  parameters-stand context [] s h = s
-  parameters-stand context (p ∷ ps) s h =
-      let k = type_kind context (ty_of p.kind) in
-      let inside = declared context k p.name in
-      let own = has-earlier m inside (parameters_declared inside ps) (grows-parameters inside ps) h in
-      parameters-stand inside ps (declared-stands core m context k p.name s own) h
-
   -- ---- fields
 
   dropped : (context : Context) {code : Code} {kind : ValueKind} → Leaves core m code kind →
