@@ -13,7 +13,7 @@ use Rattle.java_tree.specs.declared.statements.TryTree.{TryTree}
 use Rattle.java_tree.specs.declared.statements.Statement.{Statement, roll-Statement, map-Statement}
 use Rattle.java_tree.specs.declared.statements.Statement.TheOpen as statement
 use Rattle.java_tree.specs.declared.statements.Statement.TheFolds.{ind-Statement, the_lemmas}
-use Rattle.java_tree.specs.KeptPlaces.{Places, Puts, each_puts, maybe_puts, ty_places, expr_places, init_places}
+use Rattle.java_tree.specs.KeptPlaces.{Places, Puts, each_puts, maybe_puts, expr_places, init_places}
 use Rattle.java_tree.specs.KeptPlaces.{variable_places, locals_places, start_places, stmt_places}
 use Rattle.java_tree.specs.KeptPlaces as kept
 use Rattle.java_tree.specs.Trees as view

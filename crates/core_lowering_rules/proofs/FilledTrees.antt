@@ -3,7 +3,6 @@ use Rattle.std.proofs.Common.{◌≡◌, ℕ, suc, zero, List, [], ◌∷◌, �
 use Rattle.racer_base.specs.declared.ids.Place.{Place}
 use Rattle.java_tree.specs.declared.words.Ident.{Ident}
 use Rattle.java_tree.specs.KeptPlaces.{Places}
-use Rattle.java_tree.specs.Trees.{Ty}
 use Rattle.java_tree.specs.Trees as view
 use Rattle.java_tree.proofs.TypeCounts.{ty_count}
 use Rattle.core_lowering_rules.specs.Trees.{Expr, This, ClassOf, Read, Unary, Cast, Conditional, Count, Call, CallOn}

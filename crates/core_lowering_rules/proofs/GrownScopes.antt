@@ -14,7 +14,7 @@ use Rattle.core_lowering_rules.specs.Scopes.{next_variable, new_variable, declar
 use Rattle.core_lowering_rules.specs.Scopes.{after}
 use Rattle.core_lowering_rules.specs.Scopes.{after_all}
 use Rattle.core_lowering_rules.specs.Methods.{parameters_declared}
-use Rattle.core_lowering_rules.proofs.FoundElements.{Each}
+use Rattle.core_lowering_rules.proofs.FoundElements.{Each, each-append}
 use Rattle.core_lowering_rules.proofs.ScopeSteps.{ScopeFact, goes-all, goes-started, goes-after, goes-after_all}
 use Rattle.core_lowering_rules.proofs.ScopeSteps.{goes-parameters}
 use Rattle.core_lowering_rules.proofs.Stands.{Stands, IsVariable}
@@ -74,10 +74,6 @@ declared-there m context k x h =
 
 -- ---- what holds of all variables
 
-each-last : {A : Type 0} (P : A → Type 0) (xs : List A) (x : A) → Each P xs → P x → Each P (xs ++ x ∷ [])
-each-last P [] x all p = (p, tt)
-each-last P (y ∷ xs) x all p = (all.0, each-last P xs x all.1 p)
-
 pub each-drop : {A : Type 0} (P : A → Type 0) (n : ℕ) (xs : List A) → Each P xs → Each P (drop n xs)
 each-drop P zero xs all = all
 each-drop P (suc n) [] all = tt
@@ -90,13 +86,10 @@ module _ (core : Core) (m : Method) where
       HasKinds m (declared context k x) → Stands core m (declared context k x)
   declared-stands context k x s h =
       record {
-        fields = s.fields;
-        methods = s.methods;
-        unread = s.unread;
-        constructors = s.constructors;
+        known = s.known;
         variables =
-            each-last (IsVariable m) context.scope.variables (new_variable context k x) s.variables
-            (declared-there m context k x h);
+            each-append (IsVariable m) context.scope.variables (new_variable context k x ∷ []) s.variables
+            (declared-there m context k x h, tt);
         object = s.object;
         gives = s.gives;
       }
@@ -105,10 +98,7 @@ module _ (core : Core) (m : Method) where
       Stands core m (back_in before inside)
   back-stands before inside s t =
       record {
-        fields = t.fields;
-        methods = t.methods;
-        unread = t.unread;
-        constructors = t.constructors;
+        known = t.known;
         variables = s.variables;
         object = s.object;
         gives = t.gives;

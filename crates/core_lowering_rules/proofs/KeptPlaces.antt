@@ -30,8 +30,8 @@ use Rattle.core_lowering_rules.specs.Programs.{member_sources, default_sources, 
 use Rattle.core_lowering_rules.specs.Programs.{skipped_member, skipped_in, put_in, is_before, in_order}
 use Rattle.core_lowering_rules.specs.Conditions.{kept_of, member_places, class_places}
 use Rattle.core_lowering_rules.specs.Conditions.{unit_places}
-use Rattle.core_lowering_rules.proofs.FoundElements.{Each}
-use Rattle.core_lowering_rules.proofs.KindedPrograms.{each-append, unless}
+use Rattle.core_lowering_rules.proofs.FoundElements.{Each, each-append}
+use Rattle.core_lowering_rules.proofs.KindedPrograms.{unless}
 
 -- ---- lists
 

@@ -1,11 +1,9 @@
 -- Lowered methods are kinded, whatever is in them.
 use Rattle.std.proofs.Common.{◌≡◌, ℕ, ◌+◌, Bool, true, false, cond, List, [], ◌∷◌, ◌++◌, Option, Some, None, map}
 use Rattle.std.proofs.Common.{length, refl}
-use Rattle.std.proofs.Common.{sym, ap, ◌∙◌, append_assoc, append-nil, slice_get, is_some, is_none}
+use Rattle.std.proofs.Common.{sym, ap, ◌∙◌, append_assoc, append-nil, slice_get, is_some}
 use Rattle.std.specs.Prelude.{codes}
 use Rattle.std.specs.List.{flat_map}
-use Rattle.racer_base.specs.declared.ids.FieldId.{FieldId}
-use Rattle.racer_base.specs.declared.ids.MethodId.{MethodId}
 use Rattle.racer_base.specs.declared.ids.Kind.{Kind}
 use Rattle.racer_base.specs.declared.ids.Kind.TheVariants as types
 use Rattle.java_tree.specs.declared.words.Ident.{Ident}
@@ -19,7 +17,6 @@ use Rattle.java_tree.specs.declared.methods.ResultTree.TheVariants as result
 use Rattle.java_tree.specs.View.{ty_of}
 use Rattle.java_tree.specs.declared.unit.Member.{Member}
 use Rattle.java_tree.specs.declared.unit.Member.TheVariants as member
-use Rattle.java_resolver.specs.declared.infos.FieldInfo.{FieldInfo}
 use Rattle.java_resolver.specs.declared.infos.MethodInfo.{MethodInfo}
 use Rattle.java_resolver.specs.Declarations.{class_names, kinds_of, is_constructor}
 use Rattle.java_resolver.specs.Words.{has_word}
@@ -30,7 +27,7 @@ use Rattle.core_code.specs.Core.{Core, Method}
 use Rattle.core_code.specs.Kinds.{StackKind, Plain, Declared, Class, Opaque, joined_stack}
 use Rattle.core_code.specs.KindCheck.{Kinds, and_then, where_true, kinds_after, same_stack, same_declared_kind}
 use Rattle.core_code.specs.KindCheck.{begins_with}
-use Rattle.core_code.specs.KindCheck.{is_kinded, field_at, variable_at}
+use Rattle.core_code.specs.KindCheck.{is_kinded, variable_at}
 use Rattle.core_code.specs.Calls.{taken_by}
 use Rattle.core_code.specs.Calls as core_calls
 use Rattle.core_code.proofs.BoolParts.{both}
@@ -50,11 +47,11 @@ use Rattle.core_lowering_rules.specs.Methods.{parameters_declared, unread, field
 use Rattle.core_lowering_rules.specs.Methods.{body_of, block}
 use Rattle.core_lowering_rules.specs.Methods.{locked, ended, spelled_code, method_code}
 use Rattle.core_lowering_rules.specs.Sites.{numbered}
-use Rattle.core_lowering_rules.specs.Programs.{field_core, method_core}
+use Rattle.core_lowering_rules.specs.Programs.{method_core}
 use Rattle.core_lowering_rules.proofs.Suits.{class_same}
 use Rattle.core_lowering_rules.proofs.Runs.{Runs, whole, nothing, followed, once, outside}
 use Rattle.core_lowering_rules.proofs.Runs as runs
-use Rattle.core_lowering_rules.proofs.Stands.{Stands, IsResult, HasMethod}
+use Rattle.core_lowering_rules.proofs.Stands.{Stands, FolderStands, IsResult}
 use Rattle.core_lowering_rules.proofs.KindedAccesses.{Leaves, pushes, assigned-leaves, is-named}
 use Rattle.core_lowering_rules.proofs.KindedExpressions.{init-leaves}
 use Rattle.core_lowering_rules.proofs.GrownScopes.{grows-after_all, grows-parameters, HasKinds, has-earlier}
@@ -139,10 +136,7 @@ module _ (core : Core) (m : Method) where
   bare-stands : (context : Context) → Stands core m context → Stands core m (without_variables context)
   bare-stands context s =
       record {
-        fields = s.fields;
-        methods = s.methods;
-        unread = s.unread;
-        constructors = s.constructors;
+        known = s.known;
         variables = tt;
         object = s.object;
         gives = s.gives;
@@ -211,7 +205,7 @@ module _ (core : Core) (m : Method) where
   kinds-numbered (Seq first rest) n stack =
       ap (λ (o : Kinds). and_then o (λ s. kinds_after core m (numbered (n + length (steps_of first)) rest) s))
       (kinds-numbered first n stack)
-      ∙ runs.and_then-agree (kinds_after core m first stack)
+      ∙ runs.then-agree (kinds_after core m first stack)
       (λ s. kinds_after core m (numbered (n + length (steps_of first)) rest) s) (λ s. kinds_after core m rest s)
       (kinds-numbered rest (n + length (steps_of first)))
   kinds-numbered (Choice left right) n stack =
@@ -241,19 +235,6 @@ taken-is true own ps = refl
 taken-is false own ps = refl
 
 -- ---- whole methods
-
--- what the program has of the folder
-pub record FolderStands (core : Core) (folder : Folder) : Type 0 where
-  pub fields : (f : FieldId) (info : FieldInfo) → slice_get folder.fields f.0 ≡ Some info →
-      field_at core f ≡ Some (field_core info)
-  pub methods : (n : MethodId) (info : MethodInfo) → slice_get folder.methods n.0 ≡ Some info →
-      elim (slice_get folder.statuses n.0) as (λ _. Bool) [ None ↦ false | Some status ↦ is_none status ] ≡ true →
-      HasMethod core n info
-  pub unread : (n : MethodId) →
-      elim (slice_get folder.statuses n.0) as (λ _. Bool) [ None ↦ false | Some status ↦ is_none status ] ≡ false →
-      core_calls.is_analysed core n ≡ false
-  pub constructors : (n : MethodId) (info : MethodInfo) → slice_get folder.methods n.0 ≡ Some info →
-      info.is_constructor ≡ true → (info.result ≡ types.Declared info.class) × (info.is_static ≡ false)
 
 abbrev pub IsRightResult : MethodInfo → ResultTree → Type 0
 IsRightResult info result.Constructor = (info.result ≡ types.Declared info.class) × (info.is_static ≡ false)
@@ -302,10 +283,7 @@ module _ (core : Core) (folder : Folder) (known : FolderStands core folder) (inf
       IsRight (class_names folder.classes) info body → Stands core m (entered folder (source body))
   entered-stands m body same h right =
       record {
-        fields = known.fields;
-        methods = known.methods;
-        unread = known.unread;
-        constructors = known.constructors;
+        known = known;
         variables = tt;
         object = object-there m body h;
         gives = gives-right m body same h right;

@@ -19,6 +19,7 @@ pub mod LoweredFacts
 pub mod StatusesUnseen
 pub mod LoweredExpressions
 pub mod LoweredStatements
+pub mod TreeSteps
 pub mod KeptTrees
 pub mod KeptPlaces
 pub mod LoweredMethods

@@ -19,7 +19,6 @@ use Rattle.core_code.specs.declared.code.Reason.{Reason}
 use Rattle.core_code.specs.declared.code.Op.{Op as CoreOp}
 use Rattle.core_code.specs.declared.code.Op.TheVariants.{Push, PushClass, PushPrim, PushNull, New as NewOp, Dup, Drop}
 use Rattle.core_code.specs.declared.code.Op.TheVariants.{Get, Put, Set, Prim, Outside}
-use Rattle.core_code.specs.Recursion.{named_by}
 use Rattle.core_lowering_rules.specs.Trees.{Expr, Text, This, ClassOf, Read, Unary, Cast, Binary, Logical, Conditional}
 use Rattle.core_lowering_rules.specs.Trees.{Assign, Combine, Count, Call, CallOn, New, NewArray, NewItems, Paren}
 use Rattle.core_lowering_rules.specs.Trees.{Access}
@@ -28,16 +27,16 @@ use Rattle.core_lowering_rules.specs.Trees.{Items, Inits, no_init, init_then, co
 use Rattle.core_lowering_rules.specs.Trees as tree
 use Rattle.core_lowering_rules.specs.ValueKinds.{ValueKind, Of, is_converted}
 use Rattle.core_lowering_rules.specs.ValueKinds as value
-use Rattle.core_lowering_rules.specs.Context.{Context, Code, op_at, op, converted, push_this, push_own_class}
+use Rattle.core_lowering_rules.specs.Context.{Context, Code, op, converted, push_this, push_own_class}
 use Rattle.core_lowering_rules.specs.Context.{push_owner}
 use Rattle.core_lowering_rules.specs.Context.{type_kind, meaning_of, is_analysed}
 use Rattle.core_lowering_rules.specs.Assignments.{Storage, InVariable, InField, Elsewhere, in_field, of_meaning}
 use Rattle.core_lowering_rules.specs.Assignments.{of_name}
-use Rattle.core_lowering_rules.specs.Assignments.{of_class, of_object, of_value, selected, read, assigned, combined}
+use Rattle.core_lowering_rules.specs.Assignments.{of_class, of_object, selected, read, assigned, combined}
 use Rattle.core_lowering_rules.specs.Assignments.{counted, field_at}
 use Rattle.core_lowering_rules.specs.Calls.{Callee, Missing, OfClass, OfObject, info_at, callee_of, callee_found}
 use Rattle.core_lowering_rules.specs.Calls.{callee_in}
-use Rattle.core_lowering_rules.specs.Calls.{if_static, own_callee, callee_of_value, callee_on, parameter_kinds, call_at}
+use Rattle.core_lowering_rules.specs.Calls.{if_static, own_callee, callee_on, parameter_kinds, call_at}
 use Rattle.core_lowering_rules.specs.Calls.{Passing, called, called_on_value, called_on, constructor_of}
 use Rattle.core_lowering_rules.specs.Calls.{constructor_among}
 use Rattle.core_lowering_rules.specs.Calls.{constructor_in, made_by, made}
@@ -201,7 +200,7 @@ module _ (f : Fact) (statuses : List (Option Reason)) (context : Context) (g : G
       field_named context.folder.fields c in_static name ≡ Some i → f.tests.is_class c ≡ true
   known-class c in_static name i e =
       let h = field-there context.folder.fields c in_static name i e in
-      subst (λ (d : ClassId). f.tests.is_class d ≡ true) h.class_is (g.fields i h.info h.there)
+      subst (λ (d : ClassId). f.tests.is_class d ≡ true) h.class_is (g.known.fields i h.info h.there)
 
   class-stored : (c : ClassId) (x : Ident) → IsPlace x.place → (o : Option FieldId) →
       field_named context.folder.fields c true x.text ≡ o → Stored f (of_class context c x o) (of_class context c x o)
@@ -234,7 +233,7 @@ module _ (f : Fact) (statuses : List (Option Reason)) (context : Context) (g : G
 
   method-there : (m : MethodId) (o : Option MethodInfo) → info_at context m ≡ o → IsThere f.tests (callee_of m o)
   method-there m None e = tt
-  method-there m (Some info) e = by info.is_static (g.methods m info e)
+  method-there m (Some info) e = by info.is_static (g.known.methods m info e)
     where
       by : (b : Bool) → f.tests.is_method m ≡ true → IsThere f.tests (cond b (OfClass m) (OfObject m))
       by true h = h
@@ -306,7 +305,7 @@ module _ (f : Fact) (statuses : List (Option Reason)) (context : Context) (g : G
   constructor-by m n (Some info) e h = by info.is_constructor h
     where
       by : (b : Bool) → cond b (Some m) None ≡ Some n → f.tests.is_method n ≡ true
-      by true k = subst (λ (i : MethodId). f.tests.is_method i ≡ true) (same_Some _ _ k) (g.methods m info e)
+      by true k = subst (λ (i : MethodId). f.tests.is_method i ≡ true) (same_Some _ _ k) (g.known.methods m info e)
       by false k = absurd (none-some _ k)
 
   constructor-there : (o : Option MethodId) (n : MethodId) → constructor_among context o ≡ Some n →
@@ -338,7 +337,7 @@ module _ (f : Fact) (statuses : List (Option Reason)) (context : Context) (g : G
 
   written-there : (xs : List Ident) (c : ClassId) → class_written context xs ≡ Some c → f.tests.is_class c ≡ true
   written-there [] c e = absurd (none-some _ e)
-  written-there (x ∷ []) c e = g.named x.text c e
+  written-there (x ∷ []) c e = g.known.named x.text c e
   written-there (x ∷ y ∷ xs) c e = absurd (none-some _ e)
 
   cast-holds : (k : Kind) → f.Holds (cast other k) (cast context k)
@@ -388,7 +387,7 @@ module _ (f : Fact) (statuses : List (Option Reason)) (context : Context) (g : G
         (on-there c (kind context e) x n)))
     code-holds (New place t es) h =
         made-holds place (type_kind context t) (count_exprs es) (λ ks. passed other ks es)
-        (λ ks. passed context ks es) h.0 (g.types t) (passed-holds es h.1)
+        (λ ks. passed context ks es) h.0 (g.known.types t) (passed-holds es h.1)
     code-holds (NewArray place lengths) h =
         joined f (passed-holds lengths h.1 [] []) (f.single place (Outside (count_exprs lengths)) h.0 refl)
     code-holds (NewItems place items) h =

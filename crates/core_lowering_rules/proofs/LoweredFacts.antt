@@ -1,7 +1,7 @@
 -- A fact of lowered code: what is needed of it so that it holds of all that is lowered. It is told of the code under
 -- other statuses and of the code, so that it may compare them.
-use Rattle.std.proofs.Common.{◌≡◌, ℕ, Bool, true, false, cond, List, [], ◌∷◌, ◌++◌, Option, Some, refl, sym, subst}
-use Rattle.std.proofs.Common.{append-nil}
+use Rattle.std.proofs.Common.{◌≡◌, ℕ, Bool, true, false, cond, List, [], ◌++◌, Some, subst}
+use Rattle.std.proofs.Common.{append-nil, slice_get}
 use Rattle.racer_base.specs.declared.ids.ClassId.{ClassId}
 use Rattle.racer_base.specs.declared.ids.FieldId.{FieldId}
 use Rattle.racer_base.specs.declared.ids.MethodId.{MethodId}
@@ -11,15 +11,13 @@ use Rattle.racer_base.specs.declared.ids.Place.{Place}
 use Rattle.java_tree.specs.Trees.{Ty}
 use Rattle.java_resolver.specs.declared.infos.FieldInfo.{FieldInfo}
 use Rattle.java_resolver.specs.declared.infos.MethodInfo.{MethodInfo}
-use Rattle.java_resolver.specs.TypeKinds.{class_named}
+use Rattle.java_resolver.specs.TypeKinds.{class_named, kind_of}
 use Rattle.java_resolver.specs.Declarations.{class_names}
 use Rattle.core_code.specs.declared.code.Op.{Op as CoreOp}
 use Rattle.core_code.specs.declared.code.Op.TheVariants.{Push, PushClass, PushPrim, PushNull, New, Dup, Drop, Get, Put}
 use Rattle.core_code.specs.declared.code.Op.TheVariants.{Set, Prim, Outside, Call, Unread, Ret, Throw}
 use Rattle.core_code.specs.Recursion.{named_by}
-use Rattle.core_lowering_rules.specs.Context.{Context, Code, op_at, choice, repeated, held, type_kind}
-use Rattle.core_lowering_rules.specs.Assignments.{field_at}
-use Rattle.core_lowering_rules.specs.Calls.{info_at}
+use Rattle.core_lowering_rules.specs.Context.{Context, Folder, Code, op_at, choice, repeated, held}
 use Rattle.core_lowering_rules.proofs.FoundElements.{Each}
 
 -- which places and numbers may stand in code
@@ -49,16 +47,21 @@ is_named is_class is_method (Call m n) = true
 is_named is_class is_method Ret = true
 is_named is_class is_method Throw = true
 
--- what the folder and the method of some code have may stand there
+-- what a folder has may stand there
+pub record GroundedFolder (t : Tests) (folder : Folder) : Type 0 where
+  pub fields : (f : FieldId) (info : FieldInfo) → slice_get folder.fields f.0 ≡ Some info →
+      t.is_class info.class ≡ true
+  pub methods : (m : MethodId) (info : MethodInfo) → slice_get folder.methods m.0 ≡ Some info → t.is_method m ≡ true
+  pub named : (name : List ℕ) (c : ClassId) → class_named (class_names folder.classes) name ≡ Some c →
+      t.is_class c ≡ true
+  pub types : (ty : Ty) → t.is_kind (kind_of (class_names folder.classes) ty) ≡ true
+
+-- the same of the method of some code
 pub record Grounded (t : Tests) (context : Context) : Type 0 where
+  pub known : GroundedFolder t context.folder
   pub here : t.is_place context.place ≡ true
   pub class : t.is_class context.scope.class ≡ true
   pub kinds : Each (λ k. t.is_kind k ≡ true) context.kinds
-  pub fields : (f : FieldId) (info : FieldInfo) → field_at context f ≡ Some info → t.is_class info.class ≡ true
-  pub methods : (m : MethodId) (info : MethodInfo) → info_at context m ≡ Some info → t.is_method m ≡ true
-  pub named : (name : List ℕ) (c : ClassId) → class_named (class_names context.folder.classes) name ≡ Some c →
-      t.is_class c ≡ true
-  pub types : (ty : Ty) → t.is_kind (type_kind context ty) ≡ true
 
 -- nothing, code after code, a choice, a loop, a lock, an operation, a call that is read or not; and an operation that
 -- names no method may be missing on either side

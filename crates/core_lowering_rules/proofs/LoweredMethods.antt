@@ -20,17 +20,15 @@ use Rattle.core_code.proofs.BoolParts.{first_part, last_part}
 use Rattle.core_lowering_rules.specs.TreesOf.{init_of}
 use Rattle.core_lowering_rules.specs.ValueKinds.{ValueKind, Of}
 use Rattle.core_lowering_rules.specs.ValueKinds as value
-use Rattle.core_lowering_rules.specs.Context.{Context, Code, Result, Itself, Nothing, Value, op}
+use Rattle.core_lowering_rules.specs.Context.{Context, Code, Result, Itself, Nothing, Value}
 use Rattle.core_lowering_rules.specs.Assignments.{Storage, of_name, kind_in}
 use Rattle.core_lowering_rules.specs.Expressions.{init_kind}
-use Rattle.core_lowering_rules.specs.Scopes.{after_all}
 use Rattle.core_lowering_rules.specs.Statements.{returned, returned_nothing}
 use Rattle.core_lowering_rules.specs.Methods.{Body, Default, Spelled, Unspelled, Source, parameters_declared, unread}
 use Rattle.core_lowering_rules.specs.Methods.{field_begun, member_begun, fields_begun, body_of, locked, ended}
 use Rattle.core_lowering_rules.specs.Methods.{spelled_code, code_in, kinds_in}
 use Rattle.core_lowering_rules.specs.Conditions.{initialiser_places, variable_places, member_places}
-use Rattle.core_lowering_rules.proofs.FoundElements.{Each}
-use Rattle.core_lowering_rules.proofs.KindedPrograms.{each-append}
+use Rattle.core_lowering_rules.proofs.FoundElements.{Each, each-append}
 use Rattle.core_lowering_rules.proofs.LoweredFacts.{Grounded, Fact, joined, by_test, under, longer, shorter}
 use Rattle.core_lowering_rules.proofs.LoweredExpressions.{here, owner-pushed, assigned-holds, named-stored, init-holds}
 use Rattle.core_lowering_rules.proofs.LoweredStatements.{Beside, beside, stays-beside, after_all-beside, moved}
@@ -103,13 +101,10 @@ module _ (f : Fact) (statuses : List (Option Reason)) where
       let bare : Context = record c { scope = record c.scope { variables = [] } } in
       let grounded : Grounded f.tests bare =
       record {
+        known = g.known;
         here = g.here;
         class = g.class;
         kinds = g.kinds;
-        fields = g.fields;
-        methods = g.methods;
-        named = g.named;
-        types = g.types;
       } in
       all-hold (member_begun (other bare)) (member_begun bare) (λ x. list_all test (member_places x) ≡ true)
       (member-holds bare grounded) xs (each-places test member_places xs h)

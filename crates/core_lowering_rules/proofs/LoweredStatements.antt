@@ -16,19 +16,19 @@ use Rattle.core_lowering_rules.specs.Trees.{Stmt, Run}
 use Rattle.core_lowering_rules.specs.Trees.{Local, If, IfElse, While, For, ForEach, Sync, Return, Block, Empty, Stmts}
 use Rattle.core_lowering_rules.specs.Trees.{no_stmt, stmt_then}
 use Rattle.core_lowering_rules.specs.Context.{Context, Itself, Nothing, Value, Result, Code, op, type_kind}
-use Rattle.core_lowering_rules.specs.Expressions.{kind, code, init_kind, init_code}
-use Rattle.core_lowering_rules.specs.Scopes.{next_variable, declared, all_declared, started, back_in, after, after_all}
+use Rattle.core_lowering_rules.specs.Expressions.{kind, code, init_kind}
+use Rattle.core_lowering_rules.specs.Scopes.{next_variable, started, back_in, after, after_all}
 use Rattle.core_lowering_rules.specs.Scopes.{new_variables}
 use Rattle.core_lowering_rules.specs.Statements.{run, run_all, run_some, set, begun, begun_all, start, cleared, closed}
 use Rattle.core_lowering_rules.specs.Statements.{returned_nothing, returned_value, returned, stmt, stmts}
 use Rattle.core_lowering_rules.specs.Methods.{block}
-use Rattle.core_lowering_rules.proofs.KindedPrograms.{each-append}
+use Rattle.core_lowering_rules.proofs.FoundElements.{each-append}
 use Rattle.core_lowering_rules.proofs.LoweredFacts.{Grounded, Fact, is_named, joined, joined_3, joined_4, either}
 use Rattle.core_lowering_rules.proofs.LoweredFacts.{again, under}
 use Rattle.core_lowering_rules.proofs.LoweredExpressions.{here, conv, code-holds, init-holds}
 use Rattle.core_lowering_rules.proofs.PlacedTrees.{PlacedExpr, PlacedExprs, PlacedOption, PlacedBegin, PlacedVariables}
 use Rattle.core_lowering_rules.proofs.PlacedTrees.{PlacedStart, PlacedStmt, PlacedStmts}
-use Rattle.core_lowering_rules.proofs.ScopeSteps.{ScopeFact, of_type, goes-all, goes-started, goes-after}
+use Rattle.core_lowering_rules.proofs.ScopeSteps.{ScopeFact, of_type, goes-started, goes-after}
 use Rattle.core_lowering_rules.proofs.ScopeSteps.{goes-after_all}
 use Rattle.core_lowering_rules.proofs.StatusesUnseen.{with_statuses}
 
@@ -56,14 +56,11 @@ module _ (f : Fact) (statuses : List (Option Reason)) where
         same = ap (λ (y : Context). of_type y t name) b.same;
         grounded =
             record {
+              known = g.known;
               here = g.here;
               class = g.class;
               kinds =
-                  each-append (λ k. f.tests.is_kind k ≡ true) c.kinds (type_kind c t ∷ []) g.kinds (g.types t, tt);
-              fields = g.fields;
-              methods = g.methods;
-              named = g.named;
-              types = g.types;
+                  each-append (λ k. f.tests.is_kind k ≡ true) c.kinds (type_kind c t ∷ []) g.kinds (g.known.types t, tt);
             };
       }
 
@@ -76,13 +73,10 @@ module _ (f : Fact) (statuses : List (Option Reason)) where
             ap (λ (z : Context). back_in z y) b.same ∙ ap (λ (z : Context). back_in (other c) z) p.same;
         grounded =
             record {
+              known = g.known;
               here = g.here;
               class = let h = b.grounded in h.class;
               kinds = g.kinds;
-              fields = g.fields;
-              methods = g.methods;
-              named = g.named;
-              types = g.types;
             };
       }
 

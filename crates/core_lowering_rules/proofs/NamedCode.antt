@@ -115,13 +115,16 @@ any-kind (k ∷ ks) = (refl, any-kind ks)
 grounded : (context : Context) → Grounded any context
 grounded context =
     record {
+      known =
+          record {
+            fields = λ f info e. refl;
+            methods = λ m info e. refl;
+            named = λ name c e. refl;
+            types = λ t. refl;
+          };
       here = refl;
       class = refl;
       kinds = any-kind context.kinds;
-      fields = λ f info e. refl;
-      methods = λ m info e. refl;
-      named = λ name c e. refl;
-      types = λ t. refl;
     }
 
 method-alike : (statuses : List (Option Reason)) (folder : Folder) (s : Source) → PlacedSource (λ (p : Place). true) s →

@@ -2,7 +2,7 @@
 use Rattle.std.proofs.Common.{◌≡◌, ℕ, ◌+◌, ◌-◌, Bool, true, false, cond, ◌&&◌, ◌||◌, [], ◌∷◌, ◌++◌, Option}
 use Rattle.std.proofs.Common.{Some, None, length, refl, sym, ap, ◌∙◌, nat_eq, nat_le, length-append}
 use Rattle.std.specs.List.{list_all}
-use Rattle.std.proofs.Math.Bool.{and_assoc}
+use Rattle.std.proofs.Math.Bool.{and_assoc, and-false}
 use Rattle.std.proofs.lemmas.List.{length-map}
 use Rattle.std.proofs.lemmas.Bool.{eq-eqb}
 use Rattle.std.proofs.lemmas.List.Folds.{list_all-append}
@@ -17,15 +17,9 @@ use Rattle.core_lowering_rules.specs.Context.{Context, Code, op}
 use Rattle.core_lowering_rules.specs.Statements.{returned, returned_nothing}
 use Rattle.core_lowering_rules.specs.Methods.{ended}
 use Rattle.core_lowering_rules.specs.Sites.{numbered}
-use Rattle.core_lowering_rules.proofs.Runs.{op_right, part_right}
+use Rattle.core_lowering_rules.proofs.Runs.{op_right, part_right, then-agree}
 
 -- ---- heights and calls
-
-after-agree : (o : Option ℕ) (f g : ℕ → Option ℕ) → ((k : ℕ) → f k ≡ g k) →
-    elim o as (λ (x : Option ℕ). Option ℕ) [ None ↦ None | Some k ↦ f k ] ≡
-    elim o as (λ (x : Option ℕ). Option ℕ) [ None ↦ None | Some k ↦ g k ]
-after-agree None f g same = refl
-after-agree (Some k) f g same = same k
 
 pub height-numbered : (t : Tree) (n h : ℕ) → height_after (numbered n t) h ≡ height_after t h
 height-numbered (Op site place o) n h = refl
@@ -34,7 +28,7 @@ height-numbered (Seq first rest) n h =
     let later = numbered (n + length (steps_of first)) rest in
     ap (λ (o : Option ℕ). elim o as (λ (x : Option ℕ). Option ℕ) [ None ↦ None | Some k ↦ height_after later k ])
     (height-numbered first n h)
-    ∙ after-agree (height_after first h) (height_after later) (height_after rest)
+    ∙ then-agree (height_after first h) (height_after later) (height_after rest)
     (height-numbered rest (n + length (steps_of first)))
 height-numbered (Choice left right) n h =
     ap (λ o. same_height o (height_after (numbered (n + length (steps_of left)) right) h)) (height-numbered left n h)
@@ -126,20 +120,16 @@ can_end-append (part ∷ a) b =
     ap (λ x. can_end part && x) (can_end-append a b)
     ∙ sym (and_assoc (can_end part) (can_end (in_sequence a)) (can_end (in_sequence b)))
 
-never : (b : Bool) → (b && false) ≡ false
-never true = refl
-never false = refl
-
 returned-ends : (context : Context) → can_end (in_sequence (returned context None)) ≡ false
 returned-ends context =
     can_end-append (returned_nothing context context.result) (op context Ret)
-    ∙ never (can_end (in_sequence (returned_nothing context context.result)))
+    ∙ and-false (can_end (in_sequence (returned_nothing context context.result)))
 
 ends-by : (context : Context) (body : Code) (b : Bool) → can_end (in_sequence body) ≡ b →
     can_end (in_sequence (cond b (body ++ returned context None) body)) ≡ false
 ends-by context body true e =
     can_end-append body (returned context None)
-    ∙ ap (λ x. can_end (in_sequence body) && x) (returned-ends context) ∙ never (can_end (in_sequence body))
+    ∙ ap (λ x. can_end (in_sequence body) && x) (returned-ends context) ∙ and-false (can_end (in_sequence body))
 ends-by context body false e = e
 
 -- code with a return at its end does not end otherwise

@@ -48,9 +48,9 @@ use Rattle.core_lowering_rules.specs.Programs.{method_cores}
 use Rattle.core_lowering_rules.specs.Programs.{program_of}
 use Rattle.core_lowering_rules.specs.Conditions.{member_places}
 use Rattle.core_lowering_rules.specs.Conditions.{are_in_files}
-use Rattle.core_lowering_rules.proofs.FoundElements.{Each, first-passes}
+use Rattle.core_lowering_rules.proofs.FoundElements.{Each, each-append, each-flat_map, first-passes}
 use Rattle.core_lowering_rules.proofs.KindedMethods.{kinded}
-use Rattle.core_lowering_rules.proofs.KindedPrograms.{each-append, each-flat_map, each-at, unless, known}
+use Rattle.core_lowering_rules.proofs.KindedPrograms.{each-at, unless, known}
 use Rattle.core_lowering_rules.proofs.KindedPrograms.{sources-same, IsRightSource}
 use Rattle.core_lowering_rules.proofs.KindedPrograms.{sources-right, folder-stands}
 use Rattle.core_lowering_rules.proofs.InRangeCode.{numbers, fineness, found-below, code-in_range}
@@ -249,13 +249,16 @@ module _ (files : List (List ℕ)) (units : List unit_type.Unit) (is_recursive :
   grounded : (s : Source) → IsSound s → Grounded (numbers core) (entered folder s)
   grounded s right =
       record {
+        known =
+            record {
+              fields = λ f info e. let h = each-at IsFieldThere (fields_of units) f.0 info fields-there e in h.0;
+              methods = method-there;
+              named = named-there;
+              types = kind-there;
+            };
         here = right.place;
         class = right.class;
         kinds = own-kinds s.info.is_static s.info.class right.class;
-        fields = λ f info e. let h = each-at IsFieldThere (fields_of units) f.0 info fields-there e in h.0;
-        methods = method-there;
-        named = named-there;
-        types = kind-there;
       }
 
   code-right : (s : Source) (status : Option Reason) → IsRightSource (names_of units) s → IsSound s →
