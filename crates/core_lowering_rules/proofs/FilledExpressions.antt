@@ -59,7 +59,8 @@ exprs-filled (e ∷ es) rest =
     (e.1 (each_puts (map expr_places (plain_exprs es)) rest)) (exprs-filled es rest)
 
 inits-filled : (is : List (Initialisers filling)) (rest : Places)
-    → inits (view.pack_inits (map viewed.init_of (plain_inits filling is))) (each_puts (map init_places (plain_inits filling is)) rest)
+    → inits (view.pack_inits (map viewed.init_of (plain_inits filling is)))
+    (each_puts (map init_places (plain_inits filling is)) rest)
     ≡ filled (pack_inits (map init_of (plain_inits filling is))) rest
 inits-filled [] rest = refl
 inits-filled (i ∷ is) rest =

@@ -13,7 +13,7 @@ use Rattle.core_code.specs.declared.code.Op.{Op as CoreOp}
 use Rattle.core_code.specs.declared.code.Op.TheVariants.{Push, PushClass, PushPrim, PushNull, New, Dup, Drop, Get, Put}
 use Rattle.core_code.specs.declared.code.Op.TheVariants.{Set, Prim, Outside, Call, Unread, Ret, Throw}
 use Rattle.core_code.specs.declared.parts.FieldCore.{FieldCore}
-use Rattle.core_code.specs.Tree.{Tree, Op, Skip, Seq, Choice, Loop, Sync, steps_of}
+use Rattle.core_code.specs.Tree.{Tree, Op, Skip, Seq, Choice, Loop, Sync}
 use Rattle.core_code.specs.Tree.{in_sequence}
 use Rattle.core_code.specs.Core.{Core, Method}
 use Rattle.core_code.specs.Kinds.{StackKind, joined_stack}
@@ -25,6 +25,7 @@ use Rattle.core_code.proofs.BoolParts.{both, first_part, last_part}
 use Rattle.core_code.proofs.InRange.{then_in_range, held_in_range}
 use Rattle.core_lowering_rules.specs.Context.{Code, op_at, own_at}
 use Rattle.core_lowering_rules.specs.Sites.{numbered}
+use Rattle.core_lowering_rules.proofs.NumberedTrees.{SiteFact, same-numbered}
 use Rattle.core_lowering_rules.proofs.LoweredFacts.{Tests, Fact, is_named}
 
 -- ---- what the check of kinds does not look at
@@ -64,7 +65,8 @@ module _ (core : Core) where
   pub one : (place : Place) (o : CoreOp) → is_place core place ≡ true →
       is_named (is_class core) (is_method core) o ≡ true → Fine core (op_at place o)
   one place o p q =
-      alone (Op (record { 0 = 0 }) place o) (both (is_place core place) (is_named (is_class core) (is_method core) o) p q)
+      alone (Op (record { 0 = 0 }) place o)
+      (both (is_place core place) (is_named (is_class core) (is_method core) o) p q)
 
   -- read or not
   pub call : (place : Place) (m : MethodId) (n : ℕ) (b : Bool) → is_place core place ≡ true → is_method core m ≡ true →
@@ -105,17 +107,17 @@ module _ (core : Core) where
 
   -- ---- numbers of sites
 
-  sound-numbered : (t : Tree) (n : ℕ) → is_sound core (numbered n t) ≡ is_sound core t
-  sound-numbered (Op site place o) n = refl
-  sound-numbered Skip n = refl
-  sound-numbered (Seq first rest) n =
-      ap (λ b. b && is_sound core (numbered (n + length (steps_of first)) rest)) (sound-numbered first n)
-      ∙ ap (λ b. is_sound core first && b) (sound-numbered rest (n + length (steps_of first)))
-  sound-numbered (Choice left right) n =
-      ap (λ b. b && is_sound core (numbered (n + length (steps_of left)) right)) (sound-numbered left n)
-      ∙ ap (λ b. is_sound core left && b) (sound-numbered right (n + length (steps_of left)))
-  sound-numbered (Loop body) n = sound-numbered body n
-  sound-numbered (Sync lock body) n = ap (λ b. is_place core lock.place && b) (sound-numbered body n)
+  abbrev pub same_soundness : SiteFact
+  same_soundness =
+      record {
+        Same = λ a c. is_sound core a ≡ is_sound core c;
+        of_op = λ site other place o. refl;
+        of_skip = refl;
+        of_seq = λ a b c d p q. ap (λ x. x && is_sound core b) p ∙ ap (λ x. is_sound core c && x) q;
+        of_choice = λ a b c d p q. ap (λ x. x && is_sound core b) p ∙ ap (λ x. is_sound core c && x) q;
+        of_loop = λ a c p. p;
+        of_sync = λ lock a c p. ap (λ x. is_place core lock.place && x) p;
+      }
 
   -- ---- what the check of kinds shows
 
@@ -190,7 +192,8 @@ module _ (core : Core) (m : Method) where
       is_sound core t ≡ true → InRange t
   in_range (Op site place o) stack h k =
       let there = first_part (is_place core place) (is_named (is_class core) (is_method core) o) k in
-      let right = op-in_range o stack h (last_part (is_place core place) (is_named (is_class core) (is_method core) o) k) in
+      let right = op-in_range o stack h
+      (last_part (is_place core place) (is_named (is_class core) (is_method core) o) k) in
       both ((is_place core place && is_op core (length m.variables) o) && true) true
       (both (is_place core place && is_op core (length m.variables) o) true
       (both (is_place core place) (is_op core (length m.variables) o) there right) refl) refl
@@ -221,4 +224,4 @@ module _ (core : Core) (m : Method) where
   pub code-in_range : {code : Code} → Fine core code →
       is_some (kinds_after core m (numbered 0 (in_sequence code)) []) ≡ true → InRange (numbered 0 (in_sequence code))
   code-in_range {code} f h =
-      in_range (numbered 0 (in_sequence code)) [] h (sound-numbered core (in_sequence code) 0 ∙ whole core f)
+      in_range (numbered 0 (in_sequence code)) [] h (same-numbered (same_soundness core) (in_sequence code) 0 ∙ whole core f)

@@ -1,6 +1,6 @@
 -- Lowered methods are kinded, whatever is in them.
 use Rattle.std.proofs.Common.{◌≡◌, ℕ, ◌+◌, Bool, true, false, cond, List, [], ◌∷◌, ◌++◌, Option, Some, None, map}
-use Rattle.std.proofs.Common.{length, refl}
+use Rattle.std.proofs.Common.{refl}
 use Rattle.std.proofs.Common.{sym, ap, ◌∙◌, append_assoc, append-nil, slice_get, is_some}
 use Rattle.std.specs.Prelude.{codes}
 use Rattle.std.specs.List.{flat_map}
@@ -22,7 +22,7 @@ use Rattle.java_resolver.specs.Declarations.{class_names, kinds_of, is_construct
 use Rattle.java_resolver.specs.Words.{has_word}
 use Rattle.core_code.specs.declared.code.Op.TheVariants.{PushClass, PushPrim, Drop}
 use Rattle.core_code.specs.declared.code.Reason.{Reason}
-use Rattle.core_code.specs.Tree.{Tree, Op, Skip, Seq, Choice, Loop, Sync, steps_of, can_end, in_sequence}
+use Rattle.core_code.specs.Tree.{Tree, Sync, LockAt, can_end, in_sequence}
 use Rattle.core_code.specs.Core.{Core, Method}
 use Rattle.core_code.specs.Kinds.{StackKind, Plain, Declared, Class, Opaque, joined_stack}
 use Rattle.core_code.specs.KindCheck.{Kinds, and_then, where_true, kinds_after, same_stack, same_declared_kind}
@@ -46,11 +46,11 @@ use Rattle.core_lowering_rules.specs.Methods.{this_kinds, entered}
 use Rattle.core_lowering_rules.specs.Methods.{parameters_declared, unread, field_begun, member_begun, fields_begun}
 use Rattle.core_lowering_rules.specs.Methods.{body_of, block}
 use Rattle.core_lowering_rules.specs.Methods.{locked, ended, spelled_code, method_code}
-use Rattle.core_lowering_rules.specs.Sites.{numbered}
 use Rattle.core_lowering_rules.specs.Programs.{method_core}
 use Rattle.core_lowering_rules.proofs.Suits.{class_same}
 use Rattle.core_lowering_rules.proofs.Runs.{Runs, whole, nothing, followed, once, outside}
 use Rattle.core_lowering_rules.proofs.Runs as runs
+use Rattle.core_lowering_rules.proofs.NumberedTrees.{SiteFact, same-numbered}
 use Rattle.core_lowering_rules.proofs.Stands.{Stands, FolderStands, IsResult}
 use Rattle.core_lowering_rules.proofs.KindedAccesses.{Leaves, pushes, assigned-leaves, is-named}
 use Rattle.core_lowering_rules.proofs.KindedExpressions.{init-leaves}
@@ -197,27 +197,32 @@ module _ (core : Core) (m : Method) where
 
   -- ---- sites
 
+  locked-same : (lock : LockAt) (a c : Tree) →
+      ((stack : List StackKind) → kinds_after core m a stack ≡ kinds_after core m c stack) →
+      (stack : List StackKind) → kinds_after core m (Sync lock a) stack ≡ kinds_after core m (Sync lock c) stack
+  locked-same lock a c p [] = refl
+  locked-same lock a c p (value ∷ stack) = p stack
+
   -- the kinds do not depend on the sites
-  kinds-numbered : (t : Tree) (n : ℕ) (stack : List StackKind) →
-      kinds_after core m (numbered n t) stack ≡ kinds_after core m t stack
-  kinds-numbered (Op site place o) n stack = refl
-  kinds-numbered Skip n stack = refl
-  kinds-numbered (Seq first rest) n stack =
-      ap (λ (o : Kinds). and_then o (λ s. kinds_after core m (numbered (n + length (steps_of first)) rest) s))
-      (kinds-numbered first n stack)
-      ∙ runs.then-agree (kinds_after core m first stack)
-      (λ s. kinds_after core m (numbered (n + length (steps_of first)) rest) s) (λ s. kinds_after core m rest s)
-      (kinds-numbered rest (n + length (steps_of first)))
-  kinds-numbered (Choice left right) n stack =
-      ap (λ (o : Kinds). and_then o (λ a.
-      and_then (kinds_after core m (numbered (n + length (steps_of left)) right) stack) (λ b. joined_stack a b)))
-      (kinds-numbered left n stack)
-      ∙ ap (λ (o : Kinds). and_then (kinds_after core m left stack) (λ a. and_then o (λ b. joined_stack a b)))
-      (kinds-numbered right (n + length (steps_of left)) stack)
-  kinds-numbered (Loop body) n stack =
-      ap (λ (o : Kinds). and_then o (λ after. where_true (same_stack stack after) stack)) (kinds-numbered body n stack)
-  kinds-numbered (Sync place body) n [] = refl
-  kinds-numbered (Sync place body) n (lock ∷ stack) = kinds-numbered body n stack
+  abbrev same_kinds : SiteFact
+  same_kinds =
+      record {
+        Same = λ a c. (stack : List StackKind) → kinds_after core m a stack ≡ kinds_after core m c stack;
+        of_op = λ site other place o stack. refl;
+        of_skip = λ stack. refl;
+        of_seq = λ a b c d p q stack.
+            ap (λ (o : Kinds). and_then o (λ s. kinds_after core m b s)) (p stack)
+            ∙ runs.then-agree (kinds_after core m c stack) (λ s. kinds_after core m b s)
+            (λ s. kinds_after core m d s) q;
+        of_choice = λ a b c d p q stack.
+            ap (λ (o : Kinds). and_then o (λ s.
+            and_then (kinds_after core m b stack) (λ t. joined_stack s t))) (p stack)
+            ∙ ap (λ (o : Kinds). and_then (kinds_after core m c stack) (λ s. and_then o (λ t. joined_stack s t)))
+            (q stack);
+        of_loop = λ a c p stack.
+            ap (λ (o : Kinds). and_then o (λ after. where_true (same_stack stack after) stack)) (p stack);
+        of_sync = locked-same;
+      }
 
 -- ---- what a method takes
 
@@ -299,7 +304,7 @@ module _ (core : Core) (folder : Folder) (known : FolderStands core folder) (inf
       (types.Declared info.class) info.parameters)))
       ∙ begins-append (taken_by (made body)) more in
       let code : kinds_after core (made body) (made body).code [] ≡ Some [] =
-      kinds-numbered core (made body) (in_sequence (method_code folder (source body))) 0 []
+      same-numbered (same_kinds core (made body)) (in_sequence (method_code folder (source body))) 0 []
       ∙ whole core (made body) keeps in
       both (begins_with (taken_by (made body)) (made body).variables)
       (is_some (kinds_after core (made body) (made body).code [])) takes (ap (is_some {T = List StackKind}) code)

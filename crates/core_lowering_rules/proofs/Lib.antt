@@ -1,3 +1,4 @@
+pub mod NumberedTrees
 pub mod Suits
 pub mod Runs
 pub mod FoundElements

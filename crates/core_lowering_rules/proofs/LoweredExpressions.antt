@@ -145,8 +145,8 @@ module _ (f : Fact) (statuses : List (Option Reason)) (context : Context) (g : G
       by : (t : Storage) (b : Code) → f.Holds b (base t) → IsNamePlaced f.tests t →
           f.Holds (combined other (with_base b t) d) (combined context t e)
       by (InVariable i k) b q n =
-          joined_3 f (joined_3 f (here (Push i) refl) p (here (Prim 2) refl)) (conv k k (Of types.Plain) (Of types.Plain))
-          (here (Set i) refl)
+          joined_3 f (joined_3 f (here (Push i) refl) p (here (Prim 2) refl))
+          (conv k k (Of types.Plain) (Of types.Plain)) (here (Set i) refl)
       by (InField i k name c) b q n =
           joined_3 f
           (joined_3 f (joined_3 f q (here Dup refl) (f.single name (Get i) n refl)) p (here (Prim 2) refl))
@@ -282,14 +282,16 @@ module _ (f : Fact) (statuses : List (Option Reason)) (context : Context) (g : G
   called-holds place n a b (OfClass m) h all k =
       joined f (all (parameter_kinds other m) (parameter_kinds context m)) (call-holds place m n h k)
   called-holds place n a b (OfObject m) h all k =
-      joined_3 f this-pushed (all (parameter_kinds other m) (parameter_kinds context m)) (call-holds place m (suc n) h k)
+      joined_3 f this-pushed (all (parameter_kinds other m) (parameter_kinds context m))
+      (call-holds place m (suc n) h k)
 
   on_value-holds : (place : Place) (d e : Code) (n : ℕ) (a b : Passing) (callee : Callee) → IsPlace place →
       f.Holds d e → ArgumentsHold a b → IsThere f.tests callee →
       f.Holds (called_on_value other place d n a callee) (called_on_value context place e n b callee)
   on_value-holds place d e n a b Missing h p all k = joined_3 f p (all [] []) (here (Outside (suc n)) refl)
   on_value-holds place d e n a b (OfClass m) h p all k =
-      joined_4 f p (here Drop refl) (all (parameter_kinds other m) (parameter_kinds context m)) (call-holds place m n h k)
+      joined_4 f p (here Drop refl) (all (parameter_kinds other m) (parameter_kinds context m))
+      (call-holds place m n h k)
   on_value-holds place d e n a b (OfObject m) h p all k =
       joined_3 f p (all (parameter_kinds other m) (parameter_kinds context m)) (call-holds place m (suc n) h k)
 
@@ -379,7 +381,8 @@ module _ (f : Fact) (statuses : List (Option Reason)) (context : Context) (g : G
         (callee_on other (class_before other e) (kind other e) x n)) (code context (CallOn e x es)))
         (sym (class_before-same statuses context e))
         (subst (λ (r : Callee).
-        f.Holds (called_on other x.place c (code other e) n (λ ks. passed other ks es) r) (code context (CallOn e x es)))
+        f.Holds (called_on other x.place c (code other e) n (λ ks. passed other ks es) r)
+        (code context (CallOn e x es)))
         (sym (callee-same statuses context (class_before other e) c (kind other e) (kind context e) x n
         (class_before-same statuses context e) (kind-same statuses context e)))
         (called_on-holds x.place c (code other e) (code context e) n (λ ks. passed other ks es)

@@ -60,7 +60,8 @@ module _ (f : Fact) (statuses : List (Option Reason)) where
               here = g.here;
               class = g.class;
               kinds =
-                  each-append (λ k. f.tests.is_kind k ≡ true) c.kinds (type_kind c t ∷ []) g.kinds (g.known.types t, tt);
+                  each-append (λ k. f.tests.is_kind k ≡ true) c.kinds (type_kind c t ∷ []) g.kinds
+                  (g.known.types t, tt);
             };
       }
 
@@ -196,7 +197,8 @@ module _ (f : Fact) (statuses : List (Option Reason)) where
   returned-holds x c b None h =
       moved x c b (λ y. returned y None) (λ g. joined f (nothing-holds c g c.result) (here f statuses c g Ret refl))
   returned-holds x c b (Some e) h =
-      moved x c b (λ y. returned y (Some e)) (λ g. joined f (value-holds c g c.result e h) (here f statuses c g Ret refl))
+      moved x c b (λ y. returned y (Some e))
+      (λ g. joined f (value-holds c g c.result e h) (here f statuses c g Ret refl))
 
   -- ---- statements
 

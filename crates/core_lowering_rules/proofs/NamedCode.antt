@@ -1,22 +1,24 @@
 -- Code names the same methods in its calls, whichever methods are analysed.
-use Rattle.std.proofs.Common.{◌≡◌, ℕ, suc, Bool, true, false, cond, List, [], ◌∷◌, ◌++◌, length, refl, sym, ap, ◌∙◌}
+use Rattle.std.proofs.Common.{◌≡◌, ℕ, suc, Bool, true, false, cond, List, [], ◌∷◌, ◌++◌, refl, sym, ap, ◌∙◌}
 use Rattle.std.proofs.Common.{◌+◌}
 use Rattle.std.proofs.Common.{append-nil, map, Option}
 use Rattle.std.specs.List.{flat_map, list_all}
 use Rattle.std.proofs.lemmas.List.Concat.{flat_map-append}
+use Rattle.std.proofs.lemmas.List.Folds.{flat_map-map}
 use Rattle.racer_base.specs.declared.ids.MethodId.{MethodId}
 use Rattle.racer_base.specs.declared.ids.Kind.{Kind}
 use Rattle.racer_base.specs.declared.ids.Place.{Place}
 use Rattle.core_code.specs.declared.code.Op.TheVariants.{Call, Unread}
 use Rattle.core_code.specs.declared.code.Reason.{Reason}
 use Rattle.core_code.specs.Core.{Method}
-use Rattle.core_code.specs.Tree.{Tree, Op, Skip, Seq, Choice, Loop, Sync, Operation, steps_of, in_sequence}
+use Rattle.core_code.specs.Tree.{Tree, Choice, Operation, steps_of, in_sequence}
 use Rattle.core_code.specs.Recursion.{named_by, all_calls_in}
 use Rattle.core_lowering_rules.specs.Context.{Context, Folder, Code, op_at, choice}
 use Rattle.core_lowering_rules.specs.Methods.{Source, entered, method_code}
 use Rattle.core_lowering_rules.specs.Programs.{method_cores, statuses_from}
 use Rattle.core_lowering_rules.specs.Sites.{numbered}
 use Rattle.core_lowering_rules.proofs.FoundElements.{Each}
+use Rattle.core_lowering_rules.proofs.NumberedTrees.{ops-numbered}
 use Rattle.core_lowering_rules.proofs.LoweredFacts.{Tests, Grounded, Fact}
 use Rattle.core_lowering_rules.proofs.LoweredMethods.{in-holds}
 use Rattle.core_lowering_rules.proofs.KeptPlaces.{PlacedSource}
@@ -132,25 +134,10 @@ method-alike : (statuses : List (Option Reason)) (folder : Folder) (s : Source) 
 method-alike statuses folder s placed =
     in-holds likeness statuses (entered folder s) (grounded (entered folder s)) s placed s.body placed.body
 
-two : (a b c d : Tree) → all_calls_in a ≡ all_calls_in c → all_calls_in b ≡ all_calls_in d →
-    flat_map methods_named_at (steps_of a ++ steps_of b) ≡ flat_map methods_named_at (steps_of c ++ steps_of d)
-two a b c d h k =
-    flat_map-append methods_named_at (steps_of a) (steps_of b)
-    ∙ ap (λ (front : List MethodId). front ++ all_calls_in b) h
-    ∙ ap (λ (back : List MethodId). all_calls_in c ++ back) k
-    ∙ sym (flat_map-append methods_named_at (steps_of c) (steps_of d))
-
 numbered-named : (t : Tree) (n : ℕ) → all_calls_in (numbered n t) ≡ all_calls_in t
-numbered-named (Op site place o) n = refl
-numbered-named Skip n = refl
-numbered-named (Seq first rest) n =
-    two (numbered n first) (numbered (n + length (steps_of first)) rest) first rest (numbered-named first n)
-    (numbered-named rest (n + length (steps_of first)))
-numbered-named (Choice left right) n =
-    two (numbered n left) (numbered (n + length (steps_of left)) right) left right (numbered-named left n)
-    (numbered-named right (n + length (steps_of left)))
-numbered-named (Loop body) n = numbered-named body n
-numbered-named (Sync place body) n = numbered-named body n
+numbered-named t n =
+    sym (flat_map-map named_by (λ (o : Operation). o.op) (steps_of (numbered n t)))
+    ∙ ap (flat_map named_by) (ops-numbered t n) ∙ flat_map-map named_by (λ (o : Operation). o.op) (steps_of t)
 
 code-named : (c : Code) → all_calls_in (numbered 0 (in_sequence c)) ≡ methods_named c
 code-named c = numbered-named (in_sequence c) 0 ∙ in_sequence-named c

@@ -166,7 +166,8 @@ module _ (files : List (List ℕ)) (units : List unit_type.Unit) (is_recursive :
   fields-there =
       bounded-by_class IsFieldThere (PlacedClass test-here) (class_fields (names_of units)) (length (trees_of units))
       (λ c tree below p.
-      each-flat_map IsFieldThere (member_fields (names_of units) c) (member_fields-there c (there c below)) tree.members)
+      each-flat_map IsFieldThere (member_fields (names_of units) c) (member_fields-there c (there c below))
+      tree.members)
       0 (trees_of units) (omega arith) trees
 
   -- what is known of a method is in range
