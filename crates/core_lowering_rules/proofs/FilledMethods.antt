@@ -26,7 +26,8 @@ use Rattle.core_lowering_rules.specs.LoweredForms.{are_lowered}
 use Rattle.core_lowering_rules.specs.Methods.{body_of}
 use Rattle.core_lowering_rules.specs.Trees.{Init, Stmts}
 use Rattle.core_lowering_rules.specs.TreesOf.{init_of}
-use Rattle.core_lowering_rules.proofs.FilledTrees.{Filled, filled, ident, behind, skip, one, one-is, two-is, each, init, stmts}
+use Rattle.core_lowering_rules.proofs.FilledTrees.{Filled, filled, ident, behind, skip, one, one-is, two-is, each}
+use Rattle.core_lowering_rules.proofs.FilledTrees.{init, stmts}
 use Rattle.core_lowering_rules.proofs.FilledExpressions.{behind-type, init-is}
 use Rattle.core_lowering_rules.proofs.FilledStatements.{stmts-are}
 

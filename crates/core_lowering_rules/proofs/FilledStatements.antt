@@ -13,13 +13,14 @@ use Rattle.java_tree.specs.declared.statements.TryTree.{TryTree}
 use Rattle.java_tree.specs.declared.statements.Statement.{Statement, roll-Statement, map-Statement}
 use Rattle.java_tree.specs.declared.statements.Statement.TheOpen as statement
 use Rattle.java_tree.specs.declared.statements.Statement.TheFolds.{ind-Statement, the_lemmas}
-use Rattle.java_tree.specs.KeptPlaces.{Places, Puts, each_puts, maybe_puts, ty_places, expr_places, init_places}
+use Rattle.java_tree.specs.KeptPlaces.{Places, Puts, each_puts, maybe_puts, expr_places, init_places}
 use Rattle.java_tree.specs.KeptPlaces.{variable_places, locals_places, start_places, stmt_places}
 use Rattle.java_tree.specs.KeptPlaces as kept
 use Rattle.java_tree.specs.Trees as view
 use Rattle.java_tree.specs.View.{ty_of}
 use Rattle.java_tree.specs.View as viewed
-use Rattle.core_lowering_rules.specs.Trees.{Variable, Declares, Runs, Stmt, Run, Local, If, IfElse, While, For, ForEach, Sync}
+use Rattle.core_lowering_rules.specs.Trees.{Variable, Declares, Runs, Stmt, Run, Local, If, IfElse, While, For}
+use Rattle.core_lowering_rules.specs.Trees.{ForEach, Sync}
 use Rattle.core_lowering_rules.specs.Trees.{Return, Block, expr_then, stmt_then, pack_exprs, pack_stmts}
 use Rattle.core_lowering_rules.specs.TreesOf.{expr_of, init_of, variable_of, start_of, stmt_of}
 use Rattle.core_lowering_rules.specs.TreesOf as lowered

@@ -3,13 +3,16 @@ use Rattle.std.proofs.Common.{◌≡◌, ℕ, suc, zero, List, [], ◌∷◌, �
 use Rattle.racer_base.specs.declared.ids.Place.{Place}
 use Rattle.java_tree.specs.declared.words.Ident.{Ident}
 use Rattle.java_tree.specs.KeptPlaces.{Places}
-use Rattle.java_tree.specs.Trees.{Ty}
 use Rattle.java_tree.specs.Trees as view
 use Rattle.java_tree.proofs.TypeCounts.{ty_count}
-use Rattle.core_lowering_rules.specs.Trees.{Expr, This, ClassOf, Read, Unary, Cast, Conditional, Count, Call, CallOn, New}
-use Rattle.core_lowering_rules.specs.Trees.{NewArray, NewItems, Paren, Named, Selected, Element, Exprs, no_expr, expr_then}
-use Rattle.core_lowering_rules.specs.Trees.{Init, Value, Items, Inits, no_init, init_then, Variable, Start, Declares, Runs}
-use Rattle.core_lowering_rules.specs.Trees.{Stmt, Run, Local, If, IfElse, While, For, ForEach, Sync, Return, Block, Empty}
+use Rattle.core_lowering_rules.specs.Trees.{Expr, This, ClassOf, Read, Unary, Cast, Conditional, Count, Call, CallOn}
+use Rattle.core_lowering_rules.specs.Trees.{New}
+use Rattle.core_lowering_rules.specs.Trees.{NewArray, NewItems, Paren, Named, Selected, Element, Exprs, no_expr}
+use Rattle.core_lowering_rules.specs.Trees.{expr_then}
+use Rattle.core_lowering_rules.specs.Trees.{Init, Value, Items, Inits, no_init, init_then, Variable, Start, Declares}
+use Rattle.core_lowering_rules.specs.Trees.{Runs}
+use Rattle.core_lowering_rules.specs.Trees.{Stmt, Run, Local, If, IfElse, While, For, ForEach, Sync, Return, Block}
+use Rattle.core_lowering_rules.specs.Trees.{Empty}
 use Rattle.core_lowering_rules.specs.Trees.{Stmts, no_stmt, stmt_then}
 use Rattle.core_lowering_rules.specs.TreesOf.{access_of, assignment, binary, prefix, literal}
 

@@ -1,7 +1,8 @@
 -- What is found in the lists of a folder.
 use Rattle.std.proofs.Common.{◌≡◌, ℕ, suc, Bool, true, false, cond, not, ◌&&◌, ◌||◌, List, [], ◌∷◌, Option, Some, None}
-use Rattle.std.proofs.Common.{refl, ap, subst, slice_get, length}
+use Rattle.std.proofs.Common.{refl, ap, subst, slice_get, length, ◌++◌}
 use Rattle.std.specs.Prelude.{option_map, ◌==◌}
+use Rattle.std.specs.List.{flat_map}
 use Rattle.std.specs.Option.{option_or}
 use Rattle.std.proofs.lemmas.Option.{same_Some, none-some}
 use borrow.Author.Tests.{eqb-true}
@@ -107,3 +108,12 @@ pub last-holds : {A : Type 0} (P : A → Type 0) (test : A → Bool) (xs : List 
 last-holds P test [] y all e = absurd (none-some _ e)
 last-holds P test (x ∷ xs) y all e =
     last_from P x (test x) (last_that test xs) y all.0 (last-holds P test xs y all.1) e
+
+pub each-append : {A : Type 0} (P : A → Type 0) (xs ys : List A) → Each P xs → Each P ys → Each P (xs ++ ys)
+each-append P [] ys p q = q
+each-append P (x ∷ xs) ys p q = (p.0, each-append P xs ys p.1 q)
+
+pub each-flat_map : {A B : Type 0} (P : B → Type 0) (f : A → List B) → ((x : A) → Each P (f x)) → (xs : List A) →
+    Each P (flat_map f xs)
+each-flat_map P f all [] = tt
+each-flat_map P f all (x ∷ xs) = each-append P (f x) (flat_map f xs) (all x) (each-flat_map P f all xs)

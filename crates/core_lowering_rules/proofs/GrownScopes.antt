@@ -4,14 +4,19 @@ use Rattle.std.proofs.Common.{ap, ◌∙◌}
 use Rattle.std.proofs.Common.{append_assoc, append-nil, slice_get}
 use Rattle.racer_base.specs.declared.ids.Kind.{Kind}
 use Rattle.java_tree.specs.declared.words.Ident.{Ident}
+use Rattle.java_tree.specs.declared.methods.ParameterTree.{ParameterTree}
+use Rattle.java_tree.specs.Trees.{Ty}
 use Rattle.core_code.specs.Core.{Core, Method}
 use Rattle.core_code.specs.KindCheck.{variable_at}
-use Rattle.core_lowering_rules.specs.Trees.{Variable, Start, Declares, Runs, Stmt, Run, Local, If, IfElse, While, For}
-use Rattle.core_lowering_rules.specs.Trees.{ForEach, Sync, Return, Block, Empty, Stmts, no_stmt, stmt_then}
+use Rattle.core_lowering_rules.specs.Trees.{Variable, Start, Stmt, Stmts}
 use Rattle.core_lowering_rules.specs.Context.{Context, type_kind}
-use Rattle.core_lowering_rules.specs.Scopes.{next_variable, new_variable, declared, all_declared, started, back_in, after}
+use Rattle.core_lowering_rules.specs.Scopes.{next_variable, new_variable, declared, all_declared, started, back_in}
+use Rattle.core_lowering_rules.specs.Scopes.{after}
 use Rattle.core_lowering_rules.specs.Scopes.{after_all}
-use Rattle.core_lowering_rules.proofs.FoundElements.{Each}
+use Rattle.core_lowering_rules.specs.Methods.{parameters_declared}
+use Rattle.core_lowering_rules.proofs.FoundElements.{Each, each-append}
+use Rattle.core_lowering_rules.proofs.ScopeSteps.{ScopeFact, goes-all, goes-started, goes-after, goes-after_all}
+use Rattle.core_lowering_rules.proofs.ScopeSteps.{goes-parameters}
 use Rattle.core_lowering_rules.proofs.Stands.{Stands, IsVariable}
 
 -- the second has the variables of the first, and maybe more
@@ -19,60 +24,31 @@ pub record Grows (first second : Context) : Type 0 where
   pub more : List Kind
   pub longer : second.kinds ≡ first.kinds ++ more
 
-pub grows-same : (context : Context) → Grows context context
-grows-same context = record { more = []; longer = sym (append-nil context.kinds) }
-
-pub grows-then : (a b c : Context) → Grows a b → Grows b c → Grows a c
-grows-then a b c p q =
+abbrev grown : ScopeFact
+grown =
     record {
-      more = p.more ++ q.more;
-      longer =
-          q.longer ∙ ap (λ kinds. kinds ++ q.more) p.longer ∙ append_assoc a.kinds p.more q.more;
+      Goes = λ x c y d. Grows c d;
+      stays = λ x c. record { more = []; longer = sym (append-nil c.kinds) };
+      further = λ x c y d z e p q. record {
+        more = p.more ++ q.more;
+        longer = q.longer ∙ ap (λ kinds. kinds ++ q.more) p.longer ∙ append_assoc c.kinds p.more q.more;
+      };
+      declares = λ x c t name. record { more = type_kind c t ∷ []; longer = refl };
+      backs = λ x c y d p. record { more = p.more; longer = p.longer };
     }
 
-pub grows-declared : (context : Context) (k : Kind) (x : Ident) → Grows context (declared context k x)
-grows-declared context k x = record { more = k ∷ []; longer = refl }
+pub grows-all : (context : Context) (t : Ty) (vs : List Variable) →
+    Grows context (all_declared context (type_kind context t) vs)
+grows-all context t vs = goes-all grown context context t vs
 
-pub grows-all_declared : (context : Context) (k : Kind) (vs : List Variable) → Grows context (all_declared context k vs)
-grows-all_declared context k [] = grows-same context
-grows-all_declared context k (v ∷ vs) =
-    grows-then context (declared context k v.name) (all_declared (declared context k v.name) k vs)
-    (grows-declared context k v.name) (grows-all_declared (declared context k v.name) k vs)
+pub grows-after : (context : Context) (s : Stmt) → Grows context (after context s)
+grows-after context s = goes-after grown context context s
 
-pub grows-started : (context : Context) (i : Start) → Grows context (started context i)
-grows-started context (Declares t vs) = grows-all_declared context (type_kind context t) vs
-grows-started context (Runs es) = grows-same context
+pub grows-after_all : (context : Context) (ss : Stmts) → Grows context (after_all context ss)
+grows-after_all context ss = goes-after_all grown context context ss
 
-mutual
-  pub grows-after : (context : Context) (s : Stmt) → Grows context (after context s)
-  grows-after context (Run e) = grows-same context
-  grows-after context (Local t vs) = grows-all_declared context (type_kind context t) vs
-  grows-after context (If e s) = grows-after context s
-  grows-after context (IfElse e s t) =
-      grows-then context (after context s) (after (after context s) t) (grows-after context s)
-      (grows-after (after context s) t)
-  grows-after context (While e s) = grows-after context s
-  grows-after context (For i e updates s) =
-      let all = grows-then context (started context i) (after (started context i) s) (grows-started context i)
-      (grows-after (started context i) s) in
-      record { more = all.more; longer = all.longer }
-  grows-after context (ForEach t x e s) =
-      let inside = declared context (type_kind context t) x in
-      let all = grows-then context inside (after inside s) (grows-declared context (type_kind context t) x)
-      (grows-after inside s) in
-      record { more = all.more; longer = all.longer }
-  grows-after context (Sync place e ss) =
-      let all = grows-after_all context ss in record { more = all.more; longer = all.longer }
-  grows-after context (Return e) = grows-same context
-  grows-after context (Block ss) =
-      let all = grows-after_all context ss in record { more = all.more; longer = all.longer }
-  grows-after context Empty = grows-same context
-
-  pub grows-after_all : (context : Context) (ss : Stmts) → Grows context (after_all context ss)
-  grows-after_all context no_stmt = grows-same context
-  grows-after_all context (stmt_then s ss) =
-      grows-then context (after context s) (after_all (after context s) ss) (grows-after context s)
-      (grows-after_all (after context s) ss)
+pub grows-parameters : (context : Context) (ps : List ParameterTree) → Grows context (parameters_declared context ps)
+grows-parameters context ps = goes-parameters grown context context ps
 
 -- the method has the variables so far, and maybe more
 pub record HasKinds (m : Method) (context : Context) : Type 0 where
@@ -98,10 +74,6 @@ declared-there m context k x h =
 
 -- ---- what holds of all variables
 
-each-last : {A : Type 0} (P : A → Type 0) (xs : List A) (x : A) → Each P xs → P x → Each P (xs ++ x ∷ [])
-each-last P [] x all p = (p, tt)
-each-last P (y ∷ xs) x all p = (all.0, each-last P xs x all.1 p)
-
 pub each-drop : {A : Type 0} (P : A → Type 0) (n : ℕ) (xs : List A) → Each P xs → Each P (drop n xs)
 each-drop P zero xs all = all
 each-drop P (suc n) [] all = tt
@@ -114,38 +86,19 @@ module _ (core : Core) (m : Method) where
       HasKinds m (declared context k x) → Stands core m (declared context k x)
   declared-stands context k x s h =
       record {
-        fields = s.fields;
-        methods = s.methods;
-        unread = s.unread;
-        constructors = s.constructors;
+        known = s.known;
         variables =
-            each-last (IsVariable m) context.scope.variables (new_variable context k x) s.variables
-            (declared-there m context k x h);
+            each-append (IsVariable m) context.scope.variables (new_variable context k x ∷ []) s.variables
+            (declared-there m context k x h, tt);
         object = s.object;
         gives = s.gives;
       }
-
-  pub all_declared-stands : (context : Context) (k : Kind) (vs : List Variable) → Stands core m context →
-      HasKinds m (all_declared context k vs) → Stands core m (all_declared context k vs)
-  all_declared-stands context k [] s h = s
-  all_declared-stands context k (v ∷ vs) s h =
-      let first = has-earlier m (declared context k v.name) (all_declared (declared context k v.name) k vs)
-      (grows-all_declared (declared context k v.name) k vs) h in
-      all_declared-stands (declared context k v.name) k vs (declared-stands context k v.name s first) h
-
-  pub started-stands : (context : Context) (i : Start) → Stands core m context → HasKinds m (started context i) →
-      Stands core m (started context i)
-  started-stands context (Declares t vs) s h = all_declared-stands context (type_kind context t) vs s h
-  started-stands context (Runs es) s h = s
 
   back-stands : (before inside : Context) → Stands core m before → Stands core m inside →
       Stands core m (back_in before inside)
   back-stands before inside s t =
       record {
-        fields = t.fields;
-        methods = t.methods;
-        unread = t.unread;
-        constructors = t.constructors;
+        known = t.known;
         variables = s.variables;
         object = s.object;
         gives = t.gives;
@@ -155,44 +108,42 @@ module _ (core : Core) (m : Method) where
   pub same-kinds : (before inside : Context) → HasKinds m (back_in before inside) → HasKinds m inside
   same-kinds before inside h = record { rest = h.rest; all = h.all }
 
-  mutual
-    pub after-stands : (context : Context) (s : Stmt) → Stands core m context → HasKinds m (after context s) →
-        Stands core m (after context s)
-    after-stands context (Run e) s h = s
-    after-stands context (Local t vs) s h = all_declared-stands context (type_kind context t) vs s h
-    after-stands context (If e b) s h = after-stands context b s h
-    after-stands context (IfElse e a b) s h =
-        after-stands (after context a) b
-        (after-stands context a s (has-earlier m (after context a) (after (after context a) b)
-        (grows-after (after context a) b) h)) h
-    after-stands context (While e b) s h = after-stands context b s h
-    after-stands context (For i e updates b) s h =
-        let inside = started context i in
-        let own = same-kinds context (after inside b) h in
-        back-stands context (after inside b) s
-        (after-stands inside b
-        (started-stands context i s (has-earlier m inside (after inside b) (grows-after inside b) own)) own)
-    after-stands context (ForEach t x e b) s h =
-        let k = type_kind context t in
-        let inside = declared context k x in
-        let own = same-kinds context (after inside b) h in
-        back-stands context (after inside b) s
-        (after-stands inside b
-        (declared-stands context k x s (has-earlier m inside (after inside b) (grows-after inside b) own)) own)
-    after-stands context (Sync place e ss) s h =
-        back-stands context (after_all context ss) s
-        (after_all-stands context ss s (same-kinds context (after_all context ss) h))
-    after-stands context (Return e) s h = s
-    after-stands context (Block ss) s h =
-        back-stands context (after_all context ss) s
-        (after_all-stands context ss s (same-kinds context (after_all context ss) h))
-    after-stands context Empty s h = s
+  -- where the method has the variables behind
+  record Keeps (c d : Context) : Type 0 where
+    grows : Grows c d
+    stand : Stands core m c → HasKinds m d → Stands core m d
 
-    pub after_all-stands : (context : Context) (ss : Stmts) → Stands core m context →
-        HasKinds m (after_all context ss) →
-        Stands core m (after_all context ss)
-    after_all-stands context no_stmt s h = s
-    after_all-stands context (stmt_then b ss) s h =
-        after_all-stands (after context b) ss
-        (after-stands context b s (has-earlier m (after context b) (after_all (after context b) ss)
-        (grows-after_all (after context b) ss) h)) h
+  abbrev kept : ScopeFact
+  kept =
+      record {
+        Goes = λ x c y d. Keeps c d;
+        stays = λ x c. record { grows = grown.stays x c; stand = λ s h. s };
+        further = λ x c y d z e p q. record {
+          grows = grown.further x c y d z e p.grows q.grows;
+          stand = λ s h. q.stand (p.stand s (has-earlier m d e q.grows h)) h;
+        };
+        declares = λ x c t name. record {
+          grows = grown.declares x c t name;
+          stand = λ s h. declared-stands c (type_kind c t) name s h;
+        };
+        backs = λ x c y d p. record {
+          grows = grown.backs x c y d p.grows;
+          stand = λ s h. back-stands c d s (p.stand s (same-kinds c d h));
+        };
+      }
+
+  pub started-stands : (context : Context) (i : Start) → Stands core m context → HasKinds m (started context i) →
+      Stands core m (started context i)
+  started-stands context i s h = let k = goes-started kept context context i in k.stand s h
+
+  pub after-stands : (context : Context) (s : Stmt) → Stands core m context → HasKinds m (after context s) →
+      Stands core m (after context s)
+  after-stands context b s h = let k = goes-after kept context context b in k.stand s h
+
+  pub after_all-stands : (context : Context) (ss : Stmts) → Stands core m context →
+      HasKinds m (after_all context ss) → Stands core m (after_all context ss)
+  after_all-stands context ss s h = let k = goes-after_all kept context context ss in k.stand s h
+
+  pub parameters-stand : (context : Context) (ps : List ParameterTree) → Stands core m context →
+      HasKinds m (parameters_declared context ps) → Stands core m (parameters_declared context ps)
+  parameters-stand context ps s h = let k = goes-parameters kept context context ps in k.stand s h

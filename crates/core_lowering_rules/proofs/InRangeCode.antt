@@ -6,47 +6,32 @@ use Rattle.std.specs.List.{list_all}
 use borrow.Author.Tests.{ltb-true}
 use Rattle.std.proofs.lemmas.Bool.{false≢true, lt-ltb}
 use Rattle.std.proofs.lemmas.List.Folds.{list_all-append}
+use Rattle.racer_base.specs.declared.ids.MethodId.{MethodId}
 use Rattle.racer_base.specs.declared.ids.Place.{Place}
 use Rattle.racer_base.specs.declared.ids.Kind.{Kind}
 use Rattle.core_code.specs.declared.code.Op.{Op as CoreOp}
 use Rattle.core_code.specs.declared.code.Op.TheVariants.{Push, PushClass, PushPrim, PushNull, New, Dup, Drop, Get, Put}
 use Rattle.core_code.specs.declared.code.Op.TheVariants.{Set, Prim, Outside, Call, Unread, Ret, Throw}
 use Rattle.core_code.specs.declared.parts.FieldCore.{FieldCore}
-use Rattle.core_code.specs.Tree.{Tree, Op, Skip, Seq, Choice, Loop, Sync, steps_of}
+use Rattle.core_code.specs.Tree.{Tree, Op, Skip, Seq, Choice, Loop, Sync}
 use Rattle.core_code.specs.Tree.{in_sequence}
 use Rattle.core_code.specs.Core.{Core, Method}
 use Rattle.core_code.specs.Kinds.{StackKind, joined_stack}
 use Rattle.core_code.specs.KindCheck.{Kinds, and_then, where_true, kinds_after, kinds_after_op, same_stack}
 use Rattle.core_code.specs.KindCheck.{field_at, variable_at, after_push, after_set, after_get, after_put, after_call}
 use Rattle.core_code.specs.Calls.{method_at}
-use Rattle.core_code.specs.Facts.{is_place, is_class, is_method, is_op, is_code}
+use Rattle.core_code.specs.Facts.{is_place, is_class, is_kind, is_method, is_op, is_code}
 use Rattle.core_code.proofs.BoolParts.{both, first_part, last_part}
 use Rattle.core_code.proofs.InRange.{then_in_range, held_in_range}
-use Rattle.core_lowering_rules.specs.Context.{Code, op_at, choice, repeated, held}
+use Rattle.core_lowering_rules.specs.Context.{Code, op_at, own_at}
 use Rattle.core_lowering_rules.specs.Sites.{numbered}
+use Rattle.core_lowering_rules.proofs.NumberedTrees.{SiteFact, same-numbered}
+use Rattle.core_lowering_rules.proofs.LoweredFacts.{Tests, Fact, is_named}
 
 -- ---- what the check of kinds does not look at
 
-abbrev pub is_named_op : Core → CoreOp → Bool
-is_named_op core (PushClass c) = is_class core c
-is_named_op core (New c) = is_class core c
-is_named_op core (Unread m n) = is_method core m
-is_named_op core (Push v) = true
-is_named_op core PushPrim = true
-is_named_op core PushNull = true
-is_named_op core Dup = true
-is_named_op core Drop = true
-is_named_op core (Get f) = true
-is_named_op core (Put f) = true
-is_named_op core (Set v) = true
-is_named_op core (Prim n) = true
-is_named_op core (Outside n) = true
-is_named_op core (Call m n) = true
-is_named_op core Ret = true
-is_named_op core Throw = true
-
 abbrev pub is_sound : Core → Tree → Bool
-is_sound core (Op site place o) = is_place core place && is_named_op core o
+is_sound core (Op site place o) = is_place core place && is_named (is_class core) (is_method core) o
 is_sound core Skip = true
 is_sound core (Seq first rest) = is_sound core first && is_sound core rest
 is_sound core (Choice left right) = is_sound core left && is_sound core right
@@ -65,80 +50,74 @@ module _ (core : Core) where
   pub whole : {code : Code} → Fine core code → is_sound core (in_sequence code) ≡ true
   whole {code} f = sound-sequence code ∙ f.fine
 
-  pub empty : Fine core []
-  empty = record { fine = refl }
-
-  pub joined : {a b : Code} → Fine core a → Fine core b → Fine core (a ++ b)
-  joined {a} {b} p q =
+  pub joined : (a b : Code) → Fine core a → Fine core b → Fine core (a ++ b)
+  joined a b p q =
       record {
         fine =
             list_all-append (is_sound core) a b
             ∙ both (list_all (is_sound core) a) (list_all (is_sound core) b) p.fine q.fine;
       }
 
-  pub joined_3 : {a b c : Code} → Fine core a → Fine core b → Fine core c → Fine core (a ++ b ++ c)
-  joined_3 p q r = joined (joined p q) r
+  -- a part alone
+  pub alone : (part : Tree) → is_sound core part ≡ true → Fine core (part ∷ [])
+  alone part h = record { fine = both (is_sound core part) true h refl }
 
-  pub joined_4 : {a b c d : Code} → Fine core a → Fine core b → Fine core c → Fine core d → Fine core (a ++ b ++ c ++ d)
-  joined_4 p q r s = joined (joined_3 p q r) s
-
-  pub joined_5 : {a b c d e : Code} → Fine core a → Fine core b → Fine core c → Fine core d → Fine core e →
-      Fine core (a ++ b ++ c ++ d ++ e)
-  joined_5 p q r s t = joined (joined_4 p q r s) t
-
-  pub joined_6 : {a b c d e f : Code} → Fine core a → Fine core b → Fine core c → Fine core d → Fine core e →
-      Fine core f → Fine core (a ++ b ++ c ++ d ++ e ++ f)
-  joined_6 p q r s t u = joined (joined_5 p q r s t) u
-
-  pub joined_7 : {a b c d e f g : Code} → Fine core a → Fine core b → Fine core c → Fine core d → Fine core e →
-      Fine core f → Fine core g → Fine core (a ++ b ++ c ++ d ++ e ++ f ++ g)
-  joined_7 p q r s t u v = joined (joined_6 p q r s t u) v
-
-  pub one : (place : Place) (o : CoreOp) → is_place core place ≡ true → is_named_op core o ≡ true →
-      Fine core (op_at place o)
+  pub one : (place : Place) (o : CoreOp) → is_place core place ≡ true →
+      is_named (is_class core) (is_method core) o ≡ true → Fine core (op_at place o)
   one place o p q =
+      alone (Op (record { 0 = 0 }) place o)
+      (both (is_place core place) (is_named (is_class core) (is_method core) o) p q)
+
+  -- read or not
+  pub call : (place : Place) (m : MethodId) (n : ℕ) (b : Bool) → is_place core place ≡ true → is_method core m ≡ true →
+      Fine core (op_at place (cond b (Call m n) (Unread m n)))
+  call place m n true h k = one place (Call m n) h refl
+  call place m n false h k = one place (Unread m n) h k
+
+  pub empty : Fine core []
+  empty = record { fine = refl }
+
+  abbrev pub numbers : Tests
+  numbers =
       record {
-        fine =
-            both (is_place core place && is_named_op core o) true
-            (both (is_place core place) (is_named_op core o) p q) refl;
+        is_place = is_place core;
+        is_class = is_class core;
+        is_method = is_method core;
+        is_kind = is_kind core;
+        of_kind = λ c h. h;
       }
 
-  pub either : {a b : Code} → Fine core a → Fine core b → Fine core (choice a b)
-  either {a} {b} p q =
+  abbrev pub fineness : Fact
+  fineness =
       record {
-        fine =
-            both (is_sound core (in_sequence a) && is_sound core (in_sequence b)) true
-            (both (is_sound core (in_sequence a)) (is_sound core (in_sequence b)) (whole p) (whole q)) refl;
+        tests = numbers;
+        Holds = λ c d. Fine core d;
+        nothing = empty;
+        followed = λ a b c d p q. joined c d p q;
+        chosen = λ a b c d p q. alone (Choice (in_sequence c) (in_sequence d))
+            (both (is_sound core (in_sequence c)) (is_sound core (in_sequence d)) (whole p) (whole q));
+        looped = λ a c p. alone (Loop (in_sequence c)) (whole p);
+        locked = λ place a c there p. alone (Sync (own_at place) (in_sequence c))
+            (both (is_place core place) (is_sound core (in_sequence c)) there (whole p));
+        single = one;
+        called = λ place m n a b h k. call place m n b h k;
+        missing = λ place o h k quiet. one place o h k;
+        added = λ place o h k quiet. empty;
       }
-
-  pub again : {a : Code} → Fine core a → Fine core (repeated a)
-  again {a} p = record { fine = both (is_sound core (in_sequence a)) true (whole p) refl }
-
-  pub under : {a : Code} (place : Place) → is_place core place ≡ true → Fine core a → Fine core (held place a)
-  under {a} place there p =
-      record {
-        fine =
-            both (is_place core place && is_sound core (in_sequence a)) true
-            (both (is_place core place) (is_sound core (in_sequence a)) there (whole p)) refl;
-      }
-
-  pub by_test : {a b : Code} (test : Bool) → Fine core a → Fine core b → Fine core (cond test a b)
-  by_test true p q = p
-  by_test false p q = q
 
   -- ---- numbers of sites
 
-  sound-numbered : (t : Tree) (n : ℕ) → is_sound core (numbered n t) ≡ is_sound core t
-  sound-numbered (Op site place o) n = refl
-  sound-numbered Skip n = refl
-  sound-numbered (Seq first rest) n =
-      ap (λ b. b && is_sound core (numbered (n + length (steps_of first)) rest)) (sound-numbered first n)
-      ∙ ap (λ b. is_sound core first && b) (sound-numbered rest (n + length (steps_of first)))
-  sound-numbered (Choice left right) n =
-      ap (λ b. b && is_sound core (numbered (n + length (steps_of left)) right)) (sound-numbered left n)
-      ∙ ap (λ b. is_sound core left && b) (sound-numbered right (n + length (steps_of left)))
-  sound-numbered (Loop body) n = sound-numbered body n
-  sound-numbered (Sync lock body) n = ap (λ b. is_place core lock.place && b) (sound-numbered body n)
+  abbrev pub same_soundness : SiteFact
+  same_soundness =
+      record {
+        Same = λ a c. is_sound core a ≡ is_sound core c;
+        of_op = λ site other place o. refl;
+        of_skip = refl;
+        of_seq = λ a b c d p q. ap (λ x. x && is_sound core b) p ∙ ap (λ x. is_sound core c && x) q;
+        of_choice = λ a b c d p q. ap (λ x. x && is_sound core b) p ∙ ap (λ x. is_sound core c && x) q;
+        of_loop = λ a c p. p;
+        of_sync = λ lock a c p. ap (λ x. is_place core lock.place && x) p;
+      }
 
   -- ---- what the check of kinds shows
 
@@ -152,7 +131,7 @@ module _ (core : Core) where
 module _ (core : Core) (m : Method) where
   abbrev IsChecked : CoreOp → List StackKind → Type 0
   IsChecked o stack =
-      is_some (kinds_after_op core m o stack) ≡ true → is_named_op core o ≡ true →
+      is_some (kinds_after_op core m o stack) ≡ true → is_named (is_class core) (is_method core) o ≡ true →
       is_op core (length m.variables) o ≡ true
 
   pushed : (o : Option Kind) (stack : List StackKind) → is_some (after_push o stack) ≡ true → is_some o ≡ true
@@ -212,8 +191,9 @@ module _ (core : Core) (m : Method) where
   pub in_range : (t : Tree) (stack : List StackKind) → is_some (kinds_after core m t stack) ≡ true →
       is_sound core t ≡ true → InRange t
   in_range (Op site place o) stack h k =
-      let there = first_part (is_place core place) (is_named_op core o) k in
-      let right = op-in_range o stack h (last_part (is_place core place) (is_named_op core o) k) in
+      let there = first_part (is_place core place) (is_named (is_class core) (is_method core) o) k in
+      let right = op-in_range o stack h
+      (last_part (is_place core place) (is_named (is_class core) (is_method core) o) k) in
       both ((is_place core place && is_op core (length m.variables) o) && true) true
       (both (is_place core place && is_op core (length m.variables) o) true
       (both (is_place core place) (is_op core (length m.variables) o) there right) refl) refl
@@ -244,4 +224,4 @@ module _ (core : Core) (m : Method) where
   pub code-in_range : {code : Code} → Fine core code →
       is_some (kinds_after core m (numbered 0 (in_sequence code)) []) ≡ true → InRange (numbered 0 (in_sequence code))
   code-in_range {code} f h =
-      in_range (numbered 0 (in_sequence code)) [] h (sound-numbered core (in_sequence code) 0 ∙ whole core f)
+      in_range (numbered 0 (in_sequence code)) [] h (same-numbered (same_soundness core) (in_sequence code) 0 ∙ whole core f)

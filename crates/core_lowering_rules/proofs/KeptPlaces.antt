@@ -1,7 +1,7 @@
 -- The places that units keep, part by part.
 use Rattle.std.proofs.Common.{◌≡◌, ℕ, suc, ◌+◌, ◌≤◌, Bool, true, false, cond, List, [], ◌∷◌}
 use Rattle.std.proofs.Common.{◌++◌, None, map, length, refl, sym, ◌∙◌, nat_lt, arith}
-use Rattle.std.specs.List.{flat_map, list_all}
+use Rattle.std.specs.List.{flat_map, list_all, list_any}
 use Rattle.std.proofs.lemmas.Bool.{lt-ltb}
 use Rattle.std.proofs.lemmas.List.Folds.{list_all-append}
 use Rattle.racer_base.specs.declared.ids.ClassId.{ClassId}
@@ -22,15 +22,16 @@ use Rattle.java_tree.specs.declared.unit.ClassTree.{ClassTree}
 use Rattle.java_tree.specs.declared.unit.Member.{Member}
 use Rattle.java_tree.specs.declared.unit.Member.TheVariants as member
 use Rattle.java_resolver.specs.Declarations.{trees_of}
-use Rattle.java_resolver.specs.Declarations.{by_class}
+use Rattle.java_resolver.specs.Declarations.{by_class, names_of, default_constructor, member_is_constructor}
 use Rattle.core_code.proofs.BoolParts.{both, first_part, last_part}
-use Rattle.core_lowering_rules.specs.Methods.{Body, Default, Spelled, Unspelled}
+use Rattle.core_lowering_rules.specs.Methods.{Body, Default, Spelled, Unspelled, Source}
 use Rattle.core_lowering_rules.specs.LoweredForms.{are_lowered, method_body}
+use Rattle.core_lowering_rules.specs.Programs.{member_sources, default_sources, class_sources, sources_of}
 use Rattle.core_lowering_rules.specs.Programs.{skipped_member, skipped_in, put_in, is_before, in_order}
 use Rattle.core_lowering_rules.specs.Conditions.{kept_of, member_places, class_places}
 use Rattle.core_lowering_rules.specs.Conditions.{unit_places}
-use Rattle.core_lowering_rules.proofs.FoundElements.{Each}
-use Rattle.core_lowering_rules.proofs.KindedPrograms.{each-append}
+use Rattle.core_lowering_rules.proofs.FoundElements.{Each, each-append}
+use Rattle.core_lowering_rules.proofs.KindedPrograms.{unless}
 
 -- ---- lists
 
@@ -58,7 +59,7 @@ module _ (test : Place → Bool) where
   abbrev All : List Place → Type 0
   All ps = list_all test ps ≡ true
 
-  pub all-two : (ps qs : List Place) → All (ps ++ qs) → All ps × All qs
+  all-two : (ps qs : List Place) → All (ps ++ qs) → All ps × All qs
   all-two ps qs h =
       let e = sym (list_all-append test ps qs) ∙ h in
       (first_part (list_all test ps) _ e, last_part (list_all test ps) _ e)
@@ -205,3 +206,35 @@ module _ (test : Place → Bool) where
 
   pub body-placed : (t : MethodTree) → Kept (method_marks t) → PlacedBody (method_body t)
   body-placed t h = by-lowered (are_lowered (method_of t).body) t refl h
+
+  -- ---- what methods are made of
+
+  -- of a method, and of the members of its class
+  pub record PlacedSource (s : Source) : Type 0 where
+    pub members : All (flat_map member_places s.members)
+    pub body : PlacedBody s.body
+
+  member-placed : (names : List (List ℕ)) (c : ClassId) (tree : ClassTree) → PlacedClass tree → (x : Member) →
+      All (member_places x) → Each PlacedSource (member_sources names c tree x)
+  member-placed names c tree p (member.Method t) k =
+      (record { members = members-all tree p; body = body-placed t k }, tt)
+  member-placed names c tree p (member.Outside o) k = (record { members = members-all tree p; body = tt }, tt)
+  member-placed names c tree p (member.Field f) k = tt
+  member-placed names c tree p (member.Skipped place) k = tt
+
+  class-placed : (names : List (List ℕ)) (c : ClassId) (tree : ClassTree) → PlacedClass tree →
+      Each PlacedSource (class_sources names c tree)
+  class-placed names c tree p =
+      each-append PlacedSource (default_sources c tree) (flat_map (member_sources names c tree) tree.members)
+      (unless PlacedSource (list_any member_is_constructor tree.members)
+      (record { info = default_constructor c tree; members = tree.members; body = Default } ∷ [])
+      (record { members = members-all tree p; body = tt }, tt))
+      (each-from (λ x. All (member_places x)) PlacedSource (member_sources names c tree)
+      (member-placed names c tree p) tree.members (each-places member_places tree.members (members-all tree p)))
+
+  pub sources-placed : (units : List unit_type.Unit) → All (flat_map unit_places units) →
+      Each PlacedSource (sources_of units)
+  sources-placed units h =
+      bounded-by_class PlacedSource PlacedClass (class_sources (names_of units)) (length (trees_of units))
+      (λ c tree below p. class-placed (names_of units) c tree p) 0 (trees_of units) (omega arith)
+      (trees-placed units h)

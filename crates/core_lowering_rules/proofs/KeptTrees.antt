@@ -8,11 +8,9 @@ use Rattle.racer_base.specs.declared.ids.Place.{Place}
 use Rattle.java_lexer.specs.declared.token.TokenKind.{TokenKind}
 use Rattle.java_lexer.specs.declared.token.TokenKind.TheVariants as token
 use Rattle.java_tree.specs.declared.words.Ident.{Ident}
-use Rattle.java_tree.specs.declared.expressions.Expression.{Expression, roll-Expression, map-Expression}
-use Rattle.java_tree.specs.declared.expressions.Initialiser.{Initialiser, roll-Initialiser, map-Initialiser}
-use Rattle.java_tree.specs.declared.expressions.ArrayTree.{ArrayTree, roll-ArrayTree, map-ArrayTree}
+use Rattle.java_tree.specs.declared.expressions.Expression.{Expression}
+use Rattle.java_tree.specs.declared.expressions.Initialiser.{Initialiser}
 use Rattle.java_tree.specs.declared.expressions.Expression.TheOpen as expression
-use Rattle.java_tree.specs.declared.expressions.Expression.TheFolds.{ind-Expression, ind-Initialiser, the_lemmas}
 use Rattle.java_tree.specs.declared.statements.VariableTree.{VariableTree}
 use Rattle.java_tree.specs.declared.statements.LocalsTree.{LocalsTree}
 use Rattle.java_tree.specs.declared.statements.StartTree.{StartTree}
@@ -34,13 +32,17 @@ use Rattle.core_code.proofs.BoolParts.{first_part, last_part}
 use Rattle.core_lowering_rules.specs.Trees.{Expr, Text, This, ClassOf, Read, Unary, Cast, Binary, Logical, Conditional}
 use Rattle.core_lowering_rules.specs.Trees.{Assign, Combine, Count, Call, CallOn, New, NewArray, NewItems, Paren}
 use Rattle.core_lowering_rules.specs.Trees as tree
-use Rattle.core_lowering_rules.specs.Trees.{Init, Inits, Stmt, pack_exprs, pack_inits, pack_stmts}
-use Rattle.core_lowering_rules.specs.TreesOf.{access_of, literal, is_assignment, assignment, is_logical, binary, is_count}
-use Rattle.core_lowering_rules.specs.TreesOf.{prefix, call, expr_of, init_of, items_of, variable_of, start_of, if_of, stmt_of}
+use Rattle.core_lowering_rules.specs.Trees.{Stmt, pack_exprs, pack_inits, pack_stmts}
+use Rattle.core_lowering_rules.specs.TreesOf.{access_of, literal, is_assignment, is_logical}
+use Rattle.core_lowering_rules.specs.TreesOf.{is_count}
+use Rattle.core_lowering_rules.specs.TreesOf.{expr_of, init_of, variable_of, start_of}
+use Rattle.core_lowering_rules.specs.TreesOf.{stmt_of}
 use Rattle.core_lowering_rules.specs.TreesOf.{catch_of, group_of, try_of}
 use Rattle.core_lowering_rules.specs.TreesOf as lowered
 use Rattle.core_lowering_rules.specs.LoweredForms.{is_lowered, are_lowered}
 use Rattle.core_lowering_rules.proofs.LoweredTrees.{not-lowered, no-try}
+use Rattle.core_lowering_rules.proofs.TreeSteps.{TreeFact, HasExpr, HasInit, Exprs, Initialisers, Layer, InitLayer}
+use Rattle.core_lowering_rules.proofs.TreeSteps.{OfLayer, OfInitLayer, TreeSteps, expr-all, init-all}
 use Rattle.core_lowering_rules.proofs.PlacedTrees.{PlacedExpr, PlacedAccess, PlacedExprs, PlacedInit, PlacedInits}
 use Rattle.core_lowering_rules.proofs.PlacedTrees.{PlacedOption, PlacedBegin, PlacedVariables, PlacedStart, PlacedStmt}
 use Rattle.core_lowering_rules.proofs.PlacedTrees.{PlacedStmts}
@@ -50,23 +52,13 @@ module _ (test : Place → Bool) where
   abbrev pub Splits : Puts → Type 0 → Type 0
   Splits puts P = (rest : List Place) → list_all test (puts rest) ≡ true → P × (list_all test rest ≡ true)
 
-  abbrev pub HasExpr : Expression → Type 0
-  HasExpr e = Splits (expr_places e) (PlacedExpr test (expr_of e))
-
-  abbrev pub HasInit : Initialiser → Type 0
-  HasInit i = Splits (init_places i) (PlacedInit test (init_of i))
-
-  abbrev HasItems : ArrayTree → Type 0
-  HasItems a = Splits (array_places a) (PlacedInits test (items_of a))
-
-  abbrev Exprs : Type 0
-  Exprs = (e : Expression) × HasExpr e
-
-  abbrev Initialisers : Type 0
-  Initialisers = (i : Initialiser) × HasInit i
-
-  abbrev Arrays : Type 0
-  Arrays = (a : ArrayTree) × HasItems a
+  abbrev pub keeping : TreeFact
+  keeping =
+      record {
+        OfExpr = λ v puts t. Splits puts (PlacedExpr test t);
+        OfInit = λ v puts t. Splits puts (PlacedInit test t);
+        OfArray = λ v puts t. Splits puts (PlacedInits test t);
+      }
 
   behind : (ps rest : List Place) → list_all test (ps ++ rest) ≡ true → list_all test rest ≡ true
   behind ps rest h = last_part (list_all test ps) _ (sym (list_all-append test ps rest) ∙ h)
@@ -114,7 +106,7 @@ module _ (test : Place → Bool) where
   literal-placed token.Text text = tt
   literal-placed token.Sign text = tt
 
-  exprs-split : (es : List Exprs) →
+  exprs-split : (es : List (Exprs keeping)) →
       Splits (each_puts (map expr_places (map (λ e. e.0) es)))
       (PlacedExprs test (pack_exprs (map expr_of (map (λ e. e.0) es))))
   exprs-split [] rest h = (tt, h)
@@ -122,7 +114,7 @@ module _ (test : Place → Bool) where
       let p = e.1 (each_puts (map expr_places (map (λ e. e.0) es)) rest) h in
       let q = exprs-split es rest p.1 in ((p.0, q.0), q.1)
 
-  inits-split : (is : List Initialisers) →
+  inits-split : (is : List (Initialisers keeping)) →
       Splits (each_puts (map init_places (map (λ e. e.0) is)))
       (PlacedInits test (pack_inits (map init_of (map (λ e. e.0) is))))
   inits-split [] rest h = (tt, h)
@@ -135,24 +127,7 @@ module _ (test : Place → Bool) where
   names-split [] rest h = h
   names-split (x ∷ xs) rest h = names-split xs rest (after x.place (each_puts (map name_places xs) rest) h)
 
-  -- one layer
-  abbrev Layer : Type 0
-  Layer = expression.Expression-F Exprs Initialisers Arrays
-
-  abbrev plain : Layer → expression.Expression-F Expression Initialiser ArrayTree
-  plain y =
-      map-Expression Exprs Initialisers Arrays Expression Initialiser ArrayTree (λ e. e.0) (λ e. e.0) (λ e. e.0) y
-
-  abbrev places_in : expression.Expression-F Expression Initialiser ArrayTree → Puts
-  places_in x =
-      kept.expr_step
-      (map-Expression Expression Initialiser ArrayTree Puts Puts Puts expr_places init_places array_places x)
-
-  abbrev lowered_in : expression.Expression-F Expression Initialiser ArrayTree → Expr
-  lowered_in x =
-      lowered.expr_step (map-Expression Expression Initialiser ArrayTree Expr Init Inits expr_of init_of items_of x)
-
-  expr-split : (y : Layer) → Splits (places_in (plain y)) (PlacedExpr test (lowered_in (plain y)))
+  expr-split : (y : Layer keeping) → OfLayer keeping y
   expr-split (expression.Assign a op b) rest h =
       let p = a.value.1 (expr_places b.value.0 rest) h in
       let q = b.value.1 rest p.1 in
@@ -214,74 +189,18 @@ module _ (test : Place → Bool) where
       let q = items.1 rest (behind (ty_places t) others (after place (ty_places t ++ others) h)) in
       ((front place (ty_places t ++ others) h, q.0), q.1)
 
-  expr-has : (x : expression.Expression-F Expression Initialiser ArrayTree) (y : Layer) → plain y ≡ x →
-      HasExpr (roll-Expression x)
-  expr-has x y is =
-      let places : expr_places (roll-Expression (plain y)) ≡ places_in (plain y) = search (rules, the_lemmas) in
-      let lower : expr_of (roll-Expression (plain y)) ≡ lowered_in (plain y) = search (rules, the_lemmas) in
-      subst (λ z. HasExpr (roll-Expression z)) is
-      (subst (λ (f : Puts). Splits f (PlacedExpr test (expr_of (roll-Expression (plain y))))) (sym places)
-      (subst (λ (t : Expr). Splits (places_in (plain y)) (PlacedExpr test t)) (sym lower) (expr-split y)))
+  init-split : (y : InitLayer keeping) → OfInitLayer keeping y
+  init-split (expression.Value e) rest h = e.1 rest h
+  init-split (expression.Items items) rest h = items.1 rest h
 
-  abbrev InitLayer : Type 0
-  InitLayer = expression.Initialiser-F Exprs Initialisers Arrays
+  steps : TreeSteps keeping
+  steps = record { of_expr = expr-split; of_init = init-split; of_items = λ is comma rest h. inits-split is rest h }
 
-  abbrev plain_init : InitLayer → expression.Initialiser-F Expression Initialiser ArrayTree
-  plain_init y =
-      map-Initialiser Exprs Initialisers Arrays Expression Initialiser ArrayTree (λ e. e.0) (λ e. e.0) (λ e. e.0) y
+  expr-kept : (e : Expression) → HasExpr keeping e
+  expr-kept = expr-all keeping steps
 
-  init-case : (y : InitLayer) → HasInit (roll-Initialiser (plain_init y))
-  init-case (expression.Value e) =
-      let places : init_places (roll-Initialiser (plain_init (expression.Value e))) ≡ expr_places e.0 =
-      search (rules, the_lemmas) in
-      let lower : init_of (roll-Initialiser (plain_init (expression.Value e))) ≡ tree.Value (expr_of e.0) =
-      search (rules, the_lemmas) in
-      subst (λ (f : Puts). Splits f (PlacedInit test (init_of (roll-Initialiser (plain_init (expression.Value e))))))
-      (sym places)
-      (subst (λ (t : Init). Splits (expr_places e.0) (PlacedInit test t)) (sym lower) e.1)
-  init-case (expression.Items items) =
-      let places : init_places (roll-Initialiser (plain_init (expression.Items items))) ≡ array_places items.0 =
-      search (rules, the_lemmas) in
-      let lower : init_of (roll-Initialiser (plain_init (expression.Items items))) ≡ tree.Items (items_of items.0) =
-      search (rules, the_lemmas) in
-      subst
-      (λ (f : Puts). Splits f (PlacedInit test (init_of (roll-Initialiser (plain_init (expression.Items items))))))
-      (sym places)
-      (subst (λ (t : Init). Splits (array_places items.0) (PlacedInit test t)) (sym lower) items.1)
-
-  init-has : (x : expression.Initialiser-F Expression Initialiser ArrayTree) (y : InitLayer) → plain_init y ≡ x →
-      HasInit (roll-Initialiser x)
-  init-has x y is = subst (λ z. HasInit (roll-Initialiser z)) is (init-case y)
-
-  abbrev ArrayLayer : Type 0
-  ArrayLayer = expression.ArrayTree-F Exprs Initialisers Arrays
-
-  abbrev plain_array : ArrayLayer → expression.ArrayTree-F Expression Initialiser ArrayTree
-  plain_array y =
-      map-ArrayTree Exprs Initialisers Arrays Expression Initialiser ArrayTree (λ e. e.0) (λ e. e.0) (λ e. e.0) y
-
-  abbrev in_array : ArrayLayer → List Initialiser
-  in_array y = map (λ e. e.0) y.items.items
-
-  array-case : (y : ArrayLayer) → HasItems (roll-ArrayTree (plain_array y))
-  array-case y =
-      let places : array_places (roll-ArrayTree (plain_array y)) ≡ each_puts (map init_places (in_array y)) =
-      search (rules, the_lemmas) in
-      let lower : items_of (roll-ArrayTree (plain_array y)) ≡ pack_inits (map init_of (in_array y)) =
-      search (rules, the_lemmas) in
-      subst (λ (f : Puts). Splits f (PlacedInits test (items_of (roll-ArrayTree (plain_array y))))) (sym places)
-      (subst (λ (t : Inits). Splits (each_puts (map init_places (in_array y))) (PlacedInits test t)) (sym lower)
-      (inits-split y.items.items))
-
-  array-has : (x : expression.ArrayTree-F Expression Initialiser ArrayTree) (y : ArrayLayer) → plain_array y ≡ x →
-      HasItems (roll-ArrayTree x)
-  array-has x y is = subst (λ z. HasItems (roll-ArrayTree z)) is (array-case y)
-
-  pub expr-kept : (e : Expression) → HasExpr e
-  expr-kept = ind-Expression HasExpr HasInit HasItems expr-has init-has array-has
-
-  pub init-kept : (i : Initialiser) → HasInit i
-  init-kept = ind-Initialiser HasExpr HasInit HasItems expr-has init-has array-has
+  pub init-kept : (i : Initialiser) → HasInit keeping i
+  init-kept = init-all keeping steps
 
   -- ---- parts of statements
 

@@ -16,19 +16,21 @@ use Rattle.java_resolver.specs.declared.scope.Meaning.TheVariants as means
 use Rattle.java_resolver.specs.TypeKinds.{class_named}
 use Rattle.java_resolver.specs.Declarations.{class_names}
 use Rattle.java_resolver.specs.Meanings.{field_named, variable_named}
-use Rattle.core_code.specs.declared.code.Op.TheVariants.{Push, PushClass, Dup, Drop, Get, Put, Set, Prim}
+use Rattle.core_code.specs.declared.code.Op.TheVariants.{Push, PushClass, Dup, Drop, Get, Put, Set, Prim, Outside}
 use Rattle.core_code.specs.declared.parts.FieldCore.{FieldCore}
 use Rattle.core_code.specs.Core.{Core, Method}
 use Rattle.core_code.specs.Kinds.{StackKind, Plain, Declared, Class, Opaque, kind_of, same_class, same_kind, fits_class}
 use Rattle.core_code.specs.Kinds.{fits}
 use Rattle.core_code.specs.KindCheck as check
-use Rattle.core_code.specs.KindCheck.{Kinds, where_true, is_base_of, variable_at, after_push, after_get, after_put}
+use Rattle.core_code.specs.KindCheck.{where_true, is_base_of, variable_at, after_push, after_get, after_put}
 use Rattle.core_code.specs.KindCheck.{after_set}
 use Rattle.core_lowering_rules.specs.ValueKinds.{ValueKind, Of}
 use Rattle.core_lowering_rules.specs.ValueKinds as value
 use Rattle.core_lowering_rules.specs.Context.{Context, Code, op_at, op, push_this, push_own_class}
-use Rattle.core_lowering_rules.specs.Assignments.{Storage, InVariable, InField, Elsewhere, kind_in, in_field, of_meaning, of_name}
-use Rattle.core_lowering_rules.specs.Assignments.{of_class, of_object, of_value, selected, element, read, assigned, combined}
+use Rattle.core_lowering_rules.specs.Assignments.{Storage, InVariable, InField, Elsewhere, kind_in, in_field}
+use Rattle.core_lowering_rules.specs.Assignments.{of_meaning, of_name}
+use Rattle.core_lowering_rules.specs.Assignments.{of_class, of_object, of_value, selected, element, read, assigned}
+use Rattle.core_lowering_rules.specs.Assignments.{combined}
 use Rattle.core_lowering_rules.specs.Assignments.{counted, field_at}
 use Rattle.core_lowering_rules.specs.Programs.{field_core}
 use Rattle.core_lowering_rules.proofs.Suits.{Suits, fits-suits, suits-own, class_same}
@@ -118,6 +120,21 @@ module _ (core : Core) (m : Method) (context : Context) (stands : Stands core m 
             (Opaque, tt, followed core m values.1 (outside core m context.place values.0 stack n values.2));
       }
 
+  -- what becomes of a value that is stored elsewhere
+  elsewhere : {operands e : Code} {given : ValueKind} (n : ℕ) → LeavesMany core m operands n → Leaves core m e given →
+      Leaves core m (operands ++ e ++ op context (Outside (suc n))) (Of types.Other)
+  elsewhere n h l =
+      record {
+        leaves = λ stack.
+            let values = h.leaves stack in
+            let value = l.leaves (values.0 ++ stack) in (
+              Opaque,
+              tt,
+              in_turn_3 core m values.1 value.2 (outside core m context.place (value.0 ∷ values.0) stack (suc n)
+                  (ap suc values.2)),
+            );
+      }
+
   -- `= e`
   pub assigned-leaves : (s : Storage) → IsStorage core m s → (given : ValueKind) (e : Code) → Leaves core m e given →
       Leaves core m (assigned context s given e) (kind_in s)
@@ -143,17 +160,7 @@ module _ (core : Core) (m : Method) (context : Context) (stands : Stands core m 
               in_turn_4 core m b.1 value.2 c.runs (puts name f h.field c.to b.0 stack h.there b.2 fitting),
             );
       }
-  assigned-leaves (Elsewhere n operands) h given e l =
-      record {
-        leaves = λ stack.
-            let values = h.leaves stack in
-            let value = l.leaves (values.0 ++ stack) in (
-              Opaque,
-              tt,
-              in_turn_3 core m values.1 value.2 (outside core m context.place (value.0 ∷ values.0) stack (suc n)
-                  (ap suc values.2)),
-            );
-      }
+  assigned-leaves (Elsewhere n operands) h given e l = elsewhere n h l
 
   -- `op= e`
   pub combined-leaves : (s : Storage) → IsStorage core m s → (given : ValueKind) (e : Code) → Leaves core m e given →
@@ -184,17 +191,7 @@ module _ (core : Core) (m : Method) (context : Context) (stands : Stands core m 
                   (b.0 ∷ stack) 2 refl) c.runs (puts name f h.field c.to b.0 stack h.there b.2 fitting),
             );
       }
-  combined-leaves (Elsewhere n operands) h given e l =
-      record {
-        leaves = λ stack.
-            let values = h.leaves stack in
-            let value = l.leaves (values.0 ++ stack) in (
-              Opaque,
-              tt,
-              in_turn_3 core m values.1 value.2 (outside core m context.place (value.0 ∷ values.0) stack (suc n)
-                  (ap suc values.2)),
-            );
-      }
+  combined-leaves (Elsewhere n operands) h given e l = elsewhere n h l
 
   -- `++` and `--`
   pub counted-leaves : (s : Storage) → IsStorage core m s → Leaves core m (counted context s) (Of types.Plain)
@@ -265,7 +262,7 @@ module _ (core : Core) (m : Method) (context : Context) (stands : Stands core m 
       subst (λ o. IsStorage core m (in_field class object x f o)) (sym there)
       (record {
         field = field_core info;
-        there = stands.fields f info there;
+        there = stands.known.fields f info there;
         kind_is = refl;
         behind = by-static info class object p q info.is_static refl;
       })

@@ -25,7 +25,8 @@ use Rattle.core_code.specs.KindCheck.{Kinds, and_then, below_fitting, after_call
 use Rattle.core_lowering_rules.specs.ValueKinds.{ValueKind, Of}
 use Rattle.core_lowering_rules.specs.ValueKinds as value
 use Rattle.core_lowering_rules.specs.Context.{Context, Code, op_at, op, converted, push_this, is_analysed}
-use Rattle.core_lowering_rules.specs.Calls.{Callee, Missing, OfClass, OfObject, info_at, callee_of, callee_found, callee_in}
+use Rattle.core_lowering_rules.specs.Calls.{Callee, Missing, OfClass, OfObject, info_at, callee_of, callee_found}
+use Rattle.core_lowering_rules.specs.Calls.{callee_in}
 use Rattle.core_lowering_rules.specs.Calls.{if_static, own_callee, callee_on, result_of, result_kind}
 use Rattle.core_lowering_rules.specs.Calls.{parameters_of, parameter_kinds, call_at, Passing, called, called_on_value}
 use Rattle.core_lowering_rules.specs.Calls.{called_on}
@@ -35,7 +36,7 @@ use Rattle.core_lowering_rules.proofs.Runs.{Runs, nothing, followed, once, outsi
 use Rattle.core_lowering_rules.proofs.Runs.{in_turn_3, grouped}
 use Rattle.core_lowering_rules.proofs.FoundElements.{MethodThere, method-there}
 use Rattle.core_lowering_rules.proofs.Stands.{Stands, HasMethod, taken_of}
-use Rattle.core_lowering_rules.proofs.KindedAccesses.{Leaves, pushes}
+use Rattle.core_lowering_rules.proofs.KindedAccesses.{Leaves, LeavesMany, pushes}
 
 -- ---- values that fit
 
@@ -103,19 +104,27 @@ module _ (core : Core) (m : core_specs.Method) (context : Context) (stands : Sta
   passed-none (k ∷ kinds) =
       record { passes = λ stack. ([], nothing core m stack, refl, λ many rest. absurd (omega arith)) }
 
-  pub passed-bare : {e rest : Code} {kind : ValueKind} {n : ℕ} → Leaves core m e kind → PassedTo core m rest [] n →
-      PassedTo core m (e ++ rest) [] (suc n)
-  passed-bare {e} {rest} {n = n} l p =
+  pub many-more : {e rest : Code} {given : ValueKind} {n : ℕ} → Leaves core m e given → LeavesMany core m rest n →
+      LeavesMany core m (e ++ rest) (suc n)
+  many-more {e} {rest} {n = n} l p =
       record {
-        passes = λ stack.
+        leaves = λ stack.
             let value = l.leaves stack in
-            let more = p.passes (value.0 ∷ stack) in (
+            let more = p.leaves (value.0 ∷ stack) in (
               more.0 ++ value.0 ∷ [],
               subst (λ after. Runs core m (e ++ rest) stack after) (sym (append_assoc more.0 (value.0 ∷ []) stack))
                   (followed core m value.2 more.1),
               one_more more.0 value.0 n more.2,
-              λ many rest. absurd (omega arith),
             );
+      }
+
+  pub passed-bare : {e rest : Code} {kind : ValueKind} {n : ℕ} → Leaves core m e kind → PassedTo core m rest [] n →
+      PassedTo core m (e ++ rest) [] (suc n)
+  passed-bare l p =
+      let all = many-more l (record { leaves = λ stack. let more = p.passes stack in (more.0, more.1, more.2) }) in
+      record {
+        passes = λ stack.
+            let values = all.leaves stack in (values.0, values.1, values.2, λ many rest. absurd (omega arith));
       }
 
   pub passed-kind : {e rest : Code} {given : ValueKind} {n : ℕ} (k : Kind) (kinds : List Kind) → Leaves core m e given →
@@ -206,7 +215,7 @@ module _ (core : Core) (m : core_specs.Method) (context : Context) (stands : Sta
   unreads : (place : Place) (n : MethodId) (count : ℕ) (values stack : List StackKind) → is_analysed context n ≡ false →
       length values ≡ count → Runs core m (op_at place (Unread n count)) (values ++ stack) (Opaque ∷ stack)
   unreads place n count values stack e many =
-      once core m place (Unread n count) values (Opaque ∷ []) stack many refl (ap not (stands.unread n e))
+      once core m place (Unread n count) values (Opaque ∷ []) stack many refl (ap not (stands.known.unread n e))
       (popped Opaque values stack count many)
 
   abbrev taken_by_test : MethodInfo → Bool → List Kind
@@ -227,7 +236,7 @@ module _ (core : Core) (m : core_specs.Method) (context : Context) (stands : Sta
               kind_of info.result,
               suits-own info.result,
               followed core m p.1
-                  (calls place n info count p.0 stack (stands.methods n info there e) p.2
+                  (calls place n info count p.0 stack (stands.known.methods n info there e) p.2
                   (ap (λ b. length (taken_by_test info b)) static_is ∙ many) takes),
             );
       }
@@ -277,7 +286,7 @@ module _ (core : Core) (m : core_specs.Method) (context : Context) (stands : Sta
             (kind_of info.result ∷ stack) =
             subst (λ before. Runs core m (op_at place (Call n (suc count))) before (kind_of info.result ∷ stack))
             grouped_values
-            (calls place n info (suc count) values stack (stands.methods n info there e)
+            (calls place n info (suc count) values stack (stands.known.methods n info there e)
             (one_more p.0 object.0 count p.2) taken takes) in
             (kind_of info.result, suits-own info.result, in_turn_3 core m object.1 p.1 runs);
       }
@@ -429,7 +438,7 @@ module _ (core : Core) (m : core_specs.Method) (context : Context) (stands : Sta
       Leaves core m (made_by context place c count arguments (cond b (Some n) None)) (Of (types.Declared c))
   constructed place n c count arguments passing h false e = not_made place (types.Declared c) count arguments passing
   constructed place n c count arguments passing h true e =
-      let known = stands.constructors n h.info h.there e in
+      let known = stands.known.constructors n h.info h.there e in
       let info : CalleeInfo context n c count false =
       record { info = h.info; there = h.there; class_is = h.class_is; many = h.many; static_is = known.1 } in
       subst (λ kind. Leaves core m (op_at place (New c) ++ arguments

@@ -1,7 +1,7 @@
 -- Lowered expressions are kinded: their code leaves one value, which suits their kind.
-use Rattle.std.proofs.Common.{◌≡◌, ℕ, suc, Bool, true, false, cond, List, [], ◌∷◌, ◌++◌, Option, Some, None}
+use Rattle.std.proofs.Common.{◌≡◌, Bool, true, false, cond, List, [], ◌∷◌, ◌++◌, Option, Some, None}
 use Rattle.std.proofs.Common.{refl}
-use Rattle.std.proofs.Common.{sym, subst, append_assoc}
+use Rattle.std.proofs.Common.{subst}
 use Rattle.racer_base.specs.declared.ids.ClassId.{ClassId}
 use Rattle.racer_base.specs.declared.ids.Kind.{Kind}
 use Rattle.racer_base.specs.declared.ids.Kind.TheVariants as types
@@ -12,24 +12,27 @@ use Rattle.core_lowering_rules.specs.Trees.{Expr, Text, This, ClassOf, Read, Una
 use Rattle.core_lowering_rules.specs.Trees.{Assign}
 use Rattle.core_lowering_rules.specs.Trees as tree
 use Rattle.core_lowering_rules.specs.Trees.{Combine, Count, Call, CallOn, New, NewArray, NewItems, Paren, Access, Named}
-use Rattle.core_lowering_rules.specs.Trees.{Selected, Element, NoAccess, Exprs, no_expr, expr_then, Init, Value, Items, Inits}
+use Rattle.core_lowering_rules.specs.Trees.{Selected, Element, NoAccess, Exprs, no_expr, expr_then, Init, Value}
+use Rattle.core_lowering_rules.specs.Trees.{Items, Inits}
 use Rattle.core_lowering_rules.specs.Trees.{no_init, init_then, count_exprs, count_inits}
 use Rattle.core_lowering_rules.specs.ValueKinds.{ValueKind, Of, common_kind}
 use Rattle.core_lowering_rules.specs.Context.{Context, Code, op, choice, push_this, type_kind}
 use Rattle.core_lowering_rules.specs.Assignments.{kind_in}
 use Rattle.core_lowering_rules.specs.Calls.{own_callee}
 use Rattle.core_lowering_rules.specs.Expressions.{class_before, class_written, class_object, kind}
-use Rattle.core_lowering_rules.specs.Expressions.{access_kind, init_kind, cast, code, storage, passed, init_code, items_code}
+use Rattle.core_lowering_rules.specs.Expressions.{access_kind, init_kind, cast, code, storage, passed, init_code}
+use Rattle.core_lowering_rules.specs.Expressions.{items_code}
 use Rattle.core_lowering_rules.proofs.Suits.{suits-common, joined_stack-top, class_same}
-use Rattle.core_lowering_rules.proofs.Runs.{Runs, nothing, followed, once, chosen, outside}
+use Rattle.core_lowering_rules.proofs.Runs.{nothing, followed, once, chosen, outside}
 use Rattle.core_lowering_rules.proofs.Runs.{in_turn_3}
 use Rattle.core_lowering_rules.proofs.Stands.{Stands}
 use Rattle.core_lowering_rules.proofs.KindedAccesses.{Leaves, LeavesMany, IsStorage, pushes, prims, read-leaves}
 use Rattle.core_lowering_rules.proofs.KindedAccesses.{assigned-leaves}
 use Rattle.core_lowering_rules.proofs.KindedAccesses.{combined-leaves, counted-leaves, no_values, is-named, is-selected}
 use Rattle.core_lowering_rules.proofs.KindedAccesses.{is-element, kind_in-selected}
-use Rattle.core_lowering_rules.proofs.KindedCalls.{PassedTo, passed-none, passed-bare, passed-kind, is-own, called-leaves}
-use Rattle.core_lowering_rules.proofs.KindedCalls.{called_on-leaves, not_made, made-leaves, one_more}
+use Rattle.core_lowering_rules.proofs.KindedCalls.{PassedTo, passed-none, passed-bare, passed-kind, is-own}
+use Rattle.core_lowering_rules.proofs.KindedCalls.{called-leaves}
+use Rattle.core_lowering_rules.proofs.KindedCalls.{called_on-leaves, not_made, made-leaves, many-more}
 
 -- the kind of what is stored
 pub storage-kind : (context : Context) (a : Access) → kind_in (storage context a) ≡ access_kind context a
@@ -66,9 +69,9 @@ module _ (core : Core) (m : Method) (context : Context) (stands : Stands core m 
     );
   }
 
-  cast-leaves : {e : Code} {given : ValueKind} (k : Kind) → Leaves core m e given →
-      Leaves core m (e ++ cast context k) (Of k)
-  cast-leaves types.Plain l =
+  unary-leaves : {e : Code} {given : ValueKind} → Leaves core m e given →
+      Leaves core m (e ++ op context (Prim 1)) (Of types.Plain)
+  unary-leaves l =
       record {
         leaves = λ stack.
             let value = l.leaves stack in (
@@ -77,6 +80,10 @@ module _ (core : Core) (m : Method) (context : Context) (stands : Stands core m 
               followed core m value.2 (prims core m context stands context.place (value.0 ∷ []) stack 1 refl),
             );
       }
+
+  cast-leaves : {e : Code} {given : ValueKind} (k : Kind) → Leaves core m e given →
+      Leaves core m (e ++ cast context k) (Of k)
+  cast-leaves types.Plain l = unary-leaves l
   cast-leaves (types.Declared c) l =
       record {
         leaves = λ stack.
@@ -88,18 +95,6 @@ module _ (core : Core) (m : Method) (context : Context) (stands : Stands core m 
         leaves = λ stack.
             let value = l.leaves stack in
             (Opaque, tt, followed core m value.2 (outside core m context.place (value.0 ∷ []) stack 1 refl));
-      }
-
-  unary-leaves : {e : Code} {given : ValueKind} → Leaves core m e given →
-      Leaves core m (e ++ op context (Prim 1)) (Of types.Plain)
-  unary-leaves l =
-      record {
-        leaves = λ stack.
-            let value = l.leaves stack in (
-              Plain,
-              tt,
-              followed core m value.2 (prims core m context stands context.place (value.0 ∷ []) stack 1 refl),
-            );
       }
 
   binary-leaves : {a b : Code} {k l : ValueKind} → Leaves core m a k → Leaves core m b l →
@@ -146,20 +141,6 @@ module _ (core : Core) (m : Method) (context : Context) (stands : Stands core m 
               in_turn_3 core m value.2 (once core m context.place Drop (value.0 ∷ []) [] stack refl refl refl refl)
                   (chosen core m first.2 second.2
                   (joined_stack-top first.0 second.0 stack)),
-            );
-      }
-
-  many-more : {e rest : Code} {given : ValueKind} {n : ℕ} → Leaves core m e given → LeavesMany core m rest n →
-      LeavesMany core m (e ++ rest) (suc n)
-  many-more {e} {rest} {n = n} l p =
-      record {
-        leaves = λ stack.
-            let value = l.leaves stack in
-            let more = p.leaves (value.0 ∷ stack) in (
-              more.0 ++ value.0 ∷ [],
-              subst (λ after. Runs core m (e ++ rest) stack after) (sym (append_assoc more.0 (value.0 ∷ []) stack))
-                  (followed core m value.2 more.1),
-              one_more more.0 value.0 n more.2,
             );
       }
 
@@ -258,4 +239,4 @@ module _ (core : Core) (m : Method) (context : Context) (stands : Stands core m 
 
     items-leave : (items : Inits) → LeavesMany core m (items_code context items) (count_inits items)
     items-leave no_init = no_values core m context stands
-    items-leave (init_then i is) = many-more (init-leaves i) (items-leave is)
+    items-leave (init_then i is) = many-more core m context stands (init-leaves i) (items-leave is)

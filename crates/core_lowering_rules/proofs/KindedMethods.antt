@@ -1,11 +1,9 @@
 -- Lowered methods are kinded, whatever is in them.
 use Rattle.std.proofs.Common.{◌≡◌, ℕ, ◌+◌, Bool, true, false, cond, List, [], ◌∷◌, ◌++◌, Option, Some, None, map}
-use Rattle.std.proofs.Common.{length, refl}
-use Rattle.std.proofs.Common.{sym, ap, ◌∙◌, append_assoc, append-nil, slice_get, is_some, is_none}
+use Rattle.std.proofs.Common.{refl}
+use Rattle.std.proofs.Common.{sym, ap, ◌∙◌, append_assoc, append-nil, slice_get, is_some}
 use Rattle.std.specs.Prelude.{codes}
 use Rattle.std.specs.List.{flat_map}
-use Rattle.racer_base.specs.declared.ids.FieldId.{FieldId}
-use Rattle.racer_base.specs.declared.ids.MethodId.{MethodId}
 use Rattle.racer_base.specs.declared.ids.Kind.{Kind}
 use Rattle.racer_base.specs.declared.ids.Kind.TheVariants as types
 use Rattle.java_tree.specs.declared.words.Ident.{Ident}
@@ -19,18 +17,17 @@ use Rattle.java_tree.specs.declared.methods.ResultTree.TheVariants as result
 use Rattle.java_tree.specs.View.{ty_of}
 use Rattle.java_tree.specs.declared.unit.Member.{Member}
 use Rattle.java_tree.specs.declared.unit.Member.TheVariants as member
-use Rattle.java_resolver.specs.declared.infos.FieldInfo.{FieldInfo}
 use Rattle.java_resolver.specs.declared.infos.MethodInfo.{MethodInfo}
 use Rattle.java_resolver.specs.Declarations.{class_names, kinds_of, is_constructor}
 use Rattle.java_resolver.specs.Words.{has_word}
 use Rattle.core_code.specs.declared.code.Op.TheVariants.{PushClass, PushPrim, Drop}
 use Rattle.core_code.specs.declared.code.Reason.{Reason}
-use Rattle.core_code.specs.Tree.{Tree, Op, Skip, Seq, Choice, Loop, Sync, steps_of, can_end, in_sequence}
+use Rattle.core_code.specs.Tree.{Tree, Sync, LockAt, can_end, in_sequence}
 use Rattle.core_code.specs.Core.{Core, Method}
 use Rattle.core_code.specs.Kinds.{StackKind, Plain, Declared, Class, Opaque, joined_stack}
 use Rattle.core_code.specs.KindCheck.{Kinds, and_then, where_true, kinds_after, same_stack, same_declared_kind}
 use Rattle.core_code.specs.KindCheck.{begins_with}
-use Rattle.core_code.specs.KindCheck.{is_kinded, field_at, variable_at}
+use Rattle.core_code.specs.KindCheck.{is_kinded, variable_at}
 use Rattle.core_code.specs.Calls.{taken_by}
 use Rattle.core_code.specs.Calls as core_calls
 use Rattle.core_code.proofs.BoolParts.{both}
@@ -49,26 +46,19 @@ use Rattle.core_lowering_rules.specs.Methods.{this_kinds, entered}
 use Rattle.core_lowering_rules.specs.Methods.{parameters_declared, unread, field_begun, member_begun, fields_begun}
 use Rattle.core_lowering_rules.specs.Methods.{body_of, block}
 use Rattle.core_lowering_rules.specs.Methods.{locked, ended, spelled_code, method_code}
-use Rattle.core_lowering_rules.specs.Sites.{numbered}
-use Rattle.core_lowering_rules.specs.Programs.{field_core, method_core}
+use Rattle.core_lowering_rules.specs.Programs.{method_core}
 use Rattle.core_lowering_rules.proofs.Suits.{class_same}
 use Rattle.core_lowering_rules.proofs.Runs.{Runs, whole, nothing, followed, once, outside}
 use Rattle.core_lowering_rules.proofs.Runs as runs
-use Rattle.core_lowering_rules.proofs.Stands.{Stands, IsResult, HasMethod}
+use Rattle.core_lowering_rules.proofs.NumberedTrees.{SiteFact, same-numbered}
+use Rattle.core_lowering_rules.proofs.Stands.{Stands, FolderStands, IsResult}
 use Rattle.core_lowering_rules.proofs.KindedAccesses.{Leaves, pushes, assigned-leaves, is-named}
 use Rattle.core_lowering_rules.proofs.KindedExpressions.{init-leaves}
-use Rattle.core_lowering_rules.proofs.GrownScopes.{Grows, grows-same, grows-then, grows-declared, grows-after_all, HasKinds}
-use Rattle.core_lowering_rules.proofs.GrownScopes.{has-earlier, declared-stands, after_all-stands}
+use Rattle.core_lowering_rules.proofs.GrownScopes.{grows-after_all, grows-parameters, HasKinds, has-earlier}
+use Rattle.core_lowering_rules.proofs.GrownScopes.{after_all-stands, parameters-stand}
 use Rattle.core_lowering_rules.proofs.KindedStatements.{Keeps, closed-keeps, returned-keeps, stmts-keep}
 
 -- ---- parameters
-
-grows-parameters : (context : Context) (ps : List ParameterTree) → Grows context (parameters_declared context ps)
-grows-parameters context [] = grows-same context
-grows-parameters context (p ∷ ps) =
-    let k = type_kind context (ty_of p.kind) in
-    grows-then context (declared context k p.name) (parameters_declared (declared context k p.name) ps)
-    (grows-declared context k p.name) (grows-parameters (declared context k p.name) ps)
 
 abbrev parameter_kind : Context → ParameterTree → Kind
 parameter_kind context p = type_kind context (ty_of p.kind)
@@ -82,15 +72,6 @@ kinds-parameters context (p ∷ ps) =
     ∙ append_assoc context.kinds (k ∷ []) (map (parameter_kind context) ps)
 
 module _ (core : Core) (m : Method) where
-  parameters-stand : (context : Context) (ps : List ParameterTree) → Stands core m context →
-      HasKinds m (parameters_declared context ps) → Stands core m (parameters_declared context ps)
-  parameters-stand context [] s h = s
-  parameters-stand context (p ∷ ps) s h =
-      let k = type_kind context (ty_of p.kind) in
-      let inside = declared context k p.name in
-      let own = has-earlier m inside (parameters_declared inside ps) (grows-parameters inside ps) h in
-      parameters-stand inside ps (declared-stands core m context k p.name s own) h
-
   -- ---- fields
 
   dropped : (context : Context) {code : Code} {kind : ValueKind} → Leaves core m code kind →
@@ -155,10 +136,7 @@ module _ (core : Core) (m : Method) where
   bare-stands : (context : Context) → Stands core m context → Stands core m (without_variables context)
   bare-stands context s =
       record {
-        fields = s.fields;
-        methods = s.methods;
-        unread = s.unread;
-        constructors = s.constructors;
+        known = s.known;
         variables = tt;
         object = s.object;
         gives = s.gives;
@@ -219,27 +197,32 @@ module _ (core : Core) (m : Method) where
 
   -- ---- sites
 
+  locked-same : (lock : LockAt) (a c : Tree) →
+      ((stack : List StackKind) → kinds_after core m a stack ≡ kinds_after core m c stack) →
+      (stack : List StackKind) → kinds_after core m (Sync lock a) stack ≡ kinds_after core m (Sync lock c) stack
+  locked-same lock a c p [] = refl
+  locked-same lock a c p (value ∷ stack) = p stack
+
   -- the kinds do not depend on the sites
-  kinds-numbered : (t : Tree) (n : ℕ) (stack : List StackKind) →
-      kinds_after core m (numbered n t) stack ≡ kinds_after core m t stack
-  kinds-numbered (Op site place o) n stack = refl
-  kinds-numbered Skip n stack = refl
-  kinds-numbered (Seq first rest) n stack =
-      ap (λ (o : Kinds). and_then o (λ s. kinds_after core m (numbered (n + length (steps_of first)) rest) s))
-      (kinds-numbered first n stack)
-      ∙ runs.and_then-agree (kinds_after core m first stack)
-      (λ s. kinds_after core m (numbered (n + length (steps_of first)) rest) s) (λ s. kinds_after core m rest s)
-      (kinds-numbered rest (n + length (steps_of first)))
-  kinds-numbered (Choice left right) n stack =
-      ap (λ (o : Kinds). and_then o (λ a.
-      and_then (kinds_after core m (numbered (n + length (steps_of left)) right) stack) (λ b. joined_stack a b)))
-      (kinds-numbered left n stack)
-      ∙ ap (λ (o : Kinds). and_then (kinds_after core m left stack) (λ a. and_then o (λ b. joined_stack a b)))
-      (kinds-numbered right (n + length (steps_of left)) stack)
-  kinds-numbered (Loop body) n stack =
-      ap (λ (o : Kinds). and_then o (λ after. where_true (same_stack stack after) stack)) (kinds-numbered body n stack)
-  kinds-numbered (Sync place body) n [] = refl
-  kinds-numbered (Sync place body) n (lock ∷ stack) = kinds-numbered body n stack
+  abbrev same_kinds : SiteFact
+  same_kinds =
+      record {
+        Same = λ a c. (stack : List StackKind) → kinds_after core m a stack ≡ kinds_after core m c stack;
+        of_op = λ site other place o stack. refl;
+        of_skip = λ stack. refl;
+        of_seq = λ a b c d p q stack.
+            ap (λ (o : Kinds). and_then o (λ s. kinds_after core m b s)) (p stack)
+            ∙ runs.then-agree (kinds_after core m c stack) (λ s. kinds_after core m b s)
+            (λ s. kinds_after core m d s) q;
+        of_choice = λ a b c d p q stack.
+            ap (λ (o : Kinds). and_then o (λ s.
+            and_then (kinds_after core m b stack) (λ t. joined_stack s t))) (p stack)
+            ∙ ap (λ (o : Kinds). and_then (kinds_after core m c stack) (λ s. and_then o (λ t. joined_stack s t)))
+            (q stack);
+        of_loop = λ a c p stack.
+            ap (λ (o : Kinds). and_then o (λ after. where_true (same_stack stack after) stack)) (p stack);
+        of_sync = locked-same;
+      }
 
 -- ---- what a method takes
 
@@ -257,19 +240,6 @@ taken-is true own ps = refl
 taken-is false own ps = refl
 
 -- ---- whole methods
-
--- what the program has of the folder
-pub record FolderStands (core : Core) (folder : Folder) : Type 0 where
-  pub fields : (f : FieldId) (info : FieldInfo) → slice_get folder.fields f.0 ≡ Some info →
-      field_at core f ≡ Some (field_core info)
-  pub methods : (n : MethodId) (info : MethodInfo) → slice_get folder.methods n.0 ≡ Some info →
-      elim (slice_get folder.statuses n.0) as (λ _. Bool) [ None ↦ false | Some status ↦ is_none status ] ≡ true →
-      HasMethod core n info
-  pub unread : (n : MethodId) →
-      elim (slice_get folder.statuses n.0) as (λ _. Bool) [ None ↦ false | Some status ↦ is_none status ] ≡ false →
-      core_calls.is_analysed core n ≡ false
-  pub constructors : (n : MethodId) (info : MethodInfo) → slice_get folder.methods n.0 ≡ Some info →
-      info.is_constructor ≡ true → (info.result ≡ types.Declared info.class) × (info.is_static ≡ false)
 
 abbrev pub IsRightResult : MethodInfo → ResultTree → Type 0
 IsRightResult info result.Constructor = (info.result ≡ types.Declared info.class) × (info.is_static ≡ false)
@@ -318,10 +288,7 @@ module _ (core : Core) (folder : Folder) (known : FolderStands core folder) (inf
       IsRight (class_names folder.classes) info body → Stands core m (entered folder (source body))
   entered-stands m body same h right =
       record {
-        fields = known.fields;
-        methods = known.methods;
-        unread = known.unread;
-        constructors = known.constructors;
+        known = known;
         variables = tt;
         object = object-there m body h;
         gives = gives-right m body same h right;
@@ -337,7 +304,7 @@ module _ (core : Core) (folder : Folder) (known : FolderStands core folder) (inf
       (types.Declared info.class) info.parameters)))
       ∙ begins-append (taken_by (made body)) more in
       let code : kinds_after core (made body) (made body).code [] ≡ Some [] =
-      kinds-numbered core (made body) (in_sequence (method_code folder (source body))) 0 []
+      same-numbered (same_kinds core (made body)) (in_sequence (method_code folder (source body))) 0 []
       ∙ whole core (made body) keeps in
       both (begins_with (taken_by (made body)) (made body).variables)
       (is_some (kinds_after core (made body) (made body).code [])) takes (ap (is_some {T = List StackKind}) code)

@@ -35,20 +35,11 @@ use Rattle.core_lowering_rules.specs.Methods.{Source, Default, Spelled, Unspelle
 use Rattle.core_lowering_rules.specs.LoweredForms.{are_lowered}
 use Rattle.core_lowering_rules.specs.Programs.{member_sources, default_sources, class_sources, sources_of}
 use Rattle.core_lowering_rules.specs.Programs.{field_core, folder_of, method_core, method_cores, program_of}
-use Rattle.core_lowering_rules.proofs.FoundElements.{Each}
-use Rattle.core_lowering_rules.proofs.Stands.{HasMethod}
-use Rattle.core_lowering_rules.proofs.KindedMethods.{FolderStands, IsRight, IsRightResult, kinded}
+use Rattle.core_lowering_rules.proofs.FoundElements.{Each, each-append, each-flat_map}
+use Rattle.core_lowering_rules.proofs.Stands.{FolderStands, HasMethod}
+use Rattle.core_lowering_rules.proofs.KindedMethods.{IsRight, IsRightResult, kinded}
 
 -- ---- what holds of each element
-
-pub each-append : {A : Type 0} (P : A → Type 0) (xs ys : List A) → Each P xs → Each P ys → Each P (xs ++ ys)
-each-append P [] ys p q = q
-each-append P (x ∷ xs) ys p q = (p.0, each-append P xs ys p.1 q)
-
-pub each-flat_map : {A B : Type 0} (P : B → Type 0) (f : A → List B) → ((x : A) → Each P (f x)) → (xs : List A) →
-    Each P (flat_map f xs)
-each-flat_map P f all [] = tt
-each-flat_map P f all (x ∷ xs) = each-append P (f x) (flat_map f xs) (all x) (each-flat_map P f all xs)
 
 pub each-by_class : {A : Type 0} (P : A → Type 0) (f : ClassId → ClassTree → List A) →
     ((c : ClassId) (tree : ClassTree) → Each P (f c tree)) → (n : ℕ) (trees : List ClassTree) →

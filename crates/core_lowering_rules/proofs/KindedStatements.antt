@@ -6,18 +6,22 @@ use Rattle.std.specs.List.{flat_map}
 use Rattle.racer_base.specs.declared.ids.VarId.{VarId}
 use Rattle.racer_base.specs.declared.ids.Kind.{Kind}
 use Rattle.racer_base.specs.declared.ids.Kind.TheVariants as types
+use Rattle.java_tree.specs.Trees.{Ty}
 use Rattle.java_resolver.specs.declared.scope.ScopeVariable.{ScopeVariable}
 use Rattle.core_code.specs.declared.code.Op.TheVariants.{PushPrim, PushNull, Drop, Outside, Ret}
 use Rattle.core_code.specs.Core.{Core, Method}
 use Rattle.core_code.specs.Kinds.{StackKind, Plain, Declared, Null, Opaque, fits, kind_of}
 use Rattle.core_code.specs.KindCheck.{variable_at, where_true}
-use Rattle.core_lowering_rules.specs.Trees.{Expr, Exprs, no_expr, expr_then, Init, Variable, Start, Declares, Runs as RunsAll}
-use Rattle.core_lowering_rules.specs.Trees.{Stmt, Run, Local, If, IfElse, While, For, ForEach, Sync, Return, Block, Empty}
+use Rattle.core_lowering_rules.specs.Trees.{Expr, Exprs, no_expr, expr_then, Init, Variable, Start, Declares}
+use Rattle.core_lowering_rules.specs.Trees.{Runs as RunsAll}
+use Rattle.core_lowering_rules.specs.Trees.{Stmt, Run, Local, If, IfElse, While, For, ForEach, Sync, Return, Block}
+use Rattle.core_lowering_rules.specs.Trees.{Empty}
 use Rattle.core_lowering_rules.specs.Trees.{Stmts, no_stmt, stmt_then}
 use Rattle.core_lowering_rules.specs.Context.{Context, Result, Itself, Nothing, Value, Code, op, choice, push_this}
 use Rattle.core_lowering_rules.specs.Context.{type_kind}
 use Rattle.core_lowering_rules.specs.Expressions.{kind, code, init_kind}
-use Rattle.core_lowering_rules.specs.Scopes.{next_variable, declared, all_declared, started, after, after_all, new_variables}
+use Rattle.core_lowering_rules.specs.Scopes.{next_variable, declared, all_declared, started, after, after_all}
+use Rattle.core_lowering_rules.specs.Scopes.{new_variables}
 use Rattle.core_lowering_rules.specs.Statements.{run, run_all, run_some, set, begun, begun_all, start, cleared, closed}
 use Rattle.core_lowering_rules.specs.Statements.{returned_nothing, returned_value, returned, stmt, stmts}
 use Rattle.core_lowering_rules.proofs.Suits.{suits-own}
@@ -28,8 +32,9 @@ use Rattle.core_lowering_rules.proofs.Stands.{Stands, IsVariable, IsResult}
 use Rattle.core_lowering_rules.proofs.KindedAccesses.{pushes, sets}
 use Rattle.core_lowering_rules.proofs.KindedExpressions.{code-leaves, init-leaves}
 use Rattle.core_lowering_rules.proofs.GrownScopes.{HasKinds, has-earlier, grows-after, grows-after_all}
-use Rattle.core_lowering_rules.proofs.GrownScopes.{grows-all_declared, declared-there, declared-stands}
-use Rattle.core_lowering_rules.proofs.GrownScopes.{started-stands, after-stands, after_all-stands, same-kinds, each-drop}
+use Rattle.core_lowering_rules.proofs.GrownScopes.{grows-all, declared-there, declared-stands}
+use Rattle.core_lowering_rules.proofs.GrownScopes.{started-stands, after-stands, after_all-stands, same-kinds}
+use Rattle.core_lowering_rules.proofs.GrownScopes.{each-drop}
 
 fits-null : (k : Kind) → fits k Null ≡ true
 fits-null types.Plain = refl
@@ -74,19 +79,20 @@ module _ (core : Core) (m : Method) where
       let c = comes core m context k (init_kind context i) value.0 [] value.1 in
       in_turn_3 core m value.2 c.runs (set-drops context s v k c.to there c.fitting)
 
-  begun_all-keeps : (context : Context) (k : Kind) (vs : List Variable) → Stands core m context →
-      HasKinds m (all_declared context k vs) → Keeps (begun_all context k vs)
-  begun_all-keeps context k [] s h = nothing core m []
-  begun_all-keeps context k (v ∷ vs) s h =
+  begun_all-keeps : (context : Context) (t : Ty) (vs : List Variable) → Stands core m context →
+      HasKinds m (all_declared context (type_kind context t) vs) → Keeps (begun_all context (type_kind context t) vs)
+  begun_all-keeps context t [] s h = nothing core m []
+  begun_all-keeps context t (v ∷ vs) s h =
+      let k = type_kind context t in
       let inside = declared context k v.name in
-      let own = has-earlier m inside (all_declared inside k vs) (grows-all_declared inside k vs) h in
+      let own = has-earlier m inside (all_declared inside k vs) (grows-all inside t vs) h in
       let stands = declared-stands core m context k v.name s own in
       followed core m (begun-keeps inside stands (next_variable context) k
-      (declared-there m context k v.name own) v.initialiser) (begun_all-keeps inside k vs stands h)
+      (declared-there m context k v.name own) v.initialiser) (begun_all-keeps inside t vs stands h)
 
   start-keeps : (context : Context) (i : Start) → Stands core m context → HasKinds m (started context i) →
       Keeps (start context i)
-  start-keeps context (Declares t vs) s h = begun_all-keeps context (type_kind context t) vs s h
+  start-keeps context (Declares t vs) s h = begun_all-keeps context t vs s h
   start-keeps context (RunsAll es) s h = run_all-keeps context s es
 
   -- ---- ends of blocks
@@ -163,7 +169,7 @@ module _ (core : Core) (m : Method) where
     pub stmt-keeps : (context : Context) → Stands core m context → (s : Stmt) → HasKinds m (after context s) →
         Keeps (stmt context s)
     stmt-keeps context s (Run e) h = run-keeps context s e
-    stmt-keeps context s (Local t vs) h = begun_all-keeps context (type_kind context t) vs s h
+    stmt-keeps context s (Local t vs) h = begun_all-keeps context t vs s h
     stmt-keeps context s (If e b) h =
         followed core m (run-keeps context s e) (branch-keeps (stmt-keeps context s b h) (nothing core m []))
     stmt-keeps context s (IfElse e a b) h =

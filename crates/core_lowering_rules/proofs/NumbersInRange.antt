@@ -43,19 +43,22 @@ use Rattle.core_lowering_rules.specs.Context.{Folder}
 use Rattle.core_lowering_rules.specs.Scopes.{declared}
 use Rattle.core_lowering_rules.specs.Methods.{Default, Source, entered}
 use Rattle.core_lowering_rules.specs.Programs.{member_sources, default_sources, class_sources, sources_of, declared_in}
-use Rattle.core_lowering_rules.specs.Programs.{statuses_from, folder_of, class_core, field_core, method_core, method_cores}
+use Rattle.core_lowering_rules.specs.Programs.{statuses_from, folder_of, class_core, field_core, method_core}
+use Rattle.core_lowering_rules.specs.Programs.{method_cores}
 use Rattle.core_lowering_rules.specs.Programs.{program_of}
 use Rattle.core_lowering_rules.specs.Conditions.{member_places}
 use Rattle.core_lowering_rules.specs.Conditions.{are_in_files}
-use Rattle.core_lowering_rules.proofs.FoundElements.{Each, first-passes}
+use Rattle.core_lowering_rules.proofs.FoundElements.{Each, each-append, each-flat_map, first-passes}
 use Rattle.core_lowering_rules.proofs.KindedMethods.{kinded}
-use Rattle.core_lowering_rules.proofs.KindedPrograms.{each-append, each-at, unless, known, sources-same, IsRightSource}
+use Rattle.core_lowering_rules.proofs.KindedPrograms.{each-at, unless, known}
+use Rattle.core_lowering_rules.proofs.KindedPrograms.{sources-same, IsRightSource}
 use Rattle.core_lowering_rules.proofs.KindedPrograms.{sources-right, folder-stands}
-use Rattle.core_lowering_rules.proofs.InRangeCode.{found-below, code-in_range}
-use Rattle.core_lowering_rules.proofs.InRangeExpressions.{Grounded}
+use Rattle.core_lowering_rules.proofs.InRangeCode.{numbers, fineness, found-below, code-in_range}
+use Rattle.core_lowering_rules.proofs.LoweredFacts.{Grounded}
 use Rattle.core_lowering_rules.proofs.KeptPlaces.{each-all, each-from, bounded-by_class, each-places, method-places}
-use Rattle.core_lowering_rules.proofs.KeptPlaces.{members-all, skipped-all, PlacedClass, trees-placed, body-placed}
-use Rattle.core_lowering_rules.proofs.MethodsInRange.{Sound, code-in, kinds-in}
+use Rattle.core_lowering_rules.proofs.KeptPlaces.{members-all, skipped-all, PlacedClass, trees-placed, PlacedSource}
+use Rattle.core_lowering_rules.proofs.KeptPlaces.{sources-placed}
+use Rattle.core_lowering_rules.proofs.LoweredMethods.{in-holds, kinds-hold}
 
 -- ---- programs
 
@@ -159,20 +162,20 @@ module _ (files : List (List ℕ)) (units : List unit_type.Unit) (is_recursive :
   member_fields-there c h (member.Outside o) = tt
   member_fields-there c h (member.Skipped place) = tt
 
-  all-from : {A : Type 0} (f : Member → List A) (P : A → Type 0) → ((x : Member) → Each P (f x)) → (xs : List Member) →
-      Each P (flat_map f xs)
-  all-from f P step [] = tt
-  all-from f P step (x ∷ xs) = each-append P (f x) (flat_map f xs) (step x) (all-from f P step xs)
-
   fields-there : Each IsFieldThere (fields_of units)
   fields-there =
       bounded-by_class IsFieldThere (PlacedClass test-here) (class_fields (names_of units)) (length (trees_of units))
       (λ c tree below p.
-      all-from (member_fields (names_of units) c) IsFieldThere (member_fields-there c (there c below)) tree.members)
+      each-flat_map IsFieldThere (member_fields (names_of units) c) (member_fields-there c (there c below))
+      tree.members)
       0 (trees_of units) (omega arith) trees
 
-  abbrev IsSound : Source → Type 0
-  IsSound = Sound core
+  -- what is known of a method is in range
+  record IsSound (s : Source) : Type 0 where
+    class : is_class core s.info.class ≡ true
+    place : is_place core s.info.place ≡ true
+    parameters : Each IsKind s.info.parameters
+    result : IsKind s.info.result
 
   member-sound : (c : ClassId) → is_class core c ≡ true → (tree : ClassTree) → PlacedClass test-here tree →
       (x : Member) → list_all test-here (member_places x) ≡ true →
@@ -184,8 +187,6 @@ module _ (files : List (List ℕ)) (units : List unit_type.Unit) (is_recursive :
           place = places.0;
           parameters = parameters-there t.parameters;
           result = result-there c h t.result;
-          members = members-all test-here tree p;
-          body = body-placed test-here t k;
         },
         tt,
       )
@@ -195,8 +196,6 @@ module _ (files : List (List ℕ)) (units : List unit_type.Unit) (is_recursive :
       place = first_part (test-here o.place) _ k;
       parameters = others-there o.parameters;
       result = head-there c h o.result;
-      members = members-all test-here tree p;
-      body = tt;
     },
     tt,
   )
@@ -222,8 +221,6 @@ module _ (files : List (List ℕ)) (units : List unit_type.Unit) (is_recursive :
           place = first_part (test-here tree.place) _ p;
           parameters = tt;
           result = h;
-          members = members-all test-here tree p;
-          body = tt;
         },
         tt,
       ))
@@ -250,29 +247,35 @@ module _ (files : List (List ℕ)) (units : List unit_type.Unit) (is_recursive :
   own-kinds true c h = tt
   own-kinds false c h = (h, tt)
 
-  grounded : (s : Source) → IsSound s → Grounded core (entered folder s)
+  grounded : (s : Source) → IsSound s → Grounded (numbers core) (entered folder s)
   grounded s right =
       record {
+        known =
+            record {
+              fields = λ f info e. let h = each-at IsFieldThere (fields_of units) f.0 info fields-there e in h.0;
+              methods = method-there;
+              named = named-there;
+              types = kind-there;
+            };
         here = right.place;
         class = right.class;
         kinds = own-kinds s.info.is_static s.info.class right.class;
-        fields = λ f info e. let h = each-at IsFieldThere (fields_of units) f.0 info fields-there e in h.0;
-        methods = method-there;
-        named = named-there;
-        types = kind-there;
       }
 
   code-right : (s : Source) (status : Option Reason) → IsRightSource (names_of units) s → IsSound s →
+      PlacedSource test-here s →
       let m = method_core folder s status in is_code core (length m.variables) m.code ≡ true
-  code-right s status right sound =
+  code-right s status right sound put =
       let m = method_core folder s status in
       let checked = kinded core folder (folder-stands files units is_recursive) s.info s.members status s.body right in
-      code-in_range core m (code-in core (entered folder s) (grounded s sound) s sound s.body sound.body)
+      code-in_range core m
+      (in-holds (fineness core) [] (entered folder s) (grounded s sound) s put s.body put.body)
       (last_part (begins_with (taken_by m) m.variables) _ checked)
 
   method-right : (s : Source) (status : Option Reason) → IsRightSource (names_of units) s → IsSound s →
+      PlacedSource test-here s →
       is_method_in_range core (method_core folder s status) ≡ true
-  method-right s status right sound =
+  method-right s status right sound put =
       let m = method_core folder s status in
       let a = both (is_class core m.class) (is_place core m.place) sound.class sound.place in
       let b = both (is_class core m.class && is_place core m.place) (list_all (is_kind core) m.parameters) a
@@ -282,20 +285,21 @@ module _ (files : List (List ℕ)) (units : List unit_type.Unit) (is_recursive :
       let d = both
       (is_class core m.class && is_place core m.place && list_all (is_kind core) m.parameters && is_kind core m.result)
       (list_all (is_kind core) m.variables) c
-      (each-all (is_kind core) m.variables (kinds-in core (entered folder s) (grounded s sound) s sound s.body)) in
+      (each-all (is_kind core) m.variables
+      (kinds-hold (fineness core) [] (entered folder s) (grounded s sound) s sound.parameters s.body)) in
       both
       (is_class core m.class && is_place core m.place && list_all (is_kind core) m.parameters && is_kind core m.result
       && list_all (is_kind core) m.variables) (is_code core (length m.variables) m.code) d
-      (code-right s status right sound)
+      (code-right s status right sound put)
 
   methods-right : (sources : List Source) (statuses : List (Option Reason)) →
-      Each (IsRightSource (names_of units)) sources → Each IsSound sources →
+      Each (IsRightSource (names_of units)) sources → Each IsSound sources → Each (PlacedSource test-here) sources →
       list_all (is_method_in_range core) (method_cores folder sources statuses) ≡ true
-  methods-right [] statuses right sound = refl
-  methods-right (s ∷ sources) [] right sound = refl
-  methods-right (s ∷ sources) (status ∷ statuses) right sound =
-      both (is_method_in_range core (method_core folder s status)) _ (method-right s status right.0 sound.0)
-      (methods-right sources statuses right.1 sound.1)
+  methods-right [] statuses right sound put = refl
+  methods-right (s ∷ sources) [] right sound put = refl
+  methods-right (s ∷ sources) (status ∷ statuses) right sound put =
+      both (is_method_in_range core (method_core folder s status)) _ (method-right s status right.0 sound.0 put.0)
+      (methods-right sources statuses right.1 sound.1 put.1)
 
   -- ---- the whole
 
@@ -324,4 +328,5 @@ module _ (files : List (List ℕ)) (units : List unit_type.Unit) (is_recursive :
       (list_all test-here core.skipped && list_all (is_class_in_range core) core.classes
       && list_all (is_field_in_range core) core.fields)
       (list_all (is_method_in_range core) core.methods) b
-      (methods-right (sources_of units) folder.statuses (sources-right units) sources-sound)
+      (methods-right (sources_of units) folder.statuses (sources-right units) sources-sound
+      (sources-placed test-here units placed))

@@ -2,9 +2,12 @@
 use Rattle.std.proofs.Common.{Bool, true, List, [], ◌∷◌, Option, Some, None, ◌≡◌}
 use Rattle.racer_base.specs.declared.ids.Place.{Place}
 use Rattle.core_lowering_rules.specs.Trees.{Expr, Text, This, ClassOf, Read, Unary, Cast, Binary, Logical, Conditional}
-use Rattle.core_lowering_rules.specs.Trees.{Assign, Combine, Count, Call, CallOn, New, NewArray, NewItems, Paren, Access}
-use Rattle.core_lowering_rules.specs.Trees.{Named, Selected, Element, NoAccess, Exprs, no_expr, expr_then, Init, Value, Items}
-use Rattle.core_lowering_rules.specs.Trees.{Inits, no_init, init_then, Variable, Start, Declares, Runs, Stmt, Run, Local, If}
+use Rattle.core_lowering_rules.specs.Trees.{Assign, Combine, Count, Call, CallOn, New, NewArray, NewItems, Paren}
+use Rattle.core_lowering_rules.specs.Trees.{Access}
+use Rattle.core_lowering_rules.specs.Trees.{Named, Selected, Element, NoAccess, Exprs, no_expr, expr_then, Init}
+use Rattle.core_lowering_rules.specs.Trees.{Value, Items}
+use Rattle.core_lowering_rules.specs.Trees.{Inits, no_init, init_then, Variable, Start, Declares, Runs, Stmt, Run}
+use Rattle.core_lowering_rules.specs.Trees.{Local, If}
 use Rattle.core_lowering_rules.specs.Trees.{IfElse, While, For, ForEach, Sync, Return, Block, Empty, Stmts, no_stmt}
 use Rattle.core_lowering_rules.specs.Trees.{stmt_then}
 use Rattle.core_lowering_rules.specs.Trees as tree

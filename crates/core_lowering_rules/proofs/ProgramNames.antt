@@ -25,14 +25,16 @@ use Rattle.core_code.specs.declared.code.Reason.TheVariants.{Overload, Outside, 
 use Rattle.core_code.specs.declared.parts.ClassCore.{ClassCore}
 use Rattle.core_code.specs.declared.parts.FieldCore.{FieldCore}
 use Rattle.core_code.specs.Core.{Method}
-use Rattle.core_code.specs.Names.{is_identifier, is_field_name, are_names_right, all_differ, same_text, do_classes_differ}
+use Rattle.core_code.specs.Names.{is_identifier, is_field_name, are_names_right, all_differ, same_text}
+use Rattle.core_code.specs.Names.{do_classes_differ}
 use Rattle.core_code.specs.Names.{do_fields_differ, same_signature, do_methods_differ}
 use Rattle.core_code.specs.Names as names
 use Rattle.core_code.proofs.BoolParts.{both, first_part, last_part}
 use Rattle.core_lowering_rules.specs.Context.{Folder}
 use Rattle.core_lowering_rules.specs.Methods.{Source}
 use Rattle.core_lowering_rules.specs.Programs.{sources_of, is_outside, is_overloaded, local_count, where_so, status_of}
-use Rattle.core_lowering_rules.specs.Programs.{declared_in, statuses_from, folder_of, class_core, field_core, method_core}
+use Rattle.core_lowering_rules.specs.Programs.{declared_in, statuses_from, folder_of, class_core, field_core}
+use Rattle.core_lowering_rules.specs.Programs.{method_core}
 use Rattle.core_lowering_rules.specs.Programs.{method_cores, program_of}
 use Rattle.core_lowering_rules.specs.Conditions.{are_named}
 use Rattle.core_lowering_rules.proofs.FoundElements.{Each}

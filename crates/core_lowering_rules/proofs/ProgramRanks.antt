@@ -27,10 +27,13 @@ use Rattle.core_code.proofs.LongestChains.{ranks_by_chains}
 use Rattle.core_code.proofs.Members.{passes}
 use Rattle.core_code.proofs.RowCallees.{is_method, analysed_among, right_at, method_there, analysed_at}
 use Rattle.core_lowering_rules.specs.Context.{Folder}
+use Rattle.core_lowering_rules.specs.Conditions.{unit_places}
 use Rattle.core_lowering_rules.specs.Methods.{Source}
-use Rattle.core_lowering_rules.specs.Programs.{sources_of, declared_in, statuses_from, status_of, where_so, method_cores}
+use Rattle.core_lowering_rules.specs.Programs.{sources_of, declared_in, statuses_from, status_of, where_so}
+use Rattle.core_lowering_rules.specs.Programs.{method_cores}
 use Rattle.core_lowering_rules.specs.Programs.{program_of, draft_of, folder_of, is_outside, is_overloaded, local_count}
-use Rattle.core_lowering_rules.proofs.NamedMethods.{rows-same}
+use Rattle.core_lowering_rules.proofs.NamedCode.{any-place, rows-same}
+use Rattle.core_lowering_rules.proofs.KeptPlaces.{sources-placed}
 use Rattle.core_lowering_rules.proofs.ProgramFacts.{calls-right}
 
 -- ---- rows
@@ -148,7 +151,7 @@ pub same-calls : (files : List (List ℕ)) (units : List unit_type.Unit) (f : Me
 same-calls files units f =
     rows-same (declared_in units) (statuses_from (declared_in units) f 0 (sources_of units))
     (statuses_from (declared_in units) (λ m. true) 0 (sources_of units)) (declared_in units) f (λ m. true) 0
-    (sources_of units)
+    (sources_of units) (sources-placed (λ p. true) units (any-place (flat_map unit_places units)))
 
 right : (files : List (List ℕ)) (units : List unit_type.Unit) (flags : List Bool) →
     are_calls_right (program_of files units (flag_of flags)) ≡ true

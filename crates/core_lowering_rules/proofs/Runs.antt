@@ -21,20 +21,29 @@ use Rattle.core_code.specs.Core.{Core, Method}
 use Rattle.core_code.specs.Kinds.{StackKind, Opaque, joined_kind, joined_stack, same_class, fits, fits_class}
 use Rattle.core_code.specs.KindCheck.{Kinds, and_then, where_true, after_popping, kinds_after, kinds_after_op}
 use Rattle.core_code.specs.KindCheck.{same_stack}
-use Rattle.core_lowering_rules.specs.ValueKinds.{ValueKind, Of, is_converted}
+use Rattle.core_lowering_rules.specs.ValueKinds.{ValueKind, Of}
 use Rattle.core_lowering_rules.specs.ValueKinds as value
 use Rattle.core_lowering_rules.specs.Context.{Context, Code, op_at, op, choice, own_at, repeated, held, converted}
 use Rattle.core_lowering_rules.proofs.Suits.{Suits, class_equal}
 
-pub and_then-agree : (o : Kinds) (f g : List StackKind → Kinds) → ((s : List StackKind) → f s ≡ g s) →
-    and_then o f ≡ and_then o g
-and_then-agree None f g same = refl
-and_then-agree (Some s) f g same = same s
+-- what goes on from a value that is there
+pub then-agree : {A B : Type 0} (o : Option A) (f g : A → Option B) → ((x : A) → f x ≡ g x) →
+    elim o as (λ (_ : Option A). Option B) [ None ↦ None | Some x ↦ f x ] ≡
+    elim o as (λ (_ : Option A). Option B) [ None ↦ None | Some x ↦ g x ]
+then-agree None f g same = refl
+then-agree (Some x) f g same = same x
 
-and_then-assoc : (o : Kinds) (f g : List StackKind → Kinds) →
-    and_then (and_then o f) g ≡ and_then o (λ s. and_then (f s) g)
-and_then-assoc None f g = refl
-and_then-assoc (Some s) f g = refl
+then-assoc : {A B C : Type 0} (o : Option A) (f : A → Option B) (g : B → Option C) →
+    elim (elim o as (λ (_ : Option A). Option B) [ None ↦ None | Some x ↦ f x ]) as (λ (_ : Option B). Option C) [
+      | None ↦ None
+      | Some y ↦ g y
+    ] ≡
+    elim o as (λ (_ : Option A). Option C) [
+      | None ↦ None
+      | Some x ↦ elim (f x) as (λ (_ : Option B). Option C) [ None ↦ None | Some y ↦ g y ]
+    ]
+then-assoc None f g = refl
+then-assoc (Some x) f g = refl
 
 -- what pops values that lie on top
 pub popped : (kind : StackKind) (values stack : List StackKind) (n : ℕ) → length values ≡ n →
@@ -77,17 +86,7 @@ joined-length (a ∷ t) [] v e = absurd (none-some _ e)
 joined-length (a ∷ t) (b ∷ u) v e = joined-from a b t u (joined_stack t u) refl (joined-length t u) v e
 
 abbrev high_then : Option ℕ → (ℕ → Option ℕ) → Option ℕ
-high_then None f = None
-high_then (Some h) f = f h
-
-high_then-agree : (o : Option ℕ) (f g : ℕ → Option ℕ) → ((h : ℕ) → f h ≡ g h) → high_then o f ≡ high_then o g
-high_then-agree None f g same = refl
-high_then-agree (Some h) f g same = same h
-
-high_then-assoc : (o : Option ℕ) (f g : ℕ → Option ℕ) →
-    high_then (high_then o f) g ≡ high_then o (λ h. high_then (f h) g)
-high_then-assoc None f g = refl
-high_then-assoc (Some h) f g = refl
+high_then o f = elim o as (λ (_ : Option ℕ). Option ℕ) [ None ↦ None | Some h ↦ f h ]
 
 -- the heights after parts one after another
 abbrev pub heights : Code → ℕ → Option ℕ
@@ -97,20 +96,14 @@ heights (part ∷ parts) h = high_then (height_after part h) (λ k. heights part
 height-sequence : (parts : Code) (h : ℕ) → height_after (in_sequence parts) h ≡ heights parts h
 height-sequence [] h = refl
 height-sequence (part ∷ parts) h =
-    opened (height_after part h) (height_after (in_sequence parts))
-    ∙ high_then-agree (height_after part h) (height_after (in_sequence parts)) (heights parts) (height-sequence parts)
-  where
-    opened : (o : Option ℕ) (f : ℕ → Option ℕ) →
-        elim o as (λ (x : Option ℕ). Option ℕ) [ None ↦ None | Some k ↦ f k ] ≡ high_then o f
-    opened None f = refl
-    opened (Some k) f = refl
+    then-agree (height_after part h) (height_after (in_sequence parts)) (heights parts) (height-sequence parts)
 
 heights-append : (a b : Code) (h : ℕ) → heights (a ++ b) h ≡ high_then (heights a h) (heights b)
 heights-append [] b h = refl
 heights-append (part ∷ a) b h =
-    high_then-agree (height_after part h) (heights (a ++ b)) (λ k. high_then (heights a k) (heights b))
+    then-agree (height_after part h) (heights (a ++ b)) (λ k. high_then (heights a k) (heights b))
     (heights-append a b)
-    ∙ sym (high_then-assoc (height_after part h) (heights a) (heights b))
+    ∙ sym (then-assoc (height_after part h) (heights a) (heights b))
 
 -- whether the calls of code are right
 abbrev pub op_right : Core → Operation → Bool
@@ -138,16 +131,16 @@ module _ (core : Core) (m : Method) where
       kinds_after core m (in_sequence parts) stack ≡ after_all parts stack
   after-in_sequence [] stack = refl
   after-in_sequence (part ∷ parts) stack =
-      and_then-agree (kinds_after core m part stack) (kinds_after core m (in_sequence parts)) (after_all parts)
+      then-agree (kinds_after core m part stack) (kinds_after core m (in_sequence parts)) (after_all parts)
       (after-in_sequence parts)
 
   after-append : (a b : Code) (stack : List StackKind) →
       after_all (a ++ b) stack ≡ and_then (after_all a stack) (after_all b)
   after-append [] b stack = refl
   after-append (part ∷ a) b stack =
-      and_then-agree (kinds_after core m part stack) (after_all (a ++ b))
+      then-agree (kinds_after core m part stack) (after_all (a ++ b))
       (λ s. and_then (after_all a s) (after_all b)) (after-append a b)
-      ∙ sym (and_then-assoc (kinds_after core m part stack) (after_all a) (after_all b))
+      ∙ sym (then-assoc (kinds_after core m part stack) (after_all a) (after_all b))
 
   -- the code makes the second stack of the first, also of their heights, and its calls are right
   pub record Runs (code : Code) (before after : List StackKind) : Type 0 where

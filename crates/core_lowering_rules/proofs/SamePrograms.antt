@@ -28,12 +28,16 @@ use Rattle.core_code.specs.Tree.{in_sequence}
 use Rattle.core_lowering_rules.specs.Context.{Folder, Code}
 use Rattle.core_lowering_rules.specs.Methods.{Source, this_kinds}
 use Rattle.core_lowering_rules.specs.Sites.{numbered}
-use Rattle.core_lowering_rules.specs.Programs.{class_sources, sources_of, status_of, declared_in, statuses_from, folder_of}
-use Rattle.core_lowering_rules.specs.Programs.{class_core, field_core, method_core, method_cores, skipped_member, skipped_in}
-use Rattle.core_lowering_rules.specs.Programs.{in_order, program_of, draft_of, IsLowered, is_overloaded, where_so, is_entry}
+use Rattle.core_lowering_rules.specs.Programs.{class_sources, sources_of, status_of, declared_in, statuses_from}
+use Rattle.core_lowering_rules.specs.Programs.{folder_of}
+use Rattle.core_lowering_rules.specs.Programs.{class_core, field_core, method_core, method_cores, skipped_member}
+use Rattle.core_lowering_rules.specs.Programs.{skipped_in}
+use Rattle.core_lowering_rules.specs.Programs.{in_order, program_of, draft_of, IsLowered, is_overloaded, where_so}
+use Rattle.core_lowering_rules.specs.Programs.{is_entry}
 use Rattle.core_lowering_rules.proofs.ZippedLists.{same_3, zip-map, zip-flat, zip-append, zip-zips}
 use Rattle.core_lowering_rules.proofs.SameMembers.{by-form, class-alike, class_fields-alike, class_methods-alike}
-use Rattle.core_lowering_rules.proofs.SameSources.{SameSource, class_sources-same, method_code-alike, method_kinds-alike}
+use Rattle.core_lowering_rules.proofs.SameSources.{SameSource, class_sources-same, method_code-alike}
+use Rattle.core_lowering_rules.proofs.SameSources.{method_kinds-alike}
 use Rattle.core_lowering_rules.proofs.SameSources.{unspelled-alike}
 
 -- ---- class by class

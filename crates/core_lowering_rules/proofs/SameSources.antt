@@ -30,8 +30,9 @@ use Rattle.core_lowering_rules.specs.Assignments.{of_name, assigned}
 use Rattle.core_lowering_rules.specs.Expressions.{init_kind, init_code}
 use Rattle.core_lowering_rules.specs.Scopes.{declared, after_all}
 use Rattle.core_lowering_rules.specs.Methods.{Body, Default, Spelled, Unspelled, Source, this_kinds, entered}
-use Rattle.core_lowering_rules.specs.Methods.{parameters_declared, field_begun, member_begun, fields_begun, body_of, block}
-use Rattle.core_lowering_rules.specs.Methods.{locked, body_code, ended, spelled_code, code_in, method_code, kinds_in}
+use Rattle.core_lowering_rules.specs.Methods.{parameters_declared, field_begun, member_begun, fields_begun, body_of}
+use Rattle.core_lowering_rules.specs.Methods.{block}
+use Rattle.core_lowering_rules.specs.Methods.{locked, ended, spelled_code, code_in, method_code, kinds_in}
 use Rattle.core_lowering_rules.specs.Methods.{method_kinds}
 use Rattle.core_lowering_rules.specs.Methods as methods
 use Rattle.core_lowering_rules.specs.LoweredForms.{are_lowered, method_body}

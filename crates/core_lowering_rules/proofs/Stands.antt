@@ -1,5 +1,5 @@
 -- What is known of a program and a method where code of the method is lowered.
-use Rattle.std.proofs.Common.{◌≡◌, true, false, cond, List, ◌∷◌, Some, is_none, slice_get}
+use Rattle.std.proofs.Common.{◌≡◌, Bool, true, false, cond, List, ◌∷◌, Some, None, is_none, slice_get}
 use Rattle.racer_base.specs.declared.ids.ClassId.{ClassId}
 use Rattle.racer_base.specs.declared.ids.FieldId.{FieldId}
 use Rattle.racer_base.specs.declared.ids.MethodId.{MethodId}
@@ -12,8 +12,7 @@ use Rattle.core_code.specs.Core.{Core, Method}
 use Rattle.core_code.specs.Calls.{method_at, taken_by}
 use Rattle.core_code.specs.Calls as core_calls
 use Rattle.core_code.specs.KindCheck.{field_at, variable_at}
-use Rattle.core_lowering_rules.specs.Context.{Context, Result, Itself, Nothing, Value, is_analysed}
-use Rattle.core_lowering_rules.specs.Calls.{info_at}
+use Rattle.core_lowering_rules.specs.Context.{Context, Folder, Result, Itself, Nothing, Value}
 use Rattle.core_lowering_rules.specs.Programs.{field_core}
 use Rattle.core_lowering_rules.proofs.FoundElements.{Each}
 
@@ -39,14 +38,21 @@ IsResult m Itself =
 IsResult m Nothing = m.result ≡ Plain
 IsResult m (Value k) = m.result ≡ k
 
-pub record Stands (core : Core) (m : Method) (context : Context) : Type 0 where
-  pub fields : (f : FieldId) (info : FieldInfo) → slice_get context.folder.fields f.0 ≡ Some info →
+-- what the program has of the folder
+pub record FolderStands (core : Core) (folder : Folder) : Type 0 where
+  pub fields : (f : FieldId) (info : FieldInfo) → slice_get folder.fields f.0 ≡ Some info →
       field_at core f ≡ Some (field_core info)
-  pub methods : (n : MethodId) (info : MethodInfo) → info_at context n ≡ Some info → is_analysed context n ≡ true →
+  pub methods : (n : MethodId) (info : MethodInfo) → slice_get folder.methods n.0 ≡ Some info →
+      elim (slice_get folder.statuses n.0) as (λ _. Bool) [ None ↦ false | Some status ↦ is_none status ] ≡ true →
       HasMethod core n info
-  pub unread : (n : MethodId) → is_analysed context n ≡ false → core_calls.is_analysed core n ≡ false
-  pub constructors : (n : MethodId) (info : MethodInfo) → info_at context n ≡ Some info → info.is_constructor ≡ true →
-      (info.result ≡ Declared info.class) × (info.is_static ≡ false)
+  pub unread : (n : MethodId) →
+      elim (slice_get folder.statuses n.0) as (λ _. Bool) [ None ↦ false | Some status ↦ is_none status ] ≡ false →
+      core_calls.is_analysed core n ≡ false
+  pub constructors : (n : MethodId) (info : MethodInfo) → slice_get folder.methods n.0 ≡ Some info →
+      info.is_constructor ≡ true → (info.result ≡ Declared info.class) × (info.is_static ≡ false)
+
+pub record Stands (core : Core) (m : Method) (context : Context) : Type 0 where
+  pub known : FolderStands core context.folder
   pub variables : Each (IsVariable m) context.scope.variables
   pub object : context.scope.is_static ≡ false →
       variable_at m (record { 0 = 0 }) ≡ Some (Declared context.scope.class)

@@ -9,7 +9,7 @@ use Rattle.racer_base.specs.declared.ids.Kind.TheVariants as types
 use Rattle.core_code.specs.Kinds.{StackKind, Plain, Declared, Class, Null, Opaque, Other, kind_of, same_class}
 use Rattle.core_code.specs.Kinds.{joined_kind, joined_stack, fits_class, fits}
 use Rattle.core_code.specs.KindCheck.{Kinds}
-use Rattle.core_lowering_rules.specs.ValueKinds.{ValueKind, Of, common_kind, is_converted}
+use Rattle.core_lowering_rules.specs.ValueKinds.{ValueKind, Of, common_kind}
 use Rattle.core_lowering_rules.specs.ValueKinds as value
 
 -- ---- classes

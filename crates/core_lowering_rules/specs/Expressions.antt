@@ -12,12 +12,15 @@ use Rattle.java_resolver.specs.Declarations.{class_names}
 use Rattle.core_code.specs.declared.code.Op.TheVariants.{PushClass, PushPrim, PushNull, Drop, Prim, Outside}
 use Rattle.core_lowering_rules.specs.Trees.{Expr, Text, This, ClassOf, Read, Unary, Cast, Logical, Binary}
 use Rattle.core_lowering_rules.specs.Trees as tree
-use Rattle.core_lowering_rules.specs.Trees.{Conditional, Assign, Combine, Count, Paren, Call, CallOn, New, NewArray, NewItems}
+use Rattle.core_lowering_rules.specs.Trees.{Conditional, Assign, Combine, Count, Paren, Call, CallOn, New, NewArray}
+use Rattle.core_lowering_rules.specs.Trees.{NewItems}
 use Rattle.core_lowering_rules.specs.Trees.{Access, Named, Selected, Element, NoAccess, Exprs, no_expr, expr_then}
 use Rattle.core_lowering_rules.specs.Trees.{Init, Value, Items, Inits, no_init, init_then, count_exprs, count_inits}
 use Rattle.core_lowering_rules.specs.ValueKinds.{ValueKind, Of, Null, common_kind}
-use Rattle.core_lowering_rules.specs.Context.{Context, Code, op_at, op, choice, converted, push_this, type_kind, meaning_of}
-use Rattle.core_lowering_rules.specs.Assignments.{Storage, Elsewhere, kind_in, of_name, selected, element, read, assigned}
+use Rattle.core_lowering_rules.specs.Context.{Context, Code, op_at, op, choice, converted, push_this, type_kind}
+use Rattle.core_lowering_rules.specs.Context.{meaning_of}
+use Rattle.core_lowering_rules.specs.Assignments.{Storage, Elsewhere, kind_in, of_name, selected, element, read}
+use Rattle.core_lowering_rules.specs.Assignments.{assigned}
 use Rattle.core_lowering_rules.specs.Assignments.{combined, counted}
 use Rattle.core_lowering_rules.specs.Calls.{own_callee, callee_on, result_kind, called, called_on, made}
 

@@ -23,7 +23,8 @@ use Rattle.core_code.specs.Tree.{can_end, in_sequence}
 use Rattle.core_lowering_rules.specs.Trees.{Stmts, pack_stmts}
 use Rattle.core_lowering_rules.specs.TreesOf.{init_of, stmt_of}
 use Rattle.core_lowering_rules.specs.ValueKinds.{ValueKind, Of}
-use Rattle.core_lowering_rules.specs.Context.{Folder, Context, Result, Itself, Nothing, Value, Code, op, held, push_owner}
+use Rattle.core_lowering_rules.specs.Context.{Folder, Context, Result, Itself, Nothing, Value, Code, op, held}
+use Rattle.core_lowering_rules.specs.Context.{push_owner}
 use Rattle.core_lowering_rules.specs.Context.{type_kind}
 use Rattle.core_lowering_rules.specs.Assignments.{kind_in, of_name, assigned}
 use Rattle.core_lowering_rules.specs.Expressions.{init_kind, init_code}

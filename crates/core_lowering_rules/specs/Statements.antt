@@ -6,10 +6,12 @@ use Rattle.racer_base.specs.declared.ids.Kind.{Kind}
 use Rattle.racer_base.specs.declared.ids.Kind.TheVariants as kinds
 use Rattle.java_resolver.specs.declared.scope.ScopeVariable.{ScopeVariable}
 use Rattle.core_code.specs.declared.code.Op.TheVariants.{PushPrim, PushNull, Drop, Set, Outside, Ret}
-use Rattle.core_lowering_rules.specs.Trees.{Expr, Exprs, no_expr, expr_then, Init, Variable, Start, Declares, Runs, Stmt, Run}
+use Rattle.core_lowering_rules.specs.Trees.{Expr, Exprs, no_expr, expr_then, Init, Variable, Start, Declares, Runs}
+use Rattle.core_lowering_rules.specs.Trees.{Stmt, Run}
 use Rattle.core_lowering_rules.specs.Trees.{Local, If, IfElse, While, For, ForEach, Sync, Return, Block, Empty, Stmts}
 use Rattle.core_lowering_rules.specs.Trees.{no_stmt, stmt_then}
-use Rattle.core_lowering_rules.specs.Context.{Context, Itself, Nothing, Value, Code, op, choice, repeated, held, converted}
+use Rattle.core_lowering_rules.specs.Context.{Context, Itself, Nothing, Value, Code, op, choice, repeated, held}
+use Rattle.core_lowering_rules.specs.Context.{converted}
 use Rattle.core_lowering_rules.specs.Context.{Result}
 use Rattle.core_lowering_rules.specs.Context.{push_this, type_kind}
 use Rattle.core_lowering_rules.specs.Expressions.{kind, code, init_kind, init_code}

@@ -24,9 +24,12 @@ use Rattle.java_tree.specs.declared.statements.Statement.TheFolds.{fold-Statemen
 use Rattle.java_tree.specs.declared.statements.Statement.TheFolds.{fold-GroupTree}
 use Rattle.java_tree.specs.View.{ty_of}
 use Rattle.core_lowering_rules.specs.Trees.{Expr, Prim, Text, Null, This, ClassOf, Read, Unary, Cast, Logical, Binary}
-use Rattle.core_lowering_rules.specs.Trees.{Conditional, Assign, Combine, Count, Paren, Call, CallOn, New, NewArray, NewItems}
-use Rattle.core_lowering_rules.specs.Trees.{Access, Named, Selected, Element, NoAccess, Init, Value, Items, Inits, Variable}
-use Rattle.core_lowering_rules.specs.Trees.{Start, Declares, Runs, Stmt, Run, Local, If, IfElse, While, For, ForEach, Sync}
+use Rattle.core_lowering_rules.specs.Trees.{Conditional, Assign, Combine, Count, Paren, Call, CallOn, New, NewArray}
+use Rattle.core_lowering_rules.specs.Trees.{NewItems}
+use Rattle.core_lowering_rules.specs.Trees.{Access, Named, Selected, Element, NoAccess, Init, Value, Items, Inits}
+use Rattle.core_lowering_rules.specs.Trees.{Variable}
+use Rattle.core_lowering_rules.specs.Trees.{Start, Declares, Runs, Stmt, Run, Local, If, IfElse, While, For, ForEach}
+use Rattle.core_lowering_rules.specs.Trees.{Sync}
 use Rattle.core_lowering_rules.specs.Trees.{Return, Block, Empty, pack_exprs, pack_inits, pack_stmts}
 
 -- ---- expressions
