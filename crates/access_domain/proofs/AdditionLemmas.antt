@@ -9,19 +9,16 @@ use Rattle.access_paths.specs.Order.{PathSet, path_cmp}
 use Rattle.access_paths.specs.Paths.{same_path}
 use Rattle.access_paths.specs.Same.{equal_of_same, tied, path_cmp-total, path_cmp-IsAntisymmetric}
 use Rattle.std.specs.Ordering.{eq_by_cmp}
-use Rattle.std.proofs.lemmas.Bool.{false≢true}
 use Rattle.wobbly_paths.specs.declared.wobbly.Adding.{Adding}
 use Rattle.wobbly_paths.specs.declared.wobbly.Adding.TheVariants.{Added, Present, Full, Memory}
 use Rattle.wobbly_paths.specs.Sets.{IsAnswer}
 use Rattle.access_domain.specs.declared.access.Access.{Access}
 use Rattle.core_code.specs.Touches.{is_write}
 use Rattle.access_domain.specs.Records.{same_flag, same_touch, same_key, first_of_keys, different_paths}
+use Rattle.core_code.proofs.BoolParts.{first_part, last_part}
 use Rattle.access_domain.proofs.Different.{from_list-different}
+use Rattle.access_domain.proofs.Tests.{and_false, and_true, equal_flags, or_false}
 use Rattle.access_domain.specs.Additions.{key_added, keys_added, paths_added}
-
-or-false : (a : Bool) → (a || false) ≡ a
-or-false true = refl
-or-false false = refl
 
 swap : (a b c : Bool) → ((a || b) || c) ≡ (b || (a || c))
 swap true true c = refl
@@ -61,14 +58,6 @@ not-or : (a b : Bool) → not (a || b) ≡ (not a && not b)
 not-or true b = refl
 not-or false b = refl
 
-and-false : (a : Bool) → (a && false) ≡ false
-and-false true = refl
-and-false false = refl
-
-and-true : (a : Bool) → (a && true) ≡ a
-and-true true = refl
-and-true false = refl
-
 filter-filter : {X : Type 0} (p q : X → Bool) (xs : List X) → filter p (filter q xs) ≡ filter (λ x. p x && q x) xs
 filter-filter p q [] = refl
 filter-filter p q (x ∷ xs) =
@@ -95,19 +84,6 @@ filter-all : {X : Type 0} (xs : List X) → filter (λ _. true) xs ≡ xs
 filter-all [] = refl
 filter-all (x ∷ xs) = ap (λ rest. x ∷ rest) (filter-all xs)
 
-left_of : (a b : Bool) → (a && b) ≡ true → a ≡ true
-left_of true b h = refl
-left_of false b h = h
-
-right_of : (a b : Bool) → (a && b) ≡ true → b ≡ true
-right_of true b h = h
-right_of false b h = absurd (false≢true h)
-
-equal_flags : (a b : Bool) → same_flag a b ≡ true → a ≡ b
-equal_flags true b h = sym h
-equal_flags false true h = absurd (false≢true h)
-equal_flags false false h = refl
-
 -- what one key covers the same key covers
 alike_keys : (x y e : Access) → same_key x y ≡ true → same_key e x ≡ same_key e y
 alike_keys x y e h =
@@ -115,12 +91,12 @@ alike_keys x y e h =
     let touches = same_touch x.kind y.kind in
     let locks = same_flag x.locked y.locked in
     let mains = same_flag x.main y.main in
-    let three = left_of (paths && touches && locks) mains h in
-    let two = left_of (paths && touches) locks three in
-    let path = equal_of_same x.path y.path (left_of paths touches two) in
-    let touch = equal_flags (is_write x.kind) (is_write y.kind) (right_of paths touches two) in
-    let lock = equal_flags x.locked y.locked (right_of (paths && touches) locks three) in
-    let main = equal_flags x.main y.main (right_of (paths && touches && locks) mains h) in
+    let three = first_part (paths && touches && locks) mains h in
+    let two = first_part (paths && touches) locks three in
+    let path = equal_of_same x.path y.path (first_part paths touches two) in
+    let touch = equal_flags (is_write x.kind) (is_write y.kind) (last_part paths touches two) in
+    let lock = equal_flags x.locked y.locked (last_part (paths && touches) locks three) in
+    let main = equal_flags x.main y.main (last_part (paths && touches && locks) mains h) in
     ap (λ (p : Path). same_path e.path p && same_touch e.kind x.kind && same_flag e.locked x.locked &&
     same_flag e.main x.main) path
     ∙ ap (λ (w : Bool). same_path e.path y.path && same_flag (is_write e.kind) w && same_flag e.locked x.locked &&
@@ -143,8 +119,8 @@ old_tells : (old : List Access) (x y : Access) → list_any (λ e. same_key e x)
     (is_new old y && not (same_key x y)) ≡ is_new old y
 old_tells old x y h =
     elim (same_key x y) as (λ b. same_key x y ≡ b → (is_new old y && not b) ≡ is_new old y) [
-      | true ↦ λ e. and-false (is_new old y) ∙ sym (ap not (sym (covered old x y e) ∙ h))
-      | false ↦ λ e. and-true (is_new old y)
+      | true ↦ λ e. and_false (is_new old y) ∙ sym (ap not (sym (covered old x y e) ∙ h))
+      | false ↦ λ e. and_true (is_new old y)
     ] refl
 
 -- where x is added, what is new behind it is of another key too
@@ -182,7 +158,7 @@ keys_added-nil xs = keys_added-firsts [] xs ∙ filter-all (first_of_keys xs)
 
 pub contains_added : (old : PathSet) (xs : List Path) (q : Path) →
     set.contains (paths_added old xs) q ≡ (set.contains old q || list_any (eq_by_cmp path_cmp q) xs)
-contains_added old [] q = sym (or-false (set.contains old q))
+contains_added old [] q = sym (or_false (set.contains old q))
 contains_added old (x ∷ xs) q =
     contains_added (set.insert old x) xs q
     ∙ ap (λ b. b || list_any (eq_by_cmp path_cmp q) xs) (set.contains-insert path_cmp-total old x q)
@@ -221,7 +197,7 @@ none_same x p (y ∷ ys) =
     (filter (λ y. p y && not (same_path x y)) ys)) ≡ false) [
       | true ↦ λ e. ap (λ b. list_any (eq_by_cmp path_cmp x)
           (cond b (y ∷ filter (λ y. p y && not (same_path x y)) ys) (filter (λ y. p y && not (same_path x y)) ys)))
-          (and-false (p y)) ∙ none_same x p ys
+          (and_false (p y)) ∙ none_same x p ys
       | false ↦ λ e. elim (p y) as (λ b. list_any (eq_by_cmp path_cmp x)
           (cond (b && true) (y ∷ filter (λ y. p y && not (same_path x y)) ys)
           (filter (λ y. p y && not (same_path x y)) ys)) ≡ false) [

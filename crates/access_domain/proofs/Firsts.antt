@@ -1,24 +1,11 @@
 -- The firsts of a list with one more element.
 use Rattle.std.proofs.Common.{◌≡◌, Bool, true, false, cond, not, ◌||◌, List, [], ◌∷◌, ◌++◌, filter}
 use Rattle.std.proofs.Common.{refl, sym, ap, ◌∙◌}
+use Rattle.std.proofs.lemmas.Bool.{or_parts}
+use Rattle.std.proofs.lemmas.List.{append-nil}
 use Rattle.std.specs.List.{list_any}
 use Rattle.access_domain.specs.Records.{firsts}
-
-first_false : (a b : Bool) → (a || b) ≡ false → a ≡ false
-first_false true b h = h
-first_false false b h = refl
-
-second_false : (a b : Bool) → (a || b) ≡ false → b ≡ false
-second_false true b h = cc
-second_false false b h = h
-
-or_false : (b : Bool) → (b || false) ≡ b
-or_false true = refl
-or_false false = refl
-
-append_nil : {X : Type 0} (xs : List X) → (xs ++ []) ≡ xs
-append_nil [] = refl
-append_nil (x ∷ xs) = ap (λ ys. x ∷ ys) (append_nil xs)
+use Rattle.access_domain.proofs.Tests.{or_false}
 
 filter_push : {X : Type 0} (p : X → Bool) (xs : List X) (y : X) →
     filter p (xs ++ y ∷ []) ≡ filter p xs ++ cond (p y) (y ∷ []) []
@@ -35,11 +22,10 @@ pub firsts-new : {X : Type 0} (same : X → X → Bool) (xs : List X) (y : X) �
     firsts same (xs ++ y ∷ []) ≡ firsts same xs ++ y ∷ []
 firsts-new same [] y none = refl
 firsts-new {X} same (x ∷ xs) y none =
-    let here : same x y ≡ false = first_false (same x y) (list_any (λ z. same z y) xs) none in
-    let later : list_any (λ z. same z y) xs ≡ false = second_false (same x y) (list_any (λ z. same z y) xs) none in
-    ap (λ zs. x ∷ filter (λ z. not (same x z)) zs) (firsts-new same xs y later)
+    let both = or_parts (same x y) (list_any (λ z. same z y) xs) none in
+    ap (λ zs. x ∷ filter (λ z. not (same x z)) zs) (firsts-new same xs y both.1)
     ∙ ap (λ zs. x ∷ zs) (filter_push (λ z. not (same x z)) (firsts same xs) y)
-    ∙ ap (λ b. x ∷ (filter (λ z. not (same x z)) (firsts same xs) ++ cond (not b) (y ∷ []) [])) here
+    ∙ ap (λ b. x ∷ (filter (λ z. not (same x z)) (firsts same xs) ++ cond (not b) (y ∷ []) [])) both.0
 
 -- one that is the same as an earlier one is not among the firsts
 pub firsts-old : {X : Type 0} (same : X → X → Bool) (xs : List X) (y : X) → list_any (λ x. same x y) xs ≡ true →
@@ -54,5 +40,5 @@ firsts-old {X} same (x ∷ xs) y one =
           ap (λ zs. x ∷ filter (λ z. not (same x z)) zs) (firsts-new same xs y e)
           ∙ ap (λ zs. x ∷ zs) (filter_push (λ z. not (same x z)) (firsts same xs) y)
           ∙ ap (λ b. x ∷ (filter (λ z. not (same x z)) (firsts same xs) ++ cond (not b) (y ∷ []) [])) here
-          ∙ ap (λ zs. x ∷ zs) (append_nil (filter (λ z. not (same x z)) (firsts same xs)))
+          ∙ ap (λ zs. x ∷ zs) (append-nil (filter (λ z. not (same x z)) (firsts same xs)))
     ] refl one

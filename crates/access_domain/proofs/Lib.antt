@@ -1,5 +1,11 @@
 pub mod Different
+pub mod Tests
 pub mod Firsts
+pub mod Members
+pub mod OperationRecords
+pub mod ReachedStates
+pub mod KnownMethods
+pub mod TouchedPaths
 pub mod RecordOrigins
 pub mod AdditionLemmas
 pub mod ReachedPaths

@@ -8,7 +8,8 @@ use Rattle.racer_base.specs.declared.ids.Kind.{Kind}
 use Rattle.racer_base.specs.declared.ids.Kind.TheVariants.{Plain, Declared}
 use Rattle.racer_base.specs.declared.ids.Touch.{Touch}
 use Rattle.core_code.specs.declared.code.Op.{Op as CoreOp}
-use Rattle.core_code.specs.declared.code.Op.TheVariants.{Push, PushPrim, New, Drop, Get, Put, Set, Outside, Call, Ret, Throw}
+use Rattle.core_code.specs.declared.code.Op.TheVariants.{Push, PushPrim, New, Drop, Get, Put, Set, Outside, Call, Ret}
+use Rattle.core_code.specs.declared.code.Op.TheVariants.{Throw}
 use Rattle.core_code.specs.declared.parts.ClassCore.{ClassCore}
 use Rattle.core_code.specs.declared.parts.FieldCore.{FieldCore}
 use Rattle.core_code.specs.Tree.{Tree, Op, Skip, Choice, in_sequence}

@@ -13,3 +13,4 @@ pub mod Examples
 pub mod Outcomes
 pub mod Origins
 pub mod Numbered
+pub mod Longer

@@ -29,7 +29,8 @@ ghost use Rattle.access_domain.specs.Origins.{HasOrigin};
 ghost use Rattle.access_domain.specs.Records.{different_paths, first_of_keys, same_key};
 ghost use Rattle.access_domain.specs.Outcomes.{outcome_among};
 ghost use Rattle.access_domain.specs.Summaries.{outcome_of, outcomes_of, known_of, known_of_callees, effects_of};
-ghost use Rattle.access_domain.specs.Examples.{mix, join, statics, throws, field, method, class, this_path, formal_path};
+ghost use Rattle.access_domain.specs.Examples.{mix, join, statics, throws, field, method, class, this_path};
+ghost use Rattle.access_domain.specs.Examples.{formal_path};
 ghost use Rattle.access_domain.specs.Examples.{access, access_below};
 
 /// A record whose path is a number has the key of one of some others exactly where what it is in a table has the key of

@@ -9,6 +9,7 @@
 //! - `specs/Numbered.antt`: records whose paths are numbers of a table, and what they are.
 //! - `specs/Findings.antt`: what is known of a method, in lists (`Known`), and the same as an `Outcome`.
 //! - `specs/FlowContext.antt`: what a flow needs of a program (`FlowContext`), and `given_of` a program's parts.
+//! - `specs/Longer.antt`: a path with one field more.
 //! - `specs/Reached.antt`: the path of an access, by the value of the field.
 //! - `specs/Substitution.antt`: what is found of a callee, in its caller's values.
 //! - `specs/Operations.antt`: what one operation does.

@@ -15,6 +15,7 @@ use Rattle.core_code.specs.Tree.{can_end, steps_of}
 use Rattle.core_code.specs.Tree as tree
 use Rattle.core_code.specs.Calls.{called_by}
 use Rattle.core_code.proofs.BoolParts.{first_part, last_part}
+use Rattle.access_domain.proofs.Tests.{or_false}
 use Rattle.racer_base.specs.declared.ids.SiteId.{SiteId}
 use Rattle.std.specs.List.{list_all}
 use Rattle.core_ways.proofs.Callees.{do_pass, pass-both}
@@ -25,7 +26,7 @@ use Rattle.core_semantics.specs.declared.answer.Why.{Why}
 use Rattle.core_semantics.specs.declared.answer.Why.TheVariants.{UnreadCall as UnreadWhy}
 use Rattle.core_semantics.specs.declared.object.Value.TheVariants.{Null}
 use Rattle.std.proofs.Common.{slice_index_or, ◌-◌}
-use Rattle.std.proofs.lemmas.Bool.{lt-ltb}
+use Rattle.std.proofs.lemmas.Bool.{lt-ltb, or_right}
 use Rattle.core_semantics.specs.declared.object.Object.{Object}
 use Rattle.core_semantics.specs.declared.object.Value.{Value}
 use Rattle.core_semantics.specs.State.{Frame, Store, Todo, Op, Choice, Sync, Unlock, before}
@@ -225,7 +226,7 @@ pub drop-none : (xs : List Holder) → drop 0 xs ≡ xs
 drop-none [] = refl
 drop-none (x ∷ xs) = refl
 
-drop-more : (n : ℕ) (xs : List Holder) → drop n (drop 1 xs) ≡ drop (suc n) xs
+pub drop-more : (n : ℕ) (xs : List Holder) → drop n (drop 1 xs) ≡ drop (suc n) xs
 drop-more zero [] = refl
 drop-more (suc n) [] = refl
 drop-more n (x ∷ xs) = refl
@@ -369,14 +370,6 @@ past-body core trips body todo locked callers locks monitor true a is =
     (λ rest. (refl, (is.0, is.1, is.2, (λ i. here is.0 is.1 is.2 todo (one i) callers locks))))
 past-body core trips body todo locked callers locks monitor false a is = λ rest. (refl, is)
 
-or-true : (b : Bool) → (b || true) ≡ true
-or-true true = refl
-or-true false = refl
-
-or-false : (b : Bool) → (b || false) ≡ b
-or-false true = refl
-or-false false = refl
-
 module _ (core : Core) (trips : MethodId → Trip) (test : MethodId → Bool)
     (holds : (m : MethodId) → test m ≡ true → MethodRuns core trips m) where
   runs-op : (site : SiteId) (place : Place) (op : CoreOp) → list_all test (called_by op ++ []) ≡ true →
@@ -436,7 +429,7 @@ module _ (core : Core) (trips : MethodId → Trip) (test : MethodId → Bool)
       let b = here store vars stack (before right todo) locked callers locks in
       let trip = trip_along trips (passed locked right) in
       subst (λ (x : Bool). Leads core (joined (record { turns = Right ∷ []; steps = 1; unread = [] }) trip) a
-      (IsBehind x todo locked callers locks)) (sym (or-true (can_end left)))
+      (IsBehind x todo locked callers locks)) (sym (or_right (can_end left) true refl))
       (past-turn core trip Right a b (IsAt todo locked callers locks) (λ rest. refl)
       (subst (λ (x : Bool). Leads core trip b (IsBehind x todo locked callers locks)) ends
       (on_right locked store vars stack todo callers locks)))
@@ -445,7 +438,7 @@ module _ (core : Core) (trips : MethodId → Trip) (test : MethodId → Bool)
       let b = here store vars stack (before left todo) locked callers locks in
       let trip = trip_along trips (passed locked left) in
       subst (λ (x : Bool). Leads core (joined (record { turns = Left ∷ []; steps = 1; unread = [] }) trip) a
-      (IsBehind x todo locked callers locks)) (sym (or-false (can_end left)))
+      (IsBehind x todo locked callers locks)) (sym (or_false (can_end left)))
       (past-turn core trip Left a b (IsBehind (can_end left) todo locked callers locks) (λ rest. refl)
       (on_left locked store vars stack todo callers locks))
 

@@ -9,6 +9,7 @@ use Rattle.core_code.specs.Core.{Core}
 use Rattle.core_code.specs.Tree.{LockAt, Tree}
 use Rattle.core_code.specs.Tree.{can_end, can_return, is_return, steps_of, stops}
 use Rattle.core_code.specs.Tree as tree
+use Rattle.std.proofs.lemmas.Bool.{or_right}
 use Rattle.core_code.proofs.BoolParts.{first_part, last_part}
 use Rattle.core_semantics.specs.declared.answer.Holder.{Holder}
 use Rattle.core_semantics.specs.declared.answer.Turn.{Turn}
@@ -19,7 +20,8 @@ use Rattle.core_semantics.specs.declared.object.Value.TheVariants.{Null}
 use Rattle.core_semantics.specs.State.{Frame, Store, Todo, Op, Choice, Loop, Sync, Unlock, before}
 use Rattle.core_semantics.specs.Steps.{After, lock_with, monitor_of}
 use Rattle.core_ways.specs.declared.part.WayPart.TheVariants.{Branched}
-use Rattle.core_ways.specs.Alone.{ComesTo, HasReturned, IsAt, IsBehind, MethodRuns, RunsBack, RunsPast, alone, comes_back}
+use Rattle.core_ways.specs.Alone.{ComesTo, HasReturned, IsAt, IsBehind, MethodRuns, RunsBack, RunsPast, alone}
+use Rattle.core_ways.specs.Alone.{comes_back}
 use Rattle.core_ways.specs.Alone.{here, onward}
 use Rattle.core_ways.specs.Ways.{Trip, goes_past, passed, passed_op, to_return, trip_along}
 use Rattle.core_ways.proofs.Alone.{Leads, along-both, leads-on, one-more, past-turn, runs-past, spot}
@@ -27,21 +29,17 @@ use Rattle.core_ways.proofs.Callees.{do_pass, pass-both}
 
 -- ---- which part comes back
 
-or-true : (b : Bool) → (b || true) ≡ true
-or-true true = refl
-or-true false = refl
-
 pub op-stops : (op : CoreOp) → (not (not (stops op)) || is_return op) ≡ true → not (stops op) ≡ false
 op-stops Ret h = refl
 op-stops Throw h = refl
 op-stops _ h = absurd cc
 
 pub returns-back : (code : Tree) → can_return code ≡ true → comes_back code ≡ true
-returns-back code h = ap (λ (b : Bool). not (can_end code) || b) h ∙ or-true (not (can_end code))
+returns-back code h = ap (λ (b : Bool). not (can_end code) || b) h ∙ or_right (not (can_end code)) true refl
 
 pub late : (a b r q : Bool) → (a && (q || not r)) ≡ true → (not (a && b) || (r || (a && q))) ≡ true →
     (a ≡ true) × ((not b || q) ≡ true)
-late true b r true p h = (refl, or-true (not b))
+late true b r true p h = (refl, or_right (not b) true refl)
 late true b true false p h = absurd cc
 late true b false false p h = (refl, h)
 late false b r q p h = absurd cc
@@ -54,7 +52,7 @@ early true false false p = absurd cc
 
 pub right-back : (a b r q : Bool) → r ≡ false → (not (a || b) || (r || q)) ≡ true → (not b || q) ≡ true
 right-back a b true q e h = absurd cc
-right-back true b false q e h = ap (λ (x : Bool). not b || x) h ∙ or-true (not b)
+right-back true b false q e h = ap (λ (x : Bool). not b || x) h ∙ or_right (not b) true refl
 right-back false b false q e h = h
 
 module _ (core : Core) (trips : MethodId → Trip) where

@@ -25,6 +25,7 @@ use Rattle.core_ways.specs.Alone.{here}
 use Rattle.core_semantics.specs.declared.answer.Holder.{Holder}
 use Rattle.core_ways.specs.Alone.{HasReturned, MethodRuns, RunsBack}
 use Rattle.core_ways.specs.Ways.{Trip, trip_along, trip_of, to_return, code_at}
+use Rattle.access_domain.proofs.Tests.{passes_at}
 use Rattle.core_ways.proofs.Alone.{Leads, drop-none}
 use Rattle.core_ways.proofs.AloneBack.{runs-back}
 
@@ -53,25 +54,18 @@ analysed-calls core (o ∷ ops) right =
     (analysed-calls core ops
     (last_part (is_right_call core o.op) (list_all (λ (x : Operation). is_right_call core x.op) ops) right))
 
-each-method : (p : Method → Bool) (ms : List Method) (i : ℕ) (method : Method) → list_all p ms ≡ true →
-    slice_get ms i ≡ Some method → p method ≡ true
-each-method p [] i method all is = absurd cc
-each-method p (m ∷ ms) zero method all is =
-    let same : m ≡ method = cc in ap p (sym same) ∙ first_part (p m) (list_all p ms) all
-each-method p (m ∷ ms) (suc i) method all is = each-method p ms i method (last_part (p m) (list_all p ms) all) is
-
 -- what a program keeps of its calls
 pub record AreRight (core : Core) : Type 0 where
   pub ranks : has_ranks core ≡ true
   pub calls : are_calls_right core ≡ true
   pub ends : do_end_by_return core ≡ true
 
-analysed-status : (core : Core) (m : MethodId) (method : Method) → method_at core m ≡ Some method →
+pub analysed-status : (core : Core) (m : MethodId) (method : Method) → method_at core m ≡ Some method →
     is_analysed core m ≡ true → is_none method.status ≡ true
 analysed-status core m method is analysed =
     sym (ap (λ (o : Option Method). elim o as (λ _. Bool) [ None ↦ false | Some x ↦ is_none x.status ]) is) ∙ analysed
 
-never-ends : (o : Option Reason) (b : Bool) → is_none o ≡ true → (is_some o || not b) ≡ true → b ≡ false
+pub never-ends : (o : Option Reason) (b : Bool) → is_none o ≡ true → (is_some o || not b) ≡ true → b ≡ false
 never-ends None true none e = absurd cc
 never-ends None false none e = refl
 never-ends (Some r) b none e = absurd cc
@@ -87,7 +81,7 @@ calls-pass core right m method is at =
     both-pass (λ n. nat_lt (rank_of core n) (rank_of core m)) (is_analysed core) (calls_in method.code)
     (lower-calls core m method.code right.ranks at)
     (analysed-calls core (steps_of method.code)
-    (each-method (has_right_calls core) core.methods m.0 method right.calls is))
+    (passes_at (has_right_calls core) core.methods m.0 method right.calls is))
 
 pub code-there : (core : Core) (m : MethodId) (method : Method) → method_at core m ≡ Some method →
     is_analysed core m ≡ true → code_at core m ≡ Some method.code
@@ -110,7 +104,7 @@ method-runs core right (suc k) m low analysed method is =
     (last_part (nat_lt (rank_of core n) (rank_of core m)) (is_analysed core n) may) in
     let ends : can_end code ≡ false =
     never-ends method.status (can_end code) status
-    (each-method ends_by_return core.methods m.0 method right.ends is) in
+    (passes_at ends_by_return core.methods m.0 method right.ends is) in
     let back : RunsBack core (trip_of core) code =
     runs-back core (trip_of core) (may_call core m) holds code (ap (λ (b : Bool). not b || can_return code) ends)
     calls in

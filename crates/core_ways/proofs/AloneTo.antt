@@ -32,20 +32,21 @@ use Rattle.core_ways.specs.Alone.{MethodRuns}
 use Rattle.core_ways.proofs.Alone.{Leads, along-both, leads-on, one-more, past-turn, runs-past, spot, weaker}
 use Rattle.core_ways.proofs.Callees.{do_pass, pass-both}
 
-first-of : (p q : Option Operation) (o : Operation) → is_some p ≡ true → option_or p q ≡ Some o → p ≡ Some o
+pub first-of : (p q : Option Operation) (o : Operation) → is_some p ≡ true → option_or p q ≡ Some o → p ≡ Some o
 first-of None q o has is = absurd cc
 first-of (Some x) q o has is = is
 
-second-of : (p q : Option Operation) (o : Operation) → is_some p ≡ false → option_or p q ≡ Some o → q ≡ Some o
+pub second-of : (p q : Option Operation) (o : Operation) → is_some p ≡ false → option_or p q ≡ Some o → q ≡ Some o
 second-of None q o has is = is
 second-of (Some x) q o has is = absurd cc
 
-op-first : (a b : Tree) (site : SiteId) (o : Operation) → has_site a site ≡ true → op_at (tree.Seq a b) site ≡ Some o →
+pub op-first : (a b : Tree) (site : SiteId) (o : Operation) → has_site a site ≡ true →
+    op_at (tree.Seq a b) site ≡ Some o →
     op_at a site ≡ Some o
 op-first a b site o has is =
     first-of (op_at a site) (op_at b site) o has (sym (find-append _ (steps_of a) (steps_of b)) ∙ is)
 
-op-second : (a b : Tree) (site : SiteId) (o : Operation) → has_site a site ≡ false →
+pub op-second : (a b : Tree) (site : SiteId) (o : Operation) → has_site a site ≡ false →
     op_at (tree.Seq a b) site ≡ Some o → op_at b site ≡ Some o
 op-second a b site o has is =
     second-of (op_at a site) (op_at b site) o has (sym (find-append _ (steps_of a) (steps_of b)) ∙ is)

@@ -31,7 +31,7 @@ part-again s t a =
       | false ↦ refl
     ]
 
-other-stays : (s : State) (t : ℕ) (a : After) → other_of (with_thread s t a.store a.thread) t ≡ other_of s t
+pub other-stays : (s : State) (t : ℕ) (a : After) → other_of (with_thread s t a.store a.thread) t ≡ other_of s t
 other-stays s t a =
     elim (nat_eq t 0) as (λ b.
     (let x : State = cond b

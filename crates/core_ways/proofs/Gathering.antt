@@ -1,5 +1,6 @@
 -- What is gathered one after another is the first of each.
-use Rattle.std.proofs.Common.{◌≡◌, ◌+◌, ◌≤◌, Bool, true, false, cond, ◌||◌, List, [], ◌∷◌, ◌++◌, length, refl, sym, ap, ◌∙◌}
+use Rattle.std.proofs.Common.{◌≡◌, ◌+◌, ◌≤◌, Bool, true, false, cond, ◌||◌, List, [], ◌∷◌, ◌++◌, length, refl, sym, ap}
+use Rattle.std.proofs.Common.{◌∙◌}
 use Rattle.std.proofs.Common.{append_assoc, arith, length-append}
 use Rattle.std.proofs.lemmas.List.{append-nil}
 use Rattle.std.specs.BTreeSet.{BTreeSet, Updates}
@@ -17,7 +18,7 @@ use Rattle.core_semantics.specs.Same.{equal_of_same, tied}
 use Rattle.core_ways.specs.Gathered.{HasObjectsOf, gathered, is_among, path_added}
 
 -- paths that are the same are equal
-exact : (p q : StartPath) → same_start_path p q ≡ true → p ≡ q
+pub exact : (p q : StartPath) → same_start_path p q ≡ true → p ≡ q
 exact p q e = let same : StartOf p ≡ StartOf q = equal_of_same (StartOf p) (StartOf q) e in cc
 
 abbrev firsts_of : List StartPath → List StartPath

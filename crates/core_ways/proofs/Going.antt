@@ -59,7 +59,7 @@ pub no-site : (core : Core) (m : MethodId) (i : ℕ) (code : Tree) (r : Access) 
 no-site core m i code r is at none =
     with-record core m i code r is at ∙ ap (from_site (inner_ways core m) r code) none
 
-with-site : (core : Core) (m : MethodId) (i : ℕ) (code : Tree) (r : Access) (o : Operation) →
+pub with-site : (core : Core) (m : MethodId) (i : ℕ) (code : Tree) (r : Access) (o : Operation) →
     code_at core m ≡ Some code → record_at core m i ≡ Some r → op_at code r.site ≡ Some o →
     way_parts core m i ≡ reached 0 r.site code ++ entered (inner_ways core m) r.below o.op
 with-site core m i code r o is at there =

@@ -9,6 +9,8 @@ use Rattle.core_semantics.specs.declared.answer.Turn.TheVariants.{Left, Right}
 use Rattle.core_ways.specs.declared.part.WayPart.{WayPart}
 use Rattle.core_ways.specs.declared.part.WayPart.TheVariants.{Step, Branched}
 use Rattle.core_ways.specs.Ways.{passed}
+use Rattle.std.proofs.lemmas.Bool.{or_right}
+use Rattle.access_domain.proofs.Tests.{or_false}
 
 -- the pieces from one on are that one and the others
 pub turn : (codes : List Code) (i : ℕ) (code : Code) → i < length codes → code ≡ get_or codes i code →
@@ -39,20 +41,12 @@ more new old first rest left whole grown is so_far =
 
 -- ---- a choice
 
-or-true : (b : Bool) → (b || true) ≡ true
-or-true true = refl
-or-true false = refl
-
-or-false : (b : Bool) → (b || false) ≡ b
-or-false true = refl
-or-false false = refl
-
 -- it ends where its right side does, else where its left side does
 pub right-ends : (left right : Tree) → can_end right ≡ true → true ≡ can_end (Choice left right)
-right-ends left right ends = sym (ap (λ (b : Bool). can_end left || b) ends ∙ or-true (can_end left))
+right-ends left right ends = sym (ap (λ (b : Bool). can_end left || b) ends ∙ or_right (can_end left) true refl)
 
 pub left-ends : (left right : Tree) → can_end right ≡ false → can_end left ≡ can_end (Choice left right)
-left-ends left right ends = sym (ap (λ (b : Bool). can_end left || b) ends ∙ or-false (can_end left))
+left-ends left right ends = sym (ap (λ (b : Bool). can_end left || b) ends ∙ or_false (can_end left))
 
 abbrev side-passed : (locks : ℕ) (left right : Tree) → Bool → List WayPart
 side-passed locks left right b = cond b (Branched Right ∷ passed locks right) (Branched Left ∷ passed locks left)

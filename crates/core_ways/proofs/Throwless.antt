@@ -1,6 +1,7 @@
 -- Code that cannot end and has no throw comes to a return as code is passed.
 use Rattle.std.proofs.Common.{◌≡◌, ℕ, suc, Bool, true, false, cond, ◌&&◌, ◌||◌, not, List, [], ◌∷◌, ◌++◌}
 use Rattle.std.proofs.Common.{refl, sym, ap, ◌∙◌}
+use Rattle.std.proofs.lemmas.Bool.{or_parts}
 use Rattle.std.proofs.lemmas.List.{append-nil}
 use Rattle.core_code.specs.declared.code.Op.{Op as CoreOp}
 use Rattle.core_code.specs.declared.code.Op.TheVariants.{Ret, Throw}
@@ -61,13 +62,10 @@ past-then : (locks : ℕ) (first rest : Tree) (a b q r : Bool) → (a && b) ≡ 
     ≡ passed locks first ++ cond a (passed locks rest) []
 past-then locks first rest true true q r ends back one two = absurd cc
 past-then locks first rest true false q r ends back one two =
-    ap (λ (x : Bool). cond (x || not r) (passed locks first ++ to_return locks rest) (to_return locks first)) (back refl)
+    ap (λ (x : Bool). cond (x || not r) (passed locks first ++ to_return locks rest) (to_return locks first))
+    (back refl)
     ∙ ap (λ (ps : List WayPart). passed locks first ++ ps) (two refl)
 past-then locks first rest false b q r ends back one two = one refl ∙ sym (append-nil (passed locks first))
-
-both-off : (a b : Bool) → (a || b) ≡ false → (a ≡ false) × (b ≡ false)
-both-off true b h = absurd cc
-both-off false b h = (refl, h)
 
 pub returns-as-passed : (locks : ℕ) (code : Tree) → is_throwless code ≡ true → can_end code ≡ false →
     to_return locks code ≡ passed locks code
@@ -81,7 +79,7 @@ returns-as-passed locks (Seq first rest) none ends =
     (returns-as-passed locks first early) (returns-as-passed locks rest late)
 returns-as-passed locks (Choice left right) none ends =
     let early = first_part (is_throwless left) (is_throwless right) none in
-    let off = both-off (can_end left) (can_end right) ends in
+    let off = or_parts (can_end left) (can_end right) ends in
     ap (λ (b : Bool). cond b (Branched Left ∷ to_return locks left) (Branched Right ∷ to_return locks right))
     (throwless-returns left early off.0)
     ∙ ap (λ (ps : List WayPart). Branched Left ∷ ps) (returns-as-passed locks left early off.0)

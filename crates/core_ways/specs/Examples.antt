@@ -5,7 +5,8 @@ use Rattle.racer_base.specs.declared.ids.Kind.TheVariants.{Plain, Declared, Othe
 use Rattle.access_paths.specs.declared.path.Path.{Path}
 use Rattle.access_paths.specs.declared.path.Root.TheVariants.{This}
 use Rattle.core_code.specs.declared.code.Op.{Op as CoreOp}
-use Rattle.core_code.specs.declared.code.Op.TheVariants.{Push, PushPrim, Drop, Get, Put, Outside, Call, Unread, Ret, Throw}
+use Rattle.core_code.specs.declared.code.Op.TheVariants.{Push, PushPrim, Drop, Get, Put, Outside, Call, Unread, Ret}
+use Rattle.core_code.specs.declared.code.Op.TheVariants.{Throw}
 use Rattle.core_code.specs.declared.code.Reason.TheVariants.{Recursive}
 use Rattle.core_code.specs.declared.parts.FieldCore.{FieldCore}
 use Rattle.core_code.specs.Tree.{Tree, Op, Skip, Seq, Choice, Loop, Sync, in_sequence}

@@ -57,7 +57,9 @@ followed end locks path (Choice left right) =
     elim path [
       | [] ↦ []
       | ◌∷◌ is_left sides ↦
-          if is_left then Branched Left ∷ followed end locks sides left else Branched Right ∷ followed end locks sides right
+          if is_left
+          then Branched Left ∷ followed end locks sides left
+          else Branched Right ∷ followed end locks sides right
     ]
 followed end locks path (Loop body) = Branched Left ∷ followed end locks path body
 followed end locks path (Sync lock body) = Step ∷ followed end (suc locks) path body

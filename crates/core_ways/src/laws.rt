@@ -79,8 +79,8 @@ pub fn storing_row()
     ensures { mark_of storing (pair_of 0 2 0 2) (this_path (1 ∷ 0 ∷ [])) ≡ Unstable (this_path []) }
 {}
 
-/// A method that is passed is gone through to a return and past no throw, where it has one. Where it has none the way is
-/// stuck at a throw.
+/// A method that is passed is gone through to a return and past no throw, where it has one. Where it has none the way
+/// is stuck at a throw.
 pub fn throwing_row()
     ensures way { way_of throwing (method 0) 0 ≡ record { turns = Right ∷ Left ∷ Left ∷ []; steps = 10; unread = [] } }
     ensures mark { mark_of throwing (pair_of 0 0 0 0) (this_path (0 ∷ []))

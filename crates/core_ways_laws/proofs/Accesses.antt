@@ -1,20 +1,22 @@
 -- What comes next at the site of a record of a Get or a Put is the record's access.
-use Rattle.std.proofs.Common.{◌≡◌, ℕ, Bool, true, false, cond, ◌&&◌, ⊎_elim, List, [], ◌∷◌, ◌++◌, Option, None, Some}
+use Rattle.std.proofs.Common.{◌≡◌, ℕ, Bool, true, false, ◌&&◌, ⊎_elim, List, [], ◌∷◌, Option, None, Some}
 use Rattle.std.proofs.Common.{refl, sym, ap, subst, ◌∙◌}
 use Rattle.racer_base.specs.declared.ids.FieldId.{FieldId}
 use Rattle.racer_base.specs.declared.ids.SiteId.{SiteId}
 use Rattle.racer_base.specs.declared.ids.Touch.{Touch}
 use Rattle.racer_base.specs.declared.ids.Touch.TheVariants.{Read, Write}
 use Rattle.access_paths.specs.declared.path.Path.{Path}
-use Rattle.access_paths.specs.Paths.{extended, front_of, is_some_root, last_of, some_path}
+use Rattle.access_paths.specs.Paths.{is_some_root, last_of}
 use Rattle.owner_domain.specs.declared.value.State.{State}
 use Rattle.owner_domain.specs.declared.value.Value.{Value as Called}
-use Rattle.owner_domain.specs.declared.value.Value.TheVariants.{Owned, Named, Unnamed}
+use Rattle.owner_domain.specs.declared.value.Value.TheVariants.{Named}
 use Rattle.access_domain.specs.declared.access.Access.{Access}
 use Rattle.access_domain.specs.Findings.{Table}
 use Rattle.access_domain.specs.FlowContext.{FlowContext, given_of}
 use Rattle.access_domain.specs.Operations.{op_effects, record_of, slot_of, top}
 use Rattle.access_domain.specs.Substitution.{touched}
+use Rattle.access_domain.proofs.OperationRecords.{IsOfField, field_record}
+use Rattle.access_domain.proofs.TouchedPaths.{front_added, last_added, touched_cases}
 use Rattle.core_code.specs.declared.code.Op.{Op as CoreOp}
 use Rattle.core_code.specs.declared.code.Op.TheVariants.{Push, PushClass, PushPrim, PushNull, New, Dup, Drop, Get, Put}
 use Rattle.core_code.specs.declared.code.Op.TheVariants.{Set, Prim, Outside, Call, Unread, Ret, Throw}
@@ -32,85 +34,30 @@ use Rattle.core_ways_laws.specs.Meets.{base_path, base_value, touching}
 use Rattle.core_ways_laws.specs.Names.{Naming, name_of}
 use Rattle.core_ways_laws.specs.Places.{IsFrame, IsPlace, IsStore, is_strong}
 use Rattle.core_ways_laws.specs.Quiet.{Quietness}
-use Rattle.core_ways_laws.proofs.FieldNames.{extended-is}
 use Rattle.core_ways_laws.proofs.KindFacts.{strong_base}
 use Rattle.core_ways_laws.proofs.Operations.{where-is}
 use Rattle.core_ways_laws.proofs.PlaceLists.{place_slot}
 
 -- ---- the path of a record
 
-pub front-append : (fs : List FieldId) (f : FieldId) → front_of (fs ++ f ∷ []) ≡ fs
-front-append [] f = refl
-front-append (g ∷ []) f = refl
-front-append (g ∷ h ∷ fs) f = ap (λ (gs : List FieldId). g ∷ gs) (front-append (h ∷ fs) f)
-
-pub last-append : (fs : List FieldId) (f : FieldId) → last_of (fs ++ f ∷ []) ≡ Some f
-last-append [] f = refl
-last-append (g ∷ []) f = refl
-last-append (g ∷ h ∷ fs) f = last-append (h ∷ fs) f
-
 -- a path of field f of a value, or of some object
 pub record IsPathOf (base : Called) (f : FieldId) (p : Path) : Type 0 where
   pub last : last_of p.fields ≡ Some f
   pub named : is_some_root p.root ≡ false → base ≡ Named (base_path p)
 
-some-path-of : (g : FlowContext) (base : Called) (f : FieldId) (p : Path) → some_path (g.class_of f) f ≡ p →
-    IsPathOf base f p
-some-path-of g base f p same =
-    subst (λ (x : Path). IsPathOf base f x) same (record { last = refl; named = λ e. absurd cc })
-
 pub touched-is : (g : FlowContext) (base : Called) (f : FieldId) (p : Path) → touched g base f ≡ Some p →
     IsPathOf base f p
-touched-is g Owned f p e = absurd cc
-touched-is g Unnamed f p e = some-path-of g Unnamed f p cc
-touched-is g (Named q) f p e =
-    elim (extended q f) as (λ (o : Option Path). extended q f ≡ o → (elim o as (λ _. Option Path) [
-      | None ↦ Some (some_path (g.class_of f) f)
-      | Some r ↦ Some r
-    ]) ≡ Some p → IsPathOf (Named q) f p) [
-      | None ↦ λ _ is. some-path-of g (Named q) f p cc
-      | Some r ↦ λ there is.
-          let same : r ≡ p = cc in
-          subst (λ (x : Path). IsPathOf (Named q) f x) (extended-is q f r there ∙ same) (record {
-            last = last-append q.fields f;
-            named = λ _ i.
-                let x : Path = record { root = q.root; fields = sym (front-append q.fields f) i } in Named x;
-          })
-    ] refl e
-
--- ---- the record of a read or a write
-
-record IsRecordOf (g : FlowContext) (kind : Touch) (base : Called) (f : FieldId) (r : Access) : Type 0 where
-  same_kind : kind ≡ r.kind
-  below : None ≡ r.below
-  path : touched g base f ≡ Some r.path
-
-made : (g : FlowContext) (kind : Touch) (locked : Bool) (site : SiteId) (base : Called) (f : FieldId) (o : Option Path)
-    (r : Access) → touched g base f ≡ o → In (elim o as (λ _. List Access) [
-      | None ↦ []
-      | Some p ↦ record { path = p; kind = kind; locked = locked; main = g.main; site = site; below = None } ∷ []
-    ]) r → IsRecordOf g kind base f r
-made g kind locked site base f None r is has = absurd has
-made g kind locked site base f (Some p) r is has =
+touched-is g base f p e =
     ⊎_elim
-    (λ e. record {
-      same_kind = ap (λ (x : Access). x.kind) e;
-      below = ap (λ (x : Access). x.below) e;
-      path = is ∙ ap (λ (x : Access). Some x.path) e;
-    })
-    (λ none. absurd none) has
-
-made-record : (g : FlowContext) (kind : Touch) (locked : Bool) (site : SiteId) (base : Called) (f : FieldId)
-    (r : Access) →
-    In (record_of g kind locked site base f) r → IsRecordOf g kind base f r
-made-record g kind locked site base f r has =
-    elim (g.is_recorded f) as (λ b. In (cond b (elim (touched g base f) as (λ _. List Access) [
-      | None ↦ []
-      | Some p ↦ record { path = p; kind = kind; locked = locked; main = g.main; site = site; below = None } ∷ []
-    ]) []) r → IsRecordOf g kind base f r) [
-      | true ↦ λ there. made g kind locked site base f (touched g base f) r refl there
-      | false ↦ λ there. absurd there
-    ] has
+    (λ some. subst (λ (x : Path). IsPathOf base f x) some (record { last = refl; named = λ known. absurd cc }))
+    (λ of.
+    subst (λ (x : Path). IsPathOf base f x) (sym of.2.is) (record {
+      last = last_added of.0.fields f;
+      named = λ known.
+          of.1
+          ∙ (λ i. let x : Path = record { root = of.0.root; fields = sym (front_added of.0.fields f) i } in Named x);
+    }))
+    (touched_cases g base f p e)
 
 -- ---- the access
 
@@ -121,19 +68,20 @@ module _ (core : Core) (quiet : Quietness core) (n : Naming) (method : Method) (
       In (record_of (given_of core table main) kind locked site base f) r →
       IsMet core quiet n r (arrival_at core arrivals r.below (touching kind f) at)
   met kind f kb base at r strong place stored has =
-      let of : IsRecordOf (given_of core table main) kind base f r =
-      made-record (given_of core table main) kind locked site base f r has in
+      let of : IsOfField (given_of core table main) kind locked site base f r =
+      field_record (given_of core table main) kind locked site base f r has in
+      let same_kind : kind ≡ r.kind = ap (λ (x : Access). x.kind) of.is in
       let path : IsPathOf base f r.path = touched-is (given_of core table main) base f r.path of.path in
       subst (λ (below : Option ℕ). IsMet core quiet n r (arrival_at core arrivals below (touching kind f) at))
-      of.below (
+      (ap (λ (x : Access). x.below) of.is) (
         stored,
         record {
           field = f;
           last = path.last;
-          op = ap (λ (k : Touch). touching k f) of.same_kind;
+          op = ap (λ (k : Touch). touching k f) same_kind;
           declared = λ known q named. place.declared strong q (ap (name_of n) (path.named known) ∙ named);
           base = λ known q named in_q.
-              ap (λ (k : Touch). base_value k at) (sym of.same_kind)
+              ap (λ (k : Touch). base_value k at) (sym same_kind)
               ∙ place.held q (ap (name_of n) (path.named known) ∙ named) in_q;
         },
       )

@@ -122,7 +122,8 @@ module _ (core : Core) (trips : MethodId → Trip) (calls : Calls) where
       (subst (λ (b : Bool). EndsAs b (evaluate core calls first at)) which.0 (go-ends core calls first at))
       (on_rest which.1) (past locked at (before rest todo) callers locks)
   back-then first rest false goes comes past on_first on_rest locked at todo callers locks =
-      anywhere (trip_along trips (to_return locked first)) (come_back core calls first at) todo (before rest todo) locked
+      anywhere (trip_along trips (to_return locked first)) (come_back core calls first at) todo
+      (before rest todo) locked
       callers locks (at_point at (before first (before rest todo)) locked callers locks) (back-ends core calls first at)
       (on_first (early (can_end first) (can_return first) (can_return rest) goes) locked at (before rest todo) callers
       locks)

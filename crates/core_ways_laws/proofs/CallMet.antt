@@ -8,6 +8,7 @@ use Rattle.access_domain.specs.Findings.{Findings, Known, Large, Whole, Table}
 use Rattle.access_domain.specs.FlowContext.{FlowContext, given_of, is_static_method}
 use Rattle.access_domain.specs.Operations.{call_effects, op_effects, passed_from}
 use Rattle.access_domain.specs.Substitution.{Actuals, actuals_from}
+use Rattle.access_domain.proofs.OperationRecords.{IsThrough, callee_record}
 use Rattle.core_code.specs.declared.code.Op.TheVariants.{Call}
 use Rattle.core_code.specs.CallFacts.{is_right_call}
 use Rattle.core_code.specs.Core.{Core, Method}
@@ -20,7 +21,7 @@ use Rattle.core_ways_laws.specs.Kept.{AreMet, IsEntered, IsMet}
 use Rattle.core_ways_laws.specs.Names.{Naming, callee_naming}
 use Rattle.core_ways_laws.specs.Places.{AreHushed, IsFrame, IsStore}
 use Rattle.core_ways_laws.specs.Quiet.{Quietness}
-use Rattle.core_ways_laws.proofs.CalleeRecords.{IsThrough, callee-record, met-through}
+use Rattle.core_ways_laws.proofs.CalleeRecords.{met-through}
 use Rattle.core_ways_laws.proofs.CallKept.{IsTaken, received-by, taken}
 use Rattle.core_ways_laws.proofs.Entering.{call-entered}
 use Rattle.core_ways_laws.proofs.Hushing.{hush-callee}
@@ -39,7 +40,7 @@ module _ (core : Core) (quiet : Quietness core) (n : Naming) (method : Method) w
   whole-call-met g locked arrivals site m count kinds ends s at r found known met is takes_it static hushed frame
       stored has =
       let actuals : Actuals = actuals_from (g.is_static m) (passed_from s count) in
-      let of : IsThrough g actuals found site r = callee-record g actuals found locked site r has in
+      let of : IsThrough g actuals found locked site r = callee_record g actuals found locked site r has in
       let entered : IsEntered core quiet (callee_naming n actuals) met.method (values_passed at count) at.store =
       subst (λ (b : Bool). IsEntered core quiet (callee_naming n (actuals_from b (passed_from s count))) met.method
       (values_passed at count) at.store) (sym static)
@@ -49,7 +50,8 @@ module _ (core : Core) (quiet : Quietness core) (n : Naming) (method : Method) w
       (arrivals m of.index (values_passed at count) at.store) =
       met.meets found is (callee_naming n actuals) (values_passed at count) at.store entered stored
       (hush-callee core quiet n g actuals found locked site hushed) of.index of.inner of.has in
-      subst (λ (below : Option ℕ). IsMet core quiet n r (arrival_at core arrivals below (Call m count) at)) of.below
+      subst (λ (below : Option ℕ). IsMet core quiet n r (arrival_at core arrivals below (Call m count) at))
+      (ap (λ (x : Access). x.below) of.is)
       (subst (λ (o : Option Method). IsMet core quiet n r (elim o as (λ _. Option Arrival) [
         | None ↦ None
         | Some x ↦ received x (values_passed at count) (arrivals m of.index (values_passed at count) at.store)
@@ -57,7 +59,7 @@ module _ (core : Core) (quiet : Quietness core) (n : Naming) (method : Method) w
       (received-by (λ o. IsMet core quiet n r o) met.method (values_passed at count)
       (arrivals m of.index (values_passed at count) at.store) tt
       (met-through core quiet n g actuals of.inner r
-      (arrivals m of.index (values_passed at count) at.store) of.kind of.path
+      (arrivals m of.index (values_passed at count) at.store) (ap (λ (x : Access). x.kind) of.is) of.path
       inner)))
 
   known-call-met : (g : FlowContext) (locked : Bool) (arrivals : Arrivals) (site : SiteId) (m : MethodId) (count : ℕ)

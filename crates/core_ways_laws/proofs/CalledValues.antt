@@ -22,13 +22,16 @@ use Rattle.core_semantics.specs.Steps.{After, monitor_of}
 use Rattle.core_ways.specs.declared.part.WayPart.{WayPart}
 use Rattle.core_ways.specs.Ways.{Trip, code_at, goes_past, to_return, trip_along, trip_of}
 use Rattle.core_ways.specs.Alone.{alone}
-use Rattle.core_ways.proofs.Alone.{Leads, weaker}
-use Rattle.core_ways.proofs.AloneMethods.{AreRight, calls-pass, code-there, may_call}
+use Rattle.access_domain.proofs.Tests.{passes_at}
+use Rattle.core_ways.proofs.Alone.{Leads, drop-none, weaker}
+use Rattle.core_ways.proofs.AloneMethods.{AreRight, analysed-status, calls-pass, code-there, may_call, never-ends}
 use Rattle.core_ways.proofs.Callees.{do_pass, lower-calls, lower-parts, pass-both}
 use Rattle.core_ways.proofs.Trips.{trip_of-parts}
-use Rattle.core_ways_laws.specs.Values.{Behind, Back, Calls, End, Point, call_given, call_of, entry_point, evaluate, go_on}
+use Rattle.core_ways_laws.specs.Values.{Behind, Back, Calls, End, Point, call_given, call_of, entry_point, evaluate}
+use Rattle.core_ways_laws.specs.Values.{go_on}
 use Rattle.core_ways_laws.specs.Values.{come_back, evaluate_op, only_back}
-use Rattle.core_ways_laws.specs.Values.{on_ok, point_popped, received, returned_to, top_value, value_back, values_passed}
+use Rattle.core_ways_laws.specs.Values.{on_ok, point_popped, received, returned_to, top_value, value_back}
+use Rattle.core_ways_laws.specs.Values.{values_passed}
 use Rattle.core_ways_laws.specs.RunValues.{GoesBack, IsBack, IsEnd, MethodGoes, at_point, back_at}
 use Rattle.core_ways_laws.proofs.PassedValues.{EndsAs}
 use Rattle.core_ways_laws.proofs.BackValues.{back-ends, goes-back}
@@ -118,37 +121,21 @@ call_of-code core ranks m method is analysed =
 
 -- ---- runs
 
-none-locked : (xs : List Holder) → drop 0 xs ≡ xs
-none-locked [] = refl
-none-locked (x ∷ xs) = refl
-
 -- code that cannot end comes back
 comes-back : (o : Option End) (callers : List Frame) (locks : List Holder) (a : After) → EndsAs false o →
     IsEnd o [] 0 callers locks a → IsBack (value_back o) callers locks a
 comes-back None callers locks a ends is = is
 comes-back (Some (Behind at)) callers locks a ends is = absurd cc
 comes-back (Some (Back store value)) callers locks a ends is =
-    is ∙ ap (λ (ls : List Holder). back_at callers ls store value) (none-locked locks)
-
-never-ends : (o : Option Reason) (b : Bool) → is_none o ≡ true → (is_some o || not b) ≡ true → b ≡ false
-never-ends None true none e = absurd cc
-never-ends None false none e = refl
-never-ends (Some r) b none e = absurd cc
-
-pub each-method : (p : Method → Bool) (ms : List Method) (i : ℕ) (method : Method) → list_all p ms ≡ true →
-    slice_get ms i ≡ Some method → p method ≡ true
-each-method p [] i method all is = absurd cc
-each-method p (m ∷ ms) zero method all is =
-    let same : m ≡ method = cc in ap p (sym same) ∙ first_part (p m) (list_all p ms) all
-each-method p (m ∷ ms) (suc i) method all is = each-method p ms i method (last_part (p m) (list_all p ms) all) is
+    is ∙ ap (λ (ls : List Holder). back_at callers ls store value) (drop-none locks)
 
 -- the code of an analysed method cannot end
 pub code-never-ends : (core : Core) (right : AreRight core) (m : MethodId) (method : Method) →
     method_at core m ≡ Some method → is_analysed core m ≡ true → can_end method.code ≡ false
 code-never-ends core right m method is analysed =
     never-ends method.status (can_end method.code)
-    (sym (ap (λ (o : Option Method). elim o as (λ _. Bool) [ None ↦ false | Some x ↦ is_none x.status ]) is) ∙ analysed)
-    (each-method ends_by_return core.methods m.0 method right.ends is)
+    (analysed-status core m method is analysed)
+    (passes_at ends_by_return core.methods m.0 method right.ends is)
 
 pub method-goes : (core : Core) (right : AreRight core) (k : ℕ) (m : MethodId) → rank_of core m < k →
     is_analysed core m ≡ true → MethodGoes core (trip_of core) (call_of core) m

@@ -32,7 +32,9 @@ use Rattle.core_ways.specs.Alone.{alone, do_end_before, here}
 use Rattle.core_ways.specs.Ways.{Trip, goes_past, has_site, passed, reached, to_return, trip_along}
 use Rattle.core_ways.proofs.Alone.{along-both, runs-past, spot, steps-of}
 use Rattle.core_ways.proofs.Callees.{do_pass, pass-both}
-use Rattle.core_ways_laws.proofs.ClearSteps.{LeadsClear, ClearPast, ClearBack, ClearTo, MethodClear, AreCallsClear, first-clear, last-clear, onward-clear, within-clear, inner-clear, clear-on, Clear, more-clear, turn-clear, call-clear, ret-clear, lock-clear}
+use Rattle.core_ways_laws.proofs.ClearSteps.{LeadsClear, ClearPast, ClearBack, ClearTo, MethodClear, AreCallsClear}
+use Rattle.core_ways_laws.proofs.ClearSteps.{first-clear, last-clear, onward-clear, within-clear, inner-clear, clear-on}
+use Rattle.core_ways_laws.proofs.ClearSteps.{Clear, more-clear, turn-clear, call-clear, ret-clear, lock-clear}
 
 module _ (core : Core) (trips : MethodId → Trip) (test : MethodId → Bool)
     (holds : (m : MethodId) → test m ≡ true → MethodRuns core trips m) where
@@ -141,12 +143,14 @@ module _ (core : Core) (trips : MethodId → Trip) (test : MethodId → Bool)
       (past-clear first (passed locked rest) locked store vars stack (before rest todo) callers locks one early
       (clears-past first one early (first-clear core trips first rest clear))
       (from-there rest (passed locked rest) locked todo callers locks
-      (λ st vs ss. clears-past rest two late (last-clear core trips first rest clear) locked st vs ss todo callers locks)))
+      (λ st vs ss. clears-past rest two late (last-clear core trips first rest clear) locked st vs ss todo
+      callers locks)))
   clears-past (tree.Choice left right) ends all clear =
       let both = pass-both test (steps_of left) (steps_of right) all in
       let early = first_part (do_pass test (steps_of left)) (do_pass test (steps_of right)) both in
       let late = last_part (do_pass test (steps_of left)) (do_pass test (steps_of right)) both in
-      side-clear left right (can_end right) refl ends (λ e. clears-past left e early (first-clear core trips left right clear))
+      side-clear left right (can_end right) refl ends
+      (λ e. clears-past left e early (first-clear core trips left right clear))
       (λ e. clears-past right e late (last-clear core trips left right clear))
   clears-past (tree.Loop body) ends all clear = λ locked store vars stack todo callers locks rest. tt
   clears-past (tree.Sync lock body) ends all clear = λ locked store vars stack todo callers locks.
@@ -164,7 +168,8 @@ module _ (core : Core) (trips : MethodId → Trip) (test : MethodId → Bool)
   -- ---- to a return
 
   then-back : (first rest : Tree) (b : Bool) → goes_past first rest ≡ b →
-      can_return (tree.Seq first rest) ≡ true → (can_end first ≡ true → can_return rest ≡ true → (more : List WayPart) (locked : ℕ)
+      can_return (tree.Seq first rest) ≡ true → (can_end first ≡ true → can_return rest ≡ true →
+      (more : List WayPart) (locked : ℕ)
       (store : Store) (vars stack : List Value) (todo : List Todo) (callers : List Frame) (locks : List Holder) →
       ((x : After) → IsAt todo locked callers locks x → Clear core (trip_along trips more) x) →
       Clear core (trip_along trips (passed locked first ++ more))
@@ -243,7 +248,8 @@ module _ (core : Core) (trips : MethodId → Trip) (test : MethodId → Bool)
       let both = pass-both test (steps_of left) (steps_of right) all in
       let early = first_part (do_pass test (steps_of left)) (do_pass test (steps_of right)) both in
       let late = last_part (do_pass test (steps_of left)) (do_pass test (steps_of right)) both in
-      side-back left right (can_return left) refl comes (λ e. clears-back left e early (first-clear core trips left right clear))
+      side-back left right (can_return left) refl comes
+      (λ e. clears-back left e early (first-clear core trips left right clear))
       (λ e. clears-back right e late (last-clear core trips left right clear))
   clears-back (tree.Loop body) comes all clear = λ locked store vars stack todo callers locks.
       turn-clear core (trip_along trips (to_return locked body)) Left
@@ -270,7 +276,8 @@ module _ (core : Core) (trips : MethodId → Trip) (test : MethodId → Bool)
       (b ≡ false → do_end_before site rest ≡ true → ClearTo core trips site rest) →
       (locked : ℕ) (store : Store) (vars stack : List Value) (todo : List Todo) (callers : List Frame)
       (locks : List Holder) →
-      Clear core (trip_along trips (cond b (reached locked site first) (passed locked first ++ reached locked site rest)))
+      Clear core
+      (trip_along trips (cond b (reached locked site first) (passed locked first ++ reached locked site rest)))
       (here store vars stack (before first (before rest todo)) locked callers locks)
   then-to site first rest true ends early past_first on_first on_rest locked store vars stack todo callers locks =
       on_first refl ends locked store vars stack (before rest todo) callers locks

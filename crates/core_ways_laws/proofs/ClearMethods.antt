@@ -23,8 +23,8 @@ use Rattle.core_ways.proofs.Trips.{trip_of-parts}
 use Rattle.core_ways_laws.specs.ClearLegs.{DoCallsReturn, does_return}
 use Rattle.core_ways_laws.proofs.Clear.{clears-back}
 use Rattle.core_ways_laws.proofs.ClearSteps.{AreCallsClear, ClearBack, LeadsClear, MethodClear}
-use Rattle.core_ways_laws.proofs.Members.{contains_from_in}
-use Rattle.core_ways_laws.proofs.ProgramFacts.{passes_in}
+use Rattle.access_domain.proofs.Members.{contains_from_in}
+use Rattle.access_domain.proofs.Tests.{passes_in}
 
 -- ---- what code calls
 
@@ -90,7 +90,8 @@ method-clear core right (suc k) m low analysed returns each method is =
     ∙ ap (λ (o : Option Tree).
     trip_along (trip_of core) (elim o as (λ _. List WayPart) [ None ↦ [] | Some c ↦ to_return 0 c ])) at in
     λ store vars callers locks.
-    subst (λ (t : Trip). LeadsClear core t.turns t.steps (here store vars [] (before code []) 0 callers locks)) (sym trip)
+    subst (λ (t : Trip). LeadsClear core t.turns t.steps (here store vars [] (before code []) 0 callers locks))
+    (sym trip)
     (back 0 store vars [] [] callers locks)
 
 -- the methods that an analysed method calls are clear

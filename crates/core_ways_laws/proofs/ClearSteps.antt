@@ -20,7 +20,8 @@ use Rattle.core_semantics.specs.declared.object.Object.{Object}
 use Rattle.core_semantics.specs.declared.object.Value.{Value}
 use Rattle.core_semantics.specs.declared.object.Value.TheVariants.{Plain, Opaque, Null, Object as Ref}
 use Rattle.core_semantics.specs.State.{Frame, Store, Todo, Op, Unlock, before}
-use Rattle.core_semantics.specs.Steps.{After, Inner, Next, Spot, Goes, Sticks, Waits, Ends, after, base_of, called_method}
+use Rattle.core_semantics.specs.Steps.{After, Inner, Next, Spot, Goes, Sticks, Waits, Ends, after, base_of}
+use Rattle.core_semantics.specs.Steps.{called_method}
 use Rattle.core_semantics.specs.Steps.{entering, going, inner_step, lock_with, monitor_of, on_base}
 use Rattle.core_semantics.specs.Steps.{on_object, op_step, passed_from, put, read, replaced, returned, slot_of, top}
 use Rattle.core_semantics.specs.Steps.{unlocked, with_todo, within}
@@ -29,7 +30,7 @@ use Rattle.core_ways.specs.Alone.{alone, here, onward}
 use Rattle.core_ways.specs.Ways.{Trip, joined, passed, reached, to_return, trip_along}
 use Rattle.core_ways.proofs.Alone.{alone-both, run_on, spot}
 use Rattle.core_ways_laws.specs.ClearLegs.{is_thrown}
-use Rattle.core_ways_laws.proofs.Members.{in_first, in_last}
+use Rattle.access_domain.proofs.Members.{in_first, in_last}
 
 -- ---- what is shown
 

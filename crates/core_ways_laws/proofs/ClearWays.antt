@@ -17,6 +17,7 @@ use Rattle.access_domain.specs.Findings.{Whole}
 use Rattle.access_domain.specs.FlowContext.{FlowContext, given_of}
 use Rattle.access_domain.specs.OutcomeRecords.{record_at}
 use Rattle.access_domain.specs.Summaries.{known_of}
+use Rattle.access_domain.proofs.KnownMethods.{FoundAt, found_at, known_is_analysed, record_there}
 use Rattle.core_semantics.specs.declared.answer.Holder.{Holder}
 use Rattle.core_semantics.specs.declared.object.Value.{Value}
 use Rattle.core_semantics.specs.State.{Frame, Store, Todo, Op, before}
@@ -24,11 +25,13 @@ use Rattle.core_semantics.specs.Steps.{After, passed_from}
 use Rattle.core_ways.specs.declared.part.WayPart.{WayPart}
 use Rattle.core_ways.specs.declared.part.WayPart.TheVariants.{Step}
 use Rattle.core_ways.specs.Alone.{IsBefore, alone, do_end_before, here, locks_round}
-use Rattle.core_ways.specs.Ways.{Trip, code_at, entered as entered_parts, reached, trip_along, trip_of, way_of, way_parts}
+use Rattle.core_ways.specs.Ways.{Trip, code_at, entered as entered_parts, reached, trip_along, trip_of, way_of}
+use Rattle.core_ways.specs.Ways.{way_parts}
 use Rattle.core_ways.proofs.Alone.{along-both, spot}
 use Rattle.core_ways.proofs.AloneMethods.{callees-run, calls-pass, code-there, may_call}
 use Rattle.core_ways.proofs.AloneTo.{runs-to}
 use Rattle.core_ways.proofs.Callees.{lower-site}
+use Rattle.core_ways.proofs.Going.{with-site}
 use Rattle.core_ways_laws.specs.ClearLegs.{DoCallsReturn}
 use Rattle.core_ways_laws.specs.RunValues.{at_point}
 use Rattle.core_ways_laws.specs.Sites.{IsRecordOf, IsThrough, IsTouch}
@@ -36,8 +39,7 @@ use Rattle.core_ways_laws.specs.Values.{Point, entry_point}
 use Rattle.core_ways_laws.proofs.Clear.{clears-to}
 use Rattle.core_ways_laws.proofs.ClearMethods.{call-in-row, callees-clear, calls-further}
 use Rattle.core_ways_laws.proofs.ClearSteps.{Clear, LeadsClear, call-clear, clear-on, more-clear}
-use Rattle.core_ways_laws.proofs.RecordArrivals.{AreInOrder, FoundAt, found-at, known-analysed, parts-at, record-comes}
-use Rattle.core_ways_laws.proofs.RecordArrivals.{inner_ways, record-there, same-entered}
+use Rattle.core_ways_laws.proofs.RecordArrivals.{AreInOrder, inner_ways, record-comes, same-entered}
 
 -- the way to a record, from the entry of its method on with whatever it is given
 abbrev pub WayIsClear : Core → MethodId → ℕ → Type 0
@@ -101,12 +103,12 @@ module _ (core : Core) (facts : AreInOrder core) where
       (values : List Value) (store : Store) (callers : List Frame) (locks : List Holder) →
       Clear core (way_of core m i) (at_point (entry_point method values store) (before method.code []) 0 callers locks)
   by-site m method i r there at o is ends each from values store callers locks =
-      let f : FoundAt core m i r = found-at core m i r at in
-      let analysed : is_analysed core m ≡ true = known-analysed core m method (Whole f.found) there f.known in
+      let f : FoundAt core m i r = found_at core m i r at in
+      let analysed : is_analysed core m ≡ true = known_is_analysed core m method (Whole f.found) there f.known in
       let code : code_at core m ≡ Some method.code = code-there core m method there analysed in
       let next : List WayPart = entered_parts (way_parts core) r.below o.op in
       let parts : way_parts core m i ≡ reached 0 r.site method.code ++ next =
-      parts-at core m i method.code r o code at is
+      with-site core m i method.code r o code at is
       ∙ ap (λ (ps : List WayPart). reached 0 r.site method.code ++ ps) from.same in
       let calls = calls-pass core facts.right m method there code in
       let p : Point = entry_point method values store in
@@ -128,8 +130,8 @@ module _ (core : Core) (facts : AreInOrder core) where
   pub way-clear : (k : ℕ) (m : MethodId) (i : ℕ) → rank_of core m < k → DoCallsReturn core m → WayIsClear core m i
   way-clear zero m i low each method r there at = absurd (omega arith)
   way-clear (suc k) m i low each method r there at =
-      let f : FoundAt core m i r = found-at core m i r at in
-      let analysed : is_analysed core m ≡ true = known-analysed core m method (Whole f.found) there f.known in
+      let f : FoundAt core m i r = found_at core m i r at in
+      let analysed : is_analysed core m ≡ true = known_is_analysed core m method (Whole f.found) there f.known in
       let code : code_at core m ≡ Some method.code = code-there core m method there analysed in
       let g : FlowContext = given_of core (known_of core) method.main in
       let c : IsRecordOf g method.code false r = record-comes core facts.order m method i r there at in
@@ -144,6 +146,6 @@ module _ (core : Core) (facts : AreInOrder core) where
       call-in-row core m of.callee of.count method c.operation there
       (find_gives (λ (o : Operation). nat_eq o.site.0 r.site.0) (steps_of method.code) c.operation c.at).0 of.calls in
       from-below core m of.callee of.index of.count of.inner r.below c.operation.op of.below of.calls
-      (record-there core of.callee of.index of.inner of.found of.known of.has)
+      (record_there core of.callee of.index of.inner of.found of.known of.has)
       (way-clear k of.callee of.index (omega arith) (calls-further core m of.callee row each)) lower)
       c.from)

@@ -33,7 +33,7 @@ use Rattle.core_semantics.specs.Runs.{given_to, parameter, parameters_from}
 use Rattle.core_semantics.specs.State.{Store}
 use Rattle.core_ways.specs.Stable.{is_lasting_root, is_wobbly, wobbly_in}
 use Rattle.core_ways_laws.specs.Kept.{IsEntered}
-use Rattle.core_ways_laws.specs.Longer.{path_of}
+use Rattle.access_domain.specs.Longer.{path_of}
 use Rattle.core_ways_laws.specs.Names.{name_of, name_along, root_name, entry_naming}
 use Rattle.core_ways_laws.specs.Places.{ArePlaces, AreHushed, IsPlace, IsStore, start_object}
 use Rattle.core_semantics.specs.Steps.{kind_of as field_kind}

@@ -2,18 +2,17 @@
 use Rattle.std.proofs.Common.{◌≡◌, ℕ, zero, suc, ◌<◌, Bool, true, false, cond, ◌&&◌, List, [], ◌∷◌, ◌++◌}
 use Rattle.std.proofs.Common.{Option, None, Some, IsTrue, map, length, nat_lt, slice_get, slice_index_or}
 use Rattle.std.proofs.Common.{refl, sym, ap, ◌∙◌}
-use Rattle.std.proofs.lemmas.Bool.{lt-ltb}
 use Rattle.std.proofs.lemmas.List.Folds.{list_all-append}
 use Rattle.std.proofs.lemmas.Option.{get_or_from_slice_get}
 use Rattle.racer_base.specs.declared.ids.ClassId.{ClassId}
 use Rattle.racer_base.specs.declared.ids.FieldId.{FieldId}
 use Rattle.racer_base.specs.declared.ids.Kind.{Kind}
 use Rattle.racer_base.specs.declared.ids.Kind.TheVariants.{Plain, Declared, Other}
-use Rattle.racer_base.specs.declared.limits.TheConstants.{MAX_PATH_FIELDS}
 use Rattle.access_paths.specs.declared.path.Path.{Path}
 use Rattle.access_paths.specs.Paths.{extended}
 use Rattle.access_domain.specs.Findings.{Table}
 use Rattle.access_domain.specs.FlowContext.{given_of, is_plain}
+use Rattle.access_domain.specs.Longer.{longer, path_of}
 use Rattle.core_code.specs.declared.parts.FieldCore.{FieldCore}
 use Rattle.core_code.specs.Core.{Core}
 use Rattle.core_code.specs.KindCheck.{field_at}
@@ -23,22 +22,6 @@ use Rattle.core_ways_laws.specs.Names.{longer_name}
 use Rattle.core_ways_laws.specs.Quiet.{are_declared, is_declared}
 
 -- ---- paths with one field more
-
-abbrev pub path_with : Path → FieldId → Path
-path_with q f = record { root = q.root; fields = q.fields ++ f ∷ [] }
-
-pub extended-is : (q : Path) (f : FieldId) (r : Path) → extended q f ≡ Some r → path_with q f ≡ r
-extended-is q f r e =
-    elim (nat_lt (length q.fields) MAX_PATH_FIELDS) as (λ b. cond b (Some (path_with q f)) None ≡ Some r →
-    path_with q f ≡ r) [
-      | true ↦ λ is. cc
-      | false ↦ λ is. absurd cc
-    ] e
-
-pub extended-room : (q : Path) (f : FieldId) → length q.fields < MAX_PATH_FIELDS →
-    extended q f ≡ Some (path_with q f)
-extended-room q f room =
-    ap (λ (b : Bool). cond b (Some (path_with q f)) None) (lt-ltb (length q.fields) MAX_PATH_FIELDS room)
 
 pub longer-some : (name : Option Path) (f : FieldId) (r : Path) → longer_name name f ≡ Some r →
     (q : Path) × (name ≡ Some q) × (extended q f ≡ Some r)
@@ -51,7 +34,8 @@ pub last-declared : (core : Core) (q : Path) (f : FieldId) (r : Path) → extend
     IsTrue (are_declared core r) → is_declared (field_kind core f) ≡ true
 last-declared core q f r e all =
     let test : FieldId → Bool = λ g. is_declared (field_kind core g) in
-    let whole : are_declared core (path_with q f) ≡ true = ap (are_declared core) (extended-is q f r e) ∙ all in
+    let whole : are_declared core (path_of q.root (q.fields ++ f ∷ [])) ≡ true =
+    ap (are_declared core) (sym (longer q f r e).is) ∙ all in
     first_part (test f) true
     (last_part (are_declared core q) (test f && true) (sym (list_all-append test q.fields (f ∷ [])) ∙ whole))
 
@@ -59,7 +43,7 @@ pub declared-longer : (core : Core) (q : Path) (f : FieldId) (r : Path) → exte
     IsTrue (are_declared core q) → is_declared (field_kind core f) ≡ true → IsTrue (are_declared core r)
 declared-longer core q f r e all last =
     let test : FieldId → Bool = λ g. is_declared (field_kind core g) in
-    ap (are_declared core) (sym (extended-is q f r e))
+    ap (are_declared core) (longer q f r e).is
     ∙ list_all-append test q.fields (f ∷ [])
     ∙ both (are_declared core q) (test f && true) all (both (test f) true last refl)
 

@@ -31,7 +31,7 @@ use Rattle.access_domain.specs.Flow.{joined_next, rounds, flow}
 use Rattle.core_ways_laws.proofs.KindFacts.{AreInTurn, AreBeside, IsWithin, then_kinds, either_kinds, loop-kinds}
 use Rattle.core_ways_laws.proofs.KindFacts.{held_kinds, same_heights, went_on, tested}
 use Rattle.core_ways_laws.proofs.FlowFacts.{after_cases}
-use Rattle.core_ways_laws.proofs.Members.{in_first, in_last}
+use Rattle.access_domain.proofs.Members.{in_first, in_last}
 
 -- a state of a method with these kinds on its stack, as far as lengths go
 pub record IsShaped (method : Method) (ks : List StackKind) (s : State) : Type 0 where

@@ -5,17 +5,20 @@ use Rattle.std.proofs.lemmas.List.Elements.{Contains-append_left, Contains-appen
 use Rattle.std.specs.List.{Contains, flat_map}
 use Rattle.racer_base.specs.declared.ids.SiteId.{SiteId}
 use Rattle.access_paths.specs.declared.path.Path.{Path}
+use Rattle.access_paths.specs.Paths.{same_path}
+use Rattle.access_paths.specs.Same.{equal_of_same}
 use Rattle.owner_domain.specs.declared.value.Value.{Value}
 use Rattle.owner_domain.specs.declared.value.Value.TheVariants.{Owned, Named, Unnamed}
 use Rattle.owner_domain.specs.Values.{names_of}
 use Rattle.access_domain.specs.Findings.{Findings}
+use Rattle.access_domain.specs.Records.{different_paths}
 use Rattle.access_domain.specs.FlowContext.{FlowContext}
 use Rattle.access_domain.specs.Substitution.{Actuals, value_named, substituted}
+use Rattle.access_domain.proofs.Members.{contains_from_in, firsts_have, in_from_contains}
 use Rattle.core_code.specs.Core.{Core}
 use Rattle.core_ways_laws.specs.Names.{Naming, name_of, callee_naming}
 use Rattle.core_ways_laws.specs.Quiet.{Quietness}
 use Rattle.core_ways_laws.specs.Places.{AreHushed}
-use Rattle.core_ways_laws.proofs.Members.{hush-different}
 use Rattle.core_ways_laws.proofs.Naming.{name-substituted}
 
 pub hush-first : (core : Core) (quiet : Quietness core) (n : Naming) (xs ys : List Path) →
@@ -25,6 +28,15 @@ hush-first core quiet n xs ys hush w there q name in_it = hush w (Contains-appen
 pub hush-second : (core : Core) (quiet : Quietness core) (n : Naming) (xs ys : List Path) →
     AreHushed core quiet n (xs ++ ys) → AreHushed core quiet n ys
 hush-second core quiet n xs ys hush w there q name in_it = hush w (Contains-append_right xs ys w there) q name in_it
+
+-- hush of the different paths of a list is hush of the list
+pub hush-different : (core : Core) (quiet : Quietness core) (n : Naming) (xs : List Path) →
+    AreHushed core quiet n (different_paths xs) → AreHushed core quiet n xs
+hush-different core quiet n xs hushed = λ w there q is quietly.
+    hushed w
+    (contains_from_in (different_paths xs) w
+    (firsts_have same_path equal_of_same xs w (in_from_contains xs w there)))
+    q is quietly
 
 -- what is in the list of an element is in the list of all
 flat-at : (f : Path → List Path) (xs : List Path) (x y : Path) (k : ℕ) → k < length xs → slice_index_or xs k x ≡ x →

@@ -1,4 +1,5 @@
 -- The invariant behind one part of code and then another, behind either of two, behind a lock, and at a call.
+use Rattle.std.proofs.lemmas.Bool.{or_parts}
 use Rattle.std.proofs.Common.{◌≡◌, Bool, true, false, ◌||◌, List, ◌++◌, Option, None, Some, length}
 use Rattle.std.proofs.Common.{refl, sym, ap, subst, ◌∙◌}
 use Rattle.std.specs.Prelude.{Result, Ok, Err}
@@ -23,10 +24,6 @@ use Rattle.core_ways_laws.proofs.Joining.{place-weaker}
 use Rattle.core_ways_laws.proofs.PlaceLists.{joined-first, joined-second}
 
 -- ---- effects
-
-pub neither : (a b : Bool) → (a || b) ≡ false → (a ≡ false) × (b ≡ false)
-neither true b is = absurd cc
-neither false b is = (refl, is)
 
 -- one part and then another, where the first has a state at its end
 pub in-turn-both : (first : Effects) (rest : State → Effects) (s : State) → first.next ≡ Some s →
@@ -134,7 +131,7 @@ module _ (core : Core) (quiet : Quietness core) (n : Naming) (method : Method) w
       hush-second core quiet n (first.wobbly ++ (rest s).wobbly) (lost_result first.result (rest s).result) hushed in
       subst (λ (e : Effects). Kept kinds e (more at)) (sym same)
       (both-kept kinds first (rest s) (more at) late
-      (on s at (neither first.large (rest s).large few).1
+      (on s at (or_parts first.large (rest s).large few).1
       (hush-second core quiet n first.wobbly (rest s).wobbly early) kept.frame kept.store))
   in-turn-kept between kinds first rest (Some (Back store value)) more hush small kept on =
       in-turn-by (λ e. AreHushed core quiet n e.wobbly → Returned e store value) first rest (λ hushed. kept)

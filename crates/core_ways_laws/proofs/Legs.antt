@@ -8,6 +8,9 @@ use Rattle.core_code.specs.Program.{core}
 use Rattle.access_domain.specs.declared.access.Access.{Access}
 use Rattle.access_domain.specs.Summaries.{known_of}
 use Rattle.access_domain.specs.OutcomeRecords.{record_at}
+use Rattle.access_domain.specs.Findings.{Whole}
+use Rattle.access_domain.proofs.KnownMethods.{FoundAt, found_at, known_is_analysed}
+use Rattle.access_domain.proofs.Members.{in_at}
 use Rattle.core_semantics.specs.Runs.{given_to}
 use Rattle.core_semantics.specs.State.{Store}
 use Rattle.core_ways.specs.Stable.{IsStable}
@@ -19,8 +22,8 @@ use Rattle.core_ways_laws.specs.Places.{IsStore, start_object}
 use Rattle.core_ways_laws.specs.Quiet.{Quietness}
 use Rattle.core_ways_laws.specs.QuietEntries.{quietness_of}
 use Rattle.core_ways_laws.proofs.Entries.{entered-entry, hush-entry}
-use Rattle.core_ways_laws.proofs.ProgramFacts.{is_right, known_is_analysed}
-use Rattle.core_ways_laws.proofs.RankedArrivals.{IsOf, in_at, record-of, arrivals-met}
+use Rattle.core_ways_laws.proofs.ProgramFacts.{is_right}
+use Rattle.core_ways_laws.proofs.RankedArrivals.{arrivals-met}
 use Rattle.core_ways_laws.proofs.ShortPaths.{short-record}
 use Rattle.core_ways_laws.proofs.StableMeets.{stable-met}
 
@@ -37,9 +40,9 @@ pub leg-meets : (p : Program) (m1 m2 m : MethodId) (method : Method) (i : ℕ) (
     DoesMeet (core p) (quietness_of (core p) m1 m2) entry_naming r arrival
 leg-meets p m1 m2 m method i r t which there at store arrival stored leads =
     let quiet : Quietness (core p) = quietness_of (core p) m1 m2 in
-    let of : IsOf (core p) m i r = record-of (core p) m i r at in
+    let of : FoundAt (core p) m i r = found_at (core p) m i r at in
     let analysed : is_analysed (core p) m ≡ true =
-    known_is_analysed (core p) m method of.found there of.known in
+    known_is_analysed (core p) m method (Whole of.found) there of.known in
     let met : AreMet (core p) quiet m (known_of (core p) m) (arrival_of (core p) m) = arrivals-met p quiet m analysed in
     let entered : IsEntered (core p) quiet entry_naming met.method (given_to t method) store =
     subst (λ (x : Method). IsEntered (core p) quiet entry_naming x (given_to t method) store)
@@ -59,7 +62,7 @@ pub leg-leads : (p : Program) (m1 m2 m : MethodId) (method : Method) (i : ℕ) (
     (base_value r.kind arrival.at ≡ start_object (base_path r.path))
 leg-leads p m1 m2 m method i r t which there at stable store arrival stored leads =
     let meets = leg-meets p m1 m2 m method i r t which there at store arrival stored leads in
-    let of : IsOf (core p) m i r = record-of (core p) m i r at in (
+    let of : FoundAt (core p) m i r = found_at (core p) m i r at in (
       meets.0,
       stable-met (core p) m1 m2 r arrival meets.1 stable
           (short-record (core p) m of.found r of.known (in_at of.found.records i r of.has)),

@@ -2,7 +2,6 @@ pub mod PassedValues
 pub mod BackValues
 pub mod CalledValues
 pub mod SiteOrder
-pub mod LastFields
 pub mod WaySites
 pub mod ReachedValues
 pub mod RecordArrivals
@@ -28,7 +27,6 @@ pub mod KindFacts
 pub mod KnownValues
 pub mod Legs
 pub mod Locals
-pub mod Members
 pub mod Naming
 pub mod Operations
 pub mod Passing

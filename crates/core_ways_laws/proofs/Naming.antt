@@ -1,5 +1,6 @@
 -- What values are called where their paths go on, and where a method is called.
-use Rattle.std.proofs.Common.{◌≡◌, ℕ, zero, suc, ◌+◌, ◌≤◌, Bool, true, false, cond, List, [], ◌∷◌, ◌++◌, Option, None, Some}
+use Rattle.std.proofs.Common.{◌≡◌, ℕ, zero, suc, ◌+◌, ◌≤◌, Bool, true, false, cond, List, [], ◌∷◌, ◌++◌, Option, None}
+use Rattle.std.proofs.Common.{Some}
 use Rattle.std.proofs.Common.{length, map, slice_index_or, nat_lt, refl, sym, ap, ◌∙◌, arith, append_assoc}
 use Rattle.std.proofs.lemmas.List.{length-append, append-nil}
 use Rattle.std.proofs.lemmas.Bool.{ltb-false, le-ltb}
@@ -13,7 +14,7 @@ use Rattle.owner_domain.specs.declared.value.Value.{Value}
 use Rattle.owner_domain.specs.declared.value.Value.TheVariants.{Owned, Named, Unnamed}
 use Rattle.owner_domain.specs.Values.{named_or_unnamed, field_value, along}
 use Rattle.access_domain.specs.Substitution.{Actuals, root_value, substituted_value}
-use Rattle.core_ways_laws.specs.Longer.{path_of, longer, extended-room}
+use Rattle.access_domain.specs.Longer.{path_of, longer, extended-room}
 use Rattle.core_ways_laws.specs.Names.{Naming, root_name, longer_name, name_along, name_of, callee_naming}
 
 extended-full : (p : Path) (f : FieldId) → MAX_PATH_FIELDS ≤ length p.fields → extended p f ≡ None

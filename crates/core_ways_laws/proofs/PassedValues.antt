@@ -6,6 +6,7 @@ use Rattle.std.proofs.lemmas.Bool.{lt-ltb}
 use Rattle.std.proofs.lemmas.List.{append-nil}
 use Rattle.std.specs.List.{list_all}
 use Rattle.std.specs.Prelude.{Result, Ok, Err}
+use Rattle.std.proofs.lemmas.Bool.{or_right}
 use Rattle.racer_base.specs.declared.ids.MethodId.{MethodId}
 use Rattle.racer_base.specs.declared.ids.Place.{Place}
 use Rattle.racer_base.specs.declared.ids.SiteId.{SiteId}
@@ -36,9 +37,12 @@ use Rattle.core_ways.specs.declared.part.WayPart.{WayPart}
 use Rattle.core_ways.specs.declared.part.WayPart.TheVariants.{Step, Branched}
 use Rattle.core_ways.specs.Alone.{Alone, Came, ComesTo, LeadsTo, alone, onward}
 use Rattle.core_ways.specs.Ways.{Trip, joined, passed, straight, trip_along}
-use Rattle.core_ways.proofs.Alone.{Leads, along-both, leads-on, one-more, past-turn, spot, weaker}
+use Rattle.access_domain.proofs.Tests.{or_false}
+use Rattle.core_ways.proofs.Alone.{Leads, along-both, drop-more, drop-none, leads-on, one-more, past-turn, spot}
+use Rattle.core_ways.proofs.Alone.{steps-of, weaker}
 use Rattle.core_ways.proofs.Callees.{do_pass, pass-both}
-use Rattle.core_ways_laws.specs.Values.{Behind, Back, Calls, End, Point, behind, call_at, entry_point, evaluate, go_on, evaluate_op}
+use Rattle.core_ways_laws.specs.Values.{Behind, Back, Calls, End, Point, behind, call_at, entry_point, evaluate, go_on}
+use Rattle.core_ways_laws.specs.Values.{evaluate_op}
 use Rattle.core_ways_laws.specs.Values.{inner_of, on_ok, point_popped, received, returned_to, top_value, values_passed}
 use Rattle.core_ways_laws.specs.RunValues.{GoesPast, IsBack, IsEnd, MethodGoes, at_point, back_at}
 
@@ -114,15 +118,6 @@ past-op core op at todo locked callers locks rest =
 
 -- ---- returns
 
-drop-none : (xs : List Holder) → drop 0 xs ≡ xs
-drop-none [] = refl
-drop-none (x ∷ xs) = refl
-
-drop-more : (n : ℕ) (xs : List Holder) → drop n (drop 1 xs) ≡ drop (suc n) xs
-drop-more zero [] = refl
-drop-more (suc n) [] = refl
-drop-more n (x ∷ xs) = refl
-
 abbrev IsReturned : Point → List Frame → List Holder → After → Type 0
 IsReturned at callers locks a = a ≡ back_at callers locks at.store (top_value at)
 
@@ -160,13 +155,6 @@ past-ret core place (suc n) at todo callers locks =
     (subst (λ (ls : List Holder). LeadsTo core [] (suc n)
     (at_point at (Op place Ret ∷ todo) n callers (drop 1 locks)) (IsReturned at callers ls))
     (drop-more n locks) (past-ret core place n at todo callers (drop 1 locks)))
-
--- so many steps
-steps-of : (trips : MethodId → Trip) (n : ℕ) → trip_along trips (replicate n Step) ≡ straight n
-steps-of trips zero = refl
-steps-of trips (suc n) =
-    ap (joined (straight 1)) (steps-of trips n)
-    ∙ ap straight (let one : 1 + n ≡ suc n = omega arith in one)
 
 -- ---- calls
 
@@ -240,14 +228,6 @@ past-call core trips calls m n place locked at todo callers locks goes rest =
 
 -- ---- where code can end
 
-or-true : (b : Bool) → (b || true) ≡ true
-or-true true = refl
-or-true false = refl
-
-or-false : (b : Bool) → (b || false) ≡ b
-or-false true = refl
-or-false false = refl
-
 -- code goes on behind it exactly where it can end
 abbrev pub EndsAs : Bool → Option End → Type 0
 EndsAs b None = Unit {0}
@@ -303,8 +283,8 @@ then-ends a b (Some (Behind at)) f first rest =
 then-ends a b (Some (Back store value)) f first rest = ap (λ (x : Bool). x && b) first
 
 either-ends : (a b : Bool) (l r : Option End) → EndsAs a l → EndsAs b r → EndsAs (a || b) (cond b r l)
-either-ends a true l r left right = subst (λ (x : Bool). EndsAs x r) (sym (or-true a)) right
-either-ends a false l r left right = subst (λ (x : Bool). EndsAs x l) (sym (or-false a)) left
+either-ends a true l r left right = subst (λ (x : Bool). EndsAs x r) (sym (or_right a true refl)) right
+either-ends a false l r left right = subst (λ (x : Bool). EndsAs x l) (sym (or_false a)) left
 
 pub go-ends : (core : Core) (calls : Calls) (code : Tree) (at : Point) →
     EndsAs (can_end code) (evaluate core calls code at)

@@ -2,6 +2,7 @@
 use Rattle.std.proofs.Common.{◌≡◌, ◌+◌, Bool, true, false, cond, List, [], ◌∷◌, ◌++◌, Option, None, Some, length, map}
 use Rattle.std.proofs.lemmas.List.{length-map}
 use Rattle.std.proofs.Common.{refl, sym, subst, ◌∙◌, inl}
+use Rattle.std.proofs.lemmas.Bool.{or_parts}
 use Rattle.racer_base.specs.declared.ids.SiteId.{SiteId}
 use Rattle.owner_domain.specs.declared.value.State.{State}
 use Rattle.core_code.specs.declared.code.Op.{Op as CoreOp}
@@ -27,12 +28,12 @@ use Rattle.core_ways_laws.specs.Names.{Naming}
 use Rattle.core_ways_laws.specs.Places.{AreHushed, IsFrame, IsStore}
 use Rattle.core_ways_laws.specs.Quiet.{Quietness}
 use Rattle.core_ways_laws.proofs.CallKept.{call-kept}
-use Rattle.core_ways_laws.proofs.KeptParts.{chosen-first, chosen-second, in-turn-first, in-turn-kept, neither, ok-kept}
+use Rattle.core_ways_laws.proofs.KeptParts.{chosen-first, chosen-second, in-turn-first, in-turn-kept, ok-kept}
 use Rattle.core_ways_laws.proofs.FlowLengths.{AreRight, IsShaped, flow_shape}
 use Rattle.core_ways_laws.proofs.Hushing.{hush-first, hush-second}
 use Rattle.core_ways_laws.proofs.Joining.{frame-weaker}
 use Rattle.core_ways_laws.proofs.KindFacts.{AreBeside, AreInTurn, either_kinds, loop-kinds, same_heights, then_kinds}
-use Rattle.core_ways_laws.proofs.Members.{in_first, in_last}
+use Rattle.access_domain.proofs.Members.{in_first, in_last}
 use Rattle.core_ways_laws.proofs.Operations.{op-kept}
 use Rattle.core_ways_laws.proofs.PlaceLists.{places-lengths, places_drop}
 use Rattle.core_ways_laws.proofs.Rounds.{entry_weaker}
@@ -100,7 +101,7 @@ module _ (core : Core) (quiet : Quietness core) (n : Naming) (method : Method) (
   first-small first rest locked s =
       in-turn-first (λ e. e.large ≡ false) (λ e. e.large ≡ false) (effects first locked s) (effects rest locked)
       (λ small. small)
-      (λ t small. (neither (effects first locked s).large (effects rest locked t).large small).0)
+      (λ t small. (or_parts (effects first locked s).large (effects rest locked t).large small).0)
 
   -- the parts of a choice
   pub record AreApart (left right : Effects) : Type 0 where
@@ -117,7 +118,7 @@ module _ (core : Core) (quiet : Quietness core) (n : Naming) (method : Method) (
       let three = hush-first core quiet n (left.wobbly ++ right.wobbly ++ lost_next left.next right.next)
       (lost_result left.result right.result) hush in
       let two = hush-first core quiet n (left.wobbly ++ right.wobbly) (lost_next left.next right.next) three in
-      let large = neither left.large right.large small in
+      let large = or_parts left.large right.large small in
       record {
         left_hush = hush-first core quiet n left.wobbly right.wobbly two;
         right_hush = hush-second core quiet n left.wobbly right.wobbly two;
@@ -324,6 +325,7 @@ module _ (core : Core) (quiet : Quietness core) (n : Naming) (method : Method) (
       (hush-first core quiet n last.1 (effects body locked last.0).wobbly hush) frame) stored)
   back-kept (Sync lock body) right safe locked [] ends s at fits hush small frame stored = absurd cc
   back-kept (Sync lock body) right safe locked (kind ∷ kinds) ends s at fits hush small frame stored =
-      ok-kept core quiet n method ends (effects body true (popped s 1)) _ (come_back core calls body (point_popped at 1))
+      ok-kept core quiet n method ends (effects body true (popped s 1)) _
+      (come_back core calls body (point_popped at 1))
       (back-kept body right safe true kinds ends (popped s 1) (point_popped at 1) fits hush small
       (popped-frame kind kinds s at frame) stored)

@@ -18,15 +18,16 @@ use Rattle.access_domain.specs.Operations.{Effects}
 use Rattle.access_domain.specs.Summaries.{effects_given, known_of, known_of_callees, start_of}
 use Rattle.core_semantics.specs.declared.object.Value.{Value}
 use Rattle.core_semantics.specs.State.{Store}
+use Rattle.access_domain.proofs.KnownMethods.{IsWhole, callee_known, is_whole}
 use Rattle.core_ways_laws.specs.Values.{Point, End, Behind, Back, Calls, call_of, come_back, entry_point, value_back}
 use Rattle.core_ways_laws.proofs.CalledValues.{call_of-code}
 use Rattle.core_ways_laws.specs.Kept.{IsEntered, IsGiven, IsGood, IsKept}
 use Rattle.core_ways_laws.specs.Names.{Naming, name_of}
 use Rattle.core_ways_laws.specs.Places.{AreHushed, IsFrame, IsPlace, IsStore}
 use Rattle.core_ways_laws.specs.Quiet.{Quietness}
-use Rattle.core_ways_laws.proofs.Members.{hush-different}
+use Rattle.core_ways_laws.proofs.Hushing.{hush-different}
 use Rattle.core_ways_laws.proofs.Passing.{AreSafe, IsSafe, back-kept}
-use Rattle.core_ways_laws.proofs.ProgramFacts.{IsRight, IsRightCall, IsWhole, callee_known, is_right, is_whole}
+use Rattle.core_ways_laws.proofs.ProgramFacts.{IsRight, IsRightCall, is_right}
 use Rattle.core_ways_laws.proofs.ProgramFacts.{known_analysed, lower_call, right_call}
 
 -- an analysed method is there

@@ -18,6 +18,8 @@ use Rattle.access_domain.specs.Operations.{Effects}
 use Rattle.access_domain.specs.Records.{same_key}
 use Rattle.access_domain.specs.Summaries.{effects_given, known_of, known_of_callees, start_of}
 use Rattle.access_domain.specs.OutcomeRecords.{record_at, records_held}
+use Rattle.access_domain.proofs.KnownMethods.{IsWhole, callee_known, is_whole, record_there}
+use Rattle.access_domain.proofs.Members.{firsts_give, in_at}
 use Rattle.core_semantics.specs.declared.object.Value.{Value}
 use Rattle.core_semantics.specs.State.{Store}
 use Rattle.core_ways_laws.specs.Arrivals.{Arrival, Arrivals, to, to_record, arrival_given, arrival_of}
@@ -26,55 +28,15 @@ use Rattle.core_ways_laws.specs.Kept.{AreMet, IsEntered, IsMet}
 use Rattle.core_ways_laws.specs.Names.{Naming}
 use Rattle.core_ways_laws.specs.Places.{AreHushed, IsFrame, IsStore}
 use Rattle.core_ways_laws.specs.Quiet.{Quietness}
-use Rattle.core_ways_laws.proofs.Members.{firsts_give, hush-different}
-use Rattle.core_ways_laws.proofs.ProgramFacts.{IsRight, IsRightCall, IsWhole, callee_known, is_right, is_whole}
+use Rattle.core_ways_laws.proofs.Hushing.{hush-different}
+use Rattle.core_ways_laws.proofs.ProgramFacts.{IsRight, IsRightCall, is_right}
 use Rattle.core_ways_laws.proofs.ProgramFacts.{lower_call}
 use Rattle.core_ways_laws.proofs.ProgramFacts.{right_call}
-use Rattle.core_ways_laws.proofs.Ranked.{good-callees}
+use Rattle.core_ways_laws.proofs.Ranked.{good-callees, method-there}
+use Rattle.core_ways_laws.proofs.RecordArrivals.{arrival-is, inner_arrivals}
 use Rattle.core_ways_laws.proofs.Towards.{AreLed, IsLed, towards-met}
 
--- ---- records by their index
-
-pub in_at : {X : Type 0} (xs : List X) (i : ℕ) (x : X) → slice_get xs i ≡ Some x → In xs x
-in_at [] i x is = cc
-in_at (y ∷ xs) zero x is = let same : y ≡ x = cc in inl same
-in_at (y ∷ xs) (suc i) x is = inr (in_at xs i x is)
-
-pub record-there : (core : Core) (m : MethodId) (found : Findings) (i : ℕ) (r : Access) →
-    known_of core m ≡ Some (Whole found) → slice_get found.records i ≡ Some r → record_at core m i ≡ Some r
-record-there core m found i r known has =
-    ap (λ (o : Option Known). slice_get (records_held (option_map outcome_from o)) i) known ∙ has
-
--- the findings that a record is of
-pub record IsOf (core : Core) (m : MethodId) (i : ℕ) (r : Access) : Type 0 where
-  pub found : Findings
-  pub known : known_of core m ≡ Some (Whole found)
-  pub has : slice_get found.records i ≡ Some r
-
-of_known : (core : Core) (m : MethodId) (i : ℕ) (r : Access) (o : Option Known) → known_of core m ≡ o →
-    slice_get (records_held (option_map outcome_from o)) i ≡ Some r → IsOf core m i r
-of_known core m i r None is has = cc
-of_known core m i r (Some Large) is has = cc
-of_known core m i r (Some (Whole found)) is has = record { found = found; known = is; has = has }
-
-pub record-of : (core : Core) (m : MethodId) (i : ℕ) (r : Access) → record_at core m i ≡ Some r → IsOf core m i r
-record-of core m i r is = of_known core m i r (known_of core m) refl is
-
 -- ---- ways to records, from those of methods of smaller ranks
-
-abbrev inner_arrivals : Core → MethodId → Arrivals
-inner_arrivals core m = known_below (λ i values store. None) (arrival_given core) core (rank_of core m)
-
-arrival-is : (core : Core) (m : MethodId) (method : Method) (i : ℕ) (r : Access) (values : List Value) (store : Store) →
-    method_at core m ≡ Some method → record_at core m i ≡ Some r →
-    arrival_of core m i values store ≡
-    to core (call_of core) (inner_arrivals core m) r.site r.below method.code (entry_point method values store)
-arrival-is core m method i r values store there has =
-    ap (λ (o : Option Method). elim o as (λ _. Option Arrival) [
-      | None ↦ None
-      | Some x ↦ to_record core (inner_arrivals core m) (record_at core m i) x values store
-    ]) there
-    ∙ ap (λ (o : Option Access). to_record core (inner_arrivals core m) o method values store) has
 
 meeting-op : (core : Core) (quiet : Quietness core) (table : Table) (arrivals : Arrivals) (op : CoreOp) →
     ((callee : MethodId) (count : ℕ) → op ≡ Call callee count →
@@ -82,16 +44,6 @@ meeting-op : (core : Core) (quiet : Quietness core) (table : Table) (arrivals : 
     IsLed core quiet table arrivals op
 meeting-op core quiet table arrivals (Call callee count) each = each callee count refl
 meeting-op core quiet table arrivals op each = tt
-
-method-there : (core : Core) (m : MethodId) → is_analysed core m ≡ true →
-    (method : Method) × (method_at core m ≡ Some method)
-method-there core m analysed =
-    elim (method_at core m) as (λ o. method_at core m ≡ o →
-    elim o as (λ _. Bool) [ None ↦ false | Some x ↦ is_none x.status ] ≡ true →
-    (method : Method) × (method_at core m ≡ Some method)) [
-      | None ↦ λ is e. cc
-      | Some x ↦ λ is e. (x, is)
-    ] refl analysed
 
 -- what is needed of the callees of a method
 callees-met : (p : Program) (quiet : Quietness (core p)) (m : MethodId) (method : Method) →
@@ -136,7 +88,8 @@ method-met p quiet m method there analysed meets found known n values store ente
     let frame : IsFrame (core p) quiet n method [] (start_of method) (entry_point method values store) =
     record { vars = entered; stack = tt } in
     subst (λ (o : Option Arrival). IsMet (core p) quiet n r o)
-    (sym (arrival-is (core p) m method i r values store there (record-there (core p) m found i r known has)))
+    (sym (ap (λ (f : List Value → Store → Option Arrival). f values store)
+    (arrival-is (core p) m method i r there (record_there (core p) m i r found known has))))
     (towards-met (core p) quiet n method table method.main (call_of (core p)) (inner_arrivals (core p) m) method.code
     right.calls (good-callees p quiet m method there analysed) meets 0 right.sites false [] right.kinds
     (start_of method) (entry_point method values store) r right.kinded hushed whole.small frame stored among)

@@ -26,6 +26,7 @@ use Rattle.core_ways.specs.declared.part.WayPart.TheVariants.{Branched}
 use Rattle.core_ways.specs.Alone.{ComesTo, alone, do_end_before, locks_round, onward}
 use Rattle.core_ways.specs.Ways.{Trip, entered, has_site, passed, reached, trip_along}
 use Rattle.core_ways.proofs.Alone.{Leads, along-both, leads-on, one-more, past-turn, weaker}
+use Rattle.core_ways.proofs.AloneTo.{op-first, op-second}
 use Rattle.core_ways.proofs.Callees.{do_pass, pass-both}
 use Rattle.core_ways_laws.specs.Values.{Behind, Back, Calls, End, Point, evaluate, on_ok, point_popped, top_value}
 use Rattle.core_ways_laws.specs.Arrivals.{Arrival, Arrivals, behind_first, one_lock_more, to, arrival_at}
@@ -33,24 +34,6 @@ use Rattle.core_ways_laws.specs.RunValues.{Arrives, GoesPast, GoesTo, IsEnd, IsA
 use Rattle.core_ways_laws.proofs.PassedValues.{EndsAs, go-ends, goes-past, spot_at}
 
 -- ---- the operation at a site
-
-first-of : (p q : Option Operation) (o : Operation) → is_some p ≡ true → option_or p q ≡ Some o → p ≡ Some o
-first-of None q o has is = absurd cc
-first-of (Some x) q o has is = is
-
-second-of : (p q : Option Operation) (o : Operation) → is_some p ≡ false → option_or p q ≡ Some o → q ≡ Some o
-second-of None q o has is = is
-second-of (Some x) q o has is = absurd cc
-
-op-first : (a b : Tree) (site : SiteId) (o : Operation) → has_site a site ≡ true → op_at (tree.Seq a b) site ≡ Some o →
-    op_at a site ≡ Some o
-op-first a b site o has is =
-    first-of (op_at a site) (op_at b site) o has (sym (find-append _ (steps_of a) (steps_of b)) ∙ is)
-
-op-second : (a b : Tree) (site : SiteId) (o : Operation) → has_site a site ≡ false →
-    op_at (tree.Seq a b) site ≡ Some o → op_at b site ≡ Some o
-op-second a b site o has is =
-    second-of (op_at a site) (op_at b site) o has (sym (find-append _ (steps_of a) (steps_of b)) ∙ is)
 
 found-here : (site : SiteId) (place : Place) (op : CoreOp) (s : SiteId) (o : Operation) →
     op_at (tree.Op site place op) s ≡ Some o → o.op ≡ op

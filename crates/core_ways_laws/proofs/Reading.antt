@@ -30,7 +30,8 @@ use Rattle.core_semantics.specs.Steps.{kind_of as field_kind, read, unstored}
 use Rattle.core_ways_laws.specs.Names.{Naming, longer_name, name_of}
 use Rattle.core_ways_laws.specs.Places.{IsPlace, IsStore, is_strong, start_object}
 use Rattle.core_ways_laws.specs.Quiet.{Quietness, are_declared, is_declared, start_path, start_root}
-use Rattle.core_ways_laws.proofs.FieldNames.{declared-kind, declared-longer, extended-is, extended-room, kind-there}
+use Rattle.access_domain.specs.Longer.{extended-room, longer}
+use Rattle.core_ways_laws.proofs.FieldNames.{declared-kind, declared-longer, kind-there}
 use Rattle.core_ways_laws.proofs.FieldNames.{last-declared, longer-some, plain-there}
 use Rattle.core_ways_laws.proofs.Naming.{name-field}
 
@@ -94,7 +95,7 @@ module _ (core : Core) (quiet : Quietness core) (name : Option Path) (o : Object
       ∙ ap (λ (k : Kind). unstored store.heap k (Start (start_path q)) f) kind.1
       ∙ ap (λ (b : Bool). cond b (Ref (Start (lengthened (start_path q) f))) Null)
       (stored.all (lengthened (start_path q) f))
-      ∙ ap start_object (extended-is q f r some.2)
+      ∙ ap start_object (sym (longer q f r some.2).is)
 
   unstored-called : ((q : Path) → Ref o ≡ start_object q → quiet.IsIn q → name ≡ Some q) → (c : ClassId) (x : Object) →
       o ≡ x → (r : Path) → unstored store.heap (Declared c) x f ≡ start_object r → quiet.IsIn r →

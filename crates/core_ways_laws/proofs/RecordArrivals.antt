@@ -3,7 +3,7 @@ use Rattle.std.proofs.Common.{◌≡◌, ℕ, zero, suc, ◌+◌, ◌<◌, Bool,
 use Rattle.std.proofs.Common.{Option, None, Some, is_none, nat_lt, option_map, slice_get, slice_index_or, drop, inl}
 use Rattle.std.proofs.Common.{inr}
 use Rattle.std.proofs.Common.{⊎_elim, refl, sym, ap, subst, ◌∙◌, arith}
-use Rattle.std.proofs.lemmas.Bool.{lt-ltb, ltb-true}
+use Rattle.std.proofs.lemmas.Bool.{lt-ltb, ltb-true, or_right}
 use Rattle.std.specs.List.{list_all}
 use Rattle.std.specs.Option.{option_and_then}
 use Rattle.std.specs.Prelude.{Result, Ok, Err}
@@ -27,9 +27,12 @@ use Rattle.core_code.proofs.Membership.{In}
 use Rattle.access_domain.specs.declared.access.Access.{Access}
 use Rattle.access_domain.specs.Findings.{Findings, Known, Large, Table, Whole, outcome_from}
 use Rattle.access_domain.specs.FlowContext.{FlowContext, given_of}
-use Rattle.access_domain.specs.Origins.{touch_of}
+use Rattle.access_domain.specs.Origins.{field_of, touch_of}
 use Rattle.access_domain.specs.Summaries.{known_given, known_of, known_of_callees}
 use Rattle.access_domain.specs.OutcomeRecords.{record_at, records_held}
+use Rattle.access_domain.proofs.KnownMethods.{FoundAt, found_at, known_is_analysed, method_known, record_there}
+use Rattle.access_domain.proofs.Members.{in_at}
+use Rattle.access_domain.proofs.Tests.{or_false, passes_at}
 use Rattle.core_semantics.specs.declared.answer.Holder.{Holder}
 use Rattle.core_semantics.specs.declared.answer.Turn.{Turn}
 use Rattle.core_semantics.specs.declared.answer.Why.{Why}
@@ -49,68 +52,28 @@ use Rattle.core_ways.specs.Ways.{towards_record, trip_along, trip_of, way_given,
 use Rattle.core_ways.proofs.Alone.{Leads, one-more}
 use Rattle.core_ways.proofs.AloneMethods.{AreRight, calls-pass, code-there, may_call}
 use Rattle.core_ways.proofs.Callees.{do_pass, lower-calls, lower-site, pass-both}
+use Rattle.core_ways.proofs.Going.{with-site}
 use Rattle.core_ways_laws.specs.Values.{Calls, Point, call_of, entry_point, evaluate, on_ok, point_popped, received}
 use Rattle.core_ways_laws.specs.Values.{top_value}
 use Rattle.core_ways_laws.specs.Values.{values_passed}
 use Rattle.core_ways_laws.specs.Arrivals.{Arrival, Arrivals, behind_first, one_lock_more, to, to_record, arrival_at}
 use Rattle.core_ways_laws.specs.Arrivals.{arrival_given, arrival_of}
 use Rattle.core_ways_laws.specs.RunValues.{Arrives, IsOfRecord, IsArrival, RecordGoes, at_point}
-use Rattle.core_ways_laws.specs.Sites.{IsRecordOf, IsThrough, IsTouch, field_of}
-use Rattle.core_ways_laws.proofs.CalledValues.{each-method, method-goes}
+use Rattle.core_ways_laws.specs.Sites.{IsRecordOf, IsThrough, IsTouch}
+use Rattle.core_ways_laws.proofs.CalledValues.{method-goes}
 use Rattle.core_ways_laws.proofs.PassedValues.{spot_at}
 use Rattle.core_ways_laws.proofs.ReachedValues.{OnArrival, goes-to, to-has}
 use Rattle.core_ways_laws.proofs.WaySites.{comes-from}
 
 -- ---- records
 
-in-slice : {X : Type 0} (xs : List X) (i : ℕ) (x : X) → slice_get xs i ≡ Some x → In xs x
-in-slice [] i x is = absurd cc
-in-slice (y ∷ xs) zero x is = inl cc
-in-slice (y ∷ xs) (suc i) x is = inr (in-slice xs i x is)
-
--- a record of a method is one of its findings
-pub record FoundAt (core : Core) (m : MethodId) (i : ℕ) (r : Access) : Type 0 where
-  pub found : Findings
-  pub known : known_of core m ≡ Some (Whole found)
-  pub has : slice_get found.records i ≡ Some r
-
-among : (core : Core) (m : MethodId) (i : ℕ) (r : Access) (o : Option Known) → known_of core m ≡ o →
-    slice_get (records_held (option_map outcome_from o)) i ≡ Some r → FoundAt core m i r
-among core m i r None is at = absurd cc
-among core m i r (Some Large) is at = absurd cc
-among core m i r (Some (Whole found)) is at = record { found = found; known = is; has = at }
-
-pub found-at : (core : Core) (m : MethodId) (i : ℕ) (r : Access) → record_at core m i ≡ Some r → FoundAt core m i r
-found-at core m i r at = among core m i r (known_of core m) refl at
-
-pub record-there : (core : Core) (m : MethodId) (i : ℕ) (r : Access) (found : Findings) →
-    known_of core m ≡ Some (Whole found) → slice_get found.records i ≡ Some r → record_at core m i ≡ Some r
-record-there core m i r found known has =
-    ap (λ (o : Option Known). slice_get (records_held (option_map outcome_from o)) i) known ∙ has
-
-flag-of : (b : Bool) (k x : Known) → cond b (Some k) None ≡ Some x → b ≡ true
-flag-of true k x e = refl
-flag-of false k x e = absurd cc
-
--- what is known is known of analysed methods alone
-pub known-analysed : (core : Core) (m : MethodId) (method : Method) (x : Known) → method_at core m ≡ Some method →
-    known_of core m ≡ Some x → is_analysed core m ≡ true
-known-analysed core m method x there known =
-    let table : Table = known_of_callees core m in
-    ap (λ (o : Option Method). elim o as (λ _. Bool) [ None ↦ false | Some y ↦ is_none y.status ]) there
-    ∙ flag-of (is_none method.status) (known_given core table method) x
-    (sym (ap (λ (o : Option Method). option_and_then (λ of.
-    cond (is_none of.status) (Some (known_given core table of)) None) o) there) ∙ known)
-
 -- no record is known of no method
 unknown : (core : Core) (m : MethodId) (i : ℕ) (r : Access) → method_at core m ≡ None → record_at core m i ≡ Some r →
     ⊥
 unknown core m i r none at =
-    let f : FoundAt core m i r = found-at core m i r at in
-    let table : Table = known_of_callees core m in
-    let wrong : None ≡ Some (Whole f.found) =
-    sym (ap (λ (o : Option Method). option_and_then (λ of.
-    cond (is_none of.status) (Some (known_given core table of)) None) o) none) ∙ f.known in
+    let f : FoundAt core m i r = found_at core m i r at in
+    let method = method_known core m (Whole f.found) f.known in
+    let wrong : None ≡ Some method.0 = sym none ∙ method.1 in
     absurd cc
 
 -- where a record of a method comes from
@@ -118,9 +81,9 @@ pub record-comes : (core : Core) → are_sites_in_order core ≡ true → (m : M
     (r : Access) → method_at core m ≡ Some method → record_at core m i ≡ Some r →
     IsRecordOf (given_of core (known_of core) method.main) method.code false r
 record-comes core order m method i r there at =
-    let f : FoundAt core m i r = found-at core m i r at in
-    comes-from core m method f.found r there (each-method is_in_order core.methods m.0 method order there) f.known
-    (in-slice f.found.records i r f.has)
+    let f : FoundAt core m i r = found_at core m i r at in
+    comes-from core m method f.found r there (passes_at is_in_order core.methods m.0 method order there) f.known
+    (in_at f.found.records i r f.has)
 
 -- ---- what comes next, from what comes next in methods of smaller ranks
 
@@ -157,8 +120,19 @@ module _ (core : Core) (calls : Calls) (f g : Arrivals) (site : SiteId) (below :
       let inside = to-same body all in
       (λ i at. on_ok (monitor_of lock.kind (top_value at)) (option_map one_lock_more (inside i (point_popped at 1))))
 
-abbrev inner_arrivals : Core → MethodId → Arrivals
+abbrev pub inner_arrivals : Core → MethodId → Arrivals
 inner_arrivals core m = known_below (λ i values store. None) (arrival_given core) core (rank_of core m)
+
+pub arrival-is : (core : Core) (m : MethodId) (method : Method) (i : ℕ) (r : Access) →
+    method_at core m ≡ Some method → record_at core m i ≡ Some r →
+    ◌≡◌ {A = List Value → Store → Option Arrival} (arrival_of core m i)
+    (λ values store. to core (call_of core) (inner_arrivals core m) r.site r.below method.code
+    (entry_point method values store))
+arrival-is core m method i r there at =
+    (λ k values store. elim (there k) as (λ _. Option Arrival) [
+      | None ↦ None
+      | Some x ↦ to_record core (inner_arrivals core m) (at k) x values store
+    ])
 
 -- what comes next on the way to a record is what comes next there on the way to the record's site
 pub arrival_of-code : (core : Core) → has_ranks core ≡ true → (m : MethodId) (method : Method) (i : ℕ) (r : Access) →
@@ -167,10 +141,7 @@ pub arrival_of-code : (core : Core) → has_ranks core ≡ true → (m : MethodI
     (λ values store. to core (call_of core) (arrival_of core) r.site r.below method.code
     (entry_point method values store))
 arrival_of-code core ranks m method i r there analysed at =
-    (λ k values store. elim (there k) as (λ _. Option Arrival) [
-      | None ↦ None
-      | Some x ↦ to_record core (inner_arrivals core m) (at k) x values store
-    ])
+    arrival-is core m method i r there at
     ∙ (λ k values store.
     to-same core (call_of core) (inner_arrivals core m) (arrival_of core) r.site r.below
     (λ n. nat_lt (rank_of core n) (rank_of core m))
@@ -183,19 +154,6 @@ arrival_of-code core ranks m method i r there analysed at =
 
 abbrev pub inner_ways : Core → MethodId → MethodId → ℕ → List WayPart
 inner_ways core m = known_below (λ i. []) (way_given core) core (rank_of core m)
-
-abbrev from_site : (MethodId → ℕ → List WayPart) → Access → Tree → Option Operation → List WayPart
-from_site ways r code o = elim o [ None ↦ [] | Some x ↦ reached 0 r.site code ++ entered ways r.below x.op ]
-
-pub parts-at : (core : Core) (m : MethodId) (i : ℕ) (code : Tree) (r : Access) (o : Operation) →
-    code_at core m ≡ Some code → record_at core m i ≡ Some r → op_at code r.site ≡ Some o →
-    way_parts core m i ≡ reached 0 r.site code ++ entered (inner_ways core m) r.below o.op
-parts-at core m i code r o is at there =
-    (λ k. elim (is k) as (λ _. List WayPart) [
-      | None ↦ []
-      | Some c ↦ towards_record (inner_ways core m) (at k) c
-    ])
-    ∙ ap (from_site (inner_ways core m) r code) there
 
 -- ---- entering a callee towards its record
 
@@ -301,11 +259,11 @@ module _ (core : Core) (facts : AreInOrder core) where
       Leads core (way_of core m i) (at_point (entry_point method values store) (before method.code []) 0 callers locks)
       (IsArrival (arrival_of core m i values store) locks)
   by-site m method i r there at o is ends reaches values store callers locks =
-      let f : FoundAt core m i r = found-at core m i r at in
-      let analysed : is_analysed core m ≡ true = known-analysed core m method (Whole f.found) there f.known in
+      let f : FoundAt core m i r = found_at core m i r at in
+      let analysed : is_analysed core m ≡ true = known_is_analysed core m method (Whole f.found) there f.known in
       let code : code_at core m ≡ Some method.code = code-there core m method there analysed in
       let parts : way_parts core m i ≡ reached 0 r.site method.code ++ entered (way_parts core) r.below o.op =
-      parts-at core m i method.code r o code at is
+      with-site core m i method.code r o code at is
       ∙ ap (λ (ps : List WayPart). reached 0 r.site method.code ++ ps) reaches.same in
       let p : Point = entry_point method values store in
       let a : After = at_point p (before method.code []) 0 callers locks in
@@ -322,8 +280,8 @@ module _ (core : Core) (facts : AreInOrder core) where
   pub record-goes : (k : ℕ) (m : MethodId) (i : ℕ) → rank_of core m < k → RecordGoes core m i
   record-goes zero m i low method r there at = absurd (omega arith)
   record-goes (suc k) m i low method r there at =
-      let f : FoundAt core m i r = found-at core m i r at in
-      let analysed : is_analysed core m ≡ true = known-analysed core m method (Whole f.found) there f.known in
+      let f : FoundAt core m i r = found_at core m i r at in
+      let analysed : is_analysed core m ≡ true = known_is_analysed core m method (Whole f.found) there f.known in
       let code : code_at core m ≡ Some method.code = code-there core m method there analysed in
       let g : FlowContext = given_of core (known_of core) method.main in
       let c : IsRecordOf g method.code false r = record-comes core facts.order m method i r there at in
@@ -335,7 +293,7 @@ module _ (core : Core) (facts : AreInOrder core) where
       let lower : rank_of core of.callee < rank_of core m =
       lower-site core m method.code r.site c.operation of.callee of.count facts.right.ranks code c.at of.calls in
       reaches-through core m of.callee of.index of.count of.inner r.below c.operation.op of.below of.calls
-      (record-there core of.callee of.index of.inner of.found of.known of.has)
+      (record_there core of.callee of.index of.inner of.found of.known of.has)
       (record-goes k of.callee of.index (omega arith)) lower)
       c.from)
 
@@ -346,20 +304,12 @@ abbrev IsSo : Bool → Touch → Option FieldId → ℕ → Arrival → Type 0
 IsSo flag kind field n arrival =
     (nat_lt 0 arrival.locks ≡ (flag || nat_lt 0 n)) × (touch_of arrival.op ≡ Some kind) × (field_of arrival.op ≡ field)
 
-or-true : (b : Bool) → (b || true) ≡ true
-or-true true = refl
-or-true false = refl
-
-or-false : (b : Bool) → b ≡ (b || false)
-or-false true = refl
-or-false false = refl
-
 one-deeper : (flag : Bool) (kind : Touch) (field : Option FieldId) (n : ℕ) (arrival : Arrival) →
     IsSo flag kind field n arrival →
     IsSo flag kind field (suc n) (one_lock_more arrival)
 one-deeper flag kind field n arrival so = (
   lt-ltb 0 (suc arrival.locks) (omega arith)
-      ∙ sym (ap (λ (b : Bool). flag || b) (lt-ltb 0 (suc n) (omega arith)) ∙ or-true flag),
+      ∙ sym (ap (λ (b : Bool). flag || b) (lt-ltb 0 (suc n) (omega arith)) ∙ or_right flag true refl),
   so.1,
   so.2,
 )
@@ -410,7 +360,7 @@ leads-through core n j count inner kind field below op some call same same_field
     (λ at. entered-so core (IsSo inner.locked kind field 0) n j (values_passed at count) at.store (method_at core n)
     (map-on (IsOfRecord inner) (IsSo inner.locked kind field 0) (arrival_of core n j (values_passed at count) at.store)
     (λ arrival (of : IsOfRecord inner arrival).
-    (of.held ∙ or-false inner.locked, of.touches ∙ ap Some (sym same), of.field ∙ sym same_field))
+    (of.held ∙ sym (or_false inner.locked), of.touches ∙ ap Some (sym same), of.field ∙ sym same_field))
     (has (values_passed at count) at.store))))
 
 module _ (core : Core) (facts : AreInOrder core) where
@@ -420,8 +370,8 @@ module _ (core : Core) (facts : AreInOrder core) where
       r.locked ≡ (flag || nat_lt 0 (locks_round r.site method.code)) →
       (values : List Value) (store : Store) → OnArrival (IsOfRecord r) (arrival_of core m i values store)
   so-at m method i r there at o flag is leading held values store =
-      let f : FoundAt core m i r = found-at core m i r at in
-      let analysed : is_analysed core m ≡ true = known-analysed core m method (Whole f.found) there f.known in
+      let f : FoundAt core m i r = found_at core m i r at in
+      let analysed : is_analysed core m ≡ true = known_is_analysed core m method (Whole f.found) there f.known in
       let field : Option FieldId = last_of r.path.fields in
       let n : ℕ = locks_round r.site method.code in
       subst (λ (arrival : Option Arrival). OnArrival (IsOfRecord r) arrival)
@@ -447,8 +397,8 @@ module _ (core : Core) (facts : AreInOrder core) where
       OnArrival (IsOfRecord r) (arrival_of core m i values store)
   record-so zero m method i r low there at = absurd (omega arith)
   record-so (suc k) m method i r low there at =
-      let f : FoundAt core m i r = found-at core m i r at in
-      let analysed : is_analysed core m ≡ true = known-analysed core m method (Whole f.found) there f.known in
+      let f : FoundAt core m i r = found_at core m i r at in
+      let analysed : is_analysed core m ≡ true = known_is_analysed core m method (Whole f.found) there f.known in
       let code : code_at core m ≡ Some method.code = code-there core m method there analysed in
       let g : FlowContext = given_of core (known_of core) method.main in
       let c : IsRecordOf g method.code false r = record-comes core facts.order m method i r there at in
@@ -461,7 +411,7 @@ module _ (core : Core) (facts : AreInOrder core) where
       let lower : rank_of core of.callee < rank_of core m =
       lower-site core m method.code r.site c.operation of.callee of.count facts.right.ranks code c.at of.calls in
       let has : record_at core of.callee of.index ≡ Some of.inner =
-      record-there core of.callee of.index of.inner of.found of.known of.has in
+      record_there core of.callee of.index of.inner of.found of.known of.has in
       so-at m method i r there at c.operation of.inner.locked c.at
       (leads-through core of.callee of.index of.count of.inner r.kind (last_of r.path.fields) r.below c.operation.op
       of.below of.calls of.kind of.field

@@ -47,10 +47,9 @@ counts-second n a b counts =
     last_part (counts_from n (sites_of a)) (counts_from (n + length (sites_of a)) (sites_of b))
     (sym (ap (counts_from n) (sites_of-then a b) ∙ counts_from-append n (sites_of a) (sites_of b)) ∙ counts)
 
--- of two parts whose sites count up, the first lacks the sites of the second
-pub first-lacks : (n : ℕ) (a b : Tree) (site : SiteId) (o : Operation) → counts_from n (sites_of (Seq a b)) ≡ true →
+lacks : (n : ℕ) (a b : Tree) (site : SiteId) (o : Operation) → counts_from n (sites_of (Seq a b)) ≡ true →
     op_at b site ≡ Some o → has_site a site ≡ false
-first-lacks n a b site o counts is =
+lacks n a b site o counts is =
     let first = counts-first n a b counts in
     let second = counts-second n a b counts in
     let from = site-within (n + length (sites_of a)) (steps_of b) site o second is in
@@ -63,3 +62,12 @@ first-lacks n a b site o counts is =
           let high = within.1 in
           absurd (omega arith)
     ] refl
+
+-- of two parts whose sites count up, the first lacks the sites of the second
+pub first-lacks : (n : ℕ) (a b : Tree) (site : SiteId) → counts_from n (sites_of (Seq a b)) ≡ true →
+    has_site b site ≡ true → has_site a site ≡ false
+first-lacks n a b site counts has =
+    elim (op_at b site) as (λ p. op_at b site ≡ p → is_some p ≡ true → has_site a site ≡ false) [
+      | None ↦ λ e some. absurd cc
+      | Some o ↦ λ e some. lacks n a b site o counts e
+    ] refl has

@@ -1,5 +1,5 @@
 -- Where the path of a record is stable, the access is of the start object of its base.
-use Rattle.std.proofs.Common.{◌≡◌, ◌+◌, ◌≤◌, true, false, [], ◌∷◌, ◌++◌, Some, length, refl, ap, ◌∙◌, arith}
+use Rattle.std.proofs.Common.{◌≡◌, ◌+◌, ◌≤◌, true, false, [], ◌∷◌, ◌++◌, Some, length, refl, sym, ap, ◌∙◌, arith}
 use Rattle.std.proofs.lemmas.List.{length-append}
 use Rattle.racer_base.specs.declared.ids.MethodId.{MethodId}
 use Rattle.racer_base.specs.declared.limits.TheConstants.{MAX_PATH_FIELDS}
@@ -9,6 +9,7 @@ use Rattle.access_paths.specs.declared.path.Root.TheVariants.{This, Class, Forma
 use Rattle.access_paths.specs.Paths.{is_some_root, front_of}
 use Rattle.owner_domain.specs.declared.value.Value.TheVariants.{Named}
 use Rattle.access_domain.specs.declared.access.Access.{Access}
+use Rattle.access_domain.proofs.ReachedPaths.{front_and_last}
 use Rattle.core_code.specs.Core.{Core}
 use Rattle.core_ways.specs.Stable.{IsStable, is_lasting_root}
 use Rattle.core_ways_laws.specs.Arrivals.{Arrival}
@@ -17,7 +18,7 @@ use Rattle.core_ways_laws.specs.Names.{entry_naming, name_of}
 use Rattle.core_ways_laws.specs.Places.{start_object}
 use Rattle.core_ways_laws.specs.QuietEntries.{quietness_of}
 use Rattle.core_ways_laws.proofs.Entries.{entry-named}
-use Rattle.core_ways_laws.proofs.Stables.{split-last, stable-base}
+use Rattle.core_ways_laws.proofs.Stables.{stable-base}
 
 lasting-known : (root : Root) → is_lasting_root root ≡ true → is_some_root root ≡ false
 lasting-known This lasts = refl
@@ -34,7 +35,7 @@ pub stable-met : (core : Core) (m1 m2 : MethodId) (r : Access) (t : Arrival) →
     length r.path.fields ≤ MAX_PATH_FIELDS → base_value r.kind t.at ≡ start_object (base_path r.path)
 stable-met core m1 m2 r t meets stable short =
     let split : r.path.fields ≡ front_of r.path.fields ++ meets.field ∷ [] =
-    split-last r.path.fields meets.field meets.last in
+    sym (front_and_last r.path.fields meets.field meets.last) in
     let long : length r.path.fields ≡ length (front_of r.path.fields) + 1 =
     ap length split ∙ length-append (front_of r.path.fields) (meets.field ∷ []) in
     let shorter : length (base_path r.path).fields ≤ MAX_PATH_FIELDS = omega arith in

@@ -1,14 +1,16 @@
 -- A stable path goes on from a quiet one.
 use Rattle.std.proofs.Common.{◌≡◌, ℕ, zero, suc, ◌+◌, ◌<◌, ◌≤◌, Bool, true, false, cond, ◌||◌, List, [], ◌∷◌, ◌++◌}
-use Rattle.std.proofs.Common.{None, Some, length, map, take, refl, ap, ◌∙◌, subst, arith}
+use Rattle.std.proofs.Common.{None, Some, length, map, take, refl, sym, ap, ◌∙◌, subst, arith}
 use Rattle.std.specs.Prelude.{IsTrue}
 use Rattle.std.specs.List.{find}
 use Rattle.std.proofs.lemmas.List.{take-append-le, length-append}
+use Rattle.std.proofs.lemmas.Bool.{or_parts}
 use Rattle.racer_base.specs.declared.ids.FieldId.{FieldId}
 use Rattle.racer_base.specs.declared.ids.MethodId.{MethodId}
 use Rattle.racer_base.specs.declared.limits.TheConstants.{MAX_PATH_FIELDS}
 use Rattle.access_paths.specs.declared.path.Path.{Path}
 use Rattle.access_paths.specs.Paths.{front, front_of, last_of}
+use Rattle.access_domain.proofs.ReachedPaths.{front_and_last}
 use Rattle.core_code.specs.Core.{Core}
 use Rattle.core_ways.specs.Stable.{IsStable, counting, is_wobbly}
 use Rattle.core_ways_laws.specs.Meets.{base_path}
@@ -34,21 +36,12 @@ none-passes test f from (suc n) j none within =
       | false ↦ λ e is. this-or-later test f from n (λ k below. none-passes test f (suc from) n k is below) j within e
     ] refl none
 
-neither : (a b : Bool) → (a || b) ≡ false → (a ≡ false) × (b ≡ false)
-neither true b e = absurd cc
-neither false b e = (refl, e)
-
-pub split-last : (fs : List FieldId) (f : FieldId) → last_of fs ≡ Some f → fs ≡ front_of fs ++ f ∷ []
-split-last [] f e = absurd cc
-split-last (g ∷ []) f e = let same : g ≡ f = cc in ap (λ (x : FieldId). x ∷ []) same
-split-last (g ∷ h ∷ fs) f e = ap (λ (rest : List FieldId). g ∷ rest) (split-last (h ∷ fs) f e)
-
 -- the base of a stable path is quiet, where all its fields have classes of the program as their kinds
 pub stable-base : (core : Core) (m1 m2 : MethodId) (p : Path) (f : FieldId) → last_of p.fields ≡ Some f →
     IsStable core m1 m2 p → length (base_path p).fields ≤ MAX_PATH_FIELDS →
     IsTrue (are_declared core (base_path p)) → IsQuiet core m1 m2 (base_path p)
 stable-base core m1 m2 p f last stable short declared =
-    let split : p.fields ≡ front_of p.fields ++ f ∷ [] = split-last p.fields f last in
+    let split : p.fields ≡ front_of p.fields ++ f ∷ [] = sym (front_and_last p.fields f last) in
     let long : length p.fields ≡ length (front_of p.fields) + 1 =
     ap length split ∙ length-append (front_of p.fields) (f ∷ []) in
     record {
@@ -65,5 +58,5 @@ stable-base core m1 m2 p f last stable short declared =
           (none-passes (λ q. is_wobbly core m1 q || is_wobbly core m2 q) (λ n. front n p) 0 (length p.fields) k
           stable.prefixes (omega arith)) in
           subst (λ (q : Path). (is_wobbly core m1 q ≡ false) × (is_wobbly core m2 q ≡ false)) same
-          (neither (is_wobbly core m1 (front k p)) (is_wobbly core m2 (front k p)) fails);
+          (or_parts (is_wobbly core m1 (front k p)) (is_wobbly core m2 (front k p)) fails);
     }

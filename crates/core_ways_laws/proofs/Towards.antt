@@ -3,6 +3,7 @@ use Rattle.std.proofs.Common.{◌≡◌, ℕ, ◌+◌, Bool, true, false, cond, 
 use Rattle.std.proofs.Common.{length}
 use Rattle.std.proofs.Common.{option_map, refl, sym, subst, ◌∙◌, inl}
 use Rattle.std.specs.Prelude.{Result, Ok, Err}
+use Rattle.std.proofs.lemmas.Bool.{or_parts}
 use Rattle.racer_base.specs.declared.ids.SiteId.{SiteId}
 use Rattle.owner_domain.specs.declared.value.State.{State}
 use Rattle.access_domain.specs.declared.access.Access.{Access}
@@ -30,11 +31,11 @@ use Rattle.core_ways_laws.proofs.Accesses.{op-met}
 use Rattle.core_ways_laws.proofs.CallMet.{call-met}
 use Rattle.core_ways_laws.proofs.FlowLengths.{AreRight}
 use Rattle.core_ways_laws.proofs.Hushing.{hush-first, hush-second}
-use Rattle.core_ways_laws.proofs.KeptParts.{neither}
 use Rattle.core_ways_laws.proofs.KindFacts.{AreBeside, AreInTurn, either_kinds, loop-kinds, then_kinds}
-use Rattle.core_ways_laws.proofs.Members.{in_first as in_early, in_last as in_late}
+use Rattle.access_domain.proofs.Members.{in_first as in_early, in_last as in_late}
 use Rattle.core_ways_laws.proofs.Passing.{AreApart, AreSafe, apart, kept, looped-frame, popped-frame}
-use Rattle.core_ways_laws.proofs.RecordSites.{record-site, site-once, sites_first, sites_rest}
+use Rattle.core_ways_laws.proofs.RecordSites.{record-site}
+use Rattle.core_ways_laws.proofs.SiteOrder.{counts-first, counts-second, first-lacks}
 
 -- what an operation of code needs of the methods that are called: the ways to the callee's records meet them
 abbrev pub IsLed : (core : Core) → Quietness core → Table → Arrivals → CoreOp → Type 0
@@ -89,7 +90,7 @@ module _ (core : Core) (quiet : Quietness core) (n : Naming) (method : Method) (
             hush-first core quiet n first.wobbly (rest s).wobbly early in
             let on_rest : AreHushed core quiet n (rest s).wobbly =
             hush-second core quiet n first.wobbly (rest s).wobbly early in
-            let none = neither first.large (rest s).large few in
+            let none = or_parts first.large (rest s).large few in
             ⊎_elim
             (λ in_first. one on_first none.0 in_first)
             (λ in_rest. two s is on_first none.0 on_rest none.1 in_rest)
@@ -161,11 +162,12 @@ module _ (core : Core) (quiet : Quietness core) (n : Naming) (method : Method) (
       on-side core quiet n method r (has_site first r.site) true one two
       (record-site (given_of core table main) first locked s r there)
       (towards-met first right_first safe_first
-      (λ o in_first. meets o (in_early (steps_of first) (steps_of rest) o in_first)) k (sites_first k first rest counts)
+      (λ o in_first. meets o (in_early (steps_of first) (steps_of rest) o in_first)) k
+      (counts-first k first rest counts)
       locked kinds parts.between s at r parts.early hushed few frame stored there))
       (λ t is hushed few hushed_rest few_rest there.
       on-side core quiet n method r (has_site first r.site) false one two
-      (site-once k first rest r.site counts (record-site (given_of core table main) rest locked t r there))
+      (first-lacks k first rest r.site counts (record-site (given_of core table main) rest locked t r there))
       (behind-met core quiet n method r parts.between (effects first locked s) t (evaluate core calls first at)
       (to core calls arrivals r.site r.below rest) is
       (kept core quiet n method table main calls first right_first safe_first locked kinds parts.between s at
@@ -175,7 +177,7 @@ module _ (core : Core) (quiet : Quietness core) (n : Naming) (method : Method) (
       towards-met rest (λ o in_rest. right o (in_late (steps_of first) (steps_of rest) o in_rest))
       (λ o in_rest. safe o (in_late (steps_of first) (steps_of rest) o in_rest))
       (λ o in_rest. meets o (in_late (steps_of first) (steps_of rest) o in_rest)) (k + length (sites_of first))
-      (sites_rest k first rest counts) locked parts.between ends t behind r parts.late hushed_rest few_rest framed
+      (counts-second k first rest counts) locked parts.between ends t behind r parts.late hushed_rest few_rest framed
       kept_store there)))
   towards-met (Choice left right) all safe meets k counts locked kinds ends s at r fits hush small frame stored has =
       let parts : AreBeside core method left right kinds ends = either_kinds core method left right kinds ends fits in
@@ -189,15 +191,16 @@ module _ (core : Core) (quiet : Quietness core) (n : Naming) (method : Method) (
       (record-site (given_of core table main) left locked s r there)
       (towards-met left (λ o in_first. all o (in_early (steps_of left) (steps_of right) o in_first))
       (λ o in_first. safe o (in_early (steps_of left) (steps_of right) o in_first))
-      (λ o in_first. meets o (in_early (steps_of left) (steps_of right) o in_first)) k (sites_first k left right counts)
+      (λ o in_first. meets o (in_early (steps_of left) (steps_of right) o in_first)) k
+      (counts-first k left right counts)
       locked kinds parts.after_left s at r parts.on_left each.left_hush each.left_small frame stored there))
       (λ there.
       on-side core quiet n method r (has_site left r.site) false one two
-      (site-once k left right r.site counts (record-site (given_of core table main) right locked s r there))
+      (first-lacks k left right r.site counts (record-site (given_of core table main) right locked s r there))
       (towards-met right (λ o in_rest. all o (in_late (steps_of left) (steps_of right) o in_rest))
       (λ o in_rest. safe o (in_late (steps_of left) (steps_of right) o in_rest))
       (λ o in_rest. meets o (in_late (steps_of left) (steps_of right) o in_rest)) (k + length (sites_of left))
-      (sites_rest k left right counts) locked kinds parts.after_right s at r parts.on_right each.right_hush
+      (counts-second k left right counts) locked kinds parts.after_right s at r parts.on_right each.right_hush
       each.right_small frame stored there))
       (in_append (effects left locked s).records (effects right locked s).records r has)
   towards-met (Loop body) right safe meets k counts locked kinds ends s at r fits hush small frame stored has =

@@ -16,7 +16,7 @@ use Rattle.core_semantics.specs.State.{Frame, State, Thread, Op, before, other_o
 use Rattle.core_semantics.specs.Steps.{After, entered}
 use Rattle.core_ways.specs.Alone.{Alone, Came, Stuck, Broken, ComesTo, IsSeen, alone, part_of}
 use Rattle.core_ways.specs.Ways.{way_of}
-use Rattle.core_ways.proofs.Beside.{beside}
+use Rattle.core_ways.proofs.Beside.{beside, other-stays}
 use Rattle.core_ways_laws.specs.Ends.{EndsAtAccess, IsAtAccess}
 use Rattle.core_ways_laws.specs.RunValues.{IsAtArrival, IsOfRecord, IsArrival, at_point}
 use Rattle.core_ways_laws.specs.Arrivals.{Arrival, arrival_of}
@@ -42,17 +42,6 @@ store-again s t a =
     (let u : State = record { store = a.store; first = a.thread; second = s.second } in u)
     (let v : State = record { store = a.store; first = s.first; second = a.thread } in v) in
     x.store) ≡ a.store) [
-      | true ↦ refl
-      | false ↦ refl
-    ]
-
-other-stays : (s : State) (t : ℕ) (a : After) → other_of (with_thread s t a.store a.thread) t ≡ other_of s t
-other-stays s t a =
-    elim (nat_eq t 0) as (λ b.
-    (let x : State = cond b
-    (let u : State = record { store = a.store; first = a.thread; second = s.second } in u)
-    (let v : State = record { store = a.store; first = s.first; second = a.thread } in v) in
-    cond b x.second x.first) ≡ cond b s.second s.first) [
       | true ↦ refl
       | false ↦ refl
     ]

@@ -5,14 +5,13 @@ use Rattle.racer_base.specs.declared.ids.MethodId.{MethodId}
 use Rattle.racer_base.specs.declared.ids.Place.{Place}
 use Rattle.access_paths.specs.Paths.{last_of}
 use Rattle.access_domain.specs.declared.access.Access.{Access}
-use Rattle.access_domain.specs.Origins.{touch_of}
+use Rattle.access_domain.specs.Origins.{field_of, touch_of}
 use Rattle.core_code.specs.Core.{Core}
 use Rattle.core_semantics.specs.declared.answer.Why.{Why}
 use Rattle.core_semantics.specs.declared.object.Value.{Value}
 use Rattle.core_semantics.specs.Legs.{Ran, Came, Halted, StuckFor}
 use Rattle.core_semantics.specs.Runs.{innermost, next_of}
 use Rattle.core_semantics.specs.State.{Frame, State, Op, other_of, thread_of}
-use Rattle.core_ways_laws.specs.Sites.{field_of}
 use Rattle.core_ways_laws.specs.Arrivals.{Arrival, arrival_of}
 
 -- A thread has come just before the access of a record, from a state in which it was at the entry of the record's

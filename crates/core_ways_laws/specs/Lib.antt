@@ -6,7 +6,6 @@ pub mod RunValues
 pub mod Ends
 pub mod ClearLegs
 pub mod Names
-pub mod Longer
 pub mod Shapes
 pub mod Weaker
 pub mod Quiet

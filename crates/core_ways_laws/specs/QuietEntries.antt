@@ -14,7 +14,7 @@ use Rattle.access_paths.specs.Paths.{extended, front}
 use Rattle.core_code.specs.Core.{Core}
 use Rattle.core_semantics.specs.Steps.{kind_of}
 use Rattle.core_ways.specs.Stable.{is_lasting_root, is_wobbly}
-use Rattle.core_ways_laws.specs.Longer.{longer}
+use Rattle.access_domain.specs.Longer.{longer}
 use Rattle.core_ways_laws.specs.Quiet.{IsQuiet, Quietness, is_declared}
 
 first_true : (a b : Bool) → (a && b) ≡ true → a ≡ true

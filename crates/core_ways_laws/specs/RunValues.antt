@@ -10,7 +10,7 @@ use Rattle.core_code.specs.Core.{Core, Method}
 use Rattle.core_code.specs.Tree.{Tree}
 use Rattle.access_paths.specs.Paths.{last_of}
 use Rattle.access_domain.specs.declared.access.Access.{Access}
-use Rattle.access_domain.specs.Origins.{touch_of}
+use Rattle.access_domain.specs.Origins.{field_of, touch_of}
 use Rattle.access_domain.specs.OutcomeRecords.{record_at}
 use Rattle.core_semantics.specs.declared.answer.Holder.{Holder}
 use Rattle.core_semantics.specs.declared.object.Value.{Value}
@@ -20,7 +20,6 @@ use Rattle.core_ways.specs.declared.part.WayPart.{WayPart}
 use Rattle.core_ways.specs.Alone.{LeadsTo, here}
 use Rattle.core_ways.specs.Ways.{Trip, entered, passed, reached, to_return, trip_along, way_of}
 use Rattle.core_ways_laws.specs.Values.{Behind, Back, Calls, End, Point, come_back, entry_point, evaluate}
-use Rattle.core_ways_laws.specs.Sites.{field_of}
 use Rattle.core_ways_laws.specs.Arrivals.{Arrival, arrival_of}
 
 -- a thread whose innermost frame is at a point

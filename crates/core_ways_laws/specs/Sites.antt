@@ -1,23 +1,16 @@
 -- A contract of a public call rests on this: the law `records_have_sites`. Where a record of code comes from, with what
 -- stands before its site and the locks round it.
-use Rattle.std.specs.Prelude.{◌≡◌, ℕ, Bool, true, ◌||◌, ◌⊎◌, Option, None, Some, nat_lt, slice_get}
-use Rattle.racer_base.specs.declared.ids.FieldId.{FieldId}
+use Rattle.std.specs.Prelude.{◌≡◌, ℕ, Bool, true, ◌||◌, ◌⊎◌, None, Some, nat_lt, slice_get}
 use Rattle.racer_base.specs.declared.ids.MethodId.{MethodId}
 use Rattle.core_code.specs.declared.code.Op.{Op as CoreOp}
-use Rattle.core_code.specs.declared.code.Op.TheVariants.{Get, Put, Call}
+use Rattle.core_code.specs.declared.code.Op.TheVariants.{Call}
 use Rattle.core_code.specs.Tree.{Tree, Operation, op_at}
 use Rattle.access_paths.specs.Paths.{last_of}
 use Rattle.access_domain.specs.declared.access.Access.{Access}
 use Rattle.access_domain.specs.Findings.{Findings, Whole}
 use Rattle.access_domain.specs.FlowContext.{FlowContext}
-use Rattle.access_domain.specs.Origins.{touch_of}
+use Rattle.access_domain.specs.Origins.{field_of, touch_of}
 use Rattle.core_ways.specs.Alone.{do_end_before, locks_round}
-
--- the field that an operation touches
-abbrev pub field_of : CoreOp → Option FieldId
-field_of (Get f) = Some f
-field_of (Put f) = Some f
-field_of _ = None
 
 -- the operation touches the field itself, within locks or not
 pub record IsTouch (op : CoreOp) (locked : Bool) (a : Access) : Type 0 where

@@ -2,7 +2,7 @@
 use Rattle.std.proofs.Common.{◌≡◌, ℕ, zero, suc, ◌+◌, Bool, true, false, cond, ◌&&◌, inl, inr, List, [], ◌∷◌, ◌++◌}
 use Rattle.std.proofs.Common.{Option, None, Some, option_map, is_some, map, slice_get, nat_eq, refl, sym, ap, subst}
 use Rattle.std.proofs.Common.{◌∙◌, arith, eq-eqb, zero-add}
-use borrow.Author.Tests.{eqb-true}
+use Rattle.std.proofs.lemmas.Bool.{eqb-true, ne_eqb}
 use Rattle.std.specs.List.{count_by, enumerate_from, flat_map, filter_map, cons_option, find}
 use Rattle.std.proofs.lemmas.List.Sums.{sum_by-append}
 use Rattle.racer_base.specs.declared.ids.ClassId.{ClassId}
@@ -11,6 +11,7 @@ use Rattle.core_code.specs.Core.{Core, Method}
 use Rattle.core_code.specs.declared.parts.ClassCore.{ClassCore}
 use Rattle.access_domain.specs.declared.access.Access.{Access}
 use Rattle.access_domain.specs.OutcomeRecords.{records_of}
+use Rattle.access_domain.proofs.Tests.{and_false, and_true, both_parts}
 use Rattle.race_pairs.specs.declared.warning.Warning.{Warning}
 use Rattle.race_pairs.specs.Warnings.{MethodRecord, conflicts, numbered_record, numbered_records, is_entry_of}
 use Rattle.race_pairs.specs.Warnings.{entry_records, records_in, warning_of, warning_among, warnings_among}
@@ -18,15 +19,7 @@ use Rattle.race_pairs.specs.Warnings.{class_warnings, warnings}
 use Rattle.race_pairs.specs.Pairs.{IsCheckedClass, IsRecord, IsPair, is_warning_of}
 use Rattle.core_code.proofs.Membership.{In, in_filter_map, in_map, in_enumerate_from, enumerate_from_has, flat_map_has}
 use Rattle.core_code.proofs.Membership.{map_has, find_has}
-use Rattle.race_pairs.proofs.WarningPairs.{both_pass, listed_warning}
-
-and_false : (b : Bool) → (b && false) ≡ false
-and_false true = refl
-and_false false = refl
-
-and_true : (b : Bool) → (b && true) ≡ b
-and_true true = refl
-and_true false = refl
+use Rattle.race_pairs.proofs.WarningPairs.{listed_warning}
 
 count_append : {X : Type 0} (p : X → Bool) (xs ys : List X) → count_by p (xs ++ ys) ≡ count_by p xs + count_by p ys
 count_append p xs ys = sum_by-append (λ x. cond (p x) 1 0) xs ys
@@ -112,11 +105,6 @@ map_as_lists : {X Y : Type 0} (g : X → Y) (xs : List X) → map g xs ≡ flat_
 map_as_lists g [] = refl
 map_as_lists g (x ∷ xs) = ap (λ ys. g x ∷ ys) (map_as_lists g xs)
 
-nat_eq-other : (m n : ℕ) → (m ≡ n → ⊥) → nat_eq m n ≡ false
-nat_eq-other m n other =
-    elim (nat_eq m n) as (λ b. nat_eq m n ≡ b → b ≡ false)
-    [ true ↦ λ e. absurd (other (eqb-true m n e)) | false ↦ λ e. refl ] refl
-
 nat_eq-itself : (n : ℕ) → nat_eq n n ≡ true
 nat_eq-itself n = eq-eqb n n refl
 
@@ -196,7 +184,7 @@ one_of_method core c m i a has r there others =
     ap (count_by has) (map_as_lists (numbered_record m) (enumerate_from 0 (records_of core m)))
     ∙ only_there has (λ e. numbered_record m e ∷ []) 0 (records_of core m) i a r.has
     (λ e h other.
-    let index : nat_eq e.0 i ≡ false = nat_eq-other e.0 i (λ is. other (is ∙ sym (zero-add i))) in
+    let index : nat_eq e.0 i ≡ false = ne_eqb e.0 i (λ is. other (is ∙ sym (zero-add i))) in
     let no : is_record m i (numbered_record m e) ≡ false =
     (λ k. nat_eq m.0 m.0 && index k) ∙ and_false (nat_eq m.0 m.0) in
     count_one has (numbered_record m e) false (others (numbered_record m e) no))
@@ -213,7 +201,7 @@ one_of_class core c m i a has r there others =
     none_counted has (entry_records core c e)
     (λ p listed.
     let method : nat_eq p.method.0 m.0 ≡ false =
-    nat_eq-other p.method.0 m.0 (λ is. other (sym (of_its_method core c e p listed) ∙ is ∙ sym (zero-add m.0))) in
+    ne_eqb p.method.0 m.0 (λ is. other (sym (of_its_method core c e p listed) ∙ is ∙ sym (zero-add m.0))) in
     others p (ap (λ b. b && nat_eq p.index i) method)))
     ∙ ap (λ (n : ℕ). count_by has (entry_records core c (n, r.method))) (zero-add m.0)
     ∙ ap (λ b. count_by has (cond b (numbered_records m (records_of core m)) [])) (entry_test core c m i a r)
@@ -246,7 +234,7 @@ other_class core c m i a r e h other w listed =
     elim (is_warning_of m i w) as (λ b. is_warning_of m i w ≡ b → b ≡ false) [
       | true ↦ λ is.
           let entry : w.entry.0 ≡ m.0 = eqb-true w.entry.0 m.0
-          (both_pass (nat_eq w.entry.0 m.0) (nat_eq w.access i) is).0 in
+          (both_parts (nat_eq w.entry.0 m.0) (nat_eq w.access i) is).0 in
           let same : Some pair.of_entry.method ≡ Some r.method =
           sym pair.of_entry.is ∙ ap (slice_get core.methods) entry ∙ r.is in
           let method : pair.of_entry.method ≡ r.method = cc in

@@ -12,15 +12,9 @@ use Rattle.access_paths.specs.Same.{equal_of_same, same_path-key, same_path-laws
 use Rattle.access_domain.specs.declared.access.Access.{Access}
 use Rattle.core_code.specs.Touches.{is_write}
 use Rattle.access_domain.specs.Records.{same_key, same_flag, same_touch}
+use Rattle.access_domain.proofs.Tests.{and_false, both_parts, equal_flags}
 use Rattle.race_pairs.specs.Warnings.{MethodRecord, conflicts}
 use Rattle.race_pairs.specs.Firsts.{Groups, group_at, with_first, AddsFirst, partner_in, FindsPartners}
-use Rattle.race_pairs.proofs.WarningPairs.{both_pass}
-
-same_flag-equal : (a b : Bool) → same_flag a b ≡ true → a ≡ b
-same_flag-equal true true e = refl
-same_flag-equal true false e = cc
-same_flag-equal false true e = cc
-same_flag-equal false false e = refl
 
 -- a conflict sees keys alone
 seen_by_key : (a b c : Access) → same_key b c ≡ true → conflicts a b ≡ conflicts a c
@@ -28,19 +22,15 @@ seen_by_key a b c same =
     let path : Bool = same_path b.path c.path in
     let kind : Bool = same_touch b.kind c.kind in
     let lock : Bool = same_flag b.locked c.locked in
-    let three = both_pass (path && kind && lock) (same_flag b.main c.main) same in
-    let two = both_pass (path && kind) lock three.0 in
-    let one = both_pass path kind two.0 in
+    let three = both_parts (path && kind && lock) (same_flag b.main c.main) same in
+    let two = both_parts (path && kind) lock three.0 in
+    let one = both_parts path kind two.0 in
     let paths = equal_of_same b.path c.path one.0 in
-    let kinds = same_flag-equal (is_write b.kind) (is_write c.kind) one.1 in
-    let locks = same_flag-equal b.locked c.locked two.1 in
-    let mains = same_flag-equal b.main c.main three.1 in
+    let kinds = equal_flags (is_write b.kind) (is_write c.kind) one.1 in
+    let locks = equal_flags b.locked c.locked two.1 in
+    let mains = equal_flags b.main c.main three.1 in
     (λ i. same_path a.path (paths i) && not (is_formal a.path.root)
     && (is_write a.kind || kinds i) && not (a.locked && locks i) && not (a.main && mains i))
-
-and_false : (b : Bool) → (b && false) ≡ false
-and_false true = refl
-and_false false = refl
 
 option_or-none : {X : Type 0} (o : Option X) → option_or o None ≡ o
 option_or-none None = refl

@@ -7,6 +7,7 @@ use Rattle.racer_base.specs.declared.ids.ClassId.{ClassId}
 use Rattle.racer_base.specs.declared.ids.MethodId.{MethodId}
 use Rattle.core_code.specs.Core.{Core, Method}
 use Rattle.core_code.specs.declared.parts.ClassCore.{ClassCore}
+use Rattle.access_domain.proofs.Tests.{both_parts}
 use Rattle.race_pairs.specs.declared.warning.Warning.{Warning}
 use Rattle.race_pairs.specs.Warnings.{MethodRecord, conflicts, numbered_record, numbered_records, is_entry_of}
 use Rattle.access_domain.specs.OutcomeRecords.{records_of}
@@ -15,11 +16,6 @@ use Rattle.race_pairs.specs.Warnings.{class_warnings, warnings}
 use Rattle.race_pairs.specs.Pairs.{IsRecord, IsPair}
 use Rattle.core_code.proofs.Membership.{In, in_from_Contains, in_flat_map, in_filter_map, in_map, in_enumerate_from}
 use Rattle.core_code.proofs.Membership.{find_gives}
-
--- both parts of a test that passes
-pub both_pass : (a b : Bool) → (a && b) ≡ true → (a ≡ true) × (b ≡ true)
-both_pass true b h = (refl, h)
-both_pass false b h = cc
 
 pub class_of_number : (c d : ClassId) → nat_eq c.0 d.0 ≡ true → c ≡ d
 class_of_number c d h = ap (λ (n : ℕ). let made : ClassId = record { 0 = n } in made) (eqb-true c.0 d.0 h)
@@ -37,7 +33,7 @@ listed_record core c p h =
     as (λ b. is_entry_of c e.1 ≡ b → In (cond b (numbered_records number (records_of core number)) []) p →
     IsRecord core c p.method p.index p.access) [
       | true ↦ λ test listed.
-          let tests = both_pass e.1.entry (nat_eq e.1.class.0 c.0) test in
+          let tests = both_parts e.1.entry (nat_eq e.1.class.0 c.0) test in
           let from = in_map (numbered_record number) (enumerate_from 0 (records_of core number)) p listed in
           let index = in_enumerate_from 0 (records_of core number) from.0 from.1 in
           let index_is : index.0 ≡ from.0.0 = let is : from.0.0 ≡ 0 + index.0 = index.1 in omega arith in

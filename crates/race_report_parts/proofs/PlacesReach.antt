@@ -22,12 +22,11 @@ use Rattle.access_domain.specs.Findings.{Known, Whole, outcome_from}
 use Rattle.access_domain.specs.FlowContext.{FlowContext, given_of}
 use Rattle.access_domain.specs.Summaries.{known_of}
 use Rattle.access_domain.specs.OutcomeRecords.{records_held, records_of}
+use Rattle.access_domain.proofs.KnownMethods.{FoundAt, found_at, known_is_analysed}
 use Rattle.core_ways.specs.Alone.{locks_round}
 use Rattle.race_pairs.specs.declared.warning.Warning.{Warning}
 use Rattle.core_ways_laws.specs.Sites.{IsRecordOf, IsThrough, IsTouch}
-use Rattle.core_ways_laws.proofs.ProgramFacts.{IsRight, IsRightCall, is_right, known_is_analysed, lower_call}
-use Rattle.core_ways_laws.proofs.ProgramFacts.{right_call}
-use Rattle.core_ways_laws.proofs.RankedArrivals.{IsOf, record-of as findings-of}
+use Rattle.core_ways_laws.proofs.ProgramFacts.{IsRight, IsRightCall, is_right, lower_call, right_call}
 use Rattle.access_paths.specs.Paths.{last_of}
 use Rattle.core_ways_laws.proofs.RecordArrivals.{record-comes}
 use Rattle.race_report_parts.specs.Places.{OwnedRecord, callee_of, operation_at, places_of, places_within}
@@ -161,8 +160,8 @@ reaches p (suc n) m method index a there at low =
     let is : operation_at core m a.site ≡ Some o =
     ap (option_and_then (λ (x : Method). op_at x.code a.site)) there ∙ comes.at in
     let locked : Bool = false || nat_lt 0 (locks_round a.site method.code) in
-    let of_m : IsOf core m index a = findings-of core m index a at in
-    let analysed = known_is_analysed core m method of_m.found there of_m.known in
+    let of_m : FoundAt core m index a = found_at core m index a at in
+    let analysed = known_is_analysed core m method (Whole of_m.found) there of_m.known in
     ⊎_elim
     (λ (touch : IsTouch o.op locked a). touch-reaches core (held_by m a) o locked n is touch)
     (λ (of : IsThrough g o.op locked a).

@@ -5,11 +5,10 @@ use Rattle.racer_base.specs.declared.ids.MethodId.{MethodId}
 use Rattle.racer_base.specs.declared.ids.Place.{Place}
 use Rattle.access_paths.specs.Paths.{last_of}
 use Rattle.access_domain.specs.declared.access.Access.{Access}
-use Rattle.access_domain.specs.Origins.{touch_of}
+use Rattle.access_domain.specs.Origins.{field_of, touch_of}
 use Rattle.core_code.specs.declared.code.Op.TheVariants.{Call}
 use Rattle.core_code.specs.Core.{Core}
 use Rattle.core_code.specs.Tree.{Operation}
-use Rattle.core_ways_laws.specs.Sites.{field_of}
 use Rattle.race_report_parts.specs.Places.{OwnedRecord, operation_at, owned_record_at}
 
 -- the operation at the site of a record stands at this place, and makes the access: it reads or writes, as the record

@@ -3,6 +3,7 @@ use Rattle.std.proofs.Common.{◌≡◌, ℕ, Bool, true, false, cond, not, ◌&
 use Rattle.std.proofs.Common.{refl, sym}
 use Rattle.std.proofs.Common.{ap, subst, ◌∙◌}
 use Rattle.std.specs.List.{Contains}
+use Rattle.std.proofs.lemmas.Bool.{not-true}
 use Rattle.racer_base.specs.declared.ids.MethodId.{MethodId}
 use Rattle.racer_base.specs.declared.ids.Touch.{Touch}
 use Rattle.access_paths.specs.declared.path.Path.{Path}
@@ -26,10 +27,11 @@ use Rattle.core_ways.specs.Marks.{objects_of}
 use Rattle.core_ways.specs.Stable.{IsStable, is_lasting_root}
 use Rattle.core_ways.specs.Ways.{way_of}
 use Rattle.witness_build_laws.specs.Heaps.{Heap, state_in}
+use Rattle.access_domain.proofs.Tests.{both_parts}
 use Rattle.race_pairs.specs.declared.warning.Warning.{Warning}
 use Rattle.race_pairs.specs.Pairs.{IsPair}
 use Rattle.race_pairs.specs.Warnings.{conflicts, warnings}
-use Rattle.race_pairs.proofs.WarningPairs.{both_pass, warning_is_pair}
+use Rattle.race_pairs.proofs.WarningPairs.{warning_is_pair}
 use Rattle.witness_build_laws.specs.Warned.{pair_of, warning_mark}
 use Rattle.witness_build_laws.specs.Races.{RacesOn, Touches}
 use Rattle.witness_build_laws.proofs.LegPairs.{AreOthers, LegLeads, TouchesAs, both-touch, unlocked-free}
@@ -68,10 +70,6 @@ pub record Conflict (a b : Access) : Type 0 where
   pub write : (is_write a.kind || is_write b.kind) ≡ true
   pub locks : (a.locked && b.locked) ≡ false
 
-not-true : (b : Bool) → not b ≡ true → b ≡ false
-not-true true e = sym e
-not-true false e = refl
-
 pub conflict-parts : (a b : Access) → conflicts a b ≡ true → Conflict a b
 conflict-parts a b is =
     let same : Bool = same_path a.path b.path in
@@ -79,10 +77,10 @@ conflict-parts a b is =
     let write : Bool = is_write a.kind || is_write b.kind in
     let locks : Bool = not (a.locked && b.locked) in
     let main : Bool = not (a.main && b.main) in
-    let four = both_pass (same && formal && write && locks) main is in
-    let three = both_pass (same && formal && write) locks four.0 in
-    let two = both_pass (same && formal) write three.0 in
-    let one = both_pass same formal two.0 in
+    let four = both_parts (same && formal && write && locks) main is in
+    let three = both_parts (same && formal && write) locks four.0 in
+    let two = both_parts (same && formal) write three.0 in
+    let one = both_parts same formal two.0 in
     record {
       path = sym (equal_of_same a.path b.path one.0);
       formal = not-true (is_formal a.path.root) one.1;

@@ -11,7 +11,7 @@ use Rattle.racer_base.specs.declared.ids.Touch.TheVariants.{Read, Write}
 use Rattle.access_paths.specs.declared.path.Path.{Path}
 use Rattle.access_paths.specs.Paths.{last_of}
 use Rattle.access_domain.specs.declared.access.Access.{Access}
-use Rattle.access_domain.specs.Origins.{touch_of}
+use Rattle.access_domain.specs.Origins.{field_of, touch_of}
 use Rattle.core_code.specs.declared.code.Op.{Op as CoreOp}
 use Rattle.core_code.specs.declared.code.Op.TheVariants.{Push, PushClass, PushPrim, PushNull, New, Dup, Drop, Get, Put}
 use Rattle.core_code.specs.declared.code.Op.TheVariants.{Set, Prim, Outside, Call, Unread, Ret, Throw}
@@ -26,7 +26,6 @@ use Rattle.core_semantics.specs.Runs.{next_touch}
 use Rattle.core_semantics.specs.Runs.{op_touch, todo_touch}
 use Rattle.core_semantics.specs.State.{Frame, State, Store, Thread, Todo, other_of, thread_of}
 use Rattle.core_ways_laws.specs.Ends.{IsAtAccess}
-use Rattle.core_ways_laws.specs.Sites.{field_of}
 use Rattle.core_ways_laws.specs.Arrivals.{Arrival, arrival_of}
 use Rattle.core_ways_laws.specs.Meets.{base_path, base_slot, base_value}
 use Rattle.core_ways_laws.specs.Places.{start_object}

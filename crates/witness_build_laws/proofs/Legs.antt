@@ -2,6 +2,7 @@
 use Rattle.std.proofs.Common.{◌≡◌, Bool, true, false, ◌||◌, List, [], ◌∷◌, Option, refl, sym, ap}
 use Rattle.std.proofs.Common.{◌∙◌, option_map}
 use Rattle.std.specs.List.{list_any}
+use Rattle.std.proofs.lemmas.Bool.{or_left, or_right}
 use Rattle.std.specs.Option.{option_and_then}
 use Rattle.racer_base.specs.declared.ids.MethodId.{MethodId}
 use Rattle.access_domain.specs.Records.{firsts}
@@ -14,16 +15,14 @@ use Rattle.core_semantics.specs.declared.object.StartPath.{StartPath}
 use Rattle.core_semantics.specs.Legs.{Leg, Ran, Came, Halted, run, runs, whole}
 use Rattle.core_semantics.specs.Objects.{same_start_path}
 use Rattle.core_semantics.specs.Runs.{begun, is_in}
-use Rattle.core_semantics.specs.Same.{equal_of_same, same_object-itself}
+use Rattle.core_semantics.specs.Same.{same_object-itself}
 use Rattle.core_semantics.specs.State.{State}
 use Rattle.core_ways.specs.Marks.{objects_of, reads, reads_of_legs}
+use Rattle.core_ways.proofs.Gathering.{exact}
 use Rattle.witness_build_laws.specs.Heaps.{HasAll, Heap, ran_in, state_in}
 use Rattle.witness_build_laws.proofs.SameRuns.{all-first, all-last, run-heap, runs-same}
 
 -- ---- what is read is among the objects
-
-exact : (p q : StartPath) → same_start_path p q ≡ true → p ≡ q
-exact p q e = let same : StartOf p ≡ StartOf q = equal_of_same (StartOf p) (StartOf q) e in cc
 
 among-firsts : (xs : List StartPath) (p : StartPath) →
     list_any (λ q. same_start_path q p) (firsts same_start_path xs) ≡ list_any (λ q. same_start_path q p) xs
@@ -32,20 +31,12 @@ among-firsts xs p =
     (λ x y h. ap (λ z. same_start_path z p) (sym (exact x y h)))
     xs
 
-first-of : (a b : Bool) → a ≡ true → (a || b) ≡ true
-first-of true b e = refl
-first-of false b e = absurd cc
-
-last-of : (a b : Bool) → b ≡ true → (a || b) ≡ true
-last-of true b e = refl
-last-of false b e = e
-
 has-all : (heap : Heap) (xs : List StartPath) →
     ((p : StartPath) → list_any (λ q. same_start_path q p) xs ≡ true → heap p ≡ true) → HasAll heap xs
 has-all heap [] has = tt
 has-all heap (x ∷ xs) has = (
-  has x (first-of (same_start_path x x) (list_any (λ q. same_start_path q x) xs) (same_object-itself (StartOf x))),
-  has-all heap xs (λ p e. has p (last-of (same_start_path x p) (list_any (λ q. same_start_path q p) xs) e)),
+  has x (or_left (same_start_path x x) (list_any (λ q. same_start_path q x) xs) (same_object-itself (StartOf x))),
+  has-all heap xs (λ p e. has p (or_right (same_start_path x p) (list_any (λ q. same_start_path q p) xs) e)),
 )
 
 pub objects-read : (objects xs : List StartPath) → objects ≡ firsts same_start_path xs →

@@ -26,7 +26,8 @@ use Rattle.witness_build_laws.specs.Table.{IsRow, IsStopped, IsStuckAt}
 use Rattle.witness_build_laws.specs.Warned.{pair_of, warning_mark}
 use Rattle.witness_build_laws.proofs.ConfirmedRun.{conflict-parts, full, lasting, mark_by}
 use Rattle.witness_build_laws.proofs.MarkParts.{halt_in}
-use Rattle.witness_build_laws.proofs.TableRows.{AreMade, DoStop, Ends, IsByRun, halt, legs-end, said-made, said-stopped}
+use Rattle.witness_build_laws.proofs.TableRows.{AreMade, DoStop, Ends, IsByRun, halt, legs-end, said-stopped}
+use Rattle.witness_build_laws.proofs.WholeWarnings.{said-made}
 use Rattle.witness_build_laws.proofs.TableRows.{same-record, whole-ways}
 use Rattle.witness_build_laws.proofs.WholeWarnings.{confirmed, not_some}
 

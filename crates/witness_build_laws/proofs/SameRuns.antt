@@ -22,7 +22,8 @@ use Rattle.core_semantics.specs.Objects.{lengthened}
 use Rattle.core_semantics.specs.Runs.{Access as Touching, access_of, frame_touch, is_turn, next_of}
 use Rattle.core_semantics.specs.Runs.{op_touch, todo_touch, wants_turn}
 use Rattle.core_semantics.specs.State.{Frame, State, Store, Todo, Op, Choice, Loop, Sync, Unlock, thread_of}
-use Rattle.core_semantics.specs.Steps.{Next, Goes, Sticks, Waits, Ends, base_of, kind_of, read, step, top, unstored, within}
+use Rattle.core_semantics.specs.Steps.{Next, Goes, Sticks, Waits, Ends, base_of, kind_of, read, step, top, unstored}
+use Rattle.core_semantics.specs.Steps.{within}
 use Rattle.core_ways.specs.Marks.{given_by, next_read, paths_in, reads, reads_on}
 use Rattle.witness_build_laws.specs.Heaps.{HasAll, Heap, ran_in, state_in, store_in}
 use Rattle.witness_build_laws.proofs.SameSteps.{NextReadsSame, ReadsSame, ThreadReadsSame, step-same}

@@ -39,6 +39,7 @@ use Rattle.witness_build_laws.proofs.LegPairs.{unlocked-free}
 use Rattle.witness_build_laws.proofs.MarkParts.{by_halt, halt_in, start}
 use Rattle.witness_build_laws.proofs.StuckPlaces.{stuck-place}
 use Rattle.witness_build_laws.proofs.WitnessRuns.{EndsFrom, two_legs}
+use Rattle.witness_build_laws.proofs.WholeWarnings.{said-made}
 
 -- ---- two legs, one after the other
 
@@ -246,10 +247,6 @@ module _ (core : Core) (w : Pair) (p : Path) (said : Said) (late : is_early said
 pub said-stopped : (core : Core) (legs : List Leg) (s : State) (t : ℕ) (at : Place) →
     first_halt core legs s ≡ halt t (Some at) → mark_by_run core legs s ≡ Blocked t at
 said-stopped core legs s t at is = ap (by_halt core legs s) is
-
-pub said-made : (core : Core) (legs : List Leg) (s : State) → first_halt core legs s ≡ None →
-    mark_by_run core legs s ≡ Confirmed (objects_of core legs s) legs
-said-made core legs s is = ap (by_halt core legs s) is
 
 -- a run that says that a thread is blocked is stopped there
 blocked-run : (core : Core) (legs : List Leg) (s : State) (t : ℕ) (at : Place) → Ends core legs s →

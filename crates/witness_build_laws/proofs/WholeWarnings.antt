@@ -61,9 +61,9 @@ none_halts core [] s comes = refl
 none_halts core (leg ∷ legs) s comes =
     none_after core leg legs (runs core leg.thread leg.steps leg.turns s) (λ to. none_halts core legs to) comes
 
-by_run : (core : Core) (legs : List Leg) (s : State) → first_halt core legs s ≡ None →
+pub said-made : (core : Core) (legs : List Leg) (s : State) → first_halt core legs s ≡ None →
     mark_by_run core legs s ≡ Confirmed (objects_of core legs s) legs
-by_run core legs s none = rw (mark_by_run, none) refl
+said-made core legs s none = rw (mark_by_run, none) refl
 
 by_length : (core : Core) (w : Pair) → first_long (ways_in_order core w) ≡ None →
     mark_by_length core w ≡ mark_by_run core (legs_of core w) (begun core w.m1 w.m2 All)
@@ -86,7 +86,7 @@ confirmed core w p stable ways =
     (none_unread a b ways.read_first ways.read_second) (none_unread b a ways.read_second ways.read_first))
     ∙ by_length core w (in_either_order (λ ts. first_long ts ≡ None) (is_locked core w.m1 w.i) a b
     (none_long a b ways.short_first ways.short_second) (none_long b a ways.short_second ways.short_first))
-    ∙ by_run core (legs_of core w) (begun core w.m1 w.m2 All)
+    ∙ said-made core (legs_of core w) (begun core w.m1 w.m2 All)
     (none_halts core (legs_of core w) (begun core w.m1 w.m2 All) ways.runs)
 
 pub whole_confirmed : (core : Core) (w : Warning) (r : Access) → record_at core w.entry w.access ≡ Some r →

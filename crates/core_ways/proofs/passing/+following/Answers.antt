@@ -23,7 +23,8 @@ pub follow-returns-in-Seq : goal.follow-returns-in-Seq
 follow-returns-in-Seq t c =
     let is : tree_of c.args.code.now ≡ in_sequence (map tree_of c.as_slice.result.now) = search (rules, the_lemmas) in
     subst (λ (code : Tree). OnOk c.follow_through.result (
-    c.follow_through.new.parts.items ≡ c.args.parts.now.items ++ followed c.args.end c.args.locks c.args.path.now code)) (sym is)
+    c.follow_through.new.parts.items ≡ c.args.parts.now.items ++ followed c.args.end c.args.locks c.args.path.now code))
+    (sym is)
     c.follow_through.ensures
 
 pub follow-returns-in_default : goal.follow-returns-in_default
@@ -44,7 +45,8 @@ follow-returns-then-is_left t c =
     let path = c.args.path.now in
     let sides : tree_of c.args.code.now ≡ Choice left right = search (rules, the_lemmas) in
     subst (λ (ps : List WayPart). OnOk c.follow.result (c.follow.new.parts.items ≡ ps))
-    (left-followed c.args.end c.args.locks left right old c.push.new.self.items path c.in-Some.rest.now c.in-Some.is_left
+    (left-followed c.args.end c.args.locks left right old c.push.new.self.items path c.in-Some.rest.now
+    c.in-Some.is_left
     c.in-Some.ensures (c.in-Ok.ensures.items ∙ ap (λ (turn : Turn). old ++ Branched turn ∷ []) c.turn_to.ensures)
     c.if-is_left.true
     ∙ ap (λ (code : Tree). old ++ followed c.args.end c.args.locks path code) (sym sides))
@@ -58,7 +60,8 @@ follow-returns-else-is_left t c =
     let path = c.args.path.now in
     let sides : tree_of c.args.code.now ≡ Choice left right = search (rules, the_lemmas) in
     subst (λ (ps : List WayPart). OnOk c.follow-in-Choice.result (c.follow-in-Choice.new.parts.items ≡ ps))
-    (right-followed c.args.end c.args.locks left right old c.push.new.self.items path c.in-Some.rest.now c.in-Some.is_left
+    (right-followed c.args.end c.args.locks left right old c.push.new.self.items path c.in-Some.rest.now
+    c.in-Some.is_left
     c.in-Some.ensures (c.in-Ok.ensures.items ∙ ap (λ (turn : Turn). old ++ Branched turn ∷ []) c.turn_to.ensures)
     c.if-is_left.false
     ∙ ap (λ (code : Tree). old ++ followed c.args.end c.args.locks path code) (sym sides))
@@ -98,9 +101,11 @@ follow_through-loop-code-preserved t c =
     let left = in_sequence (map tree_of (drop at.code-index codes)) in
     let is : left ≡ Seq first others = turn codes at.code-index c.code-item.result c.loop-code-test.true
     c.code-item.is in
-    more c.pass.new.parts.items at.parts.items (passed locks first) (followed c.args.end locks c.in-Some.rest.now others)
+    more c.pass.new.parts.items at.parts.items (passed locks first)
+    (followed c.args.end locks c.in-Some.rest.now others)
     (followed c.args.end locks at.path.now left)
-    (c.args.parts.now.items ++ followed c.args.end locks c.args.path.now (in_sequence (map tree_of codes))) c.in-Ok.ensures.parts
+    (c.args.parts.now.items ++ followed c.args.end locks c.args.path.now (in_sequence (map tree_of codes)))
+    c.in-Ok.ensures.parts
     (ap (followed c.args.end locks at.path.now) is
     ∙ others-followed c.args.end locks first others at.path.now c.in-Some.rest.now c.in-Some.is_first c.in-Some.ensures
     c.if-is_first.false)

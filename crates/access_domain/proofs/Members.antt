@@ -1,16 +1,9 @@
 -- Members of lists, of those that pass a test, and of the first of those that are the same.
-use Rattle.std.proofs.Common.{◌≡◌, suc, ◌<◌, Bool, true, false, cond, not, ◌⊎◌, inl, inr, ⊎_elim, List, [], ◌∷◌}
-use Rattle.std.proofs.Common.{◌++◌, length, filter, refl, sym, ap, ◌∙◌, arith}
+use Rattle.std.proofs.Common.{◌≡◌, ℕ, zero, suc, ◌<◌, Bool, true, false, cond, not, ◌⊎◌, inl, inr, ⊎_elim, List, []}
+use Rattle.std.proofs.Common.{◌∷◌, ◌++◌, Some, length, filter, slice_get, refl, sym, ap, ◌∙◌, arith}
 use Rattle.std.specs.List.{Contains}
-use Rattle.access_paths.specs.declared.path.Path.{Path}
-use Rattle.access_paths.specs.Same.{equal_of_same}
 use Rattle.core_code.proofs.Membership.{In, in_from_Contains}
-use Rattle.access_domain.specs.Records.{firsts, different_paths}
-use Rattle.core_code.specs.Core.{Core}
-use Rattle.access_paths.specs.Paths.{same_path}
-use Rattle.core_ways_laws.specs.Names.{Naming}
-use Rattle.core_ways_laws.specs.Quiet.{Quietness}
-use Rattle.core_ways_laws.specs.Places.{AreHushed}
+use Rattle.access_domain.specs.Records.{firsts}
 
 pub in_first : {X : Type 0} (xs ys : List X) (y : X) → In xs y → In (xs ++ ys) y
 in_first [] ys y h = absurd h
@@ -19,6 +12,11 @@ in_first (x ∷ xs) ys y h = ⊎_elim (λ e. inl e) (λ r. inr (in_first xs ys y
 pub in_last : {X : Type 0} (xs ys : List X) (y : X) → In ys y → In (xs ++ ys) y
 in_last [] ys y h = h
 in_last (x ∷ xs) ys y h = inr (in_last xs ys y h)
+
+pub in_at : {X : Type 0} (xs : List X) (i : ℕ) (x : X) → slice_get xs i ≡ Some x → In xs x
+in_at [] i x is = cc
+in_at (y ∷ xs) zero x is = let same : y ≡ x = cc in inl same
+in_at (y ∷ xs) (suc i) x is = inr (in_at xs i x is)
 
 pub contains_from_in : {X : Type 0} (xs : List X) (y : X) → In xs y → Contains xs y
 contains_from_in [] y h = absurd h
@@ -69,12 +67,3 @@ firsts_have {X} same equal (x ∷ xs) y h =
           inr (filter_has (λ z. not (same x z)) (firsts same xs) y (firsts_have same equal xs y r)
           (ap (λ (b : Bool). not b) is))
     ] refl) h
-
--- hush of the different paths of a list is hush of the list
-pub hush-different : (core : Core) (quiet : Quietness core) (n : Naming) (xs : List Path) →
-    AreHushed core quiet n (different_paths xs) → AreHushed core quiet n xs
-hush-different core quiet n xs hushed = λ w there q is quietly.
-    hushed w
-    (contains_from_in (different_paths xs) w
-    (firsts_have same_path equal_of_same xs w (in_from_contains xs w there)))
-    q is quietly
