@@ -9,10 +9,8 @@
 pub mod laws;
 mod made;
 mod marks;
-mod mode;
 mod reports;
 mod text;
 
 pub use made::made_text;
-pub use mode::Mode;
 pub use reports::report;

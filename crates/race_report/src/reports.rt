@@ -11,13 +11,13 @@ ghost use Rattle.race_report_parts.specs.Json.{report_value};
 ghost use Rattle.race_report.specs.Modes as said;
 ghost use Rattle.race_report_parts.specs.Report as lines;
 
-use crate::Mode;
 use crate::marks::push_last;
 use crate::text::push_warnings;
 use access_domain::Outcomes;
 use core_code::Program;
 use core_ways::Mark;
 use race_pairs::Warning;
+use race_report_modes::{Format, Mode};
 use race_report_parts::{
     Written, push_counts, push_end, push_not_analysed, push_skipped, push_summaries, push_text,
 };
@@ -104,10 +104,9 @@ fn push_report(
     requires marks { map said_by marks.now ≡ map (warning_mark (core program.now)) found.now }
     ensures { Puts (said.report mode (core program.now)) text.old text.new }
 {
-    if mode.json {
-        push_object(text, mode.summaries, program, outcomes, found, marks)
-    } else {
-        push_lines(text, mode.summaries, program, outcomes, found, marks)
+    match mode.format {
+        Format::Text => push_lines(text, mode.summaries, program, outcomes, found, marks),
+        Format::Json => push_object(text, mode.summaries, program, outcomes, found, marks),
     }
 }
 

@@ -63,6 +63,13 @@ const LONG_FILES: &[Case] = &[
     },
 ];
 
+/// One file more than are read: their names are counted before the first is read, which would fail.
+const MANY_FILES: Case = Case {
+    folder_fails: &[2],
+    text: b"refused too many files 4097\n",
+    ..REFUSED
+};
+
 /// How many writes of one byte, from the first, each end a run with what was written before where they fail.
 fn failing_writes_that_hold<R: Threads + Wait + Sync>(
     rt: &R,
@@ -139,5 +146,14 @@ fn no_read_behind_too_many_bytes(rt: HostRuntime) -> Result<(), Fail> {
     let bytes = vec![in alloc; b' '; MAX_FILE_BYTES]?;
     let files = files(alloc, names.as_slice(), bytes.as_slice())?;
     assert!(rt; held_over(&rt, alloc, files.as_slice(), LONG_FILES)? == LONG_FILES.len());
+    Ok(())
+}
+
+#[test]
+fn no_read_behind_too_many_files(rt: HostRuntime) -> Result<(), Fail> {
+    let alloc = rt.alloc();
+    let names = names(alloc, 4097)?;
+    let files = files(alloc, names.as_slice(), b"class A { }")?;
+    assert!(rt; held_over(&rt, alloc, files.as_slice(), &[MANY_FILES])? == 1);
     Ok(())
 }

@@ -4,7 +4,7 @@ ghost use Rattle.racer_memory.specs.MemoryFolder.{faults_of};
 ghost use Rattle.racer_memory.specs.MemorySink as sinks;
 
 use super::*;
-use racer_base::Gate;
+use racer_base::{Gate, Memory, Text};
 use racer_memory::{MemoryFolder, MemorySink};
 use std::alloc::Global;
 use std::sync::Wait;
@@ -196,6 +196,36 @@ const SOURCES: &[Case] = &[
         ..DINNER
     },
     Case {
+        words: &["src", "--summaries"],
+        text: b"racer report 1\nfiles 1 classes 1 methods 3\n\
+          summary Dinner.<new>/0\n result this\n\
+          summary Dinner.makeDinner/0\n write this.mTemperature at 5:5\n wobbly this.mTemperature\n result unnamed\n\
+          summary Dinner.boilWater/0\n write this.mTemperature at 8:5\n wobbly this.mTemperature\n result unnamed\n\
+          warning Dinner.makeDinner/0 write this.mTemperature\n at Dinner.java:5:5\n at Dinner.java:8:5\n\
+          \x20with Dinner.makeDinner/0 write this.mTemperature\n at Dinner.java:5:5\n at Dinner.java:8:5\n\
+          \x20mark confirmed\n first 0 turns - steps 4\n second 1 turns - steps 4\nwarnings 1 confirmed 1\n",
+        ..DINNER
+    },
+    Case {
+        words: &["src", "--summaries", "--json"],
+        text: b"{\"classes\":1,\"files\":1,\"methods\":3,\"not_analysed\":[],\"profile\":1,\"skipped\":[],\
+          \"summaries\":[{\"accesses\":[],\"method\":\"Dinner.<new>/0\",\"result\":\"this\",\
+          \"wobbly\":[]},{\"accesses\":[\"write this.mTemperature at 5:5\"],\
+          \"method\":\"Dinner.makeDinner/0\",\"result\":\"unnamed\",\
+          \"wobbly\":[\"this.mTemperature\"]},{\"accesses\":[\"write this.mTemperature at 8:5\"],\
+          \"method\":\"Dinner.boilWater/0\",\"result\":\"unnamed\",\
+          \"wobbly\":[\"this.mTemperature\"]}],\"warnings\":[{\"at\":[\"Dinner.java:5:5\",\
+          \"Dinner.java:8:5\"],\"kind\":\"write\",\"locked\":false,\"main\":false,\
+          \"mark\":{\"witness\":{\"class\":\"Dinner\",\"entries\":[\"makeDinner/0\",\"makeDinner/0\"],\
+          \"legs\":[{\"steps\":4,\"thread\":0,\"turns\":\"\"},{\"steps\":4,\"thread\":1,\
+          \"turns\":\"\"}],\"objects\":[],\"version\":1},\"word\":\"confirmed\"},\
+          \"method\":\"Dinner.makeDinner/0\",\"path\":\"this.mTemperature\",\
+          \"with\":{\"at\":[\"Dinner.java:5:5\",\"Dinner.java:8:5\"],\"kind\":\"write\",\
+          \"locked\":false,\"main\":false,\"method\":\"Dinner.makeDinner/0\",\
+          \"path\":\"this.mTemperature\"}}]}\n",
+        ..DINNER
+    },
+    Case {
         words: &["src", "--workers", "1", "--history"],
         text: b"racer report 1\nfiles 1 classes 1 methods 3\n\
           warning Dinner.makeDinner/0 write this.mTemperature\n at Dinner.java:5:5\n at Dinner.java:8:5\n\
@@ -357,5 +387,25 @@ fn calls(rt: HostRuntime) -> Result<(), Fail> {
 #[test]
 fn sources(rt: HostRuntime) -> Result<(), Fail> {
     assert!(rt; held(&rt, rt.alloc(), SOURCES)? == SOURCES.len());
+    Ok(())
+}
+
+/// Texts that lie in themselves, and one that is too long for that.
+const TEXTS: &[&str] = &["", "short", "of sixteen bytes", "of seventeen byte"];
+
+/// How many texts are given back as strings, before the first that is not.
+fn given_back(alloc: Global, texts: &[&str]) -> Result<usize, Memory> {
+    for (i, text) in texts.iter().enumerate() {
+        let string = Text::from_str(alloc, text)?.into_string(alloc)?;
+        if string.as_str() != *text {
+            return Ok(i);
+        }
+    }
+    Ok(texts.len())
+}
+
+#[test]
+fn texts_are_given_back(rt: HostRuntime) -> Result<(), Fail> {
+    assert!(rt; matches!(given_back(rt.alloc(), TEXTS), Ok(4)));
     Ok(())
 }

@@ -2,7 +2,7 @@
 //! report depends on its workers.
 use super::*;
 use crate::gates::{Meeting, Watching};
-use crate::tests::{Case, PLAIN, called, held};
+use crate::tests::{Case, DINNER, PLAIN, called, held};
 use racer_memory::MemorySink;
 use std::alloc::Global;
 use std::str;
@@ -17,28 +17,17 @@ const TWO_METHODS: Case = Case {
     ..PLAIN
 };
 
-/// A class whose method makes another race.
-const DINNER: Case = Case {
-    files: &[(
-        "Dinner.java",
-        b"@ThreadSafe\npublic class Dinner {\n  private int mTemperature;\n  public void makeDinner() {\n\
-          \x20   boilWater();\n  }\n  private void boilWater() {\n    mTemperature = 100;\n  }\n}\n",
-    )],
-    status: Status::Warned,
-    text: DINNER_REPORT,
-    ..PLAIN
-};
-
-const DINNER_REPORT: &[u8] = b"racer report 1\nfiles 1 classes 1 methods 3\n\
-  warning Dinner.makeDinner/0 write this.mTemperature\n at Dinner.java:5:5\n at Dinner.java:8:5\n\
-  \x20with Dinner.makeDinner/0 write this.mTemperature\n at Dinner.java:5:5\n at Dinner.java:8:5\n\
-  \x20mark confirmed\n first 0 turns - steps 4\n second 1 turns - steps 4\nwarnings 1 confirmed 1\n";
-
-/// What one worker does with the methods of the dinner.
-const DINNER_HISTORY: &[u8] =
-    b"take 0 Dinner.<new>/0\npublish 0 Dinner.<new>/0\ntake 0 Dinner.makeDinner/0\n\
-  park 0 Dinner.makeDinner/0 Dinner.boilWater/0\ntake 0 Dinner.boilWater/0\npublish 0 Dinner.boilWater/0\n\
-  take 0 Dinner.makeDinner/0\npublish 0 Dinner.makeDinner/0\nleave 0\n";
+/// Runs of two workers whose history is not asked for.
+const MEETINGS: &[Case] = &[
+    Case {
+        words: &["src", "--workers", "2"],
+        ..TWO_METHODS
+    },
+    Case {
+        words: &["--made", "2", "--workers", "2"],
+        ..PLAIN
+    },
+];
 
 /// A realistic class, one of whose methods calls another.
 const STOCK: Case = Case {
@@ -160,6 +149,26 @@ const STOCK_REPORT: &[u8] = b"\
   \x20second 1 turns RRR steps 34\n\
   warnings 4 confirmed 4\n";
 
+/// What one worker does with its methods.
+const STOCK_HISTORY: &[u8] = b"\
+  take 0 Stock.<new>/1\n\
+  publish 0 Stock.<new>/1\n\
+  take 0 Stock.add/2\n\
+  park 0 Stock.add/2 Stock.noteChange/1\n\
+  take 0 Stock.noteChange/1\n\
+  publish 0 Stock.noteChange/1\n\
+  take 0 Stock.add/2\n\
+  publish 0 Stock.add/2\n\
+  take 0 Stock.total/0\n\
+  publish 0 Stock.total/0\n\
+  take 0 Stock.getLast/0\n\
+  publish 0 Stock.getLast/0\n\
+  take 0 Stock.getChanges/0\n\
+  publish 0 Stock.getChanges/0\n\
+  take 0 Stock.close/0\n\
+  publish 0 Stock.close/0\n\
+  leave 0\n";
+
 /// The lines of a text that say what this worker took and published, in order.
 fn worker_lines(alloc: Global, text: &[u8], worker: u32) -> Result<String, Fail> {
     let take = format!(in alloc; "take {worker} ")?;
@@ -193,6 +202,18 @@ fn workers_as_told(
     Ok(8)
 }
 
+/// How many of these runs have two workers that meet, before the first that has not.
+fn meetings<R: Threads + Wait + Sync>(rt: &R, alloc: Global, rows: &[Case]) -> Result<usize, Fail> {
+    for (i, row) in rows.iter().enumerate() {
+        let gate = Meeting::new(alloc)?;
+        let (_status, _sink) = called(rt, alloc, row, &gate)?;
+        if !gate.met() {
+            return Ok(i);
+        }
+    }
+    Ok(rows.len())
+}
+
 #[test]
 fn two_workers_meet(rt: HostRuntime) -> Result<(), Fail> {
     let gate = Meeting::new(rt.alloc())?;
@@ -200,6 +221,7 @@ fn two_workers_meet(rt: HostRuntime) -> Result<(), Fail> {
     assert!(rt; gate.met());
     let names = ["A.<new>/0", "A.f/0"];
     assert!(rt; workers_as_told(rt.alloc(), &gate.watching, sink.taken(), &names)? == 8);
+    assert!(rt; meetings(&rt, rt.alloc(), MEETINGS)? == MEETINGS.len());
     Ok(())
 }
 
@@ -239,13 +261,13 @@ fn histories_are_what_came_about(rt: HostRuntime) -> Result<(), Fail> {
     Ok(())
 }
 
-/// What a run with these words writes of the dinner.
-fn dinner<R: Threads + Wait + Sync>(
+/// What a run with these words writes of the realistic class.
+fn stock<R: Threads + Wait + Sync>(
     rt: &R,
     alloc: Global,
     words: &[&str],
 ) -> Result<MemorySink, Fail> {
-    let row = Case { words, ..DINNER };
+    let row = Case { words, ..STOCK };
     let (_status, sink) = called(rt, alloc, &row, &OpenGate)?;
     Ok(sink)
 }
@@ -253,11 +275,11 @@ fn dinner<R: Threads + Wait + Sync>(
 #[test]
 fn history_of_one(rt: HostRuntime) -> Result<(), Fail> {
     let words = ["src", "--workers", "1", "--history"];
-    let sink = dinner(&rt, rt.alloc(), &words)?;
-    assert!(rt; sink.taken().strip_prefix(DINNER_REPORT) == Some(DINNER_HISTORY));
+    let sink = stock(&rt, rt.alloc(), &words)?;
+    assert!(rt; sink.taken().strip_prefix(STOCK_REPORT) == Some(STOCK_HISTORY));
     let words = ["src", "--workers", "1", "--history", "--json"];
-    let json = dinner(&rt, rt.alloc(), &words)?;
-    assert!(rt; json.taken().ends_with(DINNER_HISTORY));
+    let json = stock(&rt, rt.alloc(), &words)?;
+    assert!(rt; json.taken().ends_with(STOCK_HISTORY));
     assert!(rt; json.taken().starts_with(b"{\"classes\":1,\"files\":1,"));
     Ok(())
 }

@@ -5,7 +5,7 @@ ghost use Rattle.access_domain.specs.Outcomes.{AreOutcomes};
 use crate::page::Page;
 use access_domain::Outcomes;
 use core_code::Program;
-use race_report::Mode;
+use race_report_modes::{Format, Mode};
 use racer_base::{FolderFault, Memory};
 use racer_run::said_of;
 use std::alloc::Global;
@@ -18,14 +18,14 @@ fn put_report<R: Threads + Sync>(
     rt: &R,
     alloc: Global,
     page: &mut Page,
-    json: bool,
+    format: Format,
     program: &Program,
     outcomes: &Outcomes,
 )
     requires { AreOutcomes (core program.now) outcomes.now.items }
 {
     let mode = Mode {
-        json,
+        format,
         summaries: true,
     };
     match said_of(rt, alloc, mode, program, outcomes) {
@@ -43,7 +43,7 @@ pub fn put_reports<R: Threads + Sync>(
 ) -> Result<(), Memory> {
     let program = Arc::new(alloc, program)?;
     let outcomes = outcomes(alloc, &program)?;
-    put_report(rt, alloc, page, false, &*program, &outcomes);
-    put_report(rt, alloc, page, true, &*program, &outcomes);
+    put_report(rt, alloc, page, Format::Text, &*program, &outcomes);
+    put_report(rt, alloc, page, Format::Json, &*program, &outcomes);
     Ok(())
 }

@@ -13,7 +13,7 @@ use Rattle.racer_sources.specs.Programs.{Source, Accepted, IsProgram}
 use Rattle.racer_run.specs.declared.output.RunOutput.{RunOutput}
 use Rattle.racer_run.specs.declared.status.Status.{Status}
 use Rattle.racer_run.specs.declared.status.Status.TheVariants.{Clean}
-use Rattle.racer_run.specs.Words.{WantedReport, WantedReplay, Request, ReportOn, ReplayOf}
+use Rattle.racer_words.specs.Words.{WantedReport, WantedReplay, Request, ReportOn, ReplayOf}
 use Rattle.racer_run.specs.RunOutputs.{HasReplays, SaysReport}
 use Rattle.racer_run.specs.Replays.{IsReplaySaid, SaysReplay, file_said, json_of, json_said, not_a_witness, replay_said}
 use Rattle.racer_run.specs.Replays.{verdict_said}

@@ -23,7 +23,7 @@ use Rattle.witness_text.specs.declared.verdict.Verdict.{Verdict}
 use Rattle.witness_text.specs.declared.verdict.Verdict.TheVariants.{Races, NoSuchEntry, NoSuchObject, StopsAt, NoConflict}
 use Rattle.racer_run.specs.Replays.{SaysReplay, file_said, json_of, json_said, not_a_witness, replay_said, verdict_said}
 use Rattle.racer_run.specs.Statuses.{is_replay_status}
-use Rattle.racer_run.specs.Words.{WantedReplay}
+use Rattle.racer_words.specs.Words.{WantedReplay}
 
 pub json-of : (bytes : List ℕ) (d : Data) → IsJson bytes d → json_of bytes ≡ Some d
 json-of bytes d json =

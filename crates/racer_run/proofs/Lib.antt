@@ -1,7 +1,6 @@
 mod Written
 mod OneStatus
 mod OneReport
-mod Ranges
 mod Tails
 mod JsonBytes
 mod CutWitnesses

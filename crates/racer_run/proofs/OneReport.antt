@@ -7,7 +7,7 @@ use Rattle.racer_sources.specs.Programs.{Source, Refusal, Accepted}
 use Rattle.racer_run.specs.declared.output.RunOutput.{RunOutput}
 use Rattle.racer_run.specs.declared.status.Status.{Status}
 use Rattle.racer_run.specs.declared.status.Status.TheVariants.{Memory}
-use Rattle.racer_run.specs.Words.{WantedReport, Request, ReportOn, ReplayOf, MadeOf, request_of}
+use Rattle.racer_words.specs.Words.{WantedReport, Request, ReportOn, ReplayOf, MadeOf, request_of}
 use Rattle.racer_run.specs.RunOutputs.{IsBehind, IsTail, SaysReport, said_from}
 use Rattle.racer_run.specs.Causes.{Invocation, Wrote, IsAnswer, IsCause, IsWhole, IsWholeAnswer}
 use Rattle.racer_run.specs.Reports.{AsksNoHistory, WroteOneReport}

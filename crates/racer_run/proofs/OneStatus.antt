@@ -4,14 +4,14 @@ use Rattle.std.proofs.Common.{sym, ap, subst, ◌∙◌, arith}
 use Rattle.std.specs.Option.{IfSome}
 use Rattle.core_code.specs.Core.{Core}
 use Rattle.racer_base.specs.Outside.{Told, Files}
-use Rattle.race_report.specs.declared.mode.Mode.{Mode}
+use Rattle.race_report_modes.specs.declared.Mode.{Mode}
 use Rattle.racer_sources.specs.OneReading.{OneSource}
 use Rattle.racer_sources.specs.Programs.{Source, Refusal, Accepted}
 use Rattle.racer_run.specs.declared.output.RunOutput.{RunOutput}
 use Rattle.racer_run.specs.declared.status.Status.{Status}
 use Rattle.racer_run.specs.declared.status.Status.TheVariants.{Clean, Warned, Usage, FolderFault, SinkFault, Refused}
 use Rattle.racer_run.specs.declared.status.Status.TheVariants.{Memory, NoRace, NotAWitness}
-use Rattle.racer_run.specs.Words.{WantedReport, WantedReplay, WantedMade, Request, ReportOn, ReplayOf, MadeOf, request_of}
+use Rattle.racer_words.specs.Words.{WantedReport, WantedReplay, WantedMade, Request, ReportOn, ReplayOf, MadeOf, request_of}
 use Rattle.racer_run.specs.RunOutputs.{SaysReport, said_from, usage_text}
 use Rattle.racer_run.specs.Replays.{IsReplaySaid, SaysReplay, replay_said}
 use Rattle.racer_run.specs.Made.{SaysMade, made_files, made_said}

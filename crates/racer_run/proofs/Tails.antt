@@ -10,8 +10,8 @@ use Rattle.summary_store.specs.Setups.{setup_of}
 use Rattle.racer_run_history.specs.History.{history_text}
 use Rattle.racer_run.specs.declared.output.RunOutput.{RunOutput}
 use Rattle.racer_run.specs.RunOutputs.{said_from, with_tail, IsTail}
-use Rattle.racer_run.specs.Requests.{lines_of, IsSaidWith}
-use Rattle.racer_run.specs.Words.{WantedReport}
+use Rattle.racer_run.specs.Tails.{lines_of, IsSaidWith}
+use Rattle.racer_words.specs.Words.{WantedReport}
 
 -- nothing stands behind
 pub no_tail : (said : RunOutput) → said ≡ with_tail said []

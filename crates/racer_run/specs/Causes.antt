@@ -8,7 +8,8 @@ use Rattle.racer_run.specs.declared.output.RunOutput.{RunOutput}
 use Rattle.racer_run.specs.declared.status.Status.{Status}
 use Rattle.racer_run.specs.declared.status.Status.TheVariants.{Clean, Warned, Usage, FolderFault, SinkFault, Refused}
 use Rattle.racer_run.specs.declared.status.Status.TheVariants.{Memory, NoRace, NotAWitness}
-use Rattle.racer_run.specs.Words.{Request, ReportOn, ReplayOf, MadeOf, request_of, is_on_folder}
+use Rattle.racer_words.specs.Words.{Request, ReportOn, ReplayOf, MadeOf, request_of}
+use Rattle.racer_run.specs.Requests.{is_on_folder}
 use Rattle.racer_run.specs.RunOutputs.{usage_text, fault_text, SaysReport}
 use Rattle.racer_run.specs.Replays.{SaysReplay}
 use Rattle.racer_run.specs.Made.{SaysMade}

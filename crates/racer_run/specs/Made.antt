@@ -9,7 +9,7 @@ use Rattle.folder_maker.specs.Folders as maker
 use Rattle.racer_sources.specs.Programs.{IsProgram}
 use Rattle.racer_run.specs.declared.output.RunOutput.{RunOutput}
 use Rattle.racer_run.specs.RunOutputs.{report_status}
-use Rattle.racer_run.specs.Words.{WantedMade}
+use Rattle.racer_words.specs.Words.{WantedMade}
 
 -- the files of a made folder, by its number alone
 abbrev pub made_files : ℕ → Files

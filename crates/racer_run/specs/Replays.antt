@@ -18,7 +18,7 @@ use Rattle.witness_text.specs.declared.verdict.Verdict.TheVariants.{Races, NoSuc
 use Rattle.racer_run.specs.declared.output.RunOutput.{RunOutput}
 use Rattle.racer_run.specs.declared.status.Status.{Status}
 use Rattle.racer_run.specs.declared.status.Status.TheVariants.{Clean, Refused, NoRace, NotAWitness}
-use Rattle.racer_run.specs.Words.{WantedReplay}
+use Rattle.racer_words.specs.Words.{WantedReplay}
 
 -- a replay is clean where the threads race
 abbrev pub verdict_status : Verdict → Status

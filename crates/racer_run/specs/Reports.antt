@@ -2,7 +2,7 @@
 use Rattle.std.specs.Prelude.{◌≡◌, ℕ, false, List, ◌++◌, Some}
 use Rattle.racer_base.specs.Outside.{Files, taken_and}
 use Rattle.racer_sources.specs.Programs.{Source, IsSource}
-use Rattle.racer_run.specs.Words.{WantedReport, ReportOn, request_of}
+use Rattle.racer_words.specs.Words.{WantedReport, ReportOn, request_of}
 use Rattle.racer_run.specs.RunOutputs.{said_from, IsBehind}
 use Rattle.racer_run.specs.Causes.{Wrote}
 

@@ -4,7 +4,7 @@ use Rattle.racer_base.specs.Outside.{Files}
 use Rattle.core_code.specs.Core.{Core}
 use Rattle.race_pairs.specs.declared.warning.Warning.{Warning}
 use Rattle.race_pairs.specs.Warnings.{warnings}
-use Rattle.race_report.specs.declared.mode.Mode.{Mode}
+use Rattle.race_report_modes.specs.declared.Mode.{Mode}
 use Rattle.race_report.specs.Modes.{report}
 use Rattle.witness_build_laws.specs.Headline.{AreConfirmed}
 use Rattle.witness_text.specs.Replaying.{DoWitnessesReplay}
@@ -16,7 +16,7 @@ use Rattle.racer_run_history.specs.History.{history_text}
 use Rattle.racer_run.specs.declared.output.RunOutput.{RunOutput}
 use Rattle.racer_run.specs.declared.status.Status.{Status}
 use Rattle.racer_run.specs.declared.status.Status.TheVariants.{Clean, Warned, Refused}
-use Rattle.racer_run.specs.Words.{WantedReport}
+use Rattle.racer_words.specs.Words.{WantedReport}
 
 abbrev pub usage_text : List ℕ
 usage_text =

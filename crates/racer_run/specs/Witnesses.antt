@@ -18,7 +18,7 @@ use Rattle.racer_sources.specs.Sources.{source_names, contents}
 use Rattle.racer_sources.specs.Programs.{Accepted, IsSource}
 use Rattle.racer_run.specs.declared.status.Status.{Status}
 use Rattle.racer_run.specs.declared.status.Status.TheVariants.{Memory}
-use Rattle.racer_run.specs.Words.{Request, request_of}
+use Rattle.racer_words.specs.Words.{Request, request_of}
 use Rattle.racer_run.specs.Causes.{Invocation, Wrote, IsCause, IsFor}
 
 -- a call that makes this request of a folder that tells this; nothing failed, and memory was not refused

@@ -2,17 +2,17 @@
 ghost use Rattle.std.specs.Prelude.{◌≡◌, ◌≢◌, ◌<◌, IfErr, IfOk, IfSome, OnOk, map, string_bytes, true, false};
 ghost use Rattle.racer_base.specs.Outside.{last_count};
 ghost use Rattle.racer_sources.specs.Finding.{CountsFaults, FailsByMemory};
+ghost use Rattle.racer_words.specs.Requests.{seen};
 ghost use Rattle.racer_run.specs.Causes.{asked_of, is_said_to, AsksFor, IsDue, IsEntered, IsFor, Says};
-ghost use Rattle.racer_run.specs.Requests.{seen};
-ghost use Rattle.racer_run.specs.Words.{is_on_folder, LeavesFolder};
+ghost use Rattle.racer_run.specs.Requests.{is_on_folder, LeavesFolder};
 
 use crate::made::reported_on_made;
 use crate::output::{RunOutput, line};
 use crate::replays::replayed_on;
 use crate::reports::reported_on;
-use crate::request::{Request, requested};
 use crate::status::Status;
 use racer_base::{Folder, FolderFault, Gate, Memory};
+use racer_words::{Request, read_words};
 use std::alloc::Global;
 use std::sync::Wait;
 use std::thread::Threads;
@@ -60,7 +60,7 @@ pub fn what_to_say<R: Threads + Wait + Sync, F: Folder, G: Gate + Sync>(
         AsksFor words.now told → IfOk result (λ said. said.status ≢ Status.FolderFault)) }
     ensures left { LeavesFolder (map string_bytes words.now) → folder.new ≡ folder.old }
 {
-    let Some(request) = requested(alloc, words)? else {
+    let Some(request) = read_words(alloc, words)? else {
         return line(alloc, Status::Usage, USAGE);
     };
     match answered(rt, alloc, folder, &request, gate) {

@@ -3,7 +3,7 @@ ghost use Rattle.std.specs.Prelude.{◌≡◌, ◌≢◌, ℕ, List, Some, codes
 ghost use Rattle.racer_base.specs.Outside.{Told};
 ghost use Rattle.racer_run.specs.declared.status.Status.{Status};
 ghost use Rattle.racer_run.specs.declared.status.Status.TheVariants.{Clean, Memory};
-ghost use Rattle.racer_run.specs.Words.{WantedReport, WantedReplay, ReportOn, ReplayOf, request_of};
+ghost use Rattle.racer_words.specs.Words.{WantedReport, WantedReplay, ReportOn, ReplayOf, request_of};
 ghost use Rattle.racer_run.specs.Witnesses.{IsCall, IsCutOut};
 ghost use Rattle.racer_run.specs.Causes.{Invocation, Wrote, IsCause, IsWhole};
 ghost use Rattle.racer_run.specs.Reports.{AsksNoHistory, WroteOneReport};

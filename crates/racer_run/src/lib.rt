@@ -11,9 +11,7 @@ mod made;
 mod output;
 mod replays;
 mod reports;
-mod request;
 mod status;
-mod wanted;
 mod whole_run;
 mod writing;
 

@@ -2,7 +2,7 @@
 ghost use Rattle.std.specs.Prelude.{◌≡◌, ◌≢◌, ◌<◌, IfSome, map, string_bytes};
 ghost use Rattle.racer_base.specs.Outside.{last_count};
 ghost use Rattle.racer_run.specs.Causes.{asked_of, wrote_of, AsksFor, IsRoomFor, IsCause, IsComplete};
-ghost use Rattle.racer_run.specs.Words.{LeavesFolder};
+ghost use Rattle.racer_run.specs.Requests.{LeavesFolder};
 
 use crate::answers::what_to_say;
 use crate::status::Status;

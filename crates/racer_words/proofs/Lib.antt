@@ -11,3 +11,4 @@ pub mod GivenLines
 pub mod Texts
 pub mod AddedRules
 pub mod Answered
+pub mod NotZero

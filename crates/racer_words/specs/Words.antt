@@ -4,13 +4,33 @@ use Rattle.std.specs.Prelude.{None, Some, length, fold, codes, bytes_eq, nat_le,
 use Rattle.std.specs.Prelude.{option_and_then}
 use Rattle.std.specs.List.{list_all, list_any}
 use Rattle.racer_base.specs.declared.limits.TheConstants.{MAX_WORKERS}
+use Rattle.race_report_modes.specs.declared.Format.{Format}
+use Rattle.race_report_modes.specs.declared.Format.TheVariants.{Text, Json as AsJson}
+use Rattle.race_report_modes.specs.declared.Mode.{Mode}
 use Rattle.racer_words.specs.Uses.{Word, Line, Label, Folder, Workers, Json, Summaries, History, labels, name_of, line}
 use Rattle.racer_words.specs.Uses.{Replay as LabelReplay, Made as LabelMade}
 
-pub data Asked : Type 0 where
-  Report : (folder : Word) → (workers : ℕ) → (json summaries history : Bool) → Asked
-  Replay : (folder witness : Word) → Asked
-  Made : (count workers : ℕ) → Asked
+-- a report on the folder of this name, by so many workers, with their history or without
+pub record WantedReport : Type 0 where
+  pub folder : Word
+  pub mode : Mode
+  pub workers : ℕ
+  pub history : Bool
+
+-- the replay of the witness in this file of the folder of this name
+pub record WantedReplay : Type 0 where
+  pub folder : Word
+  pub witness : Word
+
+-- a report in numbers on a folder made of so many classes, by so many workers
+pub record WantedMade : Type 0 where
+  pub number : ℕ
+  pub workers : ℕ
+
+pub data Request : Type 0 where
+  ReportOn : WantedReport → Request
+  ReplayOf : WantedReplay → Request
+  MadeOf : WantedMade → Request
 
 -- a name of a folder or a file
 abbrev pub is_name : Word → Bool
@@ -75,29 +95,42 @@ stands_right line = list_all (is_right line) (Folder ∷ labels)
 
 -- ---- what is asked for
 
+abbrev pub format_of : Bool → Format
+format_of json = if json then AsJson else Text
+
+abbrev pub mode_of : Line → Mode
+mode_of line = record { format = format_of line.json; summaries = line.summaries }
+
+abbrev pub report_by : Line → Word → ℕ → Request
+report_by line folder workers =
+    ReportOn (record { folder = folder; mode = mode_of line; workers = workers; history = line.history })
+
 -- a report on the folder
-abbrev pub report : Line → Word → Option Asked
-report line folder = if is_name folder
-    then option_map (λ n. Report folder n line.json line.summaries line.history) (workers_of line.workers) else None
+abbrev pub report : Line → Word → Option Request
+report line folder = if is_name folder then option_map (report_by line folder) (workers_of line.workers) else None
 
 -- the replay of a witness of the folder
-abbrev pub replay : Word → Word → Option Asked
-replay folder witness = if is_name folder && is_name witness then Some (Replay folder witness) else None
+abbrev pub replay : Word → Word → Option Request
+replay folder witness =
+    if is_name folder && is_name witness then Some (ReplayOf (record { folder = folder; witness = witness })) else None
+
+abbrev pub made_by : ℕ → ℕ → Request
+made_by number workers = MadeOf (record { number = number; workers = workers })
 
 -- a folder made of so many classes
-abbrev pub made : Line → Word → Option Asked
-made line count = option_and_then (λ n. option_map (Made n) (workers_of line.workers)) (up_to 800 count)
+abbrev pub made : Line → Word → Option Request
+made line count = option_and_then (λ n. option_map (made_by n) (workers_of line.workers)) (up_to 800 count)
 
 -- what a line of this form asks for
-abbrev pub asked_as : Form → Line → Option Asked
+abbrev pub asked_as : Form → Line → Option Request
 asked_as ForReport line = option_and_then (report line) line.folder
 asked_as ForReplay line =
     option_and_then (λ folder. option_and_then (replay folder) line.replay) line.folder
 asked_as ForMade line = option_and_then (made line) line.made
 
-abbrev pub asked_by : Line → Option Asked
+abbrev pub asked_by : Line → Option Request
 asked_by line = if stands_right line then asked_as (form_of line) line else None
 
 -- what the words ask for, if they are those of a command line
-abbrev pub asked : List Word → Option Asked
-asked words = option_and_then asked_by (line words)
+abbrev pub request_of : List Word → Option Request
+request_of words = option_and_then asked_by (line words)

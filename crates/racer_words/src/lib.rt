@@ -14,4 +14,4 @@ mod read;
 mod request;
 
 pub use read::read_words;
-pub use request::{MadeRequest, ReplayRequest, ReportRequest, Request};
+pub use request::{Request, WantedMade, WantedReplay, WantedReport};

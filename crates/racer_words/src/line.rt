@@ -4,9 +4,11 @@ ghost use Rattle.racer_words.specs.Uses.{line};
 ghost use Rattle.clap.specs.Matches.{found_of};
 ghost use Rattle.clap.specs.Walk.{rows_of};
 ghost use Rattle.racer_words.specs.Lines.{IsOf, line_view};
+ghost use Rattle.racer_words.specs.Words.{mode_of};
 
 use crate::command::matched;
 use clap::ArgMatches;
+use race_report_modes::{Format, Mode};
 use racer_base::Memory;
 use std::alloc::Global;
 
@@ -20,6 +22,22 @@ pub struct GivenLine<'a> {
     pub json: bool,
     pub summaries: bool,
     pub history: bool,
+}
+
+impl GivenLine<'_> {
+    /// How the report is to be written.
+    pub fn mode(&self) -> Mode
+        ensures { result ≡ mode_of (line_view self.now) }
+    {
+        Mode {
+            format: if self.json {
+                Format::Json
+            } else {
+                Format::Text
+            },
+            summaries: self.summaries,
+        }
+    }
 }
 
 fn line_of<'a>(matches: &ArgMatches<'a>) -> GivenLine<'a>

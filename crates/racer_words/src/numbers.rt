@@ -1,5 +1,5 @@
 //! Numbers on a command line: one to three decimal digits without a leading zero.
-ghost use Rattle.std.specs.Prelude.{◌≡◌, ◌≤◌, ◌-◌, length, option_map};
+ghost use Rattle.std.specs.Prelude.{◌≡◌, ◌<◌, ◌≤◌, ◌-◌, length, option_map, IfSome};
 ghost use Rattle.std.specs.List.{list_all};
 ghost use Rattle.racer_words.specs.Words.{is_digit, is_number, number, up_to, workers_of};
 
@@ -57,9 +57,11 @@ fn number(bytes: &[u8]) -> u32
     }
 }
 
-/// The number that a word is, where it is at most this one.
+/// The number that a word is, where it is at most this one. No number is 0.
+#[tactic(auto, using(crate::proofs::NotZero::some_number))]
 fn up_to(most: u32, word: &str) -> Option<u32>
-    ensures { result ≡ up_to most word.now }
+    ensures is { result ≡ up_to most word.now }
+    ensures in_range { IfSome result (λ n. (0 < n) × (n ≤ most)) }
 {
     let bytes = word.as_bytes();
     if !is_number(bytes) {
@@ -71,7 +73,8 @@ fn up_to(most: u32, word: &str) -> Option<u32>
 
 /// The number of workers that the line names, or 4.
 pub fn workers_of(word: Option<&str>) -> Option<u32>
-    ensures { result ≡ workers_of (option_map (λ s. s.now) word.entry) }
+    ensures is { result ≡ workers_of (option_map (λ s. s.now) word.entry) }
+    ensures in_range { IfSome result (λ n. (0 < n) × (n ≤ 64)) }
 {
     match word {
         Some(word) => up_to(MAX_WORKERS, word),
@@ -81,7 +84,8 @@ pub fn workers_of(word: Option<&str>) -> Option<u32>
 
 /// The number of made files that a word names.
 pub fn made_of(word: &str) -> Option<u32>
-    ensures { result ≡ up_to 800 word.now }
+    ensures is { result ≡ up_to 800 word.now }
+    ensures most { IfSome result (λ n. n ≤ 800) }
 {
     up_to(MOST_MADE, word)
 }

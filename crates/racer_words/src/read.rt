@@ -1,14 +1,14 @@
 //! What is asked for by what stands on the line.
 ghost use Rattle.std.specs.Prelude.{◌≡◌, map, string_bytes, option_map, IfOk};
 ghost use Rattle.racer_words.specs.Lines.{line_view};
-ghost use Rattle.racer_words.specs.Requests.{asked_of};
+ghost use Rattle.racer_words.specs.Requests.{seen};
 ghost use Rattle.racer_words.specs.Forms.{form_view};
-ghost use Rattle.racer_words.specs.Words.{asked, asked_as, asked_by, is_name, report, replay, made};
+ghost use Rattle.racer_words.specs.Words.{asked_as, asked_by, is_name, report, replay, made, request_of};
 
 use crate::forms::{Form, form_of, stands_right};
 use crate::line::{GivenLine, given_line};
 use crate::numbers::{made_of, workers_of};
-use crate::request::{MadeRequest, ReplayRequest, ReportRequest, Request};
+use crate::request::{Request, WantedMade, WantedReplay, WantedReport};
 use racer_base::{Memory, Text};
 use std::alloc::Global;
 
@@ -20,7 +20,7 @@ fn is_name(word: &str) -> bool
 
 /// A report on the folder.
 fn report(alloc: Global, folder: &str, line: &GivenLine<'_>) -> Result<Option<Request>, Memory>
-    ensures { IfOk result (λ r. option_map asked_of r ≡ report (line_view line.now) folder.now) }
+    ensures { IfOk result (λ r. option_map seen r ≡ report (line_view line.now) folder.now) }
 {
     if !is_name(folder) {
         return Ok(None);
@@ -28,39 +28,38 @@ fn report(alloc: Global, folder: &str, line: &GivenLine<'_>) -> Result<Option<Re
     let Some(workers) = workers_of(line.workers) else {
         return Ok(None);
     };
-    Ok(Some(Request::Report(ReportRequest {
+    Ok(Some(Request::ReportOn(WantedReport {
         folder: Text::from_str(alloc, folder)?,
+        mode: line.mode(),
         workers,
-        json: line.json,
-        summaries: line.summaries,
         history: line.history,
     })))
 }
 
 /// The replay of a witness of the folder.
 fn replay(alloc: Global, folder: &str, witness: &str) -> Result<Option<Request>, Memory>
-    ensures { IfOk result (λ r. option_map asked_of r ≡ replay folder.now witness.now) }
+    ensures { IfOk result (λ r. option_map seen r ≡ replay folder.now witness.now) }
 {
     if !is_name(folder) || !is_name(witness) {
         return Ok(None);
     }
     let folder = Text::from_str(alloc, folder)?;
     let witness = Text::from_str(alloc, witness)?;
-    Ok(Some(Request::Replay(ReplayRequest { folder, witness })))
+    Ok(Some(Request::ReplayOf(WantedReplay { folder, witness })))
 }
 
 /// A folder made of so many classes.
 fn made(count: &str, line: &GivenLine<'_>) -> Option<Request>
-    ensures { option_map asked_of result ≡ made (line_view line.now) count.now }
+    ensures { option_map seen result ≡ made (line_view line.now) count.now }
 {
-    let count = made_of(count)?;
+    let number = made_of(count)?;
     let workers = workers_of(line.workers)?;
-    Some(Request::Made(MadeRequest { count, workers }))
+    Some(Request::MadeOf(WantedMade { number, workers }))
 }
 
 /// What a line of this form asks for.
 fn asked_as(alloc: Global, form: Form, line: &GivenLine<'_>) -> Result<Option<Request>, Memory>
-    ensures { IfOk result (λ r. option_map asked_of r ≡ asked_as (form_view form) (line_view line.now)) }
+    ensures { IfOk result (λ r. option_map seen r ≡ asked_as (form_view form) (line_view line.now)) }
 {
     match (form, line.folder, line.replay, line.made) {
         (Form::Report, Some(folder), _, _) => report(alloc, folder, line),
@@ -72,7 +71,7 @@ fn asked_as(alloc: Global, form: Form, line: &GivenLine<'_>) -> Result<Option<Re
 
 /// What the line asks for.
 fn asked_by(alloc: Global, line: &GivenLine<'_>) -> Result<Option<Request>, Memory>
-    ensures { IfOk result (λ r. option_map asked_of r ≡ asked_by (line_view line.now)) }
+    ensures { IfOk result (λ r. option_map seen r ≡ asked_by (line_view line.now)) }
 {
     if !stands_right(line) {
         return Ok(None);
@@ -84,7 +83,7 @@ fn asked_by(alloc: Global, line: &GivenLine<'_>) -> Result<Option<Request>, Memo
 /// `--workers N`, `--json`, `--summaries`, `--history` in any order; `FOLDER --replay NAME`; or `--made N`, with
 /// `--workers N`. A value may also stand behind `=`, and behind `--` a word that begins with a minus sign is a folder.
 pub fn read_words(alloc: Global, words: &[String]) -> Result<Option<Request>, Memory>
-    ensures { IfOk result (λ r. option_map asked_of r ≡ asked (map string_bytes words.now)) }
+    ensures { IfOk result (λ r. option_map seen r ≡ request_of (map string_bytes words.now)) }
 {
     match given_line(alloc, words)? {
         Some(line) => asked_by(alloc, &line),

@@ -1,37 +1,39 @@
 //! What can be asked for.
+ghost use Rattle.std.specs.Prelude.{◌<◌, ◌≤◌};
+
+use race_report_modes::Mode;
 use racer_base::Text;
 
 /// What the words of a command line ask for.
 #[derive(Drop)]
 pub enum Request {
-    /// A report on the sources of a folder.
-    Report(ReportRequest),
-    /// The replay of a witness.
-    Replay(ReplayRequest),
-    /// A report on a made folder.
-    Made(MadeRequest),
+    ReportOn(WantedReport),
+    ReplayOf(WantedReplay),
+    MadeOf(WantedMade),
 }
 
-/// A report on the sources of a folder.
+/// A report on the folder of this name, by 1 to 64 workers, with their history or without.
 #[derive(Drop)]
-pub struct ReportRequest {
+pub struct WantedReport {
     pub folder: Text,
+    pub mode: Mode,
     pub workers: u32,
-    pub json: bool,
-    pub summaries: bool,
     pub history: bool,
+    pub ghost in_range: { (0 < workers) × (workers ≤ 64) },
 }
 
 /// The replay of a witness: the folder, and the name of the witness's file in it.
 #[derive(Drop)]
-pub struct ReplayRequest {
+pub struct WantedReplay {
     pub folder: Text,
     pub witness: Text,
 }
 
-/// A made folder, by the number of its files.
+/// A report in numbers on a folder made of up to 800 classes, by 1 to 64 workers.
 #[derive(Drop)]
-pub struct MadeRequest {
-    pub count: u32,
+pub struct WantedMade {
+    pub number: u32,
     pub workers: u32,
+    pub ghost most: { number ≤ 800 },
+    pub ghost in_range: { (0 < workers) × (workers ≤ 64) },
 }

@@ -1,14 +1,16 @@
-use Rattle.std.proofs.Common.{cond, sym, ap}
-use Rattle.serde_json.specs.Written.{compact_text}
+use Rattle.std.proofs.Common.{sym, ap}
 use Rattle.core_code.specs.Program.{core}
-use Rattle.race_report_parts.specs.Json.{report_value}
+use Rattle.race_report_modes.specs.declared.Format.{Format}
+use Rattle.race_report.specs.Modes.{formed}
 use Rattle.race_report_parts.proofs.PutChains.{same_piece}
-use Rattle.race_report_parts.specs.Report.{line, report_text}
 use Rattle.race_report.proofs.reports.push_report.Goals as goal
 
-pub returns-else-mode : goal.returns-else-mode
-returns-else-mode c =
-    let program = core c.args.program.now in
-    let object = line (compact_text (report_value c.args.mode.summaries program)) in
-    let lines = report_text c.args.mode.summaries program in
-    same_piece c.push_lines.ensures (sym (ap (λ json. cond json object lines) c.if-mode.false))
+pub returns-in-Text : goal.returns-in-Text
+returns-in-Text c =
+    same_piece c.push_lines.ensures
+    (sym (ap (λ (f : Format). formed f c.args.mode.summaries (core c.args.program.now)) c.in-Text.is))
+
+pub returns-in-Json : goal.returns-in-Json
+returns-in-Json c =
+    same_piece c.push_object.ensures
+    (sym (ap (λ (f : Format). formed f c.args.mode.summaries (core c.args.program.now)) c.in-Json.is))

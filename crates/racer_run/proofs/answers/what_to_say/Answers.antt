@@ -1,6 +1,6 @@
 use Rattle.std.proofs.Common.{option_map, rules, sym, ap, ◌∙◌}
 use Rattle.racer_run.specs.Causes.{asked_of}
-use Rattle.racer_run.specs.Requests.{seen}
+use Rattle.racer_words.specs.Requests.{seen}
 use Rattle.racer_run.proofs.OneStatus.{said_due}
 use Rattle.racer_run.proofs.answers.what_to_say.Goals as goal
 

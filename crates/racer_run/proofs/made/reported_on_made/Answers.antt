@@ -3,7 +3,7 @@ use Rattle.std.specs.Arc.{arc_value}
 use Rattle.core_code.specs.declared.program.Program.{Program}
 use Rattle.core_code.specs.Program.{core}
 use Rattle.racer_run.specs.Made.{SaysMade, made_said}
-use Rattle.racer_run.specs.Requests.{made_of}
+use Rattle.racer_words.specs.Requests.{made_of}
 use Rattle.racer_run.proofs.Tails.{if_ok}
 use Rattle.racer_run.proofs.made.reported_on_made.Goals as goal
 

@@ -7,7 +7,7 @@ use Rattle.core_code.specs.Program.{core}
 use Rattle.racer_sources.specs.declared.programs.FoundProgram.{FoundProgram}
 use Rattle.racer_sources.specs.Programs.{IsSource, source_of}
 use Rattle.racer_run.specs.Replays.{replay_said}
-use Rattle.racer_run.specs.Requests.{replay_of}
+use Rattle.racer_words.specs.Requests.{replay_of}
 use Rattle.racer_run.proofs.JsonBytes.{replay-says}
 use Rattle.racer_run.proofs.replays.replayed_on.Goals as goal
 

@@ -5,7 +5,8 @@ use Rattle.core_code.specs.Program.{core}
 use Rattle.racer_sources.specs.Programs.{Accepted}
 use Rattle.summary_store.specs.declared.machine.Event.{Event}
 use Rattle.racer_run.specs.RunOutputs.{said_from, with_tail}
-use Rattle.racer_run.specs.Requests.{lines_of, wanted_of}
+use Rattle.racer_words.specs.Requests.{wanted_of}
+use Rattle.racer_run.specs.Tails.{lines_of}
 use Rattle.racer_run.proofs.Tails.{with_lines}
 use Rattle.racer_run.proofs.reports.reported.Goals as goal
 
