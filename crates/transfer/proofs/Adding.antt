@@ -19,6 +19,7 @@ use Rattle.call_subst.proofs.SameSets.{any-append, any-same_set}
 use Rattle.transfer.specs.declared.found.Found.{Found}
 use Rattle.transfer.specs.Marks.{marks, paths_after, added}
 use Rattle.transfer.proofs.JoinedResults.{joined_result-none, lost_result-none, joined_result-assoc, lost_result-assoc}
+use Rattle.transfer.proofs.Bools.{or_false}
 
 abbrev is_among : Path → List Path → Bool
 is_among q = list_any (eq_by_cmp path_cmp q)
@@ -110,10 +111,6 @@ added-nothing found s = (λ i.
     (sym (joined_result-none found.result) i))
 
 -- ---- choices, and loops
-
-or_false : (t : Bool) → (t || false) ≡ t
-or_false true = refl
-or_false false = refl
 
 turned : (a l r : Bool) → ((a || r) || l) ≡ ((a || l) || r)
 turned true l r = refl

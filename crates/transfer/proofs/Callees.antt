@@ -33,7 +33,8 @@ use Rattle.transfer.specs.declared.noted_calls.NotedCall.{NotedCall}
 use Rattle.call_subst.proofs.SameSets.{from_list-items}
 use Rattle.transfer.specs.Known.{findings_in}
 use Rattle.transfer.specs.Marks.{marks, added, paths_after, is_many, IsNoted, IsStopped, IsMarked}
-use Rattle.transfer.specs.NotedCalls.{same_call, equal_of_same_call, call_records, call_names, passed_by, ArePresent, IsFound}
+use Rattle.transfer.specs.NotedCalls.{flags, flag-itself, same_call, equal_of_same_call, call_records, call_names}
+use Rattle.transfer.specs.NotedCalls.{passed_by, ArePresent, IsFound}
 use Rattle.transfer.specs.NotedCalls.{AreFound, PassingCall}
 use Rattle.transfer.specs.Numbered.{read_call, read_calls}
 use Rattle.transfer.specs.Walks.{IsFlow, call_marks}
@@ -42,27 +43,9 @@ use Rattle.transfer.proofs.EarlyEnds.{added_again}
 use Rattle.transfer.proofs.Flows.{parts-alike, marked-flow}
 use Rattle.transfer.proofs.JoinedResults.{joined_result-none, lost_result-none}
 use Rattle.transfer.proofs.Marking.{marked-then, marked-alike, stopped-first, stopped-alike}
+use Rattle.transfer.proofs.Bools.{or_true, both_true}
 
 -- ---- keys
-
-or_true : (b : Bool) → (b || true) ≡ true
-or_true true = refl
-or_true false = refl
-
-both_true : (a b : Bool) → (a && b) ≡ true → (a ≡ true) × (b ≡ true)
-both_true true true e = (refl, refl)
-both_true true false e = cc
-both_true false b e = cc
-
-flags : (a b : Bool) → same_flag a b ≡ true → a ≡ b
-flags true true e = refl
-flags true false e = cc
-flags false true e = cc
-flags false false e = refl
-
-flag-itself : (a : Bool) → same_flag a a ≡ true
-flag-itself true = refl
-flag-itself false = refl
 
 key-itself : (x : Access) → same_key x x ≡ true
 key-itself x =
@@ -216,7 +199,8 @@ absorbed w ps ns same =
 
 -- ---- what was found stays found
 
-found-kept : (g : FlowContext) (c : PassingCall) (old : Found) (e : Effects) → IsFound g c old → IsFound g c (added old e)
+found-kept : (g : FlowContext) (c : PassingCall) (old : Found) (e : Effects) → IsFound g c old → IsFound g c
+    (added old e)
 found-kept g c old e h = λ f known.
     let all = h f known in
     let names = call_names g c f.wobbly in
@@ -247,7 +231,8 @@ flow-found g calls here old new e r m h = marked-found g calls old new e r (mark
 -- ---- one more call
 
 pub found-among : (g : FlowContext) (table : List Path) (calls : List NotedCall) (c : NotedCall) (found : Found) →
-    list_any (same_call c) calls ≡ true → AreFound g (read_calls table calls) found → IsFound g (read_call table c) found
+    list_any (same_call c) calls ≡ true → AreFound g (read_calls table calls) found → IsFound g (read_call table c)
+    found
 found-among g table [] c found there h = cc
 found-among g table (x ∷ calls) c found there h =
     elim (same_call c x) as (λ b. same_call c x ≡ b → (b || list_any (same_call c) calls) ≡ true →

@@ -1,5 +1,6 @@
 -- Records and wobbly paths that are noted by their numbers are noted as what they are in a table.
-use Rattle.std.proofs.Common.{◌≡◌, ◌⊎◌, inl, inr, ℕ, ◌<◌, ◌≤◌, Bool, true, false, cond, List, [], ◌∷◌, ◌++◌, length, nat_eq}
+use Rattle.std.proofs.Common.{◌≡◌, ◌⊎◌, inl, inr, ℕ, ◌<◌, ◌≤◌, Bool, true, false, cond, List, [], ◌∷◌, ◌++◌, length}
+use Rattle.std.proofs.Common.{nat_eq}
 use Rattle.std.proofs.Common.{refl, sym, ap, subst, ◌∙◌, zero, suc, get_or, arith}
 use Rattle.std.proofs.lemmas.List.{length-map}
 use Rattle.std.specs.List.{list_any}
@@ -208,7 +209,8 @@ numbers-done table numbers i over old now whole leads =
 
 -- ---- records that are noted one after another
 
-pub numbered-at : (table : List Path) (records : List NumberedAccess) (i : ℕ) (d : NumberedAccess) → i < length records →
+pub numbered-at : (table : List Path) (records : List NumberedAccess) (i : ℕ) (d : NumberedAccess) →
+    i < length records →
     AreNumbered table records → (get_or records i d).path < length table
 numbered-at table [] i d within low = absurd (omega arith)
 numbered-at table (r ∷ rs) zero d within low = low.0
@@ -226,7 +228,8 @@ module _ (table : List Path) (records : List NumberedAccess) (i : ℕ) (d : Numb
         IsNoted now (marks (read_access table (get_or records i d) ∷ []) []) new →
         LeadsTo old whole new (marks (read_accesses table (drop (i + 1) records)) [])
     each-led old now new whole leads m =
-        records-led old whole now new (read_accesses table (drop i records)) (read_access table (get_or records i d) ∷ [])
+        records-led old whole now new (read_accesses table (drop i records))
+        (read_access table (get_or records i d) ∷ [])
         (read_accesses table (drop (i + 1) records)) first_record leads m
 
     pub each-ended : (old now last : Found) (whole : Effects) (stop : Stop) →

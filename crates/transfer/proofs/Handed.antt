@@ -1,5 +1,5 @@
 -- The outcomes of methods that are handed in.
-use Rattle.std.proofs.Common.{◌≡◌, ℕ, zero, suc, ◌+◌, ◌<◌, Bool, true, false, cond, ◌&&◌, ◌||◌}
+use Rattle.std.proofs.Common.{◌≡◌, ℕ, zero, suc, ◌+◌, ◌<◌, Bool, true, false, cond, ◌||◌}
 use Rattle.std.proofs.Common.{List, [], ◌∷◌, ◌++◌, Option, None, Some}
 use Rattle.std.proofs.Common.{refl, sym, ap, ◌∙◌, option_map, nat_eq, nat_lt, is_some, is_none}
 use Rattle.std.proofs.Common.{All, slice_get, get_or, map, length}
@@ -28,6 +28,7 @@ use Rattle.transfer.specs.Known.{known_in, callee_outcome, table_of}
 use Rattle.transfer.proofs.Callees.{held}
 use Rattle.core_code.proofs.RowCallees.{is_method, nat_eq-same, analysed_at}
 use Rattle.transfer.proofs.Tables.{outcome-agree}
+use Rattle.transfer.proofs.Bools.{both_true}
 
 -- ---- one more
 
@@ -101,15 +102,11 @@ outcome-right program (f ∷ fs) n same there =
 
 -- ---- the methods that a method calls
 
-pub both-true : (a b : Bool) → (a && b) ≡ true → (a ≡ true) × (b ≡ true)
-both-true true b e = (refl, e)
-both-true false b e = absurd cc
-
 all_any : (p : MethodId → Bool) (n : MethodId) (ms : List MethodId) → list_all p ms ≡ true →
     list_any (is_method n) ms ≡ true → p n ≡ true
 all_any p n [] all there = absurd cc
 all_any p n (m ∷ ms) all there =
-    let parts = both-true (p m) (list_all p ms) all in
+    let parts = both_true (p m) (list_all p ms) all in
     elim (nat_eq m.0 n.0) as (λ b. nat_eq m.0 n.0 ≡ b → (b || list_any (is_method n) ms) ≡ true → p n ≡ true) [
       | true ↦ λ e _. ap p (sym (nat_eq-same m n e)) ∙ parts.0
       | false ↦ λ _ k. all_any p n ms parts.1 k
@@ -120,11 +117,11 @@ numbered : (p : ℕ × Method → Bool) (k i : ℕ) (xs : List Method) (x : Meth
 numbered p k i [] x all is = absurd cc
 numbered p k zero (y ∷ xs) x all is =
     let same : y ≡ x = cc in
-    (λ j. p (add-zero k j, sym same j)) ∙ (both-true (p (k, y)) (list_all p (enumerate_from (k + 1) xs)) all).0
+    (λ j. p (add-zero k j, sym same j)) ∙ (both_true (p (k, y)) (list_all p (enumerate_from (k + 1) xs)) all).0
 numbered p k (suc i) (y ∷ xs) x all is =
     let one : k + suc i ≡ (k + 1) + i = omega arith in
     ap (λ (n : ℕ). p (n, x)) one
-    ∙ numbered p (k + 1) i xs x (both-true (p (k, y)) (list_all p (enumerate_from (k + 1) xs)) all).1 is
+    ∙ numbered p (k + 1) i xs x (both_true (p (k, y)) (list_all p (enumerate_from (k + 1) xs)) all).1 is
 
 no_status : (o : Option Reason) (b : Bool) → is_none o ≡ true → (is_some o || b) ≡ true → b ≡ true
 no_status None b e k = k

@@ -1,5 +1,6 @@
 -- The states in which loops were left, read through a table.
-use Rattle.std.proofs.Common.{◌≡◌, ℕ, zero, suc, ◌<◌, ◌+◌, arith, ◌&&◌, List, [], ◌∷◌, ◌++◌, Option, None, Some, option_map, length, replicate, refl, sym, ap, ◌∙◌}
+use Rattle.std.proofs.Common.{◌≡◌, ℕ, zero, suc, ◌<◌, ◌+◌, arith, ◌&&◌, List, [], ◌∷◌, ◌++◌, Option, None, Some}
+use Rattle.std.proofs.Common.{option_map, length, replicate, refl, sym, ap, ◌∙◌}
 use Rattle.std.specs.Prelude.{slice_index_or, slice_set}
 use Rattle.std.proofs.lemmas.List.{length-map}
 use Rattle.access_paths.specs.declared.path.Path.{Path}

@@ -1,5 +1,6 @@
 -- Where the stack is high enough for code it is so for its parts, and heads that are sound stay so from round to round.
-use Rattle.std.proofs.Common.{◌≡◌, ℕ, zero, suc, ◌+◌, ◌-◌, ◌≤◌, Bool, true, false, not, ◌&&◌, slice_get, List, [], ◌∷◌, ◌++◌, Option, None, Some, length, is_some, replicate, refl, sym, ap, subst, ◌∙◌, arith}
+use Rattle.std.proofs.Common.{◌≡◌, ℕ, zero, suc, ◌+◌, ◌-◌, ◌≤◌, Bool, true, false, slice_get, List, [], ◌∷◌, ◌++◌}
+use Rattle.std.proofs.Common.{Option, None, Some, length, is_some, replicate, refl, sym, ap, subst, ◌∙◌, arith}
 use Rattle.owner_domain.specs.declared.value.State.{State}
 use Rattle.core_code.specs.Tree.{LockAt, Tree, Seq, Choice, Loop, Sync}
 use Rattle.std.specs.List.{list_all}
@@ -10,7 +11,8 @@ use Rattle.access_domain.specs.Operations.{popped}
 use Rattle.access_domain.specs.Flow.{flow, rounds}
 use Rattle.transfer_loops.specs.Resuming.{Heads, resumed, loops, IsSound}
 use Rattle.transfer_loops.proofs.Resumed.{resumed-exact, sound-above, sound-first, round-above}
-use Rattle.transfer_loops.proofs.Heights.{IsSized, then_heights, either_heights, loop_heights, held_heights, flow-sized, sized_pop, sized_round, sized_rounds}
+use Rattle.transfer_loops.proofs.Heights.{IsSized, then_heights, either_heights, loop_heights, held_heights}
+use Rattle.transfer_loops.proofs.Heights.{flow-sized, sized_pop, sized_round, sized_rounds}
 use Rattle.transfer_loops.proofs.Monotone.{rounds-state}
 use Rattle.transfer_loops.specs.Order.{rounded}
 use Rattle.std.specs.Prelude.{Result, Ok, Err, OnOk}
@@ -19,6 +21,7 @@ use Rattle.transfer.specs.Resumes.{heads_in, AreLeft, IsResumed}
 use Rattle.transfer.specs.Walks.{next_of}
 use Rattle.transfer.specs.Heights.{IsHighEnough, AreSound}
 use Rattle.transfer_loops.specs.Rounds.{round_next, rounds_of}
+use Rattle.transfer.proofs.Bools.{both_true}
 
 pub some_of : (o : Option ℕ) → is_some o ≡ true → (m : ℕ) × (o ≡ Some m)
 some_of None e = cc
@@ -130,14 +133,6 @@ round_resumed g body locked s x end old new passed same m high sound =
     subst (λ (y : State). IsResumed g body locked 0 y end old new (Ok passed)) same m in
     let all = resumed_flow g body locked old new s high sound at.2 in (sym all.0 ∙ at.0, all.1)
 
-pub is_no : (b : Bool) → not b ≡ true → b ≡ false
-is_no true e = cc
-is_no false e = refl
-
-pub is_yes : (b : Bool) → not b ≡ false → b ≡ true
-is_yes true e = refl
-is_yes false e = cc
-
 pub on_ok_then : {X E : Type 0} (r : Result X E) (P Q : Type 0) → OnOk r P → (P → Q) → OnOk r Q
 on_ok_then (Ok x) P Q p f = f p
 on_ok_then (Err e) P Q p f = tt
@@ -156,11 +151,6 @@ one_more_none n = more n ∙ ap (λ k. replicate k (let o : Option State = None 
 -- code whose stacks are enough is so where it begins with nothing on the stack
 pub high_start : (code : Tree) (s : State) → s.stack ≡ [] → is_some (height_after code 0) ≡ true → IsHighEnough code s
 high_start code s none e = ap (λ xs. is_some (height_after code (length xs))) none ∙ e
-
-both_true : (a b : Bool) → (a && b) ≡ true → (a ≡ true) × (b ≡ true)
-both_true true true e = (refl, refl)
-both_true true false e = cc
-both_true false b e = cc
 
 -- of methods whose stacks are all enough, one that stands among them
 pub enough_at : (methods : List Method) (i : ℕ) (m : Method) → list_all is_stack_enough methods ≡ true →

@@ -10,6 +10,7 @@ use Rattle.owner_domain.specs.Values.{names_of, same_value, joined, lost}
 use Rattle.owner_domain.proofs.Joins.{joined-itself}
 use Rattle.access_domain.specs.Flow.{joined_result, lost_result}
 use Rattle.call_subst.proofs.SameSets.{any-append}
+use Rattle.transfer.proofs.Bools.{or_false}
 
 -- ---- joins
 
@@ -158,10 +159,6 @@ lost-assoc test a b c =
     ] refl
 
 -- ---- returned values
-
-or_false : (t : Bool) → (t || false) ≡ t
-or_false true = refl
-or_false false = refl
 
 pub joined_result-none : (a : Option Value) → joined_result a None ≡ a
 joined_result-none None = refl

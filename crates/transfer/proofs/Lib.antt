@@ -1,3 +1,5 @@
+pub mod PartsLeft
+pub mod Bools
 pub mod JoinedResults
 pub mod Adding
 pub mod Marking
@@ -16,6 +18,7 @@ pub mod NumberedRounds
 pub mod Callees
 pub mod CallsRead
 pub mod HeadsRead
+pub mod Noting
 pub mod WalkedNumbers
 pub mod ReadPaths
 pub mod FieldNumbers

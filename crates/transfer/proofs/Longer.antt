@@ -57,4 +57,5 @@ module _ (old new : List Path) (on : GoesOn old new) where
   -- the table goes on from an earlier one too
   pub on-then : {X E : Type 0} (first : List Path) (r : Result X E) → GoesOn first old → OnOk r (GoesOn old new) →
       OnOk r (GoesOn first new)
-  on-then first r before after = on_ok_then r (GoesOn old new) (GoesOn first new) after (goes_on-trans first old new before)
+  on-then first r before after =
+      on_ok_then r (GoesOn old new) (GoesOn first new) after (goes_on-trans first old new before)

@@ -26,12 +26,9 @@ use Rattle.transfer.specs.Marks.{IsMarked}
 use Rattle.transfer.proofs.JoinedResults.{joined_result-none, lost_result-none}
 use Rattle.transfer.proofs.Adding.{Alike, paths-both, added-both}
 use Rattle.transfer.proofs.Adding.{added-alike, paths_after-alike, added-nothing}
+use Rattle.transfer.proofs.Bools.{or_true}
 
 -- ---- tests
-
-or_true : (b : Bool) → (b || true) ≡ true
-or_true true = refl
-or_true false = refl
 
 no_or : (a b : Bool) → a ≡ false → b ≡ false → (a || b) ≡ false
 no_or true b h g = h

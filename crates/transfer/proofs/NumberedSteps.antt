@@ -29,7 +29,8 @@ use Rattle.access_domain.specs.declared.access.Access.{Access}
 use Rattle.access_domain.specs.declared.numbered.NumberedAccess.{NumberedAccess}
 use Rattle.access_domain.specs.FlowContext.{field_at}
 use Rattle.access_domain.specs.Numbered.{read_access}
-use Rattle.access_domain.specs.Operations.{Effects, op_effects, record_of, stored_paths, slot_of, top, popped, pushed, replaced, read_value as value_read}
+use Rattle.access_domain.specs.Operations.{Effects, op_effects, record_of, stored_paths, slot_of, top, popped, pushed}
+use Rattle.access_domain.specs.Operations.{replaced, read_value as value_read}
 use Rattle.access_domain.specs.Reached.{reached_path}
 use Rattle.transfer.specs.declared.found.Found.{Found}
 use Rattle.transfer.specs.declared.found.Stop.{Stop}
@@ -46,7 +47,8 @@ use Rattle.transfer.specs.Walks.{IsFlow, moved, next_of}
 use Rattle.transfer.proofs.Flows.{record-reached, slot-below, popped-twice, noted-parts, stopped-records, stopped-paths}
 use Rattle.owner_domain.proofs.Reading.{met-read, met-lost, met-in}
 use Rattle.transfer.proofs.Readings.{value-longer, range-longer, state-longer, state-still, found-longer}
-use Rattle.transfer.proofs.SlotsRead.{slot-in, top-read, popped-read, popped-in, replaced-read, set-read, set-in, lost-below}
+use Rattle.transfer.proofs.SlotsRead.{slot-in, top-read, popped-read, popped-in, replaced-read, set-read, set-in}
+use Rattle.transfer.proofs.SlotsRead.{lost-below}
 
 -- ---- through a longer table
 
@@ -116,10 +118,6 @@ field-of_unnamed table s v f is unnamed =
 
 -- ---- accesses
 
-pub by_not : (b : Bool) → not b ≡ false → b ≡ true
-by_not true e = refl
-by_not false e = cc
-
 module _ (context : MethodContext) (kind : Touch) (locked : Bool) (site : SiteId) (f : FieldId) where
   abbrev pub records_at : Bool → Option Path → List Access
   records_at recorded reached = cond recorded (elim reached as (λ _. List Access) [
@@ -134,6 +132,12 @@ module _ (context : MethodContext) (kind : Touch) (locked : Bool) (site : SiteId
   pub not-recorded : (v : Value) → (field_at (core context.program.now) f).recorded ≡ false →
       record_reached context kind locked site v f ≡ []
   not-recorded v e = ap (λ (b : Bool). records_at b (reached_path (core context.program.now) v f)) e
+
+  pub not-noted : (found : Found) (v : Value) → (field_at (core context.program.now) f).recorded ≡ false →
+      IsNoted found (marks (record_reached context kind locked site v f) []) found
+  not-noted found v e =
+      subst (λ (records : List Access). IsNoted found (marks records []) found) (sym (not-recorded v e))
+      ((noted-nothing found (record { vars = []; stack = [] })).0, refl)
 
   pub not-reached : (v : Value) → reached_path (core context.program.now) v f ≡ None →
       record_reached context kind locked site v f ≡ []

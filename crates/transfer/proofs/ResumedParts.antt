@@ -1,5 +1,6 @@
 -- Parts that are resumed one after another: where they end.
-use Rattle.std.proofs.Common.{◌≡◌, ℕ, ◌+◌, ◌≤◌, Bool, true, false, List, Option, length, map, sym, ap, subst, ◌∙◌, arith}
+use Rattle.std.proofs.Common.{◌≡◌, ℕ, ◌+◌, ◌≤◌, Bool, true, false, List, Option, length, map, sym, ap, subst, ◌∙◌}
+use Rattle.std.proofs.Common.{arith}
 use Rattle.std.specs.Prelude.{Result, Ok, Err, IfOk}
 use Rattle.racer_base.specs.declared.out_of_memory.Memory.{Memory}
 use Rattle.owner_domain.specs.declared.value.State.{State}
@@ -35,7 +36,8 @@ module _ (g : FlowContext) (all : Tree) (locked : Bool) (k from : ℕ) (s start 
       IfOk r (λ q. (q.next ≡ p.next + loops rest) × (q.goes_on ≡ false)) →
       IsResumed g all locked from start here begin new r
   through-passed first rest whole here new p (Ok q) is m ends number long same passed =
-      through-ends g first rest whole locked k from s here start old new begin p is m all q ends passed.1 passed.0 number
+      through-ends g first rest whole locked k from s here start old new begin p is m all q ends passed.1 passed.0
+      number
       long same
   through-passed first rest whole here new p (Err e) is m ends number long same passed = tt
 

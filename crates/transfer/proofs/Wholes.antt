@@ -1,5 +1,5 @@
 -- What is found behind a whole method is its outcome.
-use Rattle.std.proofs.Common.{◌≡◌, ◌≤◌, Bool, true, false, cond, ◌||◌, length, nat_lt, refl, sym, ap, ◌∙◌}
+use Rattle.std.proofs.Common.{◌≡◌, ◌≤◌, Bool, true, false, cond, ◌||◌, length, nat_lt, sym, ap, ◌∙◌}
 use Rattle.std.proofs.Common.{unwrap_or}
 use Rattle.std.proofs.lemmas.Bool.{le-ltb}
 use Rattle.std.specs.FinSet as set
@@ -16,10 +16,7 @@ use Rattle.access_domain.proofs.Different.{from_list-different}
 use Rattle.transfer.specs.declared.found.Found.{Found}
 use Rattle.transfer.specs.declared.found.Stop.TheVariants as stop
 use Rattle.transfer.specs.Marks.{IsNoted, IsStopped, nothing, summary_held}
-
-or-assoc : (a b c : Bool) → (a || (b || c)) ≡ ((a || b) || c)
-or-assoc true b c = refl
-or-assoc false b c = refl
+use Rattle.transfer.proofs.Bools.{or-assoc}
 
 held-findings : (e : Effects) (new : Found) → IsNoted nothing e new → summary_held new ≡ summary_from (findings_from e)
 held-findings e new m =

@@ -3,16 +3,24 @@ use Rattle.std.specs.Prelude.{Bool, List, [], ◌∷◌, None, Some, if◌then�
 use Rattle.racer_base.specs.declared.ids.FieldId.{FieldId}
 use Rattle.racer_base.specs.declared.ids.SiteId.{SiteId}
 use Rattle.racer_base.specs.declared.ids.Touch.{Touch}
+use Rattle.owner_domain.specs.declared.value.State.{State}
 use Rattle.owner_domain.specs.declared.value.Value.{Value}
 use Rattle.core_code.specs.Program.{core}
+use Rattle.core_code.specs.Tree.{Tree}
 use Rattle.access_domain.specs.declared.access.Access.{Access}
+use Rattle.access_domain.specs.Flow.{flow}
 use Rattle.access_domain.specs.FlowContext.{FlowContext, given_of, field_at}
+use Rattle.access_domain.specs.Operations.{Effects}
 use Rattle.access_domain.specs.Reached.{reached_path}
 use Rattle.transfer.specs.declared.operations.MethodContext.{MethodContext}
 use Rattle.transfer.specs.Known.{table_of}
 
 abbrev pub given : MethodContext → FlowContext
 given context = given_of (core context.program.now) (table_of context.callees.now) context.main
+
+-- the effects of code there
+abbrev pub flow_in : MethodContext → Tree → State → Effects
+flow_in context code = flow (given context) code context.locked
 
 -- the record of an access of a field that has this value
 abbrev pub record_reached : MethodContext → Touch → Bool → SiteId → Value → FieldId → List Access

@@ -4,6 +4,7 @@ pub mod Marks
 pub mod Contexts
 pub mod NotedCalls
 pub mod Walks
+pub mod Noting
 pub mod Callees
 pub mod Tables
 pub mod Resumes

@@ -1,5 +1,6 @@
 -- No public contract rests on this: calls whose callee's findings were noted.
-use Rattle.std.proofs.Common.{◌≡◌, Bool, true, false, ◌&&◌, IsTrue, List, [], ◌∷◌, ◌++◌, Some, nat_eq, refl, sym, ap, ◌∙◌}
+use Rattle.std.proofs.Common.{◌≡◌, Bool, true, false, ◌&&◌, IsTrue, List, [], ◌∷◌, ◌++◌, Some, nat_eq, refl, sym, ap}
+use Rattle.std.proofs.Common.{◌∙◌}
 use Rattle.std.proofs.lemmas.Bool.{eqb-true, eq-eqb}
 use Rattle.std.specs.Cmp.{IsPartialEquivalence, IsEquivalence, equiv}
 use Rattle.std.specs.Cmp.Lexicographic.{pointwise}
@@ -31,13 +32,13 @@ both true true e = (refl, refl)
 both true false e = cc
 both false b e = cc
 
-flags : (a b : Bool) → same_flag a b ≡ true → a ≡ b
+pub flags : (a b : Bool) → same_flag a b ≡ true → a ≡ b
 flags true true e = refl
 flags true false e = cc
 flags false true e = cc
 flags false false e = refl
 
-flag-itself : (a : Bool) → same_flag a a ≡ true
+pub flag-itself : (a : Bool) → same_flag a a ≡ true
 flag-itself true = refl
 flag-itself false = refl
 

@@ -22,6 +22,7 @@ pub mod laws;
 mod lifting;
 mod method_outcomes;
 mod noted_calls;
+mod notes;
 mod numbered_found;
 mod operations;
 mod piece;

@@ -21,10 +21,10 @@ ghost use Rattle.transfer.specs.Marks.{IsMarked, nothing, summary_held};
 
 use crate::calls::Callee;
 use crate::found::{Found, Stop};
+use crate::notes::{Notes, Walk};
 use crate::numbered_found::NumberedFound;
 use crate::operations::MethodContext;
 use crate::reading;
-use crate::walk::walk_code;
 use access_domain::{Outcome, Summary};
 use access_paths::{Path, PathTable, Root};
 use core_code::{MethodCore, Program};
@@ -167,8 +167,10 @@ pub fn outcome(
         found ≡ outcome_from (known_given (core program.now) (table_of callees.now) (method_of method.now))) }
 {
     let context = MethodContext {
+        alloc,
         program,
         main: method.main,
+        locked: false,
         callees,
     };
     let mut table = PathTable::new(alloc);
@@ -176,18 +178,13 @@ pub fn outcome(
         return Err(Memory);
     };
     let mut state = FlowState::new(alloc, values);
-    let mut found = NumberedFound::nothing(alloc);
-    let mut calls = IndexSet::new(alloc);
-    let walked = walk_code(
-        alloc,
-        &context,
-        false,
-        &method.code,
-        &mut state,
-        &mut table,
-        &mut calls,
-        &mut found,
-    );
+    let found = NumberedFound::nothing(alloc);
+    let mut walk = Walk {
+        notes: Notes { table, found },
+        calls: IndexSet::new(alloc),
+    };
+    let walked = walk.walk_code(&context, &method.code, &mut state);
     mem::drop(state);
+    let Notes { table, found } = walk.notes;
     outcome_found(alloc, walked, &table, found)
 }

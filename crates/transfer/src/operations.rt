@@ -1,5 +1,6 @@
 //! Operations.
-ghost use Rattle.std.specs.Prelude.{◌≡◌, ◌<◌, ◌++◌, List, IfOk, OnOk, [], Bool, length, option_map, false, if◌then◌else◌};
+ghost use Rattle.std.specs.Prelude.{◌≡◌, ◌<◌, ◌++◌, List, IfOk, OnOk, [], Bool, length, option_map, false};
+ghost use Rattle.std.specs.Prelude.{if◌then◌else◌};
 ghost use Rattle.racer_base.specs.declared.ids.SiteId.{SiteId as Site};
 ghost use Rattle.access_paths.specs.declared.path.Path.{Path as TablePath};
 ghost use Rattle.access_paths.specs.Table.{IsTable, GoesOn, path_at};
@@ -13,32 +14,33 @@ ghost use Rattle.access_domain.specs.Operations.{op_effects, popped, top};
 ghost use Rattle.access_domain.specs.Reached.{reached_path};
 ghost use Rattle.transfer.specs.Contexts.{given, record_reached};
 ghost use Rattle.transfer.specs.Marks.{IsMarked, marks, returns_of};
-ghost use Rattle.transfer.specs.NotedCalls.{AreFound};
-ghost use Rattle.transfer.specs.Numbered.{read_found, read_calls, AreFoundNumbers, AreCallNumbers, IsBelow, IsFlowOf};
-ghost use Rattle.transfer.specs.Numbered.{named_or_unnamed};
+ghost use Rattle.transfer.specs.Numbered.{read_found, AreFoundNumbers, IsBelow, IsFlowOf, named_or_unnamed};
 ghost use Rattle.owner_domain.specs.Slots.{popped_numbers};
+ghost use Rattle.transfer.specs.Noting.{AreNotes, AreNoted, IsDone, IsWalk, IsWalked};
 ghost use Rattle.transfer.specs.Walks.{IsFlow, is_call, is_quiet, moved, next_of, set_effects};
 
-use crate::calls::{Callee, call, move_call};
+use crate::calls::{Callee, move_call};
 use crate::found::Stop;
-use crate::noted_calls::NotedCall;
+use crate::notes::{Notes, Walk};
 use crate::numbered_found::NumberedFound;
 use access_domain::{NumberedAccess, touched_field};
 use access_paths::{Path, PathTable, Root};
 use call_subst::number_value;
 use core_code::{Op, Program};
-use indexmap::IndexSet;
 use owner_domain::{FlowState, NumberedValue, along_path};
 use racer_base::{FieldId, Memory, SiteId, Touch, VarId};
 use std::alloc::Global;
 use std::mem;
 
-/// What stays the same while the code of a method is gone through.
+/// What stays the same while code of a method is gone through.
 #[derive(Drop)]
 pub struct MethodContext<'a> {
+    pub alloc: Global,
     pub program: &'a Program,
     /// Whether the method runs on the main thread.
     pub main: bool,
+    /// Whether the code runs under a lock.
+    pub locked: bool,
     pub callees: &'a [Callee],
 }
 
@@ -88,8 +90,7 @@ fn move_on(
 
 /// The number of the path of an access of a field that has this value: none where its object is owned.
 fn number_reached(
-    alloc: Global,
-    program: &Program,
+    context: &MethodContext,
     value: NumberedValue,
     f: FieldId,
     table: &mut PathTable,
@@ -97,7 +98,7 @@ fn number_reached(
     requires value { IsInRange table.old value }
     requires once { IsTable table.old }
     ensures path { IfOk result (λ reached. option_map (path_at table.new) reached ≡
-        reached_path (core program.now) (read_value table.old value) f) }
+        reached_path (core context.now.program.now) (read_value table.old value) f) }
     ensures number { IfOk result (λ reached. IsBelow (length table.new) reached) }
     ensures once { OnOk result (IsTable table.new) }
     ensures table { OnOk result (GoesOn table.old table.new) }
@@ -106,51 +107,45 @@ fn number_reached(
         NumberedValue::Owned => Ok(None),
         NumberedValue::Named(number) => Ok(Some(number)),
         NumberedValue::Unnamed => {
-            let path = Path::of_some(alloc, touched_field(program, f).class, f)?;
+            let path = Path::of_some(context.alloc, touched_field(context.program, f).class, f)?;
             Ok(Some(table.number_of(path)?))
         }
     }
 }
 
-/// Notes the access of a field that has this value.
-fn note_access(
-    alloc: Global,
-    context: &MethodContext,
-    kind: Touch,
-    locked: bool,
-    site: SiteId,
-    value: NumberedValue,
-    f: FieldId,
-    table: &mut PathTable,
-    found: &mut NumberedFound,
-) -> Result<(), Stop>
-    requires value { IsInRange table.old value }
-    requires once { IsTable table.old }
-    requires numbers { AreFoundNumbers table.old found.old }
-    ensures found { IsMarked (read_found table.old found.old) (marks (record_reached context.now kind locked site
-        (read_value table.old value) f) [])
-        (read_found table.new found.new) result }
-    ensures numbers { OnOk result (AreFoundNumbers table.new found.new) }
-    ensures once { OnOk result (IsTable table.new) }
-    ensures table { OnOk result (GoesOn table.old table.new) }
-{
-    if !touched_field(context.program, f).recorded {
-        return Ok(());
+impl Notes {
+    /// Notes the access of a field that has this value.
+    fn note_access(
+        &mut self,
+        context: &MethodContext,
+        kind: Touch,
+        site: SiteId,
+        value: NumberedValue,
+        f: FieldId,
+    ) -> Result<(), Stop>
+        requires value { IsInRange self.old.table value }
+        requires ready { AreNotes self.old }
+        ensures { AreNoted (marks (record_reached context.now kind context.now.locked site
+            (read_value self.old.table value) f) []) self.old self.new result }
+    {
+        if !touched_field(context.program, f).recorded {
+            return Ok(());
+        }
+        let Ok(reached) = number_reached(context, value, f, &mut self.table) else {
+            return Err(Stop::Memory);
+        };
+        let Some(path) = reached else {
+            return Ok(());
+        };
+        self.found.note_record(NumberedAccess {
+            path,
+            kind,
+            locked: context.locked,
+            main: context.main,
+            site,
+            below: None,
+        })
     }
-    let Ok(reached) = number_reached(alloc, context.program, value, f, table) else {
-        return Err(Stop::Memory);
-    };
-    let Some(path) = reached else {
-        return Ok(());
-    };
-    found.note_record(NumberedAccess {
-        path,
-        kind,
-        locked,
-        main: context.main,
-        site,
-        below: None,
-    })
 }
 
 /// What a read gives of a field that has this value.
@@ -216,46 +211,62 @@ fn named_or_unnamed(number: Option<u32>) -> NumberedValue
     }
 }
 
-/// Reads a field of the top.
-fn get(
-    alloc: Global,
-    context: &MethodContext,
-    locked: bool,
-    site: SiteId,
-    f: FieldId,
-    state: &mut FlowState,
-    table: &mut PathTable,
-    found: &mut NumberedFound,
-) -> Result<bool, Stop>
-    requires numbers { IsFlowOf table.old state.old found.old }
-    ensures flow { IsFlow (op_effects (given context.now) locked site (Get f) (read_state table.old state.old))
-        (read_state table.new state.new)
-        (read_found table.old found.old) (read_found table.new found.new) result }
-    ensures numbers { OnOk result (IsFlowOf table.new state.new found.new) }
-    ensures table { OnOk result (GoesOn table.old table.new) }
-{
-    let Ok(value) = pop_field(alloc, state, f, table) else {
-        return Err(Stop::Memory);
-    };
-    match note_access(
-        alloc,
-        context,
-        Touch::Read,
-        locked,
-        site,
-        value,
-        f,
-        table,
-        found,
-    ) {
-        Ok(()) => {}
-        Err(stop) => return Err(stop),
+impl Notes {
+    /// Reads a field of the top.
+    fn get(
+        &mut self,
+        context: &MethodContext,
+        site: SiteId,
+        f: FieldId,
+        state: &mut FlowState,
+    ) -> Result<bool, Stop>
+        requires numbers { IsFlowOf self.old.table state.old self.old.found }
+        ensures { IsDone (op_effects (given context.now) context.now.locked site (Get f)) self.old state.old self.new
+            state.new result }
+    {
+        let Ok(value) = pop_field(context.alloc, state, f, &mut self.table) else {
+            return Err(Stop::Memory);
+        };
+        match self.note_access(context, Touch::Read, site, value, f) {
+            Ok(()) => {}
+            Err(stop) => return Err(stop),
+        }
+        let plain = touched_field(context.program, f).plain;
+        let Ok(()) = state.push(value_read(plain, value)) else {
+            return Err(Stop::Memory);
+        };
+        Ok(true)
     }
-    let plain = touched_field(context.program, f).plain;
-    let Ok(()) = state.push(value_read(plain, value)) else {
-        return Err(Stop::Memory);
-    };
-    Ok(true)
+
+    /// Stores the top in a field of the object below it, and leaves it on the stack.
+    fn put(
+        &mut self,
+        context: &MethodContext,
+        site: SiteId,
+        f: FieldId,
+        state: &mut FlowState,
+    ) -> Result<bool, Stop>
+        requires numbers { IsFlowOf self.old.table state.old self.old.found }
+        ensures { IsDone (op_effects (given context.now) context.now.locked site (Put f)) self.old state.old self.new
+            state.new result }
+    {
+        let value = state.pop();
+        let Ok(field) = pop_field(context.alloc, state, f, &mut self.table) else {
+            return Err(Stop::Memory);
+        };
+        match self.note_access(context, Touch::Write, site, field, f) {
+            Ok(()) => {}
+            Err(stop) => return Err(stop),
+        }
+        match note_store(field, value, &mut self.found) {
+            Ok(()) => {}
+            Err(stop) => return Err(stop),
+        }
+        let Ok(()) = state.push(value) else {
+            return Err(Stop::Memory);
+        };
+        Ok(true)
+    }
 }
 
 /// Notes the names of a field that a value is stored in, and of the value.
@@ -277,52 +288,6 @@ fn note_store(
         Err(stop) => return Err(stop),
     }
     found.note_name(value)
-}
-
-/// Stores the top in a field of the object below it, and leaves it on the stack.
-fn put(
-    alloc: Global,
-    context: &MethodContext,
-    locked: bool,
-    site: SiteId,
-    f: FieldId,
-    state: &mut FlowState,
-    table: &mut PathTable,
-    found: &mut NumberedFound,
-) -> Result<bool, Stop>
-    requires numbers { IsFlowOf table.old state.old found.old }
-    ensures flow { IsFlow (op_effects (given context.now) locked site (Put f) (read_state table.old state.old))
-        (read_state table.new state.new)
-        (read_found table.old found.old) (read_found table.new found.new) result }
-    ensures numbers { OnOk result (IsFlowOf table.new state.new found.new) }
-    ensures table { OnOk result (GoesOn table.old table.new) }
-{
-    let value = state.pop();
-    let Ok(field) = pop_field(alloc, state, f, table) else {
-        return Err(Stop::Memory);
-    };
-    match note_access(
-        alloc,
-        context,
-        Touch::Write,
-        locked,
-        site,
-        field,
-        f,
-        table,
-        found,
-    ) {
-        Ok(()) => {}
-        Err(stop) => return Err(stop),
-    }
-    match note_store(field, value, found) {
-        Ok(()) => {}
-        Err(stop) => return Err(stop),
-    }
-    let Ok(()) = state.push(value) else {
-        return Err(Stop::Memory);
-    };
-    Ok(true)
 }
 
 /// Stores the top in a variable, and leaves it on the stack.
@@ -351,108 +316,80 @@ fn give_back(alloc: Global, state: &mut FlowState, found: &mut NumberedFound) ->
         IsFlowOf table state.new found.new) }
 {
     let value = state.pop();
-    match found.note_result(alloc, value) {
-        Ok(()) => Ok(false),
-        Err(stop) => Err(stop),
-    }
+    found.note_result(alloc, value)?;
+    Ok(false)
 }
 
-/// Does an operation that finds something, or returns.
-fn find_out(
-    alloc: Global,
-    context: &MethodContext,
-    locked: bool,
-    site: SiteId,
-    op: Op,
-    state: &mut FlowState,
-    table: &mut PathTable,
-    found: &mut NumberedFound,
-) -> Result<bool, Stop>
-    requires quiet { is_quiet op ≡ false }
-    requires call { is_call op ≡ false }
-    requires numbers { IsFlowOf table.old state.old found.old }
-    ensures flow { IsFlow (op_effects (given context.now) locked site op (read_state table.old state.old)) (read_state
-        table.new state.new)
-        (read_found table.old found.old) (read_found table.new found.new) result }
-    ensures numbers { OnOk result (IsFlowOf table.new state.new found.new) }
-    ensures table { OnOk result (GoesOn table.old table.new) }
-{
-    match op {
-        Op::Get(f) => get(alloc, context, locked, site, f, state, table, found),
-        Op::Put(f) => put(alloc, context, locked, site, f, state, table, found),
-        Op::Set(variable) => set(variable, state, found),
-        Op::Ret => give_back(alloc, state, found),
-        Op::Throw => Ok(false),
-        _ => unreachable!(),
-    }
-}
-
-/// Does one operation that is no call; whether the code goes on behind it.
-fn step(
-    alloc: Global,
-    context: &MethodContext,
-    locked: bool,
-    site: SiteId,
-    op: Op,
-    state: &mut FlowState,
-    table: &mut PathTable,
-    found: &mut NumberedFound,
-) -> Result<bool, Stop>
-    requires call { is_call op ≡ false }
-    requires numbers { IsFlowOf table.old state.old found.old }
-    ensures flow { IsFlow (op_effects (given context.now) locked site op (read_state table.old state.old)) (read_state
-        table.new state.new)
-        (read_found table.old found.old) (read_found table.new found.new) result }
-    ensures numbers { OnOk result (IsFlowOf table.new state.new found.new) }
-    ensures table { OnOk result (GoesOn table.old table.new) }
-{
-    if !is_quiet(op) {
-        return find_out(alloc, context, locked, site, op, state, table, found);
-    }
-    let Ok(()) = move_on(alloc, op, state, table) else {
-        return Err(Stop::Memory);
-    };
-    Ok(true)
-}
-
-/// Does one operation; whether the code goes on behind it.
-pub fn operate(
-    alloc: Global,
-    context: &MethodContext,
-    locked: bool,
-    site: SiteId,
-    op: Op,
-    state: &mut FlowState,
-    table: &mut PathTable,
-    calls: &mut IndexSet<NotedCall>,
-    found: &mut NumberedFound,
-) -> Result<bool, Stop>
-    requires numbers { IsFlowOf table.old state.old found.old }
-    requires called { AreCallNumbers table.old calls.old.keys }
-    requires calls { AreFound (given context.now) (read_calls table.old calls.old.keys) (read_found table.old
-        found.old) }
-    ensures flow { IsFlow (op_effects (given context.now) locked site op (read_state table.old state.old)) (read_state
-        table.new state.new)
-        (read_found table.old found.old) (read_found table.new found.new) result }
-    ensures numbers { OnOk result (IsFlowOf table.new state.new found.new) }
-    ensures called { OnOk result (AreCallNumbers table.new calls.new.keys) }
-    ensures calls { OnOk result (AreFound (given context.now) (read_calls table.new calls.new.keys)
-        (read_found table.new found.new)) }
-    ensures table { OnOk result (GoesOn table.old table.new) }
-{
-    match op {
-        Op::Call(method, count) => {
-            call(
-                alloc, context, locked, site, method, count, state, table, calls, found,
-            )
+impl Notes {
+    /// Does an operation that finds something, or returns.
+    fn find_out(
+        &mut self,
+        context: &MethodContext,
+        site: SiteId,
+        op: Op,
+        state: &mut FlowState,
+    ) -> Result<bool, Stop>
+        requires quiet { is_quiet op ≡ false }
+        requires call { is_call op ≡ false }
+        requires numbers { IsFlowOf self.old.table state.old self.old.found }
+        ensures { IsDone (op_effects (given context.now) context.now.locked site op) self.old state.old self.new
+            state.new result }
+    {
+        match op {
+            Op::Get(f) => self.get(context, site, f, state),
+            Op::Put(f) => self.put(context, site, f, state),
+            Op::Set(variable) => set(variable, state, &mut self.found),
+            Op::Ret => give_back(context.alloc, state, &mut self.found),
+            Op::Throw => Ok(false),
+            _ => unreachable!(),
         }
-        _ => step(alloc, context, locked, site, op, state, table, found),
+    }
+
+    /// Does one operation that is no call; whether the code goes on behind it.
+    fn step(
+        &mut self,
+        context: &MethodContext,
+        site: SiteId,
+        op: Op,
+        state: &mut FlowState,
+    ) -> Result<bool, Stop>
+        requires call { is_call op ≡ false }
+        requires numbers { IsFlowOf self.old.table state.old self.old.found }
+        ensures { IsDone (op_effects (given context.now) context.now.locked site op) self.old state.old self.new
+            state.new result }
+    {
+        if !is_quiet(op) {
+            return self.find_out(context, site, op, state);
+        }
+        let Ok(()) = move_on(context.alloc, op, state, &mut self.table) else {
+            return Err(Stop::Memory);
+        };
+        Ok(true)
+    }
+}
+
+impl Walk {
+    /// Does one operation; whether the code goes on behind it.
+    pub fn operate(
+        &mut self,
+        context: &MethodContext,
+        site: SiteId,
+        op: Op,
+        state: &mut FlowState,
+    ) -> Result<bool, Stop>
+        requires ready { IsWalk (given context.now) self.old state.old }
+        ensures { IsWalked (given context.now) (op_effects (given context.now) context.now.locked site op) self.old
+            state.old self.new state.new result }
+    {
+        match op {
+            Op::Call(method, count) => self.call(context, site, method, count, state),
+            _ => self.notes.step(context, site, op, state),
+        }
     }
 }
 
 /// Does one operation for the state behind it alone; whether the code goes on behind it.
 pub fn move_any(
-    alloc: Global,
     context: &MethodContext,
     op: Op,
     state: &mut FlowState,
@@ -469,7 +406,7 @@ pub fn move_any(
 {
     match op {
         Op::Get(f) => {
-            let value = pop_field(alloc, state, f, table)?;
+            let value = pop_field(context.alloc, state, f, table)?;
             let plain = touched_field(context.program, f).plain;
             state.push(value_read(plain, value))?;
             Ok(true)
@@ -486,12 +423,12 @@ pub fn move_any(
             Ok(true)
         }
         Op::Call(method, count) => {
-            move_call(alloc, context, method, count, state, table)?;
+            move_call(context, method, count, state, table)?;
             Ok(true)
         }
         Op::Ret | Op::Throw => Ok(false),
         _ => {
-            move_on(alloc, op, state, table)?;
+            move_on(context.alloc, op, state, table)?;
             Ok(true)
         }
     }

@@ -85,9 +85,7 @@ fn sum(a: u32, b: u32) -> Result<u32, Memory>
 /// Goes through a piece of code whose loops have the numbers from `first` on.
 #[cycle(resumes)]
 pub fn resume(
-    alloc: Global,
     context: &MethodContext,
-    locked: bool,
     code: &Code,
     first: u32,
     state: &mut FlowState,
@@ -96,14 +94,14 @@ pub fn resume(
 ) -> Result<Passed, Memory>
     requires room { first + loops (tree_of code.now) ≤ length heads.old.items }
     requires numbers { IsResumedIn table.old state.old heads.old.items }
-    ensures resumed { IsResumed (given context.now) (tree_of code.now) locked first (read_state table.old state.old)
-        (read_state table.new state.new)
+    ensures resumed { IsResumed (given context.now) (tree_of code.now) context.now.locked first
+        (read_state table.old state.old) (read_state table.new state.new)
         (read_heads table.old heads.old.items) (read_heads table.new heads.new.items) result }
     ensures numbers { OnOk result (IsResumedIn table.new state.new heads.new.items) }
     ensures table { OnOk result (GoesOn table.old table.new) }
 {
     match code {
-        Code::Op(_, _, op) => match move_any(alloc, context, *op, state, table) {
+        Code::Op(_, _, op) => match move_any(context, *op, state, table) {
             Ok(goes_on) => Ok(Passed {
                 next: first,
                 goes_on,
@@ -112,21 +110,19 @@ pub fn resume(
         },
         Code::Seq(parts) => {
             let parts = parts.as_slice();
-            resume_through(alloc, context, locked, parts, first, state, table, heads)
+            resume_through(context, parts, first, state, table, heads)
         }
         Code::Choice(left, right) => {
-            let Ok(under) = lifted(alloc, code, state) else {
+            let Ok(under) = lifted(context.alloc, code, state) else {
                 return Err(Memory);
             };
-            let Ok(mut other) = state.copied(alloc) else {
+            let Ok(mut other) = state.copied(context.alloc) else {
                 return Err(Memory);
             };
-            let Ok(one) = resume(alloc, context, locked, left, first, state, table, heads) else {
+            let Ok(one) = resume(context, left, first, state, table, heads) else {
                 return Err(Memory);
             };
-            let Ok(two) = resume(
-                alloc, context, locked, right, one.next, &mut other, table, heads,
-            ) else {
+            let Ok(two) = resume(context, right, one.next, &mut other, table, heads) else {
                 return Err(Memory);
             };
             let goes_on = meet_ends(one.goes_on, two.goes_on, state, other);
@@ -138,10 +134,17 @@ pub fn resume(
                 goes_on,
             })
         }
-        Code::Loop(body) => resume_loop(alloc, context, locked, body, first, state, table, heads),
+        Code::Loop(body) => resume_loop(context, body, first, state, table, heads),
         Code::Sync(_, _, body) => {
             mem::drop(state.pop());
-            resume(alloc, context, true, body, first, state, table, heads)
+            let within = MethodContext {
+                alloc: context.alloc,
+                program: context.program,
+                main: context.main,
+                locked: true,
+                callees: context.callees,
+            };
+            resume(&within, body, first, state, table, heads)
         }
     }
 }
@@ -149,9 +152,7 @@ pub fn resume(
 /// Goes through pieces of code one after another, up to the first that does not go on.
 #[cycle(resumes)]
 fn resume_through(
-    alloc: Global,
     context: &MethodContext,
-    locked: bool,
     parts: &[Code],
     first: u32,
     state: &mut FlowState,
@@ -160,24 +161,15 @@ fn resume_through(
 ) -> Result<Passed, Memory>
     requires room { first + loops (in_sequence (map tree_of parts.now)) ≤ length heads.old.items }
     requires numbers { IsResumedIn table.old state.old heads.old.items }
-    ensures resumed { IsResumed (given context.now) (in_sequence (map tree_of parts.now)) locked first (read_state
-        table.old state.old) (read_state table.new state.new)
+    ensures resumed { IsResumed (given context.now) (in_sequence (map tree_of parts.now)) context.now.locked first
+        (read_state table.old state.old) (read_state table.new state.new)
         (read_heads table.old heads.old.items) (read_heads table.new heads.new.items) result }
     ensures numbers { OnOk result (IsResumedIn table.new state.new heads.new.items) }
     ensures table { OnOk result (GoesOn table.old table.new) }
 {
     let mut number = first;
     for index in 0..parts.len() {
-        let Ok(passed) = resume(
-            alloc,
-            context,
-            locked,
-            &parts[index],
-            number,
-            state,
-            table,
-            heads,
-        ) else {
+        let Ok(passed) = resume(context, &parts[index], number, state, table, heads) else {
             return Err(Memory);
         };
         number = passed.next;
@@ -212,9 +204,7 @@ fn pass_over(first: u32, parts: &[Code]) -> Result<Passed, Memory>
 /// changes nothing no state is kept.
 #[cycle(resumes)]
 fn resume_loop(
-    alloc: Global,
     context: &MethodContext,
-    locked: bool,
     body: &Code,
     first: u32,
     state: &mut FlowState,
@@ -223,8 +213,8 @@ fn resume_loop(
 ) -> Result<Passed, Memory>
     requires room { first + loops (Loop (tree_of body.now)) ≤ length heads.old.items }
     requires numbers { IsResumedIn table.old state.old heads.old.items }
-    ensures resumed { IsResumed (given context.now) (Loop (tree_of body.now)) locked first (read_state table.old
-        state.old) (read_state table.new state.new)
+    ensures resumed { IsResumed (given context.now) (Loop (tree_of body.now)) context.now.locked first
+        (read_state table.old state.old) (read_state table.new state.new)
         (read_heads table.old heads.old.items) (read_heads table.new heads.new.items) result }
     ensures numbers { OnOk result (IsResumedIn table.new state.new heads.new.items) }
     ensures table { OnOk result (GoesOn table.old table.new) }
@@ -233,11 +223,10 @@ fn resume_loop(
     let Ok(inner) = sum(first, 1) else {
         return Err(Memory);
     };
-    let Ok(()) = go_on(alloc, &heads[first as usize], state) else {
+    let Ok(()) = go_on(context.alloc, &heads[first as usize], state) else {
         return Err(Memory);
     };
-    let Ok((next, changed)) = resume_round(alloc, context, locked, body, inner, state, table, heads)
-    else {
+    let Ok((next, changed)) = resume_round(context, body, inner, state, table, heads) else {
         return Err(Memory);
     };
     if !changed {
@@ -246,20 +235,10 @@ fn resume_loop(
             goes_on: true,
         });
     }
-    let Ok(()) = resume_rounds(
-        alloc,
-        context,
-        locked,
-        body,
-        inner,
-        rounds - 1,
-        state,
-        table,
-        heads,
-    ) else {
+    let Ok(()) = resume_rounds(context, body, inner, rounds - 1, state, table, heads) else {
         return Err(Memory);
     };
-    let Ok(left) = state.copied(alloc) else {
+    let Ok(left) = state.copied(context.alloc) else {
         return Err(Memory);
     };
     heads[first as usize] = Some(left);
@@ -272,9 +251,7 @@ fn resume_loop(
 /// At most so many rounds of a loop, up to the first that changes nothing.
 #[cycle(resumes)]
 fn resume_rounds(
-    alloc: Global,
     context: &MethodContext,
-    locked: bool,
     body: &Code,
     first: u32,
     rounds: usize,
@@ -284,16 +261,14 @@ fn resume_rounds(
 ) -> Result<(), Memory>
     requires room { first + loops (tree_of body.now) ≤ length heads.old.items }
     requires numbers { IsResumedIn table.old state.old heads.old.items }
-    ensures resumed { AreResumedRounds (given context.now) (tree_of body.now) locked first rounds
+    ensures resumed { AreResumedRounds (given context.now) (tree_of body.now) context.now.locked first rounds
         (read_state table.old state.old) (read_state table.new state.new)
         (read_heads table.old heads.old.items) (read_heads table.new heads.new.items) result }
     ensures numbers { OnOk result (IsResumedIn table.new state.new heads.new.items) }
     ensures table { OnOk result (GoesOn table.old table.new) }
 {
     for round in 0..rounds {
-        let Ok((_, changed)) = resume_round(
-            alloc, context, locked, body, first, state, table, heads,
-        ) else {
+        let Ok((_, changed)) = resume_round(context, body, first, state, table, heads) else {
             return Err(Memory);
         };
         if !changed {
@@ -306,9 +281,7 @@ fn resume_rounds(
 /// One round of a loop: the number of the next loop behind it, and whether the round changed anything.
 #[cycle(resumes)]
 fn resume_round(
-    alloc: Global,
     context: &MethodContext,
-    locked: bool,
     body: &Code,
     first: u32,
     state: &mut FlowState,
@@ -317,16 +290,16 @@ fn resume_round(
 ) -> Result<(u32, bool), Memory>
     requires room { first + loops (tree_of body.now) ≤ length heads.old.items }
     requires numbers { IsResumedIn table.old state.old heads.old.items }
-    ensures resumed { IsRound (given context.now) (tree_of body.now) locked first (read_state table.old state.old)
-        (read_state table.new state.new)
+    ensures resumed { IsRound (given context.now) (tree_of body.now) context.now.locked first
+        (read_state table.old state.old) (read_state table.new state.new)
         (read_heads table.old heads.old.items) (read_heads table.new heads.new.items) result }
     ensures numbers { OnOk result (IsResumedIn table.new state.new heads.new.items) }
     ensures table { OnOk result (GoesOn table.old table.new) }
 {
-    let Ok(mut end) = state.copied(alloc) else {
+    let Ok(mut end) = state.copied(context.alloc) else {
         return Err(Memory);
     };
-    let Ok(passed) = resume(alloc, context, locked, body, first, &mut end, table, heads) else {
+    let Ok(passed) = resume(context, body, first, &mut end, table, heads) else {
         return Err(Memory);
     };
     if !passed.goes_on {

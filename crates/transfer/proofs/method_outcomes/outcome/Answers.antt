@@ -13,7 +13,8 @@ use Rattle.transfer.specs.declared.noted_calls.NotedCall.{NotedCall}
 use Rattle.transfer.specs.Known.{table_of}
 use Rattle.transfer.specs.Marks.{nothing}
 use Rattle.transfer.specs.NotedCalls.{AreFound}
-use Rattle.transfer.specs.Numbered.{read_found, read_calls, AreCallNumbers, AreFoundNumbers, IsFlowOf}
+use Rattle.transfer.specs.Noting.{IsWalk}
+use Rattle.transfer.specs.Numbered.{read_found, read_calls, AreCallNumbers, AreFoundNumbers}
 use Rattle.transfer.specs.Walks.{IsFlow}
 use Rattle.transfer.proofs.Beginnings.{found-firsts}
 use Rattle.transfer.proofs.Flows.{marked-flow}
@@ -27,32 +28,36 @@ walk_code-walked-requires-clause-high c =
     high_start (method_of c.args.method.now).code (read_state table c.new-state.result)
     (ap (λ (s : NumberedState). (read_state table s).stack) c.new-state.ensures) c.requires
 
-pub walk_code-walked-requires-clause-numbers : goal.walk_code-walked-requires-clause-numbers
-walk_code-walked-requires-clause-numbers c =
-    let table = c.start.new.table in
-    record {
-      once = c.in-Ok.ensures.once;
-      state = subst (AreInRange table) (sym c.new-state.ensures) (c.in-Ok.ensures.range, tt);
-      noted = c.nothing-found.ensures.numbers table;
-    }
-
-pub walk_code-walked-requires-clause-called : goal.walk_code-walked-requires-clause-called
-walk_code-walked-requires-clause-called c =
-    subst (AreCallNumbers c.start.new.table) (sym c.new-calls.ensures.empty) tt
-
-pub walk_code-walked-requires-clause-calls : goal.walk_code-walked-requires-clause-calls
-walk_code-walked-requires-clause-calls c =
+pub walk_code-walked-requires-clause-ready : goal.walk_code-walked-requires-clause-ready
+walk_code-walked-requires-clause-ready c =
     let method = method_of c.args.method.now in
     let g = given_of (core c.args.program.now) (table_of c.args.callees.now) method.main in
     let table = c.start.new.table in
-    subst (λ (calls : List NotedCall). AreFound g (read_calls table calls) (read_found table c.nothing-found.result))
-    (sym c.new-calls.ensures.empty) tt
+    let found = c.nothing-found.result in
+    record {
+      numbers =
+          record {
+            once = c.in-Ok.ensures.once;
+            state = subst (AreInRange table) (sym c.new-state.ensures) (c.in-Ok.ensures.range, tt);
+            noted = c.nothing-found.ensures.numbers table;
+          };
+      calls =
+          record {
+            called = subst (AreCallNumbers table) (sym c.new.ensures.empty) tt;
+            found =
+                subst (λ (calls : List NotedCall). AreFound g (read_calls table calls) (read_found table found))
+                (sym c.new.ensures.empty) tt;
+          };
+    }
 
 pub outcome_found-requires-clause-numbers : goal.outcome_found-requires-clause-numbers
 outcome_found-requires-clause-numbers c =
+    let method = method_of c.args.method.now in
+    let g = given_of (core c.args.program.now) (table_of c.args.callees.now) method.main in
     let walked = c.walk_code-walked in
-    on_ok_then walked.result (IsFlowOf walked.new.table walked.new.state walked.new.found)
-    (AreFoundNumbers walked.new.table walked.new.found) walked.ensures.numbers (λ all. all.noted)
+    let new = walked.new.self in
+    on_ok_then walked.result (IsWalk g new walked.new.state)
+    (AreFoundNumbers new.notes.table new.notes.found) walked.ensures.ready (λ all. all.numbers.noted)
 
 pub outcome_found-requires-clause-firsts : goal.outcome_found-requires-clause-firsts
 outcome_found-requires-clause-firsts c =
@@ -64,8 +69,9 @@ outcome_found-requires-clause-firsts c =
     ap (read_state table) c.new-state.ensures
     ∙ ap (λ (vars : List Value). stack_of_values vars) c.in-Ok.ensures.values in
     let e = effects_given (core c.args.program.now) (table_of c.args.callees.now) method in
-    let end = read_state walked.new.table walked.new.state in
-    let found = read_found walked.new.table walked.new.found in
+    let new = walked.new.self.notes in
+    let end = read_state new.table walked.new.state in
+    let found = read_found new.table new.found in
     found-firsts e found walked.result
     (marked-flow e end nothing found walked.result
     (subst (λ (s : State). IsFlow (flow g method.code false s) end nothing found walked.result) start
@@ -82,8 +88,9 @@ returns c =
     ap (read_state table) c.new-state.ensures
     ∙ ap (λ (vars : List Value). stack_of_values vars) c.in-Ok.ensures.values in
     let e = effects_given (core c.args.program.now) (table_of c.args.callees.now) method in
-    let end = read_state walked.new.table walked.new.state in
-    let found = read_found walked.new.table walked.new.found in
+    let new = walked.new.self.notes in
+    let end = read_state new.table walked.new.state in
+    let found = read_found new.table new.found in
     c.outcome_found.ensures e
     (marked-flow e end nothing found walked.result
     (subst (λ (s : State). IsFlow (flow g method.code false s) end nothing found walked.result) start

@@ -25,7 +25,8 @@ loop-number-preserved c =
     record {
       values =
           ap (λ (kinds : List Kind). more ++ parameter_values (i + 1) (drop (i + 1) kinds)) (sym is)
-          ∙ one_parameter i c.as_slice-kind-items.result.now made more (passed_values (method_of c.args.method.now)) Plain
+          ∙ one_parameter i c.as_slice-kind-items.result.now made more (passed_values (method_of c.args.method.now))
+          Plain
           (read_value new v) c.loop-number-test.true one.ensures.value
           (ap (read_values new) put ∙ values-more at.table new one.ensures.table items v at.invariant.range)
           (ap (λ (kinds : List Kind). made ++ parameter_values i (drop i kinds)) is ∙ at.invariant.values);

@@ -1,6 +1,6 @@
-use Rattle.std.proofs.Common.{◌≡◌, ◌+◌, ◌-◌, suc, ℕ, ◌≤◌, ◌<◌, List, Some, length, get_or, map, drop, reverse}
+use Rattle.std.proofs.Common.{◌≡◌, ◌+◌, ◌-◌, suc, ℕ, ◌≤◌, ◌<◌, Some, length, map, drop, reverse}
 use Rattle.std.proofs.Common.{true, Ok, refl, sym, ap, subst, ◌∙◌, arith, rules}
-use Rattle.std.proofs.lemmas.List.{at_drop_more, at_drop_all, take_all, length-drop}
+use Rattle.std.proofs.lemmas.List.{at_drop_all, take_all, length-drop}
 use Rattle.std.specs.Prelude.{slice_set}
 use Rattle.access_paths.specs.Table.{GoesOn}
 use Rattle.access_paths.proofs.Numbers.{goes_on-same, goes_on-trans}
@@ -18,7 +18,7 @@ use Rattle.transfer.specs.Contexts.{given}
 use Rattle.transfer.specs.Numbered.{read_heads, IsResumedIn}
 use Rattle.transfer.specs.Resumes.{heads_in, IsResumed, IsRound, AreResumedRounds}
 use Rattle.transfer.proofs.HeadsRead.{long-back, long-read, heads-long, heads-still, rounds-read}
-use Rattle.transfer.proofs.HighEnough.{is_no, is_yes}
+use Rattle.transfer.proofs.Bools.{is_no, is_yes}
 use Rattle.transfer.proofs.NumberedRounds.{round-kept, round-met, left-in, loop-begun, loop-put, loop-in}
 use Rattle.transfer.proofs.Readings.{state-still}
 use Rattle.transfer.proofs.ResumedRounds.{round_goes_on, round_ends, loop_kept, loop_left}
@@ -29,6 +29,7 @@ use Rattle.owner_domain.proofs.Reading.{met-in}
 use Rattle.transfer.proofs.WalkedNumbers.{copied-in, always}
 use Rattle.transfer.proofs.Lowered.{lifted-in, lowered-in, lowered-resumed}
 use Rattle.transfer.proofs.resuming.+resumes.Goals as goal
+use Rattle.transfer.proofs.PartsLeft.{parts-turn}
 
 -- ---- one round
 
@@ -41,7 +42,7 @@ resume_round-returns-then-not-passed t c =
     record {
       resumed =
           round-kept (given c.args.context.now)
-          (tree_of c.args.body.now) c.args.locked c.args.first older new.table m.table
+          (tree_of c.args.body.now) c.args.context.now.locked c.args.first older new.table m.table
           c.args.state.now c.in-Ok.end new.state c.args.heads.now.items new.heads.items c.in-Ok-resume.passed
           c.in-Ok.ensures c.requires.numbers.state m.resumed ends;
       numbers =
@@ -57,7 +58,7 @@ resume_round-returns-then-not-passed t c =
 
 pub resume_rounds-loop-round-init : goal.resume_rounds-loop-round-init
 resume_rounds-loop-round-init t c =
-    let go = resumed (given c.args.context.now) (tree_of c.args.body.now) c.args.locked c.args.first in
+    let go = resumed (given c.args.context.now) (tree_of c.args.body.now) c.args.context.now.locked c.args.first in
     let table = c.args.table.now in
     let all : c.args.rounds - 0 ≡ c.args.rounds = omega arith in
     record {
@@ -71,7 +72,7 @@ resume_rounds-loop-round-init t c =
 
 pub resume_rounds-returns-then-not-changed : goal.resume_rounds-returns-then-not-changed
 resume_rounds-returns-then-not-changed t c =
-    let go = resumed (given c.args.context.now) (tree_of c.args.body.now) c.args.locked c.args.first in
+    let go = resumed (given c.args.context.now) (tree_of c.args.body.now) c.args.context.now.locked c.args.first in
     let older = c.args.table.now in
     let at = c.loop-round in
     let new = c.resume_round.new in
@@ -99,7 +100,7 @@ resume_rounds-returns-then-not-changed t c =
 
 pub resume_rounds-loop-round-preserved : goal.resume_rounds-loop-round-preserved
 resume_rounds-loop-round-preserved t c =
-    let go = resumed (given c.args.context.now) (tree_of c.args.body.now) c.args.locked c.args.first in
+    let go = resumed (given c.args.context.now) (tree_of c.args.body.now) c.args.context.now.locked c.args.first in
     let older = c.args.table.now in
     let at = c.loop-round in
     let new = c.resume_round.new in
@@ -122,7 +123,7 @@ resume_rounds-loop-round-preserved t c =
 
 pub resume_rounds-returns : goal.resume_rounds-returns
 resume_rounds-returns t c =
-    let go = resumed (given c.args.context.now) (tree_of c.args.body.now) c.args.locked c.args.first in
+    let go = resumed (given c.args.context.now) (tree_of c.args.body.now) c.args.context.now.locked c.args.first in
     let at = c.loop-round in
     let none : c.args.rounds - at.round ≡ 0 = omega (arith, c.loop-round-test.false) in
     let hs = heads_in (read_heads at.table at.heads.items) in
@@ -180,12 +181,13 @@ resume_loop-returns-then-not-changed t c =
     let new = c.resume_round.new in
     let k = c.in-Ok-resume_round.ensures in
     let round =
-    subst (λ (n : ℕ). IsRound g body c.args.locked n (read_state older c.go_on.new.state)
+    subst (λ (n : ℕ). IsRound g body c.args.context.now.locked n (read_state older c.go_on.new.state)
     (read_state new.table new.state) (read_heads older old) (read_heads new.table new.heads.items)
     (Ok (c.in-Ok-resume_round.next, c.in-Ok-resume_round.changed))) c.in-Ok.ensures k.resumed in
     record {
       resumed =
-          loop_kept g body c.args.locked first c.in-Ok-resume_round.next c.rounds-rounds.result (read_state older start)
+          loop_kept g body c.args.context.now.locked first c.in-Ok-resume_round.next c.rounds-rounds.result
+          (read_state older start)
           (read_state older c.go_on.new.state) (read_state new.table new.state) (read_heads older old)
           (read_heads new.table new.heads.items) c.in-Ok-resume_round.changed
           (rounds-read older start c.rounds-rounds.result c.rounds-rounds.ensures)
@@ -216,16 +218,17 @@ resume_loop-returns t c =
     let m = c.in-Ok-resume_rounds.ensures in
     let within : first < length (read_heads older old) = omega (arith, heads-long older old) in
     let round =
-    subst (λ (n : ℕ). IsRound g body c.args.locked n (read_state older c.go_on.new.state)
+    subst (λ (n : ℕ). IsRound g body c.args.context.now.locked n (read_state older c.go_on.new.state)
     (read_state mid.table mid.state) (read_heads older old) (read_heads mid.table mid.heads.items)
     (Ok (c.in-Ok-resume_round.next, c.in-Ok-resume_round.changed))) c.in-Ok.ensures k.resumed in
     let rounds =
-    subst (λ (n : ℕ). AreResumedRounds g body c.args.locked n (c.rounds-rounds.result - 1)
+    subst (λ (n : ℕ). AreResumedRounds g body c.args.context.now.locked n (c.rounds-rounds.result - 1)
     (read_state mid.table mid.state) (read_state now.table now.state)
     (read_heads mid.table mid.heads.items) (read_heads now.table now.heads.items) (Ok tt)) c.in-Ok.ensures m.resumed in
     record {
       resumed =
-          loop_left g body c.args.locked first c.in-Ok-resume_round.next c.rounds-rounds.result (read_state older start)
+          loop_left g body c.args.context.now.locked first c.in-Ok-resume_round.next c.rounds-rounds.result
+          (read_state older start)
           (read_state older c.go_on.new.state) (read_state mid.table mid.state) (read_state now.table now.state)
           (read_heads older old) (read_heads mid.table mid.heads.items) (read_heads now.table now.heads.items)
           (read_heads now.table (slice_set now.heads.items first (Some end))) c.in-Ok-resume_round.changed
@@ -251,7 +254,8 @@ resume_round-returns t c =
     let still = state-still older new.table m.table start c.requires.numbers.state in
     record {
       resumed =
-          round-met (given c.args.context.now) (tree_of c.args.body.now) c.args.locked c.args.first older new.table
+          round-met (given c.args.context.now) (tree_of c.args.body.now) c.args.context.now.locked c.args.first older
+          new.table
           m.table
           start c.in-Ok.end new.state c.args.heads.now.items new.heads.items c.in-Ok-resume.passed
           c.in-Ok.ensures c.requires.numbers.state m.resumed m.numbers.once m.numbers.state met.new.self met.result goes
@@ -267,11 +271,6 @@ resume_round-returns t c =
     }
 
 -- ---- parts
-
-turn : (parts : List Code) (i : ℕ) (part : Code) → i < length parts → part ≡ get_or parts i part →
-    in_sequence (map tree_of (drop i parts)) ≡ Seq (tree_of part) (in_sequence (map tree_of (drop (i + 1) parts)))
-turn parts i part within is = at_drop_more (λ ps. in_sequence (map tree_of ps)) parts i part within
-    ∙ ap (λ (p : Code). Seq (tree_of p) (in_sequence (map tree_of (drop (i + 1) parts)))) (sym is)
 
 pub resume_through-loop-index-init : goal.resume_through-loop-index-init
 resume_through-loop-index-init t c =
@@ -301,14 +300,17 @@ resume_through-loop-index-preserved t c =
     let hs = read_heads at.table at.heads.items in
     let later = read_heads new.table new.heads.items in
     let whole = in_sequence (map tree_of (drop i parts)) in
-    let same : whole ≡ Seq (tree_of part) rest = turn parts i part c.loop-index-test.true c.index-parts-index.is in
+    let same : whole ≡ Seq (tree_of part) rest = parts-turn parts i part c.loop-index-test.true c.index-parts-index.is
+    in
     record {
       same =
-          through-more g (tree_of part) rest whole c.args.locked at.number c.args.first (read_state at.table at.state)
+          through-more g (tree_of part) rest whole c.args.context.now.locked at.number c.args.first
+          (read_state at.table at.state)
           (read_state new.table new.state) start hs later begin p same k.resumed all
           (is_yes p.goes_on c.if-not-passed.false) at.invariant.same;
       number =
-          through-number g (tree_of part) rest whole c.args.locked at.number c.args.first (read_state at.table at.state)
+          through-number g (tree_of part) rest whole c.args.context.now.locked at.number c.args.first
+          (read_state at.table at.state)
           (read_state new.table new.state) start hs later begin p same k.resumed all at.invariant.number;
       long =
           long-back at.table new.table at.heads.items new.heads.items k.resumed.2.1 ∙ at.invariant.long;
@@ -330,10 +332,11 @@ resume_through-returns-then-not-passed t c =
     let new = c.resume.new in
     let k = c.in-Ok.ensures in
     let p = c.in-Ok.passed in
-    let same : whole ≡ Seq (tree_of part) rest = turn parts i part c.loop-index-test.true c.index-parts-index.is in
+    let same : whole ≡ Seq (tree_of part) rest = parts-turn parts i part c.loop-index-test.true c.index-parts-index.is
+    in
     record {
       resumed =
-          through-passed g all c.args.locked at.number c.args.first (read_state at.table at.state)
+          through-passed g all c.args.context.now.locked at.number c.args.first (read_state at.table at.state)
           (read_state older c.args.state.now) (read_heads at.table at.heads.items)
           (read_heads older c.args.heads.now.items)
           (tree_of part) rest whole (read_state new.table new.state) (read_heads new.table new.heads.items) p
@@ -356,7 +359,7 @@ resume_through-returns t c =
     let rest = in_sequence (map tree_of (drop at.index parts)) in
     record {
       resumed =
-          through-done (given c.args.context.now) all c.args.locked at.number c.args.first
+          through-done (given c.args.context.now) all c.args.context.now.locked at.number c.args.first
           (read_state at.table at.state)
           (read_state older c.args.state.now) (read_heads at.table at.heads.items)
           (read_heads older c.args.heads.now.items)
@@ -379,11 +382,11 @@ resume-returns-in-Ok t c =
     let ready = c.requires.numbers in
     record {
       resumed =
-          subst (λ (code : Tree). IsResumed (given c.args.context.now) code c.args.locked c.args.first
+          subst (λ (code : Tree). IsResumed (given c.args.context.now) code c.args.context.now.locked c.args.first
           (read_state older c.args.state.now) (read_state new.table new.state) (read_heads older hs)
           (read_heads new.table hs)
           (Ok (record { next = c.args.first; goes_on = c.in-Ok.goes_on }))) (sym is)
-          (op-resumed (given c.args.context.now) c.in-Op.field-0 c.in-Op.field-1 c.in-Op.op c.args.locked
+          (op-resumed (given c.args.context.now) c.in-Op.field-0 c.in-Op.field-1 c.in-Op.op c.args.context.now.locked
           c.args.first older
           new.table c.args.state.now new.state hs c.in-Ok.goes_on k.table ready.left k.next);
       numbers = record { once = k.once; state = k.numbers; left = heads-still older new.table k.table hs ready.left };
@@ -471,11 +474,12 @@ resume-returns-in-Ok-lower t c =
     record {
       resumed =
           lowered-resumed code under start low c.in-Ok-lifted.ensures older ready two.table on end.new.state last g
-          c.args.locked c.args.first (read_heads older hs) (read_heads two.table two.heads.items) made
-          (subst (λ (part : Tree). IsResumed g part c.args.locked c.args.first (read_state older low)
+          c.args.context.now.locked c.args.first (read_heads older hs) (read_heads two.table two.heads.items) made
+          (subst (λ (part : Tree). IsResumed g part c.args.context.now.locked c.args.first (read_state older low)
           (read_state two.table end.new.state) (read_heads older hs) (read_heads two.table two.heads.items) (Ok made))
           (sym sides)
-          (choice-resumed g left right c.args.locked c.args.first older one.table two.table l.table r.table low
+          (choice-resumed g left right c.args.context.now.locked c.args.first older one.table two.table l.table r.table
+          low
           c.in-Ok-copied.other one.state two.state end.new.state hs one.heads.items two.heads.items p q end.result
           c.in-Ok-copied.ensures in_low l.numbers.state l.resumed r.resumed
           (end.ensures.next two.table r.numbers.once still r.numbers.state)))
@@ -506,9 +510,10 @@ resume-returns-in-Sync t c =
     let m = done.ensures in
     record {
       resumed =
-          subst (λ (code : Tree). IsResumed g code c.args.locked c.args.first (read_state table start) here hs later
+          subst (λ (code : Tree). IsResumed g code c.args.context.now.locked c.args.first (read_state table start) here
+          hs later
           done.result) (sym is)
-          (sync-resumed g lock body c.args.locked c.args.first table start here hs later done.result
+          (sync-resumed g lock body c.args.context.now.locked c.args.first table start here hs later done.result
           (subst (λ (s : NumberedState). IsResumed g body true c.args.first (read_state table s) here hs later
           done.result) c.pop.ensures.rest m.resumed));
       numbers = m.numbers;
@@ -524,7 +529,7 @@ resume-returns-in-Seq t c =
     search (rules, the_lemmas) in
     record {
       resumed =
-          subst (λ (code : Tree). IsResumed (given c.args.context.now) code c.args.locked c.args.first
+          subst (λ (code : Tree). IsResumed (given c.args.context.now) code c.args.context.now.locked c.args.first
           (read_state older c.args.state.now) (read_state new.table new.state) (read_heads older c.args.heads.now.items)
           (read_heads new.table new.heads.items) c.resume_through.result) (sym is) m.resumed;
       numbers = m.numbers;
@@ -539,7 +544,7 @@ resume-returns-in-Loop t c =
     let is : tree_of c.args.code.now ≡ Loop (tree_of c.deref-in-Loop.result.now) = search (rules, the_lemmas) in
     record {
       resumed =
-          subst (λ (code : Tree). IsResumed (given c.args.context.now) code c.args.locked c.args.first
+          subst (λ (code : Tree). IsResumed (given c.args.context.now) code c.args.context.now.locked c.args.first
           (read_state older c.args.state.now) (read_state new.table new.state) (read_heads older c.args.heads.now.items)
           (read_heads new.table new.heads.items) c.resume_loop.result) (sym is) m.resumed;
       numbers = m.numbers;
