@@ -110,8 +110,7 @@ op_effects g locked site (Put f) s =
       records = record_of g Write locked site (slot_of s 1) f;
       wobbly = stored_paths (slot_of s 1) f (top s);
     }
-op_effects g locked site (Set v) s =
-    record (goes_on (record { vars = slice_set s.vars v.0 (top s); stack = s.stack })) { wobbly = names_of (top s) }
+op_effects g locked site (Set v) s = goes_on (record { vars = slice_set s.vars v.0 (top s); stack = s.stack })
 op_effects g locked site (Prim n) s = goes_on (replaced s n Unnamed)
 op_effects g locked site (Outside n) s = goes_on (replaced s n Unnamed)
 op_effects g locked site (Call m n) s = call_effects g locked site m n s (g.known_of m)

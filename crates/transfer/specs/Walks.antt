@@ -2,11 +2,9 @@
 use Rattle.std.specs.Prelude.{◌≡◌, Bool, true, false, [], Option, None, Some, Result, Ok, Err, OnOk}
 use Rattle.std.specs.Prelude.{slice_index_or, slice_set}
 use Rattle.racer_base.specs.declared.ids.SiteId.{SiteId}
-use Rattle.racer_base.specs.declared.ids.VarId.{VarId}
 use Rattle.access_paths.specs.declared.path.Root.TheVariants.{Class}
 use Rattle.access_paths.specs.Paths.{alone}
 use Rattle.owner_domain.specs.declared.value.Value.TheVariants.{Owned, Named, Unnamed}
-use Rattle.owner_domain.specs.Values.{names_of}
 use Rattle.owner_domain.specs.declared.value.State.{State}
 use Rattle.core_code.specs.declared.code.Op.{Op as CoreOp}
 use Rattle.core_code.specs.declared.code.Op.TheVariants.{Push, PushClass, PushPrim, PushNull, New, Dup, Drop, Get, Put}
@@ -15,7 +13,7 @@ use Rattle.access_domain.specs.Findings.{Findings}
 use Rattle.access_domain.specs.FlowContext.{FlowContext}
 use Rattle.access_domain.specs.Substitution.{substituted}
 use Rattle.access_domain.specs.Flow.{rounds}
-use Rattle.access_domain.specs.Operations.{Effects, goes_on, top, pushed, popped, replaced}
+use Rattle.access_domain.specs.Operations.{Effects, top, pushed, popped, replaced}
 use Rattle.transfer.specs.declared.found.Found.{Found}
 use Rattle.transfer.specs.declared.found.Stop.{Stop}
 use Rattle.transfer.specs.NotedCalls.{PassingCall, passed_by}
@@ -36,7 +34,6 @@ IsFlow e here old new (Err stop) = IsStopped old e stop
 abbrev pub is_quiet : CoreOp → Bool
 is_quiet (Get f) = false
 is_quiet (Put f) = false
-is_quiet (Set v) = false
 is_quiet (Call m n) = false
 is_quiet Ret = false
 is_quiet Throw = false
@@ -51,14 +48,11 @@ moved PushNull s = pushed s Owned
 moved (New c) s = pushed s Owned
 moved Dup s = pushed s (top s)
 moved Drop s = popped s 1
+moved (Set v) s = record { vars = slice_set s.vars v.0 (top s); stack = s.stack }
 moved (Prim n) s = replaced s n Unnamed
 moved (Outside n) s = replaced s n Unnamed
 moved (Unread m n) s = replaced s n Unnamed
 moved _ s = s
-
-abbrev pub set_effects : VarId → State → Effects
-set_effects v s =
-    record (goes_on (record { vars = slice_set s.vars v.0 (top s); stack = s.stack })) { wobbly = names_of (top s) }
 
 -- whether an operation calls a method
 abbrev pub is_call : CoreOp → Bool

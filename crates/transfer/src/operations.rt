@@ -17,7 +17,7 @@ ghost use Rattle.transfer.specs.Marks.{IsMarked, marks, returns_of};
 ghost use Rattle.transfer.specs.Numbered.{read_found, AreFoundNumbers, IsBelow, IsFlowOf, named_or_unnamed};
 ghost use Rattle.owner_domain.specs.Slots.{popped_numbers};
 ghost use Rattle.transfer.specs.Noting.{AreNotes, AreNoted, IsDone, IsWalk, IsWalked};
-ghost use Rattle.transfer.specs.Walks.{IsFlow, is_call, is_quiet, moved, next_of, set_effects};
+ghost use Rattle.transfer.specs.Walks.{IsFlow, is_call, is_quiet, moved, next_of};
 
 use crate::calls::{Callee, move_call};
 use crate::found::Stop;
@@ -28,7 +28,7 @@ use access_paths::{Path, PathTable, Root};
 use call_subst::number_value;
 use core_code::{Op, Program};
 use owner_domain::{FlowState, NumberedValue, along_path};
-use racer_base::{FieldId, Memory, SiteId, Touch, VarId};
+use racer_base::{FieldId, Memory, SiteId, Touch};
 use std::alloc::Global;
 use std::mem;
 
@@ -50,7 +50,7 @@ fn is_quiet(op: Op) -> bool
 {
     !matches!(
         op,
-        Op::Get(_) | Op::Put(_) | Op::Set(_) | Op::Call(_, _) | Op::Ret | Op::Throw
+        Op::Get(_) | Op::Put(_) | Op::Call(_, _) | Op::Ret | Op::Throw
     )
 }
 
@@ -81,10 +81,15 @@ fn move_on(
             mem::drop(state.pop());
             Ok(())
         }
+        Op::Set(variable) => {
+            let value = state.top();
+            state.set(variable, value);
+            Ok(())
+        }
         Op::Prim(count) | Op::Outside(count) | Op::Unread(_, count) => {
             state.replace(count, NumberedValue::Unnamed)
         }
-        Op::Get(_) | Op::Put(_) | Op::Set(_) | Op::Call(_, _) | Op::Ret | Op::Throw => Ok(()),
+        Op::Get(_) | Op::Put(_) | Op::Call(_, _) | Op::Ret | Op::Throw => Ok(()),
     }
 }
 
@@ -290,23 +295,6 @@ fn note_store(
     found.note_name(value)
 }
 
-/// Stores the top in a variable, and leaves it on the stack.
-fn set(variable: VarId, state: &mut FlowState, found: &mut NumberedFound) -> Result<bool, Stop>
-    ensures flow { (table : List TablePath) → IsFlowOf table state.old found.old →
-        IsFlow (set_effects variable (read_state table state.old)) (read_state table state.new)
-        (read_found table found.old) (read_found table found.new) result }
-    ensures numbers { OnOk result ((table : List TablePath) → IsFlowOf table state.old found.old →
-        IsFlowOf table state.new found.new) }
-{
-    let value = state.top();
-    match found.note_name(value) {
-        Ok(()) => {}
-        Err(stop) => return Err(stop),
-    }
-    state.set(variable, value);
-    Ok(true)
-}
-
 /// Returns the top.
 fn give_back(alloc: Global, state: &mut FlowState, found: &mut NumberedFound) -> Result<bool, Stop>
     ensures flow { (table : List TablePath) → IsFlowOf table state.old found.old →
@@ -338,7 +326,6 @@ impl Notes {
         match op {
             Op::Get(f) => self.get(context, site, f, state),
             Op::Put(f) => self.put(context, site, f, state),
-            Op::Set(variable) => set(variable, state, &mut self.found),
             Op::Ret => give_back(context.alloc, state, &mut self.found),
             Op::Throw => Ok(false),
             _ => unreachable!(),
@@ -415,11 +402,6 @@ pub fn move_any(
             let value = state.pop();
             mem::drop(state.pop());
             state.push(value)?;
-            Ok(true)
-        }
-        Op::Set(variable) => {
-            let value = state.top();
-            state.set(variable, value);
             Ok(true)
         }
         Op::Call(method, count) => {

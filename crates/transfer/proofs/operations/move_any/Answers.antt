@@ -5,7 +5,7 @@ use Rattle.owner_domain.specs.Numbered.{read_state}
 use Rattle.access_domain.specs.Operations.{op_effects}
 use Rattle.transfer.specs.Contexts.{given}
 use Rattle.owner_domain.specs.Slots.{pushed_number}
-use Rattle.transfer.proofs.NumberedSteps.{get-state, get-in, set-state, set-state-in}
+use Rattle.transfer.proofs.NumberedSteps.{get-state, get-in}
 use Rattle.transfer.proofs.operations.move_any.Goals as goal
 
 pub returns-in_ok-move_call-in-Call-clause-next : goal.returns-in_ok-move_call-in-Call-clause-next
@@ -39,17 +39,3 @@ returns-in_ok-push-in-Get-clause-numbers c =
     c.touched_field-plain.ensures.plain c.push.new.self
     (c.in_ok-push-in-Get.ensures
     ∙ (λ i. pushed_number (c.pop_field.ensures.rest i) (c.value_read.ensures i)))
-
-pub returns-in-Set-clause-next : goal.returns-in-Set-clause-next
-returns-in-Set-clause-next c = λ locked site.
-    let table = c.args.table.now in
-    let here = c.args.state.now in
-    ap (λ (op : CoreOp). (op_effects (given c.args.context.now) locked site op (read_state table here)).next)
-    c.in-Set.is
-    ∙ ap Some (sym
-    (set-state table here c.top-value.result c.top-value.ensures c.in-Set.variable c.set.new.self c.set.ensures))
-
-pub returns-in-Set-clause-numbers : goal.returns-in-Set-clause-numbers
-returns-in-Set-clause-numbers c =
-    set-state-in c.args.table.now c.args.state.now c.top-value.result c.top-value.ensures c.in-Set.variable
-    c.set.new.self c.set.ensures c.requires.numbers

@@ -9,7 +9,7 @@ use Rattle.owner_domain.specs.Numbered.{read_state}
 use Rattle.owner_domain.specs.Slots.{pushed_number, replaced_numbers}
 use Rattle.transfer.specs.Walks.{moved}
 use Rattle.transfer.proofs.SlotsRead.{slot-in, pushed-in, replaced-in}
-use Rattle.transfer.proofs.NumberedSteps.{moved-in, replaced-to, root-pushed, root-in}
+use Rattle.transfer.proofs.NumberedSteps.{moved-in, replaced-to, root-pushed, root-in, set-state, set-state-in}
 use Rattle.transfer.proofs.operations.move_on.Goals as goal
 
 pub returns-in-Push-clause-numbers : goal.returns-in-Push-clause-numbers
@@ -38,6 +38,18 @@ returns-in_ok-number-in-PushClass-clause-numbers c =
     let given = c.in_ok-number-in-PushClass in
     root-in c.push.result c.args.table.now c.number_of.new.self c.number_of.ensures.goes_on c.args.state.now
     c.push.new.self c.requires.numbers given.number c.push.ensures c.alone.result given.ensures.number
+
+pub returns-in-Set-clause-next : goal.returns-in-Set-clause-next
+returns-in-Set-clause-next c =
+    let table = c.args.table.now in
+    let here = c.args.state.now in
+    set-state table here c.top-value.result c.top-value.ensures c.in-Set.variable c.set.new.self c.set.ensures
+    ∙ ap (λ (op : CoreOp). moved op (read_state table here)) (sym c.in-Set.is)
+
+pub returns-in-Set-clause-numbers : goal.returns-in-Set-clause-numbers
+returns-in-Set-clause-numbers c =
+    set-state-in c.args.table.now c.args.state.now c.top-value.result c.top-value.ensures c.in-Set.variable
+    c.set.new.self c.set.ensures c.requires.numbers
 
 pub returns-in-Prim-clause-next : goal.returns-in-Prim-clause-next
 returns-in-Prim-clause-next c =
