@@ -7,7 +7,6 @@ use Rattle.java_tree.specs.declared.expressions.Initialiser.{Initialiser}
 use Rattle.java_tree.specs.declared.expressions.Expression.TheOpen as expression
 use Rattle.java_tree.specs.KeptPlaces.{Places, each_puts, name_places, ty_places, expr_places, init_places}
 use Rattle.java_tree.specs.KeptPlaces.{array_places}
-use Rattle.java_tree.specs.KeptPlaces as kept
 use Rattle.java_tree.specs.Trees as view
 use Rattle.java_tree.specs.View.{ty_of, name_of}
 use Rattle.java_tree.specs.View as viewed
@@ -19,7 +18,6 @@ use Rattle.core_lowering_rules.specs.Trees.{Value}
 use Rattle.core_lowering_rules.specs.Trees.{Items, pack_exprs, pack_inits}
 use Rattle.core_lowering_rules.specs.TreesOf.{access_of, assignment, binary, prefix, expr_of, init_of}
 use Rattle.core_lowering_rules.specs.Trees as tree
-use Rattle.core_lowering_rules.specs.TreesOf as lowered
 use Rattle.core_lowering_rules.proofs.TreeSteps.{TreeFact, HasExpr, HasInit, Exprs, Initialisers, Layer, InitLayer}
 use Rattle.core_lowering_rules.proofs.TreeSteps.{OfLayer, OfInitLayer, TreeSteps, plain_inits, expr-all, init-all}
 use Rattle.core_lowering_rules.proofs.FilledTrees.{Filled, filled, skip, skip-is, one-is, two-is, three-is}

@@ -1,5 +1,5 @@
 -- Code whose places are in their files, and whose classes and unread methods are there.
-use Rattle.std.proofs.Common.{◌≡◌, ℕ, zero, suc, ◌+◌, ◌<◌, Bool, true, false, cond, ◌&&◌, List, [], ◌∷◌, ◌++◌}
+use Rattle.std.proofs.Common.{◌≡◌, ℕ, zero, suc, ◌<◌, Bool, true, false, cond, ◌&&◌, List, [], ◌∷◌, ◌++◌}
 use Rattle.std.proofs.Common.{Option, Some, None}
 use Rattle.std.proofs.Common.{length, refl, ap, ◌∙◌, slice_get, nat_lt, is_some, arith}
 use Rattle.std.specs.List.{list_all}
@@ -224,4 +224,5 @@ module _ (core : Core) (m : Method) where
   pub code-in_range : {code : Code} → Fine core code →
       is_some (kinds_after core m (numbered 0 (in_sequence code)) []) ≡ true → InRange (numbered 0 (in_sequence code))
   code-in_range {code} f h =
-      in_range (numbered 0 (in_sequence code)) [] h (same-numbered (same_soundness core) (in_sequence code) 0 ∙ whole core f)
+      in_range (numbered 0 (in_sequence code)) [] h
+      (same-numbered (same_soundness core) (in_sequence code) 0 ∙ whole core f)

@@ -1,4 +1,5 @@
--- Lowered expressions are kinded: their code leaves one value, which suits their kind.
+-- Lowered expressions are kinded: their code leaves one value, which suits their kind. No instance of LoweredFacts:
+-- what an operation does to kinds depends on the stack before it, so each form threads its values.
 use Rattle.std.proofs.Common.{◌≡◌, Bool, true, false, cond, List, [], ◌∷◌, ◌++◌, Option, Some, None}
 use Rattle.std.proofs.Common.{refl}
 use Rattle.std.proofs.Common.{subst}

@@ -1,5 +1,5 @@
 -- Lowered methods are kinded, whatever is in them.
-use Rattle.std.proofs.Common.{◌≡◌, ℕ, ◌+◌, Bool, true, false, cond, List, [], ◌∷◌, ◌++◌, Option, Some, None, map}
+use Rattle.std.proofs.Common.{◌≡◌, ℕ, Bool, true, false, cond, List, [], ◌∷◌, ◌++◌, Option, Some, None, map}
 use Rattle.std.proofs.Common.{refl}
 use Rattle.std.proofs.Common.{sym, ap, ◌∙◌, append_assoc, append-nil, slice_get, is_some}
 use Rattle.std.specs.Prelude.{codes}
@@ -29,7 +29,6 @@ use Rattle.core_code.specs.KindCheck.{Kinds, and_then, where_true, kinds_after, 
 use Rattle.core_code.specs.KindCheck.{begins_with}
 use Rattle.core_code.specs.KindCheck.{is_kinded, variable_at}
 use Rattle.core_code.specs.Calls.{taken_by}
-use Rattle.core_code.specs.Calls as core_calls
 use Rattle.core_code.proofs.BoolParts.{both}
 use Rattle.core_lowering_rules.specs.Trees.{Stmts}
 use Rattle.core_lowering_rules.specs.TreesOf.{init_of}

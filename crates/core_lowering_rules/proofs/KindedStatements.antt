@@ -1,4 +1,5 @@
--- Lowered statements are kinded: their code leaves the empty stack empty.
+-- Lowered statements are kinded: their code leaves the empty stack empty. No instance of LoweredFacts, since it
+-- asks for the variables of the whole method at each declaration.
 use Rattle.std.proofs.Common.{◌≡◌, true, List, [], ◌∷◌, ◌++◌, Option, Some, None, length, refl}
 use Rattle.std.proofs.Common.{sym}
 use Rattle.std.proofs.Common.{ap, subst, append_assoc}

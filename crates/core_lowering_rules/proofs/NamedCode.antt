@@ -1,6 +1,5 @@
 -- Code names the same methods in its calls, whichever methods are analysed.
 use Rattle.std.proofs.Common.{◌≡◌, ℕ, suc, Bool, true, false, cond, List, [], ◌∷◌, ◌++◌, refl, sym, ap, ◌∙◌}
-use Rattle.std.proofs.Common.{◌+◌}
 use Rattle.std.proofs.Common.{append-nil, map, Option}
 use Rattle.std.specs.List.{flat_map, list_all}
 use Rattle.std.proofs.lemmas.List.Concat.{flat_map-append}

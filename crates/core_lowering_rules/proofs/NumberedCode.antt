@@ -31,7 +31,8 @@ same_heights =
       of_op = λ site other place o h. refl;
       of_skip = λ h. refl;
       of_seq = λ a b c d p q h.
-          ap (λ (o : Option ℕ). elim o as (λ (_ : Option ℕ). Option ℕ) [ None ↦ None | Some k ↦ height_after b k ]) (p h)
+          ap (λ (o : Option ℕ). elim o as (λ (_ : Option ℕ). Option ℕ) [ None ↦ None | Some k ↦ height_after b k ])
+          (p h)
           ∙ then-agree (height_after c h) (height_after b) (height_after d) q;
       of_choice = λ a b c d p q h.
           ap (λ o. same_height o (height_after b h)) (p h) ∙ ap (same_height (height_after c h)) (q h);
@@ -111,4 +112,5 @@ ends-by context body false e = e
 -- code with a return at its end does not end otherwise
 pub ended-ends : (context : Context) (body : Code) → can_end (numbered 0 (in_sequence (ended context body))) ≡ false
 ended-ends context body =
-    same-numbered same_ends (in_sequence (ended context body)) 0 ∙ ends-by context body (can_end (in_sequence body)) refl
+    same-numbered same_ends (in_sequence (ended context body)) 0
+    ∙ ends-by context body (can_end (in_sequence body)) refl
