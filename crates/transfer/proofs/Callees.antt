@@ -1,13 +1,12 @@
 -- What a call finds that was noted before is found again without effect.
 use Rattle.std.proofs.Common.{◌≡◌, ℕ, Bool, true, false, cond, ◌&&◌, ◌||◌, List, [], ◌∷◌, ◌++◌, Option, None, Some}
-use Rattle.std.proofs.Common.{length, nat_lt, refl, sym, ap, subst, ◌∙◌}
+use Rattle.std.proofs.Common.{refl, sym, ap, subst, ◌∙◌}
 use Rattle.std.specs.FinSet as set
 use Rattle.std.specs.List.{list_any, enumerate_from, flat_map}
 use Rattle.std.specs.Ordering.{eq_by_cmp}
 use Rattle.std.specs.Prelude.{Result, Ok, Err, OnOk}
 use Rattle.indexmap.specs.IndexSet.{insert_key}
 use Rattle.racer_base.specs.declared.ids.SiteId.{SiteId}
-use Rattle.racer_base.specs.declared.limits.TheConstants.{MAX_SUMMARY_KEYS}
 use Rattle.access_paths.specs.declared.path.Path.{Path}
 use Rattle.access_paths.specs.Order.{PathSet, path_cmp}
 use Rattle.access_paths.specs.Paths.{same_path}
@@ -18,7 +17,7 @@ use Rattle.access_domain.specs.declared.access.Access.{Access}
 use Rattle.access_domain.specs.Additions.{key_added, keys_added, paths_added}
 use Rattle.access_domain.specs.declared.summary.Summary.{Summary}
 use Rattle.access_domain.specs.Findings.{Findings, Whole, summary_from}
-use Rattle.access_domain.specs.Flow.{both, lost_result, joined_result}
+use Rattle.access_domain.specs.Flow.{both, lost_result}
 use Rattle.access_domain.specs.FlowContext.{FlowContext}
 use Rattle.access_domain.specs.Operations.{Effects, call_effects, found_effects, passed_from}
 use Rattle.access_domain.specs.Records.{same_flag, same_touch, same_key, first_of_keys, different_paths}
@@ -32,7 +31,7 @@ use Rattle.transfer.specs.declared.found.Stop.TheVariants.{Large, Memory}
 use Rattle.transfer.specs.declared.noted_calls.NotedCall.{NotedCall}
 use Rattle.call_subst.proofs.SameSets.{from_list-items}
 use Rattle.transfer.specs.Known.{findings_in}
-use Rattle.transfer.specs.Marks.{marks, added, paths_after, is_many, IsNoted, IsStopped, IsMarked}
+use Rattle.transfer.specs.Marks.{marks, added, paths_after, IsNoted, IsStopped, IsMarked}
 use Rattle.transfer.specs.NotedCalls.{flags, flag-itself, same_call, equal_of_same_call, call_records, call_names}
 use Rattle.transfer.specs.NotedCalls.{passed_by, ArePresent, IsFound}
 use Rattle.transfer.specs.NotedCalls.{AreFound, PassingCall}

@@ -1,5 +1,5 @@
 -- Where the stack is high enough for code it is so for its parts, and heads that are sound stay so from round to round.
-use Rattle.std.proofs.Common.{◌≡◌, ℕ, zero, suc, ◌+◌, ◌-◌, ◌≤◌, Bool, true, false, slice_get, List, [], ◌∷◌, ◌++◌}
+use Rattle.std.proofs.Common.{◌≡◌, ℕ, zero, suc, ◌+◌, ◌-◌, ◌≤◌, Bool, true, slice_get, List, [], ◌∷◌, ◌++◌}
 use Rattle.std.proofs.Common.{Option, None, Some, length, is_some, replicate, refl, sym, ap, subst, ◌∙◌, arith}
 use Rattle.owner_domain.specs.declared.value.State.{State}
 use Rattle.core_code.specs.Tree.{LockAt, Tree, Seq, Choice, Loop, Sync}

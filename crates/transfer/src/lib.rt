@@ -4,6 +4,10 @@
 //! The definitions are those of `access_domain`: `specs/Flow.antt`, `specs/Operations.antt` and
 //! `specs/Summaries.antt`. A `Finished` keeps by its type that its outcome is its method's, for its program.
 //!
+//! What goes along is a `Walk`: its `Notes`, which are a table of paths and what was found by their numbers, and the
+//! calls whose findings are among these. The state stands beside it, since a choice goes on from two. What stands still
+//! is a `MethodContext`. `specs/Noting.antt` says what a walk stands on and what it makes of it, in a clause each.
+//!
 //! `let Ok(..) = .. else` and `match` stand in place of `?`: what has two ways out and more is proved at less cost so.
 //!
 //! A loop's rounds are a walk over states alone (`resuming.rt`), where only the paths that are lost at joins are

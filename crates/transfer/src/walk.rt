@@ -51,23 +51,16 @@ impl Walk {
                 let Ok(mut other) = state.copied(context.alloc) else {
                     return Err(Stop::Memory);
                 };
-                let left_goes_on = match self.walk_code(context, left, state) {
+                let one = match self.walk_code(context, left, state) {
                     Ok(goes_on) => goes_on,
                     Err(stop) => return Err(stop),
                 };
-                let right_goes_on = match self.walk_code(context, right, &mut other) {
+                let two = match self.walk_code(context, right, &mut other) {
                     Ok(goes_on) => goes_on,
                     Err(stop) => return Err(stop),
                 };
                 let found = &mut self.notes.found;
-                let joined = join_ends(
-                    context.alloc,
-                    left_goes_on,
-                    right_goes_on,
-                    state,
-                    other,
-                    found,
-                );
+                let joined = join_ends(context.alloc, one, two, state, other, found);
                 lowered(joined, under, state)
             }
             Code::Loop(body) => self.repeat(context, body, state),

@@ -1,4 +1,4 @@
-use Rattle.std.proofs.Common.{◌<◌, List, [], length, get_or}
+use Rattle.std.proofs.Common.{List, []}
 use Rattle.access_domain.specs.declared.numbered.NumberedAccess.{NumberedAccess}
 use Rattle.access_domain.specs.Numbered.{read_accesses}
 use Rattle.transfer.specs.Marks.{marks}
