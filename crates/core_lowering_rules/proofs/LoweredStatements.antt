@@ -10,7 +10,6 @@ use Rattle.java_resolver.specs.declared.scope.ScopeVariable.{ScopeVariable}
 use Rattle.core_code.specs.declared.code.Reason.{Reason}
 use Rattle.core_code.specs.declared.code.Op.{Op as CoreOp}
 use Rattle.core_code.specs.declared.code.Op.TheVariants.{PushPrim, PushNull, Drop, Set, Outside, Ret, Push}
-use Rattle.core_code.specs.Recursion.{named_by}
 use Rattle.core_lowering_rules.specs.Trees.{Expr, Exprs, no_expr, expr_then, Init, Variable, Start, Declares, Runs}
 use Rattle.core_lowering_rules.specs.Trees.{Stmt, Run}
 use Rattle.core_lowering_rules.specs.Trees.{Local, If, IfElse, While, For, ForEach, Sync, Return, Block, Empty, Stmts}
@@ -170,11 +169,6 @@ module _ (f : Fact) (statuses : List (Option Reason)) where
       (λ g. joined f (here f statuses c g (Outside 0) refl) (set-holds (other c) c (beside g) (next_variable c)))
 
   -- ---- returns
-
-  -- an operation that is in neither way a call
-  quiet : (c : Context) → Grounded f.tests c → (o : CoreOp) → is_named f.tests.is_class f.tests.is_method o ≡ true →
-      named_by o ≡ [] → f.Holds [] (op c o)
-  quiet c g o h n = f.missing c.place o g.here h n
 
   nothing-holds : (c : Context) → Grounded f.tests c → (r : Result) →
       f.Holds (returned_nothing (other c) r) (returned_nothing c r)

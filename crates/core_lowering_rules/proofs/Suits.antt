@@ -56,11 +56,6 @@ fits-suits types.Plain s h = tt
 fits-suits (types.Declared c) s h = h
 fits-suits types.Other s h = tt
 
-pub suits-fits : (k : Kind) (s : StackKind) → Suits (Of k) s → fits k s ≡ true
-suits-fits types.Plain s h = refl
-suits-fits (types.Declared c) s h = h
-suits-fits types.Other s h = refl
-
 pub suits-own : (k : Kind) → Suits (Of k) (kind_of k)
 suits-own types.Plain = tt
 suits-own (types.Declared c) = class_same c
