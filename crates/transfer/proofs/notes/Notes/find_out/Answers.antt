@@ -1,7 +1,7 @@
 use Rattle.std.proofs.Common.{Ok, false, [], refl, sym, subst}
 use Rattle.access_paths.proofs.Numbers.{goes_on-same}
 use Rattle.core_code.specs.declared.code.Op.{Op as CoreOp}
-use Rattle.core_code.specs.declared.code.Op.TheVariants.{Set, Ret}
+use Rattle.core_code.specs.declared.code.Op.TheVariants.{Ret}
 use Rattle.access_domain.specs.Operations.{op_effects}
 use Rattle.transfer.specs.Contexts.{given}
 use Rattle.transfer.specs.Noting.{IsDone}
@@ -23,17 +23,6 @@ returns-in-Put c =
     let new = c.put.new in
     subst (λ (op : CoreOp). IsDone (op_effects (given context) context.locked c.args.site op) c.args.self.now
     c.args.state.now new.self new.state c.put.result) (sym c.in-Put.is) c.put.ensures
-
-pub returns-in-Set : goal.returns-in-Set
-returns-in-Set c =
-    let context = c.args.context.now in
-    let old = c.args.self.now in
-    let new = c.set.new in
-    subst (λ (op : CoreOp). IsDone (op_effects (given context) context.locked c.args.site op) old c.args.state.now
-    (record { table = old.table; found = new.found }) new.state c.set.result) (sym c.in-Set.is)
-    (found-done (op_effects (given context) context.locked c.args.site (Set c.in-Set.variable)) old.table
-    c.args.state.now new.state old.found new.found c.set.result c.requires.numbers c.set.ensures.flow
-    c.set.ensures.numbers)
 
 pub returns-in-Ret : goal.returns-in-Ret
 returns-in-Ret c =
