@@ -157,7 +157,7 @@ module _ (us : List Value) (s : State) where
           next = Some (let made : State = record { vars = slice_set s.vars x.0 (slot_is 0 low i); stack = s.stack ++ us }
               in made);
           records = [];
-          wobbly = names_of (slot_is 0 low i);
+          wobbly = [];
           result = None;
           large = false;
         })
