@@ -1,6 +1,6 @@
 //! Tests of the top call with a folder and a sink each of whose calls fails once, and of calls that are not made.
 use super::*;
-use crate::tests::{Case, DINNER, FAULT, REFUSED, held, holds};
+use crate::tests::{Case, DINNER, REFUSED, held, holds};
 use racer_base::MAX_FILE_BYTES;
 use std::alloc::Global;
 use std::sync::Wait;
@@ -50,18 +50,12 @@ const CALLS: &[Case] = &[
     },
 ];
 
-/// The same of files of 1 MiB, one more than are read: the 33rd is the first with which they are too many bytes.
-const LONG_FILES: &[Case] = &[
-    Case {
-        folder_fails: &[34],
-        ..FAULT
-    },
-    Case {
-        folder_fails: &[35],
-        text: b"refused too many bytes 34603008\n",
-        ..REFUSED
-    },
-];
+/// Files of 1 MiB, one more than are read: the 33rd is the first with which they are too many bytes.
+const LONG_FILES: Case = Case {
+    folder_fails: &[35],
+    text: b"refused too many bytes 34603008\n",
+    ..REFUSED
+};
 
 /// One file more than are read: their names are counted before the first is read, which would fail.
 const MANY_FILES: Case = Case {
@@ -117,19 +111,18 @@ fn files<'a>(
     Ok(files)
 }
 
-/// How many rows hold over these files, in place of their own, before the first that does not.
-fn held_over<R: Threads + Wait + Sync>(
+/// Whether the row holds over so many files of these bytes, in place of its own.
+fn holds_over<R: Threads + Wait + Sync>(
     rt: &R,
     alloc: Global,
-    files: &[(&str, &[u8])],
-    rows: &[Case],
-) -> Result<usize, Fail> {
-    for (i, row) in rows.iter().enumerate() {
-        if !holds(rt, alloc, &Case { files, ..*row })? {
-            return Ok(i);
-        }
-    }
-    Ok(rows.len())
+    count: u32,
+    bytes: &[u8],
+    row: &Case,
+) -> Result<bool, Fail> {
+    let names = names(alloc, count)?;
+    let files = files(alloc, names.as_slice(), bytes)?;
+    let files = files.as_slice();
+    holds(rt, alloc, &Case { files, ..*row })
 }
 
 #[test]
@@ -141,19 +134,13 @@ fn every_call_fails_once(rt: HostRuntime) -> Result<(), Fail> {
 
 #[test]
 fn no_read_behind_too_many_bytes(rt: HostRuntime) -> Result<(), Fail> {
-    let alloc = rt.alloc();
-    let names = names(alloc, 34)?;
-    let bytes = vec![in alloc; b' '; MAX_FILE_BYTES]?;
-    let files = files(alloc, names.as_slice(), bytes.as_slice())?;
-    assert!(rt; held_over(&rt, alloc, files.as_slice(), LONG_FILES)? == LONG_FILES.len());
+    let bytes = vec![in rt.alloc(); b' '; MAX_FILE_BYTES]?;
+    assert!(rt; holds_over(&rt, rt.alloc(), 34, bytes.as_slice(), &LONG_FILES)?);
     Ok(())
 }
 
 #[test]
 fn no_read_behind_too_many_files(rt: HostRuntime) -> Result<(), Fail> {
-    let alloc = rt.alloc();
-    let names = names(alloc, 4097)?;
-    let files = files(alloc, names.as_slice(), b"class A { }")?;
-    assert!(rt; held_over(&rt, alloc, files.as_slice(), &[MANY_FILES])? == 1);
+    assert!(rt; holds_over(&rt, rt.alloc(), 4097, b"class A { }", &MANY_FILES)?);
     Ok(())
 }
