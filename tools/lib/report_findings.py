@@ -10,12 +10,13 @@ HEAD = "racer findings 1"
 
 # How many words a line of a list has behind its count, by its first: of a warning also those of older lists, which have
 # neither its lock nor its partner.
-LENGTHS = {"warning": (6, 8), "refused": (2,), "left out": (3,), "checked": (3,)}
+LENGTHS = {"warning": (6, 8), "refused": (2,), "left out": (3,), "checked": (3,), "profile": (2,)}
 
 
 class Findings:
     """What is found in reports: how often each finding is there, with its places and its details, which methods are not
-    analysed, and which classes are checked; of the packages whose types are known, these with their methods."""
+    analysed, and which classes are checked; of the packages whose types are known, these with their methods; and the
+    profiles of the reports."""
 
     def __init__(self):
         self.counts = collections.Counter()
@@ -23,6 +24,7 @@ class Findings:
         self.details = collections.defaultdict(list)
         self.not_analysed = {}
         self.checked, self.types, self.reports = {}, {}, {}
+        self.profiles = set()
 
     def add(self, key, place):
         """Adds a finding."""
@@ -42,6 +44,7 @@ class Findings:
         if report.object is None:
             self.add(refused_key(report), f"{refusal_text(report)} (introduced)")
             return
+        self.profiles.add(report.object["profile"])
         for warning in report.object["warnings"]:
             key = warning_key(report, warning)
             self.details[key].append(details_of(warning))
@@ -57,12 +60,16 @@ class Findings:
             details = self.details.get(key) or [()] * count
             found.update((*key, *one) for one in details)
         found.update(("checked", *one) for one in self.were_checked())
+        found.update(("profile", str(profile)) for profile in self.profiles)
         return [HEAD, *("\t".join((str(found[key]), *key)) for key in sorted(found))]
 
     def add_line(self, count, key):
         """Adds a line of a list."""
         if key[0] == "checked":
             self.checked.setdefault(key[1], set()).add(key[2])
+            return
+        if key[0] == "profile":
+            self.profiles.add(int(key[1]))
             return
         own, details = (tuple(key[:6]), tuple(key[6:])) if key[0] == "warning" else (tuple(key), ())
         self.counts[own] += count
