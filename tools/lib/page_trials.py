@@ -53,7 +53,7 @@ def report(files):
         outside = {**side(file, 1), "at": [f"{file}:1:1"]}
         found.append({**outside, "mark": {"word": "unnamed"}, "with": outside})
     left = [{"method": f"{NAME}.lost<script>/2", "place": f"{files[0]}:1:1", "reason": EVIL}]
-    counts = {"classes": 1, "files": len(files), "methods": 3, "profile": 1}
+    counts = {"classes": 1, "files": len(files), "methods": 3, "profile": 2}
     return {**counts, "not_analysed": left, "skipped": [f"{files[0]}:2:3"], "warnings": found}
 
 
@@ -128,5 +128,5 @@ def desk():
     marks.append(("none/0", "10:22", {"word": "blocked", "place": "Desk.java:10:22", "thread": 0}))
     found = [{**side_of(name, at), "mark": mark, "with": side_of(name, at)} for name, at, mark in marks]
     left = [{"method": "Desk.lost/0", "place": "Desk.java:8:8", "reason": "outside"}]
-    counts = {"classes": 1, "files": 1, "methods": 5, "profile": 1, "skipped": []}
+    counts = {"classes": 1, "files": 1, "methods": 5, "profile": 2, "skipped": []}
     return {**counts, "not_analysed": left, "warnings": found}

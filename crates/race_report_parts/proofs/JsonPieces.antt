@@ -35,9 +35,9 @@ each_place core places = ap values (one_by_one core places)
 first_pieces : (c f m : ℕ) (na sk : Data) (others : Members) →
     compact_text (object (member (codes "classes") (count c) (member (codes "files") (count f)
     (member (codes "methods") (count m) (member (codes "not_analysed") na
-    (member (codes "profile") (count 1) (member (codes "skipped") sk others))))))) ≡
+    (member (codes "profile") (count 2) (member (codes "skipped") sk others))))))) ≡
     codes "{\"classes\":" ++ decimal c ++ codes ",\"files\":" ++ decimal f ++ codes ",\"methods\":" ++ decimal m
-    ++ codes ",\"not_analysed\":" ++ compact_text na ++ codes ",\"profile\":1,\"skipped\":" ++ compact_text sk
+    ++ codes ",\"not_analysed\":" ++ compact_text na ++ codes ",\"profile\":2,\"skipped\":" ++ compact_text sk
     ++ members_text true others
 unfolding serde_json_on_literals
 first_pieces c f m na sk others = simp (one, append_assoc)
@@ -57,10 +57,10 @@ grouped a b c d e rest = simp append_assoc
 
 grouped_first : (core : Core) (rest : List ℕ) → first_text core ++ rest ≡
     counts_text core ++ codes ",\"not_analysed\":" ++ not_analysed_text core
-    ++ codes ",\"profile\":1,\"skipped\":" ++ places_strings core core.skipped ++ rest
+    ++ codes ",\"profile\":2,\"skipped\":" ++ places_strings core core.skipped ++ rest
 grouped_first core rest =
     grouped (counts_text core) (codes ",\"not_analysed\":") (not_analysed_text core)
-    (codes ",\"profile\":1,\"skipped\":") (places_strings core core.skipped) rest
+    (codes ",\"profile\":2,\"skipped\":") (places_strings core core.skipped) rest
 
 -- the member of the summaries
 pub summaries_told : (core : Core) (old named new : Written) → Puts (codes ",\"summaries\":") old named →
@@ -93,7 +93,7 @@ whole_texts core summaries found old start two new all first asked last =
     let whole : Data → List ℕ = λ (d : Data).
     compact_text (object (member (codes "classes") (count (length core.classes))
     (member (codes "files") (count (length core.files)) (member (codes "methods") (count (length core.methods))
-    (member (codes "not_analysed") na (member (codes "profile") (count 1) (member (codes "skipped") d others))))))) in
+    (member (codes "not_analysed") na (member (codes "profile") (count 2) (member (codes "skipped") d others))))))) in
     last
     ∙ ap (λ (ws : List Warning). two ++ last_text core ws) all
     ∙ ap (λ t. two ++ t) (sym (last_pieces w))
