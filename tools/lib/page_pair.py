@@ -16,7 +16,7 @@ WHY = {
         "make that field final, or look for yourself",
     ),
     "unstable this": (
-        "`this` was assigned to a local variable, stored in a field, or given to a method that does so",
+        "`this` was stored in a field, lost where two values meet, or given to a method that does so",
         "read it as a warning without a mark",
     ),
     "unread": ("a method on the way is not analysed", "make that method readable"),
