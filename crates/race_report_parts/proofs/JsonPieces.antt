@@ -22,6 +22,9 @@ use Rattle.race_report_parts.specs.Pieces.{summaries_text}
 pub one : decimal 1 ≡ codes "1"
 one = decimal_digit 1 (lit< tt)
 
+profile : decimal 2 ≡ codes "2"
+profile = decimal_digit 2 (lit< tt)
+
 -- an array of places
 one_by_one : (core : Core) (places : List Place) →
     map string (map (place_text core) places) ≡ map (place_value core) places
@@ -40,7 +43,7 @@ first_pieces : (c f m : ℕ) (na sk : Data) (others : Members) →
     ++ codes ",\"not_analysed\":" ++ compact_text na ++ codes ",\"profile\":2,\"skipped\":" ++ compact_text sk
     ++ members_text true others
 unfolding serde_json_on_literals
-first_pieces c f m na sk others = simp (one, append_assoc)
+first_pieces c f m na sk others = simp (profile, append_assoc)
 
 last_pieces : (w : Data) →
     members_text true (member (codes "warnings") w no_members) ≡ codes ",\"warnings\":" ++ compact_text w ++ codes "}"
