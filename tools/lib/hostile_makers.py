@@ -26,7 +26,7 @@ PIECES = (
 )
 WITNESS = (
     '{"class":"Gate","entries":["b/0","a/0"],"legs":[{"steps":9,"thread":1,"turns":""},'
-    '{"steps":3,"thread":0,"turns":""}],"objects":[],"version":1}'
+    '{"steps":3,"thread":0,"turns":""}],"objects":[],"path":"this.c","version":2}'
 )
 
 

@@ -30,7 +30,8 @@ def marks():
     legs = [{"steps": 3, "thread": 1, "turns": "<b>LR"}, {"steps": 4, "thread": 0, "turns": "L" * 3000 + "R"}]
     objects = [f"this.<b>{NAME}", f"this.other<script>{NAME}", "1#0.</svg><script>window.hacked=1</script>"]
     objects += [f"this.many{i}" for i in range(200)]
-    witness = {"class": NAME, "entries": ["a/0", "b/0"], "legs": legs, "objects": objects, "version": 1}
+    run = {"class": NAME, "entries": ["a/0", "b/0"], "legs": legs, "objects": objects}
+    witness = {**run, "path": f"this.<b>{NAME}.evil", "version": 2}
     yield {"word": "confirmed", "witness": witness}
     yield {"word": "confirmed"}
     yield {"word": "unnamed"}
@@ -53,7 +54,7 @@ def report(files):
         outside = {**side(file, 1), "at": [f"{file}:1:1"]}
         found.append({**outside, "mark": {"word": "unnamed"}, "with": outside})
     left = [{"method": f"{NAME}.lost<script>/2", "place": f"{files[0]}:1:1", "reason": EVIL}]
-    counts = {"classes": 1, "files": len(files), "methods": 3, "profile": 2}
+    counts = {"classes": 1, "files": len(files), "methods": 3, "profile": 3}
     return {**counts, "not_analysed": left, "skipped": [f"{files[0]}:2:3"], "warnings": found}
 
 
@@ -122,11 +123,12 @@ def desk():
                 "method": f"Desk.{method}", "path": "this.open"}
 
     legs = [{"steps": 9, "thread": thread, "turns": "RL"} for thread in (0, 1)]
-    witness = {"class": "Desk", "entries": ["help/2", "help/2"], "legs": legs, "objects": [], "version": 1}
+    run = {"class": "Desk", "entries": ["help/2", "help/2"], "legs": legs, "objects": []}
+    witness = {**run, "path": "this.open", "version": 2}
     marks = [("help/2", "6:27", {"word": "confirmed", "witness": witness})]
     marks.append(("both/0", "9:25", {"word": "unread", "place": "Desk.java:9:17"}))
     marks.append(("none/0", "10:22", {"word": "blocked", "place": "Desk.java:10:22", "thread": 0}))
     found = [{**side_of(name, at), "mark": mark, "with": side_of(name, at)} for name, at, mark in marks]
     left = [{"method": "Desk.lost/0", "place": "Desk.java:8:8", "reason": "outside"}]
-    counts = {"classes": 1, "files": 1, "methods": 5, "profile": 2, "skipped": []}
+    counts = {"classes": 1, "files": 1, "methods": 5, "profile": 3, "skipped": []}
     return {**counts, "not_analysed": left, "warnings": found}

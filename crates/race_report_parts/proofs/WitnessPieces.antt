@@ -15,11 +15,11 @@ use Rattle.witness_text_files.specs.Written.{data_of, leg_data, letter, texts_da
 use Rattle.access_paths.specs.Text.{name_at}
 use Rattle.race_report_parts.specs.Json.{count}
 use Rattle.race_report_parts.specs.Marks.{start_text, turn_text}
-use Rattle.race_report_parts.specs.Texts.{class_names}
+use Rattle.race_report_parts.specs.Texts.{class_names, path_text}
 use Rattle.race_report_parts.specs.Told.{Sides}
 use Rattle.race_report_parts.specs.WitnessFiles.{entry_text, file_of_run}
 use Rattle.race_report_parts.specs.Pieces.{leg_numbers, leg_object, witness_member, witness_object}
-use Rattle.race_report_parts.proofs.JsonPieces.{one}
+use Rattle.race_report_parts.proofs.JsonPieces.{two_told}
 
 letters_alone : (turns : List Turn) → map letter turns ≡ flat_map turn_text turns
 letters_alone [] = refl
@@ -46,22 +46,23 @@ leg_told leg =
     ∙ ap (λ (t : List ℕ). leg_numbers leg ++ (codes ",\"turns\":" ++ compact_text (string t)) ++ codes "}")
     (letters_alone leg.turns)
 
-file_pieces : (c e f l m o : Data) →
-    compact_text (object (put (codes "version") (count 1) (put (codes "objects") o
+file_pieces : (c e f l m o p : Data) →
+    compact_text (object (put (codes "version") (count 2) (put (codes "path") p (put (codes "objects") o
     (put (codes "legs") (array (items_of (l ∷ m ∷ []))) (put (codes "entries") (array (items_of (e ∷ f ∷ [])))
-    (put (codes "class") c no_members)))))) ≡
+    (put (codes "class") c no_members))))))) ≡
     codes "{\"class\":" ++ compact_text c ++ codes ",\"entries\":[" ++ compact_text e ++ codes ","
     ++ compact_text f ++ codes "]" ++ codes ",\"legs\":[" ++ compact_text l ++ codes "," ++ compact_text m
-    ++ codes "]" ++ codes ",\"objects\":" ++ compact_text o ++ codes ",\"version\":1}"
+    ++ codes "]" ++ codes ",\"objects\":" ++ compact_text o ++ codes ",\"path\":" ++ compact_text p
+    ++ codes ",\"version\":2}"
 unfolding serde_json_on_literals
-file_pieces c e f l m o = simp (one, append_assoc)
+file_pieces c e f l m o p = simp (two_told, append_assoc)
 
-file_grouped : (class c entries e comma f bracket legs l m objects o version : List ℕ) →
+file_grouped : (class c entries e comma f bracket legs l m objects o path p version : List ℕ) →
     class ++ c ++ entries ++ e ++ comma ++ f ++ bracket ++ legs ++ l ++ comma ++ m ++ bracket ++ objects ++ o
-    ++ version ≡
+    ++ path ++ p ++ version ≡
     (class ++ c) ++ ((entries ++ e) ++ (comma ++ f) ++ bracket) ++ ((legs ++ l) ++ (comma ++ m) ++ bracket)
-    ++ (objects ++ o) ++ version
-file_grouped class c entries e comma f bracket legs l m objects o version = simp append_assoc
+    ++ (objects ++ o) ++ (path ++ p) ++ version
+file_grouped class c entries e comma f bracket legs l m objects o path p version = simp append_assoc
 
 -- the witness file of a run
 pub file_told : (core : Core) (sides : Sides) (objects : List StartPath) (first second : Leg) →
@@ -72,15 +73,18 @@ file_told core sides objects first second =
     let entry : Data = string (entry_text sides.first.method) in
     let partner : Data = string (entry_text sides.partner.method) in
     let starts : Data = texts_data (map (start_text core) objects) in
+    let path : Data = string (path_text core sides.first.access.path) in
     let whole : List ℕ → List ℕ → List ℕ = λ (l : List ℕ) (m : List ℕ).
     codes "{\"class\":" ++ compact_text class ++ codes ",\"entries\":[" ++ compact_text entry ++ codes ","
     ++ compact_text partner ++ codes "]" ++ codes ",\"legs\":[" ++ l ++ codes "," ++ m ++ codes "]"
-    ++ codes ",\"objects\":" ++ compact_text starts ++ codes ",\"version\":1}" in
-    file_pieces class entry partner (leg_data first) (leg_data second) starts
+    ++ codes ",\"objects\":" ++ compact_text starts ++ codes ",\"path\":" ++ compact_text path
+    ++ codes ",\"version\":2}" in
+    file_pieces class entry partner (leg_data first) (leg_data second) starts path
     ∙ (λ i. whole (leg_told first i) (leg_told second i))
     ∙ file_grouped (codes "{\"class\":") (compact_text class) (codes ",\"entries\":[") (compact_text entry)
     (codes ",") (compact_text partner) (codes "]") (codes ",\"legs\":[") (leg_object first) (leg_object second)
-    (codes ",\"objects\":") (compact_text starts) (codes ",\"version\":1}")
+    (codes ",\"objects\":") (compact_text starts) (codes ",\"path\":") (compact_text path)
+    (codes ",\"version\":2}")
 
 mark_pieces : (file word : Data) →
     compact_text (object (put (codes "witness") file (put (codes "word") word no_members))) ≡

@@ -132,7 +132,8 @@ abbrev pub witness_object : Core → Sides → List StartPath → Leg → Leg �
 witness_object core sides objects first second =
     (codes "{\"class\":" ++ class_string core sides.first.method.class)
     ++ entries_member sides.first.method sides.partner.method ++ legs_member first second
-    ++ (codes ",\"objects\":" ++ starts_strings core objects) ++ codes ",\"version\":1}"
+    ++ (codes ",\"objects\":" ++ starts_strings core objects)
+    ++ (codes ",\"path\":" ++ path_string core sides.first) ++ codes ",\"version\":2}"
 
 -- the member of a mark that is this file
 abbrev pub witness_member : Core → Sides → List StartPath → Leg → Leg → List ℕ
@@ -184,7 +185,7 @@ warnings_text core found = compact_text (values (flat_map (warning_values core) 
 abbrev pub first_text : Core → List ℕ
 first_text core =
     counts_text core ++ codes ",\"not_analysed\":" ++ not_analysed_text core
-    ++ (codes ",\"profile\":2,\"skipped\":" ++ places_strings core core.skipped)
+    ++ (codes ",\"profile\":3,\"skipped\":" ++ places_strings core core.skipped)
 
 -- the last member, and the end
 abbrev pub last_text : Core → List Warning → List ℕ

@@ -14,7 +14,7 @@ ghost use Rattle.race_report_parts.specs.Written.{Puts};
 ghost use Rattle.race_report_parts.specs.Pieces as pieces;
 
 use crate::marks::push_letters;
-use crate::strings::{comma, push_class_string, push_written};
+use crate::strings::{comma, push_class_string, push_path_string, push_written};
 use crate::{Sides, Written, push_count, push_number, push_start, push_text};
 use core_code::{MethodCore, Program};
 use core_semantics::{StartPath, Turn};
@@ -119,7 +119,8 @@ fn push_witness_file(text: &mut Written, program: &Program, sides: &Sides<'_>, w
     push_entries(text, sides.first.method, sides.partner.method);
     push_legs(text, &witness.first, &witness.second);
     push_start_strings(text, ",\"objects\":", program, witness.objects.as_slice());
-    push_text(text, ",\"version\":1}")
+    push_path_string(text, ",\"path\":", program, &sides.first.access.path);
+    push_text(text, ",\"version\":2}")
 }
 
 /// The member of a mark that is the witness file of its run.

@@ -1,12 +1,16 @@
 -- A witness that is cut out of a report replays over the same sources.
 use Rattle.std.proofs.Common.{◌≡◌, ℕ, ◌≤◌, Bool, false, cond, List, Some, codes, length}
+use Rattle.std.specs.Prelude.{Ok}
 use Rattle.std.proofs.Common.{sym, ap, subst, ◌∙◌, nat_lt}
 use Rattle.serde_json.specs.Data.{Data}
 use Rattle.racer_base.specs.Outside.{Told, Files}
 use Rattle.racer_base.specs.declared.limits.TheConstants.{MAX_FILE_BYTES}
 use Rattle.core_code.specs.Core.{Core}
 use Rattle.witness_text_files.specs.Answers.{IsJson}
-use Rattle.witness_text.specs.Replaying.{DoWitnessesReplay, IsRacing}
+use Rattle.witness_text_files.specs.Files.{File, file_of}
+use Rattle.witness_text.specs.declared.verdict.Verdict.TheVariants.{Races}
+use Rattle.witness_text.specs.Replaying.{DoWitnessesReplay}
+use Rattle.witness_text.specs.Verdicts.{verdict}
 use Rattle.racer_sources.specs.OneReading.{OneSource}
 use Rattle.racer_sources.specs.Sources.{contents, source_names}
 use Rattle.racer_sources.specs.Programs.{Source, Accepted, IsProgram}
@@ -42,13 +46,13 @@ races = record { status = Clean; text = codes "races\n" }
 
 -- bytes that are not too many, and in JSON a witness file that races
 racing-said : (program : Core) (bytes : List ℕ) (d : Data) → length bytes ≤ MAX_FILE_BYTES → IsJson bytes d
-    → IsRacing program d → replay_said program bytes ≡ races
-racing-said program bytes d short json racing =
+    → (file : File) → file_of d ≡ Ok file → verdict program file ≡ Races → replay_said program bytes ≡ races
+racing-said program bytes d short json file is racing =
     let few : nat_lt MAX_FILE_BYTES (length bytes) ≡ false = not-long MAX_FILE_BYTES bytes short in
     ap (λ (b : Bool). cond b (not_a_witness (codes "length")) (json_said program (json_of bytes))) few
     ∙ ap (json_said program) (json-of bytes d json)
-    ∙ ap (file_said program) racing.1
-    ∙ ap verdict_said racing.2
+    ∙ ap (file_said program) is
+    ∙ ap verdict_said racing
 
 replay-races : (wanted : WantedReplay) (from to : Files) (source : Source) (said : RunOutput)
     (cut : IsCutOut from to wanted.witness) → source ≡ Accepted cut.program → DoWitnessesReplay cut.program
@@ -58,9 +62,9 @@ replay-races wanted from to source said cut same replays says =
     subst (λ (s : Source). IsReplaySaid wanted to s said) same says in
     let bytes : at.0 ≡ cut.bytes = let e : Some at.0 ≡ Some cut.bytes = sym at.1 ∙ cut.stands in cc in
     let w = cut.reported in
+    let racing = replays w.warning w.sides w.value w.listed w.has_sides w.is_member in
     at.2 ∙ ap (replay_said cut.program) bytes
-    ∙ racing-said cut.program cut.bytes w.value cut.short w.is_json
-    (replays w.warning w.sides w.value w.listed w.has_sides w.is_member)
+    ∙ racing-said cut.program cut.bytes w.value cut.short w.is_json racing.0 racing.1 racing.3
 
 pub cut-replays : OneSource → OneProgram →
     (s t : Status) (a b : Invocation) (v w : Wrote) (from to : Told) (report : WantedReport)

@@ -20,7 +20,8 @@ use Rattle.std.specs.Option.{IfSome}
 use Rattle.racer_base.specs.Outside.{Told}
 use Rattle.racer_sources.specs.Programs.{Accepted, IsSource}
 use Rattle.witness_text.specs.declared.verdict.Verdict.{Verdict}
-use Rattle.witness_text.specs.declared.verdict.Verdict.TheVariants.{Races, NoSuchEntry, NoSuchObject, StopsAt, NoConflict}
+use Rattle.witness_text.specs.declared.verdict.Verdict.TheVariants.{Races, NoSuchEntry, NoSuchObject, NoSuchPath}
+use Rattle.witness_text.specs.declared.verdict.Verdict.TheVariants.{StopsAt, NoConflict, OtherCell}
 use Rattle.racer_run.specs.Replays.{SaysReplay, file_said, json_of, json_said, not_a_witness, replay_said, verdict_said}
 use Rattle.racer_run.specs.Statuses.{is_replay_status}
 use Rattle.racer_words.specs.Words.{WantedReplay}
@@ -101,8 +102,10 @@ verdict-status : (v : Verdict) → is_replay_status (verdict_said v).status ≡ 
 verdict-status Races = refl
 verdict-status NoSuchEntry = refl
 verdict-status (NoSuchObject index) = refl
+verdict-status NoSuchPath = refl
 verdict-status (StopsAt leg step) = refl
 verdict-status NoConflict = refl
+verdict-status OtherCell = refl
 
 file-status : (program : Core) (r : Result File Field) → is_replay_status (file_said program r).status ≡ true
 file-status program (Ok file) = verdict-status (verdict program file)

@@ -14,7 +14,8 @@ use Rattle.witness_text_files.specs.declared.fault.Field.{Field}
 use Rattle.witness_text.specs.Lines.{field_name, verdict_line}
 use Rattle.witness_text.specs.Verdicts.{verdict}
 use Rattle.witness_text.specs.declared.verdict.Verdict.{Verdict}
-use Rattle.witness_text.specs.declared.verdict.Verdict.TheVariants.{Races, NoSuchEntry, NoSuchObject, StopsAt, NoConflict}
+use Rattle.witness_text.specs.declared.verdict.Verdict.TheVariants.{Races, NoSuchEntry, NoSuchObject, NoSuchPath}
+use Rattle.witness_text.specs.declared.verdict.Verdict.TheVariants.{StopsAt, NoConflict, OtherCell}
 use Rattle.racer_run.specs.declared.output.RunOutput.{RunOutput}
 use Rattle.racer_run.specs.declared.status.Status.{Status}
 use Rattle.racer_run.specs.declared.status.Status.TheVariants.{Clean, Refused, NoRace, NotAWitness}
@@ -25,8 +26,10 @@ abbrev pub verdict_status : Verdict → Status
 verdict_status Races = Clean
 verdict_status NoSuchEntry = NoRace
 verdict_status (NoSuchObject index) = NoRace
+verdict_status NoSuchPath = NoRace
 verdict_status (StopsAt leg step) = NoRace
 verdict_status NoConflict = NoRace
+verdict_status OtherCell = NoRace
 
 abbrev pub verdict_said : Verdict → RunOutput
 verdict_said v = record { status = verdict_status v; text = verdict_line v }

@@ -1,4 +1,4 @@
--- The file of a warning whose objects are right and whose legs end in a race has the verdict of a race.
+-- Right start paths are found by their texts.
 use Rattle.std.proofs.Common.{◌≡◌, ◌<◌, ◌^◌, ◌+◌, ◌%◌, arith, ℕ, Bool, true, false, ◌&&◌, not, List, [], ◌∷◌, ◌++◌}
 use Rattle.std.proofs.Common.{Option, None, Some}
 use Rattle.std.proofs.Common.{codes, is_some, length, map, nat_lt, refl, sym, ap, subst, ◌∙◌}
@@ -10,57 +10,34 @@ use Rattle.std.specs.List.{All, list_all}
 use Rattle.std.specs.Option.{option_and_then}
 use Rattle.racer_base.specs.declared.ids.ClassId.{ClassId}
 use Rattle.racer_base.specs.declared.ids.FieldId.{FieldId}
-use Rattle.racer_base.specs.declared.ids.MethodId.{MethodId}
 use Rattle.racer_base.specs.Name.{fixed_words, is_listed, is_word, keywords}
 use Rattle.core_code.specs.declared.parts.ClassCore.{ClassCore}
 use Rattle.core_code.specs.declared.parts.FieldCore.{FieldCore}
 use Rattle.core_code.specs.declared.program.Program.{Program}
-use Rattle.core_code.specs.Calls.{method_at}
 use Rattle.core_code.specs.Core.{Core, Method}
 use Rattle.core_code.specs.KindCheck.{field_at}
 use Rattle.core_code.specs.Facts.{is_class, is_field_in_range, is_kind, is_method_in_range}
+use Rattle.core_code.specs.Kinds.{same_class}
 use Rattle.core_code.specs.Names.{is_field_name, is_identifier}
 use Rattle.core_code.specs.Program.{core as core_of}
 use Rattle.core_code.proofs.BoolParts.{first_part, last_part}
 use Rattle.core_code.proofs.FieldNames.{field_name-no-dot}
 use Rattle.access_paths.specs.Text.{name_at}
-use Rattle.core_semantics.specs.declared.object.Start.TheVariants.{Only}
 use Rattle.core_semantics.specs.declared.object.StartPath.{StartPath}
-use Rattle.core_semantics.specs.Legs.{Leg, run}
 use Rattle.core_semantics.specs.Objects.{root_path}
 use Rattle.core_semantics.specs.declared.object.StartRoot.{StartRoot}
 use Rattle.core_semantics.specs.declared.object.StartRoot.TheVariants.{This, Class, Param}
-use Rattle.core_semantics.specs.Runs.{begun, races}
-use Rattle.core_semantics.specs.State.{State}
 use Rattle.race_report_parts.specs.Marks.{start_root_text, start_text}
 use Rattle.race_report_parts.specs.Texts.{class_names, field_names}
 use Rattle.core_semantics_kinds.specs.Reached.{Reached, Roots, TheClass, behind, behind_field, has_field, is_right}
 use Rattle.core_semantics_kinds.specs.Reached.{reached_from, roots_of}
-use Rattle.witness_text.specs.declared.verdict.Verdict.TheVariants.{Races}
-use Rattle.witness_text.specs.Replaying.{IsRunOf}
-use Rattle.witness_text_files.specs.Files.{File}
-use Rattle.race_report_parts.specs.WitnessFiles.{entry_text, file_named}
-use Rattle.witness_text_names.specs.Names.{entry_named}
 use Rattle.witness_text_names.specs.Objects.{object_named, path_along, path_named}
-use Rattle.witness_text.specs.Verdicts.{entries_verdict, race_verdict, run_verdict, verdict}
 use Rattle.witness_text.proofs.Differing.{in-at, mapped-at, passes-in}
-use Rattle.witness_text.proofs.EntriesFound.{entry-few, entry-found}
 use Rattle.witness_text.proofs.NamedFields.{GoesOn, LeadAll, all-lead, behind-class, field-there, name-of, name_from}
 use Rattle.witness_text.proofs.NamedFields.{path-found}
 use Rattle.witness_text.proofs.NamesInTexts.{AreDotless, is_dot, names-in, no-dots, word-no-dots}
 use Rattle.witness_text.proofs.RootsFound.{IsRoot, all-are, class-word, root-found, root-there}
-use Rattle.witness_text.proofs.Replayed.{AreNamed, all-named, legs-end, race-is}
-
--- the verdict where the entries are found, and the objects are named
-pub verdict-races : (core : Core) (file : File) (m1 m2 : MethodId) (objects : List StartPath) (end : State) →
-    IsRunOf core file m1 m2 objects →
-    run core (file.first ∷ file.second ∷ []) (begun core m1 m2 (Only objects)) ≡ Some end → races end ≡ true →
-    verdict core file ≡ Races
-verdict-races core file m1 m2 objects end is came race =
-    (λ i. entries_verdict core file (is.is_entry i) (is.is_partner i))
-    ∙ ap (run_verdict core file m1 m2) is.are_objects
-    ∙ legs-end core race_verdict 0 (file.first ∷ file.second ∷ []) (begun core m1 m2 (Only objects)) end came
-    ∙ race-is end race
+use Rattle.witness_text.proofs.Replayed.{AreNamed}
 
 -- ---- bytes that are no dots
 
@@ -83,18 +60,18 @@ digits-no-dot n small =
 
 -- ---- fields that there are, with their names
 
-abbrev AreThere : Core → List FieldId → Type 0
+abbrev pub AreThere : Core → List FieldId → Type 0
 AreThere core [] = Unit {0}
 AreThere core (x ∷ xs) = ((field : FieldCore) × (field_at core x ≡ Some field)) × AreThere core xs
 
 module _ (p : Program) (roots : Roots) where
-  lead-there : (r : Option Reached) (xs : List FieldId) → LeadAll p roots r xs → AreThere (core_of p) xs
+  pub lead-there : (r : Option Reached) (xs : List FieldId) → LeadAll p roots r xs → AreThere (core_of p) xs
   lead-there r [] h = tt
   lead-there r (x ∷ xs) h =
       let one : GoesOn (core_of p) r x = field-there (core_of p) r x h.0 in
       ((one.field, one.there), lead-there (behind (core_of p) r x) xs h.1)
 
-  names-same : (xs : List FieldId) → AreThere (core_of p) xs →
+  pub names-same : (xs : List FieldId) → AreThere (core_of p) xs →
       map (λ (x : FieldId). name_at (field_names (core_of p)) x.0) xs ≡ map (name_from p roots) xs
   names-same [] h = refl
   names-same (x ∷ xs) h =
@@ -104,7 +81,7 @@ module _ (p : Program) (roots : Roots) where
       let rest = names-same xs h.1 in
       (λ i. (name ∙ sym other) i ∷ rest i)
 
-  dotless : (xs : List FieldId) → AreThere (core_of p) xs → AreDotless (field_names (core_of p)) xs
+  pub dotless : (xs : List FieldId) → AreThere (core_of p) xs → AreDotless (field_names (core_of p)) xs
   dotless [] h = tt
   dotless (x ∷ xs) h = (
     subst (λ (t : List ℕ). All (λ b. is_dot b ≡ false) t)
@@ -121,7 +98,7 @@ module _ (p : Program) (roots : Roots) where
 
 module _ (p : Program) (f g : Method) (few_f : length f.parameters < 2 ^ 64) (few_g : length g.parameters < 2 ^ 64)
   where
-    root-dotless : (r : StartRoot) → IsRoot p f g few_f few_g r →
+    pub root-dotless : (r : StartRoot) → IsRoot p f g few_f few_g r →
         All (λ b. is_dot b ≡ false) (start_root_text (core_of p) r)
     root-dotless This h = no-dots (codes "this") refl
     root-dotless (Class c) h =
@@ -139,24 +116,29 @@ module _ (p : Program) (f g : Method) (few_f : length f.parameters < 2 ^ 64) (fe
         (All-cons (λ b. is_dot b ≡ false) 35 [] refl (All-nil (λ b. is_dot b ≡ false))))
         (digits-no-dot i h.1)
 
+    -- the class of a field is one that there is
+    pub field-class : (c : ClassId) (x : FieldId) (field : FieldCore) → field_at (core_of p) x ≡ Some field →
+        same_class c field.class ≡ true → is_class (core_of p) c ≡ true
+    field-class c x field there of_class =
+        let class : c.0 ≡ field.class.0 = eqb-true c.0 field.class.0 of_class in
+        let in_range : is_field_in_range (core_of p) field ≡ true =
+        passes-in (is_field_in_range (core_of p)) (core_of p).fields field
+        (last_part _ (list_all (is_field_in_range (core_of p)) (core_of p).fields)
+        (first_part _ (list_all (is_method_in_range (core_of p)) (core_of p).methods) p.numbers_in_range))
+        (in-at (core_of p).fields x.0 field there) in
+        ap (λ (n : ℕ). nat_lt n (length (core_of p).classes)) class
+        ∙ first_part (is_class (core_of p) field.class) (is_kind (core_of p) field.kind) in_range
+
     -- a class root of a right path is a class that there is
-    class-root-there : (c : ClassId) (x : FieldId) (xs : List FieldId) →
+    pub class-root-there : (c : ClassId) (x : FieldId) (xs : List FieldId) →
         LeadAll p (roots_of f g) (roots_of f g (Class c)) (x ∷ xs) →
         is_class (core_of p) c ≡ true
     class-root-there c x xs h =
         let one : GoesOn (core_of p) (Some (TheClass c)) x = field-there (core_of p) (Some (TheClass c)) x h.0 in
         let from : TheClass c ≡ one.from = let e : Some (TheClass c) ≡ Some one.from = one.is in cc in
-        let class : c.0 ≡ one.field.class.0 =
-        eqb-true c.0 one.field.class.0
+        field-class c x one.field one.there
         (behind-class one.field (TheClass c)
-        (subst (λ (r : Reached). is_some (behind_field one.field r) ≡ true) (sym from) one.leads)) in
-        let in_range : is_field_in_range (core_of p) one.field ≡ true =
-        passes-in (is_field_in_range (core_of p)) (core_of p).fields one.field
-        (last_part _ (list_all (is_field_in_range (core_of p)) (core_of p).fields)
-        (first_part _ (list_all (is_method_in_range (core_of p)) (core_of p).methods) p.numbers_in_range))
-        (in-at (core_of p).fields x.0 one.field one.there) in
-        ap (λ (n : ℕ). nat_lt n (length (core_of p).classes)) class
-        ∙ first_part (is_class (core_of p) one.field.class) (is_kind (core_of p) one.field.kind) in_range
+        (subst (λ (r : Reached). is_some (behind_field one.field r) ≡ true) (sym from) one.leads))
 
     object-by : (q : StartPath) (x : FieldId) (xs : List FieldId) → q.fields ≡ x ∷ xs →
         is_some (reached_from (core_of p) (roots_of f g) q) ≡ true →
@@ -206,7 +188,7 @@ module _ (p : Program) (f g : Method) (few_f : length f.parameters < 2 ^ 64) (fe
         by (x ∷ xs) e t =
             object-by q x xs e (last_part (has_field q.fields) (is_some (reached_from (core_of p) (roots_of f g) q)) h)
 
-    objects-found : (qs : List StartPath) → list_all (is_right (core_of p) (roots_of f g)) qs ≡ true →
+    pub objects-found : (qs : List StartPath) → list_all (is_right (core_of p) (roots_of f g)) qs ≡ true →
         AreNamed (core_of p) f g qs
     objects-found [] h = tt
     objects-found (q ∷ qs) h = (
@@ -215,21 +197,3 @@ module _ (p : Program) (f g : Method) (few_f : length f.parameters < 2 ^ 64) (fe
       objects-found qs (last_part (is_right (core_of p) (roots_of f g) q)
           (list_all (is_right (core_of p) (roots_of f g)) qs) h),
     )
-
--- the file names these methods and objects
-pub written-named : (p : Program) (m1 m2 : MethodId) (f g : Method) (objects : List StartPath) (a b : Leg) →
-    method_at (core_of p) m1 ≡ Some f → method_at (core_of p) m2 ≡ Some g → f.entry ≡ true → g.entry ≡ true →
-    f.class ≡ g.class → list_all (is_right (core_of p) (roots_of f g)) objects ≡ true →
-    IsRunOf (core_of p) (file_named (core_of p) f g (map (start_text (core_of p)) objects) a b) m1 m2 objects
-written-named p m1 m2 f g objects a b is_f is_g entry_f entry_g class right =
-    let core : Core = core_of p in
-    let few_f : length f.parameters < 2 ^ 64 = entry-few p f (in-at core.methods m1.0 f is_f) entry_f in
-    let few_g : length g.parameters < 2 ^ 64 = entry-few p g (in-at core.methods m2.0 g is_g) entry_g in
-    record {
-      entry = f;
-      partner = g;
-      is_entry = entry-found p m1 f is_f entry_f;
-      is_partner = ap (λ (c : ClassId). entry_named core (name_at (class_names core) c.0) (entry_text g)) class
-          ∙ entry-found p m2 g is_g entry_g;
-      are_objects = all-named core f g objects (objects-found p f g few_f few_g objects right);
-    }

@@ -10,7 +10,7 @@ use Rattle.racer_base.specs.declared.limits.TheConstants.{MAX_PARAMETERS}
 use Rattle.core_code.specs.declared.code.Reason.{Reason}
 use Rattle.core_code.specs.declared.parts.ClassCore.{ClassCore}
 use Rattle.core_code.specs.declared.program.Program.{Program}
-use Rattle.core_code.specs.Calls.{method_at}
+use Rattle.core_code.specs.Calls.{is_analysed, method_at}
 use Rattle.core_code.specs.Core.{Core, Method}
 use Rattle.core_code.specs.Facts.{are_parameters_few, has_few_parameters, is_class, is_checked, is_code, is_kind}
 use Rattle.core_code.specs.Facts.{is_method_in_range, is_place, may_be_entry}
@@ -96,6 +96,14 @@ entry-few p m stands entry =
     (passes-in (may_be_entry (core_of p)) (core_of p).methods m p.entries_analysed stands) entry)
 
 -- ---- entries
+
+pub entry-is-analysed : (p : Program) (m : MethodId) (f : Method) → method_at (core_of p) m ≡ Some f →
+    f.entry ≡ true → is_analysed (core_of p) m ≡ true
+entry-is-analysed p m f there entry =
+    ap (λ (o : Option Method). elim o as (λ _. Bool) [ None ↦ false | Some x ↦ is_none x.status ]) there
+    ∙ entry-analysed (core_of p) f
+    (passes-in (may_be_entry (core_of p)) (core_of p).methods f p.entries_analysed
+    (in-at (core_of p).methods m.0 f there)) entry
 
 abbrev class_of : Core → Method → List ℕ
 class_of core m = name_at (class_names core) m.class.0

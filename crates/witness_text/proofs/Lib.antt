@@ -1,4 +1,5 @@
 pub mod Assembled
+pub mod CellsFound
 pub mod Differing
 pub mod EntriesFound
 pub mod EntryTexts
@@ -9,6 +10,7 @@ pub mod NamesInTexts
 pub mod Replayed
 pub mod ReportReplays
 pub mod RootsFound
+pub mod RunsNamed
 pub mod ShownWitnesses
 pub mod Warnings
 pub mod WithinLimits

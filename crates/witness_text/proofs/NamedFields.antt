@@ -61,13 +61,13 @@ behind-class field (TheClass c) h = by (same_class c field.class) refl h
 abbrev pub name-of : Option FieldCore → List ℕ
 name-of o = elim o [ None ↦ [] | Some field ↦ field.name ]
 
-named-field : (core : Core) (r : Reached) (f : FieldId) (field : FieldCore) → do_fields_differ core ≡ true →
-    field_at core f ≡ Some field → is_some (behind_field field r) ≡ true →
+pub named-field : (core : Core) (r : Reached) (f : FieldId) (field : FieldCore) → do_fields_differ core ≡ true →
+    field_at core f ≡ Some field → same_class (class_in r) field.class ≡ true →
     field_named core field.name r ≡ Some f
-named-field core r f field differ there leads =
+named-field core r f field differ there of_class =
     ap (option_map (λ (e : ℕ × FieldCore). let g : FieldId = record { 0 = e.0 } in g))
     (found-first same_field (is_field_named (class_in r) field.name) 0 core.fields f.0 field differ there
-    (both (same_class (class_in r) field.class) (same_text field.name field.name) (behind-class field r leads)
+    (both (same_class (class_in r) field.class) (same_text field.name field.name) of_class
     (text-refl field.name)) one)
     ∙ (let zero_on : 0 + f.0 ≡ f.0 = omega arith in
     ap (λ (n : ℕ). let g : FieldId = record { 0 = n } in Some g) zero_on)
@@ -78,7 +78,7 @@ named-field core r f field differ there leads =
         eqb-true (class_in r).0 y.class.0
         (first_part (same_class (class_in r) y.class) (same_text y.name field.name) h) in
         let wanted : (class_in r).0 ≡ field.class.0 =
-        eqb-true (class_in r).0 field.class.0 (behind-class field r leads) in
+        eqb-true (class_in r).0 field.class.0 of_class in
         both (nat_eq y.class.0 field.class.0) (same_text y.name field.name)
         (eq-eqb y.class.0 field.class.0 (sym class ∙ wanted))
         (last_part (same_class (class_in r) y.class) (same_text y.name field.name) h)
@@ -107,7 +107,8 @@ module _ (p : Program) (roots : Roots) where
   name_from f = name-of (field_at (core_of p) f)
 
   -- a path that goes on is found by the name of its next field
-  one-more : (q : StartPath) (f : FieldId) → is_some (behind (core_of p) (reached_from (core_of p) roots q) f) ≡ true →
+  pub one-more : (q : StartPath) (f : FieldId) →
+      is_some (behind (core_of p) (reached_from (core_of p) roots q) f) ≡ true →
       one_field (core_of p) roots (name_from f) q ≡ Some (lengthened q f)
   one-more q f leads =
       let core : Core = core_of p in
@@ -117,7 +118,8 @@ module _ (p : Program) (roots : Roots) where
       let named : name_from f ≡ parts.field.name = ap name-of parts.there in
       let found : field_named core (name_from f) parts.from ≡ Some f =
       ap (λ (t : List ℕ). field_named core t parts.from) named
-      ∙ named-field core parts.from f parts.field p.fields_differ parts.there parts.leads in
+      ∙ named-field core parts.from f parts.field p.fields_differ parts.there
+      (behind-class parts.field parts.from parts.leads) in
       ap (λ (o : Option Reached). option_and_then
       (λ g. cond (is_some (reached_from core roots (lengthened q g))) (Some (lengthened q g)) None)
       (option_and_then (field_named core (name_from f)) o)) parts.is

@@ -9,12 +9,13 @@ use Rattle.core_semantics.specs.Runs.{races}
 use Rattle.core_semantics.specs.State.{State}
 use Rattle.race_report_parts.specs.Marks.{start_text}
 use Rattle.witness_text.specs.declared.verdict.Verdict.{Verdict}
-use Rattle.witness_text.specs.declared.verdict.Verdict.TheVariants.{NoConflict, Races, StopsAt}
+use Rattle.witness_text.specs.declared.verdict.Verdict.TheVariants.{NoConflict, OtherCell, Races, StopsAt}
 use Rattle.witness_text_names.specs.Objects.{before, object_named, objects_named}
+use Rattle.witness_text_names.specs.declared.cells.Cell.{Cell}
 use Rattle.witness_text_names.specs.declared.objects.Named.{Named}
 use Rattle.witness_text_names.specs.declared.objects.Named.TheVariants.{All, NoneAt}
 use Rattle.witness_text.specs.Replays.{IsReplayed, replayed}
-use Rattle.witness_text.specs.Verdicts.{legs_verdict, race_verdict}
+use Rattle.witness_text.specs.Verdicts.{are_at, legs_verdict, race_verdict}
 
 abbrev pub behind_ran : Core → (State → Verdict) → ℕ → Leg → List Leg → Ran → Verdict
 behind_ran core ends i leg legs r =
@@ -51,8 +52,11 @@ through core ends i leg legs (Came end []) to is = ap (legs_verdict core ends (s
 through core ends i leg legs (Came end (turn ∷ turns)) to is = absurd is
 through core ends i leg legs (Halted halt at steps) to is = absurd is
 
-pub race-is : (end : State) → races end ≡ true → race_verdict end ≡ Races
-race-is end e = ap (λ (b : Bool). cond b Races NoConflict) e
+pub race-is : (cell : Option Cell) (end : State) → races end ≡ true → are_at cell end ≡ true →
+    race_verdict cell end ≡ Races
+race-is cell end e at =
+    ap (λ (b : Bool). cond b (cond (are_at cell end) Races OtherCell) NoConflict) e
+    ∙ ap (λ (b : Bool). cond b Races OtherCell) at
 
 -- texts that are each named so are named all
 abbrev pub AreNamed : Core → Method → Method → List StartPath → Type 0

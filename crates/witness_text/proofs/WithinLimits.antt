@@ -186,10 +186,10 @@ objects-few core a b s are =
     omega (arith, all, first, short, short_too)
 
 -- the file of a witness of a confirmed warning
-pub witness-within : (core : Core) (w : Warning) (f g : Method) (objects : List StartPath) (a b : Leg) →
-    warning_mark core w ≡ Confirmed objects (a ∷ b ∷ []) →
-    IsWithin (file_named core f g (map (start_text core) objects) a b)
-witness-within core w f g objects a b confirmed =
+pub witness-within : (core : Core) (w : Warning) (f g : Method) (path : List ℕ) (objects : List StartPath)
+    (a b : Leg) → warning_mark core w ≡ Confirmed objects (a ∷ b ∷ []) →
+    IsWithin (file_named core f g path (map (start_text core) objects) a b)
+witness-within core w f g path objects a b confirmed =
     let run = by-record core (pair_of w) objects (a ∷ b ∷ []) (record_at core w.entry w.access) confirmed in
     let legs = confirmed-legs core (pair_of w) objects a b run in
     let start = begun core w.entry w.partner All in
@@ -202,5 +202,4 @@ witness-within core w f g objects a b confirmed =
       second = legs.second;
       threads = legs.threads;
       objects = subst (λ (n : ℕ). n ≤ MAX_WAY_STEPS * 2) (sym (length-map objects (start_text core))) few;
-      path = refl;
     }

@@ -17,6 +17,7 @@ pub fn field_name(field: Field) -> &'static str
         Field::Version => "version",
         Field::Class => "class",
         Field::Entries => "entries",
+        Field::Path => "path",
         Field::Objects => "objects",
         Field::Legs => "legs",
     }
@@ -48,8 +49,10 @@ fn push_verdict(text: &mut Written, verdict: Verdict)
         Verdict::Races => push_text(text, "races"),
         Verdict::NoSuchEntry => push_text(text, "no such entry"),
         Verdict::NoSuchObject(index) => push_no_object(text, index),
+        Verdict::NoSuchPath => push_text(text, "no such path"),
         Verdict::StopsAt(leg, step) => push_stop(text, leg, step),
         Verdict::NoConflict => push_text(text, "no conflict"),
+        Verdict::OtherCell => push_text(text, "other cell"),
     }
 }
 
@@ -61,8 +64,8 @@ fn push_verdict_line(text: &mut Written, verdict: Verdict)
     push_end(text)
 }
 
-/// The line of a verdict: `races`, `no such entry`, `no such object I`, `stops at leg L step S` or `no conflict`, and a
-/// line feed.
+/// The line of a verdict: `races`, `no such entry`, `no such object I`, `no such path`, `stops at leg L step S`,
+/// `no conflict` or `other cell`, and a line feed.
 pub fn verdict_line(alloc: Global, verdict: Verdict) -> Result<String, Memory>
     ensures { IfOk result (λ text. string_bytes text ≡ said.verdict_line verdict) }
 {

@@ -1,13 +1,10 @@
 //! Replays witness files.
-ghost use Rattle.std.specs.Prelude.{◌≡◌, ◌∷◌, [], IfOk};
+ghost use Rattle.std.specs.Prelude.{◌≡◌, IfOk, option_map};
 ghost use Rattle.core_code.specs.Core.{method_of};
 ghost use Rattle.core_code.specs.Program.{core};
-ghost use Rattle.core_semantics.specs.declared.object.Start.TheVariants.{Only};
-ghost use Rattle.core_semantics.specs.Runs.{begun};
-ghost use Rattle.core_ways.specs.Marks.{leg_of};
 ghost use Rattle.witness_text_files.specs.Answers.{seen};
 ghost use Rattle.witness_text_names.specs.Objects as named;
-ghost use Rattle.witness_text.specs.Verdicts.{legs_verdict, race_verdict, run_verdict, verdict};
+ghost use Rattle.witness_text.specs.Verdicts.{named_verdict, run_verdict, verdict};
 
 use crate::Verdict;
 use crate::legs::legs_verdict;
@@ -17,9 +14,9 @@ use core_ways::let_go;
 use racer_base::{Items, Memory};
 use std::alloc::Global;
 use witness_text_files::WitnessFile;
-use witness_text_names::{Entry, Named, entry_named, objects_named};
+use witness_text_names::{Cell, Entry, Named, NamedPath, entry_named, texts_named};
 
-/// The verdict of the run of two entries, where there are these objects at the begin.
+/// The verdict of the run of two entries, where there are these objects at the begin, whose race is to be in this cell.
 fn run_verdict(
     alloc: Global,
     program: &Program,
@@ -27,16 +24,58 @@ fn run_verdict(
     first: Entry<'_>,
     second: Entry<'_>,
     objects: Items<StartPath>,
+    cell: Option<&Cell>,
 ) -> Result<Verdict, Memory>
-    ensures { IfOk result (λ v. v ≡ legs_verdict (core program.now) race_verdict 0
-        (leg_of file.now.first ∷ leg_of file.now.second ∷ [])
-        (begun (core program.now) first.entry.number second.entry.number (Only objects))) }
+    ensures { IfOk result (λ v. v ≡ run_verdict (core program.now) (seen file.now) first.entry.number
+        second.entry.number objects (option_map (λ c. c.now) cell.entry)) }
 {
     let start = Start::Only(objects);
     let mut machine = begin(alloc, program, first.number, second.number, start)?;
-    let verdict = legs_verdict(alloc, program, &mut machine, file);
+    let verdict = legs_verdict(alloc, program, &mut machine, file, cell);
     let_go(machine);
     verdict
+}
+
+/// The verdict of a file, where these are its entries, its objects and its path.
+fn named_verdict(
+    alloc: Global,
+    program: &Program,
+    file: &WitnessFile,
+    first: Entry<'_>,
+    second: Entry<'_>,
+    objects: Named,
+    path: &NamedPath,
+) -> Result<Verdict, Memory>
+    ensures { IfOk result (λ v. v ≡ named_verdict (core program.now) (seen file.now) first.entry.number
+        second.entry.number objects path.now) }
+{
+    let objects = match objects {
+        Named::NoneAt(index) => return Ok(Verdict::NoSuchObject(index)),
+        Named::All(objects) => objects,
+    };
+    match path {
+        NamedPath::NoCell => Ok(Verdict::NoSuchPath),
+        NamedPath::Absent => run_verdict(alloc, program, file, first, second, objects, None),
+        NamedPath::Is(cell) => run_verdict(
+            alloc,
+            program,
+            file,
+            first,
+            second,
+            objects,
+            Some(cell),
+        ),
+    }
+}
+
+/// The text of the path of a file.
+fn path_text(file: &WitnessFile) -> Option<&str>
+    ensures { option_map (λ s. s.now) result ≡ file.now.path }
+{
+    match &file.path {
+        Some(path) => Some(path.as_str()),
+        None => None,
+    }
 }
 
 /// The verdict of a file, where these are its entries.
@@ -47,16 +86,23 @@ fn entries_verdict(
     first: Entry<'_>,
     second: Entry<'_>,
 ) -> Result<Verdict, Memory>
-    ensures { IfOk result (λ v. v ≡ run_verdict (core program.now) (seen file.now) first.entry.number
+    ensures { IfOk result (λ v. v ≡ named_verdict (core program.now) (seen file.now) first.entry.number
         second.entry.number (named.objects_named (core program.now) (method_of first.entry.method.now)
-        (method_of second.entry.method.now) file.now.objects)) }
+        (method_of second.entry.method.now) file.now.objects) (named.path_cell (core program.now)
+        (method_of first.entry.method.now) (method_of second.entry.method.now) file.now.path)) }
 {
     let texts = file.objects.as_slice();
-    let named = objects_named(alloc, program, first.method, second.method, texts)?;
-    match named {
-        Named::All(objects) => run_verdict(alloc, program, file, first, second, objects),
-        Named::NoneAt(index) => Ok(Verdict::NoSuchObject(index)),
-    }
+    let path = path_text(file);
+    let named = texts_named(alloc, program, first.method, second.method, texts, path)?;
+    named_verdict(
+        alloc,
+        program,
+        file,
+        first,
+        second,
+        named.objects,
+        &named.path,
+    )
 }
 
 /// The verdict of a file.

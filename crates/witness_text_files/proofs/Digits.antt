@@ -9,6 +9,9 @@ zero = decimal_digit 0 (lit< tt)
 pub one : decimal 1 ≡ codes "1"
 one = decimal_digit 1 (lit< tt)
 
+pub two : decimal 2 ≡ codes "2"
+two = decimal_digit 2 (lit< tt)
+
 pub three : decimal 3 ≡ codes "3"
 three = decimal_digit 3 (lit< tt)
 

@@ -1,5 +1,6 @@
 -- The compact text of a witness file is read as that file.
-use Rattle.std.proofs.Common.{◌≡◌, ℕ, ◌^◌, ◌≤◌, ◌<◌, List, [], ◌∷◌, Some, map, refl, ap, arith, ◌∙◌, max, sym, append-nil}
+use Rattle.std.proofs.Common.{◌≡◌, ℕ, ◌^◌, ◌≤◌, ◌<◌, List, [], ◌∷◌, Option, None, Some, map, refl, ap, arith, ◌∙◌}
+use Rattle.std.proofs.Common.{max, sym, append-nil}
 use Rattle.std.specs.Option.{option_and_then, option_map}
 use Rattle.std.specs.Prelude.{IsUtf8}
 use Rattle.json.specs.Json.{Json, if_last, value}
@@ -23,7 +24,7 @@ use Rattle.witness_text_files.specs.Answers.{IsFile, seen}
 use Rattle.witness_text_files.specs.Files.{File}
 use Rattle.witness_text_files.specs.Written.{data_of, leg_data}
 use Rattle.witness_text_files.specs.declared.file.WitnessFile.{WitnessFile}
-use Rattle.witness_text_files.proofs.ReadBack.{IsLeg, IsWithin, written-is-read}
+use Rattle.witness_text_files.proofs.ReadBack.{IsLeg, IsWithin, with_path, written-is-read}
 
 -- ---- numbers
 
@@ -69,8 +70,9 @@ leg-flat leg = refl
 
 -- ---- the file
 
-whole-read : (f : File) → IsWithin f → of_json (outline (data_of f)) ≡ Some (data_of f)
-whole-read f is =
+whole-with : (f : File) → IsWithin f → (path : Option (List ℕ)) →
+    of_json (outline (data_of (with_path f path))) ≡ Some (data_of (with_path f path))
+whole-with f is None =
     rw (
       number_of-decimal 1 (omega arith),
       leg-read f.first is.first,
@@ -78,9 +80,17 @@ whole-read f is =
       texts-read f.objects,
     )
     refl
+whole-with f is (Some path) =
+    rw (
+      number_of-decimal 2 (omega arith),
+      leg-read f.first is.first,
+      leg-read f.second is.second,
+      texts-read f.objects,
+    )
+    refl
 
-whole-numbered : (f : File) → IsWithin f → HasNumbers (outline (data_of f))
-whole-numbered f is = (
+numbered-with : (f : File) → IsWithin f → (path : Option (List ℕ)) → HasNumbers (outline (data_of (with_path f path)))
+numbered-with f is None = (
   tt,
   (
     (tt, (tt, tt)),
@@ -90,9 +100,20 @@ whole-numbered f is = (
     ),
   ),
 )
+numbered-with f is (Some path) = (
+  tt,
+  (
+    (tt, (tt, tt)),
+    (
+      (leg-numbered f.first is.first, (leg-numbered f.second is.second, tt)),
+      (texts-numbered f.objects, (tt, (IsNumber-decimal 2 (omega arith), tt))),
+    ),
+  ),
+)
 
-whole-shallow : (f : File) → depth (outline (data_of f)) ≡ 3
-whole-shallow f = rw (texts-flat f.objects) refl
+shallow-with : (f : File) (path : Option (List ℕ)) → depth (outline (data_of (with_path f path))) ≡ 3
+shallow-with f None = rw (texts-flat f.objects) refl
+shallow-with f (Some path) = rw (texts-flat f.objects) refl
 
 -- what is printed of a tree is read as that tree
 tree-read : (j : Json) → HasNumbers j → depth j ≤ max_depth →
@@ -106,11 +127,11 @@ tree-read j numbers shallow =
 -- the text of a file within its limits is read as its value
 pub text-read : (f : File) → IsWithin f → read (compact_text (data_of f)) ≡ Some (data_of f)
 text-read f is =
-    let three = whole-shallow f in
+    let three = shallow-with f f.path in
     let low : depth (outline (data_of f)) ≤ max_depth = omega (arith, three) in
     ap read (sym (print-outline (data_of f)))
-    ∙ ap (option_and_then of_json) (tree-read (outline (data_of f)) (whole-numbered f is) low)
-    ∙ whole-read f is
+    ∙ ap (option_and_then of_json) (tree-read (outline (data_of f)) (numbered-with f is f.path) low)
+    ∙ whole-with f is f.path
 
 leg-within : (leg : CodeLeg) → IsLeg (leg_of leg)
 leg-within leg = record { thread = leg.one_of_two; turns = leg.few_turns; steps = leg.few_steps }
@@ -123,10 +144,10 @@ seen-within f =
       second = leg-within f.second;
       threads = f.both_threads;
       objects = f.few_objects;
-      path = refl;
     }
 
-pub file-read : (f : WitnessFile) → IsUtf8 (compact_text (data_of (seen f))) → IsFile (compact_text (data_of (seen f))) f
+pub file-read : (f : WitnessFile) → IsUtf8 (compact_text (data_of (seen f))) →
+    IsFile (compact_text (data_of (seen f))) f
 file-read f utf8 =
     let within = seen-within f in
     (data_of (seen f), (utf8, text-read (seen f) within), written-is-read (seen f) within)

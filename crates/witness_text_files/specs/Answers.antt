@@ -1,5 +1,5 @@
 -- A contract of a public call rests on this: what is seen of a witness file, and what is answered of bytes.
-use Rattle.std.specs.Prelude.{◌≡◌, ℕ, List, None, Some, Result, Ok, Err, IsUtf8}
+use Rattle.std.specs.Prelude.{◌≡◌, ℕ, List, Some, Result, Ok, Err, IsUtf8}
 use Rattle.serde_json.specs.Data.{Data}
 use Rattle.serde_json.specs.Read.{read}
 use Rattle.core_ways.specs.Marks.{leg_of}
@@ -9,14 +9,14 @@ use Rattle.witness_text_files.specs.declared.fault.WitnessFault.TheVariants.{Mem
 use Rattle.witness_text_files.specs.declared.file.WitnessFile.{WitnessFile}
 use Rattle.witness_text_files.specs.Files.{File, file_of}
 
--- what a witness file says; those that are read and written are of version 1
+-- what a witness file says
 abbrev pub seen : WitnessFile → File
 seen f =
     record {
       class = f.class;
       first_entry = f.first_entry;
       second_entry = f.second_entry;
-      path = None;
+      path = f.path;
       objects = f.objects;
       first = leg_of f.first;
       second = leg_of f.second;

@@ -50,6 +50,12 @@ abbrev pub with_entries : List ℕ → Answer
 with_entries entries =
     answered (file_text (codes "1") (codes "\"A\"") entries (codes "[]") (legs_text one_leg other_leg))
 
+-- the path behind the entries, in a file of this version
+abbrev pub with_path : List ℕ → List ℕ → Answer
+with_path version path =
+    answered (file_text version (codes "\"A\"") (codes "[\"a/0\",\"b/0\"],\"path\":" ++ path) (codes "[]")
+    (legs_text one_leg other_leg))
+
 abbrev pub with_objects : List ℕ → Answer
 with_objects objects =
     answered (file_text (codes "1") (codes "\"A\"") (codes "[\"a/0\",\"b/0\"]") objects (legs_text one_leg other_leg))
@@ -66,14 +72,14 @@ with_leg steps thread turns = with_legs (legs_text one_leg (leg_text steps threa
 abbrev pub nested : ℕ → List ℕ
 nested n = replicate n 91 ++ replicate n 93
 
--- a file of two locked methods, and its text
+-- a file of two locked methods, and its text; and the same of version 1
 abbrev pub gate : File
 gate =
     record {
       class = codes "Gate";
       first_entry = codes "b/0";
       second_entry = codes "a/0";
-      path = None;
+      path = Some (codes "this.c");
       objects = [];
       first = record { thread = 1; turns = []; steps = 9 };
       second = record { thread = 0; turns = []; steps = 3 };
@@ -81,5 +87,13 @@ gate =
 
 abbrev pub gate_text : List ℕ
 gate_text =
+    codes "{\"class\":\"Gate\",\"entries\":[\"b/0\",\"a/0\"],\"legs\":[{\"steps\":9,\"thread\":1,\"turns\":\"\"},"
+    ++ codes "{\"steps\":3,\"thread\":0,\"turns\":\"\"}],\"objects\":[],\"path\":\"this.c\",\"version\":2}"
+
+abbrev pub gate_without_path : File
+gate_without_path = record gate { path = None }
+
+abbrev pub gate_text_without_path : List ℕ
+gate_text_without_path =
     codes "{\"class\":\"Gate\",\"entries\":[\"b/0\",\"a/0\"],\"legs\":[{\"steps\":9,\"thread\":1,\"turns\":\"\"},"
     ++ codes "{\"steps\":3,\"thread\":0,\"turns\":\"\"}],\"objects\":[],\"version\":1}"

@@ -1,6 +1,6 @@
 -- A contract of a public call rests on this: what a witness file says, and the first of its members that is missing or
 -- otherwise.
-use Rattle.std.specs.Prelude.{ℕ, ◌+◌, ◌*◌, Bool, ◌==◌, List, [], ◌∷◌, Option, None, Some, Result, Ok, Err}
+use Rattle.std.specs.Prelude.{ℕ, ◌+◌, ◌*◌, Bool, ◌||◌, ◌==◌, List, [], ◌∷◌, Option, None, Some, Result, Ok, Err}
 use Rattle.std.specs.Prelude.{codes, length, nat_le, option_map, option_and_then, if◌then◌else◌}
 use Rattle.serde_json.specs.Data.{Data, Items, no_items, item}
 use Rattle.serde_json.specs.Find.{as_array, as_number, as_str, as_u64, get}
@@ -9,7 +9,7 @@ use Rattle.core_semantics.specs.declared.answer.Turn.{Turn}
 use Rattle.core_semantics.specs.declared.answer.Turn.TheVariants.{Left, Right}
 use Rattle.core_semantics.specs.Legs.{Leg}
 use Rattle.witness_text_files.specs.declared.fault.Field.{Field}
-use Rattle.witness_text_files.specs.declared.fault.Field.TheVariants.{Version, Class, Entries, Objects, Legs}
+use Rattle.witness_text_files.specs.declared.fault.Field.TheVariants.{Version, Class, Entries, Path, Objects, Legs}
 
 -- The name of a class, the entries of thread 0 and thread 1, the path that the threads race on, start paths as texts,
 -- and two legs in running order. Files of version 1 have no path.
@@ -31,8 +31,9 @@ where_so test x = if test then Some x else None
 abbrev pub number_up_to : ℕ → Data → Option ℕ
 number_up_to most d = option_and_then (λ n. where_so (nat_le n most) n) (option_and_then as_u64 (as_number d))
 
-abbrev pub one : Data → Option ℕ
-one d = option_and_then (λ n. where_so (n == 1) n) (option_and_then as_u64 (as_number d))
+-- 1 or 2
+abbrev pub version_of : Data → Option ℕ
+version_of d = option_and_then (λ n. where_so (n == 1 || n == 2) n) (option_and_then as_u64 (as_number d))
 
 -- texts alone
 abbrev pub texts_of : Items → Option (List (List ℕ))
@@ -91,18 +92,24 @@ two_legs ds =
 abbrev pub legs_of : Data → Option (Leg × Leg)
 legs_of d = option_and_then two_legs (option_and_then two_items (as_array d))
 
+-- the path of a file of this version: in version 2 it must be a text, and in version 1 there is none, whatever a
+-- further member of that name is
+abbrev pub path_of : ℕ → Data → Option (Option (List ℕ))
+path_of version d = if version == 2 then option_map (λ text. Some text) (member (codes "path") as_str d) else Some None
+
 -- what is read of a member, or that the file lacks it
 abbrev pub needs : {X : Type 0} → Field → Option X → (X → Result File Field) → Result File Field
 needs field None rest = Err field
 needs field (Some x) rest = rest x
 
--- the file of these members and this path, or the first member that is missing or otherwise
-abbrev pub file_from : Option ℕ → Option (List ℕ) → Option (List ℕ × List ℕ) → Option (List ℕ) →
+-- the file of these members, or the first that is missing or otherwise
+abbrev pub file_from : Option ℕ → Option (List ℕ) → Option (List ℕ × List ℕ) → Option (Option (List ℕ)) →
     Option (List (List ℕ)) → Option (Leg × Leg) → Result File Field
 file_from version class entries path objects legs =
     needs Version version (λ _.
     needs Class class (λ class.
     needs Entries entries (λ entries.
+    needs Path path (λ path.
     needs Objects objects (λ objects.
     needs Legs legs (λ legs.
     Ok (record {
@@ -113,11 +120,12 @@ file_from version class entries path objects legs =
       objects = objects;
       first = legs.0;
       second = legs.1;
-    }))))))
+    })))))))
 
--- the witness file of version 1 that a value is; further members are ignored, `path` with them
+-- the witness file that a value is; further members are ignored
 abbrev pub file_of : Data → Result File Field
 file_of d =
-    file_from (member (codes "version") one d) (member (codes "class") as_str d)
-    (member (codes "entries") entries_of d) None (member (codes "objects") objects_of d)
-    (member (codes "legs") legs_of d)
+    file_from (member (codes "version") version_of d) (member (codes "class") as_str d)
+    (member (codes "entries") entries_of d)
+    (option_and_then (λ version. path_of version d) (member (codes "version") version_of d))
+    (member (codes "objects") objects_of d) (member (codes "legs") legs_of d)

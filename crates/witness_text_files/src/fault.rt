@@ -10,6 +10,8 @@ pub enum Field {
     Version,
     Class,
     Entries,
+    /// Asked for in version 2 alone.
+    Path,
     Objects,
     Legs,
 }

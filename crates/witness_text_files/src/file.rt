@@ -13,6 +13,8 @@ pub struct WitnessFile {
     pub first_entry: Text,
     /// The entry that thread 1 runs.
     pub second_entry: Text,
+    /// The path of the cell that both threads race on. Files of version 1 have none.
+    pub path: Option<Text>,
     /// The start paths that there are objects for.
     pub objects: Items<Text>,
     /// The leg that runs first, of either thread.

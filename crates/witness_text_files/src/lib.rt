@@ -1,4 +1,4 @@
-//! Witness files of version 1: what they say, how they are read, and the value that they are written as.
+//! Witness files of versions 1 and 2: what they say, how they are read, and the value that they are written as.
 //!
 //! The report writes them (`race_report_parts`); that what it writes is read as the same file is a law here.
 //!

@@ -11,10 +11,11 @@ use std::alloc::Global;
 
 /// The version, where it is one that is read.
 pub(crate) fn version(value: &Value) -> Option<u64>
-    ensures { result ≡ files.member (codes "version") files.one (view value.now) }
+    ensures { result ≡ files.member (codes "version") files.version_of (view value.now) }
 {
     match value.get("version").and_then(Value::as_u64) {
         Some(1) => Some(1),
+        Some(2) => Some(2),
         _ => None,
     }
 }
@@ -36,6 +37,20 @@ pub(crate) fn text<'v>(value: &'v Value, name: &str) -> Option<&'v str>
     ensures { option_map (λ s. s.now) result ≡ files.member name.now as_str (view value.now) }
 {
     value.get(name).and_then(Value::as_str)
+}
+
+/// The path of a file of this version, which only version 2 has.
+pub(crate) fn path<'v>(value: &'v Value, version: u64) -> Option<Option<&'v str>>
+    ensures { option_map (λ p. option_map (λ s. s.now) p) result ≡ files.path_of version (view value.now) }
+{
+    if version == 2 {
+        match text(value, "path") {
+            Some(path) => Some(Some(path)),
+            None => None,
+        }
+    } else {
+        Some(None)
+    }
 }
 
 /// A member that is an array.

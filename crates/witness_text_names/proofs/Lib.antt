@@ -5,3 +5,4 @@ pub mod NextNamed
 pub mod PathsGathered
 pub mod RootsIndexed
 pub mod Walks
+pub mod CellWalks

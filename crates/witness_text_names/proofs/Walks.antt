@@ -2,49 +2,68 @@
 use Rattle.std.proofs.Common.{◌≡◌, ℕ, cond, List, [], ◌∷◌, ◌++◌, Option, None, Some, is_some, refl, sym}
 use Rattle.std.proofs.Common.{ap, ◌∙◌}
 use Rattle.std.proofs.lemmas.List.Sums.{fold_push}
+use Rattle.std.specs.Global.{Global}
 use Rattle.std.specs.Option.{option_and_then, option_map}
+use Rattle.std.specs.declared.vec.Vec.{Vec}
 use Rattle.racer_base.specs.declared.ids.FieldId.{FieldId}
 use Rattle.core_code.specs.Core.{Core, Method}
 use Rattle.core_semantics.specs.declared.object.StartPath.{StartPath}
 use Rattle.core_semantics.specs.declared.object.StartRoot.{StartRoot}
 use Rattle.core_semantics.specs.Objects.{lengthened, root_path}
 use Rattle.core_semantics_kinds.specs.Reached.{Reached, Roots, behind, reached_from, roots_of}
-use Rattle.witness_text_names.specs.Indexes.{Walk, fields_walked, next_named, walked}
+use Rattle.witness_text_names.specs.declared.walk.Ends.{Ends}
+use Rattle.witness_text_names.specs.declared.walk.Ends.TheVariants.{AtObject}
+use Rattle.witness_text_names.specs.Indexes.{Walk, ended, last_named, next_named, step_on}
 use Rattle.witness_text_names.specs.Names.{field_named, names_in, root_named}
-use Rattle.witness_text_names.specs.Objects.{object_named, path_along, path_named}
+use Rattle.witness_text_names.specs.Objects.{object_named, one_field, path_along, path_named}
 
 -- ---- one name more
 
-abbrev onto : List FieldId → FieldId × Reached → Walk
+abbrev pub onto : List FieldId → FieldId × Reached → Walk
 onto fields next = (fields ++ next.0 ∷ [], next.1)
 
+-- fields, and the one behind them
+abbrev pub Ended : Type 0
+Ended = List FieldId × FieldId
+
+-- what is seen of fields that the code has found
+abbrev pub seen_found : Option (Vec FieldId Global × FieldId) → Option Ended
+seen_found found = option_map (λ (p : Vec FieldId Global × FieldId). (p.0.items, p.1)) found
+
 -- what is walked of a name and others, where the name leads so far
-abbrev walked_by : Core → List (List ℕ) → List FieldId → Option (FieldId × Reached) → Option Walk
-walked_by core names fields next = option_and_then (walked core names) (option_map (onto fields) next)
+abbrev ended_by : Core → Ends → List (List ℕ) → List FieldId → Option (FieldId × Reached) → Option Ended
+ended_by core ends names fields next = option_and_then (ended core ends names) (option_map (onto fields) next)
 
-pub walk_next : (core : Core) (all name : List ℕ) (names : List (List ℕ)) (fields more : List FieldId)
-    (r next : Reached) (f : FieldId) → names_in all ≡ name ∷ names → Some (f, next) ≡ next_named core name r →
-    more ≡ fields ++ f ∷ [] →
-    walked core names (more, next) ≡ walked core (names_in all) (fields, r)
-walk_next core all name names fields more r next f cut is grown =
-    ap (λ (fs : List FieldId). walked core names (fs, next)) grown
-    ∙ ap (walked_by core names fields) is
-    ∙ sym (ap (λ (ns : List (List ℕ)). walked core ns (fields, r)) cut)
+ended_more : (core : Core) (ends : Ends) (name : List ℕ) (names : List (List ℕ)) (fields : List FieldId)
+    (r : Reached) → (names ≡ [] → ⊥) →
+    ended core ends (name ∷ names) (fields, r) ≡ ended_by core ends names fields (next_named core name r)
+ended_more core ends name [] fields r some = absurd (some refl)
+ended_more core ends name (next ∷ names) fields r some = refl
 
-pub walk_stop : (core : Core) (all name : List ℕ) (names : List (List ℕ)) (fields : List FieldId) (r : Reached) →
-    names_in all ≡ name ∷ names → None ≡ next_named core name r →
-    None ≡ fields_walked (walked core (names_in all) (fields, r))
-walk_stop core all name names fields r cut is =
-    ap (λ (o : Option (FieldId × Reached)). fields_walked (walked_by core names fields o)) is
-    ∙ sym (ap (λ (ns : List (List ℕ)). fields_walked (walked core ns (fields, r))) cut)
+pub walk_next : (core : Core) (ends : Ends) (all name : List ℕ) (names : List (List ℕ)) (fields more : List FieldId)
+    (r next : Reached) (f : FieldId) → names_in all ≡ name ∷ names → (names ≡ [] → ⊥) →
+    Some (f, next) ≡ next_named core name r → more ≡ fields ++ f ∷ [] →
+    ended core ends names (more, next) ≡ ended core ends (names_in all) (fields, r)
+walk_next core ends all name names fields more r next f cut some is grown =
+    ap (λ (fs : List FieldId). ended core ends names (fs, next)) grown
+    ∙ ap (ended_by core ends names fields) is
+    ∙ sym (ended_more core ends name names fields r some)
+    ∙ sym (ap (λ (ns : List (List ℕ)). ended core ends ns (fields, r)) cut)
 
-pub walk_end : (core : Core) (all : List ℕ) (fields more : List FieldId) (r next : Reached) (f : FieldId) →
-    names_in all ≡ all ∷ [] → Some (f, next) ≡ next_named core all r → more ≡ fields ++ f ∷ [] →
-    Some more ≡ fields_walked (walked core (names_in all) (fields, r))
-walk_end core all fields more r next f cut is grown =
-    ap Some grown
-    ∙ ap (λ (o : Option (FieldId × Reached)). fields_walked (walked_by core [] fields o)) is
-    ∙ sym (ap (λ (ns : List (List ℕ)). fields_walked (walked core ns (fields, r))) cut)
+pub walk_stop : (core : Core) (ends : Ends) (all name : List ℕ) (names : List (List ℕ)) (fields : List FieldId)
+    (r : Reached) → names_in all ≡ name ∷ names → (names ≡ [] → ⊥) → None ≡ next_named core name r →
+    None ≡ ended core ends (names_in all) (fields, r)
+walk_stop core ends all name names fields r cut some is =
+    ap (ended_by core ends names fields) is
+    ∙ sym (ended_more core ends name names fields r some)
+    ∙ sym (ap (λ (ns : List (List ℕ)). ended core ends ns (fields, r)) cut)
+
+pub walk_end : (core : Core) (ends : Ends) (all : List ℕ) (fields : List FieldId) (r : Reached) (o : Option FieldId) →
+    names_in all ≡ all ∷ [] → o ≡ last_named core ends all r →
+    option_map (λ (f : FieldId). (fields, f)) o ≡ ended core ends (names_in all) (fields, r)
+walk_end core ends all fields r o cut is =
+    ap (option_map (λ (f : FieldId). (fields, f))) is
+    ∙ sym (ap (λ (ns : List (List ℕ)). ended core ends ns (fields, r)) cut)
 
 -- ---- start paths
 
@@ -52,53 +71,77 @@ module _ (core : Core) (roots : Roots) (root : StartRoot) where
   abbrev pub at : List FieldId → StartPath
   at fields = record { root = root; fields = fields }
 
-  abbrev pub along : List (List ℕ) → StartPath → Option StartPath
-  along = path_along core roots
-
-  abbrev pub kept : StartPath → Option Reached → Option StartPath
+  abbrev kept : StartPath → Option Reached → Option StartPath
   kept q o = cond (is_some o) (Some q) None
 
-  abbrev pub led : Option Walk → Option StartPath
-  led walk = option_map at (fields_walked walk)
-
-  -- names that lead from what was reached are the path
-  abbrev pub Leads : List (List ℕ) → Type 0
-  Leads names =
+  -- what is made of a path is made of its fields and of what they reach
+  abbrev pub AreAlike : {X : Type 0} → (StartPath → Option X) → (Walk → Option X) → Type 0
+  AreAlike next rest =
       (fields : List FieldId) (r : Reached) → reached_from core roots (at fields) ≡ Some r →
-      along names (at fields) ≡ led (walked core names (fields, r))
+      next (at fields) ≡ rest (fields, r)
 
-  by_behind : (names : List (List ℕ)) (fields : List FieldId) (f : FieldId) (o : Option Reached) →
-      reached_from core roots (lengthened (at fields) f) ≡ o → Leads names →
-      option_and_then (along names) (kept (lengthened (at fields) f) o)
-      ≡ led (walked_by core names fields (option_map (λ next. (f, next)) o))
-  by_behind names fields f None is later = refl
-  by_behind names fields f (Some next) is later = later (fields ++ f ∷ []) next is
+  by_behind : {X : Type 0} (next : StartPath → Option X) (rest : Walk → Option X) (fields : List FieldId) (f : FieldId)
+      (o : Option Reached) → reached_from core roots (lengthened (at fields) f) ≡ o → AreAlike next rest →
+      option_and_then next (kept (lengthened (at fields) f) o)
+      ≡ option_and_then rest (option_map (onto fields) (option_map (λ (n : Reached). (f, n)) o))
+  by_behind next rest fields f None is alike = refl
+  by_behind next rest fields f (Some n) is alike = alike (fields ++ f ∷ []) n is
 
-  by_field : (names : List (List ℕ)) (fields : List FieldId) (r : Reached) (o : Option FieldId) →
-      reached_from core roots (at fields) ≡ Some r → Leads names →
-      option_and_then (along names)
+  by_field : {X : Type 0} (next : StartPath → Option X) (rest : Walk → Option X) (fields : List FieldId) (r : Reached)
+      (o : Option FieldId) → reached_from core roots (at fields) ≡ Some r → AreAlike next rest →
+      option_and_then next
       (option_and_then (λ f. kept (lengthened (at fields) f) (reached_from core roots (lengthened (at fields) f))) o)
-      ≡ led (walked_by core names fields
-      (option_and_then (λ f. option_map (λ next. (f, next)) (behind core (Some r) f)) o))
-  by_field names fields r None is later = refl
-  by_field names fields r (Some f) is later =
+      ≡ option_and_then rest (option_map (onto fields)
+      (option_and_then (λ f. option_map (λ (n : Reached). (f, n)) (behind core (Some r) f)) o))
+  by_field next rest fields r None is alike = refl
+  by_field next rest fields r (Some f) is alike =
       let longer : reached_from core roots (lengthened (at fields) f) ≡ behind core (Some r) f =
       fold_push (behind core) (roots root) fields f ∙ ap (λ (o : Option Reached). behind core o f) is in
-      ap (λ (o : Option Reached). option_and_then (along names) (kept (lengthened (at fields) f) o)) longer
-      ∙ by_behind names fields f (behind core (Some r) f) longer later
+      ap (λ (o : Option Reached). option_and_then next (kept (lengthened (at fields) f) o)) longer
+      ∙ by_behind next rest fields f (behind core (Some r) f) longer alike
 
-  pub leads : (names : List (List ℕ)) → Leads names
-  leads [] fields r is = refl
-  leads (name ∷ names) fields r is =
-      ap (λ (o : Option Reached). option_and_then (along names)
+  -- the same of one name more
+  pub one_step : {X : Type 0} (next : StartPath → Option X) (rest : Walk → Option X) (name : List ℕ)
+      (fields : List FieldId) (r : Reached) → reached_from core roots (at fields) ≡ Some r → AreAlike next rest →
+      option_and_then next (one_field core roots name (at fields))
+      ≡ option_and_then rest (step_on core name (fields, r))
+  one_step next rest name fields r is alike =
+      ap (λ (o : Option Reached). option_and_then next
       (option_and_then (λ f. kept (lengthened (at fields) f) (reached_from core roots (lengthened (at fields) f)))
       (option_and_then (field_named core name) o))) is
-      ∙ by_field names fields r (field_named core name r) is (leads names)
+      ∙ by_field next rest fields r (field_named core name r) is alike
+
+  abbrev pub at_end : Ended → StartPath
+  at_end e = at (e.0 ++ e.1 ∷ [])
+
+  last_step : (fields : List FieldId) (o : Option (FieldId × Reached)) →
+      option_and_then (λ (w : Walk). Some (at w.0)) (option_map (onto fields) o)
+      ≡ option_map at_end (option_map (λ (f : FieldId). (fields, f)) (option_map (λ (n : FieldId × Reached). n.0) o))
+  last_step fields None = refl
+  last_step fields (Some n) = refl
+
+  pub mapped_behind : {X Y : Type 0} (g : X → Y) (rest : Walk → Option X) (o : Option Walk) →
+      option_and_then (λ (w : Walk). option_map g (rest w)) o ≡ option_map g (option_and_then rest o)
+  mapped_behind g rest None = refl
+  mapped_behind g rest (Some w) = refl
+
+  -- names that lead from what was reached are the path
+  pub leads : (names : List (List ℕ)) → (names ≡ [] → ⊥) →
+      AreAlike (path_along core roots names) (λ w. option_map at_end (ended core AtObject names w))
+  leads [] some fields r is = absurd (some refl)
+  leads (name ∷ []) some fields r is =
+      one_step (path_along core roots []) (λ w. Some (at w.0)) name fields r is (λ gs q e. refl)
+      ∙ last_step fields (next_named core name r)
+  leads (name ∷ next ∷ names) some fields r is =
+      one_step (path_along core roots (next ∷ names))
+      (λ w. option_map at_end (ended core AtObject (next ∷ names) w)) name fields r is
+      (leads (next ∷ names) (λ e. absurd cc))
+      ∙ mapped_behind at_end (ended core AtObject (next ∷ names)) (step_on core name (fields, r))
 
 -- ---- texts
 
 -- a root, and the names behind it
-abbrev pub path_by : Core → Method → Method → List (List ℕ) → Option StartRoot → Option StartPath
+abbrev path_by : Core → Method → Method → List (List ℕ) → Option StartRoot → Option StartPath
 path_by core f g names o = option_and_then (λ r. path_along core (roots_of f g) names (root_path r)) o
 
 object_by : (core : Core) (f g : Method) (text name : List ℕ) (names : List (List ℕ)) →
@@ -110,11 +153,11 @@ object_by core f g text name (first ∷ names) cut some =
 
 -- where a root leads somewhere, the text is what its other names lead along
 pub root_walked : (core : Core) (f g : Method) (text name : List ℕ) (names : List (List ℕ)) (r : StartRoot)
-    (from : Reached) (found : Option (List FieldId)) → names_in text ≡ name ∷ names → (names ≡ [] → ⊥) →
+    (from : Reached) (found : Option Ended) → names_in text ≡ name ∷ names → (names ≡ [] → ⊥) →
     Some r ≡ root_named core f g name → Some from ≡ roots_of f g r →
-    found ≡ fields_walked (walked core names ([], from)) →
-    option_map (at core (roots_of f g) r) found ≡ object_named core f g text
+    found ≡ ended core AtObject names ([], from) →
+    option_map (at_end core (roots_of f g) r) found ≡ object_named core f g text
 root_walked core f g text name names r from found cut some is leads_to walks =
-    ap (option_map (at core (roots_of f g) r)) walks
-    ∙ sym (leads core (roots_of f g) r names [] from (sym leads_to))
+    ap (option_map (at_end core (roots_of f g) r)) walks
+    ∙ sym (leads core (roots_of f g) r names some [] from (sym leads_to))
     ∙ ap (path_by core f g names) is ∙ object_by core f g text name names cut some

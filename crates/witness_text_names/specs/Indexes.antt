@@ -1,7 +1,7 @@
 -- A contract of a public call rests on this: `entry_named`. What the indexes of roots and of fields find, and how far a
 -- text leads.
-use Rattle.std.specs.Prelude.{◌≡◌, ℕ, Bool, List, [], ◌∷◌, ◌++◌, Option, None, Some, find, option_and_then, option_map}
-use Rattle.std.specs.Prelude.{String, if◌then◌else◌, nat_eq}
+use Rattle.std.specs.Prelude.{◌≡◌, ℕ, Bool, false, List, [], ◌∷◌, ◌++◌, Option, None, Some, find, option_and_then}
+use Rattle.std.specs.Prelude.{String, if◌then◌else◌, nat_eq, option_map}
 use Rattle.std.specs.BTreeMap.{BTreeMap, get, get_by_text}
 use Rattle.std.specs.Global.{Global}
 use Rattle.std.specs.List.{enumerate_from}
@@ -11,14 +11,17 @@ use Rattle.racer_base.specs.declared.ids.ClassId.{ClassId}
 use Rattle.racer_base.specs.declared.ids.FieldId.{FieldId}
 use Rattle.core_code.specs.declared.parts.FieldCore.{FieldCore}
 use Rattle.core_code.specs.Core.{Core, method_of}
+use Rattle.core_code.specs.KindCheck as kinds
 use Rattle.core_code.specs.Names.{same_text}
 use Rattle.core_semantics.specs.declared.object.StartRoot.{StartRoot}
 use Rattle.race_report_parts.specs.Marks.{start_root_text}
 use Rattle.core_semantics_kinds.specs.Reached as right
-use Rattle.core_semantics_kinds.specs.Reached.{behind}
+use Rattle.core_semantics_kinds.specs.Reached.{behind, has_cell}
 use Rattle.witness_text_names.specs.declared.entries.Entry.{Entry}
 use Rattle.witness_text_names.specs.declared.reached.Reached.{Reached}
 use Rattle.witness_text_names.specs.declared.reached.Reached.TheVariants as code
+use Rattle.witness_text_names.specs.declared.walk.Ends.{Ends}
+use Rattle.witness_text_names.specs.declared.walk.Ends.TheVariants.{AtObject, AtCell}
 use Rattle.witness_text_names.specs.Names.{NumberedMethod, field_named, is_field_named}
 
 -- what is seen of an entry, and of what a start path leads to
@@ -84,10 +87,20 @@ FindsFields fields index = (c : ClassId) (name : List ℕ) → field_at index c 
 
 -- ---- along a text
 
+-- whether a field is one of what was reached
+abbrev pub is_field_at : Core → right.Reached → FieldId → Bool
+is_field_at core r f =
+    elim (option_map (λ (field : FieldCore). has_cell field r) (kinds.field_at core f)) [ None ↦ false | Some is ↦ is ]
+
 -- the field of a name behind what was reached, with what it leads to
 abbrev pub next_named : Core → List ℕ → right.Reached → Option (FieldId × right.Reached)
 next_named core name r =
     option_and_then (λ f. option_map (λ next. (f, next)) (behind core (Some r) f)) (field_named core name r)
+
+-- the same of a field that need not lead on
+abbrev pub cell_field : Core → List ℕ → right.Reached → Option FieldId
+cell_field core name r =
+    option_and_then (λ f. if is_field_at core r f then Some f else None) (field_named core name r)
 
 -- fields so far, and what they lead to
 abbrev pub Walk : Type 0
@@ -103,3 +116,15 @@ walked core (name ∷ names) at = option_and_then (walked core names) (step_on c
 
 abbrev pub fields_walked : Option Walk → Option (List FieldId)
 fields_walked walk = option_map (λ (at : Walk). at.0) walk
+
+-- the field of this name that ends a text: it leads on, or is only a field of what was reached
+abbrev pub last_named : Core → Ends → List ℕ → right.Reached → Option FieldId
+last_named core AtObject name r = option_map (λ (next : FieldId × right.Reached). next.0) (next_named core name r)
+last_named core AtCell name r = cell_field core name r
+
+-- the fields of all names but the last, and that of the last, where each leads on and the last ends so
+abbrev pub ended : Core → Ends → List (List ℕ) → Walk → Option (List FieldId × FieldId)
+ended core ends [] at = None
+ended core ends (name ∷ []) at = option_map (λ f. (at.0, f)) (last_named core ends name at.1)
+ended core ends (name ∷ next ∷ names) at =
+    option_and_then (ended core ends (next ∷ names)) (step_on core name at)

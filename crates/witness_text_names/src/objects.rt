@@ -7,10 +7,10 @@ ghost use Rattle.witness_text_names.specs.Names.{all_roots};
 ghost use Rattle.witness_text_names.specs.Objects as said;
 
 use crate::entries::number_of;
-use crate::fields::{FieldIndex, field_index};
+use crate::fields::FieldIndex;
 use crate::reached::root_reached;
-use crate::roots::{RootIndex, root_at, root_index};
-use crate::walk::{cut, walk};
+use crate::roots::{RootIndex, root_at};
+use crate::walk::{Ends, cut, walk};
 use core_code::{MethodCore, Program};
 use core_semantics::StartPath;
 use racer_base::{Items, Memory, Text};
@@ -49,15 +49,19 @@ fn object_named(
     let Some(from) = root_reached(first, second, root) else {
         return Ok(None);
     };
-    let path = walk(alloc, program, fields, from, names)?;
-    let Some(path) = path else {
+    let path = walk(alloc, program, fields, from, names, Ends::AtObject)?;
+    let Some((mut path, field)) = path else {
         return Ok(None);
     };
-    Ok(Some(StartPath { root, fields: path }))
+    path.push(field)?;
+    Ok(Some(StartPath {
+        root,
+        fields: Items::from(path),
+    }))
 }
 
 /// The start paths that these texts are, by these indexes.
-fn all_named(
+pub(crate) fn all_named(
     alloc: Global,
     program: &Program,
     first: &MethodCore,
@@ -83,23 +87,4 @@ fn all_named(
         paths.push(path)?;
     }
     Ok(Named::All(Items::from(paths)))
-}
-
-/// The start paths that these texts are for two entries.
-pub fn objects_named(
-    alloc: Global,
-    program: &Program,
-    first: &MethodCore,
-    second: &MethodCore,
-    texts: &[Text],
-) -> Result<Named, Memory>
-    ensures { IfOk result (λ named. named
-        ≡ said.objects_named (core program.now) (method_of first.now) (method_of second.now) texts.now) }
-{
-    if texts.is_empty() {
-        return Ok(Named::All(Items::new(alloc)));
-    }
-    let roots = root_index(alloc, program, first, second)?;
-    let fields = field_index(alloc, program)?;
-    all_named(alloc, program, first, second, texts, &roots, &fields)
 }

@@ -1,7 +1,7 @@
 //! What a start path leads to.
 ghost use Rattle.std.specs.Prelude.{◌≡◌, option_map};
 ghost use Rattle.core_code.specs.Core.{method_of};
-ghost use Rattle.core_semantics_kinds.specs.Reached.{behind_field, object_of, parameter_root, roots_of};
+ghost use Rattle.core_semantics_kinds.specs.Reached.{behind_field, has_cell, object_of, parameter_root, roots_of};
 ghost use Rattle.witness_text_names.specs.Indexes.{reached_of};
 ghost use Rattle.witness_text_names.specs.Names.{class_in};
 
@@ -37,15 +37,25 @@ impl Reached {
         }
     }
 
+    /// Whether a field is one of what was reached.
+    pub(crate) fn has(self, field: &FieldCore) -> bool
+        ensures { result ≡ has_cell field.now (reached_of self) }
+    {
+        match self {
+            Reached::ObjectOf(class) => class == field.class && !field.is_static,
+            Reached::TheClass(class) => class == field.class && field.is_static,
+        }
+    }
+
     /// What a field leads to from here.
     pub(crate) fn behind(self, field: &FieldCore) -> Option<Reached>
         ensures { option_map reached_of result ≡ behind_field field.now (reached_of self) }
     {
-        let fits = match self {
-            Reached::ObjectOf(class) => class == field.class && !field.is_static,
-            Reached::TheClass(class) => class == field.class && field.is_static,
-        };
-        if fits { object_of(field.kind) } else { None }
+        if self.has(field) {
+            object_of(field.kind)
+        } else {
+            None
+        }
     }
 }
 

@@ -4,7 +4,7 @@ use Rattle.core_semantics.specs.declared.object.StartPath.{StartPath}
 use Rattle.core_ways.specs.Marks.{leg_of}
 use Rattle.race_report_parts.specs.Pieces.{starts_strings}
 use Rattle.race_report_parts.specs.Sides.{sides_told}
-use Rattle.race_report_parts.proofs.PutChains.{five, same_piece}
+use Rattle.race_report_parts.proofs.PutChains.{same_piece, six}
 use Rattle.race_report_parts.proofs.WitnessPieces.{file_told}
 use Rattle.race_report_parts.proofs.witness.push_witness_file.Goals as goal
 
@@ -12,7 +12,8 @@ pub returns : goal.returns
 returns c =
     let program = core c.args.program.now in
     let starts : List StartPath → List ℕ = λ all. codes ",\"objects\":" ++ starts_strings program all in
-    same_piece (five c.push_class_string.ensures c.push_entries.ensures c.push_legs.ensures
-    (same_piece c.push_start_strings.ensures (ap starts c.as_slice.ensures)) c.push_text.ensures)
+    same_piece (six c.push_class_string.ensures c.push_entries.ensures c.push_legs.ensures
+    (same_piece c.push_start_strings.ensures (ap starts c.as_slice.ensures)) c.push_path_string.ensures
+    c.push_text.ensures)
     (sym (file_told program (sides_told c.args.sides.now) c.args.witness.now.objects (leg_of c.args.witness.now.first)
     (leg_of c.args.witness.now.second)))

@@ -13,5 +13,5 @@ returns c = λ p w r listed there stable whole.
     let objects = objects_of (core p) legs (begun (core p) w.entry w.partner All) in
     let is = c.whole_warnings_race.ensures p w r listed there stable whole in
     let can = c.confirmed_warnings_can_replay.ensures p w objects legs listed is.marked in
-    legs-shown p w sides.0 objects legs r.path (c.each_warning_is_a_pair.ensures (core p) w listed) sides.1 is.marked
-    can.right is.races
+    legs-shown p w sides.0 objects legs r (c.each_warning_is_a_pair.ensures (core p) w listed) sides.1 there stable.root
+    is.marked can.right is.races

@@ -1,4 +1,4 @@
-use Rattle.std.proofs.Common.{ℕ, [], ◌∷◌, Option, subst, sym, ◌∙◌}
+use Rattle.std.proofs.Common.{ℕ, [], ◌∷◌, Option, option_map, subst, sym, ◌∙◌}
 use Rattle.core_code.specs.Program.{core}
 use Rattle.core_semantics.specs.Legs.{runs}
 use Rattle.core_semantics.specs.View.{state_of}
@@ -16,11 +16,12 @@ returns c =
     let start = state_of c.args.machine.now in
     let between = state_of c.leg_stop.new.machine in
     let end = state_of c.leg_stop-2.new.machine in
+    let ends = race_verdict (option_map (λ cell. cell.now) c.args.cell.entry) in
     let one = runs p first.thread first.steps first.turns start in
     let other = runs p second.thread second.steps second.turns between in
     c.race_verdict.ensures
-    ∙ sym (through p race_verdict 0 first (second ∷ []) one between
+    ∙ sym (through p ends 0 first (second ∷ []) one between
     (subst (λ (o : Option ℕ). IsReplayed (replayed first.steps one) o between) c.in_default.is c.in_ok-steps.ensures)
-    ∙ through p race_verdict 1 second [] other end
+    ∙ through p ends 1 second [] other end
     (subst (λ (o : Option ℕ). IsReplayed (replayed second.steps other) o end) c.in_default-2.is
     c.in_ok-steps-2.ensures))

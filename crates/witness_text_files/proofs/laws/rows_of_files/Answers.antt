@@ -14,6 +14,14 @@ pub returns-clause-entries : goal.returns-clause-entries
 unfolding serde_json_on_literals
 returns-clause-entries c = refl
 
+pub returns-clause-path : goal.returns-clause-path
+unfolding serde_json_on_literals
+returns-clause-path c = refl
+
+pub returns-clause-further_path : goal.returns-clause-further_path
+unfolding serde_json_on_literals
+returns-clause-further_path c = refl
+
 pub returns-clause-objects : goal.returns-clause-objects
 unfolding serde_json_on_literals
 returns-clause-objects c = refl

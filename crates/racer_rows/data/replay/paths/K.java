@@ -1,0 +1,1 @@
+@ThreadSafe class K { K n; int v; Object o; static K s; static int c; void set() { this.n.v = 1; } }
