@@ -91,13 +91,14 @@ pub no_names : (core : Core) (f g : Method) (text : List ℕ) → names_in text 
 no_names core f g text cut =
     by (root_named core f g text) ∙ sym (ap (λ (ns : List (List ℕ)). cell_of core f g ns) cut)
   where
-    by_root : (b : Bool) → None ≡ option_and_then short_cell (cond b (None {A = StartPath × FieldId}) None)
-    by_root true = refl
-    by_root false = refl
+    by_root : (r : StartRoot) (b : Bool) →
+        None ≡ option_and_then short_cell (cond b (cell_along core (roots_of f g) [] (at core (roots_of f g) r [])) None)
+    by_root r true = refl
+    by_root r false = refl
 
     by : (o : Option StartRoot) → None ≡ option_and_then short_cell (option_and_then (cell_from core f g []) o)
     by None = refl
-    by (Some r) = by_root (is_shared r)
+    by (Some r) = by_root r (is_shared r)
 
 -- a text whose root is none
 pub no_root : (core : Core) (f g : Method) (text name : List ℕ) (names : List (List ℕ)) → names_in text ≡ name ∷ names →

@@ -1,4 +1,4 @@
-use Rattle.std.proofs.Common.{◌≡◌, true, false, None, Some, absurd, ap, sym, ◌∙◌}
+use Rattle.std.proofs.Common.{◌≡◌, true, false, None, Some, ap, sym, ◌∙◌}
 use Rattle.core_code.specs.Core.{method_of}
 use Rattle.core_code.specs.Program.{core}
 use Rattle.witness_text_names.specs.Indexes.{reached_of}
