@@ -16,7 +16,7 @@ returns c =
     let start = state_of c.args.machine.now in
     let between = state_of c.leg_stop.new.machine in
     let end = state_of c.leg_stop-2.new.machine in
-    let ends = race_verdict (option_map (λ cell. cell.now) c.args.cell.entry) in
+    let ends = race_verdict (option_map (λ cell. cell.now) c.args.cell) in
     let one = runs p first.thread first.steps first.turns start in
     let other = runs p second.thread second.steps second.turns between in
     c.race_verdict.ensures
