@@ -3,15 +3,14 @@ use Rattle.racer_base.specs.declared.ids.MethodId.{MethodId}
 use Rattle.core_lowering_rules.specs.Programs.{draft_of}
 use Rattle.core_lowering.specs.Calls.{are_rows_low, edges}
 use Rattle.core_lowering.proofs.SameCalls.{edges-same}
-use Rattle.core_lowering.proofs.programs.find_calls.Goals as goal
+use Rattle.core_lowering.proofs.programs.find_edges.Goals as goal
 
 pub count_edges-requires : goal.count_edges-requires
 count_edges-requires c =
-    subst (λ (rows : List (List MethodId)). are_rows_low rows ≡ true)
-    (sym (c.as_slice.ensures.value ∙ c.in_ok-rows.ensures)) c.requires.low
+    subst (λ (rows : List (List MethodId)). are_rows_low rows ≡ true) (sym c.requires.rows) c.requires.low
 
-pub returns-clause-edges : goal.returns-clause-edges
-returns-clause-edges c =
+pub returns : goal.returns
+returns c =
     sym (edges-same (draft_of [] c.args.units.now).methods)
-    ∙ ap (λ (rows : List (List MethodId)). edges rows) (sym (c.as_slice.ensures.value ∙ c.in_ok-rows.ensures))
+    ∙ ap (λ (rows : List (List MethodId)). edges rows) (sym c.requires.rows)
     ∙ sym c.in_ok-edges.ensures
