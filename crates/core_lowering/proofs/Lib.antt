@@ -10,3 +10,4 @@ pub mod Ordered
 pub mod SamePrograms
 pub mod Loops
 pub mod MethodsMade
+mod Tries

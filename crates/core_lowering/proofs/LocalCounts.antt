@@ -5,7 +5,7 @@ use Rattle.java_tree.specs.declared.methods.ParameterTree.{ParameterTree}
 use Rattle.java_tree.specs.View.{ty_of}
 use Rattle.core_lowering_rules.specs.Trees.{Variable, Start, Declares, Runs, Stmt, Run, Local, If, IfElse, While, For}
 use Rattle.core_lowering_rules.specs.Trees.{ForEach}
-use Rattle.core_lowering_rules.specs.Trees.{Sync, Return, Block, Empty, Stmts, no_stmt, stmt_then}
+use Rattle.core_lowering_rules.specs.Trees.{Sync, Return, Block, Empty, Locked, Try, Apart, Stmts, no_stmt, stmt_then}
 use Rattle.core_lowering_rules.specs.Context.{Folder, Context, type_kind}
 use Rattle.core_lowering_rules.specs.Scopes.{declared, all_declared, started, after, after_all}
 use Rattle.core_lowering_rules.specs.Methods.{Body, Default, Spelled, Unspelled, Source, this_kinds, entered}
@@ -50,6 +50,9 @@ mutual
   after-many context (Return e) = omega arith
   after-many context (Block ss) = all-many context ss
   after-many context Empty = omega arith
+  after-many context (Locked place e ss catches) = all-many context ss
+  after-many context (Try ss catches finally) = omega arith
+  after-many context Apart = omega arith
 
   all-many : (context : Context) (ss : Stmts) → many (after_all context ss) ≡ many context + all_declare ss
   all-many context no_stmt = omega arith

@@ -12,10 +12,15 @@ use Rattle.core_code.specs.Core.{Core}
 use Rattle.core_code.specs.Recursion.{all_rows}
 use Rattle.core_lowering_rules.specs.Context.{Folder}
 use Rattle.core_lowering_rules.specs.Methods.{Source}
-use Rattle.core_lowering_rules.specs.Programs.{sources_of, declared_in, statuses_from, folder_of, class_core, field_core}
+use Rattle.core_lowering_rules.specs.Programs.{sources_of, declared_in, statuses_from, folder_of, class_core}
+use Rattle.core_lowering_rules.specs.Programs.{field_core}
 use Rattle.core_lowering_rules.specs.Programs.{method_cores, skipped_in, in_order, program_of, draft_of}
 use Rattle.core_lowering.specs.Calls.{row_in}
 use Rattle.core_lowering.specs.Reasons.{own_reason, with_recursive}
+use Rattle.core_lowering_rules.specs.Conditions.{unit_places}
+use Rattle.core_lowering_rules.proofs.KeptPlaces.{sources-placed}
+use Rattle.core_lowering_rules.proofs.NamedCode.{any-place}
+use Rattle.core_lowering_rules.proofs.NamedCode.{rows-same as rows-alike}
 use Rattle.core_lowering.proofs.SameReasons.{statuses-same}
 use Rattle.core_lowering.proofs.SameCalls.{rows-same}
 
@@ -66,17 +71,13 @@ module _ (units : List unit_type.Unit) (classes : List ClassInfo) (fields : List
       core_in files units (classes_of units) (fields_of units) (methods_of units) st (sources_of units))
       (statuses-are is_recursive statuses e)
 
-  pub rows-made : (statuses : List (Option Reason)) →
-      statuses ≡ with_recursive (λ n. true) 0 (map (own_reason (folder_in classes fields methods [])) sources) →
-      map (row_in (folder_in classes fields methods statuses)) sources ≡ all_rows (draft_of [] units)
-  rows-made statuses e =
-      ap (λ (cs : List ClassInfo). map (row_in (folder_in cs fields methods statuses)) sources) c
-      ∙ ap (λ (fs : List FieldInfo). map (row_in (folder_in (classes_of units) fs methods statuses)) sources) f
-      ∙ ap (λ (ms : List MethodInfo).
-      map (row_in (folder_in (classes_of units) (fields_of units) ms statuses)) sources) m
-      ∙ ap (λ (ss : List Source).
-      map (row_in (folder_in (classes_of units) (fields_of units) (methods_of units) statuses)) ss) s
-      ∙ ap (λ (st : List (Option Reason)).
-      map (row_in (folder_in (classes_of units) (fields_of units) (methods_of units) st)) (sources_of units))
-      (statuses-are (λ n. true) statuses e)
-      ∙ rows-same (folder_of units (λ n. true)) (declared_in units) (λ n. true) 0 (sources_of units)
+  -- the calls are those of the draft, whichever methods are analysed
+  pub rows-made : map (row_in (folder_in classes fields methods [])) sources ≡ all_rows (draft_of [] units)
+  rows-made =
+      let none = declared_in units in
+      let recursive = statuses_from none (λ m. true) 0 (sources_of units) in
+      ap (λ (folder : Folder). map (row_in folder) sources) declared-same
+      ∙ ap (λ (ss : List Source). map (row_in none) ss) s
+      ∙ rows-same none none (λ m. true) 0 (sources_of units)
+      ∙ rows-alike none [] recursive none (λ m. true) (λ m. true) 0 (sources_of units)
+      (sources-placed (λ p. true) units (any-place (flat_map unit_places units)))

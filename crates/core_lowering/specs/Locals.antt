@@ -1,8 +1,9 @@
 -- No public contract rests on this: how many variables statements declare.
 use Rattle.std.specs.Prelude.{ℕ, ◌+◌, ◌-◌, length}
 use Rattle.java_resolver.specs.declared.infos.MethodInfo.{MethodInfo}
-use Rattle.core_lowering_rules.specs.Trees.{Start, Declares, Runs, Stmt, Run, Local, If, IfElse, While, For, ForEach, Sync}
-use Rattle.core_lowering_rules.specs.Trees.{Return, Block, Empty, Stmts, no_stmt, stmt_then}
+use Rattle.core_lowering_rules.specs.Trees.{Start, Declares, Runs, Stmt, Run, Local, If, IfElse, While, For, ForEach}
+use Rattle.core_lowering_rules.specs.Trees.{Sync}
+use Rattle.core_lowering_rules.specs.Trees.{Return, Block, Empty, Locked, Try, Apart, Stmts, no_stmt, stmt_then}
 use Rattle.core_lowering_rules.specs.Methods.{Body, Default, Spelled, Unspelled, Source, body_of}
 
 abbrev pub starts : Start → ℕ
@@ -22,6 +23,9 @@ abbrev mutual
   declares (Return e) = 0
   declares (Block ss) = all_declare ss
   declares Empty = 0
+  declares (Locked place e ss catches) = all_declare ss
+  declares (Try ss catches finally) = 0
+  declares Apart = 0
 
   pub all_declare : Stmts → ℕ
   all_declare no_stmt = 0

@@ -2,8 +2,8 @@
 //!
 //! The program is that of core_lowering_rules's `specs/Programs.antt`, for every table and units that `lower` takes.
 //!
-//! The reasons apart from recursion are found once, and recursion last: a method is lowered twice, once for its calls,
-//! all methods taken for recursive, of which only the rows are kept, and once for the program. Locals are counted in
+//! The reasons apart from recursion are found once, and recursion last: a method is lowered twice, once for its calls
+//! and its locks, as if none were analysed, of which no code is kept, and once for the program. Locals are counted in
 //! trees. The draft is no `Program`: that would take all code at once, and a proof of the thirteen facts.
 #![tactic(auto)]
 

@@ -2,9 +2,11 @@
 ghost use Rattle.std.specs.Prelude.{◌≡◌, ◌+◌, IfOk, map, length};
 ghost use Rattle.core_lowering_rules.specs.Trees.{pack_stmts};
 ghost use Rattle.core_lowering_rules.specs.TreesOf.{start_of, stmt_of};
+ghost use Rattle.core_lowering_locks.specs.Seen.{item_seen};
 ghost use Rattle.core_lowering_methods.specs.Sources.{source_of};
 ghost use Rattle.core_lowering.specs.Locals.{starts, declares, all_declare, locals_of};
 
+use core_lowering_locks::{Item, first_item};
 use core_lowering_methods::{Body, Source};
 use java_tree::{StartTree, Statement};
 use racer_base::Memory;
@@ -28,6 +30,7 @@ fn count_start(start: &StartTree) -> usize
 
 /// How many variables a statement declares, in its blocks too.
 #[cycle(locals)]
+#[tactic(auto, using(crate::proofs::Tries::try_declares_nothing))]
 fn count_statement(statement: &Statement) -> Result<usize, Memory>
     ensures { IfOk result (λ n. n ≡ declares (stmt_of statement.now)) }
 {
@@ -48,7 +51,18 @@ fn count_statement(statement: &Statement) -> Result<usize, Memory>
         // No method with one of these is lowered.
         Statement::Do(_, _) | Statement::Throw(_, _) | Statement::Break(_) => Ok(0),
         Statement::Continue(_) | Statement::Labelled(_, _) | Statement::Assert(_, _) => Ok(0),
-        Statement::Switch(_, _) | Statement::Try(_) => Ok(0),
+        Statement::Switch(_, _) => Ok(0),
+        Statement::Try(_) => Ok(0),
+    }
+}
+
+#[cycle(locals)]
+fn count_item(item: Item) -> Result<usize, Memory>
+    ensures { IfOk result (λ n. n ≡ declares (item_seen item.entry)) }
+{
+    match item {
+        Item::Alone(statement) => count_statement(statement),
+        Item::Locked(locked) => count_statements(locked.tried.body.as_slice()),
     }
 }
 
@@ -58,8 +72,10 @@ fn count_statements(statements: &[Statement]) -> Result<usize, Memory>
     ensures { IfOk result (λ n. n ≡ all_declare (pack_stmts (map stmt_of statements.now))) }
 {
     let mut count = 0;
-    for statement in statements {
-        count = sum(count, count_statement(statement)?)?;
+    let mut rest = statements;
+    while let Some((item, behind)) = first_item(rest) {
+        count = sum(count, count_item(item)?)?;
+        rest = behind;
     }
     Ok(count)
 }

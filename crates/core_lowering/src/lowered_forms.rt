@@ -1,13 +1,16 @@
 //! Which statements are lowered.
-ghost use Rattle.std.specs.Prelude.{◌≡◌, map};
-ghost use Rattle.java_tree.specs.Trees.{pack_stmts};
-ghost use Rattle.java_tree.specs.View.{stmt_of};
+ghost use Rattle.std.specs.Prelude.{◌≡◌, ◌&&◌, map};
+ghost use Rattle.core_lowering_rules.specs.Trees.{pack_stmts, pack_catches};
+ghost use Rattle.core_lowering_rules.specs.TreesOf.{stmt_of, catch_of};
 ghost use Rattle.core_lowering_rules.specs.LoweredForms as wanted;
+ghost use Rattle.core_lowering_locks.specs.Seen.{item_seen, body_of, clauses_of};
 
-use java_tree::Statement;
+use core_lowering_locks::{Item, first_item};
+use java_tree::{CatchTree, Statement, TryTree};
 
 /// Whether a statement is lowered, and all that it has in it.
 #[cycle(lowered_forms)]
+#[tactic(auto, using(crate::proofs::Tries::try_is_not_lowered))]
 fn is_lowered(statement: &Statement) -> bool
     ensures { result ≡ wanted.is_lowered (stmt_of statement.now) }
 {
@@ -31,15 +34,48 @@ fn is_lowered(statement: &Statement) -> bool
     }
 }
 
+/// Whether what stands in a locked try is lowered.
+#[cycle(lowered_forms)]
+fn is_try_lowered(tried: &TryTree) -> bool
+    ensures { result ≡ (wanted.are_lowered (body_of tried.now) && wanted.are_caught (clauses_of tried.now)) }
+{
+    are_lowered(tried.body.as_slice()) && are_clauses_lowered(tried.clauses.as_slice())
+}
+
+/// Whether what stands in catch clauses is lowered.
+#[cycle(lowered_forms)]
+fn are_clauses_lowered(clauses: &[CatchTree]) -> bool
+    ensures { result ≡ wanted.are_caught (pack_catches (map catch_of clauses.now)) }
+{
+    for clause in clauses {
+        if !are_lowered(clause.body.as_slice()) {
+            return false;
+        }
+    }
+    true
+}
+
+#[cycle(lowered_forms)]
+fn is_item_lowered(item: Item) -> bool
+    ensures { result ≡ wanted.is_lowered (item_seen item.entry) }
+{
+    match item {
+        Item::Alone(statement) => is_lowered(statement),
+        Item::Locked(locked) => is_try_lowered(locked.tried),
+    }
+}
+
 /// Whether these statements are lowered.
 #[cycle(lowered_forms)]
 pub(crate) fn are_lowered(statements: &[Statement]) -> bool
     ensures { result ≡ wanted.are_lowered (pack_stmts (map stmt_of statements.now)) }
 {
-    for statement in statements {
-        if !is_lowered(statement) {
+    let mut rest = statements;
+    while let Some((item, behind)) = first_item(rest) {
+        if !is_item_lowered(item) {
             return false;
         }
+        rest = behind;
     }
     true
 }

@@ -19,14 +19,14 @@ ghost use Rattle.core_lowering.specs.Calls.{are_rows_low};
 ghost use Rattle.core_lowering.specs.Known.{IsKnown};
 ghost use Rattle.core_lowering.specs.Lowered.{calls_of, IsFault};
 
-use crate::calls::rows;
+use crate::calls::{Drafts, find_drafts};
 use crate::classes::{classes, fields, file_names};
 use crate::edges::count_edges;
 use crate::fault::LowerFault;
 use crate::methods::methods;
 use crate::skipped::skipped_of;
 use crate::sources::sources_of;
-use crate::statuses::{all_recursive, own_reasons, statuses};
+use crate::statuses::statuses;
 use core_code::{Parts, Program, Reason, on_cycles};
 use core_lowering_methods::Source;
 use java_resolver::Table;
@@ -34,47 +34,14 @@ use java_tree::Unit;
 use racer_base::{Items, MAX_CALL_EDGES, Memory, MethodId};
 use std::alloc::Global;
 
-/// The methods that each method calls, whatever their status, and how many different pairs of the two there are.
-#[derive(Drop)]
-struct Calls {
-    rows: Items<Items<MethodId>>,
-    edges: u32,
-}
-
-/// The methods that each method calls, whatever their status.
-fn draft_rows(
-    alloc: Global,
-    table: &Table,
-    units: &[Unit],
-    reasons: &[Option<Reason>],
-    sources: &[Source],
-) -> Result<Vec<Items<MethodId>>, Memory>
-    requires known { IsKnown table.now units.now sources.now reasons.now }
-    ensures { IfOk result (λ rows. rows.items ≡ all_rows (draft_of [] units.now)) }
-{
-    let draft = all_recursive(alloc, reasons)?;
-    rows(alloc, table, draft.as_slice(), sources)
-}
-
-/// The calls of all methods, and how many different ones they are.
-fn find_calls(
-    alloc: Global,
-    table: &Table,
-    units: &[Unit],
-    reasons: &[Option<Reason>],
-    sources: &[Source],
-) -> Result<Calls, Memory>
-    requires known { IsKnown table.now units.now sources.now reasons.now }
+/// How many different pairs of a method and one that it calls there are, whatever their status.
+fn find_edges(alloc: Global, units: &[Unit], rows: &[Items<MethodId>]) -> Result<u32, Memory>
+    requires rows { rows.now ≡ all_rows (draft_of [] units.now) }
     requires low { IsTrue (are_rows_low (all_rows (draft_of [] units.now))) }
-    ensures rows { IfOk result (λ calls. calls.rows ≡ all_rows (draft_of [] units.now)) }
-    ensures edges { IfOk result (λ calls. calls_of units.now ≡ calls.edges) }
+    ensures { IfOk result (λ edges. calls_of units.now ≡ edges) }
 {
-    let rows = draft_rows(alloc, table, units, reasons, sources)?;
-    let edges = count_edges(alloc, rows.as_slice())?;
-    Ok(Calls {
-        rows: Items::from(rows),
-        edges,
-    })
+    let edges = count_edges(alloc, rows)?;
+    Ok(edges)
 }
 
 /// What the program is made of, where these are the reasons why methods are not analysed.
@@ -178,19 +145,21 @@ fn program_of(
 #[derive(Drop)]
 struct Known<'a> {
     sources: Vec<Source<'a>>,
-    reasons: Vec<Option<Reason>>,
+    drafts: Drafts,
 }
 
-/// The sources of the methods, and why they are not analysed, apart from recursion.
+/// The sources of the methods, and what is known of them before it is known which are recursive.
 fn find_known<'a>(alloc: Global, table: &'a Table, units: &'a [Unit]) -> Result<Known<'a>, Memory>
     requires classes { seen.classes table.now ≡ classes_of units.now }
     requires fields { seen.fields table.now ≡ fields_of units.now }
     requires methods { seen.methods table.now ≡ methods_of units.now }
-    ensures { IfOk result (λ known. IsKnown table.now units.now known.sources.items known.reasons.items) }
+    ensures known { IfOk result (λ known.
+        IsKnown table.now units.now known.sources.items known.drafts.reasons.items) }
+    ensures rows { IfOk result (λ known. known.drafts.rows.items ≡ all_rows (draft_of [] units.now)) }
 {
     let sources = sources_of(alloc, table.methods(), units)?;
-    let reasons = own_reasons(alloc, table, sources.as_slice())?;
-    Ok(Known { sources, reasons })
+    let drafts = find_drafts(alloc, table, sources.as_slice())?;
+    Ok(Known { sources, drafts })
 }
 
 /// The program of the units of a folder, from their table and the names of its files.
@@ -213,11 +182,11 @@ pub fn lower(
 {
     let known = find_known(alloc, table, units)?;
     let sources = known.sources.as_slice();
-    let reasons = known.reasons.as_slice();
-    let calls = find_calls(alloc, table, units, reasons, sources)?;
-    if calls.edges as usize > MAX_CALL_EDGES {
-        return Err(LowerFault::TooManyCalls(calls.edges));
+    let reasons = known.drafts.reasons.as_slice();
+    let rows = known.drafts.rows.as_slice();
+    let edges = find_edges(alloc, units, rows)?;
+    if edges as usize > MAX_CALL_EDGES {
+        return Err(LowerFault::TooManyCalls(edges));
     }
-    let rows = calls.rows.as_slice();
     Ok(program_of(alloc, table, units, files, reasons, sources, rows)?)
 }

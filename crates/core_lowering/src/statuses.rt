@@ -1,13 +1,15 @@
 //! Why methods are not analysed.
-ghost use Rattle.std.specs.Prelude.{◌≡◌, IfOk, map, true};
+ghost use Rattle.std.specs.Prelude.{◌≡◌, [], IfOk};
 ghost use Rattle.core_code.specs.Chains.{flag_of};
 ghost use Rattle.java_resolver.specs.Table.{methods};
 ghost use Rattle.core_lowering_rules.specs.Programs.{is_unspelled};
-ghost use Rattle.core_lowering_methods.specs.Sources.{body_of};
+ghost use Rattle.core_lowering_rules.specs.Methods.{has_other_lock};
+ghost use Rattle.core_lowering_methods.specs.Views.{folder_of};
+ghost use Rattle.core_lowering_methods.specs.Sources.{body_of, source_of};
 ghost use Rattle.core_lowering.specs.Counts.{AreCounts};
 ghost use Rattle.core_lowering.specs.Reasons as wanted;
 
-use crate::counts::{count_methods, is_overloaded};
+use crate::counts::is_overloaded;
 use crate::locals::count_locals;
 use core_code::Reason;
 use core_lowering_methods::{Body, Source};
@@ -51,30 +53,21 @@ fn first_reason(
 }
 
 /// The first reason that applies to a method, apart from recursion.
-fn own_reason(table: &Table, counts: &[u32], source: &Source) -> Result<Option<Reason>, Memory>
-    requires { AreCounts (methods table.now) counts.now }
+pub(crate) fn own_reason(
+    table: &Table,
+    counts: &[u32],
+    source: &Source,
+    other_lock: bool,
+) -> Result<Option<Reason>, Memory>
+    requires counts { AreCounts (methods table.now) counts.now }
+    requires locks { other_lock ≡ has_other_lock (folder_of table.now []) (source_of source.now) }
     ensures { IfOk result (λ reason. reason ≡ wanted.reason_of table.now source.now) }
 {
     let is_overload = is_overloaded(table, counts, source.info)?;
     let locals = count_locals(source)?;
     let parameters = source.info.parameters.len();
-    Ok(first_reason(is_overload, is_outside(&source.body), parameters, locals))
-}
-
-/// For each method the first reason that applies, apart from recursion.
-pub(crate) fn own_reasons(
-    alloc: Global,
-    table: &Table,
-    sources: &[Source],
-) -> Result<Vec<Option<Reason>>, Memory>
-    ensures { IfOk result (λ reasons. reasons.items ≡ map (wanted.reason_of table.now) sources.now) }
-{
-    let counts = count_methods(alloc, table, table.methods())?;
-    let mut reasons = Vec::new(alloc);
-    for source in sources {
-        reasons.push(own_reason(table, counts.as_slice(), source)?)?;
-    }
-    Ok(reasons)
+    let is_outside = is_outside(&source.body) || other_lock;
+    Ok(first_reason(is_overload, is_outside, parameters, locals))
 }
 
 /// A reason, or else recursion.
@@ -96,20 +89,6 @@ fn flag_at(flags: &[bool], index: usize) -> bool
         Some(flag) => *flag,
         None => false,
     }
-}
-
-/// Why methods are not analysed where all are taken for recursive.
-pub(crate) fn all_recursive(
-    alloc: Global,
-    reasons: &[Option<Reason>],
-) -> Result<Vec<Option<Reason>>, Memory>
-    ensures { IfOk result (λ made. made.items ≡ wanted.with_recursive (λ m. true) 0 reasons.now) }
-{
-    let mut made = Vec::new(alloc);
-    for reason in reasons {
-        made.push(with_recursion(*reason, true))?;
-    }
-    Ok(made)
 }
 
 /// Why methods are not analysed where those of these flags are recursive.

@@ -19,17 +19,19 @@ use Rattle.java_resolver.specs.declared.infos.FieldInfo.{FieldInfo}
 use Rattle.java_resolver.specs.declared.infos.MethodInfo.{MethodInfo}
 use Rattle.java_resolver.specs.Declarations.{constructor_name}
 use Rattle.java_resolver.specs.NameExamples.{ints, absent, words, method_tree}
+use Rattle.core_code.specs.declared.code.LockKind.TheVariants.{Own}
 use Rattle.core_code.specs.declared.code.Op.{Op as CoreOp}
 use Rattle.core_code.specs.declared.code.Op.TheVariants as op
 use Rattle.core_code.specs.declared.code.Reason.TheVariants.{Recursive}
 use Rattle.core_code.specs.Tree.{Tree, Op, Choice, Loop, Sync, in_sequence}
 use Rattle.core_lowering_rules.specs.ValueKinds.{ValueKind}
-use Rattle.core_lowering_rules.specs.Context.{Folder, Context, Result, Itself, Nothing, Value, Code, own_at}
+use Rattle.core_lowering_rules.specs.Context.{Folder, Context, Result, Itself, Nothing, Value, Code, lock_at}
 use Rattle.core_lowering_rules.specs.Expressions.{kind, code}
 use Rattle.core_lowering_rules.specs.Scopes.{declared}
 use Rattle.core_lowering_rules.specs.Statements.{stmt}
 use Rattle.core_lowering_rules.specs.Methods.{Source, Body, Default, Spelled, ended, field_begun}
-use Rattle.core_lowering_laws.specs.PlacedTexts.{at, method_place, name_place, word_place, ident, expr_of_text, stmt_of_text}
+use Rattle.core_lowering_laws.specs.PlacedTexts.{at, method_place, name_place, word_place, ident, expr_of_text}
+use Rattle.core_lowering_laws.specs.PlacedTexts.{stmt_of_text}
 
 -- ---- what is declared
 
@@ -52,6 +54,7 @@ field_of name kind is_static =
       is_static = is_static;
       is_final = false;
       is_volatile = false;
+      is_lock = false;
     }
 
 abbrev pub method_of : List ℕ → List Kind → Kind → Bool → MethodInfo
@@ -97,6 +100,7 @@ entered is_static result kinds =
       result = result;
       scope = record { class = class_a; is_static = is_static; variables = [] };
       kinds = kinds;
+      other_lock = false;
     }
 
 -- variables k, a and o: a number, an object of A, any other
@@ -207,7 +211,7 @@ abbrev pub repeated : Code → Tree
 repeated body = Loop (in_sequence body)
 
 abbrev pub held : Code → Tree
-held body = Sync (own_at word_place) (in_sequence body)
+held body = Sync (lock_at Own word_place) (in_sequence body)
 
 -- ---- bodies of methods
 

@@ -1,5 +1,5 @@
 -- Behind declarations and statements the method is the same, and the variables that were in scope are, with maybe more.
-use Rattle.std.proofs.Common.{◌≡◌, Bool, List, [], ◌∷◌, ◌++◌, None, length, take, drop, refl, sym, ap, ◌∙◌}
+use Rattle.std.proofs.Common.{◌≡◌, ℕ, Bool, List, [], ◌∷◌, ◌++◌, None, length, take, drop, refl, sym, ap, ◌∙◌}
 use Rattle.std.proofs.Common.{append_assoc, append-nil}
 use Rattle.std.proofs.Math.Seq.{take-append_seam}
 use Rattle.std.specs.List.{flat_map}
@@ -12,35 +12,45 @@ use Rattle.java_resolver.specs.declared.scope.Scope.{Scope}
 use Rattle.java_resolver.specs.declared.scope.ScopeVariable.{ScopeVariable}
 use Rattle.core_code.specs.declared.code.Op.TheVariants.{Push, PushPrim, PushNull, Drop, Set, Outside, Ret}
 use Rattle.core_lowering_rules.specs.Trees.{Variable, Start, Declares, Runs, Stmt, Run, Local, If, IfElse, While, For}
-use Rattle.core_lowering_rules.specs.Trees.{ForEach, Sync, Return, Block, Empty, Stmts, no_stmt, stmt_then}
-use Rattle.core_lowering_rules.specs.Context.{Context, Result, Itself, Nothing, Value, Code, op_at, type_kind}
+use Rattle.core_lowering_rules.specs.Trees.{ForEach, Sync, Return, Block, Empty, Stmts, no_stmt, stmt_then, Locked}
+use Rattle.core_lowering_rules.specs.Trees.{Try, Apart, Catches, no_catch, catch_then}
+use Rattle.core_lowering_rules.specs.Locks.{lock_kept, lock_noted}
+use Rattle.core_lowering_rules.specs.Context.{Folder, Context, Result, Itself, Nothing, Value, Code, op_at, type_kind}
 use Rattle.core_lowering_rules.specs.Scopes.{new_variable, declared, all_declared, started, back_in, after, after_all}
+use Rattle.core_lowering_rules.specs.Scopes.{caught}
 use Rattle.core_lowering_rules.specs.Statements.{closed, returned_nothing, returned}
-use Rattle.core_lowering_methods.specs.Parts.{left_at}
+use Rattle.core_lowering_methods.specs.Parts.{left_at, forgotten, passed_by}
 use Rattle.core_lowering_methods.specs.Steps.{closed_from}
 
 pub record Inside (before inside : Context) : Type 0 where
+  pub folder : inside.folder ≡ before.folder
   pub place : inside.place ≡ before.place
   pub result : inside.result ≡ before.result
   pub class : inside.scope.class ≡ before.scope.class
   pub is_static : inside.scope.is_static ≡ before.scope.is_static
   pub more : List ScopeVariable
   pub variables : inside.scope.variables ≡ before.scope.variables ++ more
+  pub more_kinds : List Kind
+  pub kinds : inside.kinds ≡ before.kinds ++ more_kinds
 
 pub inside-same : (context : Context) → Inside context context
 inside-same context =
     record {
+      folder = refl;
       place = refl;
       result = refl;
       class = refl;
       is_static = refl;
       more = [];
       variables = sym (append-nil context.scope.variables);
+      more_kinds = [];
+      kinds = sym (append-nil context.kinds);
     }
 
 pub inside-then : (a b c : Context) → Inside a b → Inside b c → Inside a c
 inside-then a b c p q =
     record {
+      folder = q.folder ∙ p.folder;
       place = q.place ∙ p.place;
       result = q.result ∙ p.result;
       class = q.class ∙ p.class;
@@ -48,17 +58,22 @@ inside-then a b c p q =
       more = p.more ++ q.more;
       variables =
           q.variables ∙ ap (λ vs. vs ++ q.more) p.variables ∙ append_assoc a.scope.variables p.more q.more;
+      more_kinds = p.more_kinds ++ q.more_kinds;
+      kinds = q.kinds ∙ ap (λ ks. ks ++ q.more_kinds) p.kinds ∙ append_assoc a.kinds p.more_kinds q.more_kinds;
     }
 
 pub inside-declared : (context : Context) (k : Kind) (x : Ident) → Inside context (declared context k x)
 inside-declared context k x =
     record {
+      folder = refl;
       place = refl;
       result = refl;
       class = refl;
       is_static = refl;
       more = new_variable context k x ∷ [];
       variables = refl;
+      more_kinds = k ∷ [];
+      kinds = refl;
     }
 
 pub inside-all_declared : (context : Context) (k : Kind) (vs : List Variable) →
@@ -75,12 +90,31 @@ inside-started context (Runs es) = inside-same context
 pub inside-back : (before inside : Context) → Inside before inside → Inside before (back_in before inside)
 inside-back before inside p =
     record {
+      folder = p.folder;
       place = p.place;
       result = p.result;
       class = refl;
       is_static = refl;
       more = [];
       variables = sym (append-nil before.scope.variables);
+      more_kinds = p.more_kinds;
+      kinds = p.kinds;
+    }
+
+-- whatever is known of locks
+pub inside-noted : (before inside : Context) (b : Bool) → Inside before inside →
+    Inside before (record inside { other_lock = b })
+inside-noted before inside b p =
+    record {
+      folder = p.folder;
+      place = p.place;
+      result = p.result;
+      class = p.class;
+      is_static = p.is_static;
+      more = p.more;
+      variables = p.variables;
+      more_kinds = p.more_kinds;
+      kinds = p.kinds;
     }
 
 mutual
@@ -105,6 +139,12 @@ mutual
   inside-after context (Return e) = inside-same context
   inside-after context (Block ss) = inside-back context (after_all context ss) (inside-after_all context ss)
   inside-after context Empty = inside-same context
+  inside-after context (Locked place e ss catches) =
+      let inside = back_in context (after_all context ss) in
+      inside-noted context inside (caught (lock_noted inside e) catches).other_lock
+      (inside-back context (after_all context ss) (inside-after_all context ss))
+  inside-after context (Try ss catches finally) = inside-same context
+  inside-after context Apart = inside-same context
 
   pub inside-after_all : (context : Context) (ss : Stmts) → Inside context (after_all context ss)
   inside-after_all context no_stmt = inside-same context
@@ -132,6 +172,52 @@ pub left-back : (before inside : Context) → Inside before inside →
     left_at (length before.scope.variables) inside ≡ back_in before inside
 unfolding scoped
 left-back before inside p = ap (λ (s : Scope). record inside { scope = s }) (same_scope before inside p)
+
+context_of : Folder → Place → Result → Scope → List Kind → Bool → Context
+context_of folder place result scope kinds other_lock =
+    record {
+      folder = folder;
+      place = place;
+      result = result;
+      scope = scope;
+      kinds = kinds;
+      other_lock = other_lock;
+    }
+
+-- what was there before is left, but for what is known of locks
+kept-locks : (before inside : Context) → Inside before inside →
+    forgotten (length before.scope.variables) (length before.kinds) inside ≡ lock_kept before inside
+unfolding scoped context_of
+kept-locks before inside p =
+    let scope : Scope =
+    scoped inside.scope.class inside.scope.is_static (take (length before.scope.variables) inside.scope.variables) in
+    let kinds = take (length before.kinds) inside.kinds in
+    let lock = inside.other_lock in
+    ap (λ f. context_of f inside.place inside.result scope kinds lock) p.folder
+    ∙ ap (λ q. context_of before.folder q inside.result scope kinds lock) p.place
+    ∙ ap (λ r. context_of before.folder before.place r scope kinds lock) p.result
+    ∙ ap (λ s. context_of before.folder before.place before.result s kinds lock) (same_scope before inside p)
+    ∙ ap (λ ks. context_of before.folder before.place before.result before.scope ks lock)
+    (ap (take (length before.kinds)) p.kinds ∙ take-append_seam before.kinds p.more_kinds)
+
+-- behind a catch clause, of whose variables none is left
+pub clause-passed : (before inside : Context) (x : Ident) (ss : Stmts) (at count : ℕ) →
+    at ≡ length before.scope.variables → count ≡ length before.kinds →
+    inside ≡ after_all (declared before Other x) ss → forgotten at count inside ≡ passed_by before (x, ss)
+clause-passed before inside x ss at count p q is =
+    let first = declared before Other x in
+    let last = after_all first ss in
+    ap (λ n. forgotten n count inside) p ∙ ap (λ n. forgotten (length before.scope.variables) n inside) q
+    ∙ ap (forgotten (length before.scope.variables) (length before.kinds)) is
+    ∙ kept-locks before last
+    (inside-then before first last (inside-declared before Other x) (inside-after_all first ss))
+
+-- of catch clauses nothing but what is known of locks is left
+pub caught-kept : (context : Context) (catches : Catches) →
+    caught context catches ≡ lock_kept context (caught context catches)
+caught-kept context no_catch = refl
+caught-kept context (catch_then x ss catches) =
+    caught-kept (lock_kept context (after_all (declared context Other x) ss)) catches
 
 -- what is null at the end of a block
 pub closed-there : (before inside : Context) → Inside before inside →

@@ -6,6 +6,7 @@ use borrow.Author.Tests.{eqb-true}
 use Rattle.std.proofs.lemmas.Bool.{eq-eqb}
 use Rattle.racer_base.specs.declared.ids.SiteId.{SiteId}
 use Rattle.racer_base.specs.declared.ids.Place.{Place}
+use Rattle.core_code.specs.declared.code.LockKind.{LockKind}
 use Rattle.core_code.specs.declared.code.Code.{Code}
 use Rattle.core_code.specs.declared.code.Op.{Op as CoreOp}
 use Rattle.core_code.specs.Tree.{Tree, Op, Skip, Seq, Choice, Loop, Sync, Operation, steps_of, in_sequence}
@@ -13,7 +14,7 @@ use Rattle.core_code.specs.Tree.{tree_of, can_end}
 use Rattle.core_code.specs.Facts.{sites_of, counts_from}
 use Rattle.core_code.proofs.BoolParts.{first_part, last_part, both}
 use Rattle.core_code.proofs.Sites.{counts_from-append, sites_of-then, sites_go_on}
-use Rattle.core_lowering_rules.specs.Context.{op_at, choice, own_at, repeated, held}
+use Rattle.core_lowering_rules.specs.Context.{op_at, choice, lock_at, repeated, held}
 use Rattle.core_lowering_rules.specs.Sites.{numbered}
 use Rattle.core_lowering_methods.specs.Erased.{erased, part_of, whole_of, AreNumbered}
 
@@ -199,13 +200,13 @@ repeated-numbered old new next at h e =
     ∙ steps-last (trees_of (take at old)) (trees_of (drop at old)) (Loop (in_sequence (trees_of (drop at old)))) refl
     ∙ ap (λ ts. steps_of (in_sequence ts)) (sym (grouped old at)))
 
-pub held-numbered : (old new : List Code) (next at : ℕ) (place : Place) → AreNumbered old next →
-    trees_of new ≡ trees_of (take at old) ++ held place (trees_of (drop at old)) → AreNumbered new next
-held-numbered old new next at place h e =
+pub held-numbered : (old new : List Code) (next at : ℕ) (kind : LockKind) (place : Place) → AreNumbered old next →
+    trees_of new ≡ trees_of (take at old) ++ held kind place (trees_of (drop at old)) → AreNumbered new next
+held-numbered old new next at kind place h e =
     numbered-same old new next h
     (ap (λ ts. steps_of (in_sequence ts)) e
     ∙ steps-last (trees_of (take at old)) (trees_of (drop at old))
-    (Sync (own_at place) (in_sequence (trees_of (drop at old)))) refl
+    (Sync (lock_at kind place) (in_sequence (trees_of (drop at old)))) refl
     ∙ ap (λ ts. steps_of (in_sequence ts)) (sym (grouped old at)))
 
 -- the same code without sites
@@ -243,12 +244,12 @@ repeated-put old new at e =
     ∙ ap (λ ts. ts ++ repeated (map part_of (drop at old))) (sym (take-map part_of at old))
     ∙ ap (λ ts. take at (map part_of old) ++ repeated ts) (sym (drop-map part_of at old))
 
-pub held-put : (old new : List Code) (at : ℕ) (place : Place) →
-    trees_of new ≡ trees_of (take at old) ++ held place (trees_of (drop at old)) →
-    map part_of new ≡ take at (map part_of old) ++ held place (drop at (map part_of old))
-held-put old new at place e =
-    last-erased new (take at old) (Sync (own_at place) (whole_of (drop at old)))
-    (Sync (own_at place) (in_sequence (map part_of (drop at old)))) e
-    (ap (Sync (own_at place)) (whole-erased (drop at old)))
-    ∙ ap (λ ts. ts ++ held place (map part_of (drop at old))) (sym (take-map part_of at old))
-    ∙ ap (λ ts. take at (map part_of old) ++ held place ts) (sym (drop-map part_of at old))
+pub held-put : (old new : List Code) (at : ℕ) (kind : LockKind) (place : Place) →
+    trees_of new ≡ trees_of (take at old) ++ held kind place (trees_of (drop at old)) →
+    map part_of new ≡ take at (map part_of old) ++ held kind place (drop at (map part_of old))
+held-put old new at kind place e =
+    last-erased new (take at old) (Sync (lock_at kind place) (whole_of (drop at old)))
+    (Sync (lock_at kind place) (in_sequence (map part_of (drop at old)))) e
+    (ap (Sync (lock_at kind place)) (whole-erased (drop at old)))
+    ∙ ap (λ ts. ts ++ held kind place (map part_of (drop at old))) (sym (take-map part_of at old))
+    ∙ ap (λ ts. take at (map part_of old) ++ held kind place ts) (sym (drop-map part_of at old))

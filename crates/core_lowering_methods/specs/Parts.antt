@@ -1,6 +1,7 @@
 -- A contract of a public call rests on this: where a method begins, what is left of the variables in scope, and the
 -- code of accesses and calls in the parts in which it is made.
-use Rattle.std.specs.Prelude.{ℕ, suc, Bool, List, [], ◌∷◌, ◌++◌, Option, Some, None, take, if◌then◌else◌, option_map}
+use Rattle.std.specs.Prelude.{ℕ, suc, Bool, true, false, List, [], ◌∷◌, ◌++◌, Option, Some, None, take, option_map}
+use Rattle.std.specs.Prelude.{if◌then◌else◌}
 use Rattle.racer_base.specs.declared.ids.ClassId.{ClassId}
 use Rattle.racer_base.specs.declared.ids.MethodId.{MethodId}
 use Rattle.racer_base.specs.declared.ids.Kind.{Kind}
@@ -9,12 +10,15 @@ use Rattle.racer_base.specs.declared.ids.Place.{Place}
 use Rattle.core_code.specs.declared.code.Op.TheVariants.{Push, Dup, Drop, New, Get, Put, Set, Prim, Outside}
 use Rattle.core_code.specs.declared.code.Reason.{Reason}
 use Rattle.java_resolver.specs.declared.table.Table.{Table}
-use Rattle.core_lowering_rules.specs.Trees.{Exprs, count_exprs}
+use Rattle.core_lowering_rules.specs.Trees.{Exprs, Stmts, count_exprs}
+use Rattle.core_lowering_rules.specs.Locks.{lock_kept}
+use Rattle.core_lowering_rules.specs.Scopes.{declared, after_all}
 use Rattle.core_lowering_rules.specs.Expressions.{passed}
 use Rattle.core_lowering_rules.specs.ValueKinds.{ValueKind, Of}
 use Rattle.core_lowering_rules.specs.Context.{Context, Result, Code, op, op_at, converted, push_this}
 use Rattle.core_lowering_rules.specs.Assignments.{Storage, InVariable, InField, Elsewhere}
-use Rattle.core_lowering_rules.specs.Calls.{Callee, Missing, OfClass, OfObject, parameter_kinds, call_at, constructor_in}
+use Rattle.core_lowering_rules.specs.Calls.{Callee, Missing, OfClass, OfObject, parameter_kinds, call_at}
+use Rattle.core_lowering_rules.specs.Calls.{constructor_in}
 use Rattle.core_lowering_rules.specs.Calls.{callee_in, if_static, called, result_kind}
 use Rattle.java_tree.specs.declared.words.Ident.{Ident}
 use Rattle.core_lowering_methods.specs.declared.storage.Storage.{Storage as CodeStorage}
@@ -32,11 +36,23 @@ entered_in table statuses place result class is_static =
       result = result;
       scope = record { class = class; is_static = is_static; variables = [] };
       kinds = if is_static then [] else Declared class ∷ [];
+      other_lock = false;
     }
 
 -- with the variables before this one in scope
 abbrev pub left_at : ℕ → Context → Context
 left_at at context = record context { scope = record context.scope { variables = take at context.scope.variables } }
+
+-- with the variables before this one in scope, and so many of all
+abbrev pub forgotten : ℕ → ℕ → Context → Context
+forgotten at count context = record (left_at at context) { kinds = take count context.kinds }
+
+abbrev pub with_other_lock : Context → Context
+with_other_lock context = record context { other_lock = true }
+
+-- behind a catch clause
+abbrev pub passed_by : Context → Ident × Stmts → Context
+passed_by context clause = lock_kept context (after_all (declared context Other clause.0) clause.1)
 
 -- ---- storage
 

@@ -4,7 +4,7 @@ ghost use Rattle.std.specs.List.{flat_map};
 ghost use Rattle.core_code.specs.Tree.{tree_of, in_sequence};
 ghost use Rattle.core_lowering_rules.specs.Methods.{Default, Spelled, Unspelled, result_of, result_of_tree, entered};
 ghost use Rattle.core_lowering_rules.specs.Methods.{parameters_declared, body_of, body_code, ended, spelled_code};
-ghost use Rattle.core_lowering_rules.specs.Methods.{code_in};
+ghost use Rattle.core_lowering_rules.specs.Methods.{code_in, other_lock_in, has_other_lock};
 ghost use Rattle.core_lowering_rules.specs.Methods.{kinds_in, member_begun, method_code, method_kinds};
 ghost use Rattle.core_lowering_rules.specs.Sites.{numbered};
 ghost use Rattle.core_lowering_methods.specs.Drafts.{code_of};
@@ -19,17 +19,18 @@ use crate::returns::lower_return_nothing;
 use crate::sources::{Body, Source};
 use crate::statements::lower_block;
 use crate::{Context, Draft, MethodResult};
-use core_code::{Code, Reason};
+use core_code::{Code, LockKind, Reason};
 use java_resolver::{MethodInfo, Table, has_word};
 use java_tree::{Member, MethodTree, ParameterTree, ResultTree};
 use racer_base::{Items, Kind, Memory};
 use std::alloc::Global;
 
-/// The code of a method, and the kinds of its variables.
+/// The code of a method, the kinds of its variables, and whether it has a lock that is that of no lock field.
 #[derive(Drop)]
 pub struct Lowered {
     pub code: Code,
     pub kinds: Items<Kind>,
+    pub other_lock: bool,
 }
 
 // ---- where the code begins
@@ -148,7 +149,7 @@ fn lower_body(
     let place = context.place();
     let body = draft.len();
     lower_block(alloc, context, m.body.as_slice(), draft)?;
-    draft.hold(alloc, place, body)
+    draft.hold(alloc, LockKind::Own, place, body)
 }
 
 /// An end that can be reached is as `return;`.
@@ -189,6 +190,8 @@ fn lower_default(
         (entered (folder_of table.now statuses.now) (source_of source.now)) (source_of source.now) Default))) }
     ensures kinds { IfOk result (λ lowered. lowered.kinds ≡ kinds_in
         (entered (folder_of table.now statuses.now) (source_of source.now)) (source_of source.now) Default) }
+    ensures locks { IfOk result (λ lowered. lowered.other_lock ≡ other_lock_in
+        (entered (folder_of table.now statuses.now) (source_of source.now)) Default) }
 {
     let context = enter(alloc, table, statuses, source)?;
     let mut draft = Draft::new(alloc);
@@ -196,6 +199,7 @@ fn lower_default(
     Ok(Lowered {
         code: draft.into_code(),
         kinds: context.into_kinds(),
+        other_lock: false,
     })
 }
 
@@ -233,12 +237,15 @@ fn lower_spelled(
         (entered (folder_of table.now statuses.now) (source_of source.now)) (source_of source.now) (Spelled m.now)))) }
     ensures kinds { IfOk result (λ lowered. lowered.kinds ≡ kinds_in
         (entered (folder_of table.now statuses.now) (source_of source.now)) (source_of source.now) (Spelled m.now)) }
+    ensures locks { IfOk result (λ lowered. lowered.other_lock ≡ other_lock_in
+        (entered (folder_of table.now statuses.now) (source_of source.now)) (Spelled m.now)) }
 {
     let mut context = enter_spelled(alloc, table, statuses, source, m)?;
     let mut draft = Draft::new(alloc);
     lower_tree(alloc, table, statuses, source, m, &mut context, &mut draft)?;
     Ok(Lowered {
         code: draft.into_code(),
+        other_lock: context.other_lock(),
         kinds: context.into_kinds(),
     })
 }
@@ -254,6 +261,8 @@ fn lower_unspelled(
         (entered (folder_of table.now statuses.now) (source_of source.now)) (source_of source.now) Unspelled))) }
     ensures kinds { IfOk result (λ lowered. lowered.kinds ≡ kinds_in
         (entered (folder_of table.now statuses.now) (source_of source.now)) (source_of source.now) Unspelled) }
+    ensures locks { IfOk result (λ lowered. lowered.other_lock ≡ other_lock_in
+        (entered (folder_of table.now statuses.now) (source_of source.now)) Unspelled) }
 {
     let entered = enter(alloc, table, statuses, source)?;
     let mut kinds = entered.into_kinds().into_vec();
@@ -261,6 +270,7 @@ fn lower_unspelled(
     Ok(Lowered {
         code: Draft::new(alloc).into_code(),
         kinds: Items::from(kinds),
+        other_lock: false,
     })
 }
 
@@ -275,6 +285,8 @@ pub fn lower_method(
         (method_code (folder_of table.now statuses.now) (source_of source.now)))) }
     ensures kinds { IfOk result (λ lowered. lowered.kinds
         ≡ method_kinds (folder_of table.now statuses.now) (source_of source.now)) }
+    ensures locks { IfOk result (λ lowered. lowered.other_lock
+        ≡ has_other_lock (folder_of table.now statuses.now) (source_of source.now)) }
 {
     match &source.body {
         Body::Default => lower_default(alloc, table, statuses, source),

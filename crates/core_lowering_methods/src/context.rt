@@ -14,7 +14,7 @@ ghost use Rattle.core_lowering_rules.specs.Scopes.{declared, next_variable};
 ghost use Rattle.core_lowering_rules.specs.Statements.{cleared, set};
 ghost use Rattle.core_lowering_methods.specs.Drafts.{code_of, IsFrontOf};
 ghost use Rattle.core_lowering_methods.specs.Views.{value_kind, given_of};
-ghost use Rattle.core_lowering_methods.specs.Parts.{entered_in, left_at};
+ghost use Rattle.core_lowering_methods.specs.Parts.{entered_in, left_at, forgotten, with_other_lock};
 
 use crate::draft::Draft;
 use crate::given::MethodResult;
@@ -29,7 +29,8 @@ use std::alloc::Global;
 use std::marker::Model;
 
 /// The folder and why its methods are not analysed; of the method its place, what it gives, its class and whether it is
-/// static; the variables in scope; the kinds of all variables so far.
+/// static; the variables in scope; the kinds of all variables so far, and whether a lock so far is that of no lock
+/// field.
 #[derive(Drop)]
 pub struct Context<'a> {
     table: &'a Table,
@@ -40,6 +41,7 @@ pub struct Context<'a> {
     is_static: bool,
     variables: Variables,
     kinds: Vec<Kind>,
+    other_lock: bool,
 }
 
 impl<'a> Model for Context<'a> {
@@ -54,6 +56,7 @@ impl<'a> Model for Context<'a> {
       result = given_of context.given;
       scope = record { class = context.class; is_static = context.is_static; variables = context.variables };
       kinds = context.kinds.items;
+      other_lock = context.other_lock;
     } };
 }
 
@@ -84,6 +87,7 @@ impl<'a> Context<'a> {
             is_static,
             variables: Variables::new(alloc),
             kinds,
+            other_lock: false,
         })
     }
 
@@ -259,6 +263,35 @@ impl<'a> Context<'a> {
         ensures { self.new ≡ left_at at self.old }
     {
         self.variables.leave(at);
+    }
+
+    /// How many variables there are so far.
+    pub fn count(&self) -> usize
+        ensures { result ≡ length self.now.kinds }
+    {
+        self.kinds.len()
+    }
+
+    /// Forgets the variables from these numbers on, in scope and among all.
+    pub fn forget(&mut self, at: usize, count: usize)
+        ensures { self.new ≡ forgotten at count self.old }
+    {
+        self.variables.leave(at);
+        self.kinds.truncate(count);
+    }
+
+    /// Notes that a lock is that of no lock field.
+    pub fn note_other_lock(&mut self)
+        ensures { self.new ≡ with_other_lock self.old }
+    {
+        self.other_lock = true;
+    }
+
+    /// Whether a lock so far is that of no lock field.
+    pub fn other_lock(&self) -> bool
+        ensures { result ≡ self.now.other_lock }
+    {
+        self.other_lock
     }
 
     /// Sets a variable to null.

@@ -59,13 +59,19 @@ fn repeat(alloc: Global, parts: &mut Vec<Code>, at: usize) -> Result<(), Memory>
     Ok(())
 }
 
-/// Puts the parts from this one on under the monitor of an object.
-fn hold(alloc: Global, parts: &mut Vec<Code>, place: Place, at: usize) -> Result<(), Memory>
+/// Puts the parts from this one on under the monitor of an object, or under its explicit lock.
+fn hold(
+    alloc: Global,
+    parts: &mut Vec<Code>,
+    kind: LockKind,
+    place: Place,
+    at: usize,
+) -> Result<(), Memory>
     ensures { OnOk result (map tree_of parts.new.items ≡ map tree_of (take at parts.old.items)
-        ++ held place (map tree_of (drop at parts.old.items))) }
+        ++ held kind place (map tree_of (drop at parts.old.items))) }
 {
     let body = taken(alloc, parts, at)?;
-    parts.push(Code::Sync(place, LockKind::Own, body))?;
+    parts.push(Code::Sync(place, kind, body))?;
     Ok(())
 }
 
@@ -147,14 +153,20 @@ impl Draft {
     }
 
     /// Puts the parts from this one on under a lock.
-    pub fn hold(&mut self, alloc: Global, place: Place, at: usize) -> Result<(), Memory>
+    pub fn hold(
+        &mut self,
+        alloc: Global,
+        kind: LockKind,
+        place: Place,
+        at: usize,
+    ) -> Result<(), Memory>
         ensures code { OnOk result (code_of self.new ≡ take at (code_of self.old)
-            ++ held place (drop at (code_of self.old))) }
+            ++ held kind place (drop at (code_of self.old))) }
         ensures err { OnErr result (code_of self.new ≡ []) }
     {
         let mut parts = mem::replace(&mut self.parts, Vec::new(alloc));
         let next = mem::replace(&mut self.next, 0);
-        hold(alloc, &mut parts, place, at)?;
+        hold(alloc, &mut parts, kind, place, at)?;
         self.parts = parts;
         self.next = next;
         Ok(())

@@ -23,6 +23,7 @@ mod fields;
 mod given;
 mod invocations;
 mod locals;
+mod locks;
 mod loops;
 mod names;
 mod numbers;

@@ -2,19 +2,25 @@
 ghost use Rattle.std.specs.Prelude.{◌≡◌, ◌++◌, OnOk, map, option_map};
 ghost use Rattle.java_tree.specs.View.{ty_of};
 ghost use Rattle.core_lowering_rules.specs.Trees.{If, IfElse, While, For, ForEach, Sync, Block, pack_exprs, pack_stmts};
-ghost use Rattle.core_lowering_rules.specs.TreesOf.{expr_of, start_of, stmt_of};
-ghost use Rattle.core_lowering_rules.specs.Scopes.{after, after_all};
+ghost use Rattle.core_lowering_rules.specs.Trees.{pack_catches};
+ghost use Rattle.core_lowering_rules.specs.TreesOf.{expr_of, start_of, stmt_of, catch_of};
+ghost use Rattle.core_lowering_rules.specs.Scopes.{after, after_all, caught};
 ghost use Rattle.core_lowering_rules.specs.Statements.{stmt, stmts};
+ghost use Rattle.core_lowering_locks.specs.Seen.{item_seen, lock_seen, under};
 ghost use Rattle.core_lowering_methods.specs.Drafts.{code_of};
+ghost use Rattle.core_lowering_methods.specs.Parts.{passed_by};
 
 use crate::blocks::end_block;
 use crate::locals::lower_locals;
+use crate::locks::note_lock;
 use crate::loops::{begin_for, end_for, end_while, lower_next};
 use crate::parts::lower_run;
 use crate::returns::lower_return;
 use crate::{Context, Draft, lower_expression};
-use java_tree::{Apart, Expression, Ident, StartTree, Statement, TypeTree};
-use racer_base::{Memory, Place};
+use core_code::LockKind;
+use core_lowering_locks::{Item, Lock, first_item};
+use java_tree::{Apart, CatchTree, Expression, Ident, StartTree, Statement, TryTree, TypeTree};
+use racer_base::{Kind, Memory, Place};
 use std::alloc::Global;
 
 #[cycle(statements)]
@@ -58,7 +64,9 @@ fn lower_statement(
         // No method with one of these is lowered.
         Statement::Do(_, _) | Statement::Throw(_, _) | Statement::Break(_) => Ok(()),
         Statement::Continue(_) | Statement::Labelled(_, _) | Statement::Assert(_, _) => Ok(()),
-        Statement::Switch(_, _) | Statement::Try(_) => Ok(()),
+        Statement::Switch(_, _) => Ok(()),
+        // Nor one in which this does not stand behind its lock.
+        Statement::Try(_) => Ok(()),
     }
 }
 
@@ -74,10 +82,28 @@ fn lower_statements(
     ensures code { OnOk result (code_of draft.new ≡ code_of draft.old
         ++ stmts context.old (pack_stmts (map stmt_of statements.now))) }
 {
-    for statement in statements {
-        lower_statement(alloc, context, statement, draft)?;
+    let mut rest = statements;
+    while let Some((item, behind)) = first_item(rest) {
+        lower_item(alloc, context, item, draft)?;
+        rest = behind;
     }
     Ok(())
+}
+
+#[cycle(statements)]
+fn lower_item(
+    alloc: Global,
+    context: &mut Context,
+    item: Item,
+    draft: &mut Draft,
+) -> Result<(), Memory>
+    ensures context { OnOk result (context.new ≡ after context.old (item_seen item.entry)) }
+    ensures code { OnOk result (code_of draft.new ≡ code_of draft.old ++ stmt context.old (item_seen item.entry)) }
+{
+    match item {
+        Item::Alone(statement) => lower_statement(alloc, context, statement, draft),
+        Item::Locked(locked) => lower_locked(alloc, context, locked.tried, locked.lock, draft),
+    }
 }
 
 /// A block, at whose end its variables are null.
@@ -222,5 +248,50 @@ fn lower_sync(
     lower_expression(alloc, context, e, draft)?;
     let body = draft.len();
     lower_block(alloc, context, statements, draft)?;
-    draft.hold(alloc, place, body)
+    draft.hold(alloc, LockKind::Own, place, body)
+}
+
+/// A locked try, under its lock.
+#[cycle(statements)]
+fn lower_locked(
+    alloc: Global,
+    context: &mut Context,
+    tried: &TryTree,
+    lock: Lock,
+    draft: &mut Draft,
+) -> Result<(), Memory>
+    ensures context { OnOk result (context.new ≡ after context.old (under (lock_seen lock.entry) tried.now)) }
+    ensures code { OnOk result (code_of draft.new ≡ code_of draft.old
+        ++ stmt context.old (under (lock_seen lock.entry) tried.now)) }
+{
+    lower_expression(alloc, context, lock.on, draft)?;
+    let body = draft.len();
+    lower_block(alloc, context, tried.body.as_slice(), draft)?;
+    draft.hold(alloc, LockKind::Explicit, lock.place, body)?;
+    note_lock(context, lock.on);
+    pass_clauses(alloc, context, tried.clauses.as_slice())
+}
+
+/// Catch clauses, of which no code is kept.
+#[cycle(statements)]
+fn pass_clauses(alloc: Global, context: &mut Context, clauses: &[CatchTree]) -> Result<(), Memory>
+    ensures { OnOk result (context.new ≡ caught context.old (pack_catches (map catch_of clauses.now))) }
+{
+    for clause in clauses {
+        pass_clause(alloc, context, clause)?;
+    }
+    Ok(())
+}
+
+#[cycle(statements)]
+fn pass_clause(alloc: Global, context: &mut Context, clause: &CatchTree) -> Result<(), Memory>
+    ensures { OnOk result (context.new ≡ passed_by context.old (catch_of clause.now)) }
+{
+    let scope = context.in_scope();
+    let count = context.count();
+    let mut draft = Draft::new(alloc);
+    context.declare(alloc, Kind::Other, &clause.parameter.name)?;
+    lower_statements(alloc, context, clause.body.as_slice(), &mut draft)?;
+    context.forget(scope, count);
+    Ok(())
 }

@@ -1,9 +1,8 @@
 -- Two methods with one tree without places, that keep places of the same tokens, are lowered from the same trees.
 use Rattle.std.proofs.Common.{◌≡◌, ℕ, Bool, true, false, cond, List, [], ◌∷◌, ◌++◌, None, map, refl, ap, sym, ◌∙◌}
-use Rattle.std.proofs.Common.{append-nil, append_assoc, subst}
+use Rattle.std.proofs.Common.{append-nil}
 use Rattle.java_tree.specs.declared.words.Ident.{Ident}
 use Rattle.java_tree.specs.declared.words.Spelled.{Spelled}
-use Rattle.java_tree.specs.declared.types.TypeTree.{TypeTree}
 use Rattle.java_tree.specs.declared.expressions.Initialiser.{Initialiser}
 use Rattle.java_tree.specs.declared.methods.AnnotationTree.{AnnotationTree}
 use Rattle.java_tree.specs.declared.methods.ModifierTree as modifiers
@@ -22,14 +21,15 @@ use Rattle.java_tree.specs.View.{ty_of, parameter_of, result_of, method_of}
 use Rattle.java_tree.specs.View as viewed
 use Rattle.java_tree.proofs.TypeCounts.{ty_count}
 use Rattle.core_lowering_rules.specs.Conditions.{kept_of}
-use Rattle.core_lowering_rules.specs.LoweredForms.{are_lowered}
 use Rattle.core_lowering_rules.specs.Methods.{body_of}
 use Rattle.core_lowering_rules.specs.Trees.{Init, Stmts}
 use Rattle.core_lowering_rules.specs.TreesOf.{init_of}
-use Rattle.core_lowering_rules.proofs.FilledTrees.{Filled, filled, ident, behind, skip, one, one-is, two-is, each}
-use Rattle.core_lowering_rules.proofs.FilledTrees.{init, stmts}
+use Rattle.core_lowering_rules.proofs.FilledTrees.{Filled, filled, ident, behind, skip, skip_types, one, one-is, two-is}
+use Rattle.core_lowering_rules.proofs.FilledTrees.{each, init, stmts}
 use Rattle.core_lowering_rules.proofs.FilledExpressions.{behind-type, init-is}
-use Rattle.core_lowering_rules.proofs.FilledStatements.{stmts-are}
+use Rattle.core_lowering_rules.proofs.FilledStatements.{types-behind, stmts-are}
+use Rattle.core_lowering_rules.proofs.LoweredTrees.{are_parts}
+use Rattle.core_lowering_rules.proofs.SeenTrees.{parts-alike}
 
 pub same_initialiser : (i j : Initialiser) → viewed.init_of i ≡ viewed.init_of j → init_places i [] ≡ init_places j []
     → init_of i ≡ init_of j
@@ -65,10 +65,6 @@ abbrev result_count : view.Result → ℕ
 result_count view.NoResult = 0
 result_count view.VoidResult = 0
 result_count (view.TypeResult t) = ty_count t
-
-abbrev skip_types : List Ty → Places → Places
-skip_types [] ps = ps
-skip_types (t ∷ ts) ps = skip_types ts (skip (ty_count t) ps)
 
 abbrev made : Ident → List SeenParameter → Seen
 made x ps = record { name = x; parameters = ps }
@@ -163,16 +159,6 @@ result-behind result.Constructor ps = refl
 result-behind result.Void ps = refl
 result-behind (result.Of t) ps = ap (λ (g : Filled Places). g.tree) (behind-type t (λ qs. filled qs []) ps refl)
 
-types-behind : (ts : List TypeTree) (ps : Places)
-    → skip_types (map ty_of ts) (all_places (map ty_places ts) ++ ps) ≡ ps
-types-behind [] ps = refl
-types-behind (t ∷ ts) ps =
-    let others = all_places (map ty_places ts) in
-    ap (λ qs. skip_types (map ty_of ts) (skip (ty_count (ty_of t)) qs)) (append_assoc (ty_places t) others ps)
-    ∙ ap (λ (g : Filled Places). g.tree)
-    (behind-type t (λ qs. filled (skip_types (map ty_of ts) qs) []) (others ++ ps)
-    (ap (λ qs. filled qs []) (types-behind ts ps)))
-
 head-is : (m : MethodTree) → head (method_of m) (method_places m) ≡ filled (seen m) (ends_of m)
 head-is m =
     ap (from_name (method_of m))
@@ -190,19 +176,19 @@ same_seen m n v k = ap (λ (g : Filled Seen). g.tree) (heads-alike m n v k)
 
 -- ---- a body that is lowered
 
-abbrev IsLowered : view.Method → Type 0
-IsLowered v = are_lowered v.body ≡ true
+abbrev AreParts : MethodTree → Type 0
+AreParts m = are_parts (body_of m) ≡ true
 
-body-is : (m : MethodTree) → IsLowered (method_of m) → body (method_of m) (ends_of m) ≡ filled (body_of m) []
+body-is : (m : MethodTree) → AreParts m → body (method_of m) (ends_of m) ≡ filled (body_of m) []
 body-is m low =
     let v = method_of m in
     ap (stmts v.body) (types-behind m.throws (each_puts (map stmt_places m.body) [])) ∙ stmts-are m.body low []
 
-pub same_body : (m n : MethodTree) → method_of m ≡ method_of n → method_marks m ≡ method_marks n
-    → IsLowered (method_of m) → body_of m ≡ body_of n
+pub same_body : (m n : MethodTree) → method_of m ≡ method_of n → method_marks m ≡ method_marks n → AreParts m
+    → body_of m ≡ body_of n
 same_body m n v k low =
     let ends : ends_of m ≡ ends_of n = ap (λ (g : Filled Seen). g.left) (heads-alike m n v k) in
     let e : filled (body_of m) [] ≡ filled (body_of n) [] =
     sym (body-is m low) ∙ ap (λ x. body x (ends_of m)) v ∙ ap (body (method_of n)) ends
-    ∙ body-is n (subst IsLowered v low) in
+    ∙ body-is n (sym (parts-alike m n v) ∙ low) in
     ap (λ (g : Filled Stmts). g.tree) e

@@ -1,35 +1,43 @@
 -- Statements that are lowered are made from those without places, and the places that are kept.
-use Rattle.std.proofs.Common.{◌≡◌, true, List, [], ◌∷◌, Option, Some, None, map, refl, ap, sym, ◌∙◌, subst, rules}
-use Rattle.std.specs.Prelude.{option_map}
+use Rattle.std.proofs.Common.{◌≡◌, true, List, [], ◌∷◌, Option, Some, None, map, refl, ap, sym, ◌∙◌, ◌++◌, append_assoc}
+use Rattle.std.proofs.Common.{subst, rules}
+use Rattle.std.specs.Prelude.{option_map, Vec}
+use Rattle.std.specs.Global.{Global}
+use Rattle.java_tree.specs.declared.statements.ResourcesTree.{ResourcesTree}
+use Rattle.java_tree.specs.declared.types.TypeTree.{TypeTree}
 use Rattle.java_tree.specs.declared.expressions.Expression.{Expression}
 use Rattle.java_tree.specs.declared.expressions.Initialiser.{Initialiser}
 use Rattle.java_tree.specs.declared.statements.VariableTree.{VariableTree}
 use Rattle.java_tree.specs.declared.statements.LocalsTree.{LocalsTree}
 use Rattle.java_tree.specs.declared.statements.StartTree.{StartTree}
 use Rattle.java_tree.specs.declared.statements.StartTree.TheVariants as starts
-use Rattle.java_tree.specs.declared.statements.CatchTree.{CatchTree}
+use Rattle.java_tree.specs.declared.statements.CatchTree.{CatchTree, roll-CatchTree, map-CatchTree}
 use Rattle.java_tree.specs.declared.statements.GroupTree.{GroupTree}
-use Rattle.java_tree.specs.declared.statements.TryTree.{TryTree}
+use Rattle.java_tree.specs.declared.statements.TryTree.{TryTree, roll-TryTree, map-TryTree}
 use Rattle.java_tree.specs.declared.statements.Statement.{Statement, roll-Statement, map-Statement}
 use Rattle.java_tree.specs.declared.statements.Statement.TheOpen as statement
 use Rattle.java_tree.specs.declared.statements.Statement.TheFolds.{ind-Statement, the_lemmas}
 use Rattle.java_tree.specs.KeptPlaces.{Places, Puts, each_puts, maybe_puts, expr_places, init_places}
-use Rattle.java_tree.specs.KeptPlaces.{variable_places, locals_places, start_places, stmt_places}
+use Rattle.java_tree.specs.KeptPlaces.{variable_places, locals_places, start_places, stmt_places, all_places}
+use Rattle.java_tree.specs.KeptPlaces.{ty_places}
 use Rattle.java_tree.specs.KeptPlaces as kept
 use Rattle.java_tree.specs.Trees as view
 use Rattle.java_tree.specs.View.{ty_of}
 use Rattle.java_tree.specs.View as viewed
-use Rattle.core_lowering_rules.specs.Trees.{Variable, Declares, Runs, Stmt, Run, Local, If, IfElse, While, For}
-use Rattle.core_lowering_rules.specs.Trees.{ForEach, Sync}
-use Rattle.core_lowering_rules.specs.Trees.{Return, Block, expr_then, stmt_then, pack_exprs, pack_stmts}
+use Rattle.java_tree.proofs.TypeCounts.{ty_count}
+use Rattle.core_lowering_rules.specs.Trees.{Variable, Declares, Runs, Stmt, Run, Local, If, IfElse, While, For, ForEach}
+use Rattle.core_lowering_rules.specs.Trees.{Sync}
+use Rattle.core_lowering_rules.specs.Trees.{Return, Block, Try, expr_then, put_before, pack_exprs, pack_stmts}
+use Rattle.core_lowering_rules.specs.Trees.{pack_catches}
+use Rattle.core_lowering_rules.specs.Trees as trees
 use Rattle.core_lowering_rules.specs.TreesOf.{expr_of, init_of, variable_of, start_of, stmt_of}
 use Rattle.core_lowering_rules.specs.TreesOf as lowered
-use Rattle.core_lowering_rules.specs.LoweredForms.{is_lowered, are_lowered}
 use Rattle.core_code.proofs.BoolParts.{first_part, last_part}
-use Rattle.core_lowering_rules.proofs.LoweredTrees.{not-lowered, no-try}
-use Rattle.core_lowering_rules.proofs.FilledTrees.{ident, two, behind}
+use Rattle.core_lowering_rules.proofs.LoweredTrees.{not-lowered, is_part, are_parts, are_parts_caught, put-parts}
+use Rattle.core_lowering_rules.proofs.FilledTrees.{ident, one, two, behind, skip, skip_types, caught, caught_then}
 use Rattle.core_lowering_rules.proofs.FilledTrees.{Filled, filled, one-is, two-is, three-is, four-is, expr, exprs, init}
-use Rattle.core_lowering_rules.proofs.FilledTrees.{each, maybe, begun, variable, variables, start, stmt, stmts}
+use Rattle.core_lowering_rules.proofs.FilledTrees.{each, maybe, begun, variable, variables, start, stmt, stmts, clauses}
+use Rattle.core_lowering_rules.proofs.FilledTrees.{clause}
 use Rattle.core_lowering_rules.proofs.FilledExpressions.{behind-type, expr-is, init-is}
 
 -- ---- parts of statements
@@ -79,29 +87,40 @@ start-filled (starts.Expressions all) rest = one-is Runs (all-filled all rest)
 
 -- ---- statements
 
-abbrev IsLowered : view.Stmt → Type 0
-IsLowered s = is_lowered s ≡ true
+abbrev IsPart : Stmt → Type 0
+IsPart s = is_part s ≡ true
 
-abbrev AreLowered : view.Stmts → Type 0
-AreLowered ss = are_lowered ss ≡ true
+abbrev AreParts : trees.Stmts → Type 0
+AreParts ss = are_parts ss ≡ true
 
 abbrev pub HasStmt : Statement → Type 0
 HasStmt s =
-    IsLowered (viewed.stmt_of s) → (rest : Places)
+    IsPart (stmt_of s) → (rest : Places)
     → stmt (viewed.stmt_of s) (stmt_places s rest) ≡ filled (stmt_of s) rest
+
+-- catch clauses, and a `try` of its parts
+abbrev HasCatch : CatchTree → Type 0
+HasCatch c =
+    AreParts (lowered.catch_of c).1 → (rest : Places)
+    → clause (viewed.catch_of c) (kept.catch_places c rest) ≡ filled (lowered.catch_of c) rest
+
+abbrev HasTry : TryTree → Type 0
+HasTry t =
+    IsPart (lowered.try_of t) → (rest : Places)
+    → stmt (viewed.try_of t) (kept.try_places t rest) ≡ filled (lowered.try_of t) rest
 
 abbrev Stmts : Type 0
 Stmts = (s : Statement) × HasStmt s
 
--- nothing is said of the parts of statements that are not lowered
 abbrev Catches : Type 0
-Catches = CatchTree × Unit {0}
+Catches = (c : CatchTree) × HasCatch c
 
+-- nothing is said of groups
 abbrev Groups : Type 0
 Groups = GroupTree × Unit {0}
 
 abbrev Tries : Type 0
-Tries = TryTree × Unit {0}
+Tries = (t : TryTree) × HasTry t
 
 abbrev Layer : Type 0
 Layer = statement.Statement-F Stmts Catches Groups Tries
@@ -129,7 +148,8 @@ viewed_in x =
 abbrev lowered_in : Plain → Stmt
 lowered_in x =
     lowered.stmt_step
-    (map-Statement Statement CatchTree GroupTree TryTree Stmt Stmt Stmt Stmt stmt_of lowered.catch_of lowered.group_of
+    (map-Statement Statement CatchTree GroupTree TryTree Stmt lowered.Clause (Unit {0}) Stmt stmt_of lowered.catch_of
+    lowered.group_of
     lowered.try_of x)
 
 abbrev plain_all : List Stmts → List Statement
@@ -138,17 +158,30 @@ plain_all ss = map (λ s. s.0) ss
 abbrev of : Stmts → Places → Filled Stmt
 of s = stmt (viewed.stmt_of s.0)
 
-parts-filled : (ss : List Stmts) → AreLowered (view.pack_stmts (map viewed.stmt_of (plain_all ss))) → (rest : Places)
+-- ---- types that are passed over
+
+pub types-behind : (ts : List TypeTree) (ps : Places)
+    → skip_types (map ty_of ts) (all_places (map ty_places ts) ++ ps) ≡ ps
+types-behind [] ps = refl
+types-behind (t ∷ ts) ps =
+    let others = all_places (map ty_places ts) in
+    ap (λ qs. skip_types (map ty_of ts) (skip (ty_count (ty_of t)) qs)) (append_assoc (ty_places t) others ps)
+    ∙ ap (λ (g : Filled Places). g.tree)
+    (behind-type t (λ qs. filled (skip_types (map ty_of ts) qs) []) (others ++ ps)
+    (ap (λ qs. filled qs []) (types-behind ts ps)))
+
+-- ---- one layer
+
+parts-filled : (ss : List Stmts) → AreParts (pack_stmts (map stmt_of (plain_all ss))) → (rest : Places)
     → stmts (view.pack_stmts (map viewed.stmt_of (plain_all ss))) (each_puts (map stmt_places (plain_all ss)) rest)
     ≡ filled (pack_stmts (map stmt_of (plain_all ss))) rest
 parts-filled [] low rest = refl
 parts-filled (s ∷ ss) low rest =
-    let first = is_lowered (viewed.stmt_of s.0) in
-    two-is stmt_then (stmts (view.pack_stmts (map viewed.stmt_of (plain_all ss))))
-    (s.1 (first_part first _ low) (each_puts (map stmt_places (plain_all ss)) rest))
-    (parts-filled ss (last_part first _ low) rest)
+    let two = put-parts (stmt_of s.0) (pack_stmts (map stmt_of (plain_all ss))) low in
+    two-is put_before (stmts (view.pack_stmts (map viewed.stmt_of (plain_all ss))))
+    (s.1 two.0 (each_puts (map stmt_places (plain_all ss)) rest)) (parts-filled ss two.1 rest)
 
-stmt-filled : (y : Layer) → IsLowered (viewed_in (plain y)) → (rest : Places)
+stmt-filled : (y : Layer) → IsPart (lowered_in (plain y)) → (rest : Places)
     → stmt (viewed_in (plain y)) (places_in (plain y) rest) ≡ filled (lowered_in (plain y)) rest
 stmt-filled (statement.Block ss) low rest = one-is Block (parts-filled ss.items low rest)
 stmt-filled (statement.Local l) low rest = one-is (Local (ty_of l.kind)) (locals-filled l rest)
@@ -156,7 +189,7 @@ stmt-filled (statement.Expr e) low rest = one-is Run (expr-is e rest)
 stmt-filled (statement.If e s None) low rest =
     two-is If (of s.value) (expr-is e (stmt_places s.value.0 rest)) (s.value.1 low rest)
 stmt-filled (statement.If e s (Some t)) low rest =
-    let first = is_lowered (viewed.stmt_of s.value.0) in
+    let first = is_part (stmt_of s.value.0) in
     three-is IfElse (of s.value) (of t.value) (expr-is e (stmt_places s.value.0 (stmt_places t.value.0 rest)))
     (s.value.1 (first_part first _ low) (stmt_places t.value.0 rest)) (t.value.1 (last_part first _ low) rest)
 stmt-filled (statement.While e s) low rest =
@@ -186,7 +219,7 @@ stmt-filled (statement.Continue x) low rest = absurd (not-lowered low)
 stmt-filled (statement.Labelled x s) low rest = absurd (not-lowered low)
 stmt-filled (statement.Assert e f) low rest = absurd (not-lowered low)
 stmt-filled (statement.Switch e gs) low rest = absurd (not-lowered low)
-stmt-filled (statement.Try t) low rest = absurd (not-lowered (sym (no-try t.value.0) ∙ low))
+stmt-filled (statement.Try t) low rest = t.value.1 low rest
 
 stmt-case : (y : Layer) → HasStmt (roll-Statement (plain y))
 stmt-case y low rest =
@@ -194,23 +227,163 @@ stmt-case y low rest =
     let seen : viewed.stmt_of (roll-Statement (plain y)) ≡ viewed_in (plain y) = search (rules, the_lemmas) in
     let lower : stmt_of (roll-Statement (plain y)) ≡ lowered_in (plain y) = search (rules, the_lemmas) in
     ap (λ (f : Puts). stmt (viewed.stmt_of (roll-Statement (plain y))) (f rest)) places
-    ∙ ap (λ v. stmt v (places_in (plain y) rest)) seen ∙ stmt-filled y (subst IsLowered seen low) rest
+    ∙ ap (λ v. stmt v (places_in (plain y) rest)) seen ∙ stmt-filled y (subst IsPart lower low) rest
     ∙ ap (λ (t : Stmt). filled t rest) (sym lower)
 
 stmt-has : (x : Plain) (y : Layer) → plain y ≡ x → HasStmt (roll-Statement x)
 stmt-has x y is = subst (λ z. HasStmt (roll-Statement z)) is (stmt-case y)
 
-stmt-is : (s : Statement) → HasStmt s
-stmt-is =
-    ind-Statement HasStmt (λ c. Unit {0}) (λ g. Unit {0}) (λ t. Unit {0}) stmt-has (λ x y is. tt) (λ x y is. tt)
-    (λ x y is. tt)
+-- ---- catch clauses
 
-pub stmts-are : (ss : List Statement) → AreLowered (view.pack_stmts (map viewed.stmt_of ss)) → (rest : Places)
+abbrev CatchLayer : Type 0
+CatchLayer = statement.CatchTree-F Stmts Catches Groups Tries
+
+abbrev PlainCatch : Type 0
+PlainCatch = statement.CatchTree-F Statement CatchTree GroupTree TryTree
+
+abbrev plain_catch : CatchLayer → PlainCatch
+plain_catch y =
+    map-CatchTree Stmts Catches Groups Tries Statement CatchTree GroupTree TryTree (λ s. s.0) (λ c. c.0) (λ g. g.0)
+    (λ t. t.0) y
+
+abbrev catch_places_in : PlainCatch → Puts
+catch_places_in x =
+    kept.catch_step
+    (map-CatchTree Statement CatchTree GroupTree TryTree Puts Puts Puts Puts stmt_places kept.catch_places
+    kept.group_places kept.try_places x)
+
+abbrev catch_viewed_in : PlainCatch → view.Pieces
+catch_viewed_in x =
+    viewed.catch_step
+    (map-CatchTree Statement CatchTree GroupTree TryTree view.Stmt view.Pieces viewed.Group view.Stmt viewed.stmt_of
+    viewed.catch_of viewed.group_of viewed.try_of x)
+
+abbrev catch_lowered_in : PlainCatch → lowered.Clause
+catch_lowered_in x =
+    lowered.catch_step
+    (map-CatchTree Statement CatchTree GroupTree TryTree Stmt lowered.Clause (Unit {0}) Stmt stmt_of lowered.catch_of
+    lowered.group_of lowered.try_of x)
+
+catch-filled : (y : CatchLayer) → AreParts (catch_lowered_in (plain_catch y)).1 → (rest : Places)
+    → clause (catch_viewed_in (plain_catch y)) (catch_places_in (plain_catch y) rest)
+    ≡ filled (catch_lowered_in (plain_catch y)) rest
+catch-filled y low rest =
+    let p = y.parameter in
+    let body = each_puts (map stmt_places (plain_all y.body.items)) rest in
+    let seen = stmts (view.pack_stmts (map viewed.stmt_of (plain_all y.body.items))) in
+    ap (λ qs. one (caught (ident p.name.text qs)) (seen (behind qs))) (types-behind p.types (p.name.place ∷ body))
+    ∙ one-is (caught p.name) (parts-filled y.body.items low rest)
+
+catch-case : (y : CatchLayer) → HasCatch (roll-CatchTree (plain_catch y))
+catch-case y low rest =
+    let x = plain_catch y in
+    let places : kept.catch_places (roll-CatchTree x) ≡ catch_places_in x = search (rules, the_lemmas) in
+    let seen : viewed.catch_of (roll-CatchTree x) ≡ catch_viewed_in x = search (rules, the_lemmas) in
+    let lower : lowered.catch_of (roll-CatchTree x) ≡ catch_lowered_in x = search (rules, the_lemmas) in
+    ap (λ (f : Puts). clause (viewed.catch_of (roll-CatchTree x)) (f rest)) places
+    ∙ ap (λ v. clause v (catch_places_in x rest)) seen
+    ∙ catch-filled y (subst (λ (c : lowered.Clause). AreParts c.1) lower low) rest
+    ∙ ap (λ (c : lowered.Clause). filled c rest) (sym lower)
+
+catch-has : (x : PlainCatch) (y : CatchLayer) → plain_catch y ≡ x → HasCatch (roll-CatchTree x)
+catch-has x y is = subst (λ z. HasCatch (roll-CatchTree z)) is (catch-case y)
+
+-- ---- a `try`
+
+abbrev TryLayer : Type 0
+TryLayer = statement.TryTree-F Stmts Catches Groups Tries
+
+abbrev PlainTry : Type 0
+PlainTry = statement.TryTree-F Statement CatchTree GroupTree TryTree
+
+abbrev plain_try : TryLayer → PlainTry
+plain_try y =
+    map-TryTree Stmts Catches Groups Tries Statement CatchTree GroupTree TryTree (λ s. s.0) (λ c. c.0) (λ g. g.0)
+    (λ t. t.0) y
+
+abbrev try_places_in : PlainTry → Puts
+try_places_in x =
+    kept.try_step
+    (map-TryTree Statement CatchTree GroupTree TryTree Puts Puts Puts Puts stmt_places kept.catch_places
+    kept.group_places kept.try_places x)
+
+abbrev try_viewed_in : PlainTry → view.Stmt
+try_viewed_in x =
+    viewed.try_step
+    (map-TryTree Statement CatchTree GroupTree TryTree view.Stmt view.Pieces viewed.Group view.Stmt viewed.stmt_of
+    viewed.catch_of viewed.group_of viewed.try_of x)
+
+abbrev try_lowered_in : PlainTry → Stmt
+try_lowered_in x =
+    lowered.try_step
+    (map-TryTree Statement CatchTree GroupTree TryTree Stmt lowered.Clause (Unit {0}) Stmt stmt_of lowered.catch_of
+    lowered.group_of lowered.try_of x)
+
+abbrev plain_catches : List Catches → List CatchTree
+plain_catches cs = map (λ c. c.0) cs
+
+clauses-filled : (cs : List Catches)
+    → are_parts_caught (pack_catches (map lowered.catch_of (plain_catches cs))) ≡ true → (rest : Places)
+    → clauses (viewed.pack_rows (map viewed.catch_of (plain_catches cs)))
+    (each_puts (map kept.catch_places (plain_catches cs)) rest)
+    ≡ filled (pack_catches (map lowered.catch_of (plain_catches cs))) rest
+clauses-filled [] low rest = refl
+clauses-filled (c ∷ cs) low rest =
+    let first = are_parts (lowered.catch_of c.0).1 in
+    two-is caught_then (clauses (viewed.pack_rows (map viewed.catch_of (plain_catches cs))))
+    (c.1 (first_part first _ low) (each_puts (map kept.catch_places (plain_catches cs)) rest))
+    (clauses-filled cs (last_part first _ low) rest)
+
+abbrev of_parts : Option ResourcesTree → Vec Stmts Global → Vec Catches Global → Option (Vec Stmts Global) → TryLayer
+of_parts rs body cs finally = record { resources = rs; body = body; clauses = cs; finally = finally }
+
+abbrev TryFilled : TryLayer → Type 0
+TryFilled y =
+    IsPart (try_lowered_in (plain_try y)) → (rest : Places)
+    → stmt (try_viewed_in (plain_try y)) (try_places_in (plain_try y) rest) ≡ filled (try_lowered_in (plain_try y)) rest
+
+parts-tried : (rs : Option ResourcesTree) (body : Vec Stmts Global) (cs : Vec Catches Global)
+    (finally : Option (Vec Stmts Global)) → TryFilled (of_parts rs body cs finally)
+parts-tried None body cs (Some finally) low rest =
+    let first = are_parts (pack_stmts (map stmt_of (plain_all body.items))) in
+    let second = are_parts_caught (pack_catches (map lowered.catch_of (plain_catches cs.items))) in
+    let last = each_puts (map stmt_places (plain_all finally.items)) rest in
+    let more = last_part first _ low in
+    three-is Try (clauses (viewed.pack_rows (map viewed.catch_of (plain_catches cs.items))))
+    (stmts (view.pack_stmts (map viewed.stmt_of (plain_all finally.items))))
+    (parts-filled body.items (first_part first _ low) (each_puts (map kept.catch_places (plain_catches cs.items)) last))
+    (clauses-filled cs.items (first_part second _ more) last)
+    (parts-filled finally.items (last_part second _ more) rest)
+parts-tried None body cs None low rest = absurd (not-lowered low)
+parts-tried (Some rs) body cs (Some finally) low rest = absurd (not-lowered low)
+parts-tried (Some rs) body cs None low rest = absurd (not-lowered low)
+
+try-filled : (y : TryLayer) → TryFilled y
+try-filled y = parts-tried y.resources y.body y.clauses y.finally
+
+try-case : (y : TryLayer) → HasTry (roll-TryTree (plain_try y))
+try-case y low rest =
+    let x = plain_try y in
+    let places : kept.try_places (roll-TryTree x) ≡ try_places_in x = search (rules, the_lemmas) in
+    let seen : viewed.try_of (roll-TryTree x) ≡ try_viewed_in x = search (rules, the_lemmas) in
+    let lower : lowered.try_of (roll-TryTree x) ≡ try_lowered_in x = search (rules, the_lemmas) in
+    ap (λ (f : Puts). stmt (viewed.try_of (roll-TryTree x)) (f rest)) places
+    ∙ ap (λ v. stmt v (try_places_in x rest)) seen ∙ try-filled y (subst IsPart lower low) rest
+    ∙ ap (λ (t : Stmt). filled t rest) (sym lower)
+
+try-has : (x : PlainTry) (y : TryLayer) → plain_try y ≡ x → HasTry (roll-TryTree x)
+try-has x y is = subst (λ z. HasTry (roll-TryTree z)) is (try-case y)
+
+-- ---- all
+
+stmt-is : (s : Statement) → HasStmt s
+stmt-is = ind-Statement HasStmt HasCatch (λ g. Unit {0}) HasTry stmt-has catch-has (λ x y is. tt) try-has
+
+pub stmts-are : (ss : List Statement) → AreParts (pack_stmts (map stmt_of ss)) → (rest : Places)
     → stmts (view.pack_stmts (map viewed.stmt_of ss)) (each_puts (map stmt_places ss) rest)
     ≡ filled (pack_stmts (map stmt_of ss)) rest
 stmts-are [] low rest = refl
 stmts-are (s ∷ ss) low rest =
-    let first = is_lowered (viewed.stmt_of s) in
-    two-is stmt_then (stmts (view.pack_stmts (map viewed.stmt_of ss)))
-    (stmt-is s (first_part first _ low) (each_puts (map stmt_places ss) rest))
-    (stmts-are ss (last_part first _ low) rest)
+    let two = put-parts (stmt_of s) (pack_stmts (map stmt_of ss)) low in
+    two-is put_before (stmts (view.pack_stmts (map viewed.stmt_of ss)))
+    (stmt-is s two.0 (each_puts (map stmt_places ss) rest)) (stmts-are ss two.1 rest)

@@ -3,6 +3,7 @@ use Rattle.std.proofs.Common.{◌≡◌, ℕ, suc, zero, List, [], ◌∷◌, �
 use Rattle.racer_base.specs.declared.ids.Place.{Place}
 use Rattle.java_tree.specs.declared.words.Ident.{Ident}
 use Rattle.java_tree.specs.KeptPlaces.{Places}
+use Rattle.java_tree.specs.Trees.{Ty}
 use Rattle.java_tree.specs.Trees as view
 use Rattle.java_tree.proofs.TypeCounts.{ty_count}
 use Rattle.core_lowering_rules.specs.Trees.{Expr, This, ClassOf, Read, Unary, Cast, Conditional, Count, Call, CallOn}
@@ -13,7 +14,7 @@ use Rattle.core_lowering_rules.specs.Trees.{Init, Value, Items, Inits, no_init, 
 use Rattle.core_lowering_rules.specs.Trees.{Runs}
 use Rattle.core_lowering_rules.specs.Trees.{Stmt, Run, Local, If, IfElse, While, For, ForEach, Sync, Return, Block}
 use Rattle.core_lowering_rules.specs.Trees.{Empty}
-use Rattle.core_lowering_rules.specs.Trees.{Stmts, no_stmt, stmt_then}
+use Rattle.core_lowering_rules.specs.Trees.{Stmts, no_stmt, put_before, Try, Apart, Catches, no_catch, catch_then}
 use Rattle.core_lowering_rules.specs.TreesOf.{access_of, assignment, binary, prefix, literal}
 
 -- ---- what is made, and the places that are left
@@ -164,6 +165,16 @@ abbrev pub start : view.Start → Places → Filled Start
 start (view.Declares l) ps = one (Declares l.kind) (variables l ps)
 start (view.Runs es) ps = one Runs (exprs es ps)
 
+abbrev pub skip_types : List Ty → Places → Places
+skip_types [] ps = ps
+skip_types (t ∷ ts) ps = skip_types ts (skip (ty_count t) ps)
+
+abbrev pub caught : Ident → Stmts → Ident × Stmts
+caught x ss = (x, ss)
+
+abbrev pub caught_then : Ident × Stmts → Catches → Catches
+caught_then c cs = catch_then c.0 c.1 cs
+
 abbrev mutual
   pub stmt : view.Stmt → Places → Filled Stmt
   stmt (view.Block ss) ps = one Block (stmts ss ps)
@@ -175,15 +186,27 @@ abbrev mutual
       four For (start i ps) (maybe expr condition) (exprs updates) (stmt s)
   stmt (view.ForEach is_final t x e s) ps =
       two (ForEach t (ident x (skip (ty_count t) ps))) (expr e (behind (skip (ty_count t) ps))) (stmt s)
-  stmt (view.Labelled x s) ps = filled Empty ps
+  stmt (view.Labelled x s) ps = filled Apart ps
   stmt view.Empty ps = filled Empty ps
   -- by what stands behind the keyword: of the rows that are lowered no two have the same
   stmt (view.Row word (view.a_condition e (view.a_body s rest))) ps = two While (expr e ps) (stmt s)
   stmt (view.Row word (view.a_condition e (view.a_block ss rest))) ps =
       two (Sync (first ps)) (expr e (behind ps)) (stmts ss)
   stmt (view.Row word (view.maybe_an_expr e rest)) ps = one Return (maybe expr e ps)
-  stmt (view.Row word _) ps = filled Empty ps
+  stmt (view.Row word (view.some_part (view.maybe_resources None (view.a_block ss (view.a_list catch several
+      (view.present last (view.a_block ts more) rest)))))) ps =
+      three Try (stmts ss ps) (clauses several) (stmts ts)
+  stmt (view.Row word _) ps = filled Apart ps
 
   pub stmts : view.Stmts → Places → Filled Stmts
   stmts view.no_stmt ps = filled no_stmt ps
-  stmts (view.stmt_then s ss) ps = two stmt_then (stmt s ps) (stmts ss)
+  stmts (view.stmt_then s ss) ps = two put_before (stmt s ps) (stmts ss)
+
+  pub clauses : view.Several → Places → Filled Catches
+  clauses view.no_row ps = filled no_catch ps
+  clauses (view.row_then row more) ps = two caught_then (clause row ps) (clauses more)
+
+  pub clause : view.Pieces → Places → Filled (Ident × Stmts)
+  clause (view.a_catch_parameter p (view.a_block ss rest)) ps =
+      one (caught (ident p.name (skip_types p.types ps))) (stmts ss (behind (skip_types p.types ps)))
+  clause _ ps = filled (ident [] ps, no_stmt) ps

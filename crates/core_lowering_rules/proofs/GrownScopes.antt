@@ -1,8 +1,9 @@
 -- Scopes as declarations and statements go by: variables are added, and those that there are stay.
-use Rattle.std.proofs.Common.{◌≡◌, ℕ, zero, suc, List, [], ◌∷◌, ◌++◌, Some, length, drop, refl, sym}
+use Rattle.std.proofs.Common.{◌≡◌, ℕ, zero, suc, Bool, List, [], ◌∷◌, ◌++◌, Some, length, drop, refl, sym}
 use Rattle.std.proofs.Common.{ap, ◌∙◌}
 use Rattle.std.proofs.Common.{append_assoc, append-nil, slice_get}
 use Rattle.racer_base.specs.declared.ids.Kind.{Kind}
+use Rattle.racer_base.specs.declared.ids.Kind.TheVariants.{Other}
 use Rattle.java_tree.specs.declared.words.Ident.{Ident}
 use Rattle.java_tree.specs.declared.methods.ParameterTree.{ParameterTree}
 use Rattle.java_tree.specs.Trees.{Ty}
@@ -13,6 +14,7 @@ use Rattle.core_lowering_rules.specs.Context.{Context, type_kind}
 use Rattle.core_lowering_rules.specs.Scopes.{next_variable, new_variable, declared, all_declared, started, back_in}
 use Rattle.core_lowering_rules.specs.Scopes.{after}
 use Rattle.core_lowering_rules.specs.Scopes.{after_all}
+use Rattle.core_lowering_rules.specs.Locks.{lock_noted}
 use Rattle.core_lowering_rules.specs.Methods.{parameters_declared}
 use Rattle.core_lowering_rules.proofs.FoundElements.{Each, each-append}
 use Rattle.core_lowering_rules.proofs.ScopeSteps.{ScopeFact, goes-all, goes-started, goes-after, goes-after_all}
@@ -35,6 +37,9 @@ grown =
       };
       declares = λ x c t name. record { more = type_kind c t ∷ []; longer = refl };
       backs = λ x c y d p. record { more = p.more; longer = p.longer };
+      names = λ x c name. record { more = Other ∷ []; longer = refl };
+      notes = λ x c e. record { more = []; longer = sym (append-nil c.kinds) };
+      keeps = λ x c y d p. record { more = []; longer = sym (append-nil c.kinds) };
     }
 
 pub grows-all : (context : Context) (t : Ty) (vs : List Variable) →
@@ -104,6 +109,16 @@ module _ (core : Core) (m : Method) where
         gives = t.gives;
       }
 
+  noted-stands : (context : Context) (b : Bool) → Stands core m context →
+      Stands core m (record context { other_lock = b })
+  noted-stands context b s =
+      record {
+        known = s.known;
+        variables = s.variables;
+        object = s.object;
+        gives = s.gives;
+      }
+
   -- the same variables under another scope
   pub same-kinds : (before inside : Context) → HasKinds m (back_in before inside) → HasKinds m inside
   same-kinds before inside h = record { rest = h.rest; all = h.all }
@@ -129,6 +144,18 @@ module _ (core : Core) (m : Method) where
         backs = λ x c y d p. record {
           grows = grown.backs x c y d p.grows;
           stand = λ s h. back-stands c d s (p.stand s (same-kinds c d h));
+        };
+        names = λ x c name. record {
+          grows = grown.names x c name;
+          stand = λ s h. declared-stands c Other name s h;
+        };
+        notes = λ x c e. record {
+          grows = grown.notes x c e;
+          stand = λ s h. noted-stands c (lock_noted c e).other_lock s;
+        };
+        keeps = λ x c y d p. record {
+          grows = grown.keeps x c y d p.grows;
+          stand = λ s h. noted-stands c d.other_lock s;
         };
       }
 

@@ -23,7 +23,7 @@ use Rattle.core_code.specs.Calls.{method_at}
 use Rattle.core_code.specs.Facts.{is_place, is_class, is_kind, is_method, is_op, is_code}
 use Rattle.core_code.proofs.BoolParts.{both, first_part, last_part}
 use Rattle.core_code.proofs.InRange.{then_in_range, held_in_range}
-use Rattle.core_lowering_rules.specs.Context.{Code, op_at, own_at}
+use Rattle.core_lowering_rules.specs.Context.{Code, op_at, lock_at}
 use Rattle.core_lowering_rules.specs.Sites.{numbered}
 use Rattle.core_lowering_rules.proofs.NumberedTrees.{SiteFact, same-numbered}
 use Rattle.core_lowering_rules.proofs.LoweredFacts.{Tests, Fact, is_named}
@@ -97,7 +97,7 @@ module _ (core : Core) where
         chosen = λ a b c d p q. alone (Choice (in_sequence c) (in_sequence d))
             (both (is_sound core (in_sequence c)) (is_sound core (in_sequence d)) (whole p) (whole q));
         looped = λ a c p. alone (Loop (in_sequence c)) (whole p);
-        locked = λ place a c there p. alone (Sync (own_at place) (in_sequence c))
+        locked = λ kind place a c there p. alone (Sync (lock_at kind place) (in_sequence c))
             (both (is_place core place) (is_sound core (in_sequence c)) there (whole p));
         single = one;
         called = λ place m n a b h k. call place m n b h k;

@@ -16,7 +16,6 @@ use Rattle.java_tree.specs.Words.{keyword}
 use Rattle.java_tree.specs.KeptPlaces.{Places, is_kept, all_places, each_puts, ty_places, stmt_places}
 use Rattle.java_tree.specs.MethodPlaces.{Marks, some_onto, each_marks, no_place, no_name, annotation_marks}
 use Rattle.java_tree.specs.MethodPlaces.{modifier_marks, result_places, parameter_marks, method_marks}
-use Rattle.java_tree.specs.View.{method_of}
 use Rattle.java_tree.specs.declared.unit.Unit as unit_type
 use Rattle.java_tree.specs.declared.unit.ClassTree.{ClassTree}
 use Rattle.java_tree.specs.declared.unit.Member.{Member}
@@ -24,7 +23,7 @@ use Rattle.java_tree.specs.declared.unit.Member.TheVariants as member
 use Rattle.java_resolver.specs.Declarations.{trees_of}
 use Rattle.java_resolver.specs.Declarations.{by_class, names_of, default_constructor, member_is_constructor}
 use Rattle.core_code.proofs.BoolParts.{both, first_part, last_part}
-use Rattle.core_lowering_rules.specs.Methods.{Body, Default, Spelled, Unspelled, Source}
+use Rattle.core_lowering_rules.specs.Methods.{Body, Default, Spelled, Unspelled, Source, body_of}
 use Rattle.core_lowering_rules.specs.LoweredForms.{are_lowered, method_body}
 use Rattle.core_lowering_rules.specs.Programs.{member_sources, default_sources, class_sources, sources_of}
 use Rattle.core_lowering_rules.specs.Programs.{skipped_member, skipped_in, put_in, is_before, in_order}
@@ -196,16 +195,16 @@ module _ (test : Place → Bool) where
 
   abbrev pub PlacedBody : Body → Type 0
   PlacedBody Default = Unit {0}
-  PlacedBody (Spelled t) = (are_lowered (method_of t).body ≡ true) × Kept (method_marks t)
+  PlacedBody (Spelled t) = (are_lowered (body_of t) ≡ true) × Kept (method_marks t)
   PlacedBody Unspelled = Unit {0}
 
-  by-lowered : (b : Bool) (t : MethodTree) → are_lowered (method_of t).body ≡ b → Kept (method_marks t) →
+  by-lowered : (b : Bool) (t : MethodTree) → are_lowered (body_of t) ≡ b → Kept (method_marks t) →
       PlacedBody (cond b (Spelled t) Unspelled)
   by-lowered true t low h = (low, h)
   by-lowered false t low h = tt
 
   pub body-placed : (t : MethodTree) → Kept (method_marks t) → PlacedBody (method_body t)
-  body-placed t h = by-lowered (are_lowered (method_of t).body) t refl h
+  body-placed t h = by-lowered (are_lowered (body_of t)) t refl h
 
   -- ---- what methods are made of
 

@@ -1,7 +1,9 @@
 -- The trees that are lowered are placed where the places that the code's trees keep are.
 use Rattle.std.proofs.Common.{◌≡◌, ℕ, Bool, true, false, cond, List, [], ◌∷◌, ◌++◌, Option, Some, None, map}
 use Rattle.std.proofs.Common.{sym, ◌∙◌, subst, rules}
-use Rattle.std.specs.Prelude.{option_map, codes, bytes_eq}
+use Rattle.std.specs.Prelude.{option_map, codes, bytes_eq, Vec}
+use Rattle.std.specs.Global.{Global}
+use Rattle.java_tree.specs.declared.statements.ResourcesTree.{ResourcesTree}
 use Rattle.std.specs.List.{list_all}
 use Rattle.std.proofs.lemmas.List.Folds.{list_all-append}
 use Rattle.racer_base.specs.declared.ids.Place.{Place}
@@ -16,36 +18,33 @@ use Rattle.java_tree.specs.declared.statements.LocalsTree.{LocalsTree}
 use Rattle.java_tree.specs.declared.statements.StartTree.{StartTree}
 use Rattle.java_tree.specs.declared.statements.StartTree.TheVariants as start
 use Rattle.java_tree.specs.declared.statements.Statement.{Statement, roll-Statement, map-Statement}
-use Rattle.java_tree.specs.declared.statements.CatchTree.{CatchTree}
+use Rattle.java_tree.specs.declared.statements.CatchTree.{CatchTree, roll-CatchTree, map-CatchTree}
 use Rattle.java_tree.specs.declared.statements.GroupTree.{GroupTree}
-use Rattle.java_tree.specs.declared.statements.TryTree.{TryTree}
+use Rattle.java_tree.specs.declared.statements.TryTree.{TryTree, roll-TryTree, map-TryTree}
 use Rattle.java_tree.specs.declared.statements.Statement.TheOpen as statement
 use Rattle.java_tree.specs.declared.statements.Statement.TheFolds.{ind-Statement}
 use Rattle.java_tree.specs.declared.statements.Statement.TheFolds as statements
 use Rattle.java_tree.specs.KeptPlaces.{Puts, each_puts, maybe_puts, name_places, ty_places, expr_places, init_places}
 use Rattle.java_tree.specs.KeptPlaces.{array_places, variable_places, locals_places, start_places, stmt_places}
-use Rattle.java_tree.specs.KeptPlaces.{catch_places, group_places, try_places}
+use Rattle.java_tree.specs.KeptPlaces.{all_places, catch_places, group_places, try_places}
 use Rattle.java_tree.specs.KeptPlaces as kept
-use Rattle.java_tree.specs.Trees as view
-use Rattle.java_tree.specs.View as viewed
 use Rattle.core_code.proofs.BoolParts.{first_part, last_part}
 use Rattle.core_lowering_rules.specs.Trees.{Expr, Text, This, ClassOf, Read, Unary, Cast, Binary, Logical, Conditional}
 use Rattle.core_lowering_rules.specs.Trees.{Assign, Combine, Count, Call, CallOn, New, NewArray, NewItems, Paren}
 use Rattle.core_lowering_rules.specs.Trees as tree
-use Rattle.core_lowering_rules.specs.Trees.{Stmt, pack_exprs, pack_inits, pack_stmts}
+use Rattle.core_lowering_rules.specs.Trees.{Stmt, pack_exprs, pack_inits, pack_stmts, pack_catches}
 use Rattle.core_lowering_rules.specs.TreesOf.{access_of, literal, is_assignment, is_logical}
 use Rattle.core_lowering_rules.specs.TreesOf.{is_count}
 use Rattle.core_lowering_rules.specs.TreesOf.{expr_of, init_of, variable_of, start_of}
 use Rattle.core_lowering_rules.specs.TreesOf.{stmt_of}
 use Rattle.core_lowering_rules.specs.TreesOf.{catch_of, group_of, try_of}
 use Rattle.core_lowering_rules.specs.TreesOf as lowered
-use Rattle.core_lowering_rules.specs.LoweredForms.{is_lowered, are_lowered}
-use Rattle.core_lowering_rules.proofs.LoweredTrees.{not-lowered, no-try}
+use Rattle.core_lowering_rules.proofs.LoweredTrees.{not-lowered, is_part, are_parts, are_parts_caught, put-parts}
 use Rattle.core_lowering_rules.proofs.TreeSteps.{TreeFact, HasExpr, HasInit, Exprs, Initialisers, Layer, InitLayer}
 use Rattle.core_lowering_rules.proofs.TreeSteps.{OfLayer, OfInitLayer, TreeSteps, expr-all, init-all}
 use Rattle.core_lowering_rules.proofs.PlacedTrees.{PlacedExpr, PlacedAccess, PlacedExprs, PlacedInit, PlacedInits}
 use Rattle.core_lowering_rules.proofs.PlacedTrees.{PlacedOption, PlacedBegin, PlacedVariables, PlacedStart, PlacedStmt}
-use Rattle.core_lowering_rules.proofs.PlacedTrees.{PlacedStmts}
+use Rattle.core_lowering_rules.proofs.PlacedTrees.{PlacedStmts, PlacedCatches, put-placed}
 
 module _ (test : Place → Bool) where
   -- where the places that are put before some pass, and these, this holds, and these pass
@@ -238,29 +237,35 @@ module _ (test : Place → Bool) where
   start-kept (start.Local l) rest h = locals-kept l rest h
   start-kept (start.Expressions all) rest h = all-kept all rest h
 
-  -- ---- statements that are lowered
+  -- ---- statements that are seen whole
 
-  abbrev IsLowered : view.Stmt → Type 0
-  IsLowered s = is_lowered s ≡ true
+  abbrev IsPart : Stmt → Type 0
+  IsPart s = is_part s ≡ true
 
-  abbrev AreLowered : view.Stmts → Type 0
-  AreLowered ss = are_lowered ss ≡ true
+  abbrev AreParts : tree.Stmts → Type 0
+  AreParts ss = are_parts ss ≡ true
 
   abbrev pub HasStmt : Statement → Type 0
-  HasStmt s = IsLowered (viewed.stmt_of s) → Splits (stmt_places s) (PlacedStmt test (stmt_of s))
+  HasStmt s = IsPart (stmt_of s) → Splits (stmt_places s) (PlacedStmt test (stmt_of s))
+
+  abbrev HasCatch : CatchTree → Type 0
+  HasCatch c = AreParts (catch_of c).1 → Splits (catch_places c) (PlacedStmts test (catch_of c).1)
+
+  abbrev HasTry : TryTree → Type 0
+  HasTry t = IsPart (try_of t) → Splits (try_places t) (PlacedStmt test (try_of t))
 
   abbrev Stmts : Type 0
   Stmts = (s : Statement) × HasStmt s
 
-  -- nothing is said of the parts of statements that are not lowered
   abbrev Catches : Type 0
-  Catches = CatchTree × Unit {0}
+  Catches = (c : CatchTree) × HasCatch c
 
+  -- nothing is said of groups
   abbrev Groups : Type 0
   Groups = GroupTree × Unit {0}
 
   abbrev Tries : Type 0
-  Tries = TryTree × Unit {0}
+  Tries = (t : TryTree) × HasTry t
 
   abbrev StmtLayer : Type 0
   StmtLayer = statement.Statement-F Stmts Catches Groups Tries
@@ -279,29 +284,25 @@ module _ (test : Place → Bool) where
       (map-Statement Statement CatchTree GroupTree TryTree Puts Puts Puts Puts stmt_places catch_places group_places
       try_places x)
 
-  abbrev stmt_viewed_in : PlainStmt → view.Stmt
-  stmt_viewed_in x =
-      viewed.stmt_step
-      (map-Statement Statement CatchTree GroupTree TryTree view.Stmt view.Pieces viewed.Group view.Stmt viewed.stmt_of
-      viewed.catch_of viewed.group_of viewed.try_of x)
-
   abbrev stmt_lowered_in : PlainStmt → Stmt
   stmt_lowered_in x =
       lowered.stmt_step
-      (map-Statement Statement CatchTree GroupTree TryTree Stmt Stmt Stmt Stmt stmt_of catch_of group_of try_of x)
+      (map-Statement Statement CatchTree GroupTree TryTree Stmt lowered.Clause (Unit {0}) Stmt stmt_of catch_of group_of
+      try_of x)
 
   abbrev plain_all : List Stmts → List Statement
   plain_all ss = map (λ s. s.0) ss
 
-  stmts-split : (ss : List Stmts) → AreLowered (view.pack_stmts (map viewed.stmt_of (plain_all ss))) →
+  stmts-split : (ss : List Stmts) → AreParts (pack_stmts (map stmt_of (plain_all ss))) →
       Splits (each_puts (map stmt_places (plain_all ss))) (PlacedStmts test (pack_stmts (map stmt_of (plain_all ss))))
   stmts-split [] low rest h = (tt, h)
   stmts-split (s ∷ ss) low rest h =
-      let p = s.1 (first_part (is_lowered (viewed.stmt_of s.0)) _ low) (each_puts (map stmt_places (plain_all ss)) rest)
-      h in
-      let q = stmts-split ss (last_part (is_lowered (viewed.stmt_of s.0)) _ low) rest p.1 in ((p.0, q.0), q.1)
+      let more = pack_stmts (map stmt_of (plain_all ss)) in
+      let two = put-parts (stmt_of s.0) more low in
+      let p = s.1 two.0 (each_puts (map stmt_places (plain_all ss)) rest) h in
+      let q = stmts-split ss two.1 rest p.1 in (put-placed test (stmt_of s.0) more p.0 q.0, q.1)
 
-  stmt-split : (y : StmtLayer) → IsLowered (stmt_viewed_in (plain_stmt y)) →
+  stmt-split : (y : StmtLayer) → IsPart (stmt_lowered_in (plain_stmt y)) →
       Splits (stmt_places_in (plain_stmt y)) (PlacedStmt test (stmt_lowered_in (plain_stmt y)))
   stmt-split (statement.Block ss) low rest h = stmts-split ss.items low rest h
   stmt-split (statement.Local l) low rest h = locals-kept l rest h
@@ -311,7 +312,7 @@ module _ (test : Place → Bool) where
       let q = s.value.1 low rest p.1 in ((p.0, q.0), q.1)
   stmt-split (statement.If e s (Some t)) low rest h =
       let p = expr-kept e (stmt_places s.value.0 (stmt_places t.value.0 rest)) h in
-      let first = is_lowered (viewed.stmt_of s.value.0) in
+      let first = is_part (stmt_of s.value.0) in
       let q = s.value.1 (first_part first _ low) (stmt_places t.value.0 rest) p.1 in
       let r = t.value.1 (last_part first _ low) rest q.1 in ((p.0, q.0, r.0), r.1)
   stmt-split (statement.While e s) low rest h =
@@ -342,29 +343,150 @@ module _ (test : Place → Bool) where
   stmt-split (statement.Labelled x s) low rest h = absurd (not-lowered low)
   stmt-split (statement.Assert e f) low rest h = absurd (not-lowered low)
   stmt-split (statement.Switch e gs) low rest h = absurd (not-lowered low)
-  stmt-split (statement.Try t) low rest h = absurd (not-lowered (sym (no-try t.value.0) ∙ low))
+  stmt-split (statement.Try t) low rest h = t.value.1 low rest h
 
   stmt-has : (x : PlainStmt) (y : StmtLayer) → plain_stmt y ≡ x → HasStmt (roll-Statement x)
   stmt-has x y is =
       let places : stmt_places (roll-Statement (plain_stmt y)) ≡ stmt_places_in (plain_stmt y) =
-      search (rules, statements.the_lemmas) in
-      let seen : viewed.stmt_of (roll-Statement (plain_stmt y)) ≡ stmt_viewed_in (plain_stmt y) =
       search (rules, statements.the_lemmas) in
       let lower : stmt_of (roll-Statement (plain_stmt y)) ≡ stmt_lowered_in (plain_stmt y) =
       search (rules, statements.the_lemmas) in
       subst (λ z. HasStmt (roll-Statement z)) is
       (λ low. subst (λ (f : Puts). Splits f (PlacedStmt test (stmt_of (roll-Statement (plain_stmt y))))) (sym places)
       (subst (λ (t : Stmt). Splits (stmt_places_in (plain_stmt y)) (PlacedStmt test t)) (sym lower)
-      (stmt-split y (subst IsLowered seen low))))
+      (stmt-split y (subst IsPart lower low))))
+
+  -- ---- catch clauses
+
+  abbrev CatchLayer : Type 0
+  CatchLayer = statement.CatchTree-F Stmts Catches Groups Tries
+
+  abbrev PlainCatch : Type 0
+  PlainCatch = statement.CatchTree-F Statement CatchTree GroupTree TryTree
+
+  abbrev plain_catch : CatchLayer → PlainCatch
+  plain_catch y =
+      map-CatchTree Stmts Catches Groups Tries Statement CatchTree GroupTree TryTree (λ s. s.0) (λ c. c.0) (λ g. g.0)
+      (λ t. t.0) y
+
+  abbrev catch_places_in : PlainCatch → Puts
+  catch_places_in x =
+      kept.catch_step
+      (map-CatchTree Statement CatchTree GroupTree TryTree Puts Puts Puts Puts stmt_places catch_places group_places
+      try_places x)
+
+  abbrev catch_lowered_in : PlainCatch → lowered.Clause
+  catch_lowered_in x =
+      lowered.catch_step
+      (map-CatchTree Statement CatchTree GroupTree TryTree Stmt lowered.Clause (Unit {0}) Stmt stmt_of catch_of group_of
+      try_of x)
+
+  catch-split : (y : CatchLayer) → AreParts (catch_lowered_in (plain_catch y)).1 →
+      Splits (catch_places_in (plain_catch y)) (PlacedStmts test (catch_lowered_in (plain_catch y)).1)
+  catch-split y low rest h =
+      let p = y.parameter in
+      let last = each_puts (map stmt_places (plain_all y.body.items)) rest in
+      stmts-split y.body.items low rest
+      (after p.name.place last (behind (all_places (map ty_places p.types)) (p.name.place ∷ last) h))
+
+  catch-has : (x : PlainCatch) (y : CatchLayer) → plain_catch y ≡ x → HasCatch (roll-CatchTree x)
+  catch-has x y is =
+      let places : catch_places (roll-CatchTree (plain_catch y)) ≡ catch_places_in (plain_catch y) =
+      search (rules, statements.the_lemmas) in
+      let lower : catch_of (roll-CatchTree (plain_catch y)) ≡ catch_lowered_in (plain_catch y) =
+      search (rules, statements.the_lemmas) in
+      subst (λ z. HasCatch (roll-CatchTree z)) is
+      (λ low.
+      subst (λ (f : Puts). Splits f (PlacedStmts test (catch_of (roll-CatchTree (plain_catch y))).1)) (sym places)
+      (subst (λ (c : lowered.Clause). Splits (catch_places_in (plain_catch y)) (PlacedStmts test c.1)) (sym lower)
+      (catch-split y (subst (λ (c : lowered.Clause). AreParts c.1) lower low))))
+
+  -- ---- a `try`
+
+  abbrev TryLayer : Type 0
+  TryLayer = statement.TryTree-F Stmts Catches Groups Tries
+
+  abbrev PlainTry : Type 0
+  PlainTry = statement.TryTree-F Statement CatchTree GroupTree TryTree
+
+  abbrev plain_try : TryLayer → PlainTry
+  plain_try y =
+      map-TryTree Stmts Catches Groups Tries Statement CatchTree GroupTree TryTree (λ s. s.0) (λ c. c.0) (λ g. g.0)
+      (λ t. t.0) y
+
+  abbrev try_places_in : PlainTry → Puts
+  try_places_in x =
+      kept.try_step
+      (map-TryTree Statement CatchTree GroupTree TryTree Puts Puts Puts Puts stmt_places catch_places group_places
+      try_places x)
+
+  abbrev try_lowered_in : PlainTry → Stmt
+  try_lowered_in x =
+      lowered.try_step
+      (map-TryTree Statement CatchTree GroupTree TryTree Stmt lowered.Clause (Unit {0}) Stmt stmt_of catch_of group_of
+      try_of
+      x)
+
+  abbrev plain_catches : List Catches → List CatchTree
+  plain_catches cs = map (λ c. c.0) cs
+
+  clauses-split : (cs : List Catches) → are_parts_caught (pack_catches (map catch_of (plain_catches cs))) ≡ true →
+      Splits (each_puts (map catch_places (plain_catches cs)))
+      (PlacedCatches test (pack_catches (map catch_of (plain_catches cs))))
+  clauses-split [] low rest h = (tt, h)
+  clauses-split (c ∷ cs) low rest h =
+      let first = are_parts (catch_of c.0).1 in
+      let p = c.1 (first_part first _ low) (each_puts (map catch_places (plain_catches cs)) rest) h in
+      let q = clauses-split cs (last_part first _ low) rest p.1 in ((p.0, q.0), q.1)
+
+  abbrev of_parts : Option ResourcesTree → Vec Stmts Global → Vec Catches Global → Option (Vec Stmts Global) → TryLayer
+  of_parts rs body cs finally = record { resources = rs; body = body; clauses = cs; finally = finally }
+
+  abbrev TrySplit : TryLayer → Type 0
+  TrySplit y =
+      IsPart (try_lowered_in (plain_try y)) →
+      Splits (try_places_in (plain_try y)) (PlacedStmt test (try_lowered_in (plain_try y)))
+
+  parts-split : (rs : Option ResourcesTree) (body : Vec Stmts Global) (cs : Vec Catches Global)
+      (finally : Option (Vec Stmts Global)) → TrySplit (of_parts rs body cs finally)
+  parts-split None body cs (Some finally) low rest h =
+      let first = are_parts (pack_stmts (map stmt_of (plain_all body.items))) in
+      let second = are_parts_caught (pack_catches (map catch_of (plain_catches cs.items))) in
+      let more = last_part first _ low in
+      let last = each_puts (map stmt_places (plain_all finally.items)) rest in
+      let p = stmts-split body.items (first_part first _ low)
+      (each_puts (map catch_places (plain_catches cs.items)) last)
+      h in
+      let q = clauses-split cs.items (first_part second _ more) last p.1 in
+      let r = stmts-split finally.items (last_part second _ more) rest q.1 in ((p.0, q.0, r.0), r.1)
+  parts-split None body cs None low rest h = absurd (not-lowered low)
+  parts-split (Some rs) body cs (Some finally) low rest h = absurd (not-lowered low)
+  parts-split (Some rs) body cs None low rest h = absurd (not-lowered low)
+
+  try-split : (y : TryLayer) → TrySplit y
+  try-split y = parts-split y.resources y.body y.clauses y.finally
+
+  try-has : (x : PlainTry) (y : TryLayer) → plain_try y ≡ x → HasTry (roll-TryTree x)
+  try-has x y is =
+      let places : try_places (roll-TryTree (plain_try y)) ≡ try_places_in (plain_try y) =
+      search (rules, statements.the_lemmas) in
+      let lower : try_of (roll-TryTree (plain_try y)) ≡ try_lowered_in (plain_try y) =
+      search (rules, statements.the_lemmas) in
+      subst (λ z. HasTry (roll-TryTree z)) is
+      (λ low. subst (λ (f : Puts). Splits f (PlacedStmt test (try_of (roll-TryTree (plain_try y))))) (sym places)
+      (subst (λ (t : Stmt). Splits (try_places_in (plain_try y)) (PlacedStmt test t)) (sym lower)
+      (try-split y (subst IsPart lower low))))
+
+  -- ---- all
 
   stmt-kept : (s : Statement) → HasStmt s
-  stmt-kept =
-      ind-Statement HasStmt (λ c. Unit {0}) (λ g. Unit {0}) (λ t. Unit {0}) stmt-has (λ x y is. tt) (λ x y is. tt)
-      (λ x y is. tt)
+  stmt-kept = ind-Statement HasStmt HasCatch (λ g. Unit {0}) HasTry stmt-has catch-has (λ x y is. tt) try-has
 
-  pub stmts-kept : (ss : List Statement) → AreLowered (view.pack_stmts (map viewed.stmt_of ss)) →
+  pub stmts-kept : (ss : List Statement) → AreParts (pack_stmts (map stmt_of ss)) →
       Splits (each_puts (map stmt_places ss)) (PlacedStmts test (pack_stmts (map stmt_of ss)))
   stmts-kept [] low rest h = (tt, h)
   stmts-kept (s ∷ ss) low rest h =
-      let p = stmt-kept s (first_part (is_lowered (viewed.stmt_of s)) _ low) (each_puts (map stmt_places ss) rest) h in
-      let q = stmts-kept ss (last_part (is_lowered (viewed.stmt_of s)) _ low) rest p.1 in ((p.0, q.0), q.1)
+      let more = pack_stmts (map stmt_of ss) in
+      let two = put-parts (stmt_of s) more low in
+      let p = stmt-kept s two.0 (each_puts (map stmt_places ss) rest) h in
+      let q = stmts-kept ss two.1 rest p.1 in (put-placed test (stmt_of s) more p.0 q.0, q.1)

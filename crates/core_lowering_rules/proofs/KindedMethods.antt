@@ -20,6 +20,7 @@ use Rattle.java_tree.specs.declared.unit.Member.TheVariants as member
 use Rattle.java_resolver.specs.declared.infos.MethodInfo.{MethodInfo}
 use Rattle.java_resolver.specs.Declarations.{class_names, kinds_of, is_constructor}
 use Rattle.java_resolver.specs.Words.{has_word}
+use Rattle.core_code.specs.declared.code.LockKind.TheVariants.{Own}
 use Rattle.core_code.specs.declared.code.Op.TheVariants.{PushClass, PushPrim, Drop}
 use Rattle.core_code.specs.declared.code.Reason.{Reason}
 use Rattle.core_code.specs.Tree.{Tree, Sync, LockAt, can_end, in_sequence}
@@ -165,7 +166,7 @@ module _ (core : Core) (m : Method) where
       Keeps core m (locked context b body)
   locked-keeps context s true x =
       let lock = owner context s context.scope.is_static refl in
-      followed core m lock.1 (runs.locked core m context.place lock.0 x)
+      followed core m lock.1 (runs.locked core m Own context.place lock.0 x)
   locked-keeps context s false x = x
 
   block-keeps : (context : Context) → Stands core m context → (ss : Stmts) → HasKinds m (after_all context ss) →

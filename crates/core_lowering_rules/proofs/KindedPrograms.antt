@@ -12,7 +12,6 @@ use Rattle.racer_base.specs.declared.ids.Kind.TheVariants as types
 use Rattle.java_tree.specs.declared.methods.MethodTree.{MethodTree}
 use Rattle.java_tree.specs.declared.methods.ResultTree.{ResultTree}
 use Rattle.java_tree.specs.declared.methods.ResultTree.TheVariants as result
-use Rattle.java_tree.specs.View.{method_of}
 use Rattle.java_tree.specs.declared.unit.Unit as unit_type
 use Rattle.java_tree.specs.declared.unit.ClassTree.{ClassTree}
 use Rattle.java_tree.specs.declared.unit.HeadResult.{HeadResult}
@@ -31,7 +30,7 @@ use Rattle.core_code.specs.Core.{Core, Method}
 use Rattle.core_code.specs.KindCheck.{is_kinded, are_kinded}
 use Rattle.core_code.proofs.BoolParts.{both}
 use Rattle.core_lowering_rules.specs.Context.{Folder}
-use Rattle.core_lowering_rules.specs.Methods.{Source, Default, Spelled, Unspelled}
+use Rattle.core_lowering_rules.specs.Methods.{Source, Default, Spelled, Unspelled, body_of}
 use Rattle.core_lowering_rules.specs.LoweredForms.{are_lowered}
 use Rattle.core_lowering_rules.specs.Programs.{member_sources, default_sources, class_sources, sources_of}
 use Rattle.core_lowering_rules.specs.Programs.{field_core, folder_of, method_core, method_cores, program_of}
@@ -135,7 +134,7 @@ body-right names info t false right = tt
 member-right : (names : List (List ℕ)) (c : ClassId) (tree : ClassTree) (x : Member) →
     Each (IsRightSource names) (member_sources names c tree x)
 member-right names c tree (member.Method t) = (
-  body-right names (method_info names c t) t (are_lowered (method_of t).body)
+  body-right names (method_info names c t) t (are_lowered (body_of t))
       (result-right names c t t.result refl, refl),
   tt,
 )

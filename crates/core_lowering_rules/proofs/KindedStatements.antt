@@ -9,6 +9,7 @@ use Rattle.racer_base.specs.declared.ids.Kind.{Kind}
 use Rattle.racer_base.specs.declared.ids.Kind.TheVariants as types
 use Rattle.java_tree.specs.Trees.{Ty}
 use Rattle.java_resolver.specs.declared.scope.ScopeVariable.{ScopeVariable}
+use Rattle.core_code.specs.declared.code.LockKind.TheVariants.{Own, Explicit}
 use Rattle.core_code.specs.declared.code.Op.TheVariants.{PushPrim, PushNull, Drop, Outside, Ret}
 use Rattle.core_code.specs.Core.{Core, Method}
 use Rattle.core_code.specs.Kinds.{StackKind, Plain, Declared, Null, Opaque, fits, kind_of}
@@ -16,7 +17,7 @@ use Rattle.core_code.specs.KindCheck.{variable_at, where_true}
 use Rattle.core_lowering_rules.specs.Trees.{Expr, Exprs, no_expr, expr_then, Init, Variable, Start, Declares}
 use Rattle.core_lowering_rules.specs.Trees.{Runs as RunsAll}
 use Rattle.core_lowering_rules.specs.Trees.{Stmt, Run, Local, If, IfElse, While, For, ForEach, Sync, Return, Block}
-use Rattle.core_lowering_rules.specs.Trees.{Empty}
+use Rattle.core_lowering_rules.specs.Trees.{Empty, Locked, Try, Apart}
 use Rattle.core_lowering_rules.specs.Trees.{Stmts, no_stmt, stmt_then}
 use Rattle.core_lowering_rules.specs.Context.{Context, Result, Itself, Nothing, Value, Code, op, choice, push_this}
 use Rattle.core_lowering_rules.specs.Context.{type_kind}
@@ -207,7 +208,7 @@ module _ (core : Core) (m : Method) where
     stmt-keeps context s (Sync place e ss) h =
         let own = same-kinds core m context (after_all context ss) h in
         let value = (code-leaves core m context s e).leaves [] in
-        followed core m value.2 (locked core m place value.0
+        followed core m value.2 (locked core m Own place value.0
         (followed core m (stmts-keep context s ss own) (closed-keeps context (after_all context ss) s
         (after_all-stands core m context ss s own))))
     stmt-keeps context s (Return e) h = returned-keeps context s e
@@ -216,6 +217,14 @@ module _ (core : Core) (m : Method) where
         followed core m (stmts-keep context s ss own) (closed-keeps context (after_all context ss) s
         (after_all-stands core m context ss s own))
     stmt-keeps context s Empty h = nothing core m []
+    stmt-keeps context s (Locked place e ss catches) h =
+        let own : HasKinds m (after_all context ss) = record { rest = h.rest; all = h.all } in
+        let value = (code-leaves core m context s e).leaves [] in
+        followed core m value.2 (locked core m Explicit place value.0
+        (followed core m (stmts-keep context s ss own) (closed-keeps context (after_all context ss) s
+        (after_all-stands core m context ss s own))))
+    stmt-keeps context s (Try ss catches finally) h = nothing core m []
+    stmt-keeps context s Apart h = nothing core m []
 
     pub stmts-keep : (context : Context) → Stands core m context → (ss : Stmts) → HasKinds m (after_all context ss) →
         Keeps (stmts context ss)

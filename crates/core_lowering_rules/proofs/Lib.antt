@@ -29,6 +29,7 @@ pub mod NamedCode
 pub mod NumbersInRange
 pub mod ProgramRanks
 pub mod LoweredTrees
+mod SeenTrees
 pub mod FilledTrees
 pub mod FilledExpressions
 pub mod FilledStatements

@@ -13,6 +13,7 @@ use Rattle.java_resolver.specs.declared.infos.FieldInfo.{FieldInfo}
 use Rattle.java_resolver.specs.declared.infos.MethodInfo.{MethodInfo}
 use Rattle.java_resolver.specs.TypeKinds.{class_named, kind_of}
 use Rattle.java_resolver.specs.Declarations.{class_names}
+use Rattle.core_code.specs.declared.code.LockKind.{LockKind}
 use Rattle.core_code.specs.declared.code.Op.{Op as CoreOp}
 use Rattle.core_code.specs.declared.code.Op.TheVariants.{Push, PushClass, PushPrim, PushNull, New, Dup, Drop, Get, Put}
 use Rattle.core_code.specs.declared.code.Op.TheVariants.{Set, Prim, Outside, Call, Unread, Ret, Throw}
@@ -72,7 +73,8 @@ pub record Fact : Type 1 where
   pub followed : (a b c d : Code) → Holds a c → Holds b d → Holds (a ++ b) (c ++ d)
   pub chosen : (a b c d : Code) → Holds a c → Holds b d → Holds (choice a b) (choice c d)
   pub looped : (a c : Code) → Holds a c → Holds (repeated a) (repeated c)
-  pub locked : (p : Place) (a c : Code) → tests.is_place p ≡ true → Holds a c → Holds (held p a) (held p c)
+  pub locked : (k : LockKind) (p : Place) (a c : Code) → tests.is_place p ≡ true → Holds a c →
+      Holds (held k p a) (held k p c)
   pub single : (p : Place) (o : CoreOp) → tests.is_place p ≡ true →
       is_named tests.is_class tests.is_method o ≡ true → Holds (op_at p o) (op_at p o)
   pub called : (p : Place) (m : MethodId) (n : ℕ) (a b : Bool) → tests.is_place p ≡ true → tests.is_method m ≡ true →
@@ -99,9 +101,9 @@ module _ (f : Fact) where
   pub again : {a c : Code} → f.Holds a c → f.Holds (repeated a) (repeated c)
   again {a} {c} p = f.looped a c p
 
-  pub under : {a c : Code} (place : Place) → f.tests.is_place place ≡ true → f.Holds a c →
-      f.Holds (held place a) (held place c)
-  under {a} {c} place there p = f.locked place a c there p
+  pub under : {a c : Code} (kind : LockKind) (place : Place) → f.tests.is_place place ≡ true → f.Holds a c →
+      f.Holds (held kind place a) (held kind place c)
+  under {a} {c} kind place there p = f.locked kind place a c there p
 
   pub by_test : {a b c d : Code} (test : Bool) → f.Holds a c → f.Holds b d →
       f.Holds (cond test a b) (cond test c d)

@@ -13,6 +13,7 @@ use Rattle.java_tree.specs.declared.unit.Member.{Member}
 use Rattle.java_tree.specs.declared.unit.Member.TheVariants as member
 use Rattle.java_resolver.specs.Declarations.{is_constructor}
 use Rattle.java_resolver.specs.Words.{has_word}
+use Rattle.core_code.specs.declared.code.LockKind.TheVariants.{Own}
 use Rattle.core_code.specs.declared.code.Reason.{Reason}
 use Rattle.core_code.specs.declared.code.Op.TheVariants.{Push, PushPrim, Drop, Outside, Ret}
 use Rattle.core_code.specs.Tree.{can_end, in_sequence}
@@ -34,6 +35,7 @@ use Rattle.core_lowering_rules.proofs.LoweredExpressions.{here, owner-pushed, as
 use Rattle.core_lowering_rules.proofs.LoweredStatements.{Beside, beside, stays-beside, after_all-beside, moved}
 use Rattle.core_lowering_rules.proofs.LoweredStatements.{returned-holds, block-holds}
 use Rattle.core_lowering_rules.proofs.KeptTrees.{init-kept, stmts-kept}
+use Rattle.core_lowering_rules.proofs.LoweredTrees.{parts-lowered}
 use Rattle.core_lowering_rules.proofs.KeptPlaces.{each-places, method-places, PlacedBody, PlacedSource}
 use Rattle.core_lowering_rules.proofs.ScopeSteps.{goes-parameters}
 use Rattle.core_lowering_rules.proofs.StatusesUnseen.{with_statuses, named-same}
@@ -141,7 +143,7 @@ module _ (f : Fact) (statuses : List (Option Reason)) where
 
   locked-holds : (c : Context) → Grounded f.tests c → (is_locked : Bool) {a b : Code} → f.Holds a b →
       f.Holds (locked (other c) is_locked a) (locked c is_locked b)
-  locked-holds c g true p = joined f (owner-pushed f statuses c g) (under f c.place g.here p)
+  locked-holds c g true p = joined f (owner-pushed f statuses c g) (under f Own c.place g.here p)
   locked-holds c g false p = p
 
   spelled-holds : (c : Context) → Grounded f.tests c → (xs : List Member) (t : MethodTree) →
@@ -149,7 +151,7 @@ module _ (f : Fact) (statuses : List (Option Reason)) where
       f.Holds (spelled_code (other c) xs t) (spelled_code c xs t)
   spelled-holds c g xs t h k =
       let places = method-places test t k.1 in
-      let ss = stmts-kept test t.body k.0 [] places.1 in
+      let ss = stmts-kept test t.body (parts-lowered (body_of t) k.0) [] places.1 in
       let body = locked-holds c g (has_word (codes "synchronized") t.modifiers)
       (block-holds f statuses (other c) c (beside f statuses g) (body_of t) ss.0) in
       by_test f (is_constructor t.result) (joined f (fields-hold c g xs h) body) body

@@ -1,22 +1,24 @@
 -- A fact of lowered code holds of the code of all statements. The list of a block goes on by one statement a row.
-use Rattle.std.proofs.Common.{◌≡◌, true, List, [], ◌∷◌, ◌++◌, Option, Some, None, refl, subst, sym, ap, ◌∙◌}
+use Rattle.std.proofs.Common.{◌≡◌, Bool, true, List, [], ◌∷◌, ◌++◌, Option, Some, None, refl, subst, sym, ap, ◌∙◌}
 use Rattle.std.specs.List.{flat_map}
 use Rattle.racer_base.specs.declared.ids.VarId.{VarId}
 use Rattle.racer_base.specs.declared.ids.Kind.{Kind}
 use Rattle.racer_base.specs.declared.ids.Kind.TheVariants as types
 use Rattle.java_tree.specs.declared.words.Ident.{Ident}
-use Rattle.java_tree.specs.Trees.{Ty}
+use Rattle.java_tree.specs.Trees.{Ty, Typed, Plain}
 use Rattle.java_resolver.specs.declared.scope.ScopeVariable.{ScopeVariable}
 use Rattle.core_code.specs.declared.code.Reason.{Reason}
+use Rattle.core_code.specs.declared.code.LockKind.TheVariants.{Own, Explicit}
 use Rattle.core_code.specs.declared.code.Op.{Op as CoreOp}
 use Rattle.core_code.specs.declared.code.Op.TheVariants.{PushPrim, PushNull, Drop, Set, Outside, Ret, Push}
 use Rattle.core_lowering_rules.specs.Trees.{Expr, Exprs, no_expr, expr_then, Init, Variable, Start, Declares, Runs}
 use Rattle.core_lowering_rules.specs.Trees.{Stmt, Run}
 use Rattle.core_lowering_rules.specs.Trees.{Local, If, IfElse, While, For, ForEach, Sync, Return, Block, Empty, Stmts}
-use Rattle.core_lowering_rules.specs.Trees.{no_stmt, stmt_then}
+use Rattle.core_lowering_rules.specs.Trees.{no_stmt, stmt_then, Locked, Try, Apart}
+use Rattle.core_lowering_rules.specs.Locks.{lock_kept, lock_noted}
 use Rattle.core_lowering_rules.specs.Context.{Context, Itself, Nothing, Value, Result, Code, op, type_kind}
 use Rattle.core_lowering_rules.specs.Expressions.{kind, code, init_kind}
-use Rattle.core_lowering_rules.specs.Scopes.{next_variable, started, back_in, after, after_all}
+use Rattle.core_lowering_rules.specs.Scopes.{next_variable, declared, started, back_in, after, after_all}
 use Rattle.core_lowering_rules.specs.Scopes.{new_variables}
 use Rattle.core_lowering_rules.specs.Statements.{run, run_all, run_some, set, begun, begun_all, start, cleared, closed}
 use Rattle.core_lowering_rules.specs.Statements.{returned_nothing, returned_value, returned, stmt, stmts}
@@ -80,6 +82,47 @@ module _ (f : Fact) (statuses : List (Option Reason)) where
             };
       }
 
+  -- the parameter of a catch clause; an array is of kind Other
+  pub names : (x c : Context) (name : Ident) → Pair x c →
+      Pair (declared x types.Other name) (declared c types.Other name)
+  names x c name b =
+      let g = b.grounded in
+      record {
+        same = ap (λ (y : Context). declared y types.Other name) b.same;
+        grounded =
+            record {
+              here = g.here;
+              class = g.class;
+              kinds =
+                  each-append (λ k. f.tests.is_kind k ≡ true) c.kinds (types.Other ∷ []) g.kinds
+                  (g.known.types (Typed (Plain []) 1), tt);
+              known = g.known;
+            };
+      }
+
+  noted : (c : Context) (o : Bool) → Grounded f.tests c → Grounded f.tests (record c { other_lock = o })
+  noted c o g =
+      record {
+        here = g.here;
+        class = g.class;
+        kinds = g.kinds;
+        known = g.known;
+      }
+
+  pub notes : (x c : Context) (e : Expr) → Pair x c → Pair (lock_noted x e) (lock_noted c e)
+  notes x c e b =
+      record {
+        same = ap (λ (y : Context). lock_noted y e) b.same;
+        grounded = noted c (lock_noted c e).other_lock b.grounded;
+      }
+
+  pub keeps : (x c y d : Context) → Pair x c → Pair y d → Pair (lock_kept x y) (lock_kept c d)
+  keeps x c y d b p =
+      record {
+        same = ap (λ (z : Context). lock_kept z y) b.same ∙ ap (λ (z : Context). lock_kept (other c) z) p.same;
+        grounded = noted c d.other_lock b.grounded;
+      }
+
   abbrev pub stays-beside : ScopeFact
   stays-beside =
       record {
@@ -88,6 +131,9 @@ module _ (f : Fact) (statuses : List (Option Reason)) where
         further = λ x c y d z e p q b. q (p b);
         declares = declares;
         backs = λ x c y d p b. backs x c y d b (p b);
+        names = λ x c name b. names x c name b;
+        notes = λ x c e b. notes x c e b;
+        keeps = λ x c y d p b. keeps x c y d b (p b);
       }
 
   after-beside : (x c : Context) → Pair x c → (s : Stmt) → Pair (after x s) (after c s)
@@ -230,10 +276,14 @@ module _ (f : Fact) (statuses : List (Option Reason)) where
         joined_3 f (run-holds x c b e h.0) (again f (joined f (element-holds x c b) (stmt-holds y d p s h.1)))
         (closed-holds x c (after y s) (after d s) b (after-beside y d p s))
     stmt-holds x c b (Sync place e ss) h =
-        joined f (expr-holds x c b e h.1) (under f place h.0 (blocked x c b ss (stmts-hold x c b ss h.2)))
+        joined f (expr-holds x c b e h.1) (under f Own place h.0 (blocked x c b ss (stmts-hold x c b ss h.2)))
     stmt-holds x c b (Return e) h = returned-holds x c b e h
     stmt-holds x c b (Block ss) h = blocked x c b ss (stmts-hold x c b ss h)
     stmt-holds x c b Empty h = f.nothing
+    stmt-holds x c b (Locked place e ss catches) h =
+        joined f (expr-holds x c b e h.1) (under f Explicit place h.0 (blocked x c b ss (stmts-hold x c b ss h.2)))
+    stmt-holds x c b (Try ss catches finally) h = f.nothing
+    stmt-holds x c b Apart h = f.nothing
 
     stmts-hold : (x c : Context) → Pair x c → (ss : Stmts) → PlacedStmts f.tests.is_place ss →
         f.Holds (stmts x ss) (stmts c ss)

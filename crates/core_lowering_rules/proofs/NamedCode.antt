@@ -96,7 +96,7 @@ likeness =
       followed = both;
       chosen = choices;
       looped = λ a c h. record { same = inside a c h };
-      locked = λ p a c there h. record { same = inside a c h };
+      locked = λ k p a c there h. record { same = inside a c h };
       single = λ p o h k. record { same = refl };
       called = λ p m n a b h k. record { same = call-named p m n a ∙ sym (call-named p m n b) };
       missing = λ p o h k quiet. record { same = sym (ap (λ (ms : List MethodId). (ms ++ []) ++ []) quiet) };

@@ -1,5 +1,8 @@
 -- Trees that are lowered, all of whose places pass a test.
-use Rattle.std.proofs.Common.{Bool, true, List, [], ◌∷◌, Option, Some, None, ◌≡◌}
+use Rattle.std.proofs.Common.{Bool, true, false, ◌&&◌, if◌then◌else◌, List, [], ◌∷◌, Option, Some, None, ◌≡◌, codes}
+use Rattle.std.proofs.Common.{refl, subst}
+use Rattle.std.specs.Prelude.{bytes_eq}
+use Rattle.java_tree.specs.declared.words.Ident.{Ident}
 use Rattle.racer_base.specs.declared.ids.Place.{Place}
 use Rattle.core_lowering_rules.specs.Trees.{Expr, Text, This, ClassOf, Read, Unary, Cast, Binary, Logical, Conditional}
 use Rattle.core_lowering_rules.specs.Trees.{Assign, Combine, Count, Call, CallOn, New, NewArray, NewItems, Paren}
@@ -9,8 +12,16 @@ use Rattle.core_lowering_rules.specs.Trees.{Value, Items}
 use Rattle.core_lowering_rules.specs.Trees.{Inits, no_init, init_then, Variable, Start, Declares, Runs, Stmt, Run}
 use Rattle.core_lowering_rules.specs.Trees.{Local, If}
 use Rattle.core_lowering_rules.specs.Trees.{IfElse, While, For, ForEach, Sync, Return, Block, Empty, Stmts, no_stmt}
-use Rattle.core_lowering_rules.specs.Trees.{stmt_then}
+use Rattle.core_lowering_rules.specs.Trees.{stmt_then, Locked, Try, Apart, Catches, no_catch, catch_then, plain_call}
+use Rattle.core_lowering_rules.specs.Trees.{run_call, do_unlock, lock_of, lock_before, joined, put_before}
 use Rattle.core_lowering_rules.specs.Trees as tree
+
+some-same : {A : Type 0} {x y : A} → Some x ≡ Some y → x ≡ y
+some-same e = cc
+
+chosen-same : {A : Type 0} (b : Bool) (x y : A) → (if b then Some x else None) ≡ Some y → x ≡ y
+chosen-same true x y e = some-same e
+chosen-same false x y e = absurd cc
 
 abbrev pub Passes : (Place → Bool) → Place → Type 0
 Passes test place = test place ≡ true
@@ -86,7 +97,100 @@ abbrev mutual
   PlacedStmt test (Return e) = PlacedOption test e
   PlacedStmt test (Block ss) = PlacedStmts test ss
   PlacedStmt test Empty = Unit {0}
+  PlacedStmt test (Locked place e ss catches) =
+      Passes test place × PlacedExpr test e × PlacedStmts test ss × PlacedCatches test catches
+  PlacedStmt test (Try ss catches finally) = PlacedStmts test ss × PlacedCatches test catches × PlacedStmts test finally
+  PlacedStmt test Apart = Unit {0}
 
   pub PlacedStmts : (Place → Bool) → Stmts → Type 0
   PlacedStmts test no_stmt = Unit {0}
   PlacedStmts test (stmt_then s ss) = PlacedStmt test s × PlacedStmts test ss
+
+  pub PlacedCatches : (Place → Bool) → Catches → Type 0
+  PlacedCatches test no_catch = Unit {0}
+  PlacedCatches test (catch_then x ss catches) = PlacedStmts test ss × PlacedCatches test catches
+
+-- ---- two statements that are one
+
+module _ (test : Place → Bool) where
+  abbrev PlacedCall : Expr × Ident → Type 0
+  PlacedCall call = PlacedExpr test call.0 × Passes test call.1.place
+
+  call-placed : (e : Expr) (call : Expr × Ident) → PlacedExpr test e → plain_call e ≡ Some call → PlacedCall call
+  call-placed (CallOn e x no_expr) call p is =
+      let same : Some (e, x) ≡ Some call = is in
+      let one : (e, x) ≡ call = some-same same in
+      subst PlacedCall one (p.0, p.1)
+  call-placed tree.Prim call p is = absurd cc
+  call-placed Text call p is = absurd cc
+  call-placed tree.Null call p is = absurd cc
+  call-placed This call p is = absurd cc
+  call-placed (ClassOf xs) call p is = absurd cc
+  call-placed (Read a) call p is = absurd cc
+  call-placed (Unary e) call p is = absurd cc
+  call-placed (Cast t e) call p is = absurd cc
+  call-placed (Binary a b) call p is = absurd cc
+  call-placed (Logical a b) call p is = absurd cc
+  call-placed (Conditional c a b) call p is = absurd cc
+  call-placed (Assign a e) call p is = absurd cc
+  call-placed (Combine a e) call p is = absurd cc
+  call-placed (Count a) call p is = absurd cc
+  call-placed (Call x es) call p is = absurd cc
+  call-placed (New place t es) call p is = absurd cc
+  call-placed (NewArray place lengths) call p is = absurd cc
+  call-placed (NewItems place items) call p is = absurd cc
+  call-placed (Paren e) call p is = absurd cc
+  call-placed (CallOn e x (expr_then f fs)) call p is = absurd cc
+
+  run-placed : (s : Stmt) (call : Expr × Ident) → PlacedStmt test s → run_call s ≡ Some call → PlacedCall call
+  run-placed (Run e) call p is = call-placed e call p is
+  run-placed (Local t vs) call p is = absurd cc
+  run-placed (If e s) call p is = absurd cc
+  run-placed (IfElse e s t) call p is = absurd cc
+  run-placed (While e s) call p is = absurd cc
+  run-placed (For i e updates s) call p is = absurd cc
+  run-placed (ForEach t x e s) call p is = absurd cc
+  run-placed (Sync place e ss) call p is = absurd cc
+  run-placed (Return e) call p is = absurd cc
+  run-placed (Block ss) call p is = absurd cc
+  run-placed Empty call p is = absurd cc
+  run-placed (Locked place e ss catches) call p is = absurd cc
+  run-placed (Try ss catches finally) call p is = absurd cc
+  run-placed Apart call p is = absurd cc
+
+  abbrev PlacedLock : Place × Expr → Type 0
+  PlacedLock lock = Passes test lock.0 × PlacedExpr test lock.1
+
+  lock-placed : (s : Stmt) (finally : Stmts) (lock : Place × Expr) (o : Option (Expr × Ident)) → PlacedStmt test s →
+      run_call s ≡ o → lock_of o finally ≡ Some lock → PlacedLock lock
+  lock-placed s finally lock None p called is = absurd cc
+  lock-placed s finally lock (Some call) p called is =
+      let placed = run-placed s call p called in
+      let test_of = bytes_eq call.1.text (codes "lock") && do_unlock call.0 finally in
+      subst PlacedLock (chosen-same test_of (call.1.place, call.0) lock is) (placed.1, placed.0)
+
+  joined-placed : (s : Stmt) (body : Stmts) (catches : Catches) (finally rest : Stmts) (o : Option (Place × Expr)) →
+      lock_before s finally ≡ o → PlacedStmt test s → PlacedStmts test (stmt_then (Try body catches finally) rest) →
+      PlacedStmts test (joined o s body catches finally rest)
+  joined-placed s body catches finally rest None is p q = (p, q)
+  joined-placed s body catches finally rest (Some lock) is p q =
+      let l = lock-placed s finally lock (run_call s) p refl is in ((l.0, l.1, q.0.0, q.0.1), q.1)
+
+  pub put-placed : (s : Stmt) (ss : Stmts) → PlacedStmt test s → PlacedStmts test ss →
+      PlacedStmts test (put_before s ss)
+  put-placed s no_stmt p q = (p, q)
+  put-placed s (stmt_then (Try body catches finally) rest) p q =
+      joined-placed s body catches finally rest (lock_before s finally) refl p q
+  put-placed s (stmt_then (Run e) ss) p q = (p, q)
+  put-placed s (stmt_then (Local t vs) ss) p q = (p, q)
+  put-placed s (stmt_then (If e u) ss) p q = (p, q)
+  put-placed s (stmt_then (IfElse e u v) ss) p q = (p, q)
+  put-placed s (stmt_then (While e u) ss) p q = (p, q)
+  put-placed s (stmt_then (For i e updates u) ss) p q = (p, q)
+  put-placed s (stmt_then (ForEach t x e u) ss) p q = (p, q)
+  put-placed s (stmt_then (Sync place e us) ss) p q = (p, q)
+  put-placed s (stmt_then (Return e) ss) p q = (p, q)
+  put-placed s (stmt_then (Block us) ss) p q = (p, q)
+  put-placed s (stmt_then Empty ss) p q = (p, q)
+  put-placed s (stmt_then (Locked place e us catches) ss) p q = (p, q)
+  put-placed s (stmt_then Apart ss) p q = (p, q)

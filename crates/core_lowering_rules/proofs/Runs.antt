@@ -11,6 +11,7 @@ use Rattle.racer_base.specs.declared.ids.Kind.{Kind}
 use Rattle.racer_base.specs.declared.ids.Kind.TheVariants as types
 use Rattle.racer_base.specs.declared.ids.ClassId.{ClassId}
 use Rattle.racer_base.specs.declared.ids.Place.{Place}
+use Rattle.core_code.specs.declared.code.LockKind.{LockKind}
 use Rattle.core_code.specs.declared.code.Op.{Op as CoreOp}
 use Rattle.core_code.specs.declared.code.Op.TheVariants.{Outside}
 use Rattle.core_code.specs.Tree.{Tree, Op, Choice, Loop, Sync, Operation, in_sequence, steps_of}
@@ -23,7 +24,7 @@ use Rattle.core_code.specs.KindCheck.{Kinds, and_then, where_true, after_popping
 use Rattle.core_code.specs.KindCheck.{same_stack}
 use Rattle.core_lowering_rules.specs.ValueKinds.{ValueKind, Of}
 use Rattle.core_lowering_rules.specs.ValueKinds as value
-use Rattle.core_lowering_rules.specs.Context.{Context, Code, op_at, op, choice, own_at, repeated, held, converted}
+use Rattle.core_lowering_rules.specs.Context.{Context, Code, op_at, op, choice, lock_at, repeated, held, converted}
 use Rattle.core_lowering_rules.proofs.Suits.{Suits, class_equal}
 
 -- what goes on from a value that is there
@@ -236,8 +237,10 @@ module _ (core : Core) (m : Method) where
       (ap (λ (o : Kinds). and_then o (λ after. where_true (same_stack [] after) [])) (whole x))
       (ap (same_height (Some 0)) (whole_high x)) (whole_calls x)
 
-  pub locked : (place : Place) (lock : StackKind) {a : Code} → Runs a [] [] → Runs (held place a) (lock ∷ []) []
-  locked place lock {a} x = part-runs (Sync (own_at place) (in_sequence a)) (whole x) (whole_high x) (whole_calls x)
+  pub locked : (kind : LockKind) (place : Place) (lock : StackKind) {a : Code} → Runs a [] [] →
+      Runs (held kind place a) (lock ∷ []) []
+  locked kind place lock {a} x =
+      part-runs (Sync (lock_at kind place) (in_sequence a)) (whole x) (whole_high x) (whole_calls x)
 
   -- ---- values
 

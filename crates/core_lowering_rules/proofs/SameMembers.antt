@@ -31,7 +31,7 @@ use Rattle.java_tree.specs.SameUnits.{SameMember, SameClass}
 use Rattle.java_resolver.specs.declared.infos.ClassInfo.{ClassInfo}
 use Rattle.java_resolver.specs.declared.infos.FieldInfo.{FieldInfo}
 use Rattle.java_resolver.specs.declared.infos.MethodInfo.{MethodInfo}
-use Rattle.java_resolver.specs.TypeKinds.{kind_of}
+use Rattle.java_resolver.specs.TypeKinds.{kind_of, is_other, is_lock_type}
 use Rattle.java_resolver.specs.Words.{has_word, is_annotated}
 use Rattle.java_resolver.specs.Declarations.{has_synchronized, has_annotation, is_checked, class_info, field_info}
 use Rattle.java_resolver.specs.Declarations.{member_fields, class_fields, constructor_name, result_kind, is_constructor}
@@ -118,6 +118,7 @@ module _ (names : List (List ℕ)) (c : ClassId) where
         is_static = has_word (codes "static") ms;
         is_final = has_word (codes "final") ms;
         is_volatile = has_word (codes "volatile") ms;
+        is_lock = has_word (codes "final") ms && is_other (kind_of names t) && is_lock_type t;
       }
 
   variables-alike : (f g : FieldTree) → SameField f g

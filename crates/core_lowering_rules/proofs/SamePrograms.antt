@@ -38,7 +38,7 @@ use Rattle.core_lowering_rules.proofs.ZippedLists.{same_3, zip-map, zip-flat, zi
 use Rattle.core_lowering_rules.proofs.SameMembers.{by-form, class-alike, class_fields-alike, class_methods-alike}
 use Rattle.core_lowering_rules.proofs.SameSources.{SameSource, class_sources-same, method_code-alike}
 use Rattle.core_lowering_rules.proofs.SameSources.{method_kinds-alike}
-use Rattle.core_lowering_rules.proofs.SameSources.{unspelled-alike}
+use Rattle.core_lowering_rules.proofs.SameSources.{outside-alike}
 
 -- ---- class by class
 
@@ -65,9 +65,9 @@ by_class-same f one n (a ∷ us) (b ∷ vs) h =
 -- ---- method by method
 
 abbrev status_with : Folder → Bool → MethodInfo → Bool → List Kind → Option Reason
-status_with folder recursive i unspelled kinds =
+status_with folder recursive i outside kinds =
     option_or (where_so (is_overloaded folder.methods i) Overload)
-    (option_or (where_so unspelled Outside)
+    (option_or (where_so outside Outside)
     (option_or (where_so (nat_lt MAX_PARAMETERS (length i.parameters)) Parameters)
     (option_or
     (where_so (nat_lt MAX_LOCALS (length kinds - length (this_kinds i) - length i.parameters)) Locals)
@@ -76,7 +76,7 @@ status_with folder recursive i unspelled kinds =
 status-alike : (folder : Folder) (recursive : Bool) (s t : Source) → SameSource s t
     → status_of folder recursive s ≡ status_of folder recursive t
 status-alike folder recursive s t same =
-    same_3 (status_with folder recursive) same.info (unspelled-alike s.body t.body same.body)
+    same_3 (status_with folder recursive) same.info (outside-alike folder s t same)
     (method_kinds-alike folder s t same)
 
 statuses-alike : (folder : Folder) (r : MethodId → Bool) (n : ℕ) (ss ts : List Source) → AllZip SameSource ss ts

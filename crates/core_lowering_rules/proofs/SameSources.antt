@@ -1,5 +1,5 @@
 -- Methods that are the same have the same code and variables.
-use Rattle.std.proofs.Common.{◌≡◌, ℕ, Bool, true, false, cond, List, [], ◌∷◌, ◌++◌, codes, map}
+use Rattle.std.proofs.Common.{◌≡◌, ℕ, Bool, true, false, ◌||◌, cond, List, [], ◌∷◌, ◌++◌, codes, map}
 use Rattle.std.proofs.Common.{refl, ap, ap₂, sym, ◌∙◌, subst}
 use Rattle.std.specs.List.{AllZip, flat_map, list_any}
 use Rattle.racer_base.specs.declared.ids.ClassId.{ClassId}
@@ -15,7 +15,7 @@ use Rattle.java_tree.specs.declared.methods.ParameterTree.{ParameterTree}
 use Rattle.java_tree.specs.declared.methods.ResultTree.{ResultTree}
 use Rattle.java_tree.specs.declared.methods.ResultTree.TheVariants as result
 use Rattle.java_tree.specs.Trees as view
-use Rattle.java_tree.specs.View.{ty_of, result_of, method_of}
+use Rattle.java_tree.specs.View.{ty_of, result_of}
 use Rattle.java_tree.specs.declared.unit.ClassTree.{ClassTree}
 use Rattle.java_tree.specs.declared.unit.Member.{Member}
 use Rattle.java_tree.specs.declared.unit.Member.TheVariants as member
@@ -32,14 +32,15 @@ use Rattle.core_lowering_rules.specs.Scopes.{declared, after_all}
 use Rattle.core_lowering_rules.specs.Methods.{Body, Default, Spelled, Unspelled, Source, this_kinds, entered}
 use Rattle.core_lowering_rules.specs.Methods.{parameters_declared, field_begun, member_begun, fields_begun, body_of}
 use Rattle.core_lowering_rules.specs.Methods.{block}
-use Rattle.core_lowering_rules.specs.Methods.{locked, ended, spelled_code, code_in, method_code, kinds_in}
-use Rattle.core_lowering_rules.specs.Methods.{method_kinds}
+use Rattle.core_lowering_rules.specs.Methods.{locked, body_code, ended, spelled_code, code_in, method_code, kinds_in}
+use Rattle.core_lowering_rules.specs.Methods.{method_kinds, other_lock_in, has_other_lock}
 use Rattle.core_lowering_rules.specs.Methods as methods
 use Rattle.core_lowering_rules.specs.LoweredForms.{are_lowered, method_body}
-use Rattle.core_lowering_rules.specs.Programs.{member_sources, default_sources, class_sources, is_unspelled}
+use Rattle.core_lowering_rules.specs.Programs.{member_sources, default_sources, class_sources, is_unspelled, is_outside}
 use Rattle.core_code.specs.declared.code.Op.TheVariants.{Drop}
 use Rattle.core_lowering_rules.proofs.FilledMethods.{SeenParameter, Seen, seen_parameter, seen, same_seen, same_body}
 use Rattle.core_lowering_rules.proofs.FilledMethods.{same_initialiser}
+use Rattle.core_lowering_rules.proofs.LoweredTrees.{parts-lowered}
 use Rattle.core_lowering_rules.proofs.ZippedLists.{same_4, zip-flat, zip-append, zip-zips, zip-unless}
 use Rattle.core_lowering_rules.proofs.SameMembers.{by-form, same_modifiers, constructor-alike, modifiers-alike}
 use Rattle.core_lowering_rules.proofs.SameMembers.{constructs-alike, method-alike, head-alike, default-alike}
@@ -48,7 +49,7 @@ use Rattle.core_lowering_rules.proofs.SameMembers.{constructs-alike, method-alik
 
 abbrev pub SameBody : Body → Body → Type 0
 SameBody Default Default = Unit {0}
-SameBody (Spelled m) (Spelled n) = SameMethod m n × (are_lowered (method_of m).body ≡ true)
+SameBody (Spelled m) (Spelled n) = SameMethod m n × (are_lowered (body_of m) ≡ true)
 SameBody Unspelled Unspelled = Unit {0}
 SameBody _ _ = ⊥
 
@@ -57,15 +58,20 @@ pub record SameSource (s t : Source) : Type 0 where
   pub members : AllZip SameMember s.members t.members
   pub body : SameBody s.body t.body
 
-either-same : (b : Bool) (m n : MethodTree) → are_lowered (method_of m).body ≡ b → SameMethod m n
-    → SameBody (cond b (Spelled m) Unspelled) (cond b (Spelled n) Unspelled)
-either-same true m n low h = (h, low)
-either-same false m n low h = tt
+-- of two methods that are the same, both are lowered or neither
+either-same : (b c : Bool) (m n : MethodTree) → are_lowered (body_of m) ≡ b → are_lowered (body_of n) ≡ c
+    → SameMethod m n → SameBody (cond b (Spelled m) Unspelled) (cond c (Spelled n) Unspelled)
+either-same true true m n low lower h = (h, low)
+either-same true false m n low lower h =
+    let one : true ≡ false =
+    sym low ∙ ap are_lowered (same_body m n h.0 h.1 (parts-lowered (body_of m) low)) ∙ lower in absurd cc
+either-same false true m n low lower h =
+    let one : true ≡ false =
+    sym lower ∙ ap are_lowered (same_body n m (sym h.0) (sym h.1) (parts-lowered (body_of n) lower)) ∙ low in absurd cc
+either-same false false m n low lower h = tt
 
 bodies-same : (m n : MethodTree) → SameMethod m n → SameBody (method_body m) (method_body n)
-bodies-same m n h =
-    subst (λ b. SameBody (method_body m) (cond b (Spelled n) Unspelled))
-    (ap (λ (v : view.Method). are_lowered v.body) h.0) (either-same (are_lowered (method_of m).body) m n refl h)
+bodies-same m n h = either-same (are_lowered (body_of m)) (are_lowered (body_of n)) m n refl refl h
 
 module _ (names : List (List ℕ)) (c : ClassId) (a b : ClassTree) (same : SameClass a b) where
   members-same : (x y : Member) → SameMember x y
@@ -177,7 +183,7 @@ code-alike context s t h (Spelled m) (Spelled n) k =
     (parameters-alike context m n (same_seen m n k.0.0 k.0.1))
     ∙ ap (ended context)
     (spelled-alike (parameters_declared context n.parameters) s.members t.members h m n k.0
-    (same_body m n k.0.0 k.0.1 k.1))
+    (same_body m n k.0.0 k.0.1 (parts-lowered (body_of m) k.1)))
 code-alike context s t h (Spelled m) Unspelled k = absurd k
 code-alike context s t h Unspelled Default k = absurd k
 code-alike context s t h Unspelled (Spelled n) k = absurd k
@@ -191,7 +197,7 @@ kinds-alike context s t e Default Unspelled k = absurd k
 kinds-alike context s t e (Spelled m) Default k = absurd k
 kinds-alike context s t e (Spelled m) (Spelled n) k =
     ap₂ (λ inside ss. (after_all inside ss).kinds) (parameters-alike context m n (same_seen m n k.0.0 k.0.1))
-    (same_body m n k.0.0 k.0.1 k.1)
+    (same_body m n k.0.0 k.0.1 (parts-lowered (body_of m) k.1))
 kinds-alike context s t e (Spelled m) Unspelled k = absurd k
 kinds-alike context s t e Unspelled Default k = absurd k
 kinds-alike context s t e Unspelled (Spelled n) k = absurd k
@@ -229,6 +235,7 @@ entered_by folder i r =
       result = r;
       scope = record { class = i.class; is_static = i.is_static; variables = [] };
       kinds = this_kinds i;
+      other_lock = false;
     }
 
 entered-alike : (folder : Folder) (s t : Source) → SameSource s t → entered folder s ≡ entered folder t
@@ -258,3 +265,26 @@ unspelled-alike (Spelled m) Unspelled k = absurd k
 unspelled-alike Unspelled Default k = absurd k
 unspelled-alike Unspelled (Spelled n) k = absurd k
 unspelled-alike Unspelled Unspelled k = refl
+
+other_lock-in_same : (context : Context) (s t : Source) (x y : Body) → SameBody x y →
+    other_lock_in context x ≡ other_lock_in context y
+other_lock-in_same context s t Default Default k = refl
+other_lock-in_same context s t Default (Spelled n) k = absurd k
+other_lock-in_same context s t Default Unspelled k = absurd k
+other_lock-in_same context s t (Spelled m) Default k = absurd k
+other_lock-in_same context s t (Spelled m) (Spelled n) k =
+    ap₂ (λ inside ss. (after_all inside ss).other_lock) (parameters-alike context m n (same_seen m n k.0.0 k.0.1))
+    (same_body m n k.0.0 k.0.1 (parts-lowered (body_of m) k.1))
+other_lock-in_same context s t (Spelled m) Unspelled k = absurd k
+other_lock-in_same context s t Unspelled Default k = absurd k
+other_lock-in_same context s t Unspelled (Spelled n) k = absurd k
+other_lock-in_same context s t Unspelled Unspelled k = refl
+
+other_lock-alike : (folder : Folder) (s t : Source) → SameSource s t → has_other_lock folder s ≡ has_other_lock folder t
+other_lock-alike folder s t same =
+    ap (λ context. other_lock_in context s.body) (entered-alike folder s t same)
+    ∙ other_lock-in_same (entered folder t) s t s.body t.body same.body
+
+pub outside-alike : (folder : Folder) (s t : Source) → SameSource s t → is_outside folder s ≡ is_outside folder t
+outside-alike folder s t same =
+    ap₂ (λ a b. a || b) (unspelled-alike s.body t.body same.body) (other_lock-alike folder s t same)

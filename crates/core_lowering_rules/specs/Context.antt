@@ -17,7 +17,7 @@ use Rattle.java_resolver.specs.TypeKinds.{kind_of}
 use Rattle.core_code.specs.declared.code.Op.{Op as CoreOp}
 use Rattle.core_code.specs.declared.code.Op.TheVariants.{Push, PushClass, Outside}
 use Rattle.core_code.specs.declared.code.Reason.{Reason}
-use Rattle.core_code.specs.declared.code.LockKind.TheVariants.{Own}
+use Rattle.core_code.specs.declared.code.LockKind.{LockKind}
 use Rattle.core_code.specs.Tree.{LockAt, Tree, Op, Choice, Loop, Sync, in_sequence}
 use Rattle.core_lowering_rules.specs.ValueKinds.{ValueKind, is_converted}
 
@@ -36,13 +36,15 @@ pub data Result : Type 0 where
   Nothing : Result
   Value : Kind → Result
 
--- the folder; of the method its place and what it gives; the variables in scope; the kinds of all variables so far
+-- the folder; of the method its place and what it gives; the variables in scope; the kinds of all variables so far, and
+-- whether a locked try so far stands behind the lock of what is no lock field
 pub record Context : Type 0 where
   pub folder : Folder
   pub place : Place
   pub result : Result
   pub scope : Scope
   pub kinds : List Kind
+  pub other_lock : Bool
 
 -- the kind of a type that is written there
 abbrev pub type_kind : Context → Ty → Kind
@@ -74,12 +76,12 @@ choice left right = Choice (in_sequence left) (in_sequence right) ∷ []
 abbrev pub repeated : Code → Code
 repeated body = Loop (in_sequence body) ∷ []
 
--- the monitor of an object, locked at this place
-abbrev pub own_at : Place → LockAt
-own_at place = record { place = place; kind = Own }
+-- the monitor of an object, or its explicit lock, locked at this place
+abbrev pub lock_at : LockKind → Place → LockAt
+lock_at kind place = record { place = place; kind = kind }
 
-abbrev pub held : Place → Code → Code
-held place body = Sync (own_at place) (in_sequence body) ∷ []
+abbrev pub held : LockKind → Place → Code → Code
+held kind place body = Sync (lock_at kind place) (in_sequence body) ∷ []
 
 -- what a value of this kind goes through on its way to a kind
 abbrev pub converted : Context → Kind → ValueKind → Code

@@ -6,6 +6,7 @@ pub mod Context
 pub mod Assignments
 pub mod Calls
 pub mod Expressions
+pub mod Locks
 pub mod Scopes
 pub mod Statements
 pub mod Methods

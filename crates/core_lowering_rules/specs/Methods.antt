@@ -18,6 +18,7 @@ use Rattle.java_tree.specs.declared.unit.Member.TheVariants as member
 use Rattle.java_resolver.specs.declared.infos.MethodInfo.{MethodInfo}
 use Rattle.java_resolver.specs.Declarations.{is_constructor}
 use Rattle.java_resolver.specs.Words.{has_word}
+use Rattle.core_code.specs.declared.code.LockKind.TheVariants.{Own}
 use Rattle.core_code.specs.declared.code.Op.TheVariants.{PushPrim, Drop, Outside}
 use Rattle.core_code.specs.Tree.{can_end, in_sequence}
 use Rattle.core_lowering_rules.specs.Trees.{Stmts, pack_stmts}
@@ -69,6 +70,7 @@ entered folder s =
       result = result_of s.info.result s.body;
       scope = record { class = s.info.class; is_static = s.info.is_static; variables = [] };
       kinds = this_kinds s.info;
+      other_lock = false;
     }
 
 abbrev pub parameters_declared : Context → List ParameterTree → Context
@@ -113,7 +115,7 @@ abbrev pub block : Context → Stmts → Code
 block context ss = stmts context ss ++ closed context (after_all context ss)
 
 abbrev pub locked : Context → Bool → Code → Code
-locked context true body = push_owner context ++ held context.place body
+locked context true body = push_owner context ++ held Own context.place body
 locked context false body = body
 
 abbrev pub body_code : Context → MethodTree → Code
@@ -147,3 +149,13 @@ kinds_in context s Unspelled = context.kinds ++ s.info.parameters
 -- the kinds of all variables of a method
 abbrev pub method_kinds : Folder → Source → List Kind
 method_kinds folder s = kinds_in (entered folder s) s s.body
+
+-- ---- locks
+
+abbrev pub other_lock_in : Context → Body → Bool
+other_lock_in context (Spelled m) = (after_all (parameters_declared context m.parameters) (body_of m)).other_lock
+other_lock_in context _ = false
+
+-- whether a locked try of a method stands behind the lock of what is no lock field
+abbrev pub has_other_lock : Folder → Source → Bool
+has_other_lock folder s = other_lock_in (entered folder s) s.body

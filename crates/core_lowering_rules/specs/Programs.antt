@@ -29,6 +29,7 @@ use Rattle.core_code.specs.CalleeRows.{different}
 use Rattle.core_code.specs.Chains.{flag_of}
 use Rattle.core_lowering_rules.specs.Context.{Folder}
 use Rattle.core_lowering_rules.specs.Methods.{Body, Default, Unspelled, Source, this_kinds, method_code, method_kinds}
+use Rattle.core_lowering_rules.specs.Methods.{has_other_lock}
 use Rattle.core_lowering_rules.specs.LoweredForms.{method_body}
 use Rattle.core_lowering_rules.specs.Sites.{numbered}
 
@@ -58,9 +59,10 @@ abbrev pub is_unspelled : Body → Bool
 is_unspelled Unspelled = true
 is_unspelled _ = false
 
--- whether a method is outside the subset: no tree spells it, or a statement in it is not lowered
+-- whether a method is outside the subset: no tree spells it, a statement in it is not lowered, or it locks what is no
+-- lock field
 abbrev pub is_outside : Folder → Source → Bool
-is_outside folder s = is_unspelled s.body
+is_outside folder s = is_unspelled s.body || has_other_lock folder s
 
 -- whether another method of its class has its name and its number of parameters
 abbrev pub is_overloaded : List MethodInfo → MethodInfo → Bool

@@ -2,11 +2,14 @@
 use Rattle.std.specs.Prelude.{List, [], ◌∷◌, ◌++◌, drop, length}
 use Rattle.racer_base.specs.declared.ids.VarId.{VarId}
 use Rattle.racer_base.specs.declared.ids.Kind.{Kind}
+use Rattle.racer_base.specs.declared.ids.Kind.TheVariants.{Other}
 use Rattle.java_tree.specs.declared.words.Ident.{Ident}
 use Rattle.java_resolver.specs.declared.scope.ScopeVariable.{ScopeVariable}
 use Rattle.core_lowering_rules.specs.Trees.{Variable, Start, Declares, Runs, Stmt, Run, Local, If, IfElse, While, For}
-use Rattle.core_lowering_rules.specs.Trees.{ForEach, Sync, Return, Block, Empty, Stmts, no_stmt, stmt_then}
+use Rattle.core_lowering_rules.specs.Trees.{ForEach, Sync, Return, Block, Empty, Locked, Try, Apart, Stmts, no_stmt}
+use Rattle.core_lowering_rules.specs.Trees.{stmt_then, Catches, no_catch, catch_then}
 use Rattle.core_lowering_rules.specs.Context.{Context, type_kind}
+use Rattle.core_lowering_rules.specs.Locks.{lock_kept, lock_noted}
 
 -- the next variable
 abbrev pub next_variable : Context → VarId
@@ -52,7 +55,18 @@ abbrev mutual
   after context (Return e) = context
   after context (Block ss) = back_in context (after_all context ss)
   after context Empty = context
+  after context (Locked place e ss catches) =
+      let behind = lock_noted (back_in context (after_all context ss)) e in
+      lock_kept behind (caught behind catches)
+  after context (Try ss catches finally) = context
+  after context Apart = context
 
   pub after_all : Context → Stmts → Context
   after_all context no_stmt = context
   after_all context (stmt_then s ss) = after_all (after context s) ss
+
+  -- catch clauses are not lowered: of their locks alone something is known
+  pub caught : Context → Catches → Context
+  caught context no_catch = context
+  caught context (catch_then x ss catches) =
+      caught (lock_kept context (after_all (declared context Other x) ss)) catches

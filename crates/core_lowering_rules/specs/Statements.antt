@@ -5,11 +5,12 @@ use Rattle.racer_base.specs.declared.ids.VarId.{VarId}
 use Rattle.racer_base.specs.declared.ids.Kind.{Kind}
 use Rattle.racer_base.specs.declared.ids.Kind.TheVariants as kinds
 use Rattle.java_resolver.specs.declared.scope.ScopeVariable.{ScopeVariable}
+use Rattle.core_code.specs.declared.code.LockKind.TheVariants.{Own, Explicit}
 use Rattle.core_code.specs.declared.code.Op.TheVariants.{PushPrim, PushNull, Drop, Set, Outside, Ret}
 use Rattle.core_lowering_rules.specs.Trees.{Expr, Exprs, no_expr, expr_then, Init, Variable, Start, Declares, Runs}
 use Rattle.core_lowering_rules.specs.Trees.{Stmt, Run}
 use Rattle.core_lowering_rules.specs.Trees.{Local, If, IfElse, While, For, ForEach, Sync, Return, Block, Empty, Stmts}
-use Rattle.core_lowering_rules.specs.Trees.{no_stmt, stmt_then}
+use Rattle.core_lowering_rules.specs.Trees.{Locked, Try, Apart, no_stmt, stmt_then}
 use Rattle.core_lowering_rules.specs.Context.{Context, Itself, Nothing, Value, Code, op, choice, repeated, held}
 use Rattle.core_lowering_rules.specs.Context.{converted}
 use Rattle.core_lowering_rules.specs.Context.{Result}
@@ -95,10 +96,14 @@ abbrev mutual
       ++ repeated (op context (Outside 0) ++ set context (next_variable context) ++ stmt inside s)
       ++ closed context (after inside s)
   stmt context (Sync place e ss) =
-      code context e ++ held place (stmts context ss ++ closed context (after_all context ss))
+      code context e ++ held Own place (stmts context ss ++ closed context (after_all context ss))
   stmt context (Return e) = returned context e
   stmt context (Block ss) = stmts context ss ++ closed context (after_all context ss)
   stmt context Empty = []
+  stmt context (Locked place e ss catches) =
+      code context e ++ held Explicit place (stmts context ss ++ closed context (after_all context ss))
+  stmt context (Try ss catches finally) = []
+  stmt context Apart = []
 
   pub stmts : Context → Stmts → Code
   stmts context no_stmt = []

@@ -1,6 +1,7 @@
 -- A contract of a public call rests on this: trees of expressions and statements with what core code is made of. What
 -- has one row in the lowering is one form here, and names, `new` and `synchronized` have their places.
-use Rattle.std.specs.Prelude.{List, [], ◌∷◌, Option, ℕ, zero, suc}
+use Rattle.std.specs.Prelude.{List, [], ◌∷◌, Option, Some, None, ℕ, zero, suc, Bool, true, false, ◌&&◌, ◌||◌}
+use Rattle.std.specs.Prelude.{bytes_eq, codes, if◌then◌else◌}
 use Rattle.racer_base.specs.declared.ids.Place.{Place}
 use Rattle.java_tree.specs.declared.words.Ident.{Ident}
 use Rattle.java_tree.specs.Trees.{Ty}
@@ -96,11 +97,87 @@ mutual
     Return : Option Expr → Stmt
     Block : Stmts → Stmt
     Empty : Stmt
+    -- `E.lock();` and the locked try behind it: the place of `lock`, E, the block and the catch clauses
+    Locked : Place → Expr → Stmts → Catches → Stmt
+    -- a `try` without resources, with a `finally`, that does not stand behind its lock
+    Try : Stmts → Catches → (finally : Stmts) → Stmt
+    -- any other statement that is not lowered
+    Apart : Stmt
 
   pub data Stmts : Type 0 where
     no_stmt : Stmts
     stmt_then : Stmt → Stmts → Stmts
 
+  -- catch clauses, each with the name of its parameter
+  pub data Catches : Type 0 where
+    no_catch : Catches
+    catch_then : Ident → Stmts → Catches → Catches
+
+-- ---- locked trys
+
+abbrev pub is_this : Expr → Bool
+is_this This = true
+is_this _ = false
+
+-- x, and the x of `this . x`
+abbrev pub simple_name : Expr → Option Ident
+simple_name (Read (Named x)) = Some x
+simple_name _ = None
+
+abbrev pub own_name : Expr → Option Ident
+own_name (Read (Selected e x)) = if is_this e then Some x else None
+own_name _ = None
+
+abbrev pub is_same_name : Option Ident → Option Ident → Bool
+is_same_name (Some x) (Some y) = bytes_eq x.text y.text
+is_same_name _ _ = false
+
+-- whether two expressions are one E: both x, or both `this . x`
+abbrev pub is_same_lock : Expr → Expr → Bool
+is_same_lock e f = is_same_name (simple_name e) (simple_name f) || is_same_name (own_name e) (own_name f)
+
+-- e and x of `e . x ( ) ;`
+abbrev pub plain_call : Expr → Option (Expr × Ident)
+plain_call (CallOn e x no_expr) = Some (e, x)
+plain_call _ = None
+
+abbrev pub run_call : Stmt → Option (Expr × Ident)
+run_call (Run e) = plain_call e
+run_call _ = None
+
+abbrev pub is_call_on : List ℕ → Expr → Option (Expr × Ident) → Bool
+is_call_on name e None = false
+is_call_on name e (Some call) = bytes_eq call.1.text name && is_same_lock e call.0
+
+-- whether statements are the one statement `E . unlock ( ) ;`
+abbrev pub do_unlock : Expr → Stmts → Bool
+do_unlock e (stmt_then s no_stmt) = is_call_on (codes "unlock") e (run_call s)
+do_unlock e _ = false
+
+-- the place of `lock` and E, of a statement `E . lock ( ) ;` before a `finally` that unlocks the same
+abbrev pub lock_of : Option (Expr × Ident) → (finally : Stmts) → Option (Place × Expr)
+lock_of None finally = None
+lock_of (Some call) finally =
+    if bytes_eq call.1.text (codes "lock") && do_unlock call.0 finally then Some (call.1.place, call.0) else None
+
+abbrev pub lock_before : Stmt → (finally : Stmts) → Option (Place × Expr)
+lock_before s finally = lock_of (run_call s) finally
+
+abbrev pub joined : Option (Place × Expr) → Stmt → (body : Stmts) → Catches → (finally rest : Stmts) → Stmts
+joined None s body catches finally rest = stmt_then s (stmt_then (Try body catches finally) rest)
+joined (Some lock) s body catches finally rest = stmt_then (Locked lock.0 lock.1 body catches) rest
+
+-- a statement before others: with a locked try directly behind it, it is one
+abbrev pub put_before : Stmt → Stmts → Stmts
+put_before s (stmt_then (Try body catches finally) rest) =
+    joined (lock_before s finally) s body catches finally rest
+put_before s ss = stmt_then s ss
+
+-- the items of a block
 abbrev pub pack_stmts : List Stmt → Stmts
 pack_stmts [] = no_stmt
-pack_stmts (s ∷ ss) = stmt_then s (pack_stmts ss)
+pack_stmts (s ∷ ss) = put_before s (pack_stmts ss)
+
+abbrev pub pack_catches : List (Ident × Stmts) → Catches
+pack_catches [] = no_catch
+pack_catches (c ∷ cs) = catch_then c.0 c.1 (pack_catches cs)

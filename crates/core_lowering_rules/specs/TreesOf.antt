@@ -15,6 +15,7 @@ use Rattle.java_tree.specs.declared.statements.VariableTree.{VariableTree}
 use Rattle.java_tree.specs.declared.statements.StartTree.{StartTree}
 use Rattle.java_tree.specs.declared.statements.StartTree.TheVariants as start
 use Rattle.java_tree.specs.declared.statements.Statement.{Statement}
+use Rattle.java_tree.specs.declared.statements.ResourcesTree.{ResourcesTree}
 use Rattle.java_tree.specs.declared.statements.TryTree.{TryTree}
 use Rattle.java_tree.specs.declared.statements.CatchTree.{CatchTree}
 use Rattle.java_tree.specs.declared.statements.GroupTree.{GroupTree}
@@ -30,7 +31,8 @@ use Rattle.core_lowering_rules.specs.Trees.{Access, Named, Selected, Element, No
 use Rattle.core_lowering_rules.specs.Trees.{Variable}
 use Rattle.core_lowering_rules.specs.Trees.{Start, Declares, Runs, Stmt, Run, Local, If, IfElse, While, For, ForEach}
 use Rattle.core_lowering_rules.specs.Trees.{Sync}
-use Rattle.core_lowering_rules.specs.Trees.{Return, Block, Empty, pack_exprs, pack_inits, pack_stmts}
+use Rattle.core_lowering_rules.specs.Trees.{Return, Block, Empty, Try, Apart, Stmts, Catches, pack_exprs, pack_inits}
+use Rattle.core_lowering_rules.specs.Trees.{pack_stmts, pack_catches}
 
 -- ---- expressions
 
@@ -116,8 +118,10 @@ abbrev pub if_of : Expr → Stmt → Option Stmt → Stmt
 if_of e s None = If e s
 if_of e s (Some t) = IfElse e s t
 
--- Of what is `Empty` here but a `;`, nothing is lowered (`LoweredForms`): no method in which it stands has code.
-abbrev pub stmt_step : Statement-F Stmt Stmt Stmt Stmt → Stmt
+abbrev pub Clause : Type 0
+Clause = Ident × Stmts
+
+abbrev pub stmt_step : Statement-F Stmt Clause (Unit {0}) Stmt → Stmt
 stmt_step (statement.Block ss) = Block (pack_stmts ss.items)
 stmt_step (statement.Local l) = Local (ty_of l.kind) (map variable_of l.variables)
 stmt_step (statement.Expr e) = Run (expr_of e)
@@ -129,32 +133,39 @@ stmt_step (statement.ForEach is_final t x e s) = ForEach (ty_of t) x (expr_of e)
 stmt_step (statement.Sync place e ss) = Sync place (expr_of e) (pack_stmts ss.items)
 stmt_step (statement.Return e) = Return (option_map expr_of e)
 stmt_step statement.Empty = Empty
-stmt_step (statement.Do s e) = Empty
-stmt_step (statement.Throw place e) = Empty
-stmt_step (statement.Break x) = Empty
-stmt_step (statement.Continue x) = Empty
-stmt_step (statement.Labelled x s) = Empty
-stmt_step (statement.Assert e f) = Empty
-stmt_step (statement.Switch e gs) = Empty
-stmt_step (statement.Try t) = Empty
+stmt_step (statement.Do s e) = Apart
+stmt_step (statement.Throw place e) = Apart
+stmt_step (statement.Break x) = Apart
+stmt_step (statement.Continue x) = Apart
+stmt_step (statement.Labelled x s) = Apart
+stmt_step (statement.Assert e f) = Apart
+stmt_step (statement.Switch e gs) = Apart
+stmt_step (statement.Try t) = t.value
 
-abbrev pub catch_step : CatchTree-F Stmt Stmt Stmt Stmt → Stmt
-catch_step c = Empty
+abbrev pub catch_step : CatchTree-F Stmt Clause (Unit {0}) Stmt → Clause
+catch_step c = (c.parameter.name, pack_stmts c.body.items)
 
-abbrev pub group_step : GroupTree-F Stmt Stmt Stmt Stmt → Stmt
-group_step g = Empty
+abbrev pub group_step : GroupTree-F Stmt Clause (Unit {0}) Stmt → Unit {0}
+group_step g = tt
 
-abbrev pub try_step : TryTree-F Stmt Stmt Stmt Stmt → Stmt
-try_step t = Empty
+-- a `try` of these parts; of one with resources, or without a `finally`, nothing more is seen
+abbrev pub tried : Option ResourcesTree → Stmts → Catches → Option Stmts → Stmt
+tried None body catches (Some finally) = Try body catches finally
+tried resources body catches finally = Apart
+
+abbrev pub try_step : TryTree-F Stmt Clause (Unit {0}) Stmt → Stmt
+try_step t =
+    tried t.resources (pack_stmts t.body.items) (pack_catches t.clauses.items)
+    (option_map (λ ss. pack_stmts ss.items) t.finally)
 
 abbrev pub stmt_of : Statement → Stmt
-stmt_of = fold-Statement Stmt Stmt Stmt Stmt stmt_step catch_step group_step try_step
+stmt_of = fold-Statement Stmt Clause (Unit {0}) Stmt stmt_step catch_step group_step try_step
 
-abbrev pub catch_of : CatchTree → Stmt
-catch_of = fold-CatchTree Stmt Stmt Stmt Stmt stmt_step catch_step group_step try_step
+abbrev pub catch_of : CatchTree → Clause
+catch_of = fold-CatchTree Stmt Clause (Unit {0}) Stmt stmt_step catch_step group_step try_step
 
-abbrev pub group_of : GroupTree → Stmt
-group_of = fold-GroupTree Stmt Stmt Stmt Stmt stmt_step catch_step group_step try_step
+abbrev pub group_of : GroupTree → Unit {0}
+group_of = fold-GroupTree Stmt Clause (Unit {0}) Stmt stmt_step catch_step group_step try_step
 
 abbrev pub try_of : TryTree → Stmt
-try_of = fold-TryTree Stmt Stmt Stmt Stmt stmt_step catch_step group_step try_step
+try_of = fold-TryTree Stmt Clause (Unit {0}) Stmt stmt_step catch_step group_step try_step

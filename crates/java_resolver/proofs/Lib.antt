@@ -7,3 +7,4 @@ mod ByClass
 mod Loops
 mod Searches
 mod Behind
+mod LockParts

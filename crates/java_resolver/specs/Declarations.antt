@@ -24,7 +24,7 @@ use Rattle.java_resolver.specs.declared.infos.ClassInfo.{ClassInfo}
 use Rattle.java_resolver.specs.declared.infos.FieldInfo.{FieldInfo}
 use Rattle.java_resolver.specs.declared.infos.MethodInfo.{MethodInfo}
 use Rattle.java_resolver.specs.Words.{is_annotation_named, has_word, is_annotated}
-use Rattle.java_resolver.specs.TypeKinds.{kind_of}
+use Rattle.java_resolver.specs.TypeKinds.{kind_of, is_other, is_lock_type}
 
 -- ---- classes
 
@@ -67,6 +67,11 @@ by_class f n (c ∷ cs) = f (record { 0 = n }) c ++ by_class f (suc n) cs
 
 -- ---- fields
 
+-- whether fields are lock fields: final ones of a lock type that no class of the folder has the name of
+abbrev pub is_lock_field : List (List ℕ) → FieldTree → Bool
+is_lock_field classes f =
+    has_word (codes "final") f.modifiers && is_other (kind_of classes (ty_of f.kind)) && is_lock_type (ty_of f.kind)
+
 abbrev pub field_info : List (List ℕ) → ClassId → FieldTree → FieldVariable → FieldInfo
 field_info classes c f v =
     record {
@@ -77,6 +82,7 @@ field_info classes c f v =
       is_static = has_word (codes "static") f.modifiers;
       is_final = has_word (codes "final") f.modifiers;
       is_volatile = has_word (codes "volatile") f.modifiers;
+      is_lock = is_lock_field classes f;
     }
 
 abbrev pub member_fields : List (List ℕ) → ClassId → Member → List FieldInfo

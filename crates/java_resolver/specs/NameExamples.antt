@@ -112,6 +112,7 @@ field c name column is_static =
       is_static = is_static;
       is_final = false;
       is_volatile = false;
+      is_lock = false;
     }
 
 abbrev pub method : ℕ → List ℕ → ℕ → ℕ → MethodInfo

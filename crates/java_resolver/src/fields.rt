@@ -1,7 +1,7 @@
 //! Fields by their classes and names.
 ghost use Rattle.std.specs.Prelude.{◌≡◌, ◌++◌, map, IfOk, IfErr, OnOk, None, true, false};
 ghost use Rattle.std.specs.List.{flat_map};
-ghost use Rattle.java_resolver.specs.Declarations.{class_names, field_info, member_fields};
+ghost use Rattle.java_resolver.specs.Declarations.{class_names, is_lock_field, field_info, member_fields};
 ghost use Rattle.java_resolver.specs.Meanings.{is_seen, field_named};
 ghost use Rattle.java_resolver.specs.Firsts.{first_that};
 ghost use Rattle.java_resolver.specs.Refusals.{duplicate_field};
@@ -11,7 +11,7 @@ ghost use Rattle.java_resolver.specs.Faults.{IsFault};
 use crate::classes::Classes;
 use crate::fault::ResolveFault;
 use crate::infos::FieldInfo;
-use crate::kinds::kind_of;
+use crate::kinds::{is_lock_type, is_other, kind_of};
 use crate::numbers::{Named, add_number, no_numbers, number_at, number_of};
 use crate::words::has_word;
 use java_tree::{ClassTree, FieldTree, FieldVariable, Member};
@@ -116,6 +116,15 @@ impl Fields {
     }
 }
 
+/// Whether fields are lock fields.
+fn is_lock_field(classes: &Classes, field: &FieldTree) -> bool
+    ensures { result ≡ is_lock_field (class_names classes.now) field.now }
+{
+    has_word(field.modifiers.as_slice(), "final")
+        && is_other(kind_of(classes, &field.kind))
+        && is_lock_type(&field.kind)
+}
+
 /// What is known of a field.
 fn field_info(
     classes: &Classes,
@@ -134,6 +143,7 @@ fn field_info(
         is_static: has_word(modifiers, "static"),
         is_final: has_word(modifiers, "final"),
         is_volatile: has_word(modifiers, "volatile"),
+        is_lock: is_lock_field(classes, field),
     })
 }
 

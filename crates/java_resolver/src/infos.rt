@@ -19,6 +19,8 @@ pub struct FieldInfo {
     pub is_static: bool,
     pub is_final: bool,
     pub is_volatile: bool,
+    /// Whether it is a lock field.
+    pub is_lock: bool,
 }
 
 /// A method or a constructor, with the place of its name (JLS 8.4, 8.8). A constructor has the name `<new>`; one that

@@ -25,6 +25,7 @@ pub fn fields_of_declarations()
           is_static = true;
           is_final = false;
           is_volatile = true;
+          is_lock = false;
         } }
     ensures final_word { (field_info [] (class 1) (ints (codes "final" ∷ []) [])
         (absent (codes "x") 5)).is_final ≡ true }

@@ -1,11 +1,18 @@
-use Rattle.std.proofs.Common.{map, ap, ◌∙◌}
+use Rattle.std.proofs.Common.{◌≡◌, List, [], map, ap, ◌∙◌}
+use Rattle.java_resolver.specs.Table.{classes, fields, methods}
+use Rattle.core_lowering_rules.specs.Programs.{sources_of}
+use Rattle.core_lowering_methods.specs.declared.sources.Source.{Source}
+use Rattle.core_lowering_methods.specs.Sources.{source_of}
+use Rattle.core_lowering_methods.specs.Views.{folder_of}
+use Rattle.core_lowering.specs.Calls.{row_in}
 use Rattle.core_lowering.specs.Parts.{parts_of, with_infos}
 use Rattle.core_lowering.specs.Reasons.{reason_of}
+use Rattle.core_lowering.proofs.SamePrograms.{rows-made}
 use Rattle.core_lowering.proofs.SameSources.{sources-made}
 use Rattle.core_lowering.proofs.programs.find_known.Goals as goal
 
-pub returns : goal.returns
-returns c =
+pub returns-clause-known : goal.returns-clause-known
+returns-clause-known c =
     let units = c.args.units.now in
     record {
       classes = c.requires.classes;
@@ -16,6 +23,19 @@ returns c =
           ∙ ap (with_infos (parts_of units)) (c.methods.ensures ∙ c.requires.methods)
           ∙ sources-made units;
       reasons =
-          c.in_ok-reasons.ensures
+          c.in_ok-drafts.ensures.reasons
           ∙ ap (map (reason_of c.args.table.now)) c.as_slice.ensures.value;
     }
+
+pub returns-clause-rows : goal.returns-clause-rows
+returns-clause-rows c =
+    let units = c.args.units.now in
+    let table = c.args.table.now in
+    let all : List Source = c.in_ok-sources.sources.items in
+    let same : map source_of all ≡ sources_of units =
+    c.in_ok-sources.ensures ∙ ap (with_infos (parts_of units)) (c.methods.ensures ∙ c.requires.methods)
+    ∙ sources-made units in
+    c.in_ok-drafts.ensures.rows
+    ∙ ap (λ (ss : List Source). map (row_in (folder_of table [])) (map source_of ss)) c.as_slice.ensures.value
+    ∙ rows-made units (classes table) (fields table) (methods table) (map source_of all) c.requires.classes
+    c.requires.fields c.requires.methods same

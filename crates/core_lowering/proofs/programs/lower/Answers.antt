@@ -4,7 +4,7 @@ use Rattle.core_lowering_rules.proofs.NumbersInRange.{numbers-in_range}
 use Rattle.core_lowering.proofs.LowRows.{rows-low}
 use Rattle.core_lowering.proofs.programs.lower.Goals as goal
 
-pub find_calls-requires-clause-low : goal.find_calls-requires-clause-low
-find_calls-requires-clause-low c =
+pub find_edges-requires-clause-low : goal.find_edges-requires-clause-low
+find_edges-requires-clause-low c =
     let files = map (λ file. string_bytes file) c.args.files.now in
     rows-low (draft_of files c.args.units.now) (numbers-in_range files c.args.units.now (λ m. true) c.requires.placed)

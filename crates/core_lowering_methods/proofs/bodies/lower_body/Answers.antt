@@ -4,6 +4,7 @@ use Rattle.std.proofs.lemmas.Result.{on_ok_weaker}
 use Rattle.racer_base.specs.declared.ids.Place.{Place}
 use Rattle.java_tree.specs.declared.statements.Statement.{Statement}
 use Rattle.java_resolver.specs.Words.{has_word}
+use Rattle.core_code.specs.declared.code.LockKind.TheVariants.{Own}
 use Rattle.core_lowering_rules.specs.Trees.{pack_stmts}
 use Rattle.core_lowering_rules.specs.TreesOf.{stmt_of}
 use Rattle.core_lowering_rules.specs.Context.{held, push_owner}
@@ -55,8 +56,9 @@ returns-clause-code c =
     ∙ ap (λ (ss : List Statement). one ++ block a (pack_stmts (map stmt_of ss))) c.as_slice-2.ensures in
     on_ok_weaker c.hold.result
     (λ made. made
-    ∙ ap (λ (p : Place). take c.len-body.result second ++ held p (drop c.len-body.result second)) c.place-place.ensures
-    ∙ ap (λ (n : ℕ). take n second ++ held a.place (drop n second)) c.len-body.ensures
-    ∙ gathered (held a.place) old one second (push_owner a) body c.in_ok-push_owner.ensures.code inside
+    ∙ ap (λ (p : Place). take c.len-body.result second ++ held Own p (drop c.len-body.result second))
+    c.place-place.ensures
+    ∙ ap (λ (n : ℕ). take n second ++ held Own a.place (drop n second)) c.len-body.ensures
+    ∙ gathered (held Own a.place) old one second (push_owner a) body c.in_ok-push_owner.ensures.code inside
     ∙ ap (λ (b : Bool). old ++ locked a b body) (sym test))
     c.hold.ensures.code

@@ -1,25 +1,36 @@
-use Rattle.std.proofs.Common.{◌≡◌, ℕ, List, ◌∷◌, ◌++◌, ◌+◌, OnOk, map, option_map, take, drop, refl, sym, ap, subst}
-use Rattle.std.proofs.Common.{◌∙◌, rules}
+use Rattle.std.proofs.Common.{◌≡◌, ℕ, List, [], ◌∷◌, ◌++◌, ◌+◌, OnOk, map, option_map, take, drop, refl, sym, ap, subst}
+use Rattle.std.proofs.Common.{◌∙◌, rules, arith}
 use Rattle.std.proofs.Common.{append-nil, append_assoc}
 use Rattle.std.proofs.lemmas.List.{at_drop_more, at_drop_all}
 use Rattle.std.proofs.lemmas.Result.{on_ok_weaker}
+use Rattle.racer_base.specs.declared.ids.Kind.TheVariants as types
+use Rattle.java_tree.specs.declared.statements.CatchTree.{CatchTree, out-CatchTree}
 use Rattle.java_tree.specs.declared.statements.Statement.{Statement}
 use Rattle.java_tree.specs.declared.statements.Statement.TheFolds.{the_lemmas}
+use Rattle.java_tree.proofs.statements.Statement.TheLaws.{the_size}
+use borrow.Author.Sizes.{sizes}
 use Rattle.java_tree.specs.View.{ty_of}
-use Rattle.core_lowering_rules.specs.Trees.{Stmt, pack_exprs, pack_stmts}
+use Rattle.core_code.specs.declared.code.LockKind.TheVariants.{Own, Explicit}
+use Rattle.core_lowering_rules.specs.Trees.{Stmt, Stmts, pack_exprs, pack_stmts, pack_catches}
+use Rattle.core_lowering_rules.specs.Locks.{lock_noted}
+use Rattle.core_lowering_locks.specs.Seen.{item_seen, body_of, clauses_of}
+use Rattle.core_lowering_locks.proofs.JoinedStatements.{try-statement, of_try, catch-form}
 use Rattle.core_lowering_rules.specs.Trees as tree
-use Rattle.core_lowering_rules.specs.TreesOf.{expr_of, start_of, stmt_of}
+use Rattle.core_lowering_rules.specs.TreesOf.{expr_of, start_of, stmt_of, catch_of}
 use Rattle.core_lowering_rules.specs.Context.{Context, Code, held, repeated}
 use Rattle.core_lowering_rules.specs.Expressions.{code}
-use Rattle.core_lowering_rules.specs.Scopes.{declared, after, after_all}
+use Rattle.core_lowering_rules.specs.Scopes.{declared, after, after_all, caught}
 use Rattle.core_lowering_rules.specs.Statements.{run, stmt, stmts}
 use Rattle.core_lowering_methods.specs.Drafts.{code_of}
+use Rattle.core_lowering_methods.specs.Parts.{passed_by}
 use Rattle.core_lowering_methods.specs.Steps.{repeated_from}
-use Rattle.core_lowering_methods.proofs.Forms.{is_block, is_local, is_run, is_while, is_for, is_each, is_sync, is_return}
+use Rattle.core_lowering_methods.proofs.Forms.{is_block, is_local, is_run, is_while, is_for, is_each, is_sync}
+use Rattle.core_lowering_methods.proofs.Forms.{is_return}
 use Rattle.core_lowering_methods.proofs.Forms.{is_empty}
 use Rattle.core_lowering_methods.proofs.Choices.{choice-made, half-made}
-use Rattle.core_lowering_methods.proofs.Composed.{left-then, closed-then, for-context, for-code, each-context, each-code}
-use Rattle.core_lowering_methods.proofs.Inside.{inside-after_all}
+use Rattle.core_lowering_methods.proofs.Composed.{left-then, closed-then, for-context, for-code, each-context}
+use Rattle.core_lowering_methods.proofs.Composed.{each-code}
+use Rattle.core_lowering_methods.proofs.Inside.{inside-after_all, clause-passed, caught-kept}
 use Rattle.core_lowering_methods.proofs.Pieces.{two_pieces, gathered}
 use Rattle.core_lowering_methods.proofs.statements.+statements.Goals as goal
 
@@ -202,50 +213,59 @@ lower_statement-returns-in-Empty-clause-code t c =
     let is = is_empty c.args.statement.now c.in-Empty.is in
     sym (append-nil old) ∙ ap (λ (s : Stmt). old ++ stmt c.args.context.now s) (sym is)
 
+pub lower_statement-returns-in-Try-clause-context : goal.lower_statement-returns-in-Try-clause-context
+lower_statement-returns-in-Try-clause-context t c =
+    let a = c.args.context.now in
+    of_try (after a) a (λ ts catches finally. refl) refl c.in-Try.field-0.value
+    ∙ ap (after a) (sym (try-statement c.args.statement.now c.in-Try.field-0 c.in-Try.is))
+
+pub lower_statement-returns-in-Try-clause-code : goal.lower_statement-returns-in-Try-clause-code
+lower_statement-returns-in-Try-clause-code t c =
+    let a = c.args.context.now in
+    let old = code_of c.args.draft.now in
+    let none : [] ≡ stmt a (stmt_of c.args.statement.now) =
+    of_try (stmt a) [] (λ ts catches finally. refl) refl c.in-Try.field-0.value
+    ∙ ap (stmt a) (sym (try-statement c.args.statement.now c.in-Try.field-0 c.in-Try.is)) in
+    sym (append-nil old) ∙ ap (λ (x : Code). old ++ x) none
+
 -- ---- statements, one after another
 
-pub lower_statements-loop-statement-preserved : goal.lower_statements-loop-statement-preserved
-lower_statements-loop-statement-preserved t c =
-    let old : Context = c.loop-statement.context in
-    let made = code_of c.loop-statement.draft in
-    let all = c.args.statements.now in
-    let i = c.loop-statement.statement-index in
-    let s : Statement = c.statement-item.result in
-    let rest : List Statement = drop (i + 1) all in
-    let left = pack_stmts (map stmt_of rest) in
-    let inside : Context = after old (stmt_of s) in
-    let one = c.in_ok-lower_statement.ensures in
+pub lower_statements-loop-item-preserved : goal.lower_statements-loop-item-preserved
+lower_statements-loop-item-preserved t c =
+    let old : Context = c.loop-item.context in
+    let made = code_of c.loop-item.draft in
+    let one = item_seen c.in-Some.item in
+    let left = pack_stmts (map stmt_of c.in-Some.behind.now) in
+    let inside : Context = after old one in
+    let done = c.in_ok-lower_item.ensures in
+    let cut = c.in-Some.ensures in
     record {
       context =
-          ap (λ (a : Context). after_all a left) one.context
-          ∙ ap (λ (w : Statement). after_all old (pack_stmts (map stmt_of (w ∷ rest)))) c.statement-item.is
-          ∙ sym (at_drop_more (λ (ss : List Statement). after_all old (pack_stmts (map stmt_of ss))) all i s
-          c.loop-statement-test.true)
-          ∙ c.loop-statement.invariant.context;
+          ap (λ (a : Context). after_all a left) done.context
+          ∙ ap (after_all old) (sym cut.is)
+          ∙ c.loop-item.invariant.context;
       code =
-          ap (λ (a : Context). code_of c.lower_statement.new.draft ++ stmts a left) one.context
-          ∙ ap (λ (x : Code). x ++ stmts inside left) one.code
-          ∙ append_assoc made (stmt old (stmt_of s)) (stmts inside left)
-          ∙ ap (λ (w : Statement). made ++ stmts old (pack_stmts (map stmt_of (w ∷ rest)))) c.statement-item.is
-          ∙ sym (at_drop_more (λ (ss : List Statement). made ++ stmts old (pack_stmts (map stmt_of ss))) all i s
-          c.loop-statement-test.true)
-          ∙ c.loop-statement.invariant.code;
+          ap (λ (a : Context). code_of c.lower_item.new.draft ++ stmts a left) done.context
+          ∙ ap (λ (x : Code). x ++ stmts inside left) done.code
+          ∙ append_assoc made (stmt old one) (stmts inside left)
+          ∙ ap (λ (ss : Stmts). made ++ stmts old ss) (sym cut.is)
+          ∙ c.loop-item.invariant.code;
+      fits = omega (arith, cut.rest_fits, c.loop-item.invariant.fits);
     }
 
 pub lower_statements-returns-clause-context : goal.lower_statements-returns-clause-context
 lower_statements-returns-clause-context t c =
-    sym (at_drop_all (λ (ss : List Statement). after_all c.loop-statement.context (pack_stmts (map stmt_of ss)))
-    c.args.statements.now c.loop-statement.statement-index c.loop-statement-test.false)
-    ∙ c.loop-statement.invariant.context
+    sym (ap (λ (ss : List Statement). after_all c.loop-item.context (pack_stmts (map stmt_of ss)))
+    c.in_default.ensures)
+    ∙ c.loop-item.invariant.context
 
 pub lower_statements-returns-clause-code : goal.lower_statements-returns-clause-code
 lower_statements-returns-clause-code t c =
-    let made = code_of c.loop-statement.draft in
+    let made = code_of c.loop-item.draft in
     sym (append-nil made)
-    ∙ sym (at_drop_all
-    (λ (ss : List Statement). made ++ stmts c.loop-statement.context (pack_stmts (map stmt_of ss)))
-    c.args.statements.now c.loop-statement.statement-index c.loop-statement-test.false)
-    ∙ c.loop-statement.invariant.code
+    ∙ sym (ap (λ (ss : List Statement). made ++ stmts c.loop-item.context (pack_stmts (map stmt_of ss)))
+    c.in_default.ensures)
+    ∙ c.loop-item.invariant.code
 
 -- ---- choices, loops and locks
 
@@ -317,11 +337,84 @@ lower_sync-returns-clause-code t c =
     let inner = tree.Block (pack_stmts (map stmt_of c.args.statements.now)) in
     let second = code_of c.lower_block.new.draft in
     on_ok_weaker c.hold.result
-    (λ made. made ∙ ap (λ (n : ℕ). take n second ++ held c.args.place (drop n second)) c.len-body.ensures
-    ∙ gathered (held c.args.place) (code_of c.args.draft.now) (code_of c.lower_expression.new.draft) second
+    (λ made. made ∙ ap (λ (n : ℕ). take n second ++ held Own c.args.place (drop n second)) c.len-body.ensures
+    ∙ gathered (held Own c.args.place) (code_of c.args.draft.now) (code_of c.lower_expression.new.draft) second
     (code a (expr_of c.args.e.now)) (stmt a inner) c.in_ok-lower_expression.ensures.code
     c.in_ok-lower_block.ensures.code)
     c.hold.ensures.code
+
+pub lower_locked-lower_block-requires : goal.lower_locked-lower_block-requires
+lower_locked-lower_block-requires t c =
+    search (rules, sizes, the_size, the_lemmas, c.as_slice.ensures, c.decreases)
+
+pub lower_locked-returns-clause-context : goal.lower_locked-returns-clause-context
+lower_locked-returns-clause-context t c =
+    let a = c.args.context.now in
+    let e = expr_of c.args.lock.on.now in
+    let ss = body_of c.args.tried.now in
+    let catches = clauses_of c.args.tried.now in
+    let noted = lock_noted (after a (tree.Block ss)) e in
+    on_ok_weaker c.pass_clauses.result
+    (λ made. made
+    ∙ ap (λ (cs : List CatchTree). caught c.note_lock.new.context (pack_catches (map catch_of cs)))
+    c.as_slice-2.ensures.value
+    ∙ ap (λ (x : Context). caught x catches)
+    (c.note_lock.ensures ∙ ap (λ (x : Context). lock_noted x e) (c.in_ok-lower_block.ensures.context
+    ∙ ap (λ (xs : List Statement). after a (tree.Block (pack_stmts (map stmt_of xs)))) c.as_slice.ensures.value))
+    ∙ caught-kept noted catches)
+    c.pass_clauses.ensures
+
+pub lower_locked-returns-clause-code : goal.lower_locked-returns-clause-code
+lower_locked-returns-clause-code t c =
+    let a = c.args.context.now in
+    let inner = tree.Block (body_of c.args.tried.now) in
+    let second = code_of c.lower_block.new.draft in
+    on_ok_weaker c.pass_clauses.result
+    (λ made. c.in_ok-hold.ensures.code
+    ∙ ap (λ (n : ℕ). take n second ++ held Explicit c.args.lock.place (drop n second)) c.len-body.ensures
+    ∙ gathered (held Explicit c.args.lock.place) (code_of c.args.draft.now) (code_of c.lower_expression.new.draft)
+    second (code a (expr_of c.args.lock.on.now)) (stmt a inner) c.in_ok-lower_expression.ensures.code
+    (c.in_ok-lower_block.ensures.code
+    ∙ ap (λ (xs : List Statement). code_of c.lower_expression.new.draft
+    ++ stmt a (tree.Block (pack_stmts (map stmt_of xs))))
+    c.as_slice.ensures.value))
+    c.pass_clauses.ensures
+
+-- ---- catch clauses
+
+pub pass_clauses-loop-clause-preserved : goal.pass_clauses-loop-clause-preserved
+pass_clauses-loop-clause-preserved t c =
+    let all = c.args.clauses.now in
+    let i = c.loop-clause.clause-index in
+    let one : CatchTree = c.clause-item.result in
+    let rest = drop (i + 1) all in
+    let left = pack_catches (map catch_of rest) in
+    ap (λ (x : Context). caught x left) c.in_ok-pass_clause.ensures
+    ∙ ap (λ (w : CatchTree). caught c.loop-clause.context (pack_catches (map catch_of (w ∷ rest)))) c.clause-item.is
+    ∙ sym (at_drop_more (λ (cs : List CatchTree). caught c.loop-clause.context (pack_catches (map catch_of cs))) all i
+    one c.loop-clause-test.true)
+    ∙ c.loop-clause.invariant
+
+pub pass_clauses-returns : goal.pass_clauses-returns
+pass_clauses-returns t c =
+    sym (at_drop_all (λ (cs : List CatchTree). caught c.loop-clause.context (pack_catches (map catch_of cs)))
+    c.args.clauses.now c.loop-clause.clause-index c.loop-clause-test.false)
+    ∙ c.loop-clause.invariant
+
+pub pass_clause-returns : goal.pass_clause-returns
+pass_clause-returns t c =
+    let a = c.args.context.now in
+    let clause = c.args.clause.now in
+    let x = (out-CatchTree clause).parameter.name in
+    let ss = pack_stmts (map stmt_of (out-CatchTree clause).body.items) in
+    c.forget.ensures
+    ∙ clause-passed a c.lower_statements.new.context x ss c.in_scope-scope.result c.count-count.result
+    c.in_scope-scope.ensures c.count-count.ensures
+    (c.in_ok-lower_statements.ensures.context
+    ∙ ap (λ (i : Context). after_all i (pack_stmts (map stmt_of c.as_slice.result.now))) c.in_ok-declare.ensures.context
+    ∙ ap (λ (xs : List Statement). after_all (declared a types.Other x) (pack_stmts (map stmt_of xs)))
+    c.as_slice.ensures.value)
+    ∙ ap (passed_by a) (sym (catch-form clause))
 
 -- ---- ends of blocks
 

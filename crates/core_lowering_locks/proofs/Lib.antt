@@ -1,0 +1,3 @@
+mod Operators
+pub mod JoinedStatements
+mod Cuts

@@ -1,0 +1,13 @@
+use Rattle.std.proofs.Common.{None}
+use Rattle.core_lowering_rules.specs.Trees.{own_name}
+use Rattle.core_lowering_locks.proofs.Operators.{binary-arm, prefix-arm, binary_is_no_own, prefix_is_no_own}
+use Rattle.core_lowering_locks.proofs.names.own_name.Goals as goal
+
+pub returns-in-Binary : goal.returns-in-Binary
+returns-in-Binary c =
+    binary-arm own_name None binary_is_no_own c.args.e.now c.in-Binary.field-0 c.in-Binary.field-1
+    c.in-Binary.field-2 c.in-Binary.is
+
+pub returns-in-Prefix : goal.returns-in-Prefix
+returns-in-Prefix c =
+    prefix-arm own_name None prefix_is_no_own c.args.e.now c.in-Prefix.field-0 c.in-Prefix.field-1 c.in-Prefix.is
