@@ -218,7 +218,8 @@ const SOURCES: &[Case] = &[
           \"Dinner.java:8:5\"],\"kind\":\"write\",\"locked\":false,\"main\":false,\
           \"mark\":{\"witness\":{\"class\":\"Dinner\",\"entries\":[\"makeDinner/0\",\"makeDinner/0\"],\
           \"legs\":[{\"steps\":4,\"thread\":0,\"turns\":\"\"},{\"steps\":4,\"thread\":1,\
-          \"turns\":\"\"}],\"objects\":[],\"version\":1},\"word\":\"confirmed\"},\
+          \"turns\":\"\"}],\"objects\":[],\"path\":\"this.mTemperature\",\"version\":2},\
+          \"word\":\"confirmed\"},\
           \"method\":\"Dinner.makeDinner/0\",\"path\":\"this.mTemperature\",\
           \"with\":{\"at\":[\"Dinner.java:5:5\",\"Dinner.java:8:5\"],\"kind\":\"write\",\
           \"locked\":false,\"main\":false,\"method\":\"Dinner.makeDinner/0\",\
