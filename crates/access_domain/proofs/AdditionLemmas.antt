@@ -9,15 +9,17 @@ use Rattle.access_paths.specs.Order.{PathSet, path_cmp}
 use Rattle.access_paths.specs.Paths.{same_path}
 use Rattle.access_paths.specs.Same.{equal_of_same, tied, path_cmp-total, path_cmp-IsAntisymmetric}
 use Rattle.std.specs.Ordering.{eq_by_cmp}
+use Rattle.std.proofs.lemmas.Bool.{and_parts}
+use Rattle.std.proofs.Math.Bool.{and-false, and-true, or-false}
 use Rattle.wobbly_paths.specs.declared.wobbly.Adding.{Adding}
 use Rattle.wobbly_paths.specs.declared.wobbly.Adding.TheVariants.{Added, Present, Full, Memory}
 use Rattle.wobbly_paths.specs.Sets.{IsAnswer}
 use Rattle.access_domain.specs.declared.access.Access.{Access}
 use Rattle.core_code.specs.Touches.{is_write}
+use Rattle.core_code.proofs.Different.{filter_all}
 use Rattle.access_domain.specs.Records.{same_flag, same_touch, same_key, first_of_keys, different_paths}
-use Rattle.core_code.proofs.BoolParts.{first_part, last_part}
 use Rattle.access_domain.proofs.Different.{from_list-different}
-use Rattle.access_domain.proofs.Tests.{and_false, and_true, equal_flags, or_false}
+use Rattle.access_domain.proofs.Tests.{equal_flags}
 use Rattle.access_domain.specs.Additions.{key_added, keys_added, paths_added}
 
 swap : (a b c : Bool) → ((a || b) || c) ≡ (b || (a || c))
@@ -80,23 +82,19 @@ filter-alike p q [] h = refl
 filter-alike p q (x ∷ xs) h = ap (λ b. cond b (x ∷ filter p xs) (filter p xs)) (h x)
     ∙ ap (λ rest. cond (q x) (x ∷ rest) rest) (filter-alike p q xs h)
 
-filter-all : {X : Type 0} (xs : List X) → filter (λ _. true) xs ≡ xs
-filter-all [] = refl
-filter-all (x ∷ xs) = ap (λ rest. x ∷ rest) (filter-all xs)
-
 -- what one key covers the same key covers
-alike_keys : (x y e : Access) → same_key x y ≡ true → same_key e x ≡ same_key e y
+pub alike_keys : (x y e : Access) → same_key x y ≡ true → same_key e x ≡ same_key e y
 alike_keys x y e h =
     let paths = same_path x.path y.path in
     let touches = same_touch x.kind y.kind in
     let locks = same_flag x.locked y.locked in
     let mains = same_flag x.main y.main in
-    let three = first_part (paths && touches && locks) mains h in
-    let two = first_part (paths && touches) locks three in
-    let path = equal_of_same x.path y.path (first_part paths touches two) in
-    let touch = equal_flags (is_write x.kind) (is_write y.kind) (last_part paths touches two) in
-    let lock = equal_flags x.locked y.locked (last_part (paths && touches) locks three) in
-    let main = equal_flags x.main y.main (last_part (paths && touches && locks) mains h) in
+    let three = (and_parts (paths && touches && locks) mains h).0 in
+    let two = (and_parts (paths && touches) locks three).0 in
+    let path = equal_of_same x.path y.path (and_parts paths touches two).0 in
+    let touch = equal_flags (is_write x.kind) (is_write y.kind) (and_parts paths touches two).1 in
+    let lock = equal_flags x.locked y.locked (and_parts (paths && touches) locks three).1 in
+    let main = equal_flags x.main y.main (and_parts (paths && touches && locks) mains h).1 in
     ap (λ (p : Path). same_path e.path p && same_touch e.kind x.kind && same_flag e.locked x.locked &&
     same_flag e.main x.main) path
     ∙ ap (λ (w : Bool). same_path e.path y.path && same_flag (is_write e.kind) w && same_flag e.locked x.locked &&
@@ -119,8 +117,8 @@ old_tells : (old : List Access) (x y : Access) → list_any (λ e. same_key e x)
     (is_new old y && not (same_key x y)) ≡ is_new old y
 old_tells old x y h =
     elim (same_key x y) as (λ b. same_key x y ≡ b → (is_new old y && not b) ≡ is_new old y) [
-      | true ↦ λ e. and_false (is_new old y) ∙ sym (ap not (sym (covered old x y e) ∙ h))
-      | false ↦ λ e. and_true (is_new old y)
+      | true ↦ λ e. and-false (is_new old y) ∙ sym (ap not (sym (covered old x y e) ∙ h))
+      | false ↦ λ e. and-true (is_new old y)
     ] refl
 
 -- where x is added, what is new behind it is of another key too
@@ -152,13 +150,13 @@ keys_added-firsts old (x ∷ xs) =
 
 -- added to nothing, the records are the first of each key
 pub keys_added-nil : (xs : List Access) → keys_added [] xs ≡ first_of_keys xs
-keys_added-nil xs = keys_added-firsts [] xs ∙ filter-all (first_of_keys xs)
+keys_added-nil xs = keys_added-firsts [] xs ∙ filter_all (first_of_keys xs)
 
 -- ---- the set of paths
 
 pub contains_added : (old : PathSet) (xs : List Path) (q : Path) →
     set.contains (paths_added old xs) q ≡ (set.contains old q || list_any (eq_by_cmp path_cmp q) xs)
-contains_added old [] q = sym (or_false (set.contains old q))
+contains_added old [] q = sym (or-false (set.contains old q))
 contains_added old (x ∷ xs) q =
     contains_added (set.insert old x) xs q
     ∙ ap (λ b. b || list_any (eq_by_cmp path_cmp q) xs) (set.contains-insert path_cmp-total old x q)
@@ -197,7 +195,7 @@ none_same x p (y ∷ ys) =
     (filter (λ y. p y && not (same_path x y)) ys)) ≡ false) [
       | true ↦ λ e. ap (λ b. list_any (eq_by_cmp path_cmp x)
           (cond b (y ∷ filter (λ y. p y && not (same_path x y)) ys) (filter (λ y. p y && not (same_path x y)) ys)))
-          (and_false (p y)) ∙ none_same x p ys
+          (and-false (p y)) ∙ none_same x p ys
       | false ↦ λ e. elim (p y) as (λ b. list_any (eq_by_cmp path_cmp x)
           (cond (b && true) (y ∷ filter (λ y. p y && not (same_path x y)) ys)
           (filter (λ y. p y && not (same_path x y)) ys)) ≡ false) [
@@ -238,9 +236,9 @@ len-passing p (x ∷ xs) =
 pub len-from_list : (xs : List Path) → set.len (set.from_list {R = path_cmp} xs) ≡ length (different_paths xs)
 len-from_list xs =
     ap set.len (sym (from_list-different xs))
-    ∙ ap (λ (ys : List Path). set.len (set.from_list {R = path_cmp} ys)) (sym (filter-all (different_paths xs)))
+    ∙ ap (λ (ys : List Path). set.len (set.from_list {R = path_cmp} ys)) (sym (filter_all (different_paths xs)))
     ∙ len-passing (λ _. true) xs
-    ∙ ap length (filter-all (different_paths xs))
+    ∙ ap length (filter_all (different_paths xs))
 
 -- ---- one list and then another
 

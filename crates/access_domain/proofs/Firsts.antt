@@ -1,11 +1,12 @@
 -- The firsts of a list with one more element.
 use Rattle.std.proofs.Common.{◌≡◌, Bool, true, false, cond, not, ◌||◌, List, [], ◌∷◌, ◌++◌, filter}
-use Rattle.std.proofs.Common.{refl, sym, ap, ◌∙◌}
+use Rattle.std.proofs.Common.{◌≤◌, length, arith, refl, sym, ap, ◌∙◌}
 use Rattle.std.proofs.lemmas.Bool.{or_parts}
 use Rattle.std.proofs.lemmas.List.{append-nil}
 use Rattle.std.specs.List.{list_any}
+use Rattle.std.proofs.Math.Bool.{or-false}
+use Rattle.racer_base.proofs.Lists.{fewer_kept}
 use Rattle.access_domain.specs.Records.{firsts}
-use Rattle.access_domain.proofs.Tests.{or_false}
 
 filter_push : {X : Type 0} (p : X → Bool) (xs : List X) (y : X) →
     filter p (xs ++ y ∷ []) ≡ filter p xs ++ cond (p y) (y ∷ []) []
@@ -36,9 +37,16 @@ firsts-old {X} same (x ∷ xs) y one =
     firsts same (x ∷ (xs ++ y ∷ [])) ≡ firsts same (x ∷ xs)) [
       | true ↦ λ e h. ap (λ zs. x ∷ filter (λ z. not (same x z)) zs) (firsts-old same xs y e)
       | false ↦ λ e h.
-          let here : same x y ≡ true = sym (or_false (same x y)) ∙ h in
+          let here : same x y ≡ true = sym (or-false (same x y)) ∙ h in
           ap (λ zs. x ∷ filter (λ z. not (same x z)) zs) (firsts-new same xs y e)
           ∙ ap (λ zs. x ∷ zs) (filter_push (λ z. not (same x z)) (firsts same xs) y)
           ∙ ap (λ b. x ∷ (filter (λ z. not (same x z)) (firsts same xs) ++ cond (not b) (y ∷ []) [])) here
           ∙ ap (λ zs. x ∷ zs) (append-nil (filter (λ z. not (same x z)) (firsts same xs)))
     ] refl one
+
+pub fewer_firsts : {X : Type 0} (same : X → X → Bool) (xs : List X) → length (firsts same xs) ≤ length xs
+fewer_firsts same [] = omega arith
+fewer_firsts same (x ∷ xs) =
+    let kept = fewer_kept (λ y. not (same x y)) (firsts same xs) in
+    let more = fewer_firsts same xs in
+    omega (arith, kept, more)

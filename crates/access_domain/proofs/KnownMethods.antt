@@ -4,6 +4,7 @@ use Rattle.std.proofs.Common.{List, length, is_none, nat_lt, option_map, slice_g
 use Rattle.std.proofs.Common.{◌∙◌, arith}
 use Rattle.std.proofs.lemmas.Bool.{cases_lt, or_parts}
 use Rattle.std.specs.Option.{option_and_then}
+use Rattle.std.proofs.lemmas.Option.{cond_some}
 use Rattle.racer_base.specs.declared.ids.MethodId.{MethodId}
 use Rattle.racer_base.specs.declared.limits.TheConstants.{MAX_SUMMARY_KEYS}
 use Rattle.owner_domain.specs.declared.value.Value.TheVariants.{Unnamed}
@@ -30,10 +31,6 @@ pub known_there : (core : Core) (m : MethodId) (method : Method) → method_at c
     known_of core m ≡ cond (is_none method.status) (Some (known_given core (known_of_callees core m) method)) None
 known_there core m method there = ap (known_with core (known_of_callees core m)) there
 
-known_where : (b : Bool) (k x : Known) → cond b (Some k) None ≡ Some x → (b ≡ true) × (k ≡ x)
-known_where true k x e = (refl, cc)
-known_where false k x e = cc
-
 -- nothing is known of no method
 pub method_known : (core : Core) (m : MethodId) (x : Known) → known_of core m ≡ Some x →
     (method : Method) × (method_at core m ≡ Some method)
@@ -48,7 +45,7 @@ method_known core m x known =
 pub known_is_analysed : (core : Core) (m : MethodId) (method : Method) (x : Known) → method_at core m ≡ Some method →
     known_of core m ≡ Some x → is_analysed core m ≡ true
 known_is_analysed core m method x there known =
-    let here = known_where (is_none method.status) (known_given core (known_of_callees core m) method) x
+    let here = cond_some (is_none method.status) (known_given core (known_of_callees core m) method) x
     (sym (known_there core m method there) ∙ known) in
     ap (λ (o : Option Method). elim o as (λ _. Bool) [ None ↦ false | Some y ↦ is_none y.status ]) there ∙ here.0
 
@@ -69,7 +66,7 @@ pub is_whole : (core : Core) (m : MethodId) (method : Method) (found : Findings)
     known_of core m ≡ Some (Whole found) → IsWhole core m method found
 is_whole core m method found there known =
     let e : Effects = effects_given core (known_of_callees core m) method in
-    let here = known_where (is_none method.status) (known_given core (known_of_callees core m) method) (Whole found)
+    let here = cond_some (is_none method.status) (known_given core (known_of_callees core m) method) (Whole found)
     (sym (known_there core m method there) ∙ known) in
     let made = whole_where (is_large e) (findings_from e) found here.1 in
     let keys : Bool = nat_lt MAX_SUMMARY_KEYS (length (first_of_keys e.records)) in

@@ -1,17 +1,9 @@
 -- Members of lists, of those that pass a test, and of the first of those that are the same.
 use Rattle.std.proofs.Common.{◌≡◌, ℕ, zero, suc, ◌<◌, Bool, true, false, cond, not, ◌⊎◌, inl, inr, ⊎_elim, List, []}
-use Rattle.std.proofs.Common.{◌∷◌, ◌++◌, Some, length, filter, slice_get, refl, sym, ap, ◌∙◌, arith}
+use Rattle.std.proofs.Common.{◌∷◌, Some, length, filter, slice_get, refl, sym, ap, ◌∙◌, arith}
 use Rattle.std.specs.List.{Contains}
 use Rattle.core_code.proofs.Membership.{In, in_from_Contains}
 use Rattle.access_domain.specs.Records.{firsts}
-
-pub in_first : {X : Type 0} (xs ys : List X) (y : X) → In xs y → In (xs ++ ys) y
-in_first [] ys y h = absurd h
-in_first (x ∷ xs) ys y h = ⊎_elim (λ e. inl e) (λ r. inr (in_first xs ys y r)) h
-
-pub in_last : {X : Type 0} (xs ys : List X) (y : X) → In ys y → In (xs ++ ys) y
-in_last [] ys y h = h
-in_last (x ∷ xs) ys y h = inr (in_last xs ys y h)
 
 pub in_at : {X : Type 0} (xs : List X) (i : ℕ) (x : X) → slice_get xs i ≡ Some x → In xs x
 in_at [] i x is = cc
@@ -37,7 +29,7 @@ filter_gives {X} test (x ∷ xs) y h =
       | false ↦ λ there. inr (filter_gives test xs y there)
     ] h
 
-filter_has : {X : Type 0} (test : X → Bool) (xs : List X) (y : X) → In xs y → test y ≡ true → In (filter test xs) y
+pub filter_has : {X : Type 0} (test : X → Bool) (xs : List X) (y : X) → In xs y → test y ≡ true → In (filter test xs) y
 filter_has test [] y h passes = absurd h
 filter_has {X} test (x ∷ xs) y h passes =
     elim (test x) as (λ b. test x ≡ b → In (cond b (x ∷ filter test xs) (filter test xs)) y) [

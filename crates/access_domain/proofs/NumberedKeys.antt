@@ -10,6 +10,7 @@ use Rattle.access_domain.specs.declared.numbered.NumberedKey.{NumberedKey}
 use Rattle.access_domain.specs.Numbered.{numbered_key_eq, numbered_key_of, same_numbered_key, HasNumberedKeysOf}
 use Rattle.core_code.specs.Touches.{is_write}
 use Rattle.access_domain.specs.Records.{same_flag}
+use Rattle.racer_base.proofs.Tests.{same_truth}
 
 flags_back : (a b : Bool) → beq a b ≡ same_flag b a
 flags_back true true = refl
@@ -22,13 +23,8 @@ grouped true true r s = refl
 grouped true false r s = refl
 grouped false q r s = refl
 
-both_ways : (a b : Bool) → (a ≡ true → b ≡ true) → (b ≡ true → a ≡ true) → a ≡ b
-both_ways true b f g = sym (f refl)
-both_ways false true f g = g refl
-both_ways false false f g = refl
-
-numbers_back : (m n : ℕ) → nat_eq m n ≡ nat_eq n m
-numbers_back m n = both_ways (nat_eq m n) (nat_eq n m) (λ e. eq-eqb n m (sym (eqb-true m n e))) (λ e.
+pub numbers_back : (m n : ℕ) → nat_eq m n ≡ nat_eq n m
+numbers_back m n = same_truth (nat_eq m n) (nat_eq n m) (λ e. eq-eqb n m (sym (eqb-true m n e))) (λ e.
     eq-eqb m n (sym (eqb-true n m e)))
 
 key_back : (a b : NumberedAccess) → numbered_key_eq (numbered_key_of a) (numbered_key_of b) ≡ same_numbered_key b a

@@ -1,16 +1,12 @@
 -- What a flow comes to: each of its records is one of an operation of the code, in a state that the flow comes to.
-use Rattle.std.proofs.Common.{◌≡◌, ◌+◌, Bool, true, ◌⊎◌, inl, inr, ⊎_elim, List, None, Some, length, refl, sym, subst}
-use Rattle.racer_base.specs.declared.ids.Place.{Place}
-use Rattle.racer_base.specs.declared.ids.SiteId.{SiteId}
+use Rattle.std.proofs.Common.{◌≡◌, ◌+◌, Bool, true, ◌⊎◌, inl, inr, ⊎_elim, None, Some, length, refl}
 use Rattle.owner_domain.specs.declared.value.State.{State}
-use Rattle.core_code.specs.declared.code.Op.{Op as CoreOp}
 use Rattle.core_code.specs.Tree.{Tree, Op, Skip, Seq, Choice, Loop, Sync, Operation, steps_of}
-use Rattle.core_code.proofs.Membership.{In, in_append}
+use Rattle.core_code.proofs.Membership.{In, in_append, in_left, in_right}
 use Rattle.access_domain.specs.declared.access.Access.{Access}
 use Rattle.access_domain.specs.Flow.{both, after, rounds, flow}
 use Rattle.access_domain.specs.FlowContext.{FlowContext}
 use Rattle.access_domain.specs.Operations.{Effects, popped, op_effects}
-use Rattle.access_domain.proofs.Members.{in_first, in_last}
 
 -- an operation, whether it stands within a lock, and the state before it
 pub record Spot : Type 0 where
@@ -77,11 +73,11 @@ spot_stands g (Op site place op) locked s x h = inl (λ i. (h i).operation)
 spot_stands g Skip locked s x h = absurd h
 spot_stands g (Seq first rest) locked s x h =
     ⊎_elim
-    (λ l. in_first (steps_of first) (steps_of rest) x.operation (spot_stands g first locked s x l))
-    (λ r. in_last (steps_of first) (steps_of rest) x.operation (spot_stands g rest locked r.0 x r.2)) h
+    (λ l. in_left (steps_of first) (steps_of rest) x.operation (spot_stands g first locked s x l))
+    (λ r. in_right (steps_of first) (steps_of rest) x.operation (spot_stands g rest locked r.0 x r.2)) h
 spot_stands g (Choice left right) locked s x h =
     ⊎_elim
-    (λ l. in_first (steps_of left) (steps_of right) x.operation (spot_stands g left locked s x l))
-    (λ r. in_last (steps_of left) (steps_of right) x.operation (spot_stands g right locked s x r)) h
+    (λ l. in_left (steps_of left) (steps_of right) x.operation (spot_stands g left locked s x l))
+    (λ r. in_right (steps_of left) (steps_of right) x.operation (spot_stands g right locked s x r)) h
 spot_stands g (Loop body) locked s x h = spot_stands g body locked (last_round g body locked s) x h
 spot_stands g (Sync lock body) locked s x h = spot_stands g body true (popped s 1) x h

@@ -1,8 +1,8 @@
 -- What a table has answered of paths with one field more stays so.
-use Rattle.std.proofs.Common.{◌≡◌, ℕ, zero, suc, Bool, true, false, cond, ◌&&◌, List, [], ◌∷◌, ◌++◌, slice_get, nat_eq}
+use Rattle.std.proofs.Common.{◌≡◌, ℕ, zero, suc, Bool, true, false, cond, List, [], ◌∷◌, ◌++◌, slice_get, nat_eq}
 use Rattle.std.proofs.Common.{Option, None, Some, refl, sym, ap, subst, ◌∙◌}
 use Rattle.std.specs.Map.{lookup}
-use Rattle.std.proofs.lemmas.Bool.{eqb-true}
+use Rattle.std.proofs.lemmas.Bool.{eqb-true, and_parts}
 use Rattle.access_paths.specs.declared.path.Path.{Path}
 use Rattle.access_paths.specs.declared.table.Extension.{Extension}
 use Rattle.access_paths.specs.Paths.{extended}
@@ -43,23 +43,15 @@ answered a b (Some q) None is = absurd is
 answered a b (Some q) (Some n) is =
     (subst (GoesOn a) (sym is.1) (interned-goes_on a q), (is.0, sym (interned-there b q n is.0)))
 
-left_of : (a b : Bool) → (a && b) ≡ true → a ≡ true
-left_of true b h = refl
-left_of false b h = h
-
-right_of : (a b : Bool) → (a && b) ≡ true → b ≡ true
-right_of true b h = h
-right_of false b h = cc
-
 made : ℕ → ℕ → Extension
 made front field = record { front = front; field = record { 0 = field } }
 
 equal_extensions : (e d : Extension) → same_extension e d ≡ true → e ≡ d
 unfolding made
 equal_extensions e d same =
-    let fronts : e.front ≡ d.front = eqb-true e.front d.front (left_of (nat_eq e.front d.front) _ same) in
+    let fronts : e.front ≡ d.front = eqb-true e.front d.front (and_parts (nat_eq e.front d.front) _ same).0 in
     let fields : e.field.0 ≡ d.field.0 =
-    eqb-true e.field.0 d.field.0 (right_of (nat_eq e.front d.front) _ same) in
+    eqb-true e.field.0 d.field.0 (and_parts (nat_eq e.front d.front) _ same).1 in
     (λ i. made (fronts i) (fields i))
 
 inside : (x y : Option ℕ) → Some x ≡ Some y → x ≡ y

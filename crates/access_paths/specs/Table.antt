@@ -1,5 +1,6 @@
 -- A contract of a public call rests on this: paths and their numbers, and what a path feeds a hasher.
-use Rattle.std.proofs.Common.{◌≡◌, ℕ, ◌≤◌, List, [], ◌∷◌, ◌++◌, length, Option, None, Some, slice_get, slice_index_or, ap, IsTrue, if◌then◌else◌}
+use Rattle.std.proofs.Common.{◌≡◌, ℕ, ◌≤◌, List, [], ◌∷◌, ◌++◌, length, Option, None, Some, slice_get, slice_index_or}
+use Rattle.std.proofs.Common.{ap, IsTrue, if◌then◌else◌}
 use Rattle.std.specs.List.{list_any}
 use Rattle.std.specs.Hash as fed
 use Rattle.racer_base.specs.declared.ids.FieldId.{FieldId}

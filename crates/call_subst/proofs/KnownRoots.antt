@@ -1,9 +1,9 @@
 -- What a callee returns begins at something known in its caller, where all that is passed does.
-use Rattle.std.proofs.Common.{◌≡◌, ℕ, zero, suc, Bool, true, false, cond, ◌&&◌, List, [], ◌∷◌, ◌++◌, length, drop}
+use Rattle.std.proofs.Common.{◌≡◌, ℕ, zero, suc, Bool, true, false, cond, List, [], ◌∷◌, ◌++◌, length, drop}
 use Rattle.std.proofs.Common.{nat_lt, None, Some, slice_index_or, refl, ap, ◌∙◌}
 use Rattle.std.specs.Prelude.{Result, Ok, Err, IfOk}
 use Rattle.std.specs.List.{list_all}
-use Rattle.std.proofs.lemmas.Bool.{false≢true}
+use Rattle.std.proofs.lemmas.Bool.{and_parts}
 use Rattle.racer_base.specs.declared.ids.FieldId.{FieldId}
 use Rattle.racer_base.specs.declared.limits.TheConstants.{MAX_PATH_FIELDS}
 use Rattle.access_paths.specs.declared.path.Path.{Path}
@@ -32,23 +32,15 @@ along-known : (v : Value) (fields : List FieldId) → has_known_root v ≡ true 
 along-known v [] known = known
 along-known v (f ∷ fields) known = along-known (field_value v f) fields (field-known v f known)
 
-first_of : (a b : Bool) → (a && b) ≡ true → a ≡ true
-first_of true b both = refl
-first_of false b both = both
-
-second_of : (a b : Bool) → (a && b) ≡ true → b ≡ true
-second_of true b both = both
-second_of false b both = absurd (false≢true both)
-
 at-known : (values : List Value) (i : ℕ) → AreKnown values → has_known_root (slice_index_or values i Unnamed) ≡ true
 at-known [] i known = refl
-at-known (v ∷ values) zero known = first_of (has_known_root v) (list_all has_known_root values) known
+at-known (v ∷ values) zero known = (and_parts (has_known_root v) (list_all has_known_root values) known).0
 at-known (v ∷ values) (suc i) known =
-    at-known values i (second_of (has_known_root v) (list_all has_known_root values) known)
+    at-known values i (and_parts (has_known_root v) (list_all has_known_root values) known).1
 
 behind-known : (values : List Value) → AreKnown values → AreKnown (drop 1 values)
 behind-known [] known = refl
-behind-known (v ∷ values) known = second_of (has_known_root v) (list_all has_known_root values) known
+behind-known (v ∷ values) known = (and_parts (has_known_root v) (list_all has_known_root values) known).1
 
 formals-known : (is_static : Bool) (values : List Value) → AreKnown values →
     AreKnown (cond is_static values (drop 1 values))

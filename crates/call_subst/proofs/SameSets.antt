@@ -5,19 +5,17 @@ use Rattle.std.specs.Cmp.{both_ways}
 use Rattle.std.specs.FinSet as set
 use Rattle.std.specs.List.{list_any, flat_map}
 use Rattle.std.specs.Ordering.{eq_by_cmp}
+use Rattle.std.proofs.Math.Bool.{or-true}
 use Rattle.access_paths.specs.declared.path.Path.{Path}
 use Rattle.access_paths.specs.Order.{PathSet, path_cmp}
 use Rattle.access_paths.specs.Same.{path_cmp-total, path_cmp-IsAntisymmetric, equal_of_same, same_path-itself, tied}
+use Rattle.owner_domain.proofs.MetValues.{grouped}
 
 -- a path of the list that passes
 record Passes (test : Path → Bool) (paths : List Path) : Type 0 where
   path : Path
   passes : test path ≡ true
   there : list_any (eq_by_cmp path_cmp path) paths ≡ true
-
-or_true : (b : Bool) → (b || true) ≡ true
-or_true true = refl
-or_true false = refl
 
 one_passes : (test : Path → Bool) (paths : List Path) → list_any test paths ≡ true → Passes test paths
 one_passes test [] one = absurd (false≢true one)
@@ -35,7 +33,7 @@ one_passes test (p ∷ paths) one =
             path = found.path;
             passes = found.passes;
             there = ap (λ b. eq_by_cmp path_cmp found.path p || b) found.there
-                ∙ or_true (eq_by_cmp path_cmp found.path p);
+                ∙ or-true (eq_by_cmp path_cmp found.path p);
           }
     ] refl one
 
@@ -49,7 +47,7 @@ passes_there test (q ∷ paths) p passes there =
           let same : p ≡ q = equal_of_same p q (sym (tied p q) ∙ e) in
           ap (λ b. b || list_any test paths) (ap test (sym same) ∙ passes)
       | false ↦ λ e later.
-          ap (λ b. test q || b) (passes_there test paths p passes later) ∙ or_true (test q)
+          ap (λ b. test q || b) (passes_there test paths p passes later) ∙ or-true (test q)
     ] refl there
 
 -- what is in one list is in the other
@@ -68,15 +66,11 @@ pub any-same_set : (test : Path → Bool) (ps qs : List Path) →
 any-same_set test ps qs same =
     both_ways (list_any test ps) (list_any test qs) (within test ps qs same) (within test qs ps (sym same))
 
-or-assoc : (a b c : Bool) → ((a || b) || c) ≡ (a || (b || c))
-or-assoc true b c = refl
-or-assoc false b c = refl
-
 pub any-append : {X : Type 0} (test : X → Bool) (xs ys : List X) →
     list_any test (xs ++ ys) ≡ (list_any test xs || list_any test ys)
 any-append test [] ys = refl
 any-append test (x ∷ xs) ys = ap (λ b. test x || b) (any-append test xs ys)
-    ∙ sym (or-assoc (test x) (list_any test xs) (list_any test ys))
+    ∙ sym (grouped (test x) (list_any test xs) (list_any test ys))
 
 any-flat_map : (test : Path → Bool) (f : Path → List Path) (ps : List Path) →
     list_any test (flat_map f ps) ≡ list_any (λ p. list_any test (f p)) ps

@@ -1,6 +1,6 @@
 -- Substitution makes no list longer.
-use Rattle.std.proofs.Common.{◌≡◌, ℕ, suc, ◌+◌, ◌≤◌, Bool, true, false, cond, not, ◌||◌, List, [], ◌∷◌, ◌++◌, None, Some}
-use Rattle.std.proofs.Common.{length, filter, refl, ap, arith, length-append}
+use Rattle.std.proofs.Common.{◌≡◌, ℕ, suc, ◌+◌, ◌≤◌, Bool, ◌||◌, List, [], ◌∷◌, ◌++◌, None, Some}
+use Rattle.std.proofs.Common.{length, refl, ap, arith, length-append}
 use Rattle.std.specs.List.{enumerate_from, flat_map}
 use Rattle.racer_base.specs.declared.ids.SiteId.{SiteId}
 use Rattle.access_paths.specs.declared.path.Path.{Path}
@@ -13,23 +13,7 @@ use Rattle.access_paths.specs.Paths.{same_path}
 use Rattle.access_domain.specs.Findings.{Findings}
 use Rattle.access_domain.specs.FlowContext.{FlowContext}
 use Rattle.access_domain.specs.Substitution.{Actuals, substituted_path, substituted_record, value_named, substituted}
-
-filter-shorter : {X : Type 0} (test : X → Bool) (xs : List X) → length (filter test xs) ≤ length xs
-filter-shorter test [] = omega arith
-filter-shorter test (x ∷ xs) =
-    let fewer : length (filter test xs) ≤ length xs = filter-shorter test xs in
-    elim (test x) as (λ b. length (cond b (x ∷ filter test xs) (filter test xs)) ≤ suc (length xs)) [
-      | true ↦ omega arith
-      | false ↦ omega arith
-    ]
-
-firsts-shorter : {X : Type 0} (same : X → X → Bool) (xs : List X) → length (firsts same xs) ≤ length xs
-firsts-shorter same [] = omega arith
-firsts-shorter same (x ∷ xs) =
-    let fewer : length (firsts same xs) ≤ length xs = firsts-shorter same xs in
-    let left : length (filter (λ y. not (same x y)) (firsts same xs)) ≤ length (firsts same xs) =
-    filter-shorter (λ y. not (same x y)) (firsts same xs) in
-    omega arith
+use Rattle.access_domain.proofs.Firsts.{fewer_firsts}
 
 flat-shorter : {X Y : Type 0} (f : X → List Y) → ((x : X) → length (f x) ≤ 1) → (xs : List X) →
     length (flat_map f xs) ≤ length xs
@@ -69,7 +53,7 @@ pub fewer_records : (g : FlowContext) (actuals : Actuals) (found : Findings) (lo
     length (substituted g actuals found locked site).records ≤ length found.records
 fewer_records g actuals found locked site =
     let made : List Access = flat_map (substituted_record g actuals locked site) (enumerate_from 0 found.records) in
-    let first : length (firsts same_key made) ≤ length made = firsts-shorter same_key made in
+    let first : length (firsts same_key made) ≤ length made = fewer_firsts same_key made in
     let flat : length made ≤ length (enumerate_from 0 found.records) =
     flat-shorter (substituted_record g actuals locked site) (one_record g actuals locked site)
     (enumerate_from 0 found.records) in
@@ -80,7 +64,7 @@ pub fewer_paths : (g : FlowContext) (actuals : Actuals) (found : Findings) (lock
     length (substituted g actuals found locked site).wobbly ≤ length found.wobbly
 fewer_paths g actuals found locked site =
     let made : List Path = flat_map (λ (p : Path). names_of (value_named actuals p)) found.wobbly in
-    let first : length (firsts same_path made) ≤ length made = firsts-shorter same_path made in
+    let first : length (firsts same_path made) ≤ length made = fewer_firsts same_path made in
     let flat : length made ≤ length found.wobbly =
     flat-shorter (λ (p : Path). names_of (value_named actuals p))
     (λ p. one_name (value_named actuals p)) found.wobbly in

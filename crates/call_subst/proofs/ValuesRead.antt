@@ -8,7 +8,8 @@ use Rattle.owner_domain.specs.declared.value.Value.{Value}
 use Rattle.owner_domain.specs.Numbered.{read_value, IsInRange, AllInRange}
 use Rattle.call_subst.specs.Numbered.{read_values}
 
-module _ (table : List Path) (values : List NumberedValue) (i : ℕ) (d : NumberedValue) (within : i < length values) where
+module _ (table : List Path) (values : List NumberedValue) (i : ℕ) (d : NumberedValue)
+    (within : i < length values) where
   both_in : AllInRange table (drop i values) →
       IsInRange table (get_or values i d) × AllInRange table (drop (i + 1) values)
   both_in range = subst (AllInRange table) (drop_more values i d within) range

@@ -26,5 +26,6 @@ abbrev pub IsSubstituted : Core → MethodId → List Value → Bool → Bool �
     Type 0
 IsSubstituted core callee values locked main site summary records wobbly =
     (found : Findings) → summary_from found ≡ summary →
-    AreFindings (substituted (given_at core main) (actuals_from (is_static_method core callee) values) found locked site)
+    AreFindings (substituted (given_at core main) (actuals_from (is_static_method core callee) values) found locked
+    site)
     records wobbly

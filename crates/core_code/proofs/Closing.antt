@@ -2,6 +2,7 @@
 use Rattle.std.proofs.Common.{◌≡◌, ℕ, ◌+◌, ◌-◌, ◌<◌, ◌≤◌, ◌⊎◌, inl, inr, List, [], ◌∷◌, ◌++◌, length, refl}
 use Rattle.std.proofs.Common.{sym, ap, ◌∙◌, arith}
 use Rattle.racer_base.specs.declared.ids.MethodId.{MethodId}
+use Rattle.racer_base.proofs.Lists.{no_items}
 use Rattle.core_code.specs.declared.walk.Group.{Group}
 use Rattle.core_code.specs.Chains.{Calls}
 use Rattle.core_code.specs.Falling.{number_of}
@@ -9,7 +10,7 @@ use Rattle.core_code.specs.Walks.{At, From, LeadsTo, IsDone, new_ones, IsWalked,
 use Rattle.core_code.proofs.Standing.{at_within, at_left, at_right, at_split, at_more, at_end}
 use Rattle.core_code.proofs.Standing.{from_left, from_right, from_split, from_past}
 use Rattle.core_code.proofs.Standing.{from_behind}
-use Rattle.core_code.proofs.Walking.{length-more, no_items, earlier, in_last}
+use Rattle.core_code.proofs.Walking.{length-more, earlier, in_last}
 
 module _ (rows : List (List MethodId)) (places old new : List ℕ) (lower upper todo : List MethodId)
     (groups : List Group) (g : Group) (count : ℕ)

@@ -144,7 +144,7 @@ tell_new stamps stamp row m within told =
 
 -- ---- one turn
 
-filter_all : {X : Type 0} (xs : List X) → filter (λ _. true) xs ≡ xs
+pub filter_all : {X : Type 0} (xs : List X) → filter (λ _. true) xs ≡ xs
 filter_all [] = refl
 filter_all {X} (x ∷ xs) = ap (λ (rest : List X). x ∷ rest) (filter_all xs)
 

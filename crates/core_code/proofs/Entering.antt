@@ -4,6 +4,7 @@ use Rattle.std.proofs.Common.{sym, ap, ◌∙◌, subst, arith}
 use Rattle.std.proofs.lemmas.Bool.{cases_lt}
 use Rattle.std.proofs.lemmas.List.{length-append}
 use Rattle.racer_base.specs.declared.ids.MethodId.{MethodId}
+use Rattle.racer_base.proofs.Lists.{no_items}
 use Rattle.core_code.specs.declared.walk.Group.{Group}
 use Rattle.core_code.specs.Chains.{row_of, Calls}
 use Rattle.core_code.specs.Falling.{number_of}
@@ -12,7 +13,7 @@ use Rattle.core_code.proofs.ChainLemmas.{then_call, leads_on}
 use Rattle.core_code.proofs.Standing.{at_within, at_some, at_one, at_left, at_more, at_end}
 use Rattle.core_code.proofs.Standing.{from_left, from_right, from_split, from_past, from_more, from_end}
 use Rattle.core_code.proofs.Standing.{from_behind, from_contains, contains_from}
-use Rattle.core_code.proofs.Walking.{length-more, no_items}
+use Rattle.core_code.proofs.Walking.{length-more}
 
 -- a method has a place, and the others those that they had
 pub record IsPlaced (m : MethodId) (p : ℕ) (old new : List ℕ) : Type 0 where

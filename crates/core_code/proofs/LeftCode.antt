@@ -1,12 +1,9 @@
 -- How a sequence can be left, part by part.
 use Rattle.std.proofs.Common.{◌≡◌, Bool, true, false, ◌&&◌, ◌||◌, refl}
+use Rattle.std.proofs.Math.Bool.{and-true}
 use Rattle.core_code.specs.declared.exits.Exits.{Exits}
 use Rattle.core_code.specs.Exits.{exits_of, exits_then}
 use Rattle.core_code.specs.Tree.{Tree, Seq, Skip, can_end, can_return}
-
-and-true : (a : Bool) → (a && true) ≡ a
-and-true true = refl
-and-true false = refl
 
 or-none : (r a : Bool) → (r || (a && false)) ≡ r
 or-none true a = refl

@@ -3,13 +3,11 @@ pub mod ChainLemmas
 pub mod Components
 pub mod Passing
 pub mod LeftCode
-pub mod BoolParts
 pub mod Sites
 pub mod ByRank
 pub mod Membership
 pub mod InRange
 pub mod Gathering
-pub mod Loops
 pub mod Named
 pub mod FieldNames
 pub mod Different
@@ -24,3 +22,5 @@ pub mod Entering
 pub mod WalkParts
 pub mod NoCycles
 pub mod LongestChains
+pub mod KindLemmas
+pub mod PartsLeft

@@ -13,7 +13,8 @@ use Rattle.core_code.specs.Core.{Core, Method}
 use Rattle.core_code.specs.Calls.{calls_in, calls_of, greatest, chain_within}
 use Rattle.core_code.specs.CallFacts.{has_ranks}
 use Rattle.core_code.specs.CalleeRows.{code_rows}
-use Rattle.core_code.proofs.Ranks.{in_tail, in_head, greatest_most, ranks_by_falling}
+use Rattle.core_code.proofs.Ranks.{in_head, greatest_most, ranks_by_falling}
+use Rattle.core_code.proofs.Members.{in_tail}
 
 -- one that is great enough
 great_one : {X : Type 0} (f : X → ℕ) (xs : List X) (k : ℕ) → suc k ≤ greatest (map f xs) →
@@ -41,7 +42,7 @@ agree_or_great f g k each (x ∷ xs) =
           ]
     ]
 
-row_calls : (methods : List Method) (n : ℕ) (k : MethodId) →
+pub row_calls : (methods : List Method) (n : ℕ) (k : MethodId) →
     Contains (elim (slice_get methods n) as (λ (o : Option Method). List MethodId) [
       | None ↦ []
       | Some m ↦ calls_in m.code

@@ -1,16 +1,9 @@
 -- Tests of the members of a list.
-use Rattle.std.proofs.Common.{◌≡◌, ℕ, zero, suc, ◌<◌, Bool, true, false, ◌&&◌, ◌||◌, List, [], ◌∷◌, Some, refl}
+use Rattle.std.proofs.Common.{◌≡◌, ℕ, zero, suc, ◌<◌, Bool, true, false, ◌||◌, List, [], ◌∷◌, Some, refl}
 use Rattle.std.proofs.Common.{ap, ◌∙◌, arith, slice_get, sym}
 use Rattle.std.specs.List.{Contains, list_all, list_any}
 use Rattle.std.proofs.lemmas.Option.{get_or_from_slice_get, slice_get_within}
-
-pub first_part : (a b : Bool) → (a && b) ≡ true → a ≡ true
-first_part true b h = refl
-first_part false b h = h
-
-pub last_part : (a b : Bool) → (a && b) ≡ true → b ≡ true
-last_part true b h = h
-last_part false b h = cc
+use Rattle.std.proofs.lemmas.Bool.{and_parts}
 
 pub in_tail : {X : Type 0} (x : X) (xs : List X) (y : X) → Contains xs y → Contains (x ∷ xs) y
 in_tail x xs y there = (suc there.0, omega (arith, there.1), there.2)
@@ -42,9 +35,9 @@ pub each : {X : Type 0} (test : X → Bool) (xs : List X) (y : X) → list_all t
     test y ≡ true
 each test [] y h there = absurd (let within : there.0 < 0 = there.1 in omega arith)
 each test (x ∷ xs) y h (zero, within, is) =
-    ap test (sym is) ∙ first_part (test x) (list_all test xs) h
+    ap test (sym is) ∙ (and_parts (test x) (list_all test xs) h).0
 each test (x ∷ xs) y h (suc k, within, is) =
-    each test xs y (last_part (test x) (list_all test xs) h) (k, omega (arith, within), is)
+    each test xs y (and_parts (test x) (list_all test xs) h).1 (k, omega (arith, within), is)
 
 -- what stands at a place is there
 pub at_place : {X : Type 0} (xs : List X) (k : ℕ) (x : X) → slice_get xs k ≡ Some x → Contains xs x

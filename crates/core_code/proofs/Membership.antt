@@ -19,11 +19,11 @@ in_append [] ys y h = inr h
 in_append (x ∷ xs) ys y h = ⊎_elim (λ e. inl (inl e)) (λ r.
     ⊎_elim (λ a. inl (inr a)) (λ b. inr b) (in_append xs ys y r)) h
 
-in_left : {X : Type 0} (xs ys : List X) (y : X) → In xs y → In (xs ++ ys) y
+pub in_left : {X : Type 0} (xs ys : List X) (y : X) → In xs y → In (xs ++ ys) y
 in_left (x ∷ xs) ys y h = ⊎_elim (λ e. inl e) (λ r. inr (in_left xs ys y r)) h
 in_left [] ys y h = absurd h
 
-in_right : {X : Type 0} (xs ys : List X) (y : X) → In ys y → In (xs ++ ys) y
+pub in_right : {X : Type 0} (xs ys : List X) (y : X) → In ys y → In (xs ++ ys) y
 in_right [] ys y h = h
 in_right (x ∷ xs) ys y h = inr (in_right xs ys y h)
 

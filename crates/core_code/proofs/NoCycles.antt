@@ -5,37 +5,33 @@ use Rattle.std.proofs.Common.{None, Some, length, refl, sym, ap, ◌∙◌, arit
 use Rattle.std.proofs.Common.{slice_get, zero-add, add-zero}
 use borrow.Author.Tests.{ltb-true}
 use Rattle.std.specs.List.{list_any, list_all, enumerate_from}
-use Rattle.std.proofs.lemmas.Bool.{eq-eqb}
+use Rattle.std.proofs.lemmas.Bool.{eq-eqb, and_parts}
 use Rattle.std.proofs.lemmas.List.{length-map}
 use Rattle.std.proofs.lemmas.Option.{slice_get_cases}
 use Rattle.racer_base.specs.declared.ids.MethodId.{MethodId}
+use Rattle.racer_base.proofs.Tests.{or_second}
 use Rattle.core_code.specs.Chains.{row_of, Calls, IsChain, IsOnCycle}
 use Rattle.core_code.specs.Core.{Core, Method}
 use Rattle.core_code.specs.Calls.{calls_in, method_at, is_analysed, rank_of}
 use Rattle.core_code.specs.CallFacts.{is_above, are_calls_right, has_ranks}
 use Rattle.core_code.specs.CalleeRows.{different, rows_of}
 use Rattle.core_code.specs.Tree.{steps_of}
-use Rattle.core_code.proofs.BoolParts.{first_part, last_part}
 use Rattle.core_code.proofs.Members.{passing, passes, each}
 use Rattle.core_code.proofs.ChainLemmas.{caller_in_range}
 use Rattle.core_code.proofs.RowCallees.{is_method, analysed_among, right_at, row_at, in_row, method_there, nat_eq-same}
 use Rattle.core_code.proofs.RowCallees.{analysed_at}
 use Rattle.core_code.specs.declared.code.Reason.{Reason}
 
-numbered : (p : ℕ × Method → Bool) (k i : ℕ) (xs : List Method) (x : Method) →
+pub numbered : (p : ℕ × Method → Bool) (k i : ℕ) (xs : List Method) (x : Method) →
     list_all p (enumerate_from k xs) ≡ true → slice_get xs i ≡ Some x → p (k + i, x) ≡ true
 numbered p k i [] x all is = absurd cc
 numbered p k zero (y ∷ xs) x all is =
     let same : y ≡ x = cc in
-    (λ j. p (add-zero k j, sym same j)) ∙ first_part (p (k, y)) (list_all p (enumerate_from (k + 1) xs)) all
+    (λ j. p (add-zero k j, sym same j)) ∙ (and_parts (p (k, y)) (list_all p (enumerate_from (k + 1) xs)) all).0
 numbered p k (suc i) (y ∷ xs) x all is =
     let one : k + suc i ≡ (k + 1) + i = omega arith in
     ap (λ (n : ℕ). p (n, x)) one
-    ∙ numbered p (k + 1) i xs x (last_part (p (k, y)) (list_all p (enumerate_from (k + 1) xs)) all) is
-
-left_out : (a b : Bool) → a ≡ false → (a || b) ≡ true → b ≡ true
-left_out true b e k = absurd cc
-left_out false b e k = k
+    ∙ numbered p (k + 1) i xs x (and_parts (p (k, y)) (list_all p (enumerate_from (k + 1) xs)) all).1 is
 
 no_status : (o : Option Method) (method : Method) → o ≡ Some method → analysed_at o ≡ true →
     is_some method.status ≡ false
@@ -83,7 +79,7 @@ module _ (core : Core) (right : are_calls_right core ≡ true) (ranks : has_rank
       ltb-true (rank_of core n) (rank_of core m)
       (ap test same
       ∙ each test (calls_in by.0.code) found.0
-      (left_out (is_some by.0.status) _ (no_status (method_at core m) by.0 by.1 analysed) above) found.1)
+      (or_second (is_some by.0.status) _ (no_status (method_at core m) by.0 by.1 analysed) above) found.1)
 
   chain_below : (m : MethodId) (between : List MethodId) (n : MethodId) → is_analysed core m ≡ true →
       IsChain (rows_of core) m between n → rank_of core n < rank_of core m

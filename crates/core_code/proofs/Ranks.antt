@@ -2,17 +2,14 @@
 use Rattle.std.proofs.Common.{◌≡◌, ℕ, zero, suc, ◌+◌, ◌<◌, ◌≤◌, Bool, true, ◌||◌, List, [], ◌∷◌, Option, None}
 use Rattle.std.proofs.Common.{Some, map, length, is_some, nat_lt, refl, sym, ap, ◌∙◌, subst, arith, add-zero}
 use Rattle.std.proofs.Common.{slice_get, zero-add, false}
-use Rattle.std.proofs.lemmas.Bool.{lt-ltb}
+use Rattle.std.proofs.lemmas.Bool.{lt-ltb, and_from}
 use Rattle.std.proofs.lemmas.Option.{slice_get_within}
 use Rattle.std.specs.List.{Contains, list_all, enumerate_from}
 use Rattle.racer_base.specs.declared.ids.MethodId.{MethodId}
 use Rattle.core_code.specs.Core.{Core, Method}
 use Rattle.core_code.specs.Calls.{calls_in, calls_of, greatest, chain_within, rank_of}
 use Rattle.core_code.specs.CallFacts.{is_above, has_ranks}
-use Rattle.core_code.proofs.BoolParts.{both}
-
-pub in_tail : {X : Type 0} (x : X) (xs : List X) (y : X) → Contains xs y → Contains (x ∷ xs) y
-in_tail x xs y there = (suc there.0, omega (arith, there.1), there.2)
+use Rattle.core_code.proofs.Members.{in_tail}
 
 pub in_head : {X : Type 0} (x : X) (xs : List X) → Contains (x ∷ xs) x
 in_head x xs = (0, omega arith, refl)
@@ -21,7 +18,8 @@ all_by : {X : Type 0} (test : X → Bool) (xs : List X) → ((y : X) → Contain
     list_all test xs ≡ true
 all_by test [] each = refl
 all_by test (x ∷ xs) each =
-    both (test x) (list_all test xs) (each x (in_head x xs)) (all_by test xs (λ y there. each y (in_tail x xs y there)))
+    and_from (test x) (list_all test xs) (each x (in_head x xs))
+    (all_by test xs (λ y there. each y (in_tail x xs y there)))
 
 same_map : {X : Type 0} (f g : X → ℕ) (xs : List X) → ((y : X) → Contains xs y → f y ≡ g y) → map f xs ≡ map g xs
 same_map f g [] each = refl
@@ -62,7 +60,7 @@ module _ (core : Core)
       let within : k < length core.methods = slice_get_within core.methods k m here in
       let rest : list_all (is_above (rank_of core)) (enumerate_from (k + 1) ms) ≡ true =
       above_from (k + 1) ms (λ j. ap (slice_get core.methods) (omega arith) ∙ found (suc j)) in
-      both (is_above (rank_of core) (k, m)) (list_all (is_above (rank_of core)) (enumerate_from (k + 1) ms))
+      and_from (is_above (rank_of core) (k, m)) (list_all (is_above (rank_of core)) (enumerate_from (k + 1) ms))
       (either_passes (is_some m.status) _
       (all_by (λ (n : MethodId). nat_lt (rank_of core n) (rank_of core (record { 0 = k }))) (calls_in m.code)
       (λ n there.

@@ -2,7 +2,7 @@
 use Rattle.std.proofs.Common.{◌≡◌, ℕ, zero, suc, ◌<◌, Bool, true, false, cond, ◌||◌, not, List, [], ◌∷◌}
 use Rattle.std.proofs.Common.{Option, None, Some, length, map, filter, refl, sym, ap, ◌∙◌, arith, nat_eq, is_none}
 use Rattle.std.proofs.Common.{slice_get, slice_index_or, get_or}
-use Rattle.std.proofs.lemmas.Bool.{eq-eqb, eqb-true}
+use Rattle.std.proofs.lemmas.Bool.{eq-eqb, eqb-true, and_parts, or_left, or_right}
 use Rattle.std.proofs.lemmas.Option.{slice_get_within}
 use Rattle.std.proofs.lemmas.List.{length-map}
 use Rattle.std.proofs.lemmas.List.Folds.{list_any-append}
@@ -17,7 +17,6 @@ use Rattle.core_code.specs.CallFacts.{is_right_call, has_right_calls, are_calls_
 use Rattle.core_code.specs.Core.{Core, Method}
 use Rattle.core_code.specs.CalleeRows.{different, rows_of}
 use Rattle.core_code.specs.Tree.{Operation, steps_of}
-use Rattle.core_code.proofs.BoolParts.{first_part, last_part}
 
 abbrev pub is_method : MethodId → MethodId → Bool
 is_method n m = nat_eq m.0 n.0
@@ -27,13 +26,6 @@ differs m n = not (nat_eq m.0 n.0)
 
 pub nat_eq-same : (n m : MethodId) → nat_eq n.0 m.0 ≡ true → n ≡ m
 nat_eq-same n m e = ap (λ (k : ℕ). let i : MethodId = record { 0 = k } in i) (eqb-true n.0 m.0 e)
-
-pub or-left : (a b : Bool) → a ≡ true → (a || b) ≡ true
-or-left a b e = ap (λ c. c || b) e
-
-pub or-right : (a b : Bool) → b ≡ true → (a || b) ≡ true
-or-right true b e = refl
-or-right false b e = e
 
 -- ---- what a row has
 
@@ -71,9 +63,9 @@ pub read_any : (ms : List MethodId) (i : ℕ) (n : MethodId) → i < length ms �
     list_any (is_method n) ms ≡ true
 read_any [] i n within is = absurd (omega arith)
 read_any (m ∷ ms) zero n within is =
-    or-left (nat_eq m.0 n.0) (list_any (is_method n) ms) (eq-eqb m.0 n.0 (ap (λ (k : MethodId). k.0) (sym is)))
+    or_left (nat_eq m.0 n.0) (list_any (is_method n) ms) (eq-eqb m.0 n.0 (ap (λ (k : MethodId). k.0) (sym is)))
 read_any (m ∷ ms) (suc i) n within is =
-    or-right (nat_eq m.0 n.0) (list_any (is_method n) ms) (read_any ms i n (omega arith) is)
+    or_right (nat_eq m.0 n.0) (list_any (is_method n) ms) (read_any ms i n (omega arith) is)
 
 -- ---- the methods in a row are analysed
 
@@ -85,7 +77,7 @@ call_analysed : (program : Core) (n : MethodId) (op : CoreOp) → is_right_call 
     list_any (is_method n) (called_by op) ≡ true → is_analysed program n ≡ true
 call_analysed program n (Call m k) right there =
     let same : m ≡ n = nat_eq-same m n (alone (nat_eq m.0 n.0) there) in
-    ap (is_analysed program) (sym same) ∙ first_part (is_analysed program m) (takes program m k) right
+    ap (is_analysed program) (sym same) ∙ (and_parts (is_analysed program m) (takes program m k) right).0
 call_analysed program n (Push v) right there = absurd cc
 call_analysed program n (PushClass c) right there = absurd cc
 call_analysed program n PushPrim right there = absurd cc
@@ -109,8 +101,8 @@ analysed_among program n [] right there = absurd cc
 analysed_among program n (o ∷ ops) right there =
     let rest = flat_map (λ (x : Operation). called_by x.op) ops in
     let others = list_all (λ (x : Operation). is_right_call program x.op) ops in
-    let first = first_part (is_right_call program o.op) others right in
-    let last = last_part (is_right_call program o.op) others right in
+    let first = (and_parts (is_right_call program o.op) others right).0 in
+    let last = (and_parts (is_right_call program o.op) others right).1 in
     elim (list_any (is_method n) (called_by o.op)) as (λ b. list_any (is_method n) (called_by o.op) ≡ b →
     (b || list_any (is_method n) rest) ≡ true → is_analysed program n ≡ true) [
       | true ↦ λ e _. call_analysed program n o.op first e
@@ -123,10 +115,10 @@ right_at program [] i method all is = absurd cc
 right_at program (m ∷ ms) zero method all is =
     let same : m ≡ method = cc in
     ap (has_right_calls program) (sym same)
-    ∙ first_part (has_right_calls program m) (list_all (has_right_calls program) ms) all
+    ∙ (and_parts (has_right_calls program m) (list_all (has_right_calls program) ms) all).0
 right_at program (m ∷ ms) (suc i) method all is =
     right_at program ms i method
-    (last_part (has_right_calls program m) (list_all (has_right_calls program) ms) all) is
+    (and_parts (has_right_calls program m) (list_all (has_right_calls program) ms) all).1 is
 
 abbrev pub analysed_at : Option Method → Bool
 analysed_at o = elim o as (λ _. Bool) [ None ↦ false | Some method ↦ is_none method.status ]

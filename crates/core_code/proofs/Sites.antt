@@ -7,10 +7,9 @@ use Rattle.std.proofs.lemmas.List.{map-append}
 use Rattle.std.specs.List.{find, Contains}
 use Rattle.std.proofs.lemmas.Option.{slice_get-get_or}
 use borrow.Author.Tests.{eqb-true}
-use Rattle.std.proofs.lemmas.Bool.{ne_eqb}
+use Rattle.std.proofs.lemmas.Bool.{ne_eqb, and_parts}
 use Rattle.racer_base.specs.declared.ids.SiteId.{SiteId}
 use Rattle.core_code.specs.Tree.{Tree, Seq, Operation, steps_of, op_at}
-use Rattle.core_code.proofs.BoolParts.{first_part, last_part}
 use Rattle.core_code.specs.Facts.{sites_of, counts_from}
 use Rattle.core_code.proofs.Membership.{find_gives}
 
@@ -43,13 +42,13 @@ find_site : (n : ℕ) (ops : List Operation) (k : ℕ) → counts_from n (sites 
     find (site_is (n + k)) ops ≡ slice_get ops k
 find_site n [] k h = refl
 find_site n (o ∷ ops) zero h =
-    let here : nat_eq o.site.0 n ≡ true = first_part (nat_eq o.site.0 n) (counts_from (suc n) (sites ops)) h in
+    let here : nat_eq o.site.0 n ≡ true = (and_parts (nat_eq o.site.0 n) (counts_from (suc n) (sites ops)) h).0 in
     ap (λ b. cond b (Some o) (find (site_is (n + 0)) ops)) (ap (nat_eq o.site.0) (add-zero n) ∙ here)
 find_site n (o ∷ ops) (suc k) h =
     let here : o.site.0 ≡ n = eqb-true o.site.0 n
-    (first_part (nat_eq o.site.0 n) (counts_from (suc n) (sites ops)) h) in
+    (and_parts (nat_eq o.site.0 n) (counts_from (suc n) (sites ops)) h).0 in
     let later : counts_from (suc n) (sites ops) ≡ true =
-    last_part (nat_eq o.site.0 n) (counts_from (suc n) (sites ops)) h in
+    (and_parts (nat_eq o.site.0 n) (counts_from (suc n) (sites ops)) h).1 in
     let other : nat_eq o.site.0 (n + suc k) ≡ false =
     ne_eqb o.site.0 (n + suc k) (λ (e : o.site.0 ≡ n + suc k). omega arith) in
     let shift : n + suc k ≡ suc n + k = omega arith in

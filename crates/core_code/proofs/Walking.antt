@@ -14,10 +14,6 @@ use Rattle.core_code.proofs.Standing.{from_left, from_more}
 pub length-more : {X : Type 0} (xs : List X) (x : X) → length (xs ++ x ∷ []) ≡ length xs + 1
 length-more xs x = length-append xs (x ∷ [])
 
-pub no_items : {X : Type 0} (xs : List X) → length xs ≡ 0 → xs ≡ []
-no_items [] e = refl
-no_items (x ∷ xs) e = absurd (omega arith)
-
 module _ (rows : List (List MethodId)) where
   -- ---- a call is looked at that leads to a method that is done, or to one of the last group
 

@@ -104,7 +104,10 @@ method_both =
 -- the first method with a lock that stands in another file
 abbrev pub lock_elsewhere : Method
 lock_elsewhere =
-    record method_new { code = own_sync (record { file = record { 0 = 1 }; line = 1; column = 1 }) (step 0 (at 1 7) this) }
+    record method_new {
+      code = own_sync (record { file = record { 0 = 1 }; line = 1; column = 1 })
+          (step 0 (at 1 7) this);
+    }
 
 abbrev pub pair : Core
 pair =

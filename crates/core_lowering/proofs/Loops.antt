@@ -28,25 +28,6 @@ map-step {A} {B} f xs i x made new y whole within is e same before =
     ∙ sym (at_drop_more (λ (ys : List A). made ++ map f ys) xs i x within)
     ∙ before
 
--- F is what all elements give, and f what one gives: one turn of a loop that gathers it, and its end
-pub turn : {A B : Type 0} (F : List A → List B) (f : A → List B) (xs : List A) (i : ℕ) (x : A)
-    (made new whole : List B) → ((y : A) (ys : List A) → F (y ∷ ys) ≡ f y ++ F ys) → i < length xs →
-    x ≡ get_or xs i x → new ≡ made ++ f x → made ++ F (drop i xs) ≡ whole →
-    new ++ F (drop (i + 1) xs) ≡ whole
-turn {A} {B} F f xs i x made new whole splits within is e before =
-    let rest : List A = drop (i + 1) xs in
-    ap (λ (ys : List B). ys ++ F rest) e
-    ∙ append_assoc made (f x) (F rest)
-    ∙ ap (λ (ys : List B). made ++ ys) (sym (splits x rest))
-    ∙ ap (λ (y : A). made ++ F (y ∷ rest)) is
-    ∙ sym (at_drop_more (λ (ys : List A). made ++ F ys) xs i x within)
-    ∙ before
-
-pub ended : {A B : Type 0} (F : List A → List B) (xs : List A) (i : ℕ) (made whole : List B) → F [] ≡ [] →
-    length xs ≤ i → made ++ F (drop i xs) ≡ whole → made ≡ whole
-ended {A} {B} F xs i made whole none past before =
-    sym (append-nil made) ∙ ap (λ (ys : List B). made ++ ys) (sym (at_drop_all F xs i past ∙ none)) ∙ before
-
 -- F is what the elements of two lists give side by side, and f what one of each gives: one turn, and the end
 module _ {A B C : Type 0} (F : List A → List B → List C) (xs : List A) (ys : List B) (i : ℕ) (made whole : List C)
     (before : made ++ F (drop i xs) (drop i ys) ≡ whole) where

@@ -8,11 +8,11 @@ use Rattle.std.specs.Ordering.{nat_cmp, ordering_then, is_lt}
 use Rattle.std.specs.declared.cmp.Ordering.{Ordering}
 use Rattle.std.specs.declared.cmp.Ordering.TheVariants.{Less, Equal, Greater}
 use borrow.Author.Tests.{eqb-true, ltb-true, ltb-false}
-use Rattle.std.proofs.lemmas.Bool.{false≢true, cases_eq, eq-eqb, ne_eqb, le-ltb}
+use Rattle.std.proofs.lemmas.Bool.{cases_eq, eq-eqb, ne_eqb, le-ltb, and_from, and_parts, or_cases, or_parts}
 use Rattle.std.proofs.lemmas.List.Sums.{sum_by-cons}
 use Rattle.std.proofs.lemmas.List.Sorted.{sum_by-IsPermutation}
 use Rattle.racer_base.specs.declared.ids.Place.{Place}
-use Rattle.core_code.proofs.BoolParts.{both, first_part, last_part}
+use Rattle.racer_base.proofs.Tests.{and_second}
 use Rattle.core_lowering_rules.specs.Programs.{is_before, put_in, in_order}
 use Rattle.core_lowering_rules.proofs.FoundElements.{Each}
 
@@ -22,14 +22,6 @@ abbrev AtMost : Place → Place → Type 0
 AtMost p q =
     (p.file.0 < q.file.0)
     ⊎ ((p.file.0 ≡ q.file.0) × ((p.line < q.line) ⊎ ((p.line ≡ q.line) × (p.column ≤ q.column))))
-
-either : (a b : Bool) → (a || b) ≡ false → (a ≡ false) × (b ≡ false)
-either true b h = absurd (false≢true (sym h))
-either false b h = (refl, h)
-
-behind : (a b : Bool) → a ≡ true → (a && b) ≡ false → b ≡ false
-behind true b p h = h
-behind false b p h = absurd (false≢true p)
 
 not_less : (a b : ℕ) → nat_lt a b ≡ false → b ≤ a
 not_less a b h = ltb-false a b h
@@ -43,13 +35,13 @@ below a b h other = below-by a b h other (nat_lt a b) refl
 
 at_most : (p q : Place) → is_before q p ≡ false → AtMost p q
 at_most p q h =
-    let files = either (nat_lt q.file.0 p.file.0) _ h in
+    let files = or_parts (nat_lt q.file.0 p.file.0) _ h in
     let least : p.file.0 ≤ q.file.0 = not_less q.file.0 p.file.0 files.0 in
     elim (cases_eq p.file.0 q.file.0) as (λ _. AtMost p q) [
       | inr other ↦ inl (below p.file.0 q.file.0 least other)
       | inl same ↦
-          let lines = either (nat_lt q.line p.line) _
-          (behind (nat_eq q.file.0 p.file.0) _ (eq-eqb q.file.0 p.file.0 (sym same)) files.1) in
+          let lines = or_parts (nat_lt q.line p.line) _
+          (and_second (nat_eq q.file.0 p.file.0) _ (eq-eqb q.file.0 p.file.0 (sym same)) files.1) in
           let least_line : p.line ≤ q.line = not_less q.line p.line lines.0 in
           inr (
             same,
@@ -60,7 +52,7 @@ at_most p q h =
                       inr (
                         one,
                         not_less q.column p.column
-                            (behind (nat_eq q.line p.line) _ (eq-eqb q.line p.line (sym one)) lines.1),
+                            (and_second (nat_eq q.line p.line) _ (eq-eqb q.line p.line (sym one)) lines.1),
                       )
                 ],
           )
@@ -121,25 +113,21 @@ at_most-refl : (p : Place) → AtMost p p
 at_most-refl p = inr (refl, inr (refl, omega arith))
 
 -- what is before is not after
-or_part : (a b : Bool) → (a || b) ≡ true → (a ≡ true) ⊎ (b ≡ true)
-or_part true b h = inl refl
-or_part false b h = inr h
-
 before-at_most : (p q : Place) → is_before p q ≡ true → AtMost p q
 before-at_most p q h =
-    elim (or_part (nat_lt p.file.0 q.file.0) _ h) as (λ _. AtMost p q) [
+    elim (or_cases (nat_lt p.file.0 q.file.0) _ h) as (λ _. AtMost p q) [
       | inl less ↦ inl (ltb-true p.file.0 q.file.0 less)
       | inr more ↦
-          let same = eqb-true p.file.0 q.file.0 (first_part (nat_eq p.file.0 q.file.0) _ more) in
+          let same = eqb-true p.file.0 q.file.0 (and_parts (nat_eq p.file.0 q.file.0) _ more).0 in
           inr (
             same,
-            elim (or_part (nat_lt p.line q.line) _ (last_part (nat_eq p.file.0 q.file.0) _ more)) as
+            elim (or_cases (nat_lt p.line q.line) _ (and_parts (nat_eq p.file.0 q.file.0) _ more).1) as
                 (λ _. (p.line < q.line) ⊎ ((p.line ≡ q.line) × (p.column ≤ q.column))) [
                   | inl less ↦ inl (ltb-true p.line q.line less)
                   | inr rest ↦
                       let less : p.column < q.column =
-                      ltb-true p.column q.column (last_part (nat_eq p.line q.line) _ rest) in
-                      inr (eqb-true p.line q.line (first_part (nat_eq p.line q.line) _ rest), omega (arith, less))
+                      ltb-true p.column q.column (and_parts (nat_eq p.line q.line) _ rest).1 in
+                      inr (eqb-true p.line q.line (and_parts (nat_eq p.line q.line) _ rest).0, omega (arith, less))
                 ],
           )
     ]
@@ -191,16 +179,16 @@ same_place p q = nat_eq p.file.0 q.file.0 && nat_eq p.line q.line && nat_eq p.co
 same-is : (p q : Place) → same_place p q ≡ true → p ≡ q
 unfolding same_place
 same-is p q h =
-    let front = first_part (nat_eq p.file.0 q.file.0 && nat_eq p.line q.line) _ h in
-    one_place p q (eqb-true p.file.0 q.file.0 (first_part (nat_eq p.file.0 q.file.0) _ front))
-    (eqb-true p.line q.line (last_part (nat_eq p.file.0 q.file.0) _ front))
-    (eqb-true p.column q.column (last_part (nat_eq p.file.0 q.file.0 && nat_eq p.line q.line) _ h))
+    let front = (and_parts (nat_eq p.file.0 q.file.0 && nat_eq p.line q.line) _ h).0 in
+    one_place p q (eqb-true p.file.0 q.file.0 (and_parts (nat_eq p.file.0 q.file.0) _ front).0)
+    (eqb-true p.line q.line (and_parts (nat_eq p.file.0 q.file.0) _ front).1)
+    (eqb-true p.column q.column (and_parts (nat_eq p.file.0 q.file.0 && nat_eq p.line q.line) _ h).1)
 
 same-refl : (p : Place) → same_place p p ≡ true
 unfolding same_place
 same-refl p =
-    both (nat_eq p.file.0 p.file.0 && nat_eq p.line p.line) _
-    (both (nat_eq p.file.0 p.file.0) _ (eq-eqb p.file.0 p.file.0 refl) (eq-eqb p.line p.line refl))
+    and_from (nat_eq p.file.0 p.file.0 && nat_eq p.line p.line) _
+    (and_from (nat_eq p.file.0 p.file.0) _ (eq-eqb p.file.0 p.file.0 refl) (eq-eqb p.line p.line refl))
     (eq-eqb p.column p.column refl)
 
 abbrev counted : Bool → ℕ

@@ -1,20 +1,21 @@
 -- Methods that are called as one have one first method.
-use Rattle.std.proofs.Common.{◌≡◌, ℕ, suc, ◌<◌, Bool, true, false, cond, ◌&&◌, List, [], ◌∷◌, Option, Some, None, length}
+use Rattle.std.proofs.Common.{◌≡◌, ℕ, suc, ◌<◌, Bool, true, false, cond, ◌&&◌, List, [], ◌∷◌, Option, Some, None}
+use Rattle.std.proofs.Common.{length}
 use Rattle.std.proofs.Common.{refl, sym, ap, ◌∙◌, subst, slice_get, nat_eq, nat_lt, arith}
 use Rattle.std.specs.Prelude.{option_map, count_by, bytes_eq, if◌then◌else◌}
 use borrow.Author.Tests.{eqb-true}
-use Rattle.std.proofs.lemmas.Bool.{false≢true, eq-eqb}
+use Rattle.std.proofs.lemmas.Bool.{false≢true, eq-eqb, and_from, and_parts}
 use Rattle.std.proofs.lemmas.List.Sums.{sum_by-cons}
 use Rattle.std.proofs.lemmas.Option.{same_Some, none-some, slice_get_within}
 use Rattle.racer_base.specs.declared.ids.ClassId.{ClassId}
 use Rattle.racer_base.specs.declared.ids.MethodId.{MethodId}
-use Rattle.core_lowering_rules.proofs.Texts.{bytes_is, bytes_refl}
+use Rattle.racer_base.proofs.Tests.{bytes_same}
+use Rattle.core_lowering_rules.proofs.Texts.{bytes_is}
 use Rattle.java_resolver.specs.declared.infos.MethodInfo.{MethodInfo}
 use Rattle.java_resolver.specs.Firsts.{first_that}
 use Rattle.java_resolver.specs.Meanings.{is_called, found}
-use Rattle.core_code.proofs.BoolParts.{both, first_part, last_part}
 use Rattle.core_lowering_rules.specs.Programs.{is_overloaded}
-use Rattle.core_lowering_rules.proofs.FoundElements.{first-passes}
+use Rattle.core_lowering_rules.proofs.FoundElements.{first-passes, numbered-method}
 use Rattle.core_lowering.specs.Counts.{first_of, is_number, tally}
 
 -- ---- methods that are called as one
@@ -29,24 +30,24 @@ as_one a b = is_called a.class a.name (length a.parameters) b
 
 called-as : (a b : MethodInfo) → as_one a b ≡ true → CalledAs b a
 called-as a b h =
-    let front = first_part (nat_eq b.class.0 a.class.0 && nat_eq (length b.parameters) (length a.parameters)) _ h in
+    let front = (and_parts (nat_eq b.class.0 a.class.0 && nat_eq (length b.parameters) (length a.parameters)) _ h).0 in
     record {
       class =
           ap (λ (n : ℕ). let made : ClassId = record { 0 = n } in made)
-          (eqb-true b.class.0 a.class.0 (first_part (nat_eq b.class.0 a.class.0) _ front));
+          (eqb-true b.class.0 a.class.0 (and_parts (nat_eq b.class.0 a.class.0) _ front).0);
       name =
           bytes_is b.name a.name
-          (last_part (nat_eq b.class.0 a.class.0 && nat_eq (length b.parameters) (length a.parameters)) _ h);
+          (and_parts (nat_eq b.class.0 a.class.0 && nat_eq (length b.parameters) (length a.parameters)) _ h).1;
       many =
-          eqb-true (length b.parameters) (length a.parameters) (last_part (nat_eq b.class.0 a.class.0) _ front);
+          eqb-true (length b.parameters) (length a.parameters) (and_parts (nat_eq b.class.0 a.class.0) _ front).1;
     }
 
 is-one : (a b : MethodInfo) → CalledAs b a → as_one a b ≡ true
 is-one a b s =
-    both (nat_eq b.class.0 a.class.0 && nat_eq (length b.parameters) (length a.parameters)) _
-    (both (nat_eq b.class.0 a.class.0) _ (eq-eqb b.class.0 a.class.0 (ap (λ (c : ClassId). c.0) s.class))
+    and_from (nat_eq b.class.0 a.class.0 && nat_eq (length b.parameters) (length a.parameters)) _
+    (and_from (nat_eq b.class.0 a.class.0) _ (eq-eqb b.class.0 a.class.0 (ap (λ (c : ClassId). c.0) s.class))
     (eq-eqb (length b.parameters) (length a.parameters) s.many))
-    (subst (λ (text : List ℕ). bytes_eq text a.name ≡ true) (sym s.name) (bytes_refl a.name))
+    (subst (λ (text : List ℕ). bytes_eq text a.name ≡ true) (sym s.name) (bytes_same a.name))
 
 first-same : (methods : List MethodInfo) (a b : MethodInfo) → CalledAs b a → first_of methods b ≡ first_of methods a
 first-same methods a b s =
@@ -54,16 +55,11 @@ first-same methods a b s =
     ∙ ap (λ text. found methods a.class text (length b.parameters)) s.name
     ∙ ap (λ n. found methods a.class a.name n) s.many
 
-numbered : (o : Option ℕ) (m : MethodId) →
-    option_map (λ n. let made : MethodId = record { 0 = n } in made) o ≡ Some m → o ≡ Some m.0
-numbered None m e = absurd (none-some _ e)
-numbered (Some n) m e = ap (λ (k : MethodId). Some k.0) (same_Some _ _ e)
-
 -- the first method of one is called as it
 first-there : (methods : List MethodInfo) (a : MethodInfo) (f : MethodId) → first_of methods a ≡ Some f →
     (y : MethodInfo) × (slice_get methods f.0 ≡ Some y) × CalledAs y a
 first-there methods a f e =
-    let y = first-passes (as_one a) methods f.0 (numbered (first_that (as_one a) methods) f e) in
+    let y = first-passes (as_one a) methods f.0 (numbered-method (first_that (as_one a) methods) f e) in
     (y.0, y.1, called-as a y.0 y.2)
 
 pub first-below : (methods : List MethodInfo) (a : MethodInfo) (f : MethodId) → first_of methods a ≡ Some f →

@@ -1,9 +1,10 @@
 -- Why methods are not analysed: the reasons apart from recursion, with recursion last, are their statuses.
-use Rattle.std.proofs.Common.{◌≡◌, ℕ, suc, Bool, List, [], ◌∷◌, Option, Some, None, map, length, refl, sym, ap, ◌∙◌}
+use Rattle.std.proofs.Common.{◌≡◌, ℕ, suc, Bool, List, [], ◌∷◌, Option, map, length, refl, sym, ap, ◌∙◌}
 use Rattle.std.proofs.Common.{nat_lt}
 use Rattle.std.specs.Option.{option_or}
 use Rattle.racer_base.specs.declared.ids.MethodId.{MethodId}
 use Rattle.racer_base.specs.declared.limits.TheConstants.{MAX_PARAMETERS, MAX_LOCALS}
+use Rattle.racer_base.proofs.Lists.{option_or-assoc}
 use Rattle.java_resolver.specs.declared.table.Table.{Table}
 use Rattle.core_code.specs.declared.code.Reason.{Reason}
 use Rattle.core_code.specs.declared.code.Reason.TheVariants.{Overload, Outside, Parameters, Locals, Recursive}
@@ -16,10 +17,6 @@ use Rattle.core_lowering_methods.specs.Sources.{source_of}
 use Rattle.core_lowering.specs.Reasons.{declared_by, own_reason, reason_of, with_recursion, with_recursive}
 use Rattle.core_lowering.proofs.LocalCounts.{locals-counted}
 
-or-assoc : {A : Type 0} (a b c : Option A) → option_or a (option_or b c) ≡ option_or (option_or a b) c
-or-assoc None b c = refl
-or-assoc (Some x) b c = refl
-
 status-same : (folder : Folder) (b : Bool) (s : Source) →
     status_of folder b s ≡ with_recursion (own_reason folder s) b
 status-same folder b s =
@@ -30,9 +27,9 @@ status-same folder b s =
     let last = where_so b Recursive in
     ap (λ n. option_or overload (option_or outside (option_or parameters
     (option_or (where_so (nat_lt MAX_LOCALS n) Locals) last)))) (locals-counted folder s)
-    ∙ ap (λ (o : Option Reason). option_or overload (option_or outside o)) (or-assoc parameters locals last)
-    ∙ ap (λ (o : Option Reason). option_or overload o) (or-assoc outside (option_or parameters locals) last)
-    ∙ or-assoc overload (option_or outside (option_or parameters locals)) last
+    ∙ ap (λ (o : Option Reason). option_or overload (option_or outside o)) (option_or-assoc parameters locals last)
+    ∙ ap (λ (o : Option Reason). option_or overload o) (option_or-assoc outside (option_or parameters locals) last)
+    ∙ option_or-assoc overload (option_or outside (option_or parameters locals)) last
 
 pub sources-reasons : (table : Table) (sources : List CodeSource) →
     map (reason_of table) sources ≡ map (own_reason (declared_by table)) (map source_of sources)

@@ -13,7 +13,8 @@ use Rattle.java_parser_grammar.specs.Taking.{is_keyword_kind}
 use Rattle.java_parser_grammar.specs.Tokens.{is_name, begins, begins_sign, begins_word}
 use Rattle.java_parser_grammar.specs.Cuts.{joined}
 use Rattle.java_parser_grammar.specs.Pieces.{Item, Piece, cut_pieces, is_annotation}
-use Rattle.java_parser_grammar.specs.Declarations.{is_type_modifier, is_type_word, leads, ends_first, behind_front, names_type}
+use Rattle.java_parser_grammar.specs.Declarations.{is_type_modifier, is_type_word, leads, ends_first, behind_front}
+use Rattle.java_parser_grammar.specs.Declarations.{names_type}
 use Rattle.java_parser_grammar.specs.Declarations.{is_type}
 use Rattle.java_parser_grammar.specs.Members.{behind_words}
 use Rattle.java_parser_grammar.specs.Units.{name_in, read_name}
@@ -40,17 +41,13 @@ or_so true b c e away = refl
 or_so false true c e away = absurd (away refl)
 or_so false false c e away = absurd cc
 
-named_so : (a b : Bool) → (a && b) ≡ true → b ≡ true
-named_so true b e = e
-named_so false b e = absurd cc
-
 -- behind `class` stands a name
 behind_class : (i j : Item) (is : List Item) → begins_word (codes "class") i ≡ true → names_type (i ∷ j ∷ is) ≡ true
     → begins is_name j ≡ true
 behind_class i j is e h =
-    named_so (begins is_type_word i) (begins is_name j)
-    (or_so (begins is_type_word i && begins is_name j) (begins_sign (codes "@") i)
-    (begins_word (codes "interface") j && leads (begins is_name) is) h (word_is_no_sign i e))
+    (and_parts (begins is_type_word i) (begins is_name j) (or_so (begins is_type_word i && begins is_name j)
+    (begins_sign (codes "@") i)
+    (begins_word (codes "interface") j && leads (begins is_name) is) h (word_is_no_sign i e))).1
 
 name_by : (a b : Bool) (t : Token) → (a ≡ true → is_name t ≡ true) → IsNamed (if a && b then Some t else None)
 name_by true true t h = h refl

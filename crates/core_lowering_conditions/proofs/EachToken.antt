@@ -12,7 +12,8 @@ use Rattle.java_parser_grammar.specs.FieldDivisions.{IsDivided, between_commas, 
 use Rattle.java_parser_grammar.specs.Units.{name_in, read_name, body_among}
 use Rattle.java_parser_grammar.proofs.Joined.{joined_items, joined_pieces}
 use Rattle.java_parser_grammar.proofs.OneCut.{joined_cut}
-use Rattle.core_lowering_conditions.proofs.Parts.{each_front, each_behind, each_append, each_take, each_filter, each_cut}
+use Rattle.core_lowering_conditions.proofs.Parts.{each_front, each_behind, each_append, each_take, each_filter}
+use Rattle.core_lowering_conditions.proofs.Parts.{each_cut}
 use Rattle.core_lowering_conditions.proofs.Parts.{each_map_joined}
 
 module _ (P : Token → Type 0) where

@@ -16,7 +16,8 @@ use Rattle.java_tree.specs.declared.unit.Member.{Member}
 use Rattle.java_tree.specs.declared.unit.Member.TheVariants as member
 use Rattle.java_parser_grammar.specs.Tokens.{is_sign_token, is_name, begins_sign}
 use Rattle.java_parser_grammar.specs.Pieces.{items_of, Piece, pieces_of}
-use Rattle.java_parser_grammar.specs.Members.{Form, SkippedForm, MethodForm, FieldForm, form_by, form_of, before_parentheses}
+use Rattle.java_parser_grammar.specs.Members.{Form, SkippedForm, MethodForm, FieldForm, form_by, form_of}
+use Rattle.java_parser_grammar.specs.Members.{before_parentheses}
 use Rattle.java_parser_grammar.specs.Members.{name_at_end, is_endless, is_block, begins_type, behind_words, is_modifier}
 use Rattle.java_parser_grammar.specs.Cuts.{ends}
 use Rattle.java_parser_grammar.specs.FieldDivisions.{BeginsWith, IsVariable, AreVariables, AreFields, between_commas}

@@ -1,5 +1,6 @@
 -- The names among the tokens of a file are identifiers.
-use Rattle.std.proofs.Common.{◌≡◌, ℕ, Bool, true, false, cond, ◌&&◌, not, List, [], ◌∷◌, Option, None, Some, Result, Ok, Err, refl}
+use Rattle.std.proofs.Common.{◌≡◌, ℕ, Bool, true, false, cond, ◌&&◌, not, List, [], ◌∷◌, Option, None, Some, Result, Ok}
+use Rattle.std.proofs.Common.{Err, refl}
 use Rattle.std.proofs.Common.{subst}
 use Rattle.std.specs.List.{fold}
 use Rattle.std.specs.Str.{is_utf8}

@@ -1,8 +1,9 @@
 -- The names of classes and fields are identifiers.
-use Rattle.std.proofs.Common.{◌≡◌, ℕ, suc, Bool, true, false, cond, ◌&&◌, List, [], ◌∷◌, ◌++◌, map, filter, Some}
+use Rattle.std.proofs.Common.{◌≡◌, ℕ, suc, Bool, true, false, cond, List, [], ◌∷◌, ◌++◌, map, filter, Some}
 use Rattle.std.proofs.Common.{refl, ap, ◌∙◌, subst, inl, inr}
 use Rattle.std.specs.List.{AllZip, flat_map, list_all}
 use Rattle.std.proofs.lemmas.List.Folds.{list_all-append}
+use Rattle.std.proofs.lemmas.Bool.{and_from}
 use Rattle.racer_base.specs.declared.ids.ClassId.{ClassId}
 use Rattle.java_lexer.specs.declared.token.Token.{Token}
 use Rattle.java_tree.specs.declared.methods.FieldTree.{FieldTree}
@@ -28,7 +29,8 @@ use Rattle.core_code.specs.Names.{is_identifier}
 use Rattle.core_lowering_rules.specs.Conditions.{are_named}
 use Rattle.core_lowering_conditions.specs.FromTokens.{IsFromTokens, AreFromTokens}
 use Rattle.core_lowering_conditions.proofs.Parts.{each_front, each_behind, each_filter, each_append}
-use Rattle.core_lowering_conditions.proofs.EachToken.{items_each, OfToken, name_each, body_each, members_each, types_each}
+use Rattle.core_lowering_conditions.proofs.EachToken.{items_each, OfToken, name_each, body_each, members_each}
+use Rattle.core_lowering_conditions.proofs.EachToken.{types_each}
 use Rattle.core_lowering_conditions.proofs.EachToken.{divided_each, commas_each}
 use Rattle.core_lowering_conditions.proofs.ItemsAgain.{AreItems, parts_again}
 use Rattle.core_lowering_conditions.proofs.ClassNames.{name_is_one}
@@ -43,14 +45,10 @@ identifier_of t h n = h (ap (λ s. s.kind) (name_is (plain t) n))
 abbrev is_named_field : FieldInfo → Bool
 is_named_field f = is_identifier f.name
 
-both : (a b : Bool) → a ≡ true → b ≡ true → (a && b) ≡ true
-both true b e f = f
-both false b e f = absurd cc
-
 both_named : (xs ys : List FieldInfo) → list_all is_named_field xs ≡ true → list_all is_named_field ys ≡ true
     → list_all is_named_field (xs ++ ys) ≡ true
 both_named xs ys h k =
-    list_all-append is_named_field xs ys ∙ both (list_all is_named_field xs) (list_all is_named_field ys) h k
+    list_all-append is_named_field xs ys ∙ and_from (list_all is_named_field xs) (list_all is_named_field ys) h k
 
 variable_named : (ts : List Token) (v : FieldVariable) → Each IsNamed ts → IsVariable ts v
     → is_identifier v.name.text ≡ true
@@ -85,7 +83,7 @@ infos_named : (names : List (List ℕ)) (c : ClassId) (f : FieldTree) (vs : List
     → list_all is_named_field (map (field_info names c f) vs) ≡ true
 infos_named names c f [] h = refl
 infos_named names c f (v ∷ vs) h =
-    both (is_identifier v.name.text) (list_all is_named_field (map (field_info names c f) vs)) h.0
+    and_from (is_identifier v.name.text) (list_all is_named_field (map (field_info names c f) vs)) h.0
     (infos_named names c f vs h.1)
 
 -- ---- members
@@ -177,7 +175,7 @@ all_classes : (cs : List ClassTree) → Each IsNamedClass cs
     → list_all (λ (c : ClassInfo). is_identifier c.name) (map class_info cs) ≡ true
 all_classes [] h = refl
 all_classes (c ∷ cs) h =
-    both (is_identifier c.name) (list_all (λ (c : ClassInfo). is_identifier c.name) (map class_info cs)) h.0.named
+    and_from (is_identifier c.name) (list_all (λ (c : ClassInfo). is_identifier c.name) (map class_info cs)) h.0.named
     (all_classes cs h.1)
 
 fields_by_class : (names : List (List ℕ)) (n : ℕ) (cs : List ClassTree) → Each IsNamedClass cs
@@ -190,6 +188,6 @@ fields_by_class names n (c ∷ cs) h =
 pub read_units_are_named : (units : List unit.Unit) → AreFromTokens 0 units → are_named units ≡ true
 read_units_are_named units are =
     let named = units_named 0 units are in
-    both (list_all (λ (c : ClassInfo). is_identifier c.name) (classes_of units))
+    and_from (list_all (λ (c : ClassInfo). is_identifier c.name) (classes_of units))
     (list_all is_named_field (fields_of units))
     (all_classes (trees_of units) named) (fields_by_class (names_of units) 0 (trees_of units) named)

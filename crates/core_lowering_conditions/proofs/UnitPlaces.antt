@@ -1,8 +1,8 @@
 -- The places that a unit keeps are those of its tokens.
-use Rattle.std.proofs.Common.{◌≡◌, ℕ, suc, ◌+◌, ◌<◌, ◌≤◌, Bool, true, false, ◌&&◌, not, List, [], ◌∷◌, ◌++◌}
+use Rattle.std.proofs.Common.{◌≡◌, ℕ, suc, ◌+◌, ◌<◌, ◌≤◌, true, false, ◌&&◌, not, List, [], ◌∷◌, ◌++◌}
 use Rattle.std.proofs.Common.{filter, length, refl, sym, ap, subst, ◌∙◌, arith}
 use Rattle.std.specs.Prelude.{nat_lt}
-use Rattle.std.proofs.lemmas.Bool.{false≢true, lt-ltb}
+use Rattle.std.proofs.lemmas.Bool.{lt-ltb, and_from}
 use Rattle.std.specs.List.{AllZip, flat_map, list_all}
 use Rattle.racer_base.specs.declared.ids.Place.{Place}
 use Rattle.java_lexer.specs.declared.token.Token.{Token}
@@ -17,7 +17,8 @@ use Rattle.java_parser_grammar.specs.Units.{BeginsAt, IsClass, IsMember, body_am
 use Rattle.core_lowering_rules.specs.Conditions.{member_places, class_places, unit_places, is_in_files, are_in_files}
 use Rattle.core_lowering_conditions.specs.FromTokens.{IsFromTokens, AreFromTokens}
 use Rattle.core_lowering_conditions.proofs.Parts.{each_append, each_filter}
-use Rattle.core_lowering_conditions.proofs.EachToken.{items_each, OfToken, name_each, body_each, members_each, types_each}
+use Rattle.core_lowering_conditions.proofs.EachToken.{items_each, OfToken, name_each, body_each, members_each}
+use Rattle.core_lowering_conditions.proofs.EachToken.{types_each}
 use Rattle.core_lowering_conditions.proofs.TokenPlaces.{IsIn, StandsIn, tokens_in}
 use Rattle.core_lowering_conditions.proofs.MemberPlaces.{begins_in, member_in}
 
@@ -74,10 +75,6 @@ module _ (n : ℕ) where
 
 -- ---- files
 
-both : (a b : Bool) → a ≡ true → b ≡ true → (a && b) ≡ true
-both true b e f = f
-both false b e f = absurd (false≢true e)
-
 module _ (files : List (List ℕ)) where
   placed_append : (ps qs : List Place) → list_all (is_in_files files) ps ≡ true → list_all (is_in_files files) qs ≡ true
       → list_all (is_in_files files) (ps ++ qs) ≡ true
@@ -92,7 +89,7 @@ module _ (files : List (List ℕ)) where
   in_files : (n : ℕ) → n < length files → (ps : List Place) → Each (IsIn n) ps → list_all (is_in_files files) ps ≡ true
   in_files n lt [] h = refl
   in_files n lt (p ∷ ps) h =
-      both (is_in_files files p) (list_all (is_in_files files) ps)
+      and_from (is_in_files files p) (list_all (is_in_files files) ps)
       (ap (λ m. nat_lt m (length files)) h.0 ∙ lt-ltb n (length files) lt) (in_files n lt ps h.1)
 
   units_in : (n : ℕ) (units : List unit.Unit) → AreFromTokens n units → n + length units ≤ length files

@@ -13,6 +13,7 @@ use Rattle.java_parser_grammar.specs.Tokens.{plain, is_sign_token, begins_sign}
 use Rattle.java_parser_grammar.specs.Cuts.{onto_first, with_cut, joined}
 use Rattle.java_parser_grammar.specs.Brackets.{is_closing, depth_behind}
 use Rattle.java_parser_grammar.specs.Pieces.{Item, items_from, items_of, more_of_piece, cut_pieces, is_annotation}
+use Rattle.java_parser_grammar.proofs.Fronts.{nonzero}
 
 -- ---- items
 
@@ -100,9 +101,6 @@ GoOn (p ∷ ps) = (has_some p ≡ true) × Each IsItem p × Each IsPiece ps
 abbrev AreCut : ℕ → List (List Item) → Type 0
 AreCut zero ps = Each IsPiece ps
 AreCut (suc n) ps = GoOn ps
-
-nonzero : (m : ℕ) → (suc m == 0) ≡ false
-nonzero m = grind arith
 
 begun_at : (i : Item) (is : List Item) (k : ℕ) → more_of_piece (i ∷ is) ≡ suc k → begins_sign (codes "@") i ≡ true
 begun_at i [] k e = absurd cc

@@ -9,7 +9,8 @@ java_parser_grammar::specs::TypeReading::brackets_at, java_parser_grammar::specs
 java_parser_grammar::specs::TypeReading::angled_with, java_parser_grammar::specs::TypeReading::part_with, // types
 java_parser_grammar::specs::TypeReading::base_with, java_parser_grammar::specs::TypeReading::ty_at, // types
 java_parser_grammar::specs::TypeReading::bare_ty_at, java_parser_grammar::specs::TypeReading::made_part_with, // types
-java_parser_grammar::specs::TypeReading::made_parts_with, java_parser_grammar::specs::TypeReading::made_base_with, // types
+java_parser_grammar::specs::TypeReading::made_parts_with, // types
+java_parser_grammar::specs::TypeReading::made_base_with, // types
 java_parser_grammar::specs::TypeReading::made_base_at, // types
 java_parser_grammar::specs::ExpressionReading::class_at, // expressions
 java_parser_grammar::specs::ExpressionReading::call_arguments_with, // expressions
@@ -31,17 +32,24 @@ java_parser_grammar::specs::ExpressionReading::turn_with, // expressions
 java_parser_grammar::specs::ExpressionReading::climb_with, // expressions
 java_parser_grammar::specs::ExpressionReading::items_with, // expressions
 java_parser_grammar::specs::ExpressionReading::braces_with, // expressions
-java_parser_grammar::specs::ExpressionReading::read_at, java_parser_grammar::specs::ExpressionReading::array_at, // expressions
+java_parser_grammar::specs::ExpressionReading::read_at, // expressions
+java_parser_grammar::specs::ExpressionReading::array_at, // expressions
 java_parser_grammar::specs::StatementReading::variable_at, // statements
 java_parser_grammar::specs::StatementReading::variables_at, // statements
 java_parser_grammar::specs::StatementReading::locals_at, // statements
 java_parser_grammar::specs::StatementReading::condition_at, // statements
-java_parser_grammar::specs::StatementReading::stmts_at, java_parser_grammar::specs::StatementReading::if_at, // statements
-java_parser_grammar::specs::StatementReading::pieces_at, java_parser_grammar::specs::StatementReading::for_from, // statements
-java_parser_grammar::specs::StatementReading::each_from, java_parser_grammar::specs::StatementReading::for_typed, // statements
-java_parser_grammar::specs::StatementReading::for_run, java_parser_grammar::specs::StatementReading::for_at, // statements
-java_parser_grammar::specs::StatementReading::local_at, java_parser_grammar::specs::StatementReading::run_line_at, // statements
-java_parser_grammar::specs::StatementReading::stmt_at, java_parser_grammar::specs::StatementReading::block_at, // statements
+java_parser_grammar::specs::StatementReading::stmts_at, // statements
+java_parser_grammar::specs::StatementReading::if_at, // statements
+java_parser_grammar::specs::StatementReading::pieces_at, // statements
+java_parser_grammar::specs::StatementReading::for_from, // statements
+java_parser_grammar::specs::StatementReading::each_from, // statements
+java_parser_grammar::specs::StatementReading::for_typed, // statements
+java_parser_grammar::specs::StatementReading::for_run, // statements
+java_parser_grammar::specs::StatementReading::for_at, // statements
+java_parser_grammar::specs::StatementReading::local_at, // statements
+java_parser_grammar::specs::StatementReading::run_line_at, // statements
+java_parser_grammar::specs::StatementReading::stmt_at, // statements
+java_parser_grammar::specs::StatementReading::block_at, // statements
 ))]
 
 mod assignments;

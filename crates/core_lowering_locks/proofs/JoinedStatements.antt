@@ -63,20 +63,6 @@ put-by_lock s (stmt_then Empty ss) = refl
 put-by_lock s (stmt_then (Locked place e ts catches) ss) = refl
 put-by_lock s (stmt_then Apart ss) = refl
 
--- ---- one statement
-
-none-put : (s u : Stmt) (ss : Stmts) (o : Option Lock) → lock_behind s u ≡ None → lock_first s (put o u ss) ≡ None
-none-put s u ss None h = h
-none-put s u ss (Some lock) h = refl
-
--- a statement that locks nothing for the next is one of its own
-pub alone : (s u : Stmt) (ss : Stmts) → lock_behind s u ≡ None →
-    put_before s (put_before u ss) ≡ stmt_then s (put_before u ss)
-alone s u ss h =
-    let next = put_before u ss in
-    put-by_lock s next
-    ∙ ap (λ o. put o s next) (ap (lock_first s) (put-by_lock u ss) ∙ none-put s u ss (lock_first u ss) h)
-
 -- ---- two statements that are one
 
 -- a `try` is no call of `lock`

@@ -13,11 +13,13 @@ use Rattle.core_code.specs.declared.code.Op.TheVariants.{Drop, PushClass}
 use Rattle.core_lowering_rules.specs.Trees.{Access, Named, Selected, Element, NoAccess}
 use Rattle.core_lowering_rules.specs.ValueKinds.{ValueKind, Of, Null}
 use Rattle.core_lowering_rules.specs.Context.{Context, Code, op}
-use Rattle.core_lowering_rules.specs.Assignments.{Storage, InVariable, InField, Elsewhere, kind_in, in_field, read, assigned}
+use Rattle.core_lowering_rules.specs.Assignments.{Storage, InVariable, InField, Elsewhere, kind_in, in_field, read}
+use Rattle.core_lowering_rules.specs.Assignments.{assigned}
 use Rattle.core_lowering_rules.specs.Assignments.{combined, counted, field_at, of_object, of_value, selected}
 use Rattle.core_lowering_rules.specs.Expressions.{access_kind, storage, class_before, kind, code}
 use Rattle.core_lowering_rules.proofs.FoundElements.{field-there}
-use Rattle.core_lowering_methods.specs.Parts.{base_of, without_base, storage_kind, then_read, then_assigned, then_fetched}
+use Rattle.core_lowering_methods.specs.Parts.{base_of, without_base, storage_kind, then_read, then_assigned}
+use Rattle.core_lowering_methods.specs.Parts.{then_fetched}
 use Rattle.core_lowering_methods.specs.Parts.{then_combined, then_counted}
 
 pub read-parts : (context : Context) (s : Storage) → read context s ≡ base_of s ++ then_read context (without_base s)

@@ -8,7 +8,8 @@ use Rattle.racer_base.specs.declared.ids.Kind.TheVariants.{Plain, Declared, Othe
 use Rattle.racer_base.specs.declared.ids.Place.{Place}
 use Rattle.core_lowering_rules.specs.Trees.{Expr, Init, pack_exprs, pack_inits, count_exprs, count_inits}
 use Rattle.core_lowering_rules.specs.Context.{Context, Code}
-use Rattle.core_lowering_rules.specs.Calls.{Callee, Missing, OfClass, OfObject, Passing, called, called_on_value, made_by}
+use Rattle.core_lowering_rules.specs.Calls.{Callee, Missing, OfClass, OfObject, Passing, called, called_on_value}
+use Rattle.core_lowering_rules.specs.Calls.{made_by}
 use Rattle.core_lowering_rules.specs.Calls.{made, constructor_in}
 use Rattle.core_lowering_methods.specs.Parts.{passed_kinds, call_front, call_end, value_call_front, value_call_end}
 use Rattle.core_lowering_methods.specs.Parts.{maker_of, made_front, made_kinds, made_end}

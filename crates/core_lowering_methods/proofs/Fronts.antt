@@ -25,7 +25,8 @@ front-then old one new p q =
 pub front-grown : (old one new more : Code) → one ≡ old ++ more → new ≡ one → IsFrontOf old new
 front-grown old one new more p q = front-more old new more (q ∙ p)
 
-pub front-twice : (old one second new a b : Code) → one ≡ old ++ a → second ≡ one ++ b → new ≡ second → IsFrontOf old new
+pub front-twice : (old one second new a b : Code) → one ≡ old ++ a → second ≡ one ++ b → new ≡ second →
+    IsFrontOf old new
 front-twice old one second new a b p q r =
     front-then old one new (front-more old one a p) (front-more one new b (r ∙ q))
 

@@ -17,7 +17,8 @@ use Rattle.core_lowering_rules.specs.Trees.{Expr, Access, Selected, Unary, Count
 use Rattle.core_lowering_rules.specs.Trees.{Assign, Combine, CallOn, New}
 use Rattle.core_lowering_rules.specs.Trees.{NewArray, NewItems}
 use Rattle.core_lowering_rules.specs.Trees.{Exprs, pack_exprs, pack_inits, count_exprs, count_inits}
-use Rattle.core_lowering_rules.specs.TreesOf.{expr_of, init_of, access_of, is_assignment, assignment, is_logical, binary}
+use Rattle.core_lowering_rules.specs.TreesOf.{expr_of, init_of, access_of, is_assignment, assignment, is_logical}
+use Rattle.core_lowering_rules.specs.TreesOf.{binary}
 use Rattle.core_lowering_rules.specs.TreesOf.{is_count, prefix}
 use Rattle.core_lowering_rules.specs.ValueKinds.{ValueKind, Of}
 use Rattle.core_lowering_rules.specs.Context.{Context, Code, op, op_at, choice, type_kind}
@@ -30,7 +31,8 @@ use Rattle.core_lowering_methods.specs.declared.calls.Target.{Target}
 use Rattle.core_lowering_methods.specs.declared.calls.Target.TheVariants as target
 use Rattle.core_lowering_methods.specs.declared.value_kind.ValueKind.{ValueKind as CodeKind}
 use Rattle.core_lowering_methods.specs.Views.{value_kind}
-use Rattle.core_lowering_methods.specs.Parts.{base_of, without_base, storage_kind, then_read, then_fetched, then_counted}
+use Rattle.core_lowering_methods.specs.Parts.{base_of, without_base, storage_kind, then_read, then_fetched}
+use Rattle.core_lowering_methods.specs.Parts.{then_counted}
 use Rattle.core_lowering_methods.specs.Parts.{callee_seen, passed_kinds, call_front, call_end, value_call_front}
 use Rattle.core_lowering_methods.specs.Parts.{value_call_end, class_callee, class_call, class_call_kind}
 use Rattle.core_lowering_methods.specs.Parts.{maker_of, made_front, made_kinds, made_end}

@@ -3,7 +3,7 @@ use Rattle.std.proofs.Common.{◌≡◌, ℕ, ◌+◌, true, ◌&&◌, ◌||◌,
 use Rattle.std.proofs.Common.{nat_eq, refl, sym, ap, ◌∙◌, append_assoc, length-append, zero-add}
 use Rattle.std.proofs.lemmas.List.{map-append, length-map, take-append-drop, append-nil, take-map, drop-map}
 use borrow.Author.Tests.{eqb-true}
-use Rattle.std.proofs.lemmas.Bool.{eq-eqb}
+use Rattle.std.proofs.lemmas.Bool.{eq-eqb, and_from, and_parts}
 use Rattle.racer_base.specs.declared.ids.SiteId.{SiteId}
 use Rattle.racer_base.specs.declared.ids.Place.{Place}
 use Rattle.core_code.specs.declared.code.LockKind.{LockKind}
@@ -12,7 +12,6 @@ use Rattle.core_code.specs.declared.code.Op.{Op as CoreOp}
 use Rattle.core_code.specs.Tree.{Tree, Op, Skip, Seq, Choice, Loop, Sync, Operation, steps_of, in_sequence}
 use Rattle.core_code.specs.Tree.{tree_of, can_end}
 use Rattle.core_code.specs.Facts.{sites_of, counts_from}
-use Rattle.core_code.proofs.BoolParts.{first_part, last_part, both}
 use Rattle.core_code.proofs.Sites.{counts_from-append, sites_of-then, sites_go_on}
 use Rattle.core_lowering_rules.specs.Context.{op_at, choice, lock_at, repeated, held}
 use Rattle.core_lowering_rules.specs.Sites.{numbered}
@@ -35,7 +34,7 @@ steps-erased (Loop body) = steps-erased body
 steps-erased (Sync place body) = steps-erased body
 
 site-here : (n : ℕ) (site : SiteId) → (nat_eq site.0 n && true) ≡ true → site.0 ≡ n
-site-here n site h = eqb-true site.0 n (first_part (nat_eq site.0 n) true h)
+site-here n site h = eqb-true site.0 n (and_parts (nat_eq site.0 n) true h).0
 
 abbrev count : Tree → ℕ
 count t = length (steps_of t)
@@ -48,9 +47,10 @@ parts-count n first rest h =
     ∙ counts_from-append n (sites_of first) (sites_of rest)) ∙ h in
     let many : length (sites_of first) ≡ count first =
     length-map (steps_of first) (λ (o : Operation). o.site) in (
-      first_part (counts_from n (sites_of first)) (counts_from (n + length (sites_of first)) (sites_of rest)) b,
+      (and_parts (counts_from n (sites_of first)) (counts_from (n + length (sites_of first)) (sites_of rest)) b).0,
       ap (λ k. counts_from (n + k) (sites_of rest)) (sym many)
-          ∙ last_part (counts_from n (sites_of first)) (counts_from (n + length (sites_of first)) (sites_of rest)) b,
+          ∙ (and_parts (counts_from n (sites_of first)) (counts_from (n + length (sites_of first)) (sites_of rest))
+          b).1,
     )
 
 pub numbered-erased : (t : Tree) (n : ℕ) → counts_from n (sites_of t) ≡ true → numbered n (erased t) ≡ t
@@ -145,7 +145,7 @@ op-numbered old new next after place op code h e made more =
     let steps : steps_of (whole_of new) ≡ steps_of (whole_of old) ++ steps_of step =
     ap (λ ts. steps_of (in_sequence ts)) trees ∙ steps-append (trees_of old) (step ∷ []) in (
       op-counts (steps_of (whole_of old)) (steps_of (whole_of new)) (steps_of step) next h steps
-          (both (nat_eq next next) true (eq-eqb next next refl) refl),
+          (and_from (nat_eq next next) true (eq-eqb next next refl) refl),
       more ∙ ap (λ k. k + 1) h.1 ∙ sym (length-append (steps_of (whole_of old)) (steps_of step))
           ∙ ap (λ (ops : List Operation). length ops) (sym steps),
     )

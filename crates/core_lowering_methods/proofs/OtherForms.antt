@@ -11,7 +11,8 @@ use Rattle.java_tree.specs.declared.expressions.Initialiser.{Initialiser}
 use Rattle.java_tree.specs.Trees as tree
 use Rattle.java_tree.specs.View as view
 use Rattle.std.specs.Prelude.{bytes_eq, codes}
-use Rattle.core_lowering_rules.specs.Trees.{Expr, Access, Init, Inits, NoAccess, Prim, Null, Assign, Combine, Count, Unary}
+use Rattle.core_lowering_rules.specs.Trees.{Expr, Access, Init, Inits, NoAccess, Prim, Null, Assign, Combine, Count}
+use Rattle.core_lowering_rules.specs.Trees.{Unary}
 use Rattle.core_lowering_rules.specs.Trees.{Binary, Logical}
 use Rattle.core_lowering_rules.specs.TreesOf.{expr_of, init_of, items_of, expr_step, init_step, array_step, access_of}
 use Rattle.core_lowering_rules.specs.TreesOf.{literal, assignment, binary, prefix, is_assignment, is_logical, is_count}

@@ -1,8 +1,7 @@
 -- Code that is put behind code, and what of it goes into one part.
-use Rattle.std.proofs.Common.{◌≡◌, ℕ, ◌+◌, ◌<◌, ◌≤◌, List, [], ◌∷◌, ◌++◌, length, get_or, take, drop, refl, sym, ap}
+use Rattle.std.proofs.Common.{◌≡◌, ◌+◌, List, ◌++◌, length, take, drop, refl, ap}
 use Rattle.std.proofs.Common.{◌∙◌}
-use Rattle.std.proofs.Common.{append-nil, append_assoc}
-use Rattle.std.proofs.lemmas.List.{at_drop_more, at_drop_all}
+use Rattle.std.proofs.Common.{append_assoc}
 use Rattle.std.proofs.Math.Seq.{take-append_seam, drop-append_seam}
 use Rattle.core_lowering_rules.specs.Context.{Code}
 
@@ -24,22 +23,3 @@ gathered f start a b x y p q =
     ap (λ z. z ++ f (drop (length a) b)) (before_seam a b y q)
     ∙ ap (λ z. a ++ f z) (behind_seam a b y q)
     ∙ two_pieces start a (a ++ f y) x (f y) p refl
-
--- F is what all elements give, and f what one gives: one turn of a loop that gathers it, and its end
-pub turn : {A B : Type 0} (F : List A → List B) (f : A → List B) (xs : List A) (i : ℕ) (x : A)
-    (made new whole : List B) → ((y : A) (ys : List A) → F (y ∷ ys) ≡ f y ++ F ys) → i < length xs →
-    x ≡ get_or xs i x → new ≡ made ++ f x → made ++ F (drop i xs) ≡ whole →
-    new ++ F (drop (i + 1) xs) ≡ whole
-turn {A} {B} F f xs i x made new whole splits within is e before =
-    let rest : List A = drop (i + 1) xs in
-    ap (λ (ys : List B). ys ++ F rest) e
-    ∙ append_assoc made (f x) (F rest)
-    ∙ ap (λ (ys : List B). made ++ ys) (sym (splits x rest))
-    ∙ ap (λ (y : A). made ++ F (y ∷ rest)) is
-    ∙ sym (at_drop_more (λ (ys : List A). made ++ F ys) xs i x within)
-    ∙ before
-
-pub ended : {A B : Type 0} (F : List A → List B) (xs : List A) (i : ℕ) (made whole : List B) → F [] ≡ [] →
-    length xs ≤ i → made ++ F (drop i xs) ≡ whole → made ≡ whole
-ended {A} {B} F xs i made whole none past before =
-    sym (append-nil made) ∙ ap (λ (ys : List B). made ++ ys) (sym (at_drop_all F xs i past ∙ none)) ∙ before

@@ -3,6 +3,7 @@ use Rattle.std.proofs.Common.{◌≡◌, true, List, [], ◌∷◌, Option, Some
 use Rattle.std.proofs.Common.{subst, rules}
 use Rattle.std.specs.Prelude.{option_map, Vec}
 use Rattle.std.specs.Global.{Global}
+use Rattle.std.proofs.lemmas.Bool.{and_parts}
 use Rattle.java_tree.specs.declared.statements.ResourcesTree.{ResourcesTree}
 use Rattle.java_tree.specs.declared.types.TypeTree.{TypeTree}
 use Rattle.java_tree.specs.declared.expressions.Expression.{Expression}
@@ -32,7 +33,6 @@ use Rattle.core_lowering_rules.specs.Trees.{pack_catches}
 use Rattle.core_lowering_rules.specs.Trees as trees
 use Rattle.core_lowering_rules.specs.TreesOf.{expr_of, init_of, variable_of, start_of, stmt_of}
 use Rattle.core_lowering_rules.specs.TreesOf as lowered
-use Rattle.core_code.proofs.BoolParts.{first_part, last_part}
 use Rattle.core_lowering_rules.proofs.LoweredTrees.{not-lowered, is_part, are_parts, are_parts_caught, put-parts}
 use Rattle.core_lowering_rules.proofs.FilledTrees.{ident, one, two, behind, skip, skip_types, caught, caught_then}
 use Rattle.core_lowering_rules.proofs.FilledTrees.{Filled, filled, one-is, two-is, three-is, four-is, expr, exprs, init}
@@ -191,7 +191,7 @@ stmt-filled (statement.If e s None) low rest =
 stmt-filled (statement.If e s (Some t)) low rest =
     let first = is_part (stmt_of s.value.0) in
     three-is IfElse (of s.value) (of t.value) (expr-is e (stmt_places s.value.0 (stmt_places t.value.0 rest)))
-    (s.value.1 (first_part first _ low) (stmt_places t.value.0 rest)) (t.value.1 (last_part first _ low) rest)
+    (s.value.1 (and_parts first _ low).0 (stmt_places t.value.0 rest)) (t.value.1 (and_parts first _ low).1 rest)
 stmt-filled (statement.While e s) low rest =
     two-is While (of s.value) (expr-is e (stmt_places s.value.0 rest)) (s.value.1 low rest)
 stmt-filled (statement.For i condition updates s) low rest =
@@ -221,7 +221,7 @@ stmt-filled (statement.Assert e f) low rest = absurd (not-lowered low)
 stmt-filled (statement.Switch e gs) low rest = absurd (not-lowered low)
 stmt-filled (statement.Try t) low rest = t.value.1 low rest
 
-stmt-case : (y : Layer) → HasStmt (roll-Statement (plain y))
+pub stmt-case : (y : Layer) → HasStmt (roll-Statement (plain y))
 stmt-case y low rest =
     let places : stmt_places (roll-Statement (plain y)) ≡ places_in (plain y) = search (rules, the_lemmas) in
     let seen : viewed.stmt_of (roll-Statement (plain y)) ≡ viewed_in (plain y) = search (rules, the_lemmas) in
@@ -230,7 +230,7 @@ stmt-case y low rest =
     ∙ ap (λ v. stmt v (places_in (plain y) rest)) seen ∙ stmt-filled y (subst IsPart lower low) rest
     ∙ ap (λ (t : Stmt). filled t rest) (sym lower)
 
-stmt-has : (x : Plain) (y : Layer) → plain y ≡ x → HasStmt (roll-Statement x)
+pub stmt-has : (x : Plain) (y : Layer) → plain y ≡ x → HasStmt (roll-Statement x)
 stmt-has x y is = subst (λ z. HasStmt (roll-Statement z)) is (stmt-case y)
 
 -- ---- catch clauses
@@ -274,7 +274,7 @@ catch-filled y low rest =
     ap (λ qs. one (caught (ident p.name.text qs)) (seen (behind qs))) (types-behind p.types (p.name.place ∷ body))
     ∙ one-is (caught p.name) (parts-filled y.body.items low rest)
 
-catch-case : (y : CatchLayer) → HasCatch (roll-CatchTree (plain_catch y))
+pub catch-case : (y : CatchLayer) → HasCatch (roll-CatchTree (plain_catch y))
 catch-case y low rest =
     let x = plain_catch y in
     let places : kept.catch_places (roll-CatchTree x) ≡ catch_places_in x = search (rules, the_lemmas) in
@@ -285,7 +285,7 @@ catch-case y low rest =
     ∙ catch-filled y (subst (λ (c : lowered.Clause). AreParts c.1) lower low) rest
     ∙ ap (λ (c : lowered.Clause). filled c rest) (sym lower)
 
-catch-has : (x : PlainCatch) (y : CatchLayer) → plain_catch y ≡ x → HasCatch (roll-CatchTree x)
+pub catch-has : (x : PlainCatch) (y : CatchLayer) → plain_catch y ≡ x → HasCatch (roll-CatchTree x)
 catch-has x y is = subst (λ z. HasCatch (roll-CatchTree z)) is (catch-case y)
 
 -- ---- a `try`
@@ -331,8 +331,8 @@ clauses-filled [] low rest = refl
 clauses-filled (c ∷ cs) low rest =
     let first = are_parts (lowered.catch_of c.0).1 in
     two-is caught_then (clauses (viewed.pack_rows (map viewed.catch_of (plain_catches cs))))
-    (c.1 (first_part first _ low) (each_puts (map kept.catch_places (plain_catches cs)) rest))
-    (clauses-filled cs (last_part first _ low) rest)
+    (c.1 (and_parts first _ low).0 (each_puts (map kept.catch_places (plain_catches cs)) rest))
+    (clauses-filled cs (and_parts first _ low).1 rest)
 
 abbrev of_parts : Option ResourcesTree → Vec Stmts Global → Vec Catches Global → Option (Vec Stmts Global) → TryLayer
 of_parts rs body cs finally = record { resources = rs; body = body; clauses = cs; finally = finally }
@@ -348,12 +348,13 @@ parts-tried None body cs (Some finally) low rest =
     let first = are_parts (pack_stmts (map stmt_of (plain_all body.items))) in
     let second = are_parts_caught (pack_catches (map lowered.catch_of (plain_catches cs.items))) in
     let last = each_puts (map stmt_places (plain_all finally.items)) rest in
-    let more = last_part first _ low in
+    let more = (and_parts first _ low).1 in
     three-is Try (clauses (viewed.pack_rows (map viewed.catch_of (plain_catches cs.items))))
     (stmts (view.pack_stmts (map viewed.stmt_of (plain_all finally.items))))
-    (parts-filled body.items (first_part first _ low) (each_puts (map kept.catch_places (plain_catches cs.items)) last))
-    (clauses-filled cs.items (first_part second _ more) last)
-    (parts-filled finally.items (last_part second _ more) rest)
+    (parts-filled body.items (and_parts first _ low).0
+    (each_puts (map kept.catch_places (plain_catches cs.items)) last))
+    (clauses-filled cs.items (and_parts second _ more).0 last)
+    (parts-filled finally.items (and_parts second _ more).1 rest)
 parts-tried None body cs None low rest = absurd (not-lowered low)
 parts-tried (Some rs) body cs (Some finally) low rest = absurd (not-lowered low)
 parts-tried (Some rs) body cs None low rest = absurd (not-lowered low)
@@ -361,7 +362,7 @@ parts-tried (Some rs) body cs None low rest = absurd (not-lowered low)
 try-filled : (y : TryLayer) → TryFilled y
 try-filled y = parts-tried y.resources y.body y.clauses y.finally
 
-try-case : (y : TryLayer) → HasTry (roll-TryTree (plain_try y))
+pub try-case : (y : TryLayer) → HasTry (roll-TryTree (plain_try y))
 try-case y low rest =
     let x = plain_try y in
     let places : kept.try_places (roll-TryTree x) ≡ try_places_in x = search (rules, the_lemmas) in
@@ -371,12 +372,12 @@ try-case y low rest =
     ∙ ap (λ v. stmt v (try_places_in x rest)) seen ∙ try-filled y (subst IsPart lower low) rest
     ∙ ap (λ (t : Stmt). filled t rest) (sym lower)
 
-try-has : (x : PlainTry) (y : TryLayer) → plain_try y ≡ x → HasTry (roll-TryTree x)
+pub try-has : (x : PlainTry) (y : TryLayer) → plain_try y ≡ x → HasTry (roll-TryTree x)
 try-has x y is = subst (λ z. HasTry (roll-TryTree z)) is (try-case y)
 
 -- ---- all
 
-stmt-is : (s : Statement) → HasStmt s
+pub stmt-is : (s : Statement) → HasStmt s
 stmt-is = ind-Statement HasStmt HasCatch (λ g. Unit {0}) HasTry stmt-has catch-has (λ x y is. tt) try-has
 
 pub stmts-are : (ss : List Statement) → AreParts (pack_stmts (map stmt_of ss)) → (rest : Places)

@@ -5,11 +5,12 @@ use Rattle.std.specs.Prelude.{option_map, ◌==◌}
 use Rattle.std.specs.List.{flat_map}
 use Rattle.std.specs.Option.{option_or}
 use Rattle.std.proofs.lemmas.Option.{same_Some, none-some}
+use Rattle.std.proofs.lemmas.Bool.{and_parts}
 use borrow.Author.Tests.{eqb-true}
 use Rattle.racer_base.specs.declared.ids.ClassId.{ClassId}
 use Rattle.racer_base.specs.declared.ids.FieldId.{FieldId}
 use Rattle.racer_base.specs.declared.ids.MethodId.{MethodId}
-use Rattle.core_code.proofs.BoolParts.{first_part, last_part}
+use Rattle.racer_base.proofs.Tests.{implied}
 use Rattle.java_resolver.specs.declared.infos.FieldInfo.{FieldInfo}
 use Rattle.java_resolver.specs.declared.infos.MethodInfo.{MethodInfo}
 use Rattle.java_resolver.specs.Firsts.{first_that, last_that}
@@ -39,7 +40,7 @@ numbered-field : (o : Option ℕ) (f : FieldId) → option_map
 numbered-field None f e = absurd (none-some _ e)
 numbered-field (Some n) f e = ap (λ (g : FieldId). Some g.0) (same_Some _ _ e)
 
-numbered-method : (o : Option ℕ) (m : MethodId) →
+pub numbered-method : (o : Option ℕ) (m : MethodId) →
     option_map (λ n. let made : MethodId = record { 0 = n } in made) o ≡ Some m → o ≡ Some m.0
 numbered-method None m e = absurd (none-some _ e)
 numbered-method (Some n) m e = ap (λ (g : MethodId). Some g.0) (same_Some _ _ e)
@@ -51,22 +52,18 @@ pub record FieldThere (fields : List FieldInfo) (c : ClassId) (in_static : Bool)
   pub class_is : info.class ≡ c
   pub static_is : in_static ≡ true → info.is_static ≡ true
 
-static-seen : (in_static is_static : Bool) → (not in_static || is_static) ≡ true → in_static ≡ true → is_static ≡ true
-static-seen true is_static h e = h
-static-seen false is_static h e = cc
-
 pub field-there : (fields : List FieldInfo) (c : ClassId) (in_static : Bool) (name : List ℕ) (f : FieldId) →
     field_named fields c in_static name ≡ Some f → FieldThere fields c in_static f
 field-there fields c in_static name f e =
     let y = first-passes (is_seen c in_static name) fields f.0
     (numbered-field (first_that (is_seen c in_static name) fields) f e) in
-    let seen = first_part (not in_static || y.0.is_static) _ y.2 in
-    let own = first_part (y.0.class.0 == c.0) _ (last_part (not in_static || y.0.is_static) _ y.2) in
+    let seen = (and_parts (not in_static || y.0.is_static) _ y.2).0 in
+    let own = (and_parts (y.0.class.0 == c.0) _ (and_parts (not in_static || y.0.is_static) _ y.2).1).0 in
     record {
       info = y.0;
       there = y.1;
       class_is = ap (λ (n : ℕ). let made : ClassId = record { 0 = n } in made) (eqb-true y.0.class.0 c.0 own);
-      static_is = static-seen in_static y.0.is_static seen;
+      static_is = implied in_static y.0.is_static seen;
     }
 
 -- a method that is found in a class
@@ -81,14 +78,14 @@ pub method-there : (methods : List MethodInfo) (c : ClassId) (name : List ℕ) (
 method-there methods c name count m e =
     let y = first-passes (is_called c name count) methods m.0
     (numbered-method (first_that (is_called c name count) methods) m e) in
-    let both = first_part (y.0.class.0 == c.0 && length y.0.parameters == count) _ y.2 in
+    let both = (and_parts (y.0.class.0 == c.0 && length y.0.parameters == count) _ y.2).0 in
     record {
       info = y.0;
       there = y.1;
       class_is =
           ap (λ (n : ℕ). let made : ClassId = record { 0 = n } in made)
-          (eqb-true y.0.class.0 c.0 (first_part (y.0.class.0 == c.0) _ both));
-      many = eqb-true (length y.0.parameters) count (last_part (y.0.class.0 == c.0) _ both);
+          (eqb-true y.0.class.0 c.0 (and_parts (y.0.class.0 == c.0) _ both).0);
+      many = eqb-true (length y.0.parameters) count (and_parts (y.0.class.0 == c.0) _ both).1;
     }
 
 last_from : {A : Type 0} (P : A → Type 0) (x : A) (b : Bool) (o : Option A) (y : A) → P x → (o ≡ Some y → P y) →

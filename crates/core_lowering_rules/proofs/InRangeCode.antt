@@ -4,7 +4,7 @@ use Rattle.std.proofs.Common.{Option, Some, None}
 use Rattle.std.proofs.Common.{length, refl, ap, ◌∙◌, slice_get, nat_lt, is_some, arith}
 use Rattle.std.specs.List.{list_all}
 use borrow.Author.Tests.{ltb-true}
-use Rattle.std.proofs.lemmas.Bool.{false≢true, lt-ltb}
+use Rattle.std.proofs.lemmas.Bool.{false≢true, lt-ltb, and_from, and_parts}
 use Rattle.std.proofs.lemmas.List.Folds.{list_all-append}
 use Rattle.racer_base.specs.declared.ids.MethodId.{MethodId}
 use Rattle.racer_base.specs.declared.ids.Place.{Place}
@@ -21,7 +21,6 @@ use Rattle.core_code.specs.KindCheck.{Kinds, and_then, where_true, kinds_after, 
 use Rattle.core_code.specs.KindCheck.{field_at, variable_at, after_push, after_set, after_get, after_put, after_call}
 use Rattle.core_code.specs.Calls.{method_at}
 use Rattle.core_code.specs.Facts.{is_place, is_class, is_kind, is_method, is_op, is_code}
-use Rattle.core_code.proofs.BoolParts.{both, first_part, last_part}
 use Rattle.core_code.proofs.InRange.{then_in_range, held_in_range}
 use Rattle.core_lowering_rules.specs.Context.{Code, op_at, lock_at}
 use Rattle.core_lowering_rules.specs.Sites.{numbered}
@@ -55,18 +54,18 @@ module _ (core : Core) where
       record {
         fine =
             list_all-append (is_sound core) a b
-            ∙ both (list_all (is_sound core) a) (list_all (is_sound core) b) p.fine q.fine;
+            ∙ and_from (list_all (is_sound core) a) (list_all (is_sound core) b) p.fine q.fine;
       }
 
   -- a part alone
   pub alone : (part : Tree) → is_sound core part ≡ true → Fine core (part ∷ [])
-  alone part h = record { fine = both (is_sound core part) true h refl }
+  alone part h = record { fine = and_from (is_sound core part) true h refl }
 
   pub one : (place : Place) (o : CoreOp) → is_place core place ≡ true →
       is_named (is_class core) (is_method core) o ≡ true → Fine core (op_at place o)
   one place o p q =
       alone (Op (record { 0 = 0 }) place o)
-      (both (is_place core place) (is_named (is_class core) (is_method core) o) p q)
+      (and_from (is_place core place) (is_named (is_class core) (is_method core) o) p q)
 
   -- read or not
   pub call : (place : Place) (m : MethodId) (n : ℕ) (b : Bool) → is_place core place ≡ true → is_method core m ≡ true →
@@ -95,10 +94,10 @@ module _ (core : Core) where
         nothing = empty;
         followed = λ a b c d p q. joined c d p q;
         chosen = λ a b c d p q. alone (Choice (in_sequence c) (in_sequence d))
-            (both (is_sound core (in_sequence c)) (is_sound core (in_sequence d)) (whole p) (whole q));
+            (and_from (is_sound core (in_sequence c)) (is_sound core (in_sequence d)) (whole p) (whole q));
         looped = λ a c p. alone (Loop (in_sequence c)) (whole p);
         locked = λ kind place a c there p. alone (Sync (lock_at kind place) (in_sequence c))
-            (both (is_place core place) (is_sound core (in_sequence c)) there (whole p));
+            (and_from (is_place core place) (is_sound core (in_sequence c)) there (whole p));
         single = one;
         called = λ place m n a b h k. call place m n b h k;
         missing = λ place o h k quiet. one place o h k;
@@ -191,34 +190,34 @@ module _ (core : Core) (m : Method) where
   pub in_range : (t : Tree) (stack : List StackKind) → is_some (kinds_after core m t stack) ≡ true →
       is_sound core t ≡ true → InRange t
   in_range (Op site place o) stack h k =
-      let there = first_part (is_place core place) (is_named (is_class core) (is_method core) o) k in
+      let there = (and_parts (is_place core place) (is_named (is_class core) (is_method core) o) k).0 in
       let right = op-in_range o stack h
-      (last_part (is_place core place) (is_named (is_class core) (is_method core) o) k) in
-      both ((is_place core place && is_op core (length m.variables) o) && true) true
-      (both (is_place core place && is_op core (length m.variables) o) true
-      (both (is_place core place) (is_op core (length m.variables) o) there right) refl) refl
+      (and_parts (is_place core place) (is_named (is_class core) (is_method core) o) k).1 in
+      and_from ((is_place core place && is_op core (length m.variables) o) && true) true
+      (and_from (is_place core place && is_op core (length m.variables) o) true
+      (and_from (is_place core place) (is_op core (length m.variables) o) there right) refl) refl
   in_range Skip stack h k = refl
   in_range (Seq first rest) stack h k =
       let between = first-some (kinds_after core m first stack) (λ s. kinds_after core m rest s) h in
       two-in_range first rest
       (in_range first stack (some-by (kinds_after core m first stack) between.0 between.1)
-      (first_part (is_sound core first) _ k))
-      (in_range rest between.0 between.2 (last_part (is_sound core first) _ k))
+      (and_parts (is_sound core first) _ k).0)
+      (in_range rest between.0 between.2 (and_parts (is_sound core first) _ k).1)
   in_range (Choice left right) stack h k =
       let one = first-some (kinds_after core m left stack)
       (λ a. and_then (kinds_after core m right stack) (λ b. joined_stack a b)) h in
       let other = first-some (kinds_after core m right stack) (λ b. joined_stack one.0 b) one.2 in
       two-in_range left right
-      (in_range left stack (some-by (kinds_after core m left stack) one.0 one.1) (first_part (is_sound core left) _ k))
+      (in_range left stack (some-by (kinds_after core m left stack) one.0 one.1) (and_parts (is_sound core left) _ k).0)
       (in_range right stack (some-by (kinds_after core m right stack) other.0 other.1)
-      (last_part (is_sound core left) _ k))
+      (and_parts (is_sound core left) _ k).1)
   in_range (Loop body) stack h k =
       let after = first-some (kinds_after core m body stack) (λ after. where_true (same_stack stack after) stack) h in
       in_range body stack (some-by (kinds_after core m body stack) after.0 after.1) k
   in_range (Sync lock body) [] h k = absurd (false≢true h)
   in_range (Sync lock body) (value ∷ stack) h k =
-      held_in_range core (length m.variables) lock body (first_part (is_place core lock.place) (is_sound core body) k)
-      (in_range body stack h (last_part (is_place core lock.place) (is_sound core body) k))
+      held_in_range core (length m.variables) lock body (and_parts (is_place core lock.place) (is_sound core body) k).0
+      (in_range body stack h (and_parts (is_place core lock.place) (is_sound core body) k).1)
 
   -- the numbered code of a method
   pub code-in_range : {code : Code} → Fine core code →

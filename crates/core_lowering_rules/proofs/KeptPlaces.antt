@@ -2,7 +2,7 @@
 use Rattle.std.proofs.Common.{◌≡◌, ℕ, suc, ◌+◌, ◌≤◌, Bool, true, false, cond, List, [], ◌∷◌}
 use Rattle.std.proofs.Common.{◌++◌, None, map, length, refl, sym, ◌∙◌, nat_lt, arith}
 use Rattle.std.specs.List.{flat_map, list_all, list_any}
-use Rattle.std.proofs.lemmas.Bool.{lt-ltb}
+use Rattle.std.proofs.lemmas.Bool.{lt-ltb, and_from, and_parts}
 use Rattle.std.proofs.lemmas.List.Folds.{list_all-append}
 use Rattle.racer_base.specs.declared.ids.ClassId.{ClassId}
 use Rattle.racer_base.specs.declared.ids.Place.{Place}
@@ -22,7 +22,6 @@ use Rattle.java_tree.specs.declared.unit.Member.{Member}
 use Rattle.java_tree.specs.declared.unit.Member.TheVariants as member
 use Rattle.java_resolver.specs.Declarations.{trees_of}
 use Rattle.java_resolver.specs.Declarations.{by_class, names_of, default_constructor, member_is_constructor}
-use Rattle.core_code.proofs.BoolParts.{both, first_part, last_part}
 use Rattle.core_lowering_rules.specs.Methods.{Body, Default, Spelled, Unspelled, Source, body_of}
 use Rattle.core_lowering_rules.specs.LoweredForms.{are_lowered, method_body}
 use Rattle.core_lowering_rules.specs.Programs.{member_sources, default_sources, class_sources, sources_of}
@@ -36,7 +35,7 @@ use Rattle.core_lowering_rules.proofs.KindedPrograms.{unless}
 
 pub each-all : {A : Type 0} (test : A → Bool) (xs : List A) → Each (λ x. test x ≡ true) xs → list_all test xs ≡ true
 each-all test [] all = refl
-each-all test (x ∷ xs) all = both (test x) _ all.0 (each-all test xs all.1)
+each-all test (x ∷ xs) all = and_from (test x) _ all.0 (each-all test xs all.1)
 
 pub each-from : {A B : Type 0} (P : A → Type 0) (Q : B → Type 0) (f : A → List B) → ((x : A) → P x → Each Q (f x)) →
     (xs : List A) → Each P xs → Each Q (flat_map f xs)
@@ -61,7 +60,7 @@ module _ (test : Place → Bool) where
   all-two : (ps qs : List Place) → All (ps ++ qs) → All ps × All qs
   all-two ps qs h =
       let e = sym (list_all-append test ps qs) ∙ h in
-      (first_part (list_all test ps) _ e, last_part (list_all test ps) _ e)
+      ((and_parts (list_all test ps) _ e).0, (and_parts (list_all test ps) _ e).1)
 
   pub each-places : {A : Type 0} (f : A → List Place) (xs : List A) → All (flat_map f xs) → Each (λ x. All (f x)) xs
   each-places f [] h = tt
@@ -71,7 +70,7 @@ module _ (test : Place → Bool) where
   all-places f [] all = refl
   all-places f (x ∷ xs) all =
       list_all-append test (f x) (flat_map f xs)
-      ∙ both (list_all test (f x)) (list_all test (flat_map f xs)) all.0 (all-places f xs all.1)
+      ∙ and_from (list_all test (f x)) (list_all test (flat_map f xs)) all.0 (all-places f xs all.1)
 
   -- ---- the places that a method keeps
 
@@ -80,12 +79,12 @@ module _ (test : Place → Bool) where
 
   some-behind : (ps : Places) (rest : Marks) → Kept (some_onto ps rest) → Kept rest
   some-behind [] rest h = h
-  some-behind (p ∷ ps) rest h = some-behind ps rest (last_part (test p) _ h)
+  some-behind (p ∷ ps) rest h = some-behind ps rest (and_parts (test p) _ h).1
 
   some-front : (ps : Places) (rest : Marks) → Kept (some_onto ps rest) → All ps
   some-front [] rest h = refl
   some-front (p ∷ ps) rest h =
-      both (test p) _ (first_part (test p) _ h) (some-front ps rest (last_part (test p) _ h))
+      and_from (test p) _ (and_parts (test p) _ h).0 (some-front ps rest (and_parts (test p) _ h).1)
 
   each-behind : {A : Type 0} (f : A → Marks → Marks) → ((x : A) (rest : Marks) → Kept (f x rest) → Kept rest) →
       (xs : List A) (rest : Marks) → Kept (each_marks f xs rest) → Kept rest
@@ -130,7 +129,7 @@ module _ (test : Place → Bool) where
       let q = some-behind (result_places t.result) name p in
       let r = each-behind parameter_marks parameter-behind t.parameters throws
       (some-behind (t.name.place ∷ []) parameters q) in (
-        first_part (test t.name.place) _ (some-front (t.name.place ∷ []) parameters q),
+        (and_parts (test t.name.place) _ (some-front (t.name.place ∷ []) parameters q)).0,
         some-front (each_puts (map stmt_places t.body) []) []
             (some-behind (all_places (map ty_places t.throws)) body r),
       )
@@ -139,19 +138,19 @@ module _ (test : Place → Bool) where
 
   put-all : (b : Bool) (p q : Place) (qs more : List Place) → test p ≡ true → test q ≡ true → All qs → All more →
       All (cond b (q ∷ more) (p ∷ q ∷ qs))
-  put-all true p q qs more h k all most = both (test q) _ k most
-  put-all false p q qs more h k all most = both (test p) _ h (both (test q) _ k all)
+  put-all true p q qs more h k all most = and_from (test q) _ k most
+  put-all false p q qs more h k all most = and_from (test p) _ h (and_from (test q) _ k all)
 
   put_in-all : (p : Place) (ps : List Place) → test p ≡ true → All ps → All (put_in p ps)
-  put_in-all p [] h all = both (test p) true h refl
+  put_in-all p [] h all = and_from (test p) true h refl
   put_in-all p (q ∷ qs) h all =
-      put-all (is_before q p) p q qs (put_in p qs) h (first_part (test q) _ all) (last_part (test q) _ all)
-      (put_in-all p qs h (last_part (test q) _ all))
+      put-all (is_before q p) p q qs (put_in p qs) h (and_parts (test q) _ all).0 (and_parts (test q) _ all).1
+      (put_in-all p qs h (and_parts (test q) _ all).1)
 
   in_order-all : (ps : List Place) → All ps → All (in_order ps)
   in_order-all [] all = refl
   in_order-all (p ∷ ps) all =
-      put_in-all p (in_order ps) (first_part (test p) _ all) (in_order-all ps (last_part (test p) _ all))
+      put_in-all p (in_order ps) (and_parts (test p) _ all).0 (in_order-all ps (and_parts (test p) _ all).1)
 
   skipped_member-all : (x : Member) → All (member_places x) → All (skipped_member x)
   skipped_member-all (member.Skipped place) h = h
@@ -165,16 +164,16 @@ module _ (test : Place → Bool) where
   each-step f g step (x ∷ xs) h =
       let p = all-two (f x) (flat_map f xs) h in
       list_all-append test (g x) (flat_map g xs)
-      ∙ both (list_all test (g x)) (list_all test (flat_map g xs)) (step x p.0) (each-step f g step xs p.1)
+      ∙ and_from (list_all test (g x)) (list_all test (flat_map g xs)) (step x p.0) (each-step f g step xs p.1)
 
   pub members-all : (c : ClassTree) → All (class_places c) → All (flat_map member_places c.members)
-  members-all c h = last_part (test c.place) _ h
+  members-all c h = (and_parts (test c.place) _ h).1
 
   skipped_in-all : (u : unit_type.Unit) → All (unit_places u) → All (skipped_in u)
   skipped_in-all u h =
       let p = all-two u.skipped (flat_map class_places u.classes) h in
       list_all-append test u.skipped (flat_map (λ (c : ClassTree). flat_map skipped_member c.members) u.classes)
-      ∙ both (list_all test u.skipped) _ p.0
+      ∙ and_from (list_all test u.skipped) _ p.0
       (each-step class_places (λ (c : ClassTree). flat_map skipped_member c.members)
       (λ c k. each-step member_places skipped_member skipped_member-all c.members (members-all c k)) u.classes p.1)
 

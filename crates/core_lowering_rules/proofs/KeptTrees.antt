@@ -6,6 +6,7 @@ use Rattle.std.specs.Global.{Global}
 use Rattle.java_tree.specs.declared.statements.ResourcesTree.{ResourcesTree}
 use Rattle.std.specs.List.{list_all}
 use Rattle.std.proofs.lemmas.List.Folds.{list_all-append}
+use Rattle.std.proofs.lemmas.Bool.{and_parts}
 use Rattle.racer_base.specs.declared.ids.Place.{Place}
 use Rattle.java_lexer.specs.declared.token.TokenKind.{TokenKind}
 use Rattle.java_lexer.specs.declared.token.TokenKind.TheVariants as token
@@ -28,7 +29,6 @@ use Rattle.java_tree.specs.KeptPlaces.{Puts, each_puts, maybe_puts, name_places,
 use Rattle.java_tree.specs.KeptPlaces.{array_places, variable_places, locals_places, start_places, stmt_places}
 use Rattle.java_tree.specs.KeptPlaces.{all_places, catch_places, group_places, try_places}
 use Rattle.java_tree.specs.KeptPlaces as kept
-use Rattle.core_code.proofs.BoolParts.{first_part, last_part}
 use Rattle.core_lowering_rules.specs.Trees.{Expr, Text, This, ClassOf, Read, Unary, Cast, Binary, Logical, Conditional}
 use Rattle.core_lowering_rules.specs.Trees.{Assign, Combine, Count, Call, CallOn, New, NewArray, NewItems, Paren}
 use Rattle.core_lowering_rules.specs.Trees as tree
@@ -60,13 +60,13 @@ module _ (test : Place → Bool) where
       }
 
   behind : (ps rest : List Place) → list_all test (ps ++ rest) ≡ true → list_all test rest ≡ true
-  behind ps rest h = last_part (list_all test ps) _ (sym (list_all-append test ps rest) ∙ h)
+  behind ps rest h = (and_parts (list_all test ps) _ (sym (list_all-append test ps rest) ∙ h)).1
 
   front : (p : Place) (rest : List Place) → list_all test (p ∷ rest) ≡ true → test p ≡ true
-  front p rest h = first_part (test p) _ h
+  front p rest h = (and_parts (test p) _ h).0
 
   after : (p : Place) (rest : List Place) → list_all test (p ∷ rest) ≡ true → list_all test rest ≡ true
-  after p rest h = last_part (test p) _ h
+  after p rest h = (and_parts (test p) _ h).1
 
   -- ---- expressions
 
@@ -313,8 +313,8 @@ module _ (test : Place → Bool) where
   stmt-split (statement.If e s (Some t)) low rest h =
       let p = expr-kept e (stmt_places s.value.0 (stmt_places t.value.0 rest)) h in
       let first = is_part (stmt_of s.value.0) in
-      let q = s.value.1 (first_part first _ low) (stmt_places t.value.0 rest) p.1 in
-      let r = t.value.1 (last_part first _ low) rest q.1 in ((p.0, q.0, r.0), r.1)
+      let q = s.value.1 (and_parts first _ low).0 (stmt_places t.value.0 rest) p.1 in
+      let r = t.value.1 (and_parts first _ low).1 rest q.1 in ((p.0, q.0, r.0), r.1)
   stmt-split (statement.While e s) low rest h =
       let p = expr-kept e (stmt_places s.value.0 rest) h in
       let q = s.value.1 low rest p.1 in ((p.0, q.0), q.1)
@@ -436,8 +436,8 @@ module _ (test : Place → Bool) where
   clauses-split [] low rest h = (tt, h)
   clauses-split (c ∷ cs) low rest h =
       let first = are_parts (catch_of c.0).1 in
-      let p = c.1 (first_part first _ low) (each_puts (map catch_places (plain_catches cs)) rest) h in
-      let q = clauses-split cs (last_part first _ low) rest p.1 in ((p.0, q.0), q.1)
+      let p = c.1 (and_parts first _ low).0 (each_puts (map catch_places (plain_catches cs)) rest) h in
+      let q = clauses-split cs (and_parts first _ low).1 rest p.1 in ((p.0, q.0), q.1)
 
   abbrev of_parts : Option ResourcesTree → Vec Stmts Global → Vec Catches Global → Option (Vec Stmts Global) → TryLayer
   of_parts rs body cs finally = record { resources = rs; body = body; clauses = cs; finally = finally }
@@ -452,13 +452,13 @@ module _ (test : Place → Bool) where
   parts-split None body cs (Some finally) low rest h =
       let first = are_parts (pack_stmts (map stmt_of (plain_all body.items))) in
       let second = are_parts_caught (pack_catches (map catch_of (plain_catches cs.items))) in
-      let more = last_part first _ low in
+      let more = (and_parts first _ low).1 in
       let last = each_puts (map stmt_places (plain_all finally.items)) rest in
-      let p = stmts-split body.items (first_part first _ low)
+      let p = stmts-split body.items (and_parts first _ low).0
       (each_puts (map catch_places (plain_catches cs.items)) last)
       h in
-      let q = clauses-split cs.items (first_part second _ more) last p.1 in
-      let r = stmts-split finally.items (last_part second _ more) rest q.1 in ((p.0, q.0, r.0), r.1)
+      let q = clauses-split cs.items (and_parts second _ more).0 last p.1 in
+      let r = stmts-split finally.items (and_parts second _ more).1 rest q.1 in ((p.0, q.0, r.0), r.1)
   parts-split None body cs None low rest h = absurd (not-lowered low)
   parts-split (Some rs) body cs (Some finally) low rest h = absurd (not-lowered low)
   parts-split (Some rs) body cs None low rest h = absurd (not-lowered low)

@@ -24,6 +24,7 @@ use Rattle.core_code.specs.Kinds.{fits}
 use Rattle.core_code.specs.KindCheck as check
 use Rattle.core_code.specs.KindCheck.{where_true, is_base_of, variable_at, after_push, after_get, after_put}
 use Rattle.core_code.specs.KindCheck.{after_set}
+use Rattle.core_code.proofs.KindLemmas.{class_same}
 use Rattle.core_lowering_rules.specs.ValueKinds.{ValueKind, Of}
 use Rattle.core_lowering_rules.specs.ValueKinds as value
 use Rattle.core_lowering_rules.specs.Context.{Context, Code, op_at, op, push_this, push_own_class}
@@ -33,7 +34,7 @@ use Rattle.core_lowering_rules.specs.Assignments.{of_class, of_object, of_value,
 use Rattle.core_lowering_rules.specs.Assignments.{combined}
 use Rattle.core_lowering_rules.specs.Assignments.{counted, field_at}
 use Rattle.core_lowering_rules.specs.Programs.{field_core}
-use Rattle.core_lowering_rules.proofs.Suits.{Suits, fits-suits, suits-own, class_same}
+use Rattle.core_lowering_rules.proofs.Suits.{Suits, fits-suits, suits-own}
 use Rattle.core_lowering_rules.proofs.Runs.{Runs, nothing, followed, once, outside, popped, comes}
 use Rattle.core_lowering_rules.proofs.Runs.{in_turn_3, in_turn_4, in_turn_5, in_turn_6, in_turn_7}
 use Rattle.core_lowering_rules.proofs.FoundElements.{FieldThere, field-there, last-holds}

@@ -17,11 +17,11 @@ use Rattle.core_code.specs.Core.{Core}
 use Rattle.core_code.specs.Calls.{taken_by}
 use Rattle.core_code.specs.Calls as core_calls
 use Rattle.core_code.specs.CallFacts.{is_right_call}
-use Rattle.core_code.proofs.BoolParts.{both}
 use Rattle.std.proofs.Common.{is_none, nat_eq, not}
-use Rattle.std.proofs.lemmas.Bool.{eq-eqb}
+use Rattle.std.proofs.lemmas.Bool.{eq-eqb, and_from}
 use Rattle.core_code.specs.Kinds.{StackKind, Declared, Opaque, kind_of, fits_class, fits}
 use Rattle.core_code.specs.KindCheck.{Kinds, and_then, below_fitting, after_call}
+use Rattle.core_code.proofs.KindLemmas.{class_same}
 use Rattle.core_lowering_rules.specs.ValueKinds.{ValueKind, Of}
 use Rattle.core_lowering_rules.specs.ValueKinds as value
 use Rattle.core_lowering_rules.specs.Context.{Context, Code, op_at, op, converted, push_this, is_analysed}
@@ -31,7 +31,7 @@ use Rattle.core_lowering_rules.specs.Calls.{if_static, own_callee, callee_on, re
 use Rattle.core_lowering_rules.specs.Calls.{parameters_of, parameter_kinds, call_at, Passing, called, called_on_value}
 use Rattle.core_lowering_rules.specs.Calls.{called_on}
 use Rattle.core_lowering_rules.specs.Calls.{constructor_of, constructor_among, made_by, made}
-use Rattle.core_lowering_rules.proofs.Suits.{suits-own, suits-opaque, class_same}
+use Rattle.core_lowering_rules.proofs.Suits.{suits-own, suits-opaque}
 use Rattle.core_lowering_rules.proofs.Runs.{Runs, nothing, followed, once, outside, popped, comes}
 use Rattle.core_lowering_rules.proofs.Runs.{in_turn_3, grouped}
 use Rattle.core_lowering_rules.proofs.FoundElements.{MethodThere, method-there}
@@ -194,7 +194,7 @@ module _ (core : Core) (m : core_specs.Method) (context : Context) (stands : Sta
   call-right : (n : MethodId) (info : MethodInfo) (count : ℕ) → HasMethod core n info →
       length (taken_of info) ≡ count → is_right_call core (Call n count) ≡ true
   call-right n info count h many =
-      both (core_calls.is_analysed core n) _
+      and_from (core_calls.is_analysed core n) _
       (ap (λ o. elim o as (λ _. Bool) [ None ↦ false | Some method ↦ is_none method.status ]) h.there ∙ h.analysed)
       (ap (λ o. elim o as (λ _. Bool) [ None ↦ false | Some method ↦ nat_eq count (length (taken_by method)) ]) h.there
       ∙ eq-eqb count (length (taken_by h.method)) (sym many ∙ ap (length {A = Kind}) (sym h.takes)))

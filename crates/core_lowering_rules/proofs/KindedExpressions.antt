@@ -9,6 +9,7 @@ use Rattle.racer_base.specs.declared.ids.Kind.TheVariants as types
 use Rattle.core_code.specs.declared.code.Op.TheVariants.{PushClass, PushPrim, PushNull, Drop, Prim, Outside}
 use Rattle.core_code.specs.Core.{Core, Method}
 use Rattle.core_code.specs.Kinds.{Plain, Declared, Class, Null, Opaque, joined_kind}
+use Rattle.core_code.proofs.KindLemmas.{class_same}
 use Rattle.core_lowering_rules.specs.Trees.{Expr, Text, This, ClassOf, Read, Unary, Cast, Binary, Logical, Conditional}
 use Rattle.core_lowering_rules.specs.Trees.{Assign}
 use Rattle.core_lowering_rules.specs.Trees as tree
@@ -23,7 +24,7 @@ use Rattle.core_lowering_rules.specs.Calls.{own_callee}
 use Rattle.core_lowering_rules.specs.Expressions.{class_before, class_written, class_object, kind}
 use Rattle.core_lowering_rules.specs.Expressions.{access_kind, init_kind, cast, code, storage, passed, init_code}
 use Rattle.core_lowering_rules.specs.Expressions.{items_code}
-use Rattle.core_lowering_rules.proofs.Suits.{suits-common, joined_stack-top, class_same}
+use Rattle.core_lowering_rules.proofs.Suits.{suits-common, joined_stack-top}
 use Rattle.core_lowering_rules.proofs.Runs.{nothing, followed, once, chosen, outside}
 use Rattle.core_lowering_rules.proofs.Runs.{in_turn_3}
 use Rattle.core_lowering_rules.proofs.Stands.{Stands}

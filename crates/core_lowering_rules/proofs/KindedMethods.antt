@@ -4,6 +4,7 @@ use Rattle.std.proofs.Common.{refl}
 use Rattle.std.proofs.Common.{sym, ap, ◌∙◌, append_assoc, append-nil, slice_get, is_some}
 use Rattle.std.specs.Prelude.{codes}
 use Rattle.std.specs.List.{flat_map}
+use Rattle.std.proofs.lemmas.Bool.{and_from}
 use Rattle.racer_base.specs.declared.ids.Kind.{Kind}
 use Rattle.racer_base.specs.declared.ids.Kind.TheVariants as types
 use Rattle.java_tree.specs.declared.words.Ident.{Ident}
@@ -30,7 +31,7 @@ use Rattle.core_code.specs.KindCheck.{Kinds, and_then, where_true, kinds_after, 
 use Rattle.core_code.specs.KindCheck.{begins_with}
 use Rattle.core_code.specs.KindCheck.{is_kinded, variable_at}
 use Rattle.core_code.specs.Calls.{taken_by}
-use Rattle.core_code.proofs.BoolParts.{both}
+use Rattle.core_code.proofs.KindLemmas.{class_same}
 use Rattle.core_lowering_rules.specs.Trees.{Stmts}
 use Rattle.core_lowering_rules.specs.TreesOf.{init_of}
 use Rattle.core_lowering_rules.specs.ValueKinds.{ValueKind, Of}
@@ -47,7 +48,6 @@ use Rattle.core_lowering_rules.specs.Methods.{parameters_declared, unread, field
 use Rattle.core_lowering_rules.specs.Methods.{body_of, block}
 use Rattle.core_lowering_rules.specs.Methods.{locked, ended, spelled_code, method_code}
 use Rattle.core_lowering_rules.specs.Programs.{method_core}
-use Rattle.core_lowering_rules.proofs.Suits.{class_same}
 use Rattle.core_lowering_rules.proofs.Runs.{Runs, whole, nothing, followed, once, outside}
 use Rattle.core_lowering_rules.proofs.Runs as runs
 use Rattle.core_lowering_rules.proofs.NumberedTrees.{SiteFact, same-numbered}
@@ -233,7 +233,7 @@ same-declared types.Other = refl
 
 begins-append : (xs ys : List Kind) → begins_with xs (xs ++ ys) ≡ true
 begins-append [] ys = refl
-begins-append (x ∷ xs) ys = both (same_declared_kind x x) _ (same-declared x) (begins-append xs ys)
+begins-append (x ∷ xs) ys = and_from (same_declared_kind x x) _ (same-declared x) (begins-append xs ys)
 
 taken-is : (b : Bool) (own : Kind) (ps : List Kind) → cond b ps (own ∷ ps) ≡ cond b [] (own ∷ []) ++ ps
 taken-is true own ps = refl
@@ -306,7 +306,7 @@ module _ (core : Core) (folder : Folder) (known : FolderStands core folder) (inf
       let code : kinds_after core (made body) (made body).code [] ≡ Some [] =
       same-numbered (same_kinds core (made body)) (in_sequence (method_code folder (source body))) 0 []
       ∙ whole core (made body) keeps in
-      both (begins_with (taken_by (made body)) (made body).variables)
+      and_from (begins_with (taken_by (made body)) (made body).variables)
       (is_some (kinds_after core (made body) (made body).code [])) takes (ap (is_some {T = List StackKind}) code)
 
   pub method-keeps : (body : Body) → IsRight (class_names folder.classes) info body →

@@ -6,6 +6,8 @@ use Rattle.std.specs.Prelude.{codes, option_map}
 use Rattle.std.specs.List.{flat_map, list_all, list_any}
 use Rattle.std.proofs.lemmas.List.{map-append}
 use Rattle.std.proofs.lemmas.Option.{same_Some, none-some, slice_get-map}
+use Rattle.std.proofs.lemmas.Bool.{and_from, or_right}
+use Rattle.std.proofs.Math.Bool.{and-false}
 use Rattle.racer_base.specs.declared.ids.ClassId.{ClassId}
 use Rattle.racer_base.specs.declared.ids.MethodId.{MethodId}
 use Rattle.racer_base.specs.declared.ids.Kind.TheVariants as types
@@ -28,7 +30,6 @@ use Rattle.java_resolver.specs.Words.{has_word}
 use Rattle.core_code.specs.declared.code.Reason.{Reason}
 use Rattle.core_code.specs.Core.{Core, Method}
 use Rattle.core_code.specs.KindCheck.{is_kinded, are_kinded}
-use Rattle.core_code.proofs.BoolParts.{both}
 use Rattle.core_lowering_rules.specs.Context.{Folder}
 use Rattle.core_lowering_rules.specs.Methods.{Source, Default, Spelled, Unspelled, body_of}
 use Rattle.core_lowering_rules.specs.LoweredForms.{are_lowered}
@@ -111,10 +112,6 @@ sources-same units =
 
 abbrev pub IsRightSource : List (List ℕ) → Source → Type 0
 IsRightSource names s = IsRight names s.info s.body
-
-and-false : (b : Bool) → (b && false) ≡ false
-and-false true = refl
-and-false false = refl
 
 result-right : (names : List (List ℕ)) (c : ClassId) (t : MethodTree) (r : ResultTree) → t.result ≡ r →
     IsRightResult (method_info names c t) r
@@ -215,10 +212,6 @@ mapped : (o : Option Source) (info : MethodInfo) → option_map known o ≡ Some
 mapped None info e = absurd (none-some _ e)
 mapped (Some s) info e = (s, refl, same_Some _ _ e)
 
-pub or-true : (a b : Bool) → b ≡ true → (a || b) ≡ true
-or-true true b h = refl
-or-true false b h = h
-
 module _ (files : List (List ℕ)) (units : List unit_type.Unit) (is_recursive : MethodId → Bool) where
   abbrev folder : Folder
   folder = folder_of units is_recursive
@@ -272,8 +265,8 @@ module _ (files : List (List ℕ)) (units : List unit_type.Unit) (is_recursive :
   all-kinded [] statuses right = refl
   all-kinded (s ∷ sources) [] right = refl
   all-kinded (s ∷ sources) (status ∷ statuses) right =
-      both (is_some status || is_kinded program (method_core folder s status)) _
-      (or-true (is_some status) (is_kinded program (method_core folder s status))
+      and_from (is_some status || is_kinded program (method_core folder s status)) _
+      (or_right (is_some status) (is_kinded program (method_core folder s status))
       (kinded program folder folder-stands s.info s.members status s.body right.0))
       (all-kinded sources statuses right.1)
 

@@ -2,6 +2,7 @@
 use Rattle.std.proofs.Common.{◌≡◌, Bool, true, false, cond, List, [], ◌∷◌, ◌++◌, Option, None, refl, subst, sym}
 use Rattle.std.specs.Prelude.{codes}
 use Rattle.std.specs.List.{flat_map, list_all}
+use Rattle.std.proofs.lemmas.Bool.{and_parts}
 use Rattle.racer_base.specs.declared.ids.Kind.TheVariants as types
 use Rattle.racer_base.specs.declared.ids.Place.{Place}
 use Rattle.java_tree.specs.declared.words.Ident.{Ident}
@@ -17,7 +18,6 @@ use Rattle.core_code.specs.declared.code.LockKind.TheVariants.{Own}
 use Rattle.core_code.specs.declared.code.Reason.{Reason}
 use Rattle.core_code.specs.declared.code.Op.TheVariants.{Push, PushPrim, Drop, Outside, Ret}
 use Rattle.core_code.specs.Tree.{can_end, in_sequence}
-use Rattle.core_code.proofs.BoolParts.{first_part, last_part}
 use Rattle.core_lowering_rules.specs.TreesOf.{init_of}
 use Rattle.core_lowering_rules.specs.ValueKinds.{ValueKind, Of}
 use Rattle.core_lowering_rules.specs.ValueKinds as value
@@ -91,8 +91,8 @@ module _ (f : Fact) (statuses : List (Option Reason)) where
       by_test f (has_word (codes "static") t.modifiers) f.nothing
       (all-hold (λ (v : FieldVariable). field_begun (other c) v.name v.initialiser)
       (λ (v : FieldVariable). field_begun c v.name v.initialiser) (λ v. list_all test (variable_places v) ≡ true)
-      (λ v k. field-holds c g v.name v.initialiser (first_part (test v.name.place) _ k)
-      (last_part (test v.name.place) _ k)) t.variables (each-places test variable_places t.variables h))
+      (λ v k. field-holds c g v.name v.initialiser (and_parts (test v.name.place) _ k).0
+      (and_parts (test v.name.place) _ k).1) t.variables (each-places test variable_places t.variables h))
   member-holds c g (member.Method t) h = f.nothing
   member-holds c g (member.Outside o) h = f.nothing
   member-holds c g (member.Skipped place) h = f.nothing

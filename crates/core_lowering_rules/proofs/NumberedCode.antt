@@ -4,7 +4,7 @@ use Rattle.std.proofs.Common.{Some, None, length, refl, sym, ap, ◌∙◌, nat_
 use Rattle.std.specs.List.{list_all}
 use Rattle.std.proofs.Math.Bool.{and_assoc, and-false}
 use Rattle.std.proofs.lemmas.List.{length-map}
-use Rattle.std.proofs.lemmas.Bool.{eq-eqb}
+use Rattle.std.proofs.lemmas.Bool.{eq-eqb, and_from}
 use Rattle.std.proofs.lemmas.List.Folds.{list_all-map}
 use Rattle.core_code.specs.declared.code.Op.{Op as CoreOp}
 use Rattle.core_code.specs.declared.code.Op.TheVariants.{Ret}
@@ -13,7 +13,6 @@ use Rattle.core_code.specs.Tree.{in_sequence}
 use Rattle.core_code.specs.Core.{Core}
 use Rattle.core_code.specs.Facts.{sites_of, counts_from, height_after, same_height}
 use Rattle.core_code.specs.CallFacts.{is_right_call}
-use Rattle.core_code.proofs.BoolParts.{both}
 use Rattle.core_code.proofs.Sites.{sites_go_on, sites_of-then}
 use Rattle.core_lowering_rules.specs.Context.{Context, Code, op}
 use Rattle.core_lowering_rules.specs.Statements.{returned, returned_nothing}
@@ -68,7 +67,7 @@ sites-two first rest n p q =
     (ap (λ k. counts_from (n + k) (sites_of later)) many ∙ q)
 
 pub sites-numbered : (t : Tree) (n : ℕ) → counts_from n (sites_of (numbered n t)) ≡ true
-sites-numbered (Op site place o) n = both (nat_eq n n) true (eq-eqb n n refl) refl
+sites-numbered (Op site place o) n = and_from (nat_eq n n) true (eq-eqb n n refl) refl
 sites-numbered Skip n = refl
 sites-numbered (Seq first rest) n =
     sites-two first rest n (sites-numbered first n) (sites-numbered rest (n + length (steps_of first)))

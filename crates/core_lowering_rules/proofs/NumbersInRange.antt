@@ -6,6 +6,7 @@ use Rattle.std.specs.Prelude.{option_map, bytes_eq, ◌==◌}
 use Rattle.std.specs.List.{flat_map, list_all, list_any}
 use Rattle.std.proofs.lemmas.List.{length-map}
 use Rattle.std.proofs.lemmas.Option.{same_Some, none-some}
+use Rattle.std.proofs.lemmas.Bool.{and_from, and_parts}
 use Rattle.racer_base.specs.declared.ids.ClassId.{ClassId}
 use Rattle.racer_base.specs.declared.ids.MethodId.{MethodId}
 use Rattle.racer_base.specs.declared.ids.Kind.{Kind}
@@ -38,7 +39,6 @@ use Rattle.core_code.specs.Facts.{is_place, is_class, is_kind, is_method, is_cod
 use Rattle.core_code.specs.Facts.{is_field_in_range, is_method_in_range, are_numbers_in_range}
 use Rattle.core_code.specs.Calls.{taken_by}
 use Rattle.core_code.specs.KindCheck.{begins_with}
-use Rattle.core_code.proofs.BoolParts.{both, first_part, last_part}
 use Rattle.core_lowering_rules.specs.Context.{Folder}
 use Rattle.core_lowering_rules.specs.Scopes.{declared}
 use Rattle.core_lowering_rules.specs.Methods.{Default, Source, entered}
@@ -193,7 +193,7 @@ module _ (files : List (List ℕ)) (units : List unit_type.Unit) (is_recursive :
   member-sound c h tree p (member.Outside o) k = (
     record {
       class = h;
-      place = first_part (test-here o.place) _ k;
+      place = (and_parts (test-here o.place) _ k).0;
       parameters = others-there o.parameters;
       result = head-there c h o.result;
     },
@@ -218,7 +218,7 @@ module _ (files : List (List ℕ)) (units : List unit_type.Unit) (is_recursive :
       (record { info = default_constructor c tree; members = tree.members; body = Default } ∷ []) (
         record {
           class = h;
-          place = first_part (test-here tree.place) _ p;
+          place = (and_parts (test-here tree.place) _ p).0;
           parameters = tt;
           result = h;
         },
@@ -270,24 +270,24 @@ module _ (files : List (List ℕ)) (units : List unit_type.Unit) (is_recursive :
       let checked = kinded core folder (folder-stands files units is_recursive) s.info s.members status s.body right in
       code-in_range core m
       (in-holds (fineness core) [] (entered folder s) (grounded s sound) s put s.body put.body)
-      (last_part (begins_with (taken_by m) m.variables) _ checked)
+      (and_parts (begins_with (taken_by m) m.variables) _ checked).1
 
   method-right : (s : Source) (status : Option Reason) → IsRightSource (names_of units) s → IsSound s →
       PlacedSource test-here s →
       is_method_in_range core (method_core folder s status) ≡ true
   method-right s status right sound put =
       let m = method_core folder s status in
-      let a = both (is_class core m.class) (is_place core m.place) sound.class sound.place in
-      let b = both (is_class core m.class && is_place core m.place) (list_all (is_kind core) m.parameters) a
+      let a = and_from (is_class core m.class) (is_place core m.place) sound.class sound.place in
+      let b = and_from (is_class core m.class && is_place core m.place) (list_all (is_kind core) m.parameters) a
       (each-all (is_kind core) m.parameters sound.parameters) in
-      let c = both (is_class core m.class && is_place core m.place && list_all (is_kind core) m.parameters)
+      let c = and_from (is_class core m.class && is_place core m.place && list_all (is_kind core) m.parameters)
       (is_kind core m.result) b sound.result in
-      let d = both
+      let d = and_from
       (is_class core m.class && is_place core m.place && list_all (is_kind core) m.parameters && is_kind core m.result)
       (list_all (is_kind core) m.variables) c
       (each-all (is_kind core) m.variables
       (kinds-hold (fineness core) [] (entered folder s) (grounded s sound) s sound.parameters s.body)) in
-      both
+      and_from
       (is_class core m.class && is_place core m.place && list_all (is_kind core) m.parameters && is_kind core m.result
       && list_all (is_kind core) m.variables) (is_code core (length m.variables) m.code) d
       (code-right s status right sound put)
@@ -298,7 +298,7 @@ module _ (files : List (List ℕ)) (units : List unit_type.Unit) (is_recursive :
   methods-right [] statuses right sound put = refl
   methods-right (s ∷ sources) [] right sound put = refl
   methods-right (s ∷ sources) (status ∷ statuses) right sound put =
-      both (is_method_in_range core (method_core folder s status)) _ (method-right s status right.0 sound.0 put.0)
+      and_from (is_method_in_range core (method_core folder s status)) _ (method-right s status right.0 sound.0 put.0)
       (methods-right sources statuses right.1 sound.1 put.1)
 
   -- ---- the whole
@@ -307,24 +307,24 @@ module _ (files : List (List ℕ)) (units : List unit_type.Unit) (is_recursive :
       list_all (is_class_in_range core) (map class_core (map class_info cs)) ≡ true
   classes-right [] all = refl
   classes-right (c ∷ cs) all =
-      both (test-here c.place) _ (first_part (test-here c.place) _ all.0) (classes-right cs all.1)
+      and_from (test-here c.place) _ (and_parts (test-here c.place) _ all.0).0 (classes-right cs all.1)
 
   fields-right : (fs : List FieldInfo) → Each IsFieldThere fs →
       list_all (is_field_in_range core) (map field_core fs) ≡ true
   fields-right [] all = refl
   fields-right (f ∷ fs) all =
       let own = all.0 in
-      both (is_class core f.class && is_kind core f.kind) _
-      (both (is_class core f.class) (is_kind core f.kind) own.0 own.1)
+      and_from (is_class core f.class && is_kind core f.kind) _
+      (and_from (is_class core f.class) (is_kind core f.kind) own.0 own.1)
       (fields-right fs all.1)
 
   pub numbers-in_range : are_numbers_in_range core ≡ true
   numbers-in_range =
-      let a = both (list_all test-here core.skipped) (list_all (is_class_in_range core) core.classes)
+      let a = and_from (list_all test-here core.skipped) (list_all (is_class_in_range core) core.classes)
       (skipped-all test-here units placed) (classes-right (trees_of units) trees) in
-      let b = both (list_all test-here core.skipped && list_all (is_class_in_range core) core.classes)
+      let b = and_from (list_all test-here core.skipped && list_all (is_class_in_range core) core.classes)
       (list_all (is_field_in_range core) core.fields) a (fields-right (fields_of units) fields-there) in
-      both
+      and_from
       (list_all test-here core.skipped && list_all (is_class_in_range core) core.classes
       && list_all (is_field_in_range core) core.fields)
       (list_all (is_method_in_range core) core.methods) b

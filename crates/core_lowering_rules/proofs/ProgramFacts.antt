@@ -4,6 +4,7 @@ use Rattle.std.proofs.Common.{None, map, refl, ap, ◌∙◌, slice_get, is_some
 use Rattle.std.proofs.lemmas.Bool.Decides.{nat_tests}
 use Rattle.std.specs.List.{list_all}
 use Rattle.std.specs.Option.{option_or}
+use Rattle.std.proofs.lemmas.Bool.{and_from, or_right}
 use Rattle.racer_base.specs.declared.ids.MethodId.{MethodId}
 use Rattle.racer_base.specs.declared.limits.TheConstants.{MAX_PARAMETERS, MAX_LOCALS}
 use Rattle.java_tree.specs.declared.unit.Unit as unit_type
@@ -29,9 +30,8 @@ use Rattle.core_lowering_rules.specs.Programs.{is_checked, is_entry, method_core
 use Rattle.core_lowering_rules.proofs.Runs.{whole_high, whole_calls}
 use Rattle.core_lowering_rules.proofs.FoundElements.{Each}
 use Rattle.core_lowering_rules.proofs.KindedMethods.{method-keeps}
-use Rattle.core_lowering_rules.proofs.KindedPrograms.{IsRightSource, folder-stands, sources-right, or-true}
+use Rattle.core_lowering_rules.proofs.KindedPrograms.{IsRightSource, folder-stands, sources-right}
 use Rattle.core_lowering_rules.proofs.NumberedCode.{height-numbered, calls-numbered, sites-numbered, ended-ends}
-use Rattle.core_code.proofs.BoolParts.{both}
 
 -- ---- entries
 
@@ -45,7 +45,7 @@ checked-same (c ∷ classes) (suc n) = checked-same classes n
 entry-test : (a b c d e : Bool) → (not (a && b && c && d && e) || (a && b)) ≡ true
 entry-test false b c d e = refl
 entry-test true false c d e = refl
-entry-test true true c d e = or-true (not (true && true && c && d && e)) true refl
+entry-test true true c d e = or_right (not (true && true && c && d && e)) true refl
 
 -- ---- ends
 
@@ -65,7 +65,7 @@ few-or_more limit count rest = by (nat_lt limit count) refl
     by true e = refl
     by false e =
         let few : nat_le count limit ≡ true = grind (arith, nat_tests, e) in
-        or-true (is_some rest) (nat_le count limit) few
+        or_right (is_some rest) (nat_le count limit) few
 
 few-or_reason : (overloaded unspelled : Bool) (count : ℕ) (rest : Option Reason) →
     (is_some (option_or (where_so overloaded Overload) (option_or (where_so unspelled Outside)
@@ -90,7 +90,7 @@ module _ (files : List (List ℕ)) (units : List unit_type.Unit) (is_recursive :
   all-pass test passes [] statuses right = refl
   all-pass test passes (s ∷ sources) [] right = refl
   all-pass test passes (s ∷ sources) (status ∷ statuses) right =
-      both (test (method_core folder s status)) _ (passes s status right.0)
+      and_from (test (method_core folder s status)) _ (passes s status right.0)
       (all-pass test passes sources statuses right.1)
 
   enough : (s : Source) (status : Option Reason) → IsRightSource (names_of units) s →
@@ -144,12 +144,12 @@ module _ (files : List (List ℕ)) (units : List unit_type.Unit) (is_recursive :
       ends_by_return (method_core folder s (status_by n s)) ≡ true
   ends n info members Default =
       let s : Source = record { info = info; members = members; body = Default } in
-      or-true (is_some (status_by n s)) (not (can_end (method_core folder s (status_by n s)).code))
+      or_right (is_some (status_by n s)) (not (can_end (method_core folder s (status_by n s)).code))
       (ap not (ended-ends (entered folder s) (fields_begun (entered folder s) members)))
   ends n info members (Spelled t) =
       let s : Source = record { info = info; members = members; body = Spelled t } in
       let inside = parameters_declared (entered folder s) t.parameters in
-      or-true (is_some (status_by n s)) (not (can_end (method_core folder s (status_by n s)).code))
+      or_right (is_some (status_by n s)) (not (can_end (method_core folder s (status_by n s)).code))
       (ap not (ended-ends (entered folder s) (spelled_code inside members t)))
   ends n info members Unspelled =
       let s : Source = record { info = info; members = members; body = Unspelled } in
@@ -164,7 +164,7 @@ module _ (files : List (List ℕ)) (units : List unit_type.Unit) (is_recursive :
       (method_cores folder sources (statuses_from (declared_in units) is_recursive n sources)) ≡ true
   all-end [] n = refl
   all-end (s ∷ sources) n =
-      both (ends_by_return (method_core folder s (status_by n s))) _ (ends n s.info s.members s.body)
+      and_from (ends_by_return (method_core folder s (status_by n s))) _ (ends n s.info s.members s.body)
       (all-end sources (suc n))
 
   pub ends-by_return : do_end_by_return program ≡ true
@@ -182,7 +182,7 @@ module _ (files : List (List ℕ)) (units : List unit_type.Unit) (is_recursive :
       (method_cores folder sources (statuses_from (declared_in units) is_recursive n sources)) ≡ true
   all-few [] n = refl
   all-few (s ∷ sources) n =
-      both (has_few_parameters (method_core folder s (status_by n s))) _ (few n s) (all-few sources (suc n))
+      and_from (has_few_parameters (method_core folder s (status_by n s))) _ (few n s) (all-few sources (suc n))
 
   pub parameters-few : are_parameters_few program ≡ true
   parameters-few = all-few (sources_of units) 0

@@ -6,12 +6,13 @@ use Rattle.std.specs.Prelude.{option_map, count_by}
 use Rattle.std.specs.List.{list_all, find}
 use Rattle.std.specs.Option.{option_or}
 use borrow.Author.Tests.{eqb-true, ltb-false}
-use Rattle.std.proofs.lemmas.Bool.{false≢true, eq-eqb}
+use Rattle.std.proofs.lemmas.Bool.{false≢true, eq-eqb, and_from, and_parts}
 use Rattle.std.proofs.lemmas.List.Folds.{list_all-map}
 use Rattle.std.proofs.lemmas.List.Sums.{sum_by-cons}
 use Rattle.racer_base.specs.declared.ids.MethodId.{MethodId}
 use Rattle.racer_base.specs.declared.limits.TheConstants.{MAX_PARAMETERS, MAX_LOCALS}
-use Rattle.core_lowering_rules.proofs.Texts.{bytes_is, bytes_refl}
+use Rattle.racer_base.proofs.Tests.{bytes_same}
+use Rattle.core_lowering_rules.proofs.Texts.{bytes_is}
 use Rattle.java_tree.specs.declared.unit.Unit as unit_type
 use Rattle.java_resolver.specs.declared.infos.ClassInfo.{ClassInfo}
 use Rattle.java_resolver.specs.declared.infos.MethodInfo.{MethodInfo}
@@ -29,7 +30,6 @@ use Rattle.core_code.specs.Names.{is_identifier, is_field_name, are_names_right,
 use Rattle.core_code.specs.Names.{do_classes_differ}
 use Rattle.core_code.specs.Names.{do_fields_differ, same_signature, do_methods_differ}
 use Rattle.core_code.specs.Names as names
-use Rattle.core_code.proofs.BoolParts.{both, first_part, last_part}
 use Rattle.core_lowering_rules.specs.Context.{Folder}
 use Rattle.core_lowering_rules.specs.Methods.{Source}
 use Rattle.core_lowering_rules.specs.Programs.{sources_of, is_outside, is_overloaded, local_count, where_so, status_of}
@@ -45,11 +45,11 @@ use Rattle.core_lowering_rules.proofs.KindedPrograms.{known, sources-same}
 pub names-right : (files : List (List ℕ)) (units : List unit_type.Unit) (is_recursive : MethodId → Bool) →
     are_named units ≡ true → are_names_right (program_of files units is_recursive) ≡ true
 names-right files units is_recursive h =
-    both (list_all (λ (c : ClassCore). is_identifier c.name) (map class_core (classes_of units))) _
+    and_from (list_all (λ (c : ClassCore). is_identifier c.name) (map class_core (classes_of units))) _
     (list_all-map (λ (c : ClassCore). is_identifier c.name) class_core (classes_of units)
-    ∙ first_part (list_all (λ (c : ClassInfo). is_identifier c.name) (classes_of units)) _ h)
+    ∙ (and_parts (list_all (λ (c : ClassInfo). is_identifier c.name) (classes_of units)) _ h).0)
     (list_all-map (λ (f : FieldCore). is_field_name f.name) field_core (fields_of units)
-    ∙ last_part (list_all (λ (c : ClassInfo). is_identifier c.name) (classes_of units)) _ h)
+    ∙ (and_parts (list_all (λ (c : ClassInfo). is_identifier c.name) (classes_of units)) _ h).1)
 
 -- ---- lists without repetitions
 
@@ -91,7 +91,7 @@ module _ {A : Type 0} (same : A → A → Bool) where
       Each (IsApart (x ∷ xs)) seen
   apart-one x xs [] p q = tt
   apart-one x xs (y ∷ seen) p q =
-      (both (not (same y x)) _ (ap not p.0) q.0, apart-one x xs seen p.1 q.1)
+      (and_from (not (same y x)) _ (ap not p.0) q.0, apart-one x xs seen p.1 q.1)
 
   abbrev Unrepeated : List A → List A → Type 0
   Unrepeated seen xs = Each (IsApart xs) seen × (all_differ same xs ≡ true)
@@ -107,7 +107,7 @@ module _ {A : Type 0} (same : A → A → Bool) where
       let rest = more e in
       let own = each-back (IsApart xs) seen (x ∷ []) rest.0 in (
         apart-one x xs seen (none-passes (λ y. same y x) seen there) (each-front (IsApart xs) seen (x ∷ []) rest.0),
-        both (list_all (λ y. not (same x y)) xs) _ own.0 rest.1,
+        and_from (list_all (λ y. not (same x y)) xs) _ own.0 rest.1,
       )
 
   unrepeated : (xs seen : List A) → repeated_after same seen xs ≡ None → Unrepeated seen xs
@@ -186,15 +186,15 @@ called-same : (a b : MethodInfo) → nat_eq a.class.0 b.class.0 ≡ true → sam
     nat_eq (length a.parameters) (length b.parameters) ≡ true →
     is_called a.class a.name (length a.parameters) b ≡ true
 called-same a b p q r =
-    both (nat_eq b.class.0 a.class.0 && nat_eq (length b.parameters) (length a.parameters)) _
-    (both (nat_eq b.class.0 a.class.0) _ (eq-eqb b.class.0 a.class.0 (sym (eqb-true a.class.0 b.class.0 p)))
+    and_from (nat_eq b.class.0 a.class.0 && nat_eq (length b.parameters) (length a.parameters)) _
+    (and_from (nat_eq b.class.0 a.class.0) _ (eq-eqb b.class.0 a.class.0 (sym (eqb-true a.class.0 b.class.0 p)))
     (eq-eqb (length b.parameters) (length a.parameters)
     (sym (eqb-true (length a.parameters) (length b.parameters) r))))
-    (subst (λ (text : List ℕ). same_text text a.name ≡ true) (bytes_is a.name b.name q) (bytes_refl a.name))
+    (subst (λ (text : List ℕ). same_text text a.name ≡ true) (bytes_is a.name b.name q) (bytes_same a.name))
 
 called-itself : (a : MethodInfo) → is_called a.class a.name (length a.parameters) a ≡ true
 called-itself a =
-    called-same a a (eq-eqb a.class.0 a.class.0 refl) (bytes_refl a.name)
+    called-same a a (eq-eqb a.class.0 a.class.0 refl) (bytes_same a.name)
     (eq-eqb (length a.parameters) (length a.parameters) refl)
 
 where_so-none : (b : Bool) (reason : Reason) → where_so b reason ≡ None → b ≡ false
@@ -220,10 +220,10 @@ module _ (folder : Folder) where
       same_signature (method_core folder a p) (method_core folder b q) ≡ true →
       is_called a.info.class a.info.name (length a.info.parameters) b.info ≡ true
   signed-called a b p q e =
-      let front = first_part (nat_eq a.info.class.0 b.info.class.0 && same_text a.info.name b.info.name) _ e in
-      called-same a.info b.info (first_part (nat_eq a.info.class.0 b.info.class.0) _ front)
-      (last_part (nat_eq a.info.class.0 b.info.class.0) _ front)
-      (last_part (nat_eq a.info.class.0 b.info.class.0 && same_text a.info.name b.info.name) _ e)
+      let front = (and_parts (nat_eq a.info.class.0 b.info.class.0 && same_text a.info.name b.info.name) _ e).0 in
+      called-same a.info b.info (and_parts (nat_eq a.info.class.0 b.info.class.0) _ front).0
+      (and_parts (nat_eq a.info.class.0 b.info.class.0) _ front).1
+      (and_parts (nat_eq a.info.class.0 b.info.class.0 && same_text a.info.name b.info.name) _ e).1
 
   apart-by : (a b : Source) (p q : Option Reason) (test : Bool) →
       same_signature (method_core folder a p) (method_core folder b q) ≡ test →
@@ -237,7 +237,7 @@ module _ (folder : Folder) where
       list_all (λ y. not (same_signature (method_core folder a p) y))
       (cond test (method_core folder b q ∷ rest) rest) ≡ true
   kept-apart a p q b rest true fails more =
-      both (not (same_signature (method_core folder a p) (method_core folder b q))) _
+      and_from (not (same_signature (method_core folder a p) (method_core folder b q))) _
       (apart-by a b p q (same_signature (method_core folder a p) (method_core folder b q)) refl fails) more
   kept-apart a p q b rest false fails more = more
 
@@ -278,7 +278,7 @@ module _ (folder : Folder) where
         all_differ same_signature (cond (is_none status) (method_core folder s status ∷ rest) rest) ≡ true
     differ-by s sources b (Some reason) rest e apart more = more
     differ-by s sources b None rest e apart more =
-        both (list_all (λ y. not (same_signature (method_core folder s None) y)) rest) _ (apart e) more
+        and_from (list_all (λ y. not (same_signature (method_core folder s None) y)) rest) _ (apart e) more
 
     all-differ : (n : ℕ) (sources : List Source) → AreCounted sources →
         all_differ same_signature (filter is_read (cores_from n sources)) ≡ true

@@ -23,7 +23,7 @@ use Rattle.core_code.specs.Recursion.{named_by, all_calls_in, all_rows, TellRecu
 use Rattle.core_code.specs.CalleeRows.{code_rows}
 use Rattle.core_code.specs.Tree.{Operation, steps_of}
 use Rattle.core_code.proofs.ChainLemmas.{caller_in_range}
-use Rattle.core_code.proofs.LongestChains.{ranks_by_chains}
+use Rattle.core_code.proofs.LongestChains.{ranks_by_chains, row_calls}
 use Rattle.core_code.proofs.Members.{passes}
 use Rattle.core_code.proofs.RowCallees.{is_method, analysed_among, right_at, method_there, analysed_at}
 use Rattle.core_lowering_rules.specs.Context.{Folder}
@@ -77,16 +77,6 @@ row_code : (ms : List Method) (i : ℕ) (method : Method) → slice_get ms i ≡
 row_code [] i method is = absurd cc
 row_code (m ∷ ms) zero method is = let same : m ≡ method = cc in ap (λ (x : Method). calls_in x.code) same
 row_code (m ∷ ms) (suc i) method is = row_code ms i method is
-
-code_row : (ms : List Method) (i : ℕ) (n : MethodId) →
-    Contains (elim (slice_get ms i) as (λ (o : Option Method). List MethodId) [
-      | None ↦ []
-      | Some m ↦ calls_in m.code
-    ]) n →
-    Contains (slice_index_or (map (λ (m : Method). calls_in m.code) ms) i []) n
-code_row [] i n h = h
-code_row (m ∷ ms) zero n h = h
-code_row (m ∷ ms) (suc i) n h = code_row ms i n h
 
 -- ---- who is called is analysed
 
@@ -163,7 +153,7 @@ low : (files : List (List ℕ)) (units : List unit_type.Unit) (flags : List Bool
 low files units flags m n call =
     let core = program_of files units (flag_of flags) in
     let found = method_there (method_at core n)
-    (called_analysed core (right files units flags) m n (code_row core.methods m.0 n call)) in
+    (called_analysed core (right files units flags) m n (row_calls core.methods m.0 n call)) in
     slice_get_within core.methods n.0 found.0 found.1
 
 none : (files : List (List ℕ)) (units : List unit_type.Unit) (flags : List Bool) →

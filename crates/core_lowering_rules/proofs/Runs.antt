@@ -3,7 +3,7 @@ use Rattle.std.proofs.Common.{◌≡◌, ℕ, suc, ◌+◌, ◌-◌, Bool, true,
 use Rattle.std.proofs.Common.{Some, None}
 use Rattle.std.proofs.Common.{length, drop, refl, sym, ap, ◌∙◌, subst, arith, nat_le, length-append, not, append_assoc}
 use Rattle.std.proofs.Math.Seq.{drop-append_seam}
-use Rattle.std.proofs.lemmas.Bool.{le-leb, eq-eqb}
+use Rattle.std.proofs.lemmas.Bool.{le-leb, eq-eqb, and_from}
 use Rattle.std.proofs.lemmas.List.Folds.{list_all-append}
 use Rattle.std.proofs.lemmas.Option.{same_Some, none-some}
 use Rattle.std.specs.List.{list_all}
@@ -17,11 +17,11 @@ use Rattle.core_code.specs.declared.code.Op.TheVariants.{Outside}
 use Rattle.core_code.specs.Tree.{Tree, Op, Choice, Loop, Sync, Operation, in_sequence, steps_of}
 use Rattle.core_code.specs.Facts.{height_after, same_height, pops, pushes}
 use Rattle.core_code.specs.CallFacts.{is_right_call}
-use Rattle.core_code.proofs.BoolParts.{both}
 use Rattle.core_code.specs.Core.{Core, Method}
 use Rattle.core_code.specs.Kinds.{StackKind, Opaque, joined_kind, joined_stack, same_class, fits, fits_class}
 use Rattle.core_code.specs.KindCheck.{Kinds, and_then, where_true, after_popping, kinds_after, kinds_after_op}
 use Rattle.core_code.specs.KindCheck.{same_stack}
+use Rattle.core_code.proofs.KindLemmas.{same_heights}
 use Rattle.core_lowering_rules.specs.ValueKinds.{ValueKind, Of}
 use Rattle.core_lowering_rules.specs.ValueKinds as value
 use Rattle.core_lowering_rules.specs.Context.{Context, Code, op_at, op, choice, lock_at, repeated, held, converted}
@@ -78,13 +78,6 @@ joined-from a b left right (Some rest) there more v e =
     let same : joined_kind a b ∷ rest ≡ v = same_Some _ _ e in
     let lengths = more rest there in
     (ap suc lengths.0 ∙ ap (length {A = StackKind}) same, ap suc lengths.1 ∙ ap (length {A = StackKind}) same)
-
-joined-length : (t u v : List StackKind) → joined_stack t u ≡ Some v → (length t ≡ length v) × (length u ≡ length v)
-joined-length [] [] v e =
-    let same : [] ≡ v = same_Some _ _ e in (ap (length {A = StackKind}) same, ap (length {A = StackKind}) same)
-joined-length [] (b ∷ u) v e = absurd (none-some _ e)
-joined-length (a ∷ t) [] v e = absurd (none-some _ e)
-joined-length (a ∷ t) (b ∷ u) v e = joined-from a b t u (joined_stack t u) refl (joined-length t u) v e
 
 abbrev high_then : Option ℕ → (ℕ → Option ℕ) → Option ℕ
 high_then o f = elim o as (λ (_ : Option ℕ). Option ℕ) [ None ↦ None | Some h ↦ f h ]
@@ -169,7 +162,8 @@ module _ (core : Core) (m : Method) where
         runs = after-append a b s ∙ ap (λ (o : Kinds). and_then o (after_all b)) x.runs ∙ y.runs;
         high =
             heights-append a b (length s) ∙ ap (λ (o : Option ℕ). high_then o (heights b)) x.high ∙ y.high;
-        calls = list_all-append (part_right core) a b ∙ both (calls_right core a) (calls_right core b) x.calls y.calls;
+        calls = list_all-append (part_right core) a b
+            ∙ and_from (calls_right core a) (calls_right core b) x.calls y.calls;
       }
 
   pub in_turn_3 : {a b c : Code} {s t u v : List StackKind} → Runs a s t → Runs b t u → Runs c u v →
@@ -203,7 +197,7 @@ module _ (core : Core) (m : Method) where
       record {
         runs = ap (λ (k : Kinds). and_then k (λ between. Some between)) e;
         high = ap (λ (h : Option ℕ). high_then h (λ k. Some k)) f;
-        calls = both (part_right core part) true g refl;
+        calls = and_from (part_right core part) true g refl;
       }
 
   -- an operation, which takes values from the top and leaves others
@@ -213,12 +207,12 @@ module _ (core : Core) (m : Method) where
       Runs (op_at place o) (values ++ rest) (made ++ rest)
   once place o values made rest p q right e =
       part-runs (Op (record { 0 = 0 }) place o) e (moved values made rest (pops o) (pushes o) p q)
-      (both (is_right_call core o) true right refl)
+      (and_from (is_right_call core o) true right refl)
 
   pub chosen : {a b : Code} {s t u v : List StackKind} → Runs a s t → Runs b s u → joined_stack t u ≡ Some v →
       Runs (choice a b) s v
   chosen {a} {b} {s} {t} {u} {v} x y e =
-      let lengths = joined-length t u v e in
+      let lengths = same_heights t u v e in
       part-runs (Choice (in_sequence a) (in_sequence b))
       (ap (λ (o : Kinds). and_then o (λ l. and_then (kinds_after core m (in_sequence b) s) (λ r. joined_stack l r)))
       (whole x)
@@ -229,7 +223,7 @@ module _ (core : Core) (m : Method) where
       (eq-eqb (length t) (length u) (lengths.0 ∙ sym lengths.1))
       ∙ ap (λ (h : ℕ). Some h) lengths.0)
       (list_all-append (op_right core) (steps_of (in_sequence a)) (steps_of (in_sequence b))
-      ∙ both (part_right core (in_sequence a)) (part_right core (in_sequence b)) (whole_calls x) (whole_calls y))
+      ∙ and_from (part_right core (in_sequence a)) (part_right core (in_sequence b)) (whole_calls x) (whole_calls y))
 
   pub again : {a : Code} → Runs a [] [] → Runs (repeated a) [] []
   again {a} x =

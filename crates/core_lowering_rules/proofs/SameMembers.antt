@@ -7,6 +7,7 @@ use Rattle.racer_base.specs.declared.ids.ClassId.{ClassId}
 use Rattle.racer_base.specs.declared.ids.Kind.{Kind}
 use Rattle.racer_base.specs.declared.ids.Kind.TheVariants as kind
 use Rattle.racer_base.specs.declared.ids.Place.{Place}
+use Rattle.racer_base.proofs.Lists.{same_3}
 use Rattle.java_tree.specs.declared.words.Ident.{Ident}
 use Rattle.java_tree.specs.declared.methods.AnnotationTree.{AnnotationTree}
 use Rattle.java_tree.specs.declared.methods.FieldTree.{FieldTree}
@@ -39,7 +40,7 @@ use Rattle.java_resolver.specs.Declarations.{kinds_of, method_info, head_kind, i
 use Rattle.java_resolver.specs.Declarations.{default_constructor, member_methods}
 use Rattle.java_resolver.specs.Declarations.{member_is_constructor, class_methods}
 use Rattle.core_lowering_rules.proofs.FilledMethods.{SeenParameter, Seen, seen_parameter, seen, same_seen}
-use Rattle.core_lowering_rules.proofs.ZippedLists.{same_3, same_5, zip-equal, zip-map, zip-flat, zip-any}
+use Rattle.core_lowering_rules.proofs.ZippedLists.{same_5, zip-equal, zip-map, zip-flat, zip-any}
 use Rattle.core_lowering_rules.proofs.ZippedLists.{map-injective}
 
 -- ---- by cases

@@ -9,6 +9,7 @@ use Rattle.racer_base.specs.declared.ids.Kind.{Kind}
 use Rattle.racer_base.specs.declared.ids.MethodId.{MethodId}
 use Rattle.racer_base.specs.declared.ids.Place.{Place}
 use Rattle.racer_base.specs.declared.limits.TheConstants.{MAX_PARAMETERS, MAX_LOCALS}
+use Rattle.racer_base.proofs.Lists.{same_3}
 use Rattle.java_tree.specs.declared.unit.ClassTree.{ClassTree}
 use Rattle.java_tree.specs.declared.unit.Member.{Member}
 use Rattle.java_tree.specs.declared.unit.Unit as unit
@@ -34,7 +35,7 @@ use Rattle.core_lowering_rules.specs.Programs.{class_core, field_core, method_co
 use Rattle.core_lowering_rules.specs.Programs.{skipped_in}
 use Rattle.core_lowering_rules.specs.Programs.{in_order, program_of, draft_of, IsLowered, is_overloaded, where_so}
 use Rattle.core_lowering_rules.specs.Programs.{is_entry}
-use Rattle.core_lowering_rules.proofs.ZippedLists.{same_3, zip-map, zip-flat, zip-append, zip-zips}
+use Rattle.core_lowering_rules.proofs.ZippedLists.{zip-map, zip-flat, zip-append, zip-zips}
 use Rattle.core_lowering_rules.proofs.SameMembers.{by-form, class-alike, class_fields-alike, class_methods-alike}
 use Rattle.core_lowering_rules.proofs.SameSources.{SameSource, class_sources-same, method_code-alike}
 use Rattle.core_lowering_rules.proofs.SameSources.{method_kinds-alike}

@@ -4,6 +4,7 @@ use Rattle.std.proofs.Common.{refl, ap, ap₂, sym, ◌∙◌, subst}
 use Rattle.std.specs.List.{AllZip, flat_map, list_any}
 use Rattle.racer_base.specs.declared.ids.ClassId.{ClassId}
 use Rattle.racer_base.specs.declared.ids.Kind.{Kind}
+use Rattle.racer_base.proofs.Lists.{same_4}
 use Rattle.java_tree.specs.declared.words.Ident.{Ident}
 use Rattle.java_tree.specs.declared.methods.FieldInitialiser.{FieldInitialiser}
 use Rattle.java_tree.specs.declared.methods.FieldInitialiser.TheVariants as field
@@ -41,7 +42,7 @@ use Rattle.core_code.specs.declared.code.Op.TheVariants.{Drop}
 use Rattle.core_lowering_rules.proofs.FilledMethods.{SeenParameter, Seen, seen_parameter, seen, same_seen, same_body}
 use Rattle.core_lowering_rules.proofs.FilledMethods.{same_initialiser}
 use Rattle.core_lowering_rules.proofs.LoweredTrees.{parts-lowered}
-use Rattle.core_lowering_rules.proofs.ZippedLists.{same_4, zip-flat, zip-append, zip-zips, zip-unless}
+use Rattle.core_lowering_rules.proofs.ZippedLists.{zip-flat, zip-append, zip-zips, zip-unless}
 use Rattle.core_lowering_rules.proofs.SameMembers.{by-form, same_modifiers, constructor-alike, modifiers-alike}
 use Rattle.core_lowering_rules.proofs.SameMembers.{constructs-alike, method-alike, head-alike, default-alike}
 

@@ -2,20 +2,17 @@
 use Rattle.std.proofs.Common.{◌≡◌, ℕ, Bool, true, false, cond, List, [], ◌∷◌, Some, None, refl, sym, ap, ◌∙◌}
 use Rattle.std.proofs.Common.{subst}
 use borrow.Author.Tests.{eqb-true}
-use Rattle.std.proofs.lemmas.Bool.{eq-eqb}
 use Rattle.racer_base.specs.declared.ids.ClassId.{ClassId}
 use Rattle.racer_base.specs.declared.ids.Kind.{Kind}
 use Rattle.racer_base.specs.declared.ids.Kind.TheVariants as types
 use Rattle.core_code.specs.Kinds.{StackKind, Plain, Declared, Class, Null, Opaque, Other, kind_of, same_class}
 use Rattle.core_code.specs.Kinds.{joined_kind, joined_stack, fits_class, fits}
 use Rattle.core_code.specs.KindCheck.{Kinds}
+use Rattle.core_code.proofs.KindLemmas.{class_same}
 use Rattle.core_lowering_rules.specs.ValueKinds.{ValueKind, Of, common_kind}
 use Rattle.core_lowering_rules.specs.ValueKinds as value
 
 -- ---- classes
-
-pub class_same : (c : ClassId) → same_class c c ≡ true
-class_same c = eq-eqb c.0 c.0 refl
 
 pub class_equal : (c d : ClassId) → same_class c d ≡ true → c ≡ d
 class_equal c d e = ap (λ (n : ℕ). let made : ClassId = record { 0 = n } in made) (eqb-true c.0 d.0 e)

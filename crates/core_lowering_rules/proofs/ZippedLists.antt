@@ -2,16 +2,9 @@
 use Rattle.std.proofs.Common.{◌≡◌, Bool, true, false, cond, List, [], ◌∷◌, ◌++◌, map, refl, ap, ◌∙◌}
 use Rattle.std.specs.Prelude.{◌||◌}
 use Rattle.std.specs.List.{AllZip, flat_map, list_any}
+use Rattle.racer_base.proofs.Lists.{same_4}
 
 -- ---- equal parts
-
-pub same_3 : {A B C R : Type 0} (f : A → B → C → R) {a x : A} {b y : B} {c z : C} → a ≡ x → b ≡ y → c ≡ z
-    → f a b c ≡ f x y z
-same_3 f {x = x} {b = b} {y = y} {c = c} p q r = ap (λ t. f t b c) p ∙ ap (λ t. f x t c) q ∙ ap (f x y) r
-
-pub same_4 : {A B C D R : Type 0} (f : A → B → C → D → R) {a x : A} {b y : B} {c z : C} {d w : D} → a ≡ x → b ≡ y
-    → c ≡ z → d ≡ w → f a b c d ≡ f x y z w
-same_4 f {x = x} {b = b} {c = c} {d = d} p q r s = ap (λ t. f t b c d) p ∙ same_3 (f x) q r s
 
 pub same_5 : {A B C D E R : Type 0} (f : A → B → C → D → E → R) {a x : A} {b y : B} {c z : C} {d w : D} {e v : E}
     → a ≡ x → b ≡ y → c ≡ z → d ≡ w → e ≡ v → f a b c d e ≡ f x y z w v

@@ -1,7 +1,7 @@
 -- Cells that are copied one after another.
 use Rattle.std.proofs.Common.{◌≡◌, Bool, true, false, cond, ◌&&◌, List, [], ◌∷◌, Option, None, Some, refl, sym, ap}
 use Rattle.std.proofs.Common.{subst, ◌∙◌}
-use Rattle.std.proofs.lemmas.Bool.{eqb-true}
+use Rattle.std.proofs.lemmas.Bool.{eqb-true, and_parts}
 use Rattle.std.specs.BTreeMap.{BTreeMap, Updates, get}
 use Rattle.std.specs.Cmp.{nat_eq_equiv}
 use Rattle.std.specs.List.{All}
@@ -25,19 +25,11 @@ cell-symm a b =
     ∙ (λ i. same_object-laws.symm a.object b.object i && nat_eq_equiv.symm a.field b.field i)
     ∙ sym (cell_tied b.object a.object (field_in b) (field_in a))
 
-first-part : (a b : Bool) → (a && b) ≡ true → a ≡ true
-first-part true b e = refl
-first-part false b e = e
-
-second-part : (a b : Bool) → (a && b) ≡ true → b ≡ true
-second-part true b e = e
-second-part false b e = absurd cc
-
 cells-equal : (a b : Cell) → is_eq (cell_cmp a b) ≡ true → a ≡ b
 cells-equal a b e =
     let both = sym (cell_tied a.object b.object (field_in a) (field_in b)) ∙ e in
-    let objects = equal_of_same a.object b.object (first-part _ _ both) in
-    let fields : a.field ≡ b.field = eqb-true a.field b.field (second-part _ _ both) in
+    let objects = equal_of_same a.object b.object (and_parts _ _ both).0 in
+    let fields : a.field ≡ b.field = eqb-true a.field b.field (and_parts _ _ both).1 in
     (λ i. record { field = fields i; object = objects i })
 
 abbrev or_else : Option Value → Option Value → Option Value

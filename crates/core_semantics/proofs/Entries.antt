@@ -1,6 +1,7 @@
 -- Threads at the entries of methods, and calls of none.
 use Rattle.std.proofs.Common.{◌≡◌, ℕ, true, false, List, [], ◌∷◌, Option, None, Some, length, map, get_or, slice_get}
-use Rattle.std.proofs.Common.{◌⊎◌, inl, inr, cond, Bool, Ok, Err, Result, option_map, refl, sym, ap, ◌∙◌, slice_index_or}
+use Rattle.std.proofs.Common.{◌⊎◌, inl, inr, cond, Bool, Ok, Err, Result, option_map, refl, sym, ap, ◌∙◌}
+use Rattle.std.proofs.Common.{slice_index_or}
 use Rattle.std.proofs.Math.Dec.{ltb}
 use Rattle.std.proofs.lemmas.Bool.{ltb-true, ltb-false}
 use Rattle.std.proofs.lemmas.Option.{slice_get-map, slice_get_read, slice_get_past, same_Some}
@@ -14,7 +15,8 @@ use Rattle.core_semantics.specs.declared.object.Object.{Object}
 use Rattle.core_semantics.specs.declared.object.Value.{Value}
 use Rattle.core_semantics.specs.declared.object.Value.TheVariants.{Null}
 use Rattle.core_semantics.specs.State.{Frame, Thread}
-use Rattle.core_semantics.specs.Steps.{Spot, After, Next, Goes, Sticks, base_of, called, called_method, entered, entering}
+use Rattle.core_semantics.specs.Steps.{Spot, After, Next, Goes, Sticks, base_of, called, called_method, entered}
+use Rattle.core_semantics.specs.Steps.{entering}
 use Rattle.core_semantics.specs.Steps.{on_base, passed_from, popped, reason}
 use Rattle.core_semantics.specs.Runs.{given_to, thread_at}
 

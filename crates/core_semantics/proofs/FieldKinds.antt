@@ -1,5 +1,6 @@
 -- The kind of a field by its number.
-use Rattle.std.proofs.Common.{◌≡◌, true, false, List, length, map, get_or, option_map, unwrap_or, refl, sym, ap, ◌∙◌}
+use Rattle.std.proofs.Common.{◌≡◌, ℕ, zero, suc, true, false, List, [], ◌∷◌, length, map, get_or, option_map, unwrap_or}
+use Rattle.std.proofs.Common.{refl, sym, ap, ◌∙◌}
 use Rattle.std.proofs.Common.{Option, Some, None, slice_index_or, slice_get}
 use Rattle.std.proofs.Math.Dec.{ltb}
 use Rattle.std.proofs.lemmas.Bool.{ltb-true, ltb-false}
@@ -8,6 +9,9 @@ use Rattle.racer_base.specs.declared.ids.FieldId.{FieldId}
 use Rattle.racer_base.specs.declared.ids.Kind.{Kind}
 use Rattle.racer_base.specs.declared.ids.Kind.TheVariants.{Other}
 use Rattle.core_code.specs.declared.parts.FieldCore.{FieldCore}
+use Rattle.core_code.specs.Core.{Core}
+use Rattle.core_code.specs.KindCheck.{field_at}
+use Rattle.core_semantics.specs.Steps.{kind_of as field_kind}
 
 abbrev kinds_of : List FieldCore → List Kind
 kinds_of fs = map (λ (field : FieldCore). field.kind) fs
@@ -30,3 +34,15 @@ pub no_kind : (fs all : List FieldCore) (f : FieldId) → fs ≡ all → false �
     Other ≡ slice_index_or (kinds_of all) f.0 Other
 no_kind fs all f same past =
     found fs all f None same (slice_get_past fs f.0 (ltb-false f.0 (length fs) (sym past)))
+
+-- ---- a field that there is
+
+pub kind-in : (fields : List FieldCore) (i : ℕ) (field : FieldCore) → slice_get fields i ≡ Some field →
+    slice_index_or (map (λ (x : FieldCore). x.kind) fields) i Other ≡ field.kind
+kind-in [] i field there = absurd cc
+kind-in (x ∷ fields) zero field there = let same : x ≡ field = cc in ap (λ (y : FieldCore). y.kind) same
+kind-in (x ∷ fields) (suc i) field there = kind-in fields i field there
+
+pub kind-there : (core : Core) (f : FieldId) (field : FieldCore) → field_at core f ≡ Some field →
+    field_kind core f ≡ field.kind
+kind-there core f field there = kind-in core.fields f.0 field there

@@ -1,7 +1,8 @@
 -- The set of the objects of a list of start paths.
-use Rattle.std.proofs.Common.{◌≡◌, ℕ, Bool, true, false, cond, ◌||◌, List, [], ◌∷◌, length, refl, sym, ap, ◌∙◌, arith}
+use Rattle.std.proofs.Common.{◌≡◌, Bool, true, false, cond, ◌||◌, List, [], ◌∷◌, refl, sym, ap, ◌∙◌}
 use Rattle.std.specs.BTreeSet.{BTreeSet, Updates, contains_by}
 use Rattle.std.specs.List.{list_any}
+use Rattle.std.proofs.Math.Bool.{or-false}
 use Rattle.core_semantics.specs.declared.object.Object.{Object}
 use Rattle.core_semantics.specs.declared.object.Object.TheVariants.{Start}
 use Rattle.core_semantics.specs.declared.object.StartPath.{StartPath}
@@ -24,10 +25,6 @@ either true true r = refl
 either true false r = refl
 either false o r = refl
 
-or_false : (b : Bool) → (b || false) ≡ b
-or_false true = refl
-or_false false = refl
-
 pub one_more : (old new : BTreeSet Object) (x : StartPath) (left rest all : List StartPath) →
     DoMake old left all → left ≡ x ∷ rest → Updates object_cmp old new (Start x) true → DoMake new rest all
 one_more old new x left rest all make steps updates = λ p.
@@ -40,8 +37,4 @@ one_more old new x left rest all make steps updates = λ p.
 pub all_made : (objects : BTreeSet Object) (left all : List StartPath) → DoMake objects left all → left ≡ [] →
     ◌≡◌ {A = StartPath → Bool} (λ p. has objects p) (λ p. is_one_of all p)
 all_made objects left all make none = λ i p. (
-    sym (or_false (has objects p)) ∙ ap (λ ys. has objects p || is_one_of ys p) (sym none) ∙ make p) i
-
-pub nothing_left : {A : Type 0} (xs : List A) (n : ℕ) → n ≡ length xs → n ≡ 0 → xs ≡ []
-nothing_left [] n e z = refl
-nothing_left (x ∷ xs) n e z = absurd (omega arith)
+    sym (or-false (has objects p)) ∙ ap (λ ys. has objects p || is_one_of ys p) (sym none) ∙ make p) i

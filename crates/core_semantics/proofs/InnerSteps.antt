@@ -12,7 +12,8 @@ use Rattle.core_semantics.specs.Answers.{IsAnswer}
 use Rattle.core_semantics.specs.CellOrder.{cells_of}
 use Rattle.core_semantics.specs.Cells.{put_in}
 use Rattle.core_semantics.specs.State.{Frame, Store}
-use Rattle.core_semantics.specs.Steps.{Inner, Next, Goes, base_of, on_base, got, put, put_on, read, replaced, slot_of, top}
+use Rattle.core_semantics.specs.Steps.{Inner, Next, Goes, base_of, on_base, got, put, put_on, read, replaced, slot_of}
+use Rattle.core_semantics.specs.Steps.{top}
 use Rattle.core_semantics.specs.View.{behind, behind_inner, frame_of, inner_of, store_of}
 use Rattle.core_semantics.proofs.Answered.{within_whole, along}
 

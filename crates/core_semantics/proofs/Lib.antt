@@ -14,3 +14,4 @@ pub mod FieldKinds
 pub mod Held
 pub mod MonitorLemmas
 pub mod NextLooks
+pub mod ThreadLemmas

@@ -4,13 +4,14 @@ use Rattle.std.proofs.Common.{refl, sym, ap, subst, ◌∙◌}
 use Rattle.std.specs.BTreeSet.{BTreeSet, Updates, contains}
 use Rattle.std.specs.List.{list_any}
 use Rattle.std.specs.BTreeMap.{is_at}
+use Rattle.std.proofs.lemmas.Bool.{and_parts}
 use Rattle.core_code.specs.declared.code.LockKind.{LockKind}
 use Rattle.core_code.specs.declared.code.LockKind.TheVariants.{Own, Explicit}
 use Rattle.core_semantics.specs.declared.answer.Holder.{Holder}
 use Rattle.core_semantics.specs.declared.answer.Holder.TheVariants.{Object as Of, Outside}
-use Rattle.core_code.proofs.BoolParts.{first_part, last_part}
 use Rattle.core_semantics.specs.declared.monitors.HeldMonitor.{HeldMonitor}
-use Rattle.core_semantics.specs.Monitors.{AreFirsts, HasMonitorsOf, HasPopped, HasPushed, IsAsBefore, IsIndexed, IsPopped}
+use Rattle.core_semantics.specs.Monitors.{AreFirsts, HasMonitorsOf, HasPopped, HasPushed, IsAsBefore, IsIndexed}
+use Rattle.core_semantics.specs.Monitors.{IsPopped}
 use Rattle.core_semantics.specs.Monitors.{IsWithout, is_held, monitors_in}
 use Rattle.core_semantics.specs.Objects.{same_lock_kind, same_monitor, same_object}
 use Rattle.core_semantics.specs.Order.{holder_cmp}
@@ -24,8 +25,8 @@ equal_kinds _ _ e = absurd cc
 
 equal_monitors : (a b : Holder) → same_monitor a b ≡ true → a ≡ b
 equal_monitors (Of j a) (Of k b) e =
-    let kinds = equal_kinds j k (first_part (same_lock_kind j k) (same_object a b) e) in
-    let objects = equal_of_same a b (last_part (same_lock_kind j k) (same_object a b) e) in
+    let kinds = equal_kinds j k (and_parts (same_lock_kind j k) (same_object a b) e).0 in
+    let objects = equal_of_same a b (and_parts (same_lock_kind j k) (same_object a b) e).1 in
     (λ i. Of (kinds i) (objects i))
 equal_monitors (Of j a) (Outside k) e = absurd cc
 equal_monitors (Outside j) (Of k b) e = absurd cc

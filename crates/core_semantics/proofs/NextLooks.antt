@@ -2,7 +2,6 @@
 use Rattle.std.proofs.Common.{◌≡◌, refl, ℕ, true, false, Option, None, Some}
 use Rattle.core_code.specs.declared.code.Op.{Op as CoreOp}
 use Rattle.core_code.specs.declared.code.Op.TheVariants.{Get}
-use Rattle.core_semantics.specs.declared.look.Look.{Look}
 use Rattle.core_semantics.specs.declared.look.Look.TheVariants.{Turn, Read, Other}
 use Rattle.core_semantics.specs.Looks.{look_of, next_look, op_look}
 use Rattle.core_semantics.specs.Runs.{is_turn, next_todo, wants_turn}

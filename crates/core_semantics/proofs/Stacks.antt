@@ -1,6 +1,6 @@
 -- A list and the same from its end.
 use Rattle.std.proofs.Common.{◌≡◌, ℕ, suc, ◌+◌, ◌-◌, ◌<◌, ◌≤◌, List, [], ◌∷◌, ◌++◌, length, drop, take, reverse, set}
-use Rattle.std.proofs.Common.{refl, sym, ap, ◌∙◌, arith, inl, inr, add-one, slice_get, None, Some, zero}
+use Rattle.std.proofs.Common.{sym, ap, ◌∙◌, arith, inl, inr, add-one, slice_get, None, Some, zero}
 use Rattle.std.proofs.lemmas.Bool.{cases_lt}
 use Rattle.std.proofs.lemmas.Option.{get_or_from_slice_get, slice_get_within}
 use Rattle.std.proofs.lemmas.List.{take-append-drop, reverse-append, length-reverse, length-drop, set-append_left}
@@ -77,11 +77,6 @@ pulled_reversed {A} k xs is_under =
     ∙ take-append_seam back (reverse (take (suc k) xs)) in
     let below : drop 2 (reverse xs) ≡ reverse (take k xs) = drop_reversed 2 xs ∙ ap (λ m. reverse (take m xs)) left in
     reverse-append (take k xs) (drop (suc k) xs) ∙ (λ i. sym top i ++ sym below i)
-
--- a stack without a top is empty
-pub empty_stack : {A : Type 0} (xs : List A) → slice_get xs 0 ≡ None → xs ≡ []
-empty_stack [] e = refl
-empty_stack (x ∷ xs) e = cc
 
 -- the rest of a stack from an element on
 pub rest_at : {A : Type 0} (xs : List A) (n : ℕ) (x : A) → slice_get xs n ≡ Some x → drop n xs ≡ x ∷ drop (n + 1) xs

@@ -9,7 +9,8 @@ use Rattle.racer_base.specs.declared.ids.Kind.{Kind}
 use Rattle.racer_base.specs.declared.ids.Kind.TheVariants.{Plain, Declared, Other}
 use Rattle.core_code.specs.declared.code.LockKind.TheVariants.{Explicit}
 use Rattle.core_code.specs.declared.code.Op.{Op as CoreOp}
-use Rattle.core_code.specs.declared.code.Op.TheVariants.{Push, PushPrim, PushNull, Drop, Get, Put, Set, Call, Ret, Throw}
+use Rattle.core_code.specs.declared.code.Op.TheVariants.{Push, PushPrim, PushNull, Drop, Get, Put, Set, Call, Ret}
+use Rattle.core_code.specs.declared.code.Op.TheVariants.{Throw}
 use Rattle.core_code.specs.declared.parts.FieldCore.{FieldCore}
 use Rattle.core_code.specs.Tree.{Tree, Op, Skip, Choice, Loop, Sync, in_sequence}
 use Rattle.core_code.specs.Core.{Core, Method}

@@ -1,5 +1,5 @@
--- A contract of a public call rests on this: what is seen of the monitors that a thread holds, and of the set that finds
--- them.
+-- A contract of a public call rests on this: what is seen of the monitors that a thread holds, and of the set that
+-- finds them.
 use Rattle.std.specs.Prelude.{◌≡◌, Bool, true, false, not, List, [], ◌∷◌, map, reverse}
 use Rattle.std.specs.BTreeSet.{BTreeSet, Updates, contains}
 use Rattle.std.specs.List.{list_any}

@@ -1,5 +1,5 @@
--- A contract of a public call rests on this: when two objects, and two monitors, are the same, and how a start path goes
--- on.
+-- A contract of a public call rests on this: when two objects, and two monitors, are the same, and how a start path
+-- goes on.
 use Rattle.std.specs.Prelude.{Bool, true, false, ◌&&◌, [], ◌∷◌, ◌++◌, nat_eq}
 use Rattle.racer_base.specs.declared.ids.FieldId.{FieldId}
 use Rattle.access_paths.specs.Paths.{same_fields}

@@ -1,4 +1,5 @@
--- A contract of a public call rests on this: the laws of `==` at monitors, and of their order, which ties the same ones.
+-- A contract of a public call rests on this: the laws of `==` at monitors, and of their order, which ties the same
+-- ones.
 use Rattle.std.proofs.Common.{◌≡◌, ◌∷◌, ◌&&◌, nat_eq, refl, sym, ap, ◌∙◌}
 use Rattle.std.specs.Cmp.{IsTotalOrder, IsPartialEquivalence, IsEquivalence, IsPartialOrder}
 use Rattle.std.specs.Cmp.{equiv, partial_order_from_agreeing_total}

@@ -1,5 +1,5 @@
--- A contract of a public call rests on this: one step of a thread, a row an operation (JLS 4.12.5, 14.19, 15.11, 15.12.4,
--- 17.1).
+-- A contract of a public call rests on this: one step of a thread, a row an operation (JLS 4.12.5, 14.19, 15.11,
+-- 15.12.4, 17.1).
 use Rattle.std.specs.Prelude.{ℕ, suc, ◌-◌, Bool, ◌&&◌, List, [], ◌∷◌, ◌++◌, None, Some}
 use Rattle.std.specs.Prelude.{drop, length, map, nat_lt, replicate, reverse, slice_index_or, slice_set}
 use Rattle.std.specs.Prelude.{Option, take, if◌then◌else◌, Result, Ok, Err}

@@ -1,5 +1,6 @@
 -- A contract of a public call rests on this: what is seen of the machine.
-use Rattle.std.specs.Prelude.{◌≡◌, Bool, false, ◌&&◌, nat_eq, List, [], ◌∷◌, Option, None, Some, drop, length, ◌<◌, map, reverse}
+use Rattle.std.specs.Prelude.{◌≡◌, Bool, false, ◌&&◌, nat_eq, List, [], ◌∷◌, Option, None, Some, drop, length, ◌<◌, map}
+use Rattle.std.specs.Prelude.{reverse}
 use Rattle.std.specs.Borrow.{Bor}
 use Rattle.racer_base.specs.declared.ids.FieldId.{FieldId}
 use Rattle.racer_base.specs.declared.ids.Touch.{Touch}
@@ -12,7 +13,8 @@ use Rattle.core_semantics.specs.declared.pending.Pending.TheVariants.{One, Parts
 use Rattle.core_semantics.specs.declared.pending.NextStep.{NextStep}
 use Rattle.core_semantics.specs.declared.pending.NextStep.TheVariants as step
 use Rattle.core_semantics.specs.declared.pending.Unfolded.{Unfolded}
-use Rattle.core_semantics.specs.declared.pending.Unfolded.TheVariants.{Next as ANext, Nothing as ANothing, One as AOne, Two as ATwo}
+use Rattle.core_semantics.specs.declared.pending.Unfolded.TheVariants.{Next as ANext, Nothing as ANothing, One as AOne}
+use Rattle.core_semantics.specs.declared.pending.Unfolded.TheVariants.{Two as ATwo}
 use Rattle.core_semantics.specs.declared.frame.Frame.{Frame as CodeFrame}
 use Rattle.core_semantics.specs.declared.store.Store.{Store as CodeStore}
 use Rattle.core_semantics.specs.CellOrder.{cells_of, heap_of}

@@ -76,8 +76,9 @@ fn thread_copied<'a>(alloc: Global, thread: &Thread<'a>) -> Result<Option<Thread
 }
 
 impl<'a> Machine<'a> {
-    /// A machine that is equal to this one, or none. Which comes, no clause says: only a machine in which all start paths
-    /// are objects is copied, and only while both threads are in the methods that they began in and hold no monitor.
+    /// A machine that is equal to this one, or none. Which comes, no clause says: only a machine in which all start
+    /// paths are objects is copied, and only while both threads are in the methods that they began in and hold no
+    /// monitor.
     pub fn copied(&self) -> Result<Option<Machine<'a>>, Memory>
         ensures { IfOk result (λ copied. IfSome copied (λ copy. state_of copy ≡ state_of self.now)) }
     {

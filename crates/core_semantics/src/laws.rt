@@ -7,7 +7,8 @@ ghost use Rattle.core_code.specs.declared.code.Op.TheVariants.{Get, Put, Set, Pr
 ghost use Rattle.core_code.specs.declared.code.LockKind.TheVariants.{Own, Explicit};
 ghost use Rattle.core_semantics.specs.declared.answer.Holder.TheVariants.{Object as MonitorOf, Outside as AllOpaque};
 ghost use Rattle.core_semantics.specs.declared.answer.Turn.TheVariants.{Left, Right};
-ghost use Rattle.core_semantics.specs.declared.answer.Why.TheVariants.{NullBase, OpaqueBase, PlainBase, Thrown, UnreadCall};
+ghost use Rattle.core_semantics.specs.declared.answer.Why.TheVariants.{NullBase, OpaqueBase, PlainBase, Thrown};
+ghost use Rattle.core_semantics.specs.declared.answer.Why.TheVariants.{UnreadCall};
 ghost use Rattle.core_semantics.specs.declared.object.Object.TheVariants.{Start as StartOf};
 ghost use Rattle.core_semantics.specs.declared.object.Start.TheVariants.{All, Only};
 ghost use Rattle.core_semantics.specs.declared.object.StartRoot.TheVariants.{This, Class, Param};

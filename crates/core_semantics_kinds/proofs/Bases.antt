@@ -2,27 +2,21 @@
 -- is a cell of what it leads to.
 use Rattle.std.proofs.Common.{◌≡◌, true, false, cond, ◌&&◌, not, List, [], ◌∷◌, Option, None, Some}
 use Rattle.std.proofs.Common.{slice_index_or, refl, sym, ap, subst}
-use Rattle.std.proofs.lemmas.Bool.{and_from, eq-eqb, eqb-true}
-use Rattle.racer_base.specs.declared.ids.ClassId.{ClassId}
+use Rattle.std.proofs.lemmas.Bool.{and_from, eq-eqb, eqb-true, and_parts}
 use Rattle.racer_base.specs.declared.ids.FieldId.{FieldId}
 use Rattle.core_code.specs.declared.parts.FieldCore.{FieldCore}
 use Rattle.core_code.specs.Core.{Core}
 use Rattle.core_code.specs.KindCheck.{after_get, after_put, field_at, is_base_of}
 use Rattle.core_code.specs.Kinds.{StackKind, fits, fits_class, kind_of, same_class, same_kind}
+use Rattle.core_code.proofs.KindLemmas.{class_same, equal_kinds, where-is, IsWhere}
 use Rattle.core_code.specs.Kinds as kinds
-use Rattle.core_code.proofs.BoolParts.{first_part}
 use Rattle.core_semantics.specs.declared.object.Value.{Value}
 use Rattle.core_semantics.specs.declared.object.Value.TheVariants.{Null}
 use Rattle.core_semantics_kinds.specs.ObjectKinds.{AreValues, IsReached, IsValue}
 use Rattle.core_semantics_kinds.specs.Reached.{ObjectOf, Reached, Roots, TheClass, has_cell}
-use Rattle.core_semantics_kinds.proofs.KindValues.{equal_kinds}
-use Rattle.core_semantics_kinds.proofs.ObjectCode.{IsWhere, where-is}
 use Rattle.core_semantics_kinds.proofs.PlaceValues.{stand-slot, stand-top}
 
 -- ---- what a start object leads to
-
-same-refl : (c : ClassId) → same_class c c ≡ true
-same-refl c = eq-eqb c.0 c.0 refl
 
 pub record HasCell (field : FieldCore) (r : Option Reached) : Type 0 where
   pub reached : Reached
@@ -36,7 +30,7 @@ static-base field base r static e reached =
     record {
       reached = TheClass field.class;
       is = subst (λ (a : StackKind). IsReached a r) (sym same) reached;
-      cell = and_from (same_class field.class field.class) field.is_static (same-refl field.class) static;
+      cell = and_from (same_class field.class field.class) field.is_static (class_same field.class) static;
     }
 
 instance-base : (field : FieldCore) (base : StackKind) (r : Option Reached) → field.is_static ≡ false →
@@ -103,6 +97,6 @@ module _ (core : Core) (roots : Roots) where
         field = field;
         base = base;
         there = there;
-        is = first_part (is_base_of field base) (fits field.kind k) w.holds;
+        is = (and_parts (is_base_of field base) (fits field.kind k) w.holds).0;
         value = stand-slot (IsValue core roots) 1 (k ∷ base ∷ ks) xs base refl h;
       }

@@ -1,13 +1,13 @@
 -- The beginning of two entries of a program, and the states of the runs from there.
-use Rattle.std.proofs.Common.{◌≡◌, ℕ, zero, suc, ◌+◌, Bool, true, false, cond, ◌||◌, List, [], ◌∷◌, ◌++◌}
-use Rattle.std.proofs.Common.{Option, None, Some, is_none, is_some, map, slice_get}
-use Rattle.std.proofs.Common.{refl, sym, ap, ◌∙◌, ⊎_elim, arith}
-use Rattle.std.specs.List.{list_all}
+use Rattle.std.proofs.Common.{◌≡◌, ℕ, suc, ◌+◌, Bool, true, false, cond, ◌||◌, List, [], ◌∷◌, ◌++◌}
+use Rattle.std.proofs.Common.{Some, is_none, is_some, map, slice_get}
+use Rattle.std.proofs.Common.{refl, ap, ◌∙◌, arith}
 use Rattle.std.specs.Option.{option_and_then}
+use Rattle.std.proofs.lemmas.Bool.{and_parts}
 use Rattle.racer_base.specs.declared.ids.MethodId.{MethodId}
 use Rattle.racer_base.specs.declared.ids.Kind.{Kind}
+use Rattle.racer_base.proofs.Lists.{given_some}
 use Rattle.racer_base.specs.declared.ids.Kind.TheVariants as types
-use Rattle.core_code.specs.declared.code.Reason.{Reason}
 use Rattle.core_code.specs.declared.program.Program.{Program}
 use Rattle.core_code.specs.Calls.{is_analysed, method_at, taken_by}
 use Rattle.core_code.specs.CallFacts.{has_right_calls, is_right_call}
@@ -16,8 +16,7 @@ use Rattle.core_code.specs.KindCheck.{begins_with, is_kinded, kinds_after}
 use Rattle.core_code.specs.Kinds.{kind_of}
 use Rattle.core_code.specs.Program.{core as core_of}
 use Rattle.core_code.specs.Tree.{Operation, steps_of}
-use Rattle.core_code.proofs.BoolParts.{first_part, last_part}
-use Rattle.core_code.proofs.Membership.{In}
+use Rattle.core_code.proofs.KindLemmas.{where_analysed}
 use Rattle.core_semantics.specs.declared.object.Object.TheVariants.{Start as StartOf}
 use Rattle.core_semantics.specs.declared.object.Start.{Start}
 use Rattle.core_semantics.specs.declared.object.StartRoot.TheVariants.{This, Param}
@@ -32,52 +31,27 @@ use Rattle.core_semantics_kinds.specs.ObjectKinds.{AreHeld, AreValues, object_ki
 use Rattle.core_semantics_kinds.specs.Reached.{ObjectOf, Roots, object_of, parameter_root, roots_of}
 use Rattle.core_semantics_kinds.proofs.KindedRuns.{begun-state, legs-kept}
 use Rattle.core_semantics_kinds.proofs.ObjectsKept.{IsKinded, entered-vars, is-code, objects-kept}
+use Rattle.access_domain.proofs.Tests.{passes_at, passes_in}
+use Rattle.core_ways.proofs.AloneMethods.{analysed-status}
 
 -- ---- what every program keeps of an analysed method
-
-passes_at : {X : Type 0} (test : X → Bool) (xs : List X) (i : ℕ) (x : X) → list_all test xs ≡ true →
-    slice_get xs i ≡ Some x → test x ≡ true
-passes_at test [] i x all is = cc
-passes_at test (y ∷ xs) zero x all is =
-    let same : y ≡ x = cc in ap test (sym same) ∙ first_part (test y) (list_all test xs) all
-passes_at test (y ∷ xs) (suc i) x all is = passes_at test xs i x (last_part (test y) (list_all test xs) all) is
-
-passes_in : {X : Type 0} (test : X → Bool) (xs : List X) (x : X) → list_all test xs ≡ true → In xs x → test x ≡ true
-passes_in test [] x all there = absurd there
-passes_in test (y ∷ xs) x all there =
-    ⊎_elim
-    (λ e. ap test (sym e) ∙ first_part (test y) (list_all test xs) all)
-    (λ r. passes_in test xs x (last_part (test y) (list_all test xs) all) r) there
-
-where_analysed : (o : Option Reason) (b : Bool) → is_none o ≡ true → (is_some o || b) ≡ true → b ≡ true
-where_analysed None b none h = h
-where_analysed (Some r) b none h = cc
-
-given_some : {X : Type 0} (o : Option X) → is_some o ≡ true → (x : X) × (o ≡ Some x)
-given_some None h = cc
-given_some (Some x) h = (x, refl)
-
-status_none : (core : Core) (m : MethodId) (method : Method) → method_at core m ≡ Some method →
-    is_analysed core m ≡ true → is_none method.status ≡ true
-status_none core m method is analysed =
-    sym (ap (λ (o : Option Method). elim o as (λ _. Bool) [ None ↦ false | Some x ↦ is_none x.status ]) is) ∙ analysed
 
 pub is-kinded : (p : Program) (m : MethodId) (method : Method) → method_at (core_of p) m ≡ Some method →
     is_analysed (core_of p) m ≡ true → IsKinded (core_of p) method
 is-kinded p m method there analysed =
     let core : Core = core_of p in
-    let none : is_none method.status ≡ true = status_none core m method there analysed in
+    let none : is_none method.status ≡ true = analysed-status core m method there analysed in
     let begins : Bool = begins_with (taken_by method) method.variables in
     let some : Bool = is_some (kinds_after core method method.code []) in
     let kinded : is_kinded core method ≡ true = where_analysed method.status (is_kinded core method) none
     (passes_at (λ (x : Method). is_some x.status || is_kinded core x) core.methods m.0 method p.kinded there) in
-    let kinds = given_some (kinds_after core method method.code []) (last_part begins some kinded) in
+    let kinds = given_some (kinds_after core method method.code []) (and_parts begins some kinded).1 in
     let calls : has_right_calls core method ≡ true =
     passes_at (has_right_calls core) core.methods m.0 method p.calls_right there in
     record {
       kinds = kinds.0;
       kinded = kinds.1;
-      begins = first_part begins some kinded;
+      begins = (and_parts begins some kinded).0;
       calls = λ o stands. passes_in (λ (x : Operation). is_right_call core x.op) (steps_of method.code) o calls stands;
     }
 

@@ -1,7 +1,7 @@
 -- An operation in one frame keeps what the kinds of core code say.
 use Rattle.std.proofs.Common.{◌≡◌, ℕ, true, false, cond, ◌&&◌, List, [], ◌∷◌, Option, None, Some}
 use Rattle.std.proofs.Common.{drop, length, map, nat_le, slice_get, refl, sym, ap, subst, ◌∙◌}
-use Rattle.std.proofs.lemmas.Bool.{eqb-true}
+use Rattle.std.proofs.lemmas.Bool.{eqb-true, and_parts}
 use Rattle.std.proofs.lemmas.Option.{slice_get-map}
 use Rattle.std.specs.Option.{option_map}
 use Rattle.racer_base.specs.declared.ids.ClassId.{ClassId}
@@ -17,8 +17,8 @@ use Rattle.core_code.specs.Core.{Core, Method}
 use Rattle.core_code.specs.KindCheck.{after_get, after_popping, after_push, after_put, after_set, field_at, is_base_of}
 use Rattle.core_code.specs.KindCheck.{kinds_after_op, variable_at}
 use Rattle.core_code.specs.Kinds.{StackKind, fits, kind_of}
+use Rattle.core_code.proofs.KindLemmas.{where-is, IsWhere}
 use Rattle.core_code.specs.Kinds as kinds
-use Rattle.core_code.proofs.BoolParts.{last_part}
 use Rattle.core_semantics.specs.declared.object.Object.{Object}
 use Rattle.core_semantics.specs.declared.object.Object.TheVariants.{Fresh}
 use Rattle.core_semantics.specs.declared.object.StartRoot.TheVariants.{Class as StartClass}
@@ -28,13 +28,13 @@ use Rattle.core_semantics.specs.Objects.{same_object}
 use Rattle.core_semantics.specs.State.{Store, Todo}
 use Rattle.core_semantics.specs.Steps.{Inner, Next, base_of, going, inner_step, kind_of as field_kind, on_base, put}
 use Rattle.core_semantics.specs.Steps.{read, replaced, slot_of, top, written}
+use Rattle.core_semantics.proofs.FieldKinds.{kind-there}
 use Rattle.core_semantics_kinds.specs.Kinding.{StepKeeps, IsInner}
 use Rattle.core_semantics_kinds.specs.ObjectKinds.{AreStored, AreValues, IsValue, object_kinds}
 use Rattle.core_semantics_kinds.specs.Reached.{Roots, TheClass}
 use Rattle.core_semantics_kinds.proofs.KindValues.{value-fits}
-use Rattle.core_semantics_kinds.proofs.ObjectCode.{IsWhere, where-is}
 use Rattle.core_semantics_kinds.proofs.PlaceValues.{stand-drop, stand-set, stand-slot, stand-top}
-use Rattle.core_semantics_kinds.proofs.Reading.{kind-there, read-value}
+use Rattle.core_semantics_kinds.proofs.Reading.{read-value}
 
 module _ (core : Core) (roots : Roots) (classes : (c : ClassId) → roots (StartClass c) ≡ Some (TheClass c))
     (method : Method) where
@@ -77,7 +77,7 @@ module _ (core : Core) (roots : Roots) (classes : (c : ClassId) → roots (Start
             (elim (same_object o p && same_field f g) as (λ b. same_object o p && same_field f g ≡ b →
             cond b (Some v) (store.cells p g) ≡ Some x → IsValue core roots (kind_of (field_kind core g)) x) [
               | true ↦ λ t s.
-                  let number : f.0 ≡ g.0 = eqb-true f.0 g.0 (last_part (same_object o p) (same_field f g) t) in
+                  let number : f.0 ≡ g.0 = eqb-true f.0 g.0 (and_parts (same_object o p) (same_field f g) t).1 in
                   let same : v ≡ x = cc in
                   let kind : field_kind core g ≡ field.kind =
                   ap (λ (n : ℕ). let h : FieldId = record { 0 = n } in field_kind core h) (sym number)
@@ -218,7 +218,7 @@ module _ (core : Core) (roots : Roots) (classes : (c : ClassId) → roots (Start
       let w : IsWhere (is_base_of field base && fits field.kind k) (k ∷ ks) after =
       where-is (is_base_of field base && fits field.kind k) (k ∷ ks) after e in
       put-next i after ks k f field (slot_of i.frame 1) w.same there
-      (last_part (is_base_of field base) (fits field.kind k) w.holds) stored vars
+      (and_parts (is_base_of field base) (fits field.kind k) w.holds).1 stored vars
       (stand-drop (IsValue core roots) 2 (k ∷ base ∷ ks) i.frame.stack stack)
       (stand-top (IsValue core roots) k (base ∷ ks) i.frame.stack stack)
 

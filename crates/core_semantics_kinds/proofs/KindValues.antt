@@ -1,30 +1,19 @@
 -- Values in places of weaker kinds: where two ways meet, and where a value fits.
-use Rattle.std.proofs.Common.{◌≡◌, ℕ, Bool, true, false, cond, Option, is_some}
+use Rattle.std.proofs.Common.{◌≡◌, Bool, true, false, cond, Option, is_some}
 use Rattle.std.proofs.Common.{refl, ap, subst}
-use Rattle.std.proofs.lemmas.Bool.{eqb-true}
 use Rattle.racer_base.specs.declared.ids.ClassId.{ClassId}
 use Rattle.racer_base.specs.declared.ids.Kind.{Kind}
 use Rattle.racer_base.specs.declared.ids.Kind.TheVariants as types
 use Rattle.core_code.specs.Core.{Core}
 use Rattle.core_code.specs.Kinds.{StackKind, Plain, Declared, Class, Null, Opaque, Other, kind_of, same_kind}
 use Rattle.core_code.specs.Kinds.{joined_kind, fits_class, fits}
+use Rattle.core_code.proofs.KindLemmas.{equal_kinds}
 use Rattle.core_semantics.specs.declared.object.Object.{Object}
 use Rattle.core_semantics.specs.declared.object.Object.TheVariants.{Start, Fresh}
 use Rattle.core_semantics.specs.declared.object.Value.{Value}
 use Rattle.core_semantics.specs.declared.object.Value.TheVariants as value
 use Rattle.core_semantics_kinds.specs.ObjectKinds.{IsObjectOf, IsReached, IsValue}
 use Rattle.core_semantics_kinds.specs.Reached.{Reached, Roots, reached_from}
-
-pub equal_kinds : (k l : StackKind) → same_kind k l ≡ true → k ≡ l
-equal_kinds Plain Plain h = refl
-equal_kinds (Declared c) (Declared d) h =
-    ap (λ (i : ℕ). let class : ClassId = record { 0 = i } in Declared class) (eqb-true c.0 d.0 h)
-equal_kinds (Class c) (Class d) h =
-    ap (λ (i : ℕ). let class : ClassId = record { 0 = i } in Class class) (eqb-true c.0 d.0 h)
-equal_kinds Null Null h = refl
-equal_kinds Opaque Opaque h = refl
-equal_kinds Other Other h = refl
-equal_kinds _ _ h = cc
 
 -- a start object in a place of any kind leads to something
 pub reached-some : (k : StackKind) (r : Option Reached) → IsReached k r → is_some r ≡ true

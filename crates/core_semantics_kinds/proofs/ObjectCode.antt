@@ -1,73 +1,24 @@
 -- Code that the kind check takes leads from the kinds before to those after, in the words of any kinding.
-use Rattle.std.proofs.Common.{◌≡◌, Bool, true, false, List, [], ◌∷◌, ◌++◌, Option, None, Some}
-use Rattle.std.proofs.Common.{refl, sym, ap, subst, ◌∙◌, inl, inr, ⊎_elim}
+use Rattle.std.proofs.Common.{◌≡◌, true, List, [], ◌∷◌, Some}
+use Rattle.std.proofs.Common.{refl, sym, ap, subst, ◌∙◌, inl}
 use Rattle.core_code.specs.CallFacts.{is_right_call}
 use Rattle.core_code.specs.Core.{Core, Method}
-use Rattle.core_code.specs.KindCheck.{Kinds, and_then, kinds_after, same_stack, where_true}
-use Rattle.core_code.specs.Kinds.{StackKind, joined_kind, joined_stack, same_kind}
+use Rattle.core_code.specs.KindCheck.{and_then, kinds_after, same_stack, where_true}
+use Rattle.core_code.specs.Kinds.{StackKind, joined_stack}
 use Rattle.core_code.specs.Tree.{Tree, Op, Skip, Seq, Choice, Loop, Sync, Operation, steps_of}
-use Rattle.core_code.proofs.BoolParts.{first_part, last_part}
-use Rattle.core_code.proofs.Membership.{In}
+use Rattle.core_code.proofs.Membership.{In, in_left, in_right}
+use Rattle.core_code.proofs.KindLemmas.{equal_stacks, joined_more, went_on, where-is, AreJoined, IsWhere}
 use Rattle.core_semantics.specs.declared.object.Value.{Value}
 use Rattle.core_semantics_kinds.specs.Kinding.{IsWeaker, Leads}
 use Rattle.core_semantics_kinds.specs.ObjectKinds.{AreValues, object_kinds}
 use Rattle.core_semantics_kinds.specs.Reached.{Roots}
-use Rattle.core_semantics_kinds.proofs.KindValues.{equal_kinds, value-left, value-right}
+use Rattle.core_semantics_kinds.proofs.KindValues.{value-left, value-right}
 
 -- each call of code passes what is taken
 abbrev pub HasRight : Core → Tree → Type 0
 HasRight core code = (o : Operation) → In (steps_of code) o → is_right_call core o.op ≡ true
 
-in_left : {X : Type 0} (xs ys : List X) (y : X) → In xs y → In (xs ++ ys) y
-in_left [] ys y h = absurd h
-in_left (x ∷ xs) ys y h = ⊎_elim (λ e. inl e) (λ r. inr (in_left xs ys y r)) h
-
-in_right : {X : Type 0} (xs ys : List X) (y : X) → In ys y → In (xs ++ ys) y
-in_right [] ys y h = h
-in_right (x ∷ xs) ys y h = inr (in_right xs ys y h)
-
--- ---- parts of kinded code
-
-went_on : (o : Kinds) (check : List StackKind → Kinds) (ends : List StackKind) → and_then o check ≡ Some ends →
-    (between : List StackKind) × (o ≡ Some between) × (check between ≡ Some ends)
-went_on None check ends h = cc
-went_on (Some between) check ends h = (between, refl, h)
-
--- a test that holds, and the kinds that are left as they are
-pub record IsWhere (test : Bool) (ks ends : List StackKind) : Type 0 where
-  pub holds : test ≡ true
-  pub same : ks ≡ ends
-
-pub where-is : (test : Bool) (ks ends : List StackKind) → where_true test ks ≡ Some ends → IsWhere test ks ends
-where-is true ks ends h = record { holds = refl; same = cc }
-where-is false ks ends h = absurd cc
-
-equal_stacks : (ks ls : List StackKind) → same_stack ks ls ≡ true → ks ≡ ls
-equal_stacks [] [] h = refl
-equal_stacks [] (l ∷ ls) h = cc
-equal_stacks (k ∷ ks) [] h = cc
-equal_stacks (k ∷ ks) (l ∷ ls) h =
-    let head : k ≡ l = equal_kinds k l (first_part (same_kind k l) (same_stack ks ls) h) in
-    let rest : ks ≡ ls = equal_stacks ks ls (last_part (same_kind k l) (same_stack ks ls) h) in
-    (λ i. head i ∷ rest i)
-
 -- ---- where two ways meet
-
-record AreJoined (a b : StackKind) (left right joined : List StackKind) : Type 0 where
-  rest : List StackKind
-  later : joined_stack left right ≡ Some rest
-  is : joined_kind a b ∷ rest ≡ joined
-
-joined_more : (a b : StackKind) (left right joined : List StackKind) →
-    joined_stack (a ∷ left) (b ∷ right) ≡ Some joined → AreJoined a b left right joined
-joined_more a b left right joined h =
-    elim (joined_stack left right) as (λ o. joined_stack left right ≡ o → elim o as (λ _. Option (List StackKind)) [
-      | None ↦ None
-      | Some rest ↦ Some (joined_kind a b ∷ rest)
-    ] ≡ Some joined → AreJoined a b left right joined) [
-      | None ↦ λ is e. cc
-      | Some rest ↦ λ is e. record { rest = rest; later = is; is = cc }
-    ] refl h
 
 module _ (core : Core) (roots : Roots) where
   joined-first : (left right joined : List StackKind) (xs : List Value) → joined_stack left right ≡ Some joined →
@@ -80,7 +31,7 @@ module _ (core : Core) (roots : Roots) where
   joined-first (a ∷ left) (b ∷ right) joined (x ∷ xs) is h =
       let more : AreJoined a b left right joined = joined_more a b left right joined is in
       subst (λ (ks : List StackKind). AreValues core roots ks (x ∷ xs)) more.is
-      (value-left core roots a b x h.0, joined-first left right more.rest xs more.later h.1)
+      (value-left core roots a b x h.0, joined-first left right more.rest xs more.below h.1)
 
   joined-second : (left right joined : List StackKind) (xs : List Value) → joined_stack left right ≡ Some joined →
       AreValues core roots right xs → AreValues core roots joined xs
@@ -92,7 +43,7 @@ module _ (core : Core) (roots : Roots) where
   joined-second (a ∷ left) (b ∷ right) joined (x ∷ xs) is h =
       let more : AreJoined a b left right joined = joined_more a b left right joined is in
       subst (λ (ks : List StackKind). AreValues core roots ks (x ∷ xs)) more.is
-      (value-right core roots a b x h.0, joined-second left right more.rest xs more.later h.1)
+      (value-right core roots a b x h.0, joined-second left right more.rest xs more.below h.1)
 
   -- ---- code
 

@@ -2,7 +2,7 @@
 use Rattle.std.proofs.Common.{◌≡◌, ℕ, Bool, true, false, cond, List, [], ◌∷◌, ◌++◌, ◌-◌, Option, None, Some, arith}
 use Rattle.std.proofs.Common.{drop, length, map, nat_eq, replicate, reverse, slice_index_or, take}
 use Rattle.std.proofs.Common.{refl, sym, ap, subst, ◌∙◌}
-use Rattle.std.proofs.lemmas.Bool.{eqb-true}
+use Rattle.std.proofs.lemmas.Bool.{eqb-true, and_parts}
 use Rattle.std.proofs.lemmas.List.{length-reverse}
 use Rattle.std.specs.Prelude.{Result, Ok, Err}
 use Rattle.racer_base.specs.declared.ids.ClassId.{ClassId}
@@ -15,7 +15,7 @@ use Rattle.core_code.specs.Core.{Core, Method}
 use Rattle.core_code.specs.KindCheck.{Kinds, after_call, after_return, and_then, begins_with, below_fitting}
 use Rattle.core_code.specs.KindCheck.{kinds_after, same_declared_kind}
 use Rattle.core_code.specs.Kinds.{StackKind, fits, kind_of}
-use Rattle.core_code.proofs.BoolParts.{first_part, last_part}
+use Rattle.core_code.proofs.KindLemmas.{equal_kinds, where-is, IsWhere}
 use Rattle.core_semantics.specs.declared.answer.Holder.{Holder}
 use Rattle.core_semantics.specs.declared.answer.Why.{Why}
 use Rattle.core_semantics.specs.declared.object.Object.{Object}
@@ -28,8 +28,8 @@ use Rattle.core_semantics_kinds.specs.ObjectKinds.{AreHeld, AreValues, IsAfter, 
 use Rattle.core_semantics_kinds.specs.PlaceValues.{Suits}
 use Rattle.core_semantics_kinds.specs.Reached.{Roots, TheClass}
 use Rattle.core_semantics_kinds.proofs.InnerKept.{inner-kept}
-use Rattle.core_semantics_kinds.proofs.KindValues.{equal_kinds, value-fits}
-use Rattle.core_semantics_kinds.proofs.ObjectCode.{HasRight, IsWhere, leads, where-is}
+use Rattle.core_semantics_kinds.proofs.KindValues.{value-fits}
+use Rattle.core_semantics_kinds.proofs.ObjectCode.{HasRight, leads}
 use Rattle.core_semantics_kinds.proofs.PlaceValues.{ArePassed, passed, stand-drop, stand-top}
 
 -- the code of a method is kinded, from its variables on
@@ -59,7 +59,7 @@ taken : (core : Core) (callee : Method) (m : MethodId) (n : ℕ) (ks after : Lis
 taken core callee m n ks after there right e =
     let called : after_call (Some callee) ks ≡ Some after =
     sym (ap (λ (o : Option Method). after_call o ks) there) ∙ e in
-    let takes_all : takes core m n ≡ true = last_part (is_analysed core m) (takes core m n) right in
+    let takes_all : takes core m n ≡ true = (and_parts (is_analysed core m) (takes core m n) right).1 in
     let same : n ≡ length (taken_by callee) = eqb-true n (length (taken_by callee))
     (sym (ap (λ (o : Option Method). elim o as (λ _. Bool) [
       | None ↦ false
@@ -102,9 +102,9 @@ module _ (core : Core) (roots : Roots) where
   nulls-behind (kind ∷ taken) [] (x ∷ xs) n many e h = absurd cc
   nulls-behind (kind ∷ taken) (other ∷ kinds) (x ∷ xs) n many e h =
       let left : n ≡ length kinds - length xs = omega (arith, many) in (
-        same-places kind other x (first_part (same_declared_kind kind other) (begins_with taken kinds) e) h.0,
+        same-places kind other x (and_parts (same_declared_kind kind other) (begins_with taken kinds) e).0 h.0,
         nulls-behind taken kinds xs n left
-            (last_part (same_declared_kind kind other) (begins_with taken kinds) e) h.1,
+            (and_parts (same_declared_kind kind other) (begins_with taken kinds) e).1 h.1,
       )
 
   pub entered-vars : (method : Method) (xs : List Value) → begins_with (taken_by method) method.variables ≡ true →
@@ -195,7 +195,7 @@ module _ (core : Core) (roots : Roots) (classes : (c : ClassId) → roots (Start
       absurd cc
   call-passes method m n ks after vars stack (Some callee) there step held =
       is-called core roots method callee m n ks after vars stack there
-      (methods m callee there (first_part (is_analysed core m) (takes core m n) step.right))
+      (methods m callee there (and_parts (is_analysed core m) (takes core m n) step.right).0)
       (taken core callee m n ks after there step.right step.kinded) held
 
   pub objects-kept : Keeps core (object_kinds core roots)

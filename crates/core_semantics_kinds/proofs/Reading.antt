@@ -1,6 +1,6 @@
 -- What is read of a field of an object of its class.
-use Rattle.std.proofs.Common.{◌≡◌, ℕ, zero, suc, Bool, true, false, cond, List, [], ◌∷◌, Option, None, Some}
-use Rattle.std.proofs.Common.{map, slice_get, slice_index_or, refl, sym, ap, subst, ◌∙◌}
+use Rattle.std.proofs.Common.{◌≡◌, Bool, true, false, cond, Option, None, Some}
+use Rattle.std.proofs.Common.{refl, sym, ap, subst, ◌∙◌}
 use Rattle.std.proofs.lemmas.List.Sums.{fold_push}
 use Rattle.std.specs.Option.{option_and_then}
 use Rattle.racer_base.specs.declared.ids.ClassId.{ClassId}
@@ -20,6 +20,7 @@ use Rattle.core_semantics.specs.declared.object.Value.TheVariants.{Null, Object 
 use Rattle.core_semantics.specs.Objects.{lengthened}
 use Rattle.core_semantics.specs.State.{Store}
 use Rattle.core_semantics.specs.Steps.{kind_of as field_kind, read, unstored}
+use Rattle.core_semantics.proofs.FieldKinds.{kind-there}
 use Rattle.core_semantics_kinds.specs.Reached.{ObjectOf, Reached, Roots, TheClass, behind, behind_field, has_cell}
 use Rattle.core_semantics_kinds.specs.Reached.{object_of}
 use Rattle.core_semantics_kinds.specs.Reached.{reached_from}
@@ -27,16 +28,6 @@ use Rattle.core_semantics_kinds.specs.ObjectKinds.{AreStored, IsObjectOf, IsReac
 use Rattle.core_semantics_kinds.proofs.Bases.{HasCell, reached-cell}
 
 -- ---- a field that there is
-
-kind-in : (fields : List FieldCore) (i : ℕ) (field : FieldCore) → slice_get fields i ≡ Some field →
-    slice_index_or (map (λ (x : FieldCore). x.kind) fields) i Other ≡ field.kind
-kind-in [] i field there = absurd cc
-kind-in (x ∷ fields) zero field there = let same : x ≡ field = cc in ap (λ (y : FieldCore). y.kind) same
-kind-in (x ∷ fields) (suc i) field there = kind-in fields i field there
-
-pub kind-there : (core : Core) (f : FieldId) (field : FieldCore) → field_at core f ≡ Some field →
-    field_kind core f ≡ field.kind
-kind-there core f field there = kind-in core.fields f.0 field there
 
 module _ (core : Core) (roots : Roots) where
   -- ---- what stands behind a base

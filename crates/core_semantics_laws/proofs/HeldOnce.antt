@@ -2,6 +2,7 @@
 use Rattle.std.proofs.Common.{◌≡◌, ℕ, zero, suc, Bool, true, false, cond, ◌&&◌, ◌||◌, List, [], ◌∷◌, Option, None, Some}
 use Rattle.std.proofs.Common.{refl, sym, ap, subst, ◌∙◌, drop, nat_eq, nat_lt, slice_index_or, Result, Ok, Err}
 use Rattle.std.specs.Option.{option_and_then}
+use Rattle.std.proofs.Math.Bool.{and-false}
 use Rattle.racer_base.specs.declared.ids.MethodId.{MethodId}
 use Rattle.core_code.specs.declared.code.Op.{Op as CoreOp}
 use Rattle.core_code.specs.declared.code.Op.TheVariants.{Push, PushClass, PushPrim, PushNull, New, Dup, Drop, Get, Put}
@@ -43,10 +44,6 @@ swapped true false e = refl
 swapped false true e = refl
 swapped false false e = refl
 
-never : (a : Bool) → (a && false) ≡ false
-never true = refl
-never false = refl
-
 later-part : (a b c : Bool) → (a && (b || c)) ≡ false → (a && c) ≡ false
 later-part true true c e = absurd cc
 later-part true false c e = e
@@ -54,7 +51,7 @@ later-part false b c e = refl
 
 -- without the innermost monitor
 fewer-free : (others locks : List Holder) → AreFree others locks → AreFree others (drop 1 locks)
-fewer-free others [] free = λ m. never (is_among m others)
+fewer-free others [] free = λ m. and-false (is_among m others)
 fewer-free others (l ∷ locks) free = λ m.
     later-part (is_among m others) (same_monitor l m) (is_among m locks) (free m)
 

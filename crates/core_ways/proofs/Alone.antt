@@ -14,8 +14,6 @@ use Rattle.core_code.specs.Tree.{LockAt, Tree}
 use Rattle.core_code.specs.Tree.{can_end, steps_of}
 use Rattle.core_code.specs.Tree as tree
 use Rattle.core_code.specs.Calls.{called_by}
-use Rattle.core_code.proofs.BoolParts.{first_part, last_part}
-use Rattle.access_domain.proofs.Tests.{or_false}
 use Rattle.racer_base.specs.declared.ids.SiteId.{SiteId}
 use Rattle.std.specs.List.{list_all}
 use Rattle.core_ways.proofs.Callees.{do_pass, pass-both}
@@ -26,7 +24,8 @@ use Rattle.core_semantics.specs.declared.answer.Why.{Why}
 use Rattle.core_semantics.specs.declared.answer.Why.TheVariants.{UnreadCall as UnreadWhy}
 use Rattle.core_semantics.specs.declared.object.Value.TheVariants.{Null}
 use Rattle.std.proofs.Common.{slice_index_or, ◌-◌}
-use Rattle.std.proofs.lemmas.Bool.{lt-ltb, or_right}
+use Rattle.std.proofs.lemmas.Bool.{lt-ltb, or_right, and_parts}
+use Rattle.std.proofs.Math.Bool.{or-false}
 use Rattle.core_semantics.specs.declared.object.Object.{Object}
 use Rattle.core_semantics.specs.declared.object.Value.{Value}
 use Rattle.core_semantics.specs.State.{Frame, Store, Todo, Op, Choice, Sync, Unlock, before}
@@ -379,7 +378,7 @@ module _ (core : Core) (trips : MethodId → Trip) (test : MethodId → Bool)
       (HasReturned callers (drop locked locks))) (sym (steps-of trips (suc locked)))
       (past-ret core place locked store vars stack todo callers locks)
   runs-op site place (Call m n) all locked store vars stack todo callers locks =
-      let runs : MethodRuns core trips m = holds m (first_part (test m) true all) in
+      let runs : MethodRuns core trips m = holds m (and_parts (test m) true all).0 in
       let turns : (trips m).turns ≡ ([] ++ (trips m).turns) ++ [] = sym (append-nil (trips m).turns) in
       let steps : suc (trips m).steps ≡ (1 + (trips m).steps) + 0 = omega arith in
       subst (λ (ts : List Turn). LeadsTo core ts ((1 + (trips m).steps) + 0)
@@ -438,7 +437,7 @@ module _ (core : Core) (trips : MethodId → Trip) (test : MethodId → Bool)
       let b = here store vars stack (before left todo) locked callers locks in
       let trip = trip_along trips (passed locked left) in
       subst (λ (x : Bool). Leads core (joined (record { turns = Left ∷ []; steps = 1; unread = [] }) trip) a
-      (IsBehind x todo locked callers locks)) (sym (or_false (can_end left)))
+      (IsBehind x todo locked callers locks)) (sym (or-false (can_end left)))
       (past-turn core trip Left a b (IsBehind (can_end left) todo locked callers locks) (λ rest. refl)
       (on_left locked store vars stack todo callers locks))
 
@@ -470,15 +469,16 @@ module _ (core : Core) (trips : MethodId → Trip) (test : MethodId → Bool)
   runs-past tree.Skip all = λ locked store vars stack todo callers locks rest. (refl, (store, vars, stack, refl))
   runs-past (tree.Seq first rest) all =
       let both = pass-both test (steps_of first) (steps_of rest) all in
-      let early = runs-past first (first_part (do_pass test (steps_of first)) (do_pass test (steps_of rest)) both) in
-      let late = runs-past rest (last_part (do_pass test (steps_of first)) (do_pass test (steps_of rest)) both) in
+      let early = runs-past first (and_parts (do_pass test (steps_of first)) (do_pass test (steps_of rest)) both).0 in
+      let late = runs-past rest (and_parts (do_pass test (steps_of first)) (do_pass test (steps_of rest)) both).1 in
       λ locked store vars stack todo callers locks.
       runs-then first rest locked store vars stack todo callers locks (can_end first) late
       (early locked store vars stack (before rest todo) callers locks)
   runs-past (tree.Choice left right) all =
       let both = pass-both test (steps_of left) (steps_of right) all in
-      let on_left = runs-past left (first_part (do_pass test (steps_of left)) (do_pass test (steps_of right)) both) in
-      let on_right = runs-past right (last_part (do_pass test (steps_of left)) (do_pass test (steps_of right)) both) in
+      let on_left = runs-past left (and_parts (do_pass test (steps_of left)) (do_pass test (steps_of right)) both).0 in
+      let on_right = runs-past right (and_parts (do_pass test (steps_of left)) (do_pass test (steps_of right)) both).1
+      in
       λ locked store vars stack todo callers locks.
       runs-either left right locked store vars stack todo callers locks (can_end right) refl on_left on_right
   runs-past (tree.Loop body) all = λ locked store vars stack todo callers locks rest. (refl, (store, vars, stack, refl))

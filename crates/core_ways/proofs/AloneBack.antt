@@ -6,11 +6,10 @@ use Rattle.racer_base.specs.declared.ids.MethodId.{MethodId}
 use Rattle.core_code.specs.declared.code.Op.{Op as CoreOp}
 use Rattle.core_code.specs.declared.code.Op.TheVariants.{Ret, Throw}
 use Rattle.core_code.specs.Core.{Core}
-use Rattle.core_code.specs.Tree.{LockAt, Tree}
+use Rattle.core_code.specs.Tree.{Tree}
 use Rattle.core_code.specs.Tree.{can_end, can_return, is_return, steps_of, stops}
 use Rattle.core_code.specs.Tree as tree
-use Rattle.std.proofs.lemmas.Bool.{or_right}
-use Rattle.core_code.proofs.BoolParts.{first_part, last_part}
+use Rattle.std.proofs.lemmas.Bool.{or_right, and_parts}
 use Rattle.core_semantics.specs.declared.answer.Holder.{Holder}
 use Rattle.core_semantics.specs.declared.answer.Turn.{Turn}
 use Rattle.core_semantics.specs.declared.answer.Turn.TheVariants.{Left, Right}
@@ -126,14 +125,14 @@ module _ (core : Core) (trips : MethodId → Trip) (test : MethodId → Bool)
   runs-back tree.Skip comes all = absurd cc
   runs-back (tree.Seq first rest) comes all =
       let both = pass-both test (steps_of first) (steps_of rest) all in
-      let early = first_part (do_pass test (steps_of first)) (do_pass test (steps_of rest)) both in
-      let late = last_part (do_pass test (steps_of first)) (do_pass test (steps_of rest)) both in
+      let early = (and_parts (do_pass test (steps_of first)) (do_pass test (steps_of rest)) both).0 in
+      let late = (and_parts (do_pass test (steps_of first)) (do_pass test (steps_of rest)) both).1 in
       back-then core trips first rest (goes_past first rest) refl comes (runs-past core trips test holds first early)
       (λ c. runs-back first c early) (λ c. runs-back rest c late)
   runs-back (tree.Choice left right) comes all =
       let both = pass-both test (steps_of left) (steps_of right) all in
-      let early = first_part (do_pass test (steps_of left)) (do_pass test (steps_of right)) both in
-      let late = last_part (do_pass test (steps_of left)) (do_pass test (steps_of right)) both in
+      let early = (and_parts (do_pass test (steps_of left)) (do_pass test (steps_of right)) both).0 in
+      let late = (and_parts (do_pass test (steps_of left)) (do_pass test (steps_of right)) both).1 in
       back-either core trips left right (can_return left) refl comes (λ c. runs-back left c early)
       (λ c. runs-back right c late)
   runs-back (tree.Loop body) comes all = λ locked store vars stack todo callers locks.

@@ -12,13 +12,12 @@ use Rattle.core_code.specs.Core.{Core, Method}
 use Rattle.core_code.specs.Tree.{Tree, Operation}
 use Rattle.core_code.specs.Tree.{can_end, can_return, steps_of}
 use Rattle.core_code.specs.Calls.{called_by}
-use Rattle.core_code.proofs.BoolParts.{both, first_part, last_part}
 use Rattle.std.specs.List.{list_all, flat_map}
 use Rattle.std.specs.Option.{option_and_then}
 use Rattle.core_ways.proofs.Callees.{do_pass, lower-calls, lower-parts}
 use Rattle.core_ways.proofs.Trips.{trip_of-parts}
-use Rattle.std.proofs.Common.{slice_get, is_none, is_some, nat_lt, not, ◌<◌}
-use Rattle.std.proofs.lemmas.Bool.{ltb-true}
+use Rattle.std.proofs.Common.{is_none, is_some, nat_lt, not, ◌<◌}
+use Rattle.std.proofs.lemmas.Bool.{ltb-true, and_from, and_parts}
 use Rattle.core_semantics.specs.State.{before}
 use Rattle.core_ways.specs.declared.part.WayPart.{WayPart}
 use Rattle.core_ways.specs.Alone.{here}
@@ -33,15 +32,15 @@ both-pass : (f g : MethodId → Bool) (ms : List MethodId) → list_all f ms ≡
     list_all (λ n. f n && g n) ms ≡ true
 both-pass f g [] a b = refl
 both-pass f g (m ∷ ms) a b =
-    both (f m && g m) (list_all (λ n. f n && g n) ms)
-    (both (f m) (g m) (first_part (f m) (list_all f ms) a) (first_part (g m) (list_all g ms) b))
-    (both-pass f g ms (last_part (f m) (list_all f ms) a) (last_part (g m) (list_all g ms) b))
+    and_from (f m && g m) (list_all (λ n. f n && g n) ms)
+    (and_from (f m) (g m) (and_parts (f m) (list_all f ms) a).0 (and_parts (g m) (list_all g ms) b).0)
+    (both-pass f g ms (and_parts (f m) (list_all f ms) a).1 (and_parts (g m) (list_all g ms) b).1)
 
 analysed-op : (core : Core) (op : CoreOp) (rest : List MethodId) → is_right_call core op ≡ true →
     list_all (is_analysed core) rest ≡ true → list_all (is_analysed core) (called_by op ++ rest) ≡ true
 analysed-op core (Call m n) rest right others =
-    both (is_analysed core m) (list_all (is_analysed core) rest)
-    (first_part (is_analysed core m) (takes core m n) right) others
+    and_from (is_analysed core m) (list_all (is_analysed core) rest)
+    (and_parts (is_analysed core m) (takes core m n) right).0 others
 analysed-op core op rest right others = others
 
 analysed-calls : (core : Core) (ops : List Operation) →
@@ -50,9 +49,9 @@ analysed-calls : (core : Core) (ops : List Operation) →
 analysed-calls core [] right = refl
 analysed-calls core (o ∷ ops) right =
     analysed-op core o.op (flat_map (λ (x : Operation). called_by x.op) ops)
-    (first_part (is_right_call core o.op) (list_all (λ (x : Operation). is_right_call core x.op) ops) right)
+    (and_parts (is_right_call core o.op) (list_all (λ (x : Operation). is_right_call core x.op) ops) right).0
     (analysed-calls core ops
-    (last_part (is_right_call core o.op) (list_all (λ (x : Operation). is_right_call core x.op) ops) right))
+    (and_parts (is_right_call core o.op) (list_all (λ (x : Operation). is_right_call core x.op) ops) right).1)
 
 -- what a program keeps of its calls
 pub record AreRight (core : Core) : Type 0 where
@@ -100,8 +99,8 @@ method-runs core right (suc k) m low analysed method is =
     let holds : (n : MethodId) → may_call core m n ≡ true → MethodRuns core (trip_of core) n = λ n may.
     method-runs core right k n
     (let below = ltb-true (rank_of core n) (rank_of core m)
-    (first_part (nat_lt (rank_of core n) (rank_of core m)) (is_analysed core n) may) in omega arith)
-    (last_part (nat_lt (rank_of core n) (rank_of core m)) (is_analysed core n) may) in
+    (and_parts (nat_lt (rank_of core n) (rank_of core m)) (is_analysed core n) may).0 in omega arith)
+    (and_parts (nat_lt (rank_of core n) (rank_of core m)) (is_analysed core n) may).1 in
     let ends : can_end code ≡ false =
     never-ends method.status (can_end code) status
     (passes_at ends_by_return core.methods m.0 method right.ends is) in
@@ -124,4 +123,4 @@ pub callees-run : (core : Core) (right : AreRight core) (m n : MethodId) → may
     MethodRuns core (trip_of core) n
 callees-run core right m n may =
     method-runs core right (suc (rank_of core n)) n (omega arith)
-    (last_part (nat_lt (rank_of core n) (rank_of core m)) (is_analysed core n) may)
+    (and_parts (nat_lt (rank_of core n) (rank_of core m)) (is_analysed core n) may).1

@@ -6,6 +6,7 @@ use Rattle.std.proofs.lemmas.List.{length-append}
 use Rattle.std.proofs.lemmas.List.Folds.{find-append}
 use Rattle.std.specs.Option.{option_or}
 use Rattle.std.specs.Prelude.{Result, Ok, Err}
+use Rattle.std.proofs.lemmas.Bool.{and_parts}
 use Rattle.racer_base.specs.declared.ids.MethodId.{MethodId}
 use Rattle.racer_base.specs.declared.ids.SiteId.{SiteId}
 use Rattle.racer_base.specs.declared.ids.Place.{Place}
@@ -14,7 +15,6 @@ use Rattle.core_code.specs.Core.{Core}
 use Rattle.core_code.specs.Tree.{Tree, Operation}
 use Rattle.core_code.specs.Tree.{can_end, op_at, steps_of}
 use Rattle.core_code.specs.Tree as tree
-use Rattle.core_code.proofs.BoolParts.{first_part, last_part}
 use Rattle.core_semantics.specs.declared.answer.Holder.{Holder}
 use Rattle.core_semantics.specs.declared.answer.Turn.{Turn}
 use Rattle.core_semantics.specs.declared.answer.Turn.TheVariants.{Left, Right}
@@ -112,7 +112,7 @@ module _ (core : Core) (trips : MethodId → Trip) (site : SiteId) (o : Operatio
   to-then first rest false locked store vars stack todo callers locks on_first on_rest past ends =
       let P : After → Type 0 = IsBefore o (locks_round site rest) locked callers locks in
       let a : After = here store vars stack (before first (before rest todo)) locked callers locks in
-      let goes : can_end first ≡ true = first_part (can_end first) (do_end_before site rest) ends in
+      let goes : can_end first ≡ true = (and_parts (can_end first) (do_end_before site rest) ends).0 in
       subst (λ (t : Trip). Leads core t a P) (sym (along-both trips (passed locked first) (reached locked site rest)))
       (leads-on core (IsAt (before rest todo) locked callers locks) P
       (trip_along trips (passed locked first)).turns (trip_along trips (reached locked site rest)).turns
@@ -171,19 +171,19 @@ module _ (core : Core) (trips : MethodId → Trip) (test : MethodId → Bool)
   runs-to tree.Skip all is ends = absurd cc
   runs-to (tree.Seq first rest) all is ends =
       let both = pass-both test (steps_of first) (steps_of rest) all in
-      let early = first_part (do_pass test (steps_of first)) (do_pass test (steps_of rest)) both in
-      let late = last_part (do_pass test (steps_of first)) (do_pass test (steps_of rest)) both in
+      let early = (and_parts (do_pass test (steps_of first)) (do_pass test (steps_of rest)) both).0 in
+      let late = (and_parts (do_pass test (steps_of first)) (do_pass test (steps_of rest)) both).1 in
       let by : Bool → Bool = λ b. cond b (do_end_before site first) (can_end first && do_end_before site rest) in
       λ locked store vars stack todo callers locks.
       to-then core trips site o first rest (has_site first site) locked store vars stack todo callers locks
       (λ has. runs-to first early (op-first first rest site o has is) (ap by (sym has) ∙ ends))
       (λ has. runs-to rest late (op-second first rest site o has is)
-      (last_part (can_end first) (do_end_before site rest) (ap by (sym has) ∙ ends)))
+      (and_parts (can_end first) (do_end_before site rest) (ap by (sym has) ∙ ends)).1)
       (runs-past core trips test holds first early) ends
   runs-to (tree.Choice left right) all is ends =
       let both = pass-both test (steps_of left) (steps_of right) all in
-      let early = first_part (do_pass test (steps_of left)) (do_pass test (steps_of right)) both in
-      let late = last_part (do_pass test (steps_of left)) (do_pass test (steps_of right)) both in
+      let early = (and_parts (do_pass test (steps_of left)) (do_pass test (steps_of right)) both).0 in
+      let late = (and_parts (do_pass test (steps_of left)) (do_pass test (steps_of right)) both).1 in
       let by : Bool → Bool = λ b. cond b (do_end_before site left) (do_end_before site right) in
       λ locked store vars stack todo callers locks.
       to-either core trips site o left right (has_site left site) locked store vars stack todo callers locks

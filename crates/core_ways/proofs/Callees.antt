@@ -1,23 +1,23 @@
 -- Methods that are passed or entered have smaller ranks.
 use Rattle.std.proofs.Common.{◌≡◌, ℕ, zero, suc, ◌+◌, ◌<◌, Bool, true, false, cond, ◌&&◌, ◌||◌, List, [], ◌∷◌, ◌++◌}
-use Rattle.std.proofs.Common.{Option, None, Some, is_none, is_some, nat_lt, slice_get}
-use Rattle.std.proofs.Common.{refl, sym, ap, subst, ◌∙◌, append_assoc, arith}
-use Rattle.std.proofs.Math.Nat.{add-zero, zero-add}
-use Rattle.std.proofs.lemmas.Bool.{ltb-true}
+use Rattle.std.proofs.Common.{Option, None, Some, is_none, is_some, nat_lt}
+use Rattle.std.proofs.Common.{refl, sym, ap, subst, ◌∙◌, append_assoc}
+use Rattle.std.proofs.Math.Nat.{zero-add}
+use Rattle.std.proofs.lemmas.Bool.{ltb-true, and_parts}
 use Rattle.std.proofs.lemmas.List.Folds.{list_all-append}
-use Rattle.std.specs.List.{list_all, flat_map, find, enumerate_from}
+use Rattle.std.specs.List.{list_all, flat_map, find}
 use Rattle.racer_base.specs.declared.ids.MethodId.{MethodId}
 use Rattle.racer_base.specs.declared.ids.Place.{Place}
 use Rattle.racer_base.specs.declared.ids.SiteId.{SiteId}
 use Rattle.core_code.specs.declared.code.Op.{Op as CoreOp}
-use Rattle.core_code.specs.declared.code.Op.TheVariants.{Prim, Call, Unread as UnreadCall, Ret}
+use Rattle.core_code.specs.declared.code.Op.TheVariants.{Call, Unread as UnreadCall, Ret}
 use Rattle.core_code.specs.declared.code.Reason.{Reason}
 use Rattle.core_code.specs.Calls.{called_by, method_at, rank_of}
 use Rattle.core_code.specs.CallFacts.{is_above, has_ranks}
-use Rattle.core_code.specs.Core.{Core, Method}
+use Rattle.core_code.specs.Core.{Core}
 use Rattle.core_code.specs.Tree.{Tree, Op, Skip, Seq, Choice, Loop, Sync, Operation}
 use Rattle.core_code.specs.Tree.{can_end, can_return, op_at, steps_of}
-use Rattle.core_code.proofs.BoolParts.{first_part, last_part}
+use Rattle.core_code.proofs.NoCycles.{numbered}
 use Rattle.core_semantics.specs.declared.answer.Turn.TheVariants.{Left, Right}
 use Rattle.core_ways.specs.declared.part.WayPart.{WayPart}
 use Rattle.core_ways.specs.declared.part.WayPart.TheVariants.{Step, Branched}
@@ -45,7 +45,7 @@ module _ (P : MethodId → Type 0) (test : MethodId → Bool) (holds : (m : Meth
   each-op : (locks : ℕ) (place : Place) (op : CoreOp) → list_all test (called_by op ++ []) ≡ true →
       EachPassed P (passed_op locks place op)
   each-op locks place Ret all = each-steps P (suc locks)
-  each-op locks place (Call m n) all = (holds m (first_part (test m) true all), tt)
+  each-op locks place (Call m n) all = (holds m (and_parts (test m) true all).0, tt)
   each-op locks place (UnreadCall m n) all = tt
   each-op locks place _ all = tt
 
@@ -59,14 +59,14 @@ module _ (P : MethodId → Type 0) (test : MethodId → Bool) (holds : (m : Meth
   each-passed locks (Seq first rest) all =
       let both = pass-both test (steps_of first) (steps_of rest) all in
       each-append P (passed locks first) (cond (can_end first) (passed locks rest) [])
-      (each-passed locks first (first_part (do_pass test (steps_of first)) (do_pass test (steps_of rest)) both))
+      (each-passed locks first (and_parts (do_pass test (steps_of first)) (do_pass test (steps_of rest)) both).0)
       (either (can_end first) (passed locks rest) []
-      (each-passed locks rest (last_part (do_pass test (steps_of first)) (do_pass test (steps_of rest)) both)) tt)
+      (each-passed locks rest (and_parts (do_pass test (steps_of first)) (do_pass test (steps_of rest)) both).1) tt)
   each-passed locks (Choice left right) all =
       let both = pass-both test (steps_of left) (steps_of right) all in
       either (can_end right) (Branched Right ∷ passed locks right) (Branched Left ∷ passed locks left)
-      (each-passed locks right (last_part (do_pass test (steps_of left)) (do_pass test (steps_of right)) both))
-      (each-passed locks left (first_part (do_pass test (steps_of left)) (do_pass test (steps_of right)) both))
+      (each-passed locks right (and_parts (do_pass test (steps_of left)) (do_pass test (steps_of right)) both).1)
+      (each-passed locks left (and_parts (do_pass test (steps_of left)) (do_pass test (steps_of right)) both).0)
   each-passed locks (Loop body) all = tt
   each-passed locks (Sync lock body) all =
       each-append P (passed (suc locks) body) (cond (can_end body) (Step ∷ []) []) (each-passed (suc locks) body all)
@@ -77,31 +77,20 @@ module _ (P : MethodId → Type 0) (test : MethodId → Bool) (holds : (m : Meth
   each-back locks Skip all = tt
   each-back locks (Seq first rest) all =
       let both = pass-both test (steps_of first) (steps_of rest) all in
-      let early = first_part (do_pass test (steps_of first)) (do_pass test (steps_of rest)) both in
+      let early = (and_parts (do_pass test (steps_of first)) (do_pass test (steps_of rest)) both).0 in
       either (goes_past first rest) (passed locks first ++ to_return locks rest) (to_return locks first)
       (each-append P (passed locks first) (to_return locks rest) (each-passed locks first early)
-      (each-back locks rest (last_part (do_pass test (steps_of first)) (do_pass test (steps_of rest)) both)))
+      (each-back locks rest (and_parts (do_pass test (steps_of first)) (do_pass test (steps_of rest)) both).1))
       (each-back locks first early)
   each-back locks (Choice left right) all =
       let both = pass-both test (steps_of left) (steps_of right) all in
       either (can_return left) (Branched Left ∷ to_return locks left) (Branched Right ∷ to_return locks right)
-      (each-back locks left (first_part (do_pass test (steps_of left)) (do_pass test (steps_of right)) both))
-      (each-back locks right (last_part (do_pass test (steps_of left)) (do_pass test (steps_of right)) both))
+      (each-back locks left (and_parts (do_pass test (steps_of left)) (do_pass test (steps_of right)) both).0)
+      (each-back locks right (and_parts (do_pass test (steps_of left)) (do_pass test (steps_of right)) both).1)
   each-back locks (Loop body) all = each-back locks body all
   each-back locks (Sync lock body) all = each-back (suc locks) body all
 
 -- ---- ranks
-
-numbered : (p : ℕ × Method → Bool) (k i : ℕ) (xs : List Method) (x : Method) →
-    list_all p (enumerate_from k xs) ≡ true → slice_get xs i ≡ Some x → p (k + i, x) ≡ true
-numbered p k i [] x all is = absurd cc
-numbered p k zero (y ∷ xs) x all is =
-    let same : y ≡ x = cc in
-    (λ j. p (add-zero k j, sym same j)) ∙ first_part (p (k, y)) (list_all p (enumerate_from (k + 1) xs)) all
-numbered p k (suc i) (y ∷ xs) x all is =
-    let one : k + suc i ≡ (k + 1) + i = omega arith in
-    ap (λ (n : ℕ). p (n, x)) one
-    ∙ numbered p (k + 1) i xs x (last_part (p (k, y)) (list_all p (enumerate_from (k + 1) xs)) all) is
 
 abbrev lower : Core → MethodId → MethodId → Bool
 lower core m n = nat_lt (rank_of core n) (rank_of core m)
@@ -148,8 +137,8 @@ found-passes : (test : MethodId → Bool) (which : Operation → Bool) (ops : Li
 found-passes test which [] o all is = absurd cc
 found-passes test which (x ∷ ops) o all is =
     let both = pass-both test (x ∷ []) ops all in
-    let mine = first_part (do_pass test (x ∷ [])) (do_pass test ops) both in
-    let others = last_part (do_pass test (x ∷ [])) (do_pass test ops) both in
+    let mine = (and_parts (do_pass test (x ∷ [])) (do_pass test ops) both).0 in
+    let others = (and_parts (do_pass test (x ∷ [])) (do_pass test ops) both).1 in
     elim (which x) as (λ b. cond b (Some x) (find which ops) ≡ Some o → do_pass test (o ∷ []) ≡ true) [
       | true ↦ λ k. let same : x ≡ o = cc in subst (λ (y : Operation). do_pass test (y ∷ []) ≡ true) same mine
       | false ↦ λ k. found-passes test which ops o others k
@@ -163,4 +152,4 @@ lower-site core m code site o n count ranks is at call =
     let here = found-passes (lower core m) _ (steps_of code) o (lower-calls core m code ranks is) at in
     let there : list_all (lower core m) (called_by (Call n count) ++ []) ≡ true =
     subst (λ (op : CoreOp). list_all (lower core m) (called_by op ++ []) ≡ true) call here in
-    ltb-true (rank_of core n) (rank_of core m) (first_part (lower core m n) true there)
+    ltb-true (rank_of core n) (rank_of core m) (and_parts (lower core m n) true there).0

@@ -5,6 +5,7 @@ use Rattle.std.specs.Option.{option_or}
 use Rattle.racer_base.specs.declared.ids.Place.{Place}
 use Rattle.core_ways.specs.declared.count.Count.{Count}
 use Rattle.racer_base.specs.declared.limits.TheConstants.{MAX_WAY_STEPS}
+use Rattle.racer_base.proofs.Lists.{no_first, option_or-assoc, option_or-none}
 use Rattle.core_semantics.specs.declared.answer.Turn.{Turn}
 use Rattle.core_ways.specs.Answers.{counted, IsLong, IsTaken}
 use Rattle.core_ways.specs.Counts.{count_of, added}
@@ -20,14 +21,6 @@ pub first-both : (xs ys : List Place) → slice_get (xs ++ ys) 0 ≡ option_or (
 first-both [] ys = refl
 first-both (x ∷ xs) ys = refl
 
-or-assoc : (p q r : Option Place) → option_or p (option_or q r) ≡ option_or (option_or p q) r
-or-assoc None q r = refl
-or-assoc (Some x) q r = refl
-
-or-none : (p : Option Place) → option_or p None ≡ p
-or-none None = refl
-or-none (Some x) = refl
-
 abbrev made : ℕ → Option Place → Count
 made steps unread = record { steps = steps; unread = unread }
 
@@ -35,7 +28,7 @@ pub count_of-joined : (a b : Trip) → count_of (joined a b) ≡ added (count_of
 count_of-joined a b = (λ i. made (counted-both a.steps b.steps i) (first-both a.unread b.unread i))
 
 pub added-assoc : (a b c : Count) → added a (added b c) ≡ added (added a b) c
-added-assoc a b c = (λ i. made (counted-assoc a.steps b.steps c.steps i) (or-assoc a.unread b.unread c.unread i))
+added-assoc a b c = (λ i. made (counted-assoc a.steps b.steps c.steps i) (option_or-assoc a.unread b.unread c.unread i))
 
 -- nothing before, and nothing behind
 pub none-before : (t : Trip) → added (made 0 None) (count_of t) ≡ count_of t
@@ -45,7 +38,7 @@ none-before t = let same : counted (0 + counted t.steps) ≡ counted t.steps = o
 pub none-behind : (c : Count) → c.steps ≤ 4294967295 → added c (count_of (straight 0)) ≡ c
 none-behind c within =
     let same : counted (c.steps + 0) ≡ c.steps = omega arith in
-    (λ i. made (same i) (or-none c.unread i))
+    (λ i. made (same i) (option_or-none c.unread i))
 
 -- one more part of what is left
 pub counts-on : (t : Trip) (at part : Count) (here rest whole : Trip) → part ≡ count_of here →
@@ -58,15 +51,11 @@ counts-on t at part here rest whole is next so_far =
     ∙ ap (λ (x : Trip). added at (count_of x)) (sym next)
     ∙ so_far
 
-none-first : (xs : List Place) → slice_get xs 0 ≡ None → xs ≡ []
-none-first [] e = refl
-none-first (x ∷ xs) e = absurd cc
-
 steps-of-count : (t : Trip) (c : Count) → c ≡ count_of t → c.steps ≡ min t.steps 4294967295
 steps-of-count t c is = ap (λ (x : Count). x.steps) is
 
 all-read : (t : Trip) (c : Count) → c ≡ count_of t → c.unread ≡ None → t.unread ≡ []
-all-read t c is none = none-first t.unread (sym (ap (λ (x : Count). x.unread) is) ∙ none)
+all-read t c is none = no_first t.unread (sym (ap (λ (x : Count). x.unread) is) ∙ none)
 
 pub first-unread : (t : Trip) (c : Count) (place : Place) → c ≡ count_of t → c.unread ≡ Some place →
     slice_get t.unread 0 ≡ Some place

@@ -6,6 +6,7 @@ use Rattle.std.proofs.lemmas.List.{append-nil}
 use Rattle.std.specs.BTreeSet.{BTreeSet, Updates}
 use Rattle.std.specs.List.{list_any}
 use Rattle.std.specs.Ordering.{eq_by_cmp}
+use Rattle.std.proofs.Math.Bool.{or-true}
 use Rattle.access_domain.specs.Records.{firsts}
 use Rattle.access_domain.proofs.Different.{list_any-firsts}
 use Rattle.access_domain.proofs.Firsts.{firsts-new, firsts-old}
@@ -86,10 +87,6 @@ stays-among : (seen xs : List StartPath) (x : StartPath) → is_among seen x ≡
 stays-among seen [] x there = there
 stays-among seen (y ∷ ys) x there = stays-among (path_added seen y) ys x (among-added seen x y there)
 
-right-true : (a : Bool) → (a || true) ≡ true
-right-true true = refl
-right-true false = refl
-
 -- the path that was added is there
 is-added : (seen : List StartPath) (y x : StartPath) → same_start_path y x ≡ true →
     is_among (path_added seen y) x ≡ true
@@ -100,7 +97,7 @@ is-added seen y x same =
       | false ↦ λ e.
           any-push (λ q. same_start_path q x) seen y
           ∙ ap (λ b. is_among seen x || b) same
-          ∙ right-true (is_among seen x)
+          ∙ or-true (is_among seen x)
     ] refl
 
 first-or-later : (seen ys : List StartPath) (y x : StartPath) (b : Bool) → same_start_path y x ≡ b →

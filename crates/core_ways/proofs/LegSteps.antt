@@ -19,7 +19,7 @@ use Rattle.core_ways.specs.Gathered.{gathered}
 use Rattle.core_ways.proofs.Gathering.{gathered-append}
 
 -- a step that was made
-made-of : (next : Option Going) (old new : State) (o : Option (Bor (List Turn))) (rest : Bor (List Turn)) →
+pub made-of : (next : Option Going) (old new : State) (o : Option (Bor (List Turn))) (rest : Bor (List Turn)) →
     IsAdvance next old new o → o ≡ Some rest → next ≡ Some (new, rest.now)
 made-of next old new o rest is some = subst (IsAdvance next old new) some is
 

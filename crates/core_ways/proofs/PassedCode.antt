@@ -1,23 +1,16 @@
 -- Code that is passed or gone into piece by piece.
-use Rattle.std.proofs.Common.{◌≡◌, ℕ, suc, ◌+◌, ◌<◌, Bool, true, false, cond, ◌||◌, List, [], ◌∷◌, ◌++◌, length, map}
-use Rattle.std.proofs.Common.{drop, take, get_or, refl, sym, ap, ◌∙◌, append_assoc}
+use Rattle.std.proofs.Common.{◌≡◌, ℕ, suc, ◌+◌, Bool, true, false, cond, ◌||◌, List, [], ◌∷◌, ◌++◌, length}
+use Rattle.std.proofs.Common.{take, refl, sym, ap, ◌∙◌, append_assoc}
 use Rattle.std.proofs.Math.Seq.{take-append_seam}
-use Rattle.std.proofs.lemmas.List.{append-nil, at_drop_more}
-use Rattle.core_code.specs.declared.code.Code.{Code}
-use Rattle.core_code.specs.Tree.{LockAt, Tree, Seq, Choice, Sync, can_end, in_sequence, tree_of}
+use Rattle.std.proofs.lemmas.List.{append-nil}
+use Rattle.core_code.specs.Tree.{LockAt, Tree, Seq, Choice, Sync, can_end}
+use Rattle.core_code.proofs.PartsLeft.{parts-turn}
 use Rattle.core_semantics.specs.declared.answer.Turn.TheVariants.{Left, Right}
 use Rattle.core_ways.specs.declared.part.WayPart.{WayPart}
 use Rattle.core_ways.specs.declared.part.WayPart.TheVariants.{Step, Branched}
 use Rattle.core_ways.specs.Ways.{passed}
 use Rattle.std.proofs.lemmas.Bool.{or_right}
-use Rattle.access_domain.proofs.Tests.{or_false}
-
--- the pieces from one on are that one and the others
-pub turn : (codes : List Code) (i : ℕ) (code : Code) → i < length codes → code ≡ get_or codes i code →
-    in_sequence (map tree_of (drop i codes)) ≡ Seq (tree_of code) (in_sequence (map tree_of (drop (i + 1) codes)))
-turn codes i code within is =
-    at_drop_more (λ cs. in_sequence (map tree_of cs)) codes i code within
-    ∙ ap (λ (c : Code). Seq (tree_of c) (in_sequence (map tree_of (drop (i + 1) codes)))) (sym is)
+use Rattle.std.proofs.Math.Bool.{or-false}
 
 -- a first part behind which the rest is done, and one behind which it is not
 pub passed-on : (locks : ℕ) (first rest : Tree) → can_end first ≡ true →
@@ -46,7 +39,7 @@ pub right-ends : (left right : Tree) → can_end right ≡ true → true ≡ can
 right-ends left right ends = sym (ap (λ (b : Bool). can_end left || b) ends ∙ or_right (can_end left) true refl)
 
 pub left-ends : (left right : Tree) → can_end right ≡ false → can_end left ≡ can_end (Choice left right)
-left-ends left right ends = sym (ap (λ (b : Bool). can_end left || b) ends ∙ or_false (can_end left))
+left-ends left right ends = sym (ap (λ (b : Bool). can_end left || b) ends ∙ or-false (can_end left))
 
 abbrev side-passed : (locks : ℕ) (left right : Tree) → Bool → List WayPart
 side-passed locks left right b = cond b (Branched Right ∷ passed locks right) (Branched Left ∷ passed locks left)
@@ -54,9 +47,9 @@ side-passed locks left right b = cond b (Branched Right ∷ passed locks right) 
 pub right-passed : (locks : ℕ) (left right : Tree) (old pushed new : List WayPart) → can_end right ≡ true →
     pushed ≡ old ++ Branched Right ∷ [] → new ≡ pushed ++ passed locks right →
     new ≡ old ++ passed locks (Choice left right)
-right-passed locks left right old pushed new ends turn grown =
+right-passed locks left right old pushed new ends parts-turn grown =
     grown
-    ∙ ap (λ (ps : List WayPart). ps ++ passed locks right) turn
+    ∙ ap (λ (ps : List WayPart). ps ++ passed locks right) parts-turn
     ∙ append_assoc old (Branched Right ∷ []) (passed locks right)
     ∙ ap (λ (b : Bool). old ++ side-passed locks left right b) (sym ends)
 
@@ -65,10 +58,10 @@ pub left-passed : (locks : ℕ) (left right : Tree) (old pushed tried turned : L
     can_end right ≡ false → n ≡ length old → pushed ≡ old ++ Branched Right ∷ [] →
     tried ≡ pushed ++ passed locks right → turned ≡ take n tried ++ Branched Left ∷ [] →
     turned ++ passed locks left ≡ old ++ passed locks (Choice left right)
-left-passed locks left right old pushed tried turned n ends count turn grown back =
+left-passed locks left right old pushed tried turned n ends count parts-turn grown back =
     let kept : take n tried ≡ old =
     (λ i. take (count i) (grown i))
-    ∙ ap (λ (ps : List WayPart). take (length old) (ps ++ passed locks right)) turn
+    ∙ ap (λ (ps : List WayPart). take (length old) (ps ++ passed locks right)) parts-turn
     ∙ ap (take (length old)) (append_assoc old (Branched Right ∷ []) (passed locks right))
     ∙ take-append_seam old (Branched Right ∷ passed locks right) in
     ap (λ (ps : List WayPart). ps ++ passed locks left)

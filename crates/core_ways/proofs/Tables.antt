@@ -11,6 +11,7 @@ use Rattle.racer_base.specs.declared.ids.MethodId.{MethodId}
 use Rattle.core_code.specs.Calls.{rank_of}
 use Rattle.core_code.specs.CallFacts.{has_ranks}
 use Rattle.core_code.specs.Core.{Core}
+use Rattle.core_code.proofs.KindLemmas.{same_method}
 use Rattle.core_ways.specs.declared.counting.Passing.{Passing}
 use Rattle.core_ways.specs.declared.part.WayPart.{WayPart}
 use Rattle.core_ways.specs.Counts.{height_of, part_height}
@@ -18,9 +19,6 @@ use Rattle.core_ways.specs.Passings.{IsPassing, IsTable}
 use Rattle.core_ways.specs.Ways.{Trip, joined, parts_of, trip_along, trip_of, trip_of_part}
 use Rattle.core_ways.proofs.Callees.{lower-parts}
 use Rattle.core_ways.proofs.Trips.{height-below, trip_of-parts}
-
-same_method : (m n : MethodId) → m.0 ≡ n.0 → m ≡ n
-same_method m n e = ap (λ (k : ℕ). let made : MethodId = record { 0 = k } in made) e
 
 -- one more method
 pub kept-entry : (core : Core) (old new : BTreeMap ℕ Passing) (m : MethodId) (p : Passing) → IsTable core old →

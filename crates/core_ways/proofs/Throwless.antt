@@ -1,17 +1,17 @@
 -- Code that cannot end and has no throw comes to a return as code is passed.
 use Rattle.std.proofs.Common.{◌≡◌, ℕ, suc, Bool, true, false, cond, ◌&&◌, ◌||◌, not, List, [], ◌∷◌, ◌++◌}
 use Rattle.std.proofs.Common.{refl, sym, ap, ◌∙◌}
-use Rattle.std.proofs.lemmas.Bool.{or_parts}
+use Rattle.std.proofs.lemmas.Bool.{or_parts, and_parts}
 use Rattle.std.proofs.lemmas.List.{append-nil}
 use Rattle.core_code.specs.declared.code.Op.{Op as CoreOp}
 use Rattle.core_code.specs.declared.code.Op.TheVariants.{Ret, Throw}
 use Rattle.core_code.specs.Tree.{Tree, Op, Skip, Seq, Choice, Loop, Sync, can_end, can_return, is_return, stops}
-use Rattle.core_code.proofs.BoolParts.{first_part, last_part}
 use Rattle.core_semantics.specs.declared.answer.Turn.TheVariants.{Left, Right}
 use Rattle.core_ways.specs.declared.part.WayPart.{WayPart}
 use Rattle.core_ways.specs.declared.part.WayPart.TheVariants.{Step, Branched}
 use Rattle.core_ways.specs.Alone.{is_throwless, is_throwless_op}
 use Rattle.core_ways.specs.Ways.{passed, to_return}
+use Rattle.racer_base.proofs.Tests.{or_second}
 
 -- ---- it ends or returns
 
@@ -39,20 +39,16 @@ throwless-exits (Op site place op) none = op-exits op none
 throwless-exits Skip none = refl
 throwless-exits (Seq first rest) none =
     then-exits (can_end first) (can_end rest) (can_return first) (can_return rest)
-    (throwless-exits first (first_part (is_throwless first) (is_throwless rest) none))
-    (throwless-exits rest (last_part (is_throwless first) (is_throwless rest) none))
+    (throwless-exits first (and_parts (is_throwless first) (is_throwless rest) none).0)
+    (throwless-exits rest (and_parts (is_throwless first) (is_throwless rest) none).1)
 throwless-exits (Choice left right) none =
     either-exits (can_end left) (can_end right) (can_return left) (can_return right)
-    (throwless-exits left (first_part (is_throwless left) (is_throwless right) none))
+    (throwless-exits left (and_parts (is_throwless left) (is_throwless right) none).0)
 throwless-exits (Loop body) none = refl
 throwless-exits (Sync lock body) none = throwless-exits body none
 
-other-exit : (a r : Bool) → a ≡ false → (a || r) ≡ true → r ≡ true
-other-exit true r ends h = absurd cc
-other-exit false r ends h = h
-
 pub throwless-returns : (code : Tree) → is_throwless code ≡ true → can_end code ≡ false → can_return code ≡ true
-throwless-returns code none ends = other-exit (can_end code) (can_return code) ends (throwless-exits code none)
+throwless-returns code none ends = or_second (can_end code) (can_return code) ends (throwless-exits code none)
 
 -- ---- the two ways
 
@@ -72,13 +68,13 @@ pub returns-as-passed : (locks : ℕ) (code : Tree) → is_throwless code ≡ tr
 returns-as-passed locks (Op site place op) none ends = refl
 returns-as-passed locks Skip none ends = absurd cc
 returns-as-passed locks (Seq first rest) none ends =
-    let early = first_part (is_throwless first) (is_throwless rest) none in
-    let late = last_part (is_throwless first) (is_throwless rest) none in
+    let early = (and_parts (is_throwless first) (is_throwless rest) none).0 in
+    let late = (and_parts (is_throwless first) (is_throwless rest) none).1 in
     past-then locks first rest (can_end first) (can_end rest) (can_return rest) (can_return first) ends
     (throwless-returns rest late)
     (returns-as-passed locks first early) (returns-as-passed locks rest late)
 returns-as-passed locks (Choice left right) none ends =
-    let early = first_part (is_throwless left) (is_throwless right) none in
+    let early = (and_parts (is_throwless left) (is_throwless right) none).0 in
     let off = or_parts (can_end left) (can_end right) ends in
     ap (λ (b : Bool). cond b (Branched Left ∷ to_return locks left) (Branched Right ∷ to_return locks right))
     (throwless-returns left early off.0)

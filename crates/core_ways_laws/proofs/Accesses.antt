@@ -1,6 +1,7 @@
 -- What comes next at the site of a record of a Get or a Put is the record's access.
 use Rattle.std.proofs.Common.{◌≡◌, ℕ, Bool, true, false, ◌&&◌, ⊎_elim, List, [], ◌∷◌, Option, None, Some}
 use Rattle.std.proofs.Common.{refl, sym, ap, subst, ◌∙◌}
+use Rattle.std.proofs.lemmas.Bool.{and_parts}
 use Rattle.racer_base.specs.declared.ids.FieldId.{FieldId}
 use Rattle.racer_base.specs.declared.ids.SiteId.{SiteId}
 use Rattle.racer_base.specs.declared.ids.Touch.{Touch}
@@ -25,8 +26,8 @@ use Rattle.core_code.specs.Calls.{called_by}
 use Rattle.core_code.specs.Core.{Core, Method}
 use Rattle.core_code.specs.KindCheck.{after_get, after_put, field_at, is_base_of, kinds_after_op}
 use Rattle.core_code.specs.Kinds.{StackKind, fits, kind_of}
-use Rattle.core_code.proofs.BoolParts.{first_part}
 use Rattle.core_code.proofs.Membership.{In}
+use Rattle.core_code.proofs.KindLemmas.{where-is}
 use Rattle.core_ways_laws.specs.Arrivals.{Arrivals, arrival_at}
 use Rattle.core_ways_laws.specs.Values.{Point}
 use Rattle.core_ways_laws.specs.Kept.{IsMet}
@@ -35,7 +36,6 @@ use Rattle.core_ways_laws.specs.Names.{Naming, name_of}
 use Rattle.core_ways_laws.specs.Places.{IsFrame, IsPlace, IsStore, is_strong}
 use Rattle.core_ways_laws.specs.Quiet.{Quietness}
 use Rattle.core_ways_laws.proofs.KindFacts.{strong_base}
-use Rattle.core_ways_laws.proofs.Operations.{where-is}
 use Rattle.core_ways_laws.proofs.PlaceLists.{place_slot}
 
 -- ---- the path of a record
@@ -107,8 +107,8 @@ module _ (core : Core) (quiet : Quietness core) (n : Naming) (method : Method) (
   put-met f (Some field) (kv ∷ kb ∷ rest) after s at r kinded frame stored has =
       met Write f kb (slot_of s 1) at r
       (strong_base field kb
-      (first_part (is_base_of field kb) (fits field.kind kv)
-      (where-is (is_base_of field kb && fits field.kind kv) (kv ∷ rest) after kinded).holds))
+      (and_parts (is_base_of field kb) (fits field.kind kv) (where-is (is_base_of field kb && fits field.kind kv)
+      (kv ∷ rest) after kinded).holds).0)
       (place_slot core quiet n 1 (kv ∷ kb ∷ rest) s.stack at.stack kb refl frame.stack) stored has
 
   pub op-met : (op : CoreOp) (kinds after : List StackKind) (s : State) (at : Point) (r : Access) → called_by op ≡ [] →

@@ -2,11 +2,11 @@
 use Rattle.std.proofs.Common.{◌≡◌, ℕ, suc, ◌+◌, Bool, true, false, cond, List, [], ◌∷◌, ◌++◌, Option, None, Some}
 use Rattle.std.proofs.Common.{refl, sym, subst, arith}
 use Rattle.std.specs.Prelude.{Result, Ok, Err}
+use Rattle.std.proofs.lemmas.Bool.{and_parts}
 use Rattle.racer_base.specs.declared.ids.MethodId.{MethodId}
 use Rattle.core_code.specs.Core.{Core}
 use Rattle.core_code.specs.Tree.{Tree, can_end, can_return, steps_of, stops}
 use Rattle.core_code.specs.Tree as tree
-use Rattle.core_code.proofs.BoolParts.{first_part, last_part}
 use Rattle.core_semantics.specs.declared.answer.Holder.{Holder}
 use Rattle.core_semantics.specs.declared.answer.Turn.{Turn}
 use Rattle.core_semantics.specs.declared.answer.Turn.TheVariants.{Left, Right}
@@ -181,14 +181,14 @@ module _ (core : Core) (trips : MethodId → Trip) (calls : Calls) (test : Metho
   goes-back tree.Skip comes all = absurd cc
   goes-back (tree.Seq first rest) comes all =
       let both = pass-both test (steps_of first) (steps_of rest) all in
-      let ahead = first_part (do_pass test (steps_of first)) (do_pass test (steps_of rest)) both in
-      let behind = last_part (do_pass test (steps_of first)) (do_pass test (steps_of rest)) both in
+      let ahead = (and_parts (do_pass test (steps_of first)) (do_pass test (steps_of rest)) both).0 in
+      let behind = (and_parts (do_pass test (steps_of first)) (do_pass test (steps_of rest)) both).1 in
       back-then core trips calls first rest (goes_past first rest) refl comes
       (goes-past core trips calls test holds first ahead) (λ c. goes-back first c ahead) (λ c. goes-back rest c behind)
   goes-back (tree.Choice left right) comes all =
       let both = pass-both test (steps_of left) (steps_of right) all in
-      let ahead = first_part (do_pass test (steps_of left)) (do_pass test (steps_of right)) both in
-      let behind = last_part (do_pass test (steps_of left)) (do_pass test (steps_of right)) both in
+      let ahead = (and_parts (do_pass test (steps_of left)) (do_pass test (steps_of right)) both).0 in
+      let behind = (and_parts (do_pass test (steps_of left)) (do_pass test (steps_of right)) both).1 in
       back-either core trips calls left right (can_return left) refl comes (λ c. goes-back left c ahead)
       (λ c. goes-back right c behind)
   goes-back (tree.Loop body) comes all = λ locked at todo callers locks.

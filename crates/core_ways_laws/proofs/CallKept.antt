@@ -1,7 +1,7 @@
 -- A call of a method that keeps the invariant keeps it.
 use Rattle.std.proofs.Common.{◌≡◌, ℕ, Bool, true, false, cond, List, ◌∷◌, Option, None, Some, length}
 use Rattle.std.proofs.Common.{drop, nat_eq, reverse, refl, sym, ap, subst, ◌∙◌}
-use Rattle.std.proofs.lemmas.Bool.{eqb-true}
+use Rattle.std.proofs.lemmas.Bool.{eqb-true, and_parts}
 use Rattle.std.specs.Prelude.{Ok, Err}
 use Rattle.racer_base.specs.declared.ids.MethodId.{MethodId}
 use Rattle.racer_base.specs.declared.ids.SiteId.{SiteId}
@@ -14,7 +14,6 @@ use Rattle.core_code.specs.CallFacts.{is_right_call, takes}
 use Rattle.core_code.specs.Core.{Core, Method}
 use Rattle.core_code.specs.KindCheck.{Kinds, after_call, and_then, below_fitting, kinds_after_op}
 use Rattle.core_code.specs.Kinds.{StackKind, kind_of}
-use Rattle.core_code.proofs.BoolParts.{last_part}
 use Rattle.access_domain.specs.Findings.{Findings, Known, Large, Whole, Table}
 use Rattle.access_domain.specs.FlowContext.{FlowContext, given_of, is_static_method}
 use Rattle.access_domain.specs.Operations.{Effects, call_effects, found_effects, op_effects, passed_from, replaced}
@@ -59,7 +58,7 @@ pub taken : (core : Core) (method callee : Method) (m : MethodId) (count : ℕ) 
 taken core method callee m count kinds ends there right fits =
     let called : after_call (Some callee) kinds ≡ Some ends =
     sym (ap (λ (o : Option Method). after_call o kinds) there) ∙ fits in
-    let takes_all : takes core m count ≡ true = last_part (is_analysed core m) (takes core m count) right in
+    let takes_all : takes core m count ≡ true = (and_parts (is_analysed core m) (takes core m count) right).1 in
     let same : count ≡ length (taken_by callee) = eqb-true count (length (taken_by callee))
     (sym (ap (λ (o : Option Method). elim o as (λ _. Bool) [
       | None ↦ false

@@ -1,19 +1,16 @@
 -- Methods that are passed, by rank, run alone: they come back with what their calls give.
-use Rattle.std.proofs.Common.{◌≡◌, ℕ, zero, suc, ◌<◌, Bool, true, false, cond, List, [], ◌∷◌, ◌++◌}
-use Rattle.std.proofs.Common.{Option, None, Some, refl, sym, ap, ◌∙◌, subst, drop, arith, nat_lt, is_none, is_some}
+use Rattle.std.proofs.Common.{◌≡◌, ℕ, zero, suc, ◌<◌, Bool, true, false, cond, List, [], ◌++◌}
+use Rattle.std.proofs.Common.{Option, None, Some, refl, sym, ap, ◌∙◌, subst, drop, arith, nat_lt}
 use Rattle.std.proofs.Common.{not, ◌||◌}
-use Rattle.std.proofs.Common.{slice_get}
-use Rattle.std.proofs.lemmas.Bool.{ltb-true}
+use Rattle.std.proofs.lemmas.Bool.{ltb-true, and_parts}
 use Rattle.std.specs.List.{list_all}
 use Rattle.racer_base.specs.declared.ids.MethodId.{MethodId}
 use Rattle.core_code.specs.declared.code.Op.{Op as CoreOp}
-use Rattle.core_code.specs.declared.code.Reason.{Reason}
-use Rattle.core_code.specs.declared.code.Op.TheVariants.{Prim, Call}
+use Rattle.core_code.specs.declared.code.Op.TheVariants.{Call}
 use Rattle.core_code.specs.Calls.{called_by, is_analysed, known_below, method_at, rank_of}
 use Rattle.core_code.specs.CallFacts.{ends_by_return, has_ranks}
 use Rattle.core_code.specs.Core.{Core, Method}
 use Rattle.core_code.specs.Tree.{Tree, Op, Skip, Seq, Choice, Loop, Sync, can_end, can_return, steps_of}
-use Rattle.core_code.proofs.BoolParts.{first_part, last_part}
 use Rattle.core_code.proofs.ByRank.{known_below-lower}
 use Rattle.core_semantics.specs.declared.answer.Holder.{Holder}
 use Rattle.core_semantics.specs.declared.object.Value.{Value}
@@ -45,7 +42,7 @@ module _ (core : Core) (f g : Calls) (test : MethodId → Bool) (same : (m : Met
     | None ↦ None
     | Some method ↦
         received method (values_passed at n)
-        (returned_to at n (same m (first_part (test m) true all) i (values_passed at n) at.store))
+        (returned_to at n (same m (and_parts (test m) true all).0 i (values_passed at n) at.store))
   ])
   op-same op all = refl
 
@@ -55,13 +52,13 @@ module _ (core : Core) (f g : Calls) (test : MethodId → Bool) (same : (m : Met
   go-same Skip all = refl
   go-same (Seq first rest) all =
       let both = pass-both test (steps_of first) (steps_of rest) all in
-      let early = go-same first (first_part (do_pass test (steps_of first)) (do_pass test (steps_of rest)) both) in
-      let late = go-same rest (last_part (do_pass test (steps_of first)) (do_pass test (steps_of rest)) both) in
+      let early = go-same first (and_parts (do_pass test (steps_of first)) (do_pass test (steps_of rest)) both).0 in
+      let late = go-same rest (and_parts (do_pass test (steps_of first)) (do_pass test (steps_of rest)) both).1 in
       (λ i at. go_on (early i at) (late i))
   go-same (Choice left right) all =
       let both = pass-both test (steps_of left) (steps_of right) all in
-      let l = go-same left (first_part (do_pass test (steps_of left)) (do_pass test (steps_of right)) both) in
-      let r = go-same right (last_part (do_pass test (steps_of left)) (do_pass test (steps_of right)) both) in
+      let l = go-same left (and_parts (do_pass test (steps_of left)) (do_pass test (steps_of right)) both).0 in
+      let r = go-same right (and_parts (do_pass test (steps_of left)) (do_pass test (steps_of right)) both).1 in
       (λ i at. cond (can_end right) (r i at) (l i at))
   go-same (Loop body) all = refl
   go-same (Sync lock body) all =
@@ -74,15 +71,15 @@ module _ (core : Core) (f g : Calls) (test : MethodId → Bool) (same : (m : Met
   back-same Skip all = refl
   back-same (Seq first rest) all =
       let both = pass-both test (steps_of first) (steps_of rest) all in
-      let early = first_part (do_pass test (steps_of first)) (do_pass test (steps_of rest)) both in
+      let early = (and_parts (do_pass test (steps_of first)) (do_pass test (steps_of rest)) both).0 in
       let past = go-same first early in
       let back = back-same first early in
-      let late = back-same rest (last_part (do_pass test (steps_of first)) (do_pass test (steps_of rest)) both) in
+      let late = back-same rest (and_parts (do_pass test (steps_of first)) (do_pass test (steps_of rest)) both).1 in
       (λ i at. cond (goes_past first rest) (go_on (past i at) (late i)) (back i at))
   back-same (Choice left right) all =
       let both = pass-both test (steps_of left) (steps_of right) all in
-      let l = back-same left (first_part (do_pass test (steps_of left)) (do_pass test (steps_of right)) both) in
-      let r = back-same right (last_part (do_pass test (steps_of left)) (do_pass test (steps_of right)) both) in
+      let l = back-same left (and_parts (do_pass test (steps_of left)) (do_pass test (steps_of right)) both).0 in
+      let r = back-same right (and_parts (do_pass test (steps_of left)) (do_pass test (steps_of right)) both).1 in
       (λ i at. cond (can_return left) (l i at) (r i at))
   back-same (Loop body) all = back-same body all
   back-same (Sync lock body) all =
@@ -147,8 +144,8 @@ method-goes core right (suc k) m low analysed method is =
     let holds : (n : MethodId) → may_call core m n ≡ true → MethodGoes core (trip_of core) (call_of core) n = λ n may.
     method-goes core right k n
     (let below = ltb-true (rank_of core n) (rank_of core m)
-    (first_part (nat_lt (rank_of core n) (rank_of core m)) (is_analysed core n) may) in omega arith)
-    (last_part (nat_lt (rank_of core n) (rank_of core m)) (is_analysed core n) may) in
+    (and_parts (nat_lt (rank_of core n) (rank_of core m)) (is_analysed core n) may).0 in omega arith)
+    (and_parts (nat_lt (rank_of core n) (rank_of core m)) (is_analysed core n) may).1 in
     let ends : can_end code ≡ false = code-never-ends core right m method is analysed in
     let back : GoesBack core (trip_of core) (call_of core) code =
     goes-back core (trip_of core) (call_of core) (may_call core m) holds code

@@ -4,6 +4,7 @@ use Rattle.std.proofs.Common.{inl}
 use Rattle.std.proofs.Common.{◌≡◌, ℕ, suc, ◌+◌, Bool, true, false, cond, ◌&&◌, ◌||◌, not, List, [], ◌∷◌, ◌++◌}
 use Rattle.std.proofs.Common.{refl, sym, subst, arith, drop, slice_index_or}
 use Rattle.std.proofs.lemmas.List.{append-nil}
+use Rattle.std.proofs.lemmas.Bool.{and_parts}
 use Rattle.racer_base.specs.declared.ids.MethodId.{MethodId}
 use Rattle.racer_base.specs.declared.ids.Place.{Place}
 use Rattle.racer_base.specs.declared.ids.SiteId.{SiteId}
@@ -14,7 +15,6 @@ use Rattle.core_code.specs.Core.{Core}
 use Rattle.core_code.specs.Tree.{Tree}
 use Rattle.core_code.specs.Tree.{can_end, can_return, is_return, steps_of, stops}
 use Rattle.core_code.specs.Tree as tree
-use Rattle.core_code.proofs.BoolParts.{first_part, last_part}
 use Rattle.core_semantics.specs.declared.answer.Holder.{Holder}
 use Rattle.core_semantics.specs.declared.answer.Turn.{Turn}
 use Rattle.core_semantics.specs.declared.answer.Turn.TheVariants.{Left, Right}
@@ -134,10 +134,10 @@ module _ (core : Core) (trips : MethodId → Trip) (test : MethodId → Bool)
   clears-past tree.Skip ends all clear = λ locked store vars stack todo callers locks rest. tt
   clears-past (tree.Seq first rest) ends all clear = λ locked store vars stack todo callers locks.
       let both = pass-both test (steps_of first) (steps_of rest) all in
-      let early = first_part (do_pass test (steps_of first)) (do_pass test (steps_of rest)) both in
-      let late = last_part (do_pass test (steps_of first)) (do_pass test (steps_of rest)) both in
-      let one = first_part (can_end first) (can_end rest) ends in
-      let two = last_part (can_end first) (can_end rest) ends in
+      let early = (and_parts (do_pass test (steps_of first)) (do_pass test (steps_of rest)) both).0 in
+      let late = (and_parts (do_pass test (steps_of first)) (do_pass test (steps_of rest)) both).1 in
+      let one = (and_parts (can_end first) (can_end rest) ends).0 in
+      let two = (and_parts (can_end first) (can_end rest) ends).1 in
       subst (λ (b : Bool). Clear core (trip_along trips (passed locked first ++ cond b (passed locked rest) []))
       (here store vars stack (before first (before rest todo)) locked callers locks)) (sym one)
       (past-clear first (passed locked rest) locked store vars stack (before rest todo) callers locks one early
@@ -147,8 +147,8 @@ module _ (core : Core) (trips : MethodId → Trip) (test : MethodId → Bool)
       callers locks)))
   clears-past (tree.Choice left right) ends all clear =
       let both = pass-both test (steps_of left) (steps_of right) all in
-      let early = first_part (do_pass test (steps_of left)) (do_pass test (steps_of right)) both in
-      let late = last_part (do_pass test (steps_of left)) (do_pass test (steps_of right)) both in
+      let early = (and_parts (do_pass test (steps_of left)) (do_pass test (steps_of right)) both).0 in
+      let late = (and_parts (do_pass test (steps_of left)) (do_pass test (steps_of right)) both).1 in
       side-clear left right (can_end right) refl ends
       (λ e. clears-past left e early (first-clear core trips left right clear))
       (λ e. clears-past right e late (last-clear core trips left right clear))
@@ -236,8 +236,8 @@ module _ (core : Core) (trips : MethodId → Trip) (test : MethodId → Bool)
   clears-back tree.Skip comes all clear = absurd cc
   clears-back (tree.Seq first rest) comes all clear =
       let both = pass-both test (steps_of first) (steps_of rest) all in
-      let early = first_part (do_pass test (steps_of first)) (do_pass test (steps_of rest)) both in
-      let late = last_part (do_pass test (steps_of first)) (do_pass test (steps_of rest)) both in
+      let early = (and_parts (do_pass test (steps_of first)) (do_pass test (steps_of rest)) both).0 in
+      let late = (and_parts (do_pass test (steps_of first)) (do_pass test (steps_of rest)) both).1 in
       then-back first rest (goes_past first rest) refl comes
       (λ e r more locked store vars stack todo callers locks.
       past-clear first more locked store vars stack todo callers locks e early
@@ -246,8 +246,8 @@ module _ (core : Core) (trips : MethodId → Trip) (test : MethodId → Bool)
       (λ e. clears-back rest e late (last-clear core trips first rest clear))
   clears-back (tree.Choice left right) comes all clear =
       let both = pass-both test (steps_of left) (steps_of right) all in
-      let early = first_part (do_pass test (steps_of left)) (do_pass test (steps_of right)) both in
-      let late = last_part (do_pass test (steps_of left)) (do_pass test (steps_of right)) both in
+      let early = (and_parts (do_pass test (steps_of left)) (do_pass test (steps_of right)) both).0 in
+      let late = (and_parts (do_pass test (steps_of left)) (do_pass test (steps_of right)) both).1 in
       side-back left right (can_return left) refl comes
       (λ e. clears-back left e early (first-clear core trips left right clear))
       (λ e. clears-back right e late (last-clear core trips left right clear))
@@ -282,8 +282,8 @@ module _ (core : Core) (trips : MethodId → Trip) (test : MethodId → Bool)
   then-to site first rest true ends early past_first on_first on_rest locked store vars stack todo callers locks =
       on_first refl ends locked store vars stack (before rest todo) callers locks
   then-to site first rest false ends early past_first on_first on_rest locked store vars stack todo callers locks =
-      let one = first_part (can_end first) (do_end_before site rest) ends in
-      let two = last_part (can_end first) (do_end_before site rest) ends in
+      let one = (and_parts (can_end first) (do_end_before site rest) ends).0 in
+      let two = (and_parts (can_end first) (do_end_before site rest) ends).1 in
       past-clear first (reached locked site rest) locked store vars stack (before rest todo) callers locks one early
       (past_first refl one)
       (from-there rest (reached locked site rest) locked todo callers locks
@@ -315,16 +315,16 @@ module _ (core : Core) (trips : MethodId → Trip) (test : MethodId → Bool)
   clears-to site tree.Skip ends all clear = λ locked store vars stack todo callers locks rest. tt
   clears-to site (tree.Seq first rest) ends all clear =
       let both = pass-both test (steps_of first) (steps_of rest) all in
-      let early = first_part (do_pass test (steps_of first)) (do_pass test (steps_of rest)) both in
-      let late = last_part (do_pass test (steps_of first)) (do_pass test (steps_of rest)) both in
+      let early = (and_parts (do_pass test (steps_of first)) (do_pass test (steps_of rest)) both).0 in
+      let late = (and_parts (do_pass test (steps_of first)) (do_pass test (steps_of rest)) both).1 in
       then-to site first rest (has_site first site) ends early
       (λ has e. clears-past first e early (first-clear core trips first rest clear))
       (λ has e. clears-to site first e early (first-clear core trips first rest clear))
       (λ has e. clears-to site rest e late (last-clear core trips first rest clear))
   clears-to site (tree.Choice left right) ends all clear =
       let both = pass-both test (steps_of left) (steps_of right) all in
-      let early = first_part (do_pass test (steps_of left)) (do_pass test (steps_of right)) both in
-      let late = last_part (do_pass test (steps_of left)) (do_pass test (steps_of right)) both in
+      let early = (and_parts (do_pass test (steps_of left)) (do_pass test (steps_of right)) both).0 in
+      let late = (and_parts (do_pass test (steps_of left)) (do_pass test (steps_of right)) both).1 in
       side-to site left right (has_site left site) ends
       (λ has e. clears-to site left e early (first-clear core trips left right clear))
       (λ has e. clears-to site right e late (last-clear core trips left right clear))

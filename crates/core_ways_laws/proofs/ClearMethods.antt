@@ -1,7 +1,7 @@
 -- Methods that are passed, by rank, are not stuck at a throw where each method that reached code calls can return.
 use Rattle.std.proofs.Common.{◌≡◌, ℕ, zero, suc, ◌<◌, Bool, true, List, [], ◌∷◌, Option, None, Some, inl}
 use Rattle.std.proofs.Common.{refl, sym, ap, ◌∙◌, subst, arith, nat_lt, map, slice_get, slice_index_or}
-use Rattle.std.proofs.lemmas.Bool.{ltb-true}
+use Rattle.std.proofs.lemmas.Bool.{ltb-true, and_parts}
 use Rattle.std.specs.List.{Contains}
 use Rattle.racer_base.specs.declared.ids.MethodId.{MethodId}
 use Rattle.core_code.specs.declared.code.Op.{Op as CoreOp}
@@ -11,7 +11,6 @@ use Rattle.core_code.specs.Calls.{called_by, calls_in, is_analysed, method_at, r
 use Rattle.core_code.specs.Chains.{Calls}
 use Rattle.core_code.specs.Core.{Core, Method}
 use Rattle.core_code.specs.Tree.{Operation, Tree, can_return, steps_of}
-use Rattle.core_code.proofs.BoolParts.{first_part, last_part}
 use Rattle.core_code.proofs.Membership.{In, flat_map_has}
 use Rattle.core_semantics.specs.State.{before}
 use Rattle.core_ways.specs.declared.part.WayPart.{WayPart}
@@ -79,8 +78,8 @@ method-clear core right (suc k) m low analysed returns each method is =
     let clear : AreCallsClear core (trip_of core) code = calls-clear core right m method is calls each
     (λ n may comes further. method-clear core right k n
     (let below = ltb-true (rank_of core n) (rank_of core m)
-    (first_part (nat_lt (rank_of core n) (rank_of core m)) (is_analysed core n) may) in omega arith)
-    (last_part (nat_lt (rank_of core n) (rank_of core m)) (is_analysed core n) may) comes further) in
+    (and_parts (nat_lt (rank_of core n) (rank_of core m)) (is_analysed core n) may).0 in omega arith)
+    (and_parts (nat_lt (rank_of core n) (rank_of core m)) (is_analysed core n) may).1 comes further) in
     let comes : can_return code ≡ true =
     sym (ap (λ (o : Option Method). elim o as (λ _. Bool) [ None ↦ true | Some x ↦ can_return x.code ]) is) ∙ returns in
     let back : ClearBack core (trip_of core) code =
@@ -102,4 +101,4 @@ callees-clear core right m method is calls each =
     calls-clear core right m method is calls each
     (λ n may returns further.
     method-clear core right (suc (rank_of core n)) n (omega arith)
-    (last_part (nat_lt (rank_of core n) (rank_of core m)) (is_analysed core n) may) returns further)
+    (and_parts (nat_lt (rank_of core n) (rank_of core m)) (is_analysed core n) may).1 returns further)

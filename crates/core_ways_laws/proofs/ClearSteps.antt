@@ -12,7 +12,7 @@ use Rattle.core_code.specs.Calls.{method_at}
 use Rattle.core_code.specs.Core.{Core, Method}
 use Rattle.core_code.specs.Tree.{LockAt, Operation, Tree}
 use Rattle.core_code.specs.Tree.{steps_of, stops}
-use Rattle.core_code.proofs.Membership.{In}
+use Rattle.core_code.proofs.Membership.{In, in_left, in_right}
 use Rattle.core_semantics.specs.declared.answer.Holder.{Holder}
 use Rattle.core_semantics.specs.declared.answer.Turn.{Turn}
 use Rattle.core_semantics.specs.declared.answer.Why.TheVariants.{UnreadCall as UnreadWhy}
@@ -30,7 +30,6 @@ use Rattle.core_ways.specs.Alone.{alone, here, onward}
 use Rattle.core_ways.specs.Ways.{Trip, joined, passed, reached, to_return, trip_along}
 use Rattle.core_ways.proofs.Alone.{alone-both, run_on, spot}
 use Rattle.core_ways_laws.specs.ClearLegs.{is_thrown}
-use Rattle.access_domain.proofs.Members.{in_first, in_last}
 
 -- ---- what is shown
 
@@ -79,13 +78,13 @@ pub first-clear : (core : Core) (trips : MethodId → Trip) (first rest : Tree) 
     ((o : Operation) → In (steps_of first ++ steps_of rest) o → (m : MethodId) (n : ℕ) → o.op ≡ Call m n →
     MethodClear core trips m) →
     AreCallsClear core trips first
-first-clear core trips first rest each o there = each o (in_first (steps_of first) (steps_of rest) o there)
+first-clear core trips first rest each o there = each o (in_left (steps_of first) (steps_of rest) o there)
 
 pub last-clear : (core : Core) (trips : MethodId → Trip) (first rest : Tree) →
     ((o : Operation) → In (steps_of first ++ steps_of rest) o → (m : MethodId) (n : ℕ) → o.op ≡ Call m n →
     MethodClear core trips m) →
     AreCallsClear core trips rest
-last-clear core trips first rest each o there = each o (in_last (steps_of first) (steps_of rest) o there)
+last-clear core trips first rest each o there = each o (in_right (steps_of first) (steps_of rest) o there)
 
 -- ---- one step
 

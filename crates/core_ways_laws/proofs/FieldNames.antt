@@ -1,9 +1,10 @@
 -- Names with one field more, and the kinds of fields.
-use Rattle.std.proofs.Common.{◌≡◌, ℕ, zero, suc, ◌<◌, Bool, true, false, cond, ◌&&◌, List, [], ◌∷◌, ◌++◌}
-use Rattle.std.proofs.Common.{Option, None, Some, IsTrue, map, length, nat_lt, slice_get, slice_index_or}
+use Rattle.std.proofs.Common.{◌≡◌, Bool, true, ◌&&◌, [], ◌∷◌, ◌++◌}
+use Rattle.std.proofs.Common.{Option, None, Some, IsTrue}
 use Rattle.std.proofs.Common.{refl, sym, ap, ◌∙◌}
 use Rattle.std.proofs.lemmas.List.Folds.{list_all-append}
 use Rattle.std.proofs.lemmas.Option.{get_or_from_slice_get}
+use Rattle.std.proofs.lemmas.Bool.{and_from, and_parts}
 use Rattle.racer_base.specs.declared.ids.ClassId.{ClassId}
 use Rattle.racer_base.specs.declared.ids.FieldId.{FieldId}
 use Rattle.racer_base.specs.declared.ids.Kind.{Kind}
@@ -16,7 +17,6 @@ use Rattle.access_domain.specs.Longer.{longer, path_of}
 use Rattle.core_code.specs.declared.parts.FieldCore.{FieldCore}
 use Rattle.core_code.specs.Core.{Core}
 use Rattle.core_code.specs.KindCheck.{field_at}
-use Rattle.core_code.proofs.BoolParts.{both, first_part, last_part}
 use Rattle.core_semantics.specs.Steps.{kind_of as field_kind}
 use Rattle.core_ways_laws.specs.Names.{longer_name}
 use Rattle.core_ways_laws.specs.Quiet.{are_declared, is_declared}
@@ -36,8 +36,8 @@ last-declared core q f r e all =
     let test : FieldId → Bool = λ g. is_declared (field_kind core g) in
     let whole : are_declared core (path_of q.root (q.fields ++ f ∷ [])) ≡ true =
     ap (are_declared core) (sym (longer q f r e).is) ∙ all in
-    first_part (test f) true
-    (last_part (are_declared core q) (test f && true) (sym (list_all-append test q.fields (f ∷ [])) ∙ whole))
+    (and_parts (test f) true
+    (and_parts (are_declared core q) (test f && true) (sym (list_all-append test q.fields (f ∷ [])) ∙ whole)).1).0
 
 pub declared-longer : (core : Core) (q : Path) (f : FieldId) (r : Path) → extended q f ≡ Some r →
     IsTrue (are_declared core q) → is_declared (field_kind core f) ≡ true → IsTrue (are_declared core r)
@@ -45,7 +45,7 @@ declared-longer core q f r e all last =
     let test : FieldId → Bool = λ g. is_declared (field_kind core g) in
     ap (are_declared core) (longer q f r e).is
     ∙ list_all-append test q.fields (f ∷ [])
-    ∙ both (are_declared core q) (test f && true) all (both (test f) true last refl)
+    ∙ and_from (are_declared core q) (test f && true) all (and_from (test f) true last refl)
 
 pub declared-kind : (k : Kind) → is_declared k ≡ true → (c : ClassId) × (k ≡ Declared c)
 declared-kind Plain e = absurd cc
@@ -53,16 +53,6 @@ declared-kind (Declared c) e = (c, refl)
 declared-kind Other e = absurd cc
 
 -- ---- a field that there is
-
-kind-in : (fields : List FieldCore) (i : ℕ) (field : FieldCore) → slice_get fields i ≡ Some field →
-    slice_index_or (map (λ (x : FieldCore). x.kind) fields) i Other ≡ field.kind
-kind-in [] i field there = absurd cc
-kind-in (x ∷ fields) zero field there = let same : x ≡ field = cc in ap (λ (y : FieldCore). y.kind) same
-kind-in (x ∷ fields) (suc i) field there = kind-in fields i field there
-
-pub kind-there : (core : Core) (f : FieldId) (field : FieldCore) → field_at core f ≡ Some field →
-    field_kind core f ≡ field.kind
-kind-there core f field there = kind-in core.fields f.0 field there
 
 pub plain-there : (core : Core) (table : Table) (main : Bool) (f : FieldId) (field : FieldCore) →
     field_at core f ≡ Some field → (given_of core table main).is_plain_field f ≡ is_plain field.kind

@@ -3,6 +3,8 @@ use Rattle.std.proofs.Common.{◌≡◌, ℕ, zero, suc, ◌+◌, ◌-◌, Bool,
 use Rattle.std.proofs.Common.{Option, None, Some, drop, length, reverse, nat_eq, nat_le, slice_set}
 use Rattle.std.proofs.Common.{refl, sym, ap, subst, ◌∙◌, arith, inl}
 use Rattle.std.proofs.lemmas.List.{length-drop, length-reverse, length-set}
+use Rattle.std.proofs.lemmas.Bool.{and_parts}
+use Rattle.std.proofs.lemmas.Option.{none-some}
 use borrow.Author.Tests.{eqb-true}
 use Rattle.racer_base.specs.declared.ids.MethodId.{MethodId}
 use Rattle.racer_base.specs.declared.ids.SiteId.{SiteId}
@@ -11,6 +13,7 @@ use Rattle.access_paths.specs.declared.path.Path.{Path}
 use Rattle.owner_domain.specs.declared.value.Value.{Value}
 use Rattle.owner_domain.specs.declared.value.State.{State}
 use Rattle.owner_domain.specs.Values.{joined_values, joined_state, lost_state}
+use Rattle.owner_domain.proofs.Joins.{length-joined_values}
 use Rattle.core_code.specs.declared.code.Op.{Op as CoreOp}
 use Rattle.core_code.specs.declared.code.Op.TheVariants.{Push, PushClass, PushPrim, PushNull, New, Dup, Drop, Get, Put}
 use Rattle.core_code.specs.declared.code.Op.TheVariants.{Set, Prim, Outside, Call, Unread, Ret, Throw}
@@ -22,16 +25,15 @@ use Rattle.core_code.specs.CallFacts.{is_right_call, takes}
 use Rattle.core_code.specs.Kinds.{StackKind, kind_of, joined_stack, fits}
 use Rattle.core_code.specs.KindCheck.{after_push, after_set, after_get, after_put, after_call, after_popping}
 use Rattle.core_code.specs.KindCheck.{below_fitting, field_at, variable_at, is_base_of, kinds_after_op, kinds_after}
-use Rattle.core_code.proofs.BoolParts.{last_part}
-use Rattle.core_code.proofs.Membership.{In}
+use Rattle.core_code.proofs.Membership.{In, in_left, in_right}
+use Rattle.core_code.proofs.KindLemmas.{same_heights, went_on}
 use Rattle.access_domain.specs.Findings.{Known, Large, Whole, Table}
 use Rattle.access_domain.specs.FlowContext.{FlowContext, given_of}
 use Rattle.access_domain.specs.Operations.{Effects, popped, pushed, replaced, call_effects, op_effects}
 use Rattle.access_domain.specs.Flow.{joined_next, rounds, flow}
 use Rattle.core_ways_laws.proofs.KindFacts.{AreInTurn, AreBeside, IsWithin, then_kinds, either_kinds, loop-kinds}
-use Rattle.core_ways_laws.proofs.KindFacts.{held_kinds, same_heights, went_on, tested}
+use Rattle.core_ways_laws.proofs.KindFacts.{held_kinds, tested}
 use Rattle.core_ways_laws.proofs.FlowFacts.{after_cases}
-use Rattle.access_domain.proofs.Members.{in_first, in_last}
 
 -- a state of a method with these kinds on its stack, as far as lengths go
 pub record IsShaped (method : Method) (ks : List StackKind) (s : State) : Type 0 where
@@ -204,22 +206,13 @@ op_shape core method g locked site (Outside n) ks ends s t right h p is =
     shape_replaced method ks ends s t n _ (height_popping n _ ks ends h) p is
 op_shape core method g locked site (Call m n) ks ends s t right h p is =
     shape_called method g locked site m n (g.known_of m) ks ends s t
-    (height_call n (method_at core m) ks ends (last_part (is_analysed core m) (takes core m n) right) h) p is
+    (height_call n (method_at core m) ks ends (and_parts (is_analysed core m) (takes core m n) right).1 h) p is
 op_shape core method g locked site (Unread m n) ks ends s t right h p is =
     shape_replaced method ks ends s t n _ (height_popping n _ ks ends h) p is
 op_shape core method g locked site Ret ks ends s t right h p is = cc
 op_shape core method g locked site Throw ks ends s t right h p is = cc
 
-none_some : (t : State) → None ≡ Some t → ⊥
-none_some t e = cc
-
 -- ---- code
-
-length_joined : (vs ws : List Value) → length vs ≡ length ws → length (joined_values vs ws) ≡ length vs
-length_joined [] [] e = refl
-length_joined [] (w ∷ ws) e = refl
-length_joined (v ∷ vs) [] e = absurd (omega (arith, e))
-length_joined (v ∷ vs) (w ∷ ws) e = ap suc (length_joined vs ws (omega (arith, e)))
 
 pub shape_alike : (method : Method) (ks ls : List StackKind) (s : State) → length ks ≡ length ls →
     IsShaped method ks s → IsShaped method ls s
@@ -229,8 +222,8 @@ pub shape_joined : (method : Method) (ks : List StackKind) (s t : State) → IsS
     IsShaped method ks t → IsShaped method ks (joined_state s t)
 shape_joined method ks s t p q =
     record {
-      vars = length_joined s.vars t.vars (p.vars ∙ sym q.vars) ∙ p.vars;
-      stack = length_joined s.stack t.stack (p.stack ∙ sym q.stack) ∙ p.stack;
+      vars = length-joined_values s.vars t.vars (p.vars ∙ sym q.vars) ∙ p.vars;
+      stack = length-joined_values s.stack t.stack (p.stack ∙ sym q.stack) ∙ p.stack;
     }
 
 shape_beside : (method : Method) (left right joined : List StackKind) (l r : Option State) (t : State) →
@@ -286,10 +279,10 @@ flow_shape core method g Skip locked ks ends s t right h p is =
     (subst (λ (x : List StackKind). IsShaped method x s) kinds p)
 flow_shape core method g (Seq first rest) locked ks ends s t right h p is =
     let k : AreInTurn core method first rest ks ends = then_kinds core method first rest ks ends h in
-    let right_first : AreRight core first = λ o there. right o (in_first (steps_of first) (steps_of rest) o there) in
-    let right_rest : AreRight core rest = λ o there. right o (in_last (steps_of first) (steps_of rest) o there) in
+    let right_first : AreRight core first = λ o there. right o (in_left (steps_of first) (steps_of rest) o there) in
+    let right_rest : AreRight core rest = λ o there. right o (in_right (steps_of first) (steps_of rest) o there) in
     after_cases (flow g first locked s) (flow g rest locked) (λ x. x.next ≡ Some t → IsShaped method ends t)
-    (λ none e. absurd (none_some t (sym none ∙ e)))
+    (λ none e. absurd (none-some t (sym none ∙ e)))
     (λ m some e. flow_shape core method g rest locked k.between ends m t right_rest k.late
     (flow_shape core method g first locked ks k.between s m right_first k.early p some) e) is
 flow_shape core method g (Choice left right) locked ks ends s t fits h p is =
@@ -297,9 +290,9 @@ flow_shape core method g (Choice left right) locked ks ends s t fits h p is =
     shape_beside method k.after_left k.after_right ends (flow g left locked s).next (flow g right locked s).next t
     k.joins
     (λ a e. flow_shape core method g left locked ks k.after_left s a
-    (λ o there. fits o (in_first (steps_of left) (steps_of right) o there)) k.on_left p e)
+    (λ o there. fits o (in_left (steps_of left) (steps_of right) o there)) k.on_left p e)
     (λ b e. flow_shape core method g right locked ks k.after_right s b
-    (λ o there. fits o (in_last (steps_of left) (steps_of right) o there)) k.on_right p e) is
+    (λ o there. fits o (in_right (steps_of left) (steps_of right) o there)) k.on_right p e) is
 flow_shape core method g (Loop body) locked ks ends s t right h p is =
     let k = loop-kinds core method body ks ends h in
     let same : (rounds (flow g body locked) (length s.vars + length s.stack + 1) s).0 ≡ t = cc in

@@ -1,6 +1,6 @@
 -- The invariant behind one part of code and then another, behind either of two, behind a lock, and at a call.
 use Rattle.std.proofs.lemmas.Bool.{or_parts}
-use Rattle.std.proofs.Common.{◌≡◌, Bool, true, false, ◌||◌, List, ◌++◌, Option, None, Some, length}
+use Rattle.std.proofs.Common.{◌≡◌, false, List, ◌++◌, Option, None, Some, length}
 use Rattle.std.proofs.Common.{refl, sym, ap, subst, ◌∙◌}
 use Rattle.std.specs.Prelude.{Result, Ok, Err}
 use Rattle.access_paths.specs.declared.path.Path.{Path}

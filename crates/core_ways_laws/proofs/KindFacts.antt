@@ -1,7 +1,6 @@
 -- What the kind check tells of kinds and of heights of the stack.
-use Rattle.std.proofs.Common.{◌≡◌, ℕ, Bool, true, false, cond, List, [], ◌∷◌, Option, None, Some, length, suc}
+use Rattle.std.proofs.Common.{◌≡◌, Bool, true, false, cond, List, [], ◌∷◌, Some}
 use Rattle.std.proofs.Common.{refl, sym, ap, ◌∙◌}
-use borrow.Author.Tests.{eqb-true}
 use Rattle.racer_base.specs.declared.ids.ClassId.{ClassId}
 use Rattle.racer_base.specs.declared.ids.Kind.{Kind}
 use Rattle.racer_base.specs.declared.ids.Kind.TheVariants as types
@@ -10,8 +9,8 @@ use Rattle.core_code.specs.Tree.{LockAt, Tree, Seq, Choice, Loop, Sync}
 use Rattle.core_code.specs.Core.{Core, Method}
 use Rattle.core_code.specs.Kinds.{StackKind, Plain, Declared, Class, Null, Opaque, Other, kind_of, same_kind}
 use Rattle.core_code.specs.Kinds.{joined_kind, joined_stack, fits_class, fits}
-use Rattle.core_code.specs.KindCheck.{Kinds, and_then, where_true, is_base_of, kinds_after, same_stack}
-use Rattle.core_code.proofs.BoolParts.{first_part, last_part}
+use Rattle.core_code.specs.KindCheck.{and_then, where_true, is_base_of, kinds_after, same_stack}
+use Rattle.core_code.proofs.KindLemmas.{equal_stacks, went_on}
 use Rattle.core_ways_laws.specs.Places.{is_strong}
 
 -- ---- kinds
@@ -86,61 +85,7 @@ strong_fitting (types.Declared c) k h strong = strong_class c k h
 strong_fitting types.Plain k h strong = cc
 strong_fitting types.Other k h strong = cc
 
--- ---- joined stacks
-
--- the parts of two joined stacks that are not empty
-pub record AreJoined (a b : StackKind) (left right joined : List StackKind) : Type 0 where
-  pub rest : List StackKind
-  pub below : joined_stack left right ≡ Some rest
-  pub is : joined_kind a b ∷ rest ≡ joined
-
-pub joined_more : (a b : StackKind) (left right joined : List StackKind) →
-    joined_stack (a ∷ left) (b ∷ right) ≡ Some joined → AreJoined a b left right joined
-joined_more a b left right joined h =
-    elim (joined_stack left right) as (λ o. joined_stack left right ≡ o → elim o as (λ _. Option (List StackKind)) [
-      | None ↦ None
-      | Some rest ↦ Some (joined_kind a b ∷ rest)
-    ] ≡ Some joined → AreJoined a b left right joined) [
-      | None ↦ λ is e. cc
-      | Some rest ↦ λ is e. record { rest = rest; below = is; is = cc }
-    ] refl h
-
-pub same_heights : (left right joined : List StackKind) → joined_stack left right ≡ Some joined →
-    (length left ≡ length joined) × (length right ≡ length joined)
-same_heights [] [] joined h = let is : [] ≡ joined = cc in (ap length is, ap length is)
-same_heights [] (b ∷ right) joined h = cc
-same_heights (a ∷ left) [] joined h = cc
-same_heights (a ∷ left) (b ∷ right) joined h =
-    let more : AreJoined a b left right joined = joined_more a b left right joined h in
-    let rest = same_heights left right more.rest more.below in
-    (ap suc rest.0 ∙ ap length more.is, ap suc rest.1 ∙ ap length more.is)
-
-equal_kinds : (k l : StackKind) → same_kind k l ≡ true → k ≡ l
-equal_kinds Plain Plain h = refl
-equal_kinds (Declared c) (Declared d) h =
-    ap (λ (i : ℕ). let class : ClassId = record { 0 = i } in Declared class) (eqb-true c.0 d.0 h)
-equal_kinds (Class c) (Class d) h =
-    ap (λ (i : ℕ). let class : ClassId = record { 0 = i } in Class class) (eqb-true c.0 d.0 h)
-equal_kinds Null Null h = refl
-equal_kinds Opaque Opaque h = refl
-equal_kinds Other Other h = refl
-equal_kinds _ _ h = cc
-
-equal_stacks : (ks ls : List StackKind) → same_stack ks ls ≡ true → ks ≡ ls
-equal_stacks [] [] h = refl
-equal_stacks [] (l ∷ ls) h = cc
-equal_stacks (k ∷ ks) [] h = cc
-equal_stacks (k ∷ ks) (l ∷ ls) h =
-    let head : k ≡ l = equal_kinds k l (first_part (same_kind k l) (same_stack ks ls) h) in
-    let rest : ks ≡ ls = equal_stacks ks ls (last_part (same_kind k l) (same_stack ks ls) h) in
-    (λ i. head i ∷ rest i)
-
 -- ---- parts of kinded code
-
-pub went_on : (o : Kinds) (check : List StackKind → Kinds) (ends : List StackKind) → and_then o check ≡ Some ends →
-    (between : List StackKind) × (o ≡ Some between) × (check between ≡ Some ends)
-went_on None check ends h = cc
-went_on (Some between) check ends h = (between, refl, h)
 
 pub tested : (test : Bool) (ks ends : List StackKind) → where_true test ks ≡ Some ends → (test ≡ true) × (ks ≡ ends)
 tested true ks ends h = (refl, cc)

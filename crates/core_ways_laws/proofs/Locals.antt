@@ -1,6 +1,7 @@
 -- The variables of a method at its entry are what it takes, and its locals.
 use Rattle.std.proofs.Common.{◌≡◌, ℕ, suc, ◌-◌, true, List, [], ◌∷◌, ◌++◌, Option, None}
 use Rattle.std.proofs.Common.{length, map, replicate, refl, sym, subst, arith}
+use Rattle.std.proofs.lemmas.Bool.{and_parts}
 use Rattle.racer_base.specs.declared.ids.Kind.{Kind}
 use Rattle.racer_base.specs.declared.ids.Kind.TheVariants as types
 use Rattle.access_paths.specs.declared.path.Path.{Path}
@@ -11,7 +12,6 @@ use Rattle.core_code.specs.Calls.{taken_by}
 use Rattle.core_code.specs.Core.{Core, Method}
 use Rattle.core_code.specs.KindCheck.{begins_with, same_declared_kind}
 use Rattle.core_code.specs.Kinds.{StackKind, kind_of}
-use Rattle.core_code.proofs.BoolParts.{first_part, last_part}
 use Rattle.core_semantics.specs.declared.object.Value.{Value}
 use Rattle.core_semantics.specs.declared.object.Value.TheVariants.{Null}
 use Rattle.core_semantics.specs.State.{Store}
@@ -71,13 +71,13 @@ module _ (core : Core) (quiet : Quietness core) where
         let fewer : suc (length variables) - suc (length vs) ≡ length variables - length vs = omega arith in
         let less : suc (length variables) - suc (length xs) ≡ length variables - length xs = omega arith in (
           same-kind-place a b (name_of n v) x
-              (first_part (same_declared_kind a b) (begins_with taken variables) begins) places.0,
+              (and_parts (same_declared_kind a b) (begins_with taken variables) begins).0 places.0,
           subst (λ (k : ℕ). ArePlaces core quiet n (map kind_of variables) (vs ++ replicate k Owned)
               (xs ++ replicate (suc (length variables) - suc (length xs)) Null)) (sym fewer)
               (subst (λ (k : ℕ). ArePlaces core quiet n (map kind_of variables)
               (vs ++ replicate (length variables - length vs) Owned) (xs ++ replicate k Null)) (sym less)
               (taken-and-locals taken variables vs xs
-              (last_part (same_declared_kind a b) (begins_with taken variables) begins) places.1)),
+              (and_parts (same_declared_kind a b) (begins_with taken variables) begins).1 places.1)),
         )
 
     pub entered-with : (method : Method) (values : List Value) (store : Store) →

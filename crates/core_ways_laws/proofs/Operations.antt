@@ -1,8 +1,9 @@
 -- Each operation but a call keeps the invariant.
-use Rattle.std.proofs.Common.{◌≡◌, ℕ, suc, Bool, true, false, ◌&&◌, List, [], ◌∷◌, Option, None, Some}
+use Rattle.std.proofs.Common.{◌≡◌, ℕ, suc, Bool, true, ◌&&◌, List, [], ◌∷◌, Option, None, Some}
 use Rattle.std.proofs.Common.{IsTrue, drop, length, map, nat_le, slice_index_or, slice_set, refl, sym, ap, subst}
 use Rattle.std.proofs.Common.{◌∙◌}
 use Rattle.std.specs.Prelude.{Result, Ok, Err}
+use Rattle.std.proofs.lemmas.Bool.{and_parts}
 use Rattle.racer_base.specs.declared.ids.ClassId.{ClassId}
 use Rattle.racer_base.specs.declared.ids.FieldId.{FieldId}
 use Rattle.racer_base.specs.declared.ids.SiteId.{SiteId}
@@ -25,10 +26,10 @@ use Rattle.core_code.specs.declared.parts.FieldCore.{FieldCore}
 use Rattle.core_code.specs.Calls.{called_by}
 use Rattle.core_code.specs.Core.{Core, Method}
 use Rattle.core_code.specs.KindCheck.{after_get, after_popping, after_push, after_put, after_return, after_set}
-use Rattle.core_code.specs.KindCheck.{field_at, is_base_of, kinds_after_op, variable_at, where_true}
+use Rattle.core_code.specs.KindCheck.{field_at, is_base_of, kinds_after_op, variable_at}
 use Rattle.core_code.specs.Kinds.{StackKind, Plain, Declared, Class as ClassOf, Null as NullKind, Opaque as OpaqueKind}
 use Rattle.core_code.specs.Kinds.{fits, kind_of}
-use Rattle.core_code.proofs.BoolParts.{first_part, last_part}
+use Rattle.core_code.proofs.KindLemmas.{where-is, IsWhere}
 use Rattle.core_semantics.specs.declared.answer.Why.{Why}
 use Rattle.core_semantics.specs.declared.object.Object.{Object}
 use Rattle.core_semantics.specs.declared.object.Object.TheVariants.{Start, Fresh}
@@ -51,14 +52,6 @@ use Rattle.core_ways_laws.proofs.Reading.{read-place, same-start}
 use Rattle.core_ways_laws.proofs.Writing.{write-store}
 
 -- ---- kinds
-
-pub record IsWhere (b : Bool) (kinds after : List StackKind) : Type 0 where
-  pub holds : b ≡ true
-  pub same : kinds ≡ after
-
-pub where-is : (b : Bool) (kinds after : List StackKind) → where_true b kinds ≡ Some after → IsWhere b kinds after
-where-is true kinds after e = record { holds = refl; same = cc }
-where-is false kinds after e = absurd cc
 
 -- the object that a value is
 pub base-object : (v : Value) (o : Object) → base_of v ≡ Ok o → v ≡ Ref o
@@ -234,8 +227,8 @@ module _ (core : Core) (quiet : Quietness core) (n : Naming) (method : Method) (
       let is : IsWhere (is_base_of field kb && fits field.kind kv) (kv ∷ rest) after =
       where-is (is_base_of field kb && fits field.kind kv) (kv ∷ rest) after kinded in
       let is_base : is_base_of field kb ≡ true =
-      first_part (is_base_of field kb) (fits field.kind kv) is.holds in
-      let fit : fits field.kind kv ≡ true = last_part (is_base_of field kb) (fits field.kind kv) is.holds in
+      (and_parts (is_base_of field kb) (fits field.kind kv) is.holds).0 in
+      let fit : fits field.kind kv ≡ true = (and_parts (is_base_of field kb) (fits field.kind kv) is.holds).1 in
       let value : IsPlace core quiet kv (name_of n (top s)) (top_value at) =
       place_slot core quiet n 0 (kv ∷ kb ∷ rest) s.stack at.stack kv refl given.0.stack in
       let base : IsPlace core quiet kb (name_of n (slot_of s 1)) (slice_index_or at.stack 1 Null) =

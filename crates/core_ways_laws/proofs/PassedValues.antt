@@ -1,24 +1,24 @@
 -- Code that is passed, run alone, leads where it goes.
 use Rattle.std.proofs.Common.{◌≡◌, ℕ, zero, suc, ◌+◌, ◌-◌, Bool, true, false, cond, ◌&&◌, ◌||◌, not, List, [], ◌∷◌}
-use Rattle.std.proofs.Common.{◌++◌, Option, None, Some, refl, sym, ap, ◌∙◌, subst, drop, replicate, slice_index_or}
+use Rattle.std.proofs.Common.{◌++◌, Option, None, Some, refl, sym, ap, subst, drop, slice_index_or}
 use Rattle.std.proofs.Common.{arith}
-use Rattle.std.proofs.lemmas.Bool.{lt-ltb}
+use Rattle.std.proofs.lemmas.Bool.{lt-ltb, and_parts}
 use Rattle.std.proofs.lemmas.List.{append-nil}
 use Rattle.std.specs.List.{list_all}
 use Rattle.std.specs.Prelude.{Result, Ok, Err}
 use Rattle.std.proofs.lemmas.Bool.{or_right}
+use Rattle.std.proofs.Math.Bool.{or-false}
 use Rattle.racer_base.specs.declared.ids.MethodId.{MethodId}
 use Rattle.racer_base.specs.declared.ids.Place.{Place}
 use Rattle.racer_base.specs.declared.ids.SiteId.{SiteId}
 use Rattle.core_code.specs.declared.code.Op.{Op as CoreOp}
 use Rattle.core_code.specs.declared.code.Op.TheVariants.{Get, Put}
-use Rattle.core_code.specs.declared.code.Op.TheVariants.{Prim, Call, Unread as UnreadCall, Ret, Throw}
+use Rattle.core_code.specs.declared.code.Op.TheVariants.{Call, Unread as UnreadCall, Ret, Throw}
 use Rattle.core_code.specs.Calls.{called_by, method_at}
 use Rattle.core_code.specs.Core.{Core, Method}
 use Rattle.core_code.specs.Tree.{Tree, can_end, stops}
 use Rattle.core_code.specs.Tree.{steps_of}
 use Rattle.core_code.specs.Tree as tree
-use Rattle.core_code.proofs.BoolParts.{first_part, last_part}
 use Rattle.core_semantics.specs.declared.answer.Holder.{Holder}
 use Rattle.core_semantics.specs.declared.answer.Turn.{Turn}
 use Rattle.core_semantics.specs.declared.answer.Turn.TheVariants.{Left, Right}
@@ -36,8 +36,7 @@ use Rattle.core_semantics.specs.Steps.{with_inner, with_todo, within}
 use Rattle.core_ways.specs.declared.part.WayPart.{WayPart}
 use Rattle.core_ways.specs.declared.part.WayPart.TheVariants.{Step, Branched}
 use Rattle.core_ways.specs.Alone.{Alone, Came, ComesTo, LeadsTo, alone, onward}
-use Rattle.core_ways.specs.Ways.{Trip, joined, passed, straight, trip_along}
-use Rattle.access_domain.proofs.Tests.{or_false}
+use Rattle.core_ways.specs.Ways.{Trip, passed, trip_along}
 use Rattle.core_ways.proofs.Alone.{Leads, along-both, drop-more, drop-none, leads-on, one-more, past-turn, spot}
 use Rattle.core_ways.proofs.Alone.{steps-of, weaker}
 use Rattle.core_ways.proofs.Callees.{do_pass, pass-both}
@@ -284,7 +283,7 @@ then-ends a b (Some (Back store value)) f first rest = ap (λ (x : Bool). x && b
 
 either-ends : (a b : Bool) (l r : Option End) → EndsAs a l → EndsAs b r → EndsAs (a || b) (cond b r l)
 either-ends a true l r left right = subst (λ (x : Bool). EndsAs x r) (sym (or_right a true refl)) right
-either-ends a false l r left right = subst (λ (x : Bool). EndsAs x l) (sym (or_false a)) left
+either-ends a false l r left right = subst (λ (x : Bool). EndsAs x l) (sym (or-false a)) left
 
 pub go-ends : (core : Core) (calls : Calls) (code : Tree) (at : Point) →
     EndsAs (can_end code) (evaluate core calls code at)
@@ -335,7 +334,7 @@ module _ (core : Core) (trips : MethodId → Trip) (calls : Calls) (test : Metho
       (IsReturned at callers (drop locked locks))) (sym (steps-of trips (suc locked)))
       (past-ret core place locked at todo callers locks)
   goes-op site place (Call m n) all locked at todo callers locks =
-      let goes : MethodGoes core trips calls m = holds m (first_part (test m) true all) in
+      let goes : MethodGoes core trips calls m = holds m (and_parts (test m) true all).0 in
       let turns : (trips m).turns ≡ ([] ++ (trips m).turns) ++ [] = sym (append-nil (trips m).turns) in
       let steps : suc (trips m).steps ≡ (1 + (trips m).steps) + 0 = omega arith in
       let a : After = at_point at (Op place (Call m n) ∷ todo) locked callers locks in
@@ -419,16 +418,17 @@ module _ (core : Core) (trips : MethodId → Trip) (calls : Calls) (test : Metho
   goes-past tree.Skip all = λ locked at todo callers locks rest. (refl, refl)
   goes-past (tree.Seq first rest) all =
       let both = pass-both test (steps_of first) (steps_of rest) all in
-      let early = goes-past first (first_part (do_pass test (steps_of first)) (do_pass test (steps_of rest)) both) in
-      let late = goes-past rest (last_part (do_pass test (steps_of first)) (do_pass test (steps_of rest)) both) in
+      let early = goes-past first (and_parts (do_pass test (steps_of first)) (do_pass test (steps_of rest)) both).0 in
+      let late = goes-past rest (and_parts (do_pass test (steps_of first)) (do_pass test (steps_of rest)) both).1 in
       λ locked at todo callers locks.
       goes-then first rest locked (at_point at (before first (before rest todo)) locked callers locks) todo callers
       locks (can_end first) (evaluate core calls first at) (go-ends core calls first at) late
       (early locked at (before rest todo) callers locks)
   goes-past (tree.Choice left right) all =
       let both = pass-both test (steps_of left) (steps_of right) all in
-      let on_left = goes-past left (first_part (do_pass test (steps_of left)) (do_pass test (steps_of right)) both) in
-      let on_right = goes-past right (last_part (do_pass test (steps_of left)) (do_pass test (steps_of right)) both) in
+      let on_left = goes-past left (and_parts (do_pass test (steps_of left)) (do_pass test (steps_of right)) both).0 in
+      let on_right = goes-past right (and_parts (do_pass test (steps_of left)) (do_pass test (steps_of right)) both).1
+      in
       λ locked at todo callers locks.
       goes-either left right locked at todo callers locks (can_end right) on_left on_right
   goes-past (tree.Loop body) all = λ locked at todo callers locks rest. (refl, refl)

@@ -12,7 +12,8 @@ use Rattle.core_code.specs.Core.{Core, Method}
 use Rattle.core_code.specs.KindCheck.{kinds_after, kinds_after_op}
 use Rattle.core_code.specs.Kinds.{StackKind, kind_of}
 use Rattle.core_code.specs.Tree.{Tree, Op, Skip, Seq, Choice, Loop, Sync, Operation, can_end, can_return, steps_of}
-use Rattle.core_code.proofs.Membership.{In}
+use Rattle.core_code.proofs.Membership.{In, in_left, in_right}
+use Rattle.core_code.proofs.KindLemmas.{same_heights}
 use Rattle.access_domain.specs.Findings.{Table}
 use Rattle.access_domain.specs.Flow.{after as in_turn, chosen, flow, lost_next, lost_result, repeated, rounds}
 use Rattle.access_domain.specs.FlowContext.{FlowContext, given_of}
@@ -32,8 +33,7 @@ use Rattle.core_ways_laws.proofs.KeptParts.{chosen-first, chosen-second, in-turn
 use Rattle.core_ways_laws.proofs.FlowLengths.{AreRight, IsShaped, flow_shape}
 use Rattle.core_ways_laws.proofs.Hushing.{hush-first, hush-second}
 use Rattle.core_ways_laws.proofs.Joining.{frame-weaker}
-use Rattle.core_ways_laws.proofs.KindFacts.{AreBeside, AreInTurn, either_kinds, loop-kinds, same_heights, then_kinds}
-use Rattle.access_domain.proofs.Members.{in_first, in_last}
+use Rattle.core_ways_laws.proofs.KindFacts.{AreBeside, AreInTurn, either_kinds, loop-kinds, then_kinds}
 use Rattle.core_ways_laws.proofs.Operations.{op-kept}
 use Rattle.core_ways_laws.proofs.PlaceLists.{places-lengths, places_drop}
 use Rattle.core_ways_laws.proofs.Rounds.{entry_weaker}
@@ -181,19 +181,19 @@ module _ (core : Core) (quiet : Quietness core) (n : Naming) (method : Method) (
       let parts : AreInTurn core method first rest kinds ends = then_kinds core method first rest kinds ends fits in
       in-turn-kept core quiet n method parts.between ends (effects first locked s) (effects rest locked)
       (evaluate core calls first at) (evaluate core calls rest) hush small
-      (kept first (λ o there. right o (in_first (steps_of first) (steps_of rest) o there))
-      (λ o there. safe o (in_first (steps_of first) (steps_of rest) o there)) locked kinds parts.between s at
+      (kept first (λ o there. right o (in_left (steps_of first) (steps_of rest) o there))
+      (λ o there. safe o (in_left (steps_of first) (steps_of rest) o there)) locked kinds parts.between s at
       parts.early
       (first-hushed first rest locked s hush) (first-small first rest locked s small) frame stored)
       (λ t to few still there held.
-      kept rest (λ o there. right o (in_last (steps_of first) (steps_of rest) o there))
-      (λ o in_rest. safe o (in_last (steps_of first) (steps_of rest) o in_rest)) locked parts.between ends t to
+      kept rest (λ o there. right o (in_right (steps_of first) (steps_of rest) o there))
+      (λ o in_rest. safe o (in_right (steps_of first) (steps_of rest) o in_rest)) locked parts.between ends t to
       parts.late
       still few there held)
   kept (Choice left right) all safe locked kinds ends s at fits hush small frame stored =
       let parts : AreBeside core method left right kinds ends = either_kinds core method left right kinds ends fits in
-      let on_left : AreRight core left = λ o there. all o (in_first (steps_of left) (steps_of right) o there) in
-      let on_right : AreRight core right = λ o there. all o (in_last (steps_of left) (steps_of right) o there) in
+      let on_left : AreRight core left = λ o there. all o (in_left (steps_of left) (steps_of right) o there) in
+      let on_right : AreRight core right = λ o there. all o (in_right (steps_of left) (steps_of right) o there) in
       let one : Effects = effects left locked s in
       let two : Effects = effects right locked s in
       let each : AreApart one two = apart one two hush small in
@@ -204,13 +204,13 @@ module _ (core : Core) (quiet : Quietness core) (n : Naming) (method : Method) (
             chosen-second core quiet n method parts.after_left parts.after_right ends one two
             (evaluate core calls right at) parts.joins alike
             each.nexts each.results
-            (kept right on_right (λ o there. safe o (in_last (steps_of left) (steps_of right) o there)) locked kinds
+            (kept right on_right (λ o there. safe o (in_right (steps_of left) (steps_of right) o there)) locked kinds
             parts.after_right s at parts.on_right each.right_hush each.right_small frame stored)
         | false ↦
             chosen-first core quiet n method parts.after_left parts.after_right ends one two
             (evaluate core calls left at) parts.joins alike
             each.nexts each.results
-            (kept left on_left (λ o there. safe o (in_first (steps_of left) (steps_of right) o there)) locked kinds
+            (kept left on_left (λ o there. safe o (in_left (steps_of left) (steps_of right) o there)) locked kinds
             parts.after_left s at parts.on_left each.left_hush each.left_small frame stored)
       ]
   kept (Loop body) right safe locked kinds ends s at fits hush small frame stored =
@@ -263,12 +263,12 @@ module _ (core : Core) (quiet : Quietness core) (n : Naming) (method : Method) (
   back-kept Skip right safe locked kinds ends s at fits hush small frame stored = tt
   back-kept (Seq first rest) right safe locked kinds ends s at fits hush small frame stored =
       let parts : AreInTurn core method first rest kinds ends = then_kinds core method first rest kinds ends fits in
-      let right_first : AreRight core first = λ o there. right o (in_first (steps_of first) (steps_of rest) o there) in
-      let right_rest : AreRight core rest = λ o there. right o (in_last (steps_of first) (steps_of rest) o there) in
+      let right_first : AreRight core first = λ o there. right o (in_left (steps_of first) (steps_of rest) o there) in
+      let right_rest : AreRight core rest = λ o there. right o (in_right (steps_of first) (steps_of rest) o there) in
       let safe_first : AreSafe core quiet table calls first = λ o there.
-      safe o (in_first (steps_of first) (steps_of rest) o there) in
+      safe o (in_left (steps_of first) (steps_of rest) o there) in
       let safe_rest : AreSafe core quiet table calls rest = λ o there.
-      safe o (in_last (steps_of first) (steps_of rest) o there) in
+      safe o (in_right (steps_of first) (steps_of rest) o there) in
       let hush_first = first-hushed first rest locked s hush in
       let small_first = first-small first rest locked s small in
       let one : Effects = effects first locked s in
@@ -294,8 +294,8 @@ module _ (core : Core) (quiet : Quietness core) (n : Naming) (method : Method) (
       ]
   back-kept (Choice left right) all safe locked kinds ends s at fits hush small frame stored =
       let parts : AreBeside core method left right kinds ends = either_kinds core method left right kinds ends fits in
-      let on_left : AreRight core left = λ o there. all o (in_first (steps_of left) (steps_of right) o there) in
-      let on_right : AreRight core right = λ o there. all o (in_last (steps_of left) (steps_of right) o there) in
+      let on_left : AreRight core left = λ o there. all o (in_left (steps_of left) (steps_of right) o there) in
+      let on_right : AreRight core right = λ o there. all o (in_right (steps_of left) (steps_of right) o there) in
       let one : Effects = effects left locked s in
       let two : Effects = effects right locked s in
       let each : AreApart one two = apart one two hush small in
@@ -306,13 +306,13 @@ module _ (core : Core) (quiet : Quietness core) (n : Naming) (method : Method) (
             chosen-first core quiet n method parts.after_left parts.after_right ends one two
             (come_back core calls left at) parts.joins alike
             each.nexts each.results
-            (back-kept left on_left (λ o there. safe o (in_first (steps_of left) (steps_of right) o there)) locked kinds
+            (back-kept left on_left (λ o there. safe o (in_left (steps_of left) (steps_of right) o there)) locked kinds
             parts.after_left s at parts.on_left each.left_hush each.left_small frame stored)
         | false ↦
             chosen-second core quiet n method parts.after_left parts.after_right ends one two
             (come_back core calls right at) parts.joins alike
             each.nexts each.results
-            (back-kept right on_right (λ o there. safe o (in_last (steps_of left) (steps_of right) o there)) locked
+            (back-kept right on_right (λ o there. safe o (in_right (steps_of left) (steps_of right) o there)) locked
             kinds parts.after_right s at parts.on_right each.right_hush each.right_small frame stored)
       ]
   back-kept (Loop body) right safe locked kinds ends s at fits hush small frame stored =

@@ -11,12 +11,13 @@ use Rattle.owner_domain.specs.declared.value.Value.{Value as Called}
 use Rattle.owner_domain.specs.declared.value.Value.TheVariants.{Unnamed}
 use Rattle.core_code.specs.Core.{Core, Method}
 use Rattle.core_code.specs.Kinds.{StackKind, kind_of, joined_kind, joined_stack}
+use Rattle.core_code.proofs.KindLemmas.{joined_more, AreJoined}
 use Rattle.core_semantics.specs.declared.object.Value.{Value}
 use Rattle.core_semantics.specs.declared.object.Value.TheVariants.{Null}
 use Rattle.core_ways_laws.specs.Names.{Naming, name_of}
 use Rattle.core_ways_laws.specs.Quiet.{Quietness}
 use Rattle.core_ways_laws.specs.Places.{IsPlace, ArePlaces, is_strong}
-use Rattle.core_ways_laws.proofs.KindFacts.{AreJoined, joined_more, strong_left, strong_right}
+use Rattle.core_ways_laws.proofs.KindFacts.{strong_left, strong_right}
 
 -- a place of a kind that is strong only where this one is
 pub of_kind : (core : Core) (quiet : Quietness core) (k l : StackKind) (name : Option Path) (x : Value) →

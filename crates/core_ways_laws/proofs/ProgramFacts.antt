@@ -1,12 +1,12 @@
 -- What every program keeps of an analysed method.
-use Rattle.std.proofs.Common.{◌≡◌, ℕ, ◌<◌, Bool, true, false, cond, ◌||◌, not, List, [], Option, None, Some, is_none}
+use Rattle.std.proofs.Common.{◌≡◌, ℕ, ◌<◌, Bool, true, false, cond, ◌||◌, not, List, [], None, Some, is_none}
 use Rattle.std.proofs.Common.{is_some, length, nat_eq, nat_lt, refl, sym, ap, subst, ◌∙◌, inl}
 use borrow.Author.Tests.{eqb-true}
-use Rattle.std.proofs.lemmas.Bool.{ltb-true, not-true}
+use Rattle.std.proofs.lemmas.Bool.{ltb-true, not-true, and_parts}
 use Rattle.racer_base.specs.declared.ids.MethodId.{MethodId}
+use Rattle.racer_base.proofs.Lists.{given_some}
 use Rattle.core_code.specs.declared.code.Op.{Op as CoreOp}
 use Rattle.core_code.specs.declared.code.Op.TheVariants.{Call}
-use Rattle.core_code.specs.declared.code.Reason.{Reason}
 use Rattle.core_code.specs.declared.program.Program.{Program}
 use Rattle.core_code.specs.Tree.{Operation, can_end, steps_of}
 use Rattle.core_code.specs.Core.{Core, Method}
@@ -16,8 +16,8 @@ use Rattle.core_code.specs.Facts.{is_in_order, sites_of, counts_from}
 use Rattle.core_code.specs.Kinds.{StackKind}
 use Rattle.core_code.specs.KindCheck.{begins_with, is_kinded, kinds_after}
 use Rattle.core_code.specs.Program.{core}
-use Rattle.core_code.proofs.BoolParts.{first_part, last_part}
 use Rattle.core_code.proofs.Membership.{In, flat_map_has}
+use Rattle.core_code.proofs.KindLemmas.{where_analysed}
 use Rattle.access_domain.specs.Findings.{Known}
 use Rattle.access_domain.specs.Summaries.{known_given, known_of, known_of_callees}
 use Rattle.access_domain.proofs.KnownMethods.{known_there}
@@ -27,14 +27,6 @@ use Rattle.core_ways.proofs.Callees.{lower-calls}
 use Rattle.core_ways_laws.proofs.FlowLengths.{AreRight}
 
 -- ---- analysed methods
-
-where_analysed : (o : Option Reason) (b : Bool) → is_none o ≡ true → (is_some o || b) ≡ true → b ≡ true
-where_analysed None b none h = h
-where_analysed (Some r) b none h = cc
-
-given_some : {X : Type 0} (o : Option X) → is_some o ≡ true → (x : X) × (o ≡ Some x)
-given_some None h = cc
-given_some (Some x) h = (x, refl)
 
 -- what holds of the code of an analysed method
 pub record IsRight (core : Core) (method : Method) : Type 0 where
@@ -53,13 +45,13 @@ is_right p m method there analysed =
     let some : Bool = is_some (kinds_after (core p) method method.code []) in
     let kinded : is_kinded (core p) method ≡ true = where_analysed method.status (is_kinded (core p) method) none
     (passes_at (λ (x : Method). is_some x.status || is_kinded (core p) x) (core p).methods m.0 method p.kinded there) in
-    let kinds = given_some (kinds_after (core p) method method.code []) (last_part begins some kinded) in
+    let kinds = given_some (kinds_after (core p) method method.code []) (and_parts begins some kinded).1 in
     let calls : has_right_calls (core p) method ≡ true =
     passes_at (has_right_calls (core p)) (core p).methods m.0 method p.calls_right there in
     record {
       kinds = kinds.0;
       kinded = kinds.1;
-      begins = first_part begins some kinded;
+      begins = (and_parts begins some kinded).0;
       calls = λ o stands.
           passes_in (λ (x : Operation). is_right_call (core p) x.op) (steps_of method.code) o calls stands;
       sites = passes_at is_in_order (core p).methods m.0 method p.sites_in_order there;
@@ -91,7 +83,7 @@ pub record IsRightCall (core : Core) (m : MethodId) (count : ℕ) : Type 0 where
 pub right_call : (core : Core) (m : MethodId) (count : ℕ) → is_right_call core (Call m count) ≡ true →
     IsRightCall core m count
 right_call core m count right =
-    let counts : takes core m count ≡ true = last_part (is_analysed core m) (takes core m count) right in
+    let counts : takes core m count ≡ true = (and_parts (is_analysed core m) (takes core m count) right).1 in
     elim (method_at core m) as (λ o. method_at core m ≡ o →
     elim o as (λ _. Bool) [ None ↦ false | Some x ↦ nat_eq count (length (taken_by x)) ] ≡ true →
     IsRightCall core m count) [
@@ -100,7 +92,7 @@ right_call core m count right =
           record {
             callee = callee;
             there = is;
-            analysed = first_part (is_analysed core m) (takes core m count) right;
+            analysed = (and_parts (is_analysed core m) (takes core m count) right).0;
             takes = eqb-true count (length (taken_by callee)) e;
           }
     ] refl counts

@@ -1,6 +1,6 @@
 -- Methods by rank: each way to a record of a method leads to the record's access.
-use Rattle.std.proofs.Common.{◌≡◌, ℕ, zero, suc, ◌<◌, Bool, true, false, List, [], ◌∷◌, Option, None, Some}
-use Rattle.std.proofs.Common.{is_none, option_map, slice_get, refl, sym, ap, subst, ◌∙◌, arith, inl, inr}
+use Rattle.std.proofs.Common.{◌≡◌, ℕ, zero, suc, ◌<◌, true, false, List, [], Option, None, Some}
+use Rattle.std.proofs.Common.{slice_get, refl, sym, ap, subst, arith}
 use Rattle.racer_base.specs.declared.ids.MethodId.{MethodId}
 use Rattle.access_paths.specs.declared.path.Path.{Path}
 use Rattle.core_code.specs.declared.code.Op.{Op as CoreOp}
@@ -13,16 +13,15 @@ use Rattle.core_code.specs.Program.{core}
 use Rattle.core_code.proofs.ByRank.{known_below-lower}
 use Rattle.core_code.proofs.Membership.{In}
 use Rattle.access_domain.specs.declared.access.Access.{Access}
-use Rattle.access_domain.specs.Findings.{Findings, Known, Large, Whole, Table, outcome_from}
+use Rattle.access_domain.specs.Findings.{Findings, Known, Whole, Table}
 use Rattle.access_domain.specs.Operations.{Effects}
 use Rattle.access_domain.specs.Records.{same_key}
 use Rattle.access_domain.specs.Summaries.{effects_given, known_of, known_of_callees, start_of}
-use Rattle.access_domain.specs.OutcomeRecords.{record_at, records_held}
 use Rattle.access_domain.proofs.KnownMethods.{IsWhole, callee_known, is_whole, record_there}
 use Rattle.access_domain.proofs.Members.{firsts_give, in_at}
 use Rattle.core_semantics.specs.declared.object.Value.{Value}
 use Rattle.core_semantics.specs.State.{Store}
-use Rattle.core_ways_laws.specs.Arrivals.{Arrival, Arrivals, to, to_record, arrival_given, arrival_of}
+use Rattle.core_ways_laws.specs.Arrivals.{Arrival, Arrivals, arrival_given, arrival_of}
 use Rattle.core_ways_laws.specs.Values.{call_of, entry_point}
 use Rattle.core_ways_laws.specs.Kept.{AreMet, IsEntered, IsMet}
 use Rattle.core_ways_laws.specs.Names.{Naming}

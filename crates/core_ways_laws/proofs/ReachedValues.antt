@@ -1,11 +1,10 @@
 -- Code that is gone into towards a site, run alone, leads where it goes.
 use Rattle.std.proofs.Common.{◌≡◌, ℕ, suc, ◌+◌, Bool, true, false, cond, ◌&&◌, List, [], ◌∷◌, ◌++◌}
-use Rattle.std.proofs.Common.{Option, None, Some, is_some, length, nat_eq, option_map, refl, sym, ap, subst, ◌∙◌}
+use Rattle.std.proofs.Common.{Option, None, Some, length, nat_eq, option_map, refl, sym, ap, subst, ◌∙◌}
 use Rattle.std.proofs.Common.{append_assoc, arith}
 use Rattle.std.proofs.lemmas.List.{length-append}
-use Rattle.std.proofs.lemmas.List.Folds.{find-append}
-use Rattle.std.specs.Option.{option_or}
 use Rattle.std.specs.Prelude.{Result, Ok, Err}
+use Rattle.std.proofs.lemmas.Bool.{and_parts}
 use Rattle.racer_base.specs.declared.ids.MethodId.{MethodId}
 use Rattle.racer_base.specs.declared.ids.Place.{Place}
 use Rattle.racer_base.specs.declared.ids.SiteId.{SiteId}
@@ -14,7 +13,6 @@ use Rattle.core_code.specs.Core.{Core}
 use Rattle.core_code.specs.Tree.{Tree, Operation}
 use Rattle.core_code.specs.Tree.{can_end, op_at, steps_of}
 use Rattle.core_code.specs.Tree as tree
-use Rattle.core_code.proofs.BoolParts.{first_part, last_part}
 use Rattle.core_semantics.specs.declared.answer.Holder.{Holder}
 use Rattle.core_semantics.specs.declared.answer.Turn.{Turn}
 use Rattle.core_semantics.specs.declared.answer.Turn.TheVariants.{Left, Right}
@@ -111,7 +109,7 @@ module _ (core : Core) (trips : MethodId → Trip) (calls : Calls) (arrivals : A
       on_first refl locked at (before rest todo) callers locks
   to-then first rest false locked at todo callers locks on_first on_rest past ends =
       let a : After = at_point at (before first (before rest todo)) locked callers locks in
-      let goes : can_end first ≡ true = first_part (can_end first) (do_end_before site rest) ends in
+      let goes : can_end first ≡ true = (and_parts (can_end first) (do_end_before site rest) ends).0 in
       subst (λ (ps : List WayPart). Leads core (trip_along trips ps) a
       (IsArrival (behind_first (evaluate core calls first at) (to core calls arrivals site below rest)) locks))
       (sym (append_assoc (passed locked first) (reached locked site rest) more))
@@ -173,20 +171,20 @@ module _ (core : Core) (trips : MethodId → Trip) (calls : Calls) (arrivals : A
   goes-to tree.Skip all is ends = absurd cc
   goes-to (tree.Seq first rest) all is ends =
       let both = pass-both test (steps_of first) (steps_of rest) all in
-      let early = first_part (do_pass test (steps_of first)) (do_pass test (steps_of rest)) both in
-      let late = last_part (do_pass test (steps_of first)) (do_pass test (steps_of rest)) both in
+      let early = (and_parts (do_pass test (steps_of first)) (do_pass test (steps_of rest)) both).0 in
+      let late = (and_parts (do_pass test (steps_of first)) (do_pass test (steps_of rest)) both).1 in
       let by : Bool → Bool = λ b. cond b (do_end_before site first) (can_end first && do_end_before site rest) in
       λ locked at todo callers locks.
       to-then core trips calls arrivals ways site below o.op first rest
       (has_site first site) locked at todo callers locks
       (λ has. goes-to first early (op-first first rest site o has is) (ap by (sym has) ∙ ends))
       (λ has. goes-to rest late (op-second first rest site o has is)
-      (last_part (can_end first) (do_end_before site rest) (ap by (sym has) ∙ ends)))
+      (and_parts (can_end first) (do_end_before site rest) (ap by (sym has) ∙ ends)).1)
       (goes-past core trips calls test holds first early) ends
   goes-to (tree.Choice left right) all is ends =
       let both = pass-both test (steps_of left) (steps_of right) all in
-      let early = first_part (do_pass test (steps_of left)) (do_pass test (steps_of right)) both in
-      let late = last_part (do_pass test (steps_of left)) (do_pass test (steps_of right)) both in
+      let early = (and_parts (do_pass test (steps_of left)) (do_pass test (steps_of right)) both).0 in
+      let late = (and_parts (do_pass test (steps_of left)) (do_pass test (steps_of right)) both).1 in
       let by : Bool → Bool = λ b. cond b (do_end_before site left) (do_end_before site right) in
       λ locked at todo callers locks.
       to-either core trips calls arrivals ways site below o.op left right

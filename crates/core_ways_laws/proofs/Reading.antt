@@ -27,11 +27,12 @@ use Rattle.core_semantics.specs.declared.object.Value.TheVariants.{Plain as Plai
 use Rattle.core_semantics.specs.Objects.{lengthened, root_path}
 use Rattle.core_semantics.specs.State.{Store}
 use Rattle.core_semantics.specs.Steps.{kind_of as field_kind, read, unstored}
+use Rattle.core_semantics.proofs.FieldKinds.{kind-there}
 use Rattle.core_ways_laws.specs.Names.{Naming, longer_name, name_of}
 use Rattle.core_ways_laws.specs.Places.{IsPlace, IsStore, is_strong, start_object}
 use Rattle.core_ways_laws.specs.Quiet.{Quietness, are_declared, is_declared, start_path, start_root}
 use Rattle.access_domain.specs.Longer.{extended-room, longer}
-use Rattle.core_ways_laws.proofs.FieldNames.{declared-kind, declared-longer, kind-there}
+use Rattle.core_ways_laws.proofs.FieldNames.{declared-kind, declared-longer}
 use Rattle.core_ways_laws.proofs.FieldNames.{last-declared, longer-some, plain-there}
 use Rattle.core_ways_laws.proofs.Naming.{name-field}
 

@@ -1,19 +1,18 @@
 -- Going towards a record, by rank, run alone: the thread comes to where the record's way leads.
 use Rattle.std.proofs.Common.{◌≡◌, ℕ, zero, suc, ◌+◌, ◌<◌, Bool, true, false, cond, ◌||◌, List, [], ◌∷◌, ◌++◌}
-use Rattle.std.proofs.Common.{Option, None, Some, is_none, nat_lt, option_map, slice_get, slice_index_or, drop, inl}
-use Rattle.std.proofs.Common.{inr}
+use Rattle.std.proofs.Common.{Option, None, Some, nat_lt, option_map, slice_index_or, drop}
 use Rattle.std.proofs.Common.{⊎_elim, refl, sym, ap, subst, ◌∙◌, arith}
-use Rattle.std.proofs.lemmas.Bool.{lt-ltb, ltb-true, or_right}
+use Rattle.std.proofs.lemmas.Bool.{lt-ltb, ltb-true, or_right, and_parts}
 use Rattle.std.specs.List.{list_all}
-use Rattle.std.specs.Option.{option_and_then}
 use Rattle.std.specs.Prelude.{Result, Ok, Err}
+use Rattle.std.proofs.Math.Bool.{or-false}
 use Rattle.racer_base.specs.declared.ids.FieldId.{FieldId}
 use Rattle.racer_base.specs.declared.ids.MethodId.{MethodId}
 use Rattle.racer_base.specs.declared.ids.SiteId.{SiteId}
 use Rattle.racer_base.specs.declared.ids.Touch.{Touch}
 use Rattle.access_paths.specs.Paths.{last_of}
 use Rattle.core_code.specs.declared.code.Op.{Op as CoreOp}
-use Rattle.core_code.specs.declared.code.Op.TheVariants.{Prim, Call}
+use Rattle.core_code.specs.declared.code.Op.TheVariants.{Call}
 use Rattle.core_code.specs.Calls.{called_by, is_analysed, known_below, method_at, rank_of}
 use Rattle.core_code.specs.CallFacts.{has_ranks}
 use Rattle.core_code.specs.Core.{Core, Method}
@@ -21,18 +20,16 @@ use Rattle.core_code.specs.Facts.{are_sites_in_order, is_in_order}
 use Rattle.core_code.specs.Tree.{Tree, Operation, op_at}
 use Rattle.core_code.specs.Tree.{steps_of}
 use Rattle.core_code.specs.Tree as tree
-use Rattle.core_code.proofs.BoolParts.{first_part, last_part}
 use Rattle.core_code.proofs.ByRank.{known_below-lower}
-use Rattle.core_code.proofs.Membership.{In}
 use Rattle.access_domain.specs.declared.access.Access.{Access}
-use Rattle.access_domain.specs.Findings.{Findings, Known, Large, Table, Whole, outcome_from}
+use Rattle.access_domain.specs.Findings.{Whole}
 use Rattle.access_domain.specs.FlowContext.{FlowContext, given_of}
 use Rattle.access_domain.specs.Origins.{field_of, touch_of}
-use Rattle.access_domain.specs.Summaries.{known_given, known_of, known_of_callees}
-use Rattle.access_domain.specs.OutcomeRecords.{record_at, records_held}
+use Rattle.access_domain.specs.Summaries.{known_of}
+use Rattle.access_domain.specs.OutcomeRecords.{record_at}
 use Rattle.access_domain.proofs.KnownMethods.{FoundAt, found_at, known_is_analysed, method_known, record_there}
 use Rattle.access_domain.proofs.Members.{in_at}
-use Rattle.access_domain.proofs.Tests.{or_false, passes_at}
+use Rattle.access_domain.proofs.Tests.{passes_at}
 use Rattle.core_semantics.specs.declared.answer.Holder.{Holder}
 use Rattle.core_semantics.specs.declared.answer.Turn.{Turn}
 use Rattle.core_semantics.specs.declared.answer.Why.{Why}
@@ -48,7 +45,7 @@ use Rattle.core_ways.specs.declared.part.WayPart.{WayPart}
 use Rattle.core_ways.specs.declared.part.WayPart.TheVariants.{Step}
 use Rattle.core_ways.specs.Alone.{Alone, ComesTo, alone, do_end_before, locks_round, onward}
 use Rattle.core_ways.specs.Ways.{code_at, entered, has_site, reached}
-use Rattle.core_ways.specs.Ways.{towards_record, trip_along, trip_of, way_given, way_of, way_parts}
+use Rattle.core_ways.specs.Ways.{trip_along, trip_of, way_given, way_of, way_parts}
 use Rattle.core_ways.proofs.Alone.{Leads, one-more}
 use Rattle.core_ways.proofs.AloneMethods.{AreRight, calls-pass, code-there, may_call}
 use Rattle.core_ways.proofs.Callees.{do_pass, lower-calls, lower-site, pass-both}
@@ -96,7 +93,7 @@ module _ (core : Core) (calls : Calls) (f g : Arrivals) (site : SiteId) (below :
     | None ↦ None
     | Some method ↦
         received method (values_passed at n)
-        (same m (first_part (test m) true all) i j (values_passed at n) at.store)
+        (same m (and_parts (test m) true all).0 i j (values_passed at n) at.store)
   ])
   op-same (Some j) op all = refl
 
@@ -107,13 +104,13 @@ module _ (core : Core) (calls : Calls) (f g : Arrivals) (site : SiteId) (below :
   to-same tree.Skip all = refl
   to-same (tree.Seq first rest) all =
       let both = pass-both test (steps_of first) (steps_of rest) all in
-      let early = to-same first (first_part (do_pass test (steps_of first)) (do_pass test (steps_of rest)) both) in
-      let late = to-same rest (last_part (do_pass test (steps_of first)) (do_pass test (steps_of rest)) both) in
+      let early = to-same first (and_parts (do_pass test (steps_of first)) (do_pass test (steps_of rest)) both).0 in
+      let late = to-same rest (and_parts (do_pass test (steps_of first)) (do_pass test (steps_of rest)) both).1 in
       (λ i at. cond (has_site first site) (early i at) (behind_first (evaluate core calls first at) (late i)))
   to-same (tree.Choice left right) all =
       let both = pass-both test (steps_of left) (steps_of right) all in
-      let l = to-same left (first_part (do_pass test (steps_of left)) (do_pass test (steps_of right)) both) in
-      let r = to-same right (last_part (do_pass test (steps_of left)) (do_pass test (steps_of right)) both) in
+      let l = to-same left (and_parts (do_pass test (steps_of left)) (do_pass test (steps_of right)) both).0 in
+      let r = to-same right (and_parts (do_pass test (steps_of left)) (do_pass test (steps_of right)) both).1 in
       (λ i at. cond (has_site left site) (l i at) (r i at))
   to-same (tree.Loop body) all = to-same body all
   to-same (tree.Sync lock body) all =
@@ -274,7 +271,7 @@ module _ (core : Core) (facts : AreInOrder core) where
       (IsArrival (to core (call_of core) (arrival_of core) r.site r.below method.code p) locks)) (sym parts)
       (goes-to core (trip_of core) (call_of core) (arrival_of core) (way_parts core) r.site r.below (may_call core m)
       (λ n may. method-goes core facts.right (suc (rank_of core n)) n (omega arith)
-      (last_part (nat_lt (rank_of core n) (rank_of core m)) (is_analysed core n) may)) o reaches.arrives method.code
+      (and_parts (nat_lt (rank_of core n) (rank_of core m)) (is_analysed core n) may).1) o reaches.arrives method.code
       (calls-pass core facts.right m method there code) is ends 0 p [] callers locks))
 
   pub record-goes : (k : ℕ) (m : MethodId) (i : ℕ) → rank_of core m < k → RecordGoes core m i
@@ -360,7 +357,7 @@ leads-through core n j count inner kind field below op some call same same_field
     (λ at. entered-so core (IsSo inner.locked kind field 0) n j (values_passed at count) at.store (method_at core n)
     (map-on (IsOfRecord inner) (IsSo inner.locked kind field 0) (arrival_of core n j (values_passed at count) at.store)
     (λ arrival (of : IsOfRecord inner arrival).
-    (of.held ∙ sym (or_false inner.locked), of.touches ∙ ap Some (sym same), of.field ∙ sym same_field))
+    (of.held ∙ sym (or-false inner.locked), of.touches ∙ ap Some (sym same), of.field ∙ sym same_field))
     (has (values_passed at count) at.store))))
 
 module _ (core : Core) (facts : AreInOrder core) where

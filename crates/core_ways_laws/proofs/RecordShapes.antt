@@ -15,7 +15,7 @@ use Rattle.owner_domain.specs.declared.value.Value.TheVariants.{Owned, Named, Un
 use Rattle.owner_domain.specs.Values.{along, joined_state, lost_state}
 use Rattle.access_domain.specs.declared.access.Access.{Access}
 use Rattle.access_domain.specs.Findings.{Findings, Known, Large, Whole}
-use Rattle.access_domain.specs.Flow.{after, both, chosen, flow, joined_next, joined_result, rounds}
+use Rattle.access_domain.specs.Flow.{flow, joined_next, joined_result, rounds}
 use Rattle.access_domain.specs.FlowContext.{FlowContext, field_at, given_of}
 use Rattle.access_domain.specs.Operations.{Effects, call_effects, op_effects, passed_from, popped, pushed, read_value}
 use Rattle.access_domain.specs.Operations.{replaced, slot_of, top}

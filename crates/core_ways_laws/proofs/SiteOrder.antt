@@ -3,11 +3,11 @@ use Rattle.std.proofs.Common.{◌≡◌, ℕ, suc, ◌+◌, ◌<◌, ◌≤◌, 
 use Rattle.std.proofs.Common.{◌∷◌, None, Some, is_some, length, map, nat_eq}
 use Rattle.std.proofs.Common.{refl, sym, ap, ◌∙◌, arith}
 use Rattle.std.specs.List.{find}
+use Rattle.std.proofs.lemmas.Bool.{and_parts}
 use borrow.Author.Tests.{eqb-true}
 use Rattle.racer_base.specs.declared.ids.SiteId.{SiteId}
 use Rattle.core_code.specs.Facts.{counts_from, sites_of}
 use Rattle.core_code.specs.Tree.{Tree, Seq, Operation, op_at, steps_of}
-use Rattle.core_code.proofs.BoolParts.{first_part, last_part}
 use Rattle.core_code.proofs.Sites.{counts_from-append, sites_of-then}
 use Rattle.core_ways.specs.Ways.{has_site}
 
@@ -19,8 +19,8 @@ site-within : (n : ℕ) (ops : List Operation) (site : SiteId) (o : Operation) �
 site-within n [] site o counts is = absurd cc
 site-within n (x ∷ ops) site o counts is =
     let here : x.site.0 ≡ n = eqb-true x.site.0 n
-    (first_part (nat_eq x.site.0 n) (counts_from (suc n) (map (λ (y : Operation). y.site) ops)) counts) in
-    let later = last_part (nat_eq x.site.0 n) (counts_from (suc n) (map (λ (y : Operation). y.site) ops)) counts in
+    (and_parts (nat_eq x.site.0 n) (counts_from (suc n) (map (λ (y : Operation). y.site) ops)) counts).0 in
+    let later = (and_parts (nat_eq x.site.0 n) (counts_from (suc n) (map (λ (y : Operation). y.site) ops)) counts).1 in
     elim (nat_eq x.site.0 site.0) as (λ b. nat_eq x.site.0 site.0 ≡ b →
     cond b (Some x) (find (λ (y : Operation). nat_eq y.site.0 site.0) ops) ≡ Some o →
     (n ≤ site.0) × (site.0 < n + suc (length ops))) [
@@ -38,14 +38,14 @@ length-sites (x ∷ ops) = ap suc (length-sites ops)
 
 pub counts-first : (n : ℕ) (a b : Tree) → counts_from n (sites_of (Seq a b)) ≡ true → counts_from n (sites_of a) ≡ true
 counts-first n a b counts =
-    first_part (counts_from n (sites_of a)) (counts_from (n + length (sites_of a)) (sites_of b))
-    (sym (ap (counts_from n) (sites_of-then a b) ∙ counts_from-append n (sites_of a) (sites_of b)) ∙ counts)
+    (and_parts (counts_from n (sites_of a)) (counts_from (n + length (sites_of a)) (sites_of b))
+    (sym (ap (counts_from n) (sites_of-then a b) ∙ counts_from-append n (sites_of a) (sites_of b)) ∙ counts)).0
 
 pub counts-second : (n : ℕ) (a b : Tree) → counts_from n (sites_of (Seq a b)) ≡ true →
     counts_from (n + length (sites_of a)) (sites_of b) ≡ true
 counts-second n a b counts =
-    last_part (counts_from n (sites_of a)) (counts_from (n + length (sites_of a)) (sites_of b))
-    (sym (ap (counts_from n) (sites_of-then a b) ∙ counts_from-append n (sites_of a) (sites_of b)) ∙ counts)
+    (and_parts (counts_from n (sites_of a)) (counts_from (n + length (sites_of a)) (sites_of b))
+    (sym (ap (counts_from n) (sites_of-then a b) ∙ counts_from-append n (sites_of a) (sites_of b)) ∙ counts)).1
 
 lacks : (n : ℕ) (a b : Tree) (site : SiteId) (o : Operation) → counts_from n (sites_of (Seq a b)) ≡ true →
     op_at b site ≡ Some o → has_site a site ≡ false

@@ -20,7 +20,7 @@ use Rattle.core_ways_laws.specs.QuietEntries.{quietness_of}
 use Rattle.core_ways_laws.proofs.Entries.{entry-named}
 use Rattle.core_ways_laws.proofs.Stables.{stable-base}
 
-lasting-known : (root : Root) → is_lasting_root root ≡ true → is_some_root root ≡ false
+pub lasting-known : (root : Root) → is_lasting_root root ≡ true → is_some_root root ≡ false
 lasting-known This lasts = refl
 lasting-known (Class c) lasts = refl
 lasting-known (Formal i) lasts = absurd cc

@@ -19,7 +19,7 @@ use Rattle.core_code.specs.Facts.{counts_from, sites_of}
 use Rattle.core_code.specs.KindCheck.{kinds_after, kinds_after_op}
 use Rattle.core_code.specs.Kinds.{StackKind}
 use Rattle.core_code.specs.Tree.{Tree, Op, Skip, Seq, Choice, Loop, Sync, steps_of, Operation}
-use Rattle.core_code.proofs.Membership.{In, in_append}
+use Rattle.core_code.proofs.Membership.{In, in_append, in_left, in_right}
 use Rattle.core_ways.specs.Ways.{has_site}
 use Rattle.core_ways_laws.specs.Arrivals.{Arrival, Arrivals, behind_first, one_lock_more, to, arrival_at}
 use Rattle.core_ways_laws.specs.Values.{Back, Behind, Calls, End, Point, evaluate, on_ok, point_popped}
@@ -32,7 +32,6 @@ use Rattle.core_ways_laws.proofs.CallMet.{call-met}
 use Rattle.core_ways_laws.proofs.FlowLengths.{AreRight}
 use Rattle.core_ways_laws.proofs.Hushing.{hush-first, hush-second}
 use Rattle.core_ways_laws.proofs.KindFacts.{AreBeside, AreInTurn, either_kinds, loop-kinds, then_kinds}
-use Rattle.access_domain.proofs.Members.{in_first as in_early, in_last as in_late}
 use Rattle.core_ways_laws.proofs.Passing.{AreApart, AreSafe, apart, kept, looped-frame, popped-frame}
 use Rattle.core_ways_laws.proofs.RecordSites.{record-site}
 use Rattle.core_ways_laws.proofs.SiteOrder.{counts-first, counts-second, first-lacks}
@@ -150,9 +149,9 @@ module _ (core : Core) (quiet : Quietness core) (n : Naming) (method : Method) (
   towards-met Skip right safe meets k counts locked kinds ends s at r fits hush small frame stored has = absurd has
   towards-met (Seq first rest) right safe meets k counts locked kinds ends s at r fits hush small frame stored has =
       let parts : AreInTurn core method first rest kinds ends = then_kinds core method first rest kinds ends fits in
-      let right_first : AreRight core first = λ o there. right o (in_early (steps_of first) (steps_of rest) o there) in
+      let right_first : AreRight core first = λ o there. right o (in_left (steps_of first) (steps_of rest) o there) in
       let safe_first : AreSafe core quiet table calls first =
-      λ o there. safe o (in_early (steps_of first) (steps_of rest) o there) in
+      λ o there. safe o (in_left (steps_of first) (steps_of rest) o there) in
       let one : Option Arrival = to core calls arrivals r.site r.below first at in
       let two : Option Arrival = behind_first (evaluate core calls first at)
       (to core calls arrivals r.site r.below rest) in
@@ -162,7 +161,7 @@ module _ (core : Core) (quiet : Quietness core) (n : Naming) (method : Method) (
       on-side core quiet n method r (has_site first r.site) true one two
       (record-site (given_of core table main) first locked s r there)
       (towards-met first right_first safe_first
-      (λ o in_first. meets o (in_early (steps_of first) (steps_of rest) o in_first)) k
+      (λ o in_first. meets o (in_left (steps_of first) (steps_of rest) o in_first)) k
       (counts-first k first rest counts)
       locked kinds parts.between s at r parts.early hushed few frame stored there))
       (λ t is hushed few hushed_rest few_rest there.
@@ -174,9 +173,9 @@ module _ (core : Core) (quiet : Quietness core) (n : Naming) (method : Method) (
       parts.early
       hushed few frame stored)
       (λ behind framed kept_store.
-      towards-met rest (λ o in_rest. right o (in_late (steps_of first) (steps_of rest) o in_rest))
-      (λ o in_rest. safe o (in_late (steps_of first) (steps_of rest) o in_rest))
-      (λ o in_rest. meets o (in_late (steps_of first) (steps_of rest) o in_rest)) (k + length (sites_of first))
+      towards-met rest (λ o in_rest. right o (in_right (steps_of first) (steps_of rest) o in_rest))
+      (λ o in_rest. safe o (in_right (steps_of first) (steps_of rest) o in_rest))
+      (λ o in_rest. meets o (in_right (steps_of first) (steps_of rest) o in_rest)) (k + length (sites_of first))
       (counts-second k first rest counts) locked parts.between ends t behind r parts.late hushed_rest few_rest framed
       kept_store there)))
   towards-met (Choice left right) all safe meets k counts locked kinds ends s at r fits hush small frame stored has =
@@ -189,17 +188,17 @@ module _ (core : Core) (quiet : Quietness core) (n : Naming) (method : Method) (
       (λ there.
       on-side core quiet n method r (has_site left r.site) true one two
       (record-site (given_of core table main) left locked s r there)
-      (towards-met left (λ o in_first. all o (in_early (steps_of left) (steps_of right) o in_first))
-      (λ o in_first. safe o (in_early (steps_of left) (steps_of right) o in_first))
-      (λ o in_first. meets o (in_early (steps_of left) (steps_of right) o in_first)) k
+      (towards-met left (λ o in_first. all o (in_left (steps_of left) (steps_of right) o in_first))
+      (λ o in_first. safe o (in_left (steps_of left) (steps_of right) o in_first))
+      (λ o in_first. meets o (in_left (steps_of left) (steps_of right) o in_first)) k
       (counts-first k left right counts)
       locked kinds parts.after_left s at r parts.on_left each.left_hush each.left_small frame stored there))
       (λ there.
       on-side core quiet n method r (has_site left r.site) false one two
       (first-lacks k left right r.site counts (record-site (given_of core table main) right locked s r there))
-      (towards-met right (λ o in_rest. all o (in_late (steps_of left) (steps_of right) o in_rest))
-      (λ o in_rest. safe o (in_late (steps_of left) (steps_of right) o in_rest))
-      (λ o in_rest. meets o (in_late (steps_of left) (steps_of right) o in_rest)) (k + length (sites_of left))
+      (towards-met right (λ o in_rest. all o (in_right (steps_of left) (steps_of right) o in_rest))
+      (λ o in_rest. safe o (in_right (steps_of left) (steps_of right) o in_rest))
+      (λ o in_rest. meets o (in_right (steps_of left) (steps_of right) o in_rest)) (k + length (sites_of left))
       (counts-second k left right counts) locked kinds parts.after_right s at r parts.on_right each.right_hush
       each.right_small frame stored there))
       (in_append (effects left locked s).records (effects right locked s).records r has)

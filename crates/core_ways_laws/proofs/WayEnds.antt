@@ -1,6 +1,6 @@
 -- Ways in the machine of two threads end just before their access.
-use Rattle.std.proofs.Common.{◌≡◌, ℕ, suc, true, false, cond, List, [], ◌∷◌, ◌++◌, Option, None, Some}
-use Rattle.std.proofs.Common.{length, nat_eq, slice_get, refl, sym, ap, subst, ◌∙◌, arith}
+use Rattle.std.proofs.Common.{◌≡◌, ℕ, suc, List, [], ◌∷◌, ◌++◌, Option, None, Some}
+use Rattle.std.proofs.Common.{length, slice_get, refl, sym, ap, subst, ◌∙◌, arith}
 use Rattle.std.proofs.lemmas.List.{append-nil}
 use Rattle.racer_base.specs.declared.ids.MethodId.{MethodId}
 use Rattle.core_code.specs.declared.program.Program.{Program}
@@ -14,6 +14,7 @@ use Rattle.core_semantics.specs.declared.object.Value.{Value}
 use Rattle.core_semantics.specs.Legs.{Ran, runs}
 use Rattle.core_semantics.specs.State.{Frame, State, Thread, Op, before, other_of, thread_of, with_thread}
 use Rattle.core_semantics.specs.Steps.{After, entered}
+use Rattle.core_semantics.proofs.ThreadLemmas.{store-now, thread-now}
 use Rattle.core_ways.specs.Alone.{Alone, Came, Stuck, Broken, ComesTo, IsSeen, alone, part_of}
 use Rattle.core_ways.specs.Ways.{way_of}
 use Rattle.core_ways.proofs.Beside.{beside, other-stays}
@@ -23,28 +24,6 @@ use Rattle.core_ways_laws.specs.Arrivals.{Arrival, arrival_of}
 use Rattle.core_ways_laws.specs.Values.{entry_point}
 use Rattle.core_ways_laws.proofs.ReachedValues.{OnArrival}
 use Rattle.core_ways_laws.proofs.RecordArrivals.{AreInOrder, record-goes, record-so}
-
-thread-again : (s : State) (t : ℕ) (a : After) → thread_of (with_thread s t a.store a.thread) t ≡ a.thread
-thread-again s t a =
-    elim (nat_eq t 0) as (λ b.
-    (let x : State = cond b
-    (let u : State = record { store = a.store; first = a.thread; second = s.second } in u)
-    (let v : State = record { store = a.store; first = s.first; second = a.thread } in v) in
-    cond b x.first x.second) ≡ a.thread) [
-      | true ↦ refl
-      | false ↦ refl
-    ]
-
-store-again : (s : State) (t : ℕ) (a : After) → (with_thread s t a.store a.thread).store ≡ a.store
-store-again s t a =
-    elim (nat_eq t 0) as (λ b.
-    (let x : State = cond b
-    (let u : State = record { store = a.store; first = a.thread; second = s.second } in u)
-    (let v : State = record { store = a.store; first = s.first; second = a.thread } in v) in
-    x.store) ≡ a.store) [
-      | true ↦ refl
-      | false ↦ refl
-    ]
 
 module _ (core : Core) (m : MethodId) (i : ℕ) (r : Access) (values : List Value) (s : State) (t : ℕ) where
   at-arrival : (a : After) (arrival : Arrival) → arrival_of core m i values s.store ≡ Some arrival →
@@ -60,12 +39,12 @@ module _ (core : Core) (m : MethodId) (i : ℕ) (r : Access) (values : List Valu
         locked = at.locked;
       } in
       let thread : thread_of to t ≡ record { frames = frame ∷ at.callers; locks = at.monitors ++ [] } =
-      thread-again s t a ∙ ap (λ (x : After). x.thread) at.is in
+      thread-now s t a ∙ ap (λ (x : After). x.thread) at.is in
       record {
         other = other-stays s t a;
         arrival = arrival;
         leads = leads;
-        store = store-again s t a ∙ ap (λ (x : After). x.store) at.is;
+        store = store-now s t a ∙ ap (λ (x : After). x.store) at.is;
         frame = frame;
         innermost = ap (λ (x : Thread). slice_get x.frames 0) thread;
         vars = refl;

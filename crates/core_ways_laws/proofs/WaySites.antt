@@ -1,9 +1,10 @@
 -- Where a record of code comes from, with what stands before its site and the locks round it.
 use Rattle.std.proofs.Common.{◌≡◌, ℕ, suc, ◌+◌, Bool, true, false, cond, ◌&&◌, ◌||◌, inl, inr, ⊎_elim, None, Some}
-use Rattle.std.proofs.Common.{Option, is_some, length, nat_eq, nat_lt, refl, sym, ap, subst, ◌∙◌, arith}
-use Rattle.std.proofs.lemmas.Bool.{eq-eqb, lt-ltb, or_left, or_right}
+use Rattle.std.proofs.Common.{Option, is_some, length, nat_lt, refl, sym, ap, subst, ◌∙◌, arith}
+use Rattle.std.proofs.lemmas.Bool.{eq-eqb, lt-ltb, or_left, or_right, and_from}
 use Rattle.std.proofs.lemmas.List.Folds.{find-append}
 use Rattle.std.specs.Option.{option_or}
+use Rattle.std.proofs.Math.Bool.{or-false}
 use Rattle.racer_base.specs.declared.ids.MethodId.{MethodId}
 use Rattle.racer_base.specs.declared.ids.Place.{Place}
 use Rattle.racer_base.specs.declared.ids.SiteId.{SiteId}
@@ -14,7 +15,6 @@ use Rattle.core_code.specs.Calls.{method_at}
 use Rattle.core_code.specs.Core.{Core, Method}
 use Rattle.core_code.specs.Facts.{counts_from, sites_of}
 use Rattle.core_code.specs.Tree.{LockAt, Tree, Op, Skip, Seq, Choice, Loop, Sync, Operation, can_end, op_at, steps_of}
-use Rattle.core_code.proofs.BoolParts.{both}
 use Rattle.core_code.proofs.Membership.{In}
 use Rattle.access_domain.specs.declared.access.Access.{Access}
 use Rattle.access_domain.specs.Findings.{Findings, Known, Table, Whole}
@@ -26,7 +26,6 @@ use Rattle.access_domain.specs.Summaries.{known_of, known_of_callees, start_of}
 use Rattle.access_domain.proofs.KnownMethods.{callee_lower, record_made}
 use Rattle.access_domain.proofs.OperationRecords.{IsByCall, IsByOp, IsByTouch, op_record}
 use Rattle.access_domain.proofs.ReachedStates.{ComesTo, Spot, last_round, record_spot}
-use Rattle.access_domain.proofs.Tests.{or_false}
 use Rattle.access_domain.proofs.TouchedPaths.{substituted_last, touched_last}
 use Rattle.core_ways.specs.Alone.{do_end_before, locks_round}
 use Rattle.core_ways.specs.Ways.{has_site}
@@ -53,7 +52,8 @@ goes-on-ends g (Seq first rest) locked s t e =
     (can_end first && can_end rest) ≡ true) [
       | None ↦ λ is k. absurd (let wrong : None ≡ Some t = sym is ∙ k in cc)
       | Some u ↦ λ is k.
-          both (can_end first) (can_end rest) (goes-on-ends g first locked s u is) (goes-on-ends g rest locked u t k)
+          and_from (can_end first) (can_end rest) (goes-on-ends g first locked s u is)
+          (goes-on-ends g rest locked u t k)
     ] refl e
 goes-on-ends g (Choice left right) locked s t e =
     let l = (flow g left locked s).next in
@@ -98,7 +98,7 @@ by-op o locked s =
     record {
       at = ap (λ (b : Bool). cond b (Some o) None) (eq-eqb o.site.0 o.site.0 refl);
       ends = refl;
-      held = sym (or_false locked);
+      held = sym (or-false locked);
     }
 
 by-first : (first rest : Tree) (locked : Bool) (x : Spot) → StandsIn first locked x →
@@ -125,7 +125,7 @@ by-rest first rest locked x c lacks ends =
       at = at-second first rest site x.operation lacks c.at;
       ends =
           ap (λ (b : Bool). cond b (do_end_before site first) (can_end first && do_end_before site rest)) lacks
-          ∙ both (can_end first) (do_end_before site rest) ends c.ends;
+          ∙ and_from (can_end first) (do_end_before site rest) ends c.ends;
       held =
           c.held
           ∙ ap (λ (b : Bool). locked || nat_lt 0 (cond b (locks_round site first) (locks_round site rest)))

@@ -3,6 +3,7 @@ use Rattle.std.proofs.Common.{◌≡◌, ℕ, true, false, cond, ◌&&◌, Optio
 use Rattle.std.proofs.Common.{refl, sym, ap, ◌∙◌, arith}
 use borrow.Author.Tests.{eqb-true}
 use Rattle.std.proofs.lemmas.List.Elements.{Contains-append_left, Contains-append_right}
+use Rattle.std.proofs.lemmas.Bool.{and_parts}
 use Rattle.racer_base.specs.declared.ids.ClassId.{ClassId}
 use Rattle.racer_base.specs.declared.ids.FieldId.{FieldId}
 use Rattle.racer_base.specs.declared.ids.Kind.{Kind}
@@ -17,7 +18,6 @@ use Rattle.core_code.specs.declared.parts.FieldCore.{FieldCore}
 use Rattle.core_code.specs.Core.{Core}
 use Rattle.core_code.specs.KindCheck.{field_at}
 use Rattle.core_code.specs.Kinds.{StackKind, fits, kind_of}
-use Rattle.core_code.proofs.BoolParts.{first_part, last_part}
 use Rattle.core_semantics.specs.declared.object.Object.{Object}
 use Rattle.core_semantics.specs.declared.object.Object.TheVariants.{Start}
 use Rattle.core_semantics.specs.declared.object.Value.{Value}
@@ -26,10 +26,10 @@ use Rattle.core_semantics.specs.Objects.{same_object}
 use Rattle.core_semantics.specs.Same.{equal_of_same}
 use Rattle.core_semantics.specs.State.{Store}
 use Rattle.core_semantics.specs.Steps.{kind_of as field_kind, written}
+use Rattle.core_semantics.proofs.FieldKinds.{kind-there}
 use Rattle.core_ways_laws.specs.Names.{Naming, longer_name, name_of}
 use Rattle.core_ways_laws.specs.Places.{AreHushed, IsPlace, IsStore, is_strong, start_object}
 use Rattle.core_ways_laws.specs.Quiet.{Quietness, start_path}
-use Rattle.core_ways_laws.proofs.FieldNames.{kind-there}
 use Rattle.core_ways_laws.proofs.KindFacts.{strong_fitting}
 use Rattle.core_ways_laws.proofs.Naming.{name-field}
 
@@ -56,10 +56,10 @@ module _ (core : Core) (quiet : Quietness core) (n : Naming) (f : FieldId) (fiel
       (same_object o (Start (start_path q)) && same_field f g) ≡ true → ⊥
   own-cell q g r ext in_r same =
       let object : o ≡ Start (start_path q) =
-      equal_of_same o (Start (start_path q)) (first_part (same_object o (Start (start_path q))) (same_field f g)
-      same) in
+      equal_of_same o (Start (start_path q)) (and_parts (same_object o (Start (start_path q))) (same_field f g) same).0
+      in
       let fields : f ≡ g =
-      same-fields f g (last_part (same_object o (Start (start_path q))) (same_field f g) same) in
+      same-fields f g (and_parts (same_object o (Start (start_path q))) (same_field f g) same).1 in
       let named : name_of n base ≡ Some q =
       base-place.called strong q (ap Ref object) (quiet.prefix q g r ext in_r) in
       let path : name_of n (field_value base f) ≡ Some r =
@@ -98,7 +98,7 @@ module _ (core : Core) (quiet : Quietness core) (n : Naming) (f : FieldId) (fiel
       elim (same_object o p && same_field f g) as (λ b. (same_object o p && same_field f g) ≡ b →
       cond b (Some y) (store.cells p g) ≡ Some (start_object q) → ⊥) [
         | true ↦ λ e there. let same : y ≡ start_object q = cc in
-            own-value g c q kind (same-fields f g (last_part (same_object o p) (same_field f g) e)) same in_q
+            own-value g c q kind (same-fields f g (and_parts (same_object o p) (same_field f g) e).1) same in_q
         | false ↦ λ e there. stored.stored p g c q kind there in_q
       ] refl is
 

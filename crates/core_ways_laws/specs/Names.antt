@@ -1,5 +1,5 @@
--- A contract of a public call rests on this: what the values of a method are called in the names of a leg's entry. A name
--- is a path that begins at `this` or at a class; a value that the analysis calls by no such path has none.
+-- A contract of a public call rests on this: what the values of a method are called in the names of a leg's entry. A
+-- name is a path that begins at `this` or at a class; a value that the analysis calls by no such path has none.
 use Rattle.std.specs.Prelude.{List, [], ◌∷◌, Option, None, Some, map, slice_index_or}
 use Rattle.std.specs.Option.{option_and_then}
 use Rattle.racer_base.specs.declared.ids.FieldId.{FieldId}

@@ -1,5 +1,5 @@
 -- What is known of methods, and going on from one to the next.
-use Rattle.std.proofs.Common.{◌≡◌, ℕ, zero, suc, ◌<◌, Bool, true, false, cond, List, [], ◌∷◌, ◌++◌}
+use Rattle.std.proofs.Common.{◌≡◌, ℕ, zero, suc, Bool, true, false, cond, List, [], ◌∷◌, ◌++◌}
 use Rattle.std.proofs.Common.{Option, None, Some, is_some, slice_get, slice_set, refl, sym, ap, subst}
 use Rattle.std.proofs.Common.{◌∙◌, append_assoc}
 use Rattle.std.proofs.lemmas.List.{append-nil}
@@ -8,7 +8,6 @@ use Rattle.std.specs.Option.{IfSome}
 use Rattle.racer_base.specs.declared.ids.MethodId.{MethodId}
 use Rattle.core_code.specs.CallFacts.{has_ranks}
 use Rattle.core_code.specs.Core.{Core}
-use Rattle.core_code.specs.Tree.{Tree}
 use Rattle.access_domain.specs.declared.access.Access.{Access}
 use Rattle.access_domain.specs.OutcomeRecords.{record_at}
 use Rattle.core_semantics.specs.declared.answer.Turn.{Turn}
@@ -16,7 +15,6 @@ use Rattle.core_ways.specs.declared.count.Count.{Count}
 use Rattle.core_ways.specs.declared.part.WayPart.{WayPart}
 use Rattle.core_ways.specs.declared.part.WayPart.TheVariants.{Step}
 use Rattle.core_ways.specs.Going.{GoesOn, IsEntered}
-use Rattle.core_ways.specs.Paths.{reached_where}
 use Rattle.core_ways.specs.Ways.{Trip, joined, reached, straight, trip_along, trip_of, way_of, way_parts}
 use Rattle.core_ways.proofs.Alone.{along-both}
 use Rattle.core_ways.proofs.Going.{goes-through}

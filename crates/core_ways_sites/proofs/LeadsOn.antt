@@ -1,11 +1,9 @@
 -- What is gone, and what leads on from there.
-use Rattle.std.proofs.Common.{◌≡◌, ℕ, ◌+◌, ◌≤◌, min, List, [], ◌∷◌, ◌++◌, Option, None, Some, length, take}
+use Rattle.std.proofs.Common.{◌≡◌, ℕ, ◌+◌, min, List, [], ◌∷◌, ◌++◌, Option, None, Some, length, take}
 use Rattle.std.proofs.Common.{refl, sym, ap, subst, ◌∙◌, append_assoc, arith}
 use Rattle.std.proofs.Math.Seq.{take-append_seam}
 use Rattle.std.specs.Option.{option_or}
-use Rattle.std.specs.Prelude.{Result, Ok, Err, OnOk}
 use Rattle.racer_base.specs.declared.ids.Place.{Place}
-use Rattle.racer_base.specs.declared.limits.TheConstants.{MAX_WAY_STEPS}
 use Rattle.core_semantics.specs.declared.answer.Turn.{Turn}
 use Rattle.core_ways.specs.declared.count.Count.{Count}
 use Rattle.core_ways.specs.Counts.{added, count_of}
@@ -125,8 +123,3 @@ longer-then a b c first second = (
 pub cut-back : (old new cut : List Turn) (n : ℕ) → n ≡ length old → IsLonger old new → cut ≡ take n new → cut ≡ old
 cut-back old new cut n count longer is =
     is ∙ (λ i. take (count i) (longer.1 i)) ∙ take-append_seam old longer.0
-
--- where a call was right
-pub on-ok : {A E : Type 0} (r : Result A E) (P Q : Type 0) → (P → Q) → OnOk r P → OnOk r Q
-on-ok (Ok x) P Q f is = f is
-on-ok (Err e) P Q f is = tt

@@ -1,7 +1,7 @@
 -- From what is gone up to a piece of code to what is gone up to its parts.
 use Rattle.std.proofs.Common.{◌≡◌, ℕ, suc, Bool, true, false, cond, ◌&&◌, ◌||◌, not, List, [], ◌∷◌, ◌++◌}
 use Rattle.std.proofs.Common.{Option, None, Some, is_some, nat_eq, length, refl, sym, ap, subst, ◌∙◌}
-use Rattle.std.proofs.lemmas.Bool.{eq-eqb}
+use Rattle.std.proofs.lemmas.Bool.{eq-eqb, and_parts, or_left, or_right}
 use Rattle.std.specs.BTreeSet.{BTreeSet, UpdatesBy, btree_set_len, contains}
 use Rattle.std.specs.Cmp.{unsigned_ties}
 use Rattle.std.specs.List.{list_any}
@@ -11,18 +11,18 @@ use Rattle.racer_base.specs.declared.ids.Place.{Place}
 use Rattle.racer_base.specs.declared.ids.SiteId.{SiteId}
 use Rattle.core_code.specs.declared.code.Op.{Op as CoreOp}
 use Rattle.core_code.specs.Core.{Core}
-use Rattle.core_code.specs.Tree.{LockAt, Tree, Op, Skip, Seq, Choice, Loop, Sync, Operation}
+use Rattle.core_code.specs.Tree.{LockAt, Tree, Op, Seq, Choice, Loop, Sync, Operation}
 use Rattle.core_semantics.specs.declared.answer.Turn.{Turn}
 use Rattle.core_semantics.specs.declared.answer.Turn.TheVariants.{Left, Right}
 use Rattle.core_ways.specs.declared.count.Count.{Count}
 use Rattle.core_ways.specs.declared.part.WayPart.{WayPart}
-use Rattle.core_ways.specs.declared.part.WayPart.TheVariants.{Step, Branched}
+use Rattle.core_ways.specs.declared.part.WayPart.TheVariants.{Branched}
 use Rattle.core_ways.specs.Paths.{op_there}
 use Rattle.core_ways.specs.Ways.{Trip, has_site, joined, passed, reached, straight, trip_along, trip_of}
 use Rattle.core_ways.proofs.Alone.{along-both}
 use Rattle.core_ways.proofs.SitePaths.{first-there, has-there, op-found, second-there, there-both}
 use Rattle.core_ways_sites.specs.Gone.{LeadsOn, one_turn}
-use Rattle.core_ways_sites.specs.Sites.{AreLed, AreLeft, IsLed, IsReached}
+use Rattle.core_ways_sites.specs.Sites.{AreLed, AreLeft, IsReached}
 use Rattle.core_ways_sites.proofs.LeadsOn.{arrives, starts-empty}
 
 -- from what is gone, this is gone more
@@ -43,18 +43,6 @@ has-both a b s =
     ∙ either-some (op_there a s) (op_there b s)
     ∙ (λ i. sym (has-there a s) i || sym (has-there b s) i)
 
-or-first : (a b : Bool) → a ≡ true → (a || b) ≡ true
-or-first true b e = refl
-or-first false b e = absurd cc
-
-or-second : (a b : Bool) → b ≡ true → (a || b) ≡ true
-or-second true b e = refl
-or-second false b e = e
-
-and-first : (a b : Bool) → (a && b) ≡ true → a ≡ true
-and-first true b e = refl
-and-first false b e = absurd cc
-
 and-not : (a b : Bool) → (a && not b) ≡ true → b ≡ false
 and-not true true e = absurd cc
 and-not true false e = refl
@@ -64,13 +52,6 @@ neither : (x a b : Bool) → ((x && not a) && not b) ≡ (x && not (a || b))
 neither true true b = refl
 neither true false b = refl
 neither false a b = refl
-
-pub and-true : (x : Bool) → (x && true) ≡ x
-and-true true = refl
-and-true false = refl
-
-pub and-none : (x y : Bool) → x ≡ false → (x && y) ≡ false
-and-none x y none = ap (λ (b : Bool). b && y) none
 
 same-there : (a b : Tree) (s : SiteId) → has_site a s ≡ true → op_there a s ≡ op_there (Seq a b) s
 same-there a b s has = first-there a b s (op_there a s) refl (sym (has-there a s) ∙ has)
@@ -183,7 +164,7 @@ module _ (core : Core) (whole : Tree) where
       AreLed core whole locks (Choice left right) wanted count turns →
       Onward count turns now more (one_turn Left) → AreLed core whole locks left wanted now more
   led-left locks left right wanted count now turns more led onward = λ s still has.
-      let one = led s still (has-both left right s ∙ or-first (has_site left s) (has_site right s) has) in
+      let one = led s still (has-both left right s ∙ or_left (has_site left s) (has_site right s) has) in
       let to : Trip = trip_along (trip_of core) (reached 0 s whole) in
       record {
         way =
@@ -200,8 +181,8 @@ module _ (core : Core) (whole : Tree) where
   led-right locks left right wanted mid count now turns more led out onward = λ s still has.
       let both = sym (out s) ∙ still in
       let none = and-not (contains nat_cmp wanted s.0) (has_site left s) both in
-      let one = led s (and-first (contains nat_cmp wanted s.0) (not (has_site left s)) both)
-      (has-both left right s ∙ or-second (has_site left s) (has_site right s) has) in
+      let one = led s (and_parts (contains nat_cmp wanted s.0) (not (has_site left s)) both).0
+      (has-both left right s ∙ or_right (has_site left s) (has_site right s) has) in
       let to : Trip = trip_along (trip_of core) (reached 0 s whole) in
       record {
         way =
@@ -224,7 +205,7 @@ module _ (core : Core) (whole : Tree) where
   pub led-first : (locks : ℕ) (first rest : Tree) (wanted : BTreeSet ℕ) (count : Count) (turns : List Turn) →
       AreLed core whole locks (Seq first rest) wanted count turns → AreLed core whole locks first wanted count turns
   led-first locks first rest wanted count turns led = λ s still has.
-      let one = led s still (has-both first rest s ∙ or-first (has_site first s) (has_site rest s) has) in
+      let one = led s still (has-both first rest s ∙ or_left (has_site first s) (has_site rest s) has) in
       let to : Trip = trip_along (trip_of core) (reached 0 s whole) in
       record {
         way =
@@ -241,8 +222,8 @@ module _ (core : Core) (whole : Tree) where
   led-rest locks first rest wanted mid count now turns more led out onward = λ s still has.
       let both = sym (out s) ∙ still in
       let none = and-not (contains nat_cmp wanted s.0) (has_site first s) both in
-      let one = led s (and-first (contains nat_cmp wanted s.0) (not (has_site first s)) both)
-      (has-both first rest s ∙ or-second (has_site first s) (has_site rest s) has) in
+      let one = led s (and_parts (contains nat_cmp wanted s.0) (not (has_site first s)) both).0
+      (has-both first rest s ∙ or_right (has_site first s) (has_site rest s) has) in
       let to : Trip = trip_along (trip_of core) (reached 0 s whole) in
       record {
         way =

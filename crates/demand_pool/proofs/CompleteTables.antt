@@ -1,5 +1,5 @@
 -- The outcomes of a complete run stand in its table.
-use Rattle.std.proofs.Common.{◌≡◌, ℕ, zero, suc, ◌∷◌, [], ◌<◌, List, Bool, true, false, cond, length, Option}
+use Rattle.std.proofs.Common.{◌≡◌, ℕ, List, Bool, true, false, cond, length, Option}
 use Rattle.std.proofs.Common.{Some, None, refl, sym, ap, ◌∙◌, arith, option_map, is_none, inl, inr}
 use Rattle.std.specs.Prelude.{slice_get, ◌⊎◌}
 use Rattle.std.specs.Option.{option_and_then}
@@ -11,6 +11,7 @@ use Rattle.core_code.specs.Calls.{method_at, is_analysed}
 use Rattle.core_code.specs.Core.{Core, Method}
 use Rattle.core_code.specs.Program.{core}
 use Rattle.core_code.proofs.Analysed.{analysed_in}
+use Rattle.core_code.proofs.KindLemmas.{same_method}
 use Rattle.access_domain.specs.Findings.{Known, outcome_from}
 use Rattle.access_domain.specs.Summaries.{outcome_of, known_given, known_of_callees}
 use Rattle.transfer.specs.declared.finished.Finished.{Finished}
@@ -19,8 +20,7 @@ use Rattle.summary_store.specs.declared.machine.Event.{Event}
 use Rattle.summary_store.specs.Machine.{IsComplete}
 use Rattle.summary_store.specs.Kept.{IsRight, pieces_of}
 use Rattle.summary_store.specs.Setups.{setup_of}
-use Rattle.summary_store.proofs.Keeping.{length-pieces_of}
-use Rattle.summary_store.proofs.Weights.{same_number}
+use Rattle.summary_store.proofs.Keeping.{length-pieces_of, past}
 use Rattle.demand_pool.specs.Pools.{outcome_found}
 
 abbrev analysed_at : Option Method → Bool
@@ -40,11 +40,6 @@ no_outcome program m e = without (method_at program m) (known_given program (kno
 either : (b : Bool) → (b ≡ true) ⊎ (b ≡ false)
 either true = inl refl
 either false = inr refl
-
-past : {X : Type 0} (xs : List X) (i : ℕ) → slice_get xs i ≡ None → i < length xs → ⊥
-past [] i e low = absurd (omega arith)
-past (x ∷ xs) zero e low = cc
-past (x ∷ xs) (suc i) e low = past xs i e (omega arith)
 
 module _ (p : Program) (w : ℕ) (h : List Event) (table : List (Option SharedFinished)) (pieces : List (Option Finished))
     (is : pieces_of arc_value table ≡ pieces)
@@ -80,7 +75,7 @@ module _ (p : Program) (w : ℕ) (h : List Event) (table : List (Option SharedFi
       ]
   at_place m (Some (Some f)) at =
       let piece = right.pieces m.0 (arc_value f) (piece_at m.0 (Some (Some f)) at) in
-      let named = same_number (arc_value f).method m piece.0.0 in
+      let named = same_method (arc_value f).method m piece.0.0 in
       (arc_value f).right ∙ (λ i. outcome_of (core (piece.0.1 i)) (named i))
 
   pub found_right : (m : MethodId) → outcome_found table m.0 ≡ outcome_of (core p) m

@@ -1,10 +1,12 @@
 -- A turn of a worker: the row of the method that it holds, callee by callee.
 use Rattle.std.proofs.Common.{◌≡◌, ℕ, zero, suc, ◌+◌, ◌<◌, ◌≤◌, List, [], ◌∷◌, ◌++◌, length}
-use Rattle.std.proofs.Common.{length-append, get_or, Some, inl, inr, is_some, refl, sym, ap, ◌∙◌, subst, arith}
+use Rattle.std.proofs.Common.{length-append, get_or, inl, inr, is_some, refl, sym, ap, ◌∙◌, subst, arith}
 use Rattle.std.specs.Prelude.{slice_get, All, ◌⊎◌}
 use Rattle.std.specs.Arc.{arc_value}
 use Rattle.std.specs.List.{list_any}
 use Rattle.std.proofs.lemmas.List.Elements.{All-nil, All-push}
+use Rattle.std.proofs.lemmas.Bool.{or_right}
+use Rattle.std.proofs.lemmas.Option.{slice_get-get_or}
 use Rattle.racer_base.specs.declared.ids.MethodId.{MethodId}
 use Rattle.core_code.specs.Chains.{row_of}
 use Rattle.core_code.specs.Core.{Core}
@@ -13,13 +15,13 @@ use Rattle.core_code.specs.Program.{core}
 use Rattle.core_code.specs.CalleeRows.{AreRowsOf, rows_in, rows_of}
 use Rattle.core_code.specs.declared.rows.CallRows.{CallRows}
 use Rattle.core_code.proofs.Analysed.{analysed_of}
-use Rattle.core_code.proofs.RowCallees.{is_method, or-right, row_there}
+use Rattle.core_code.proofs.RowCallees.{is_method, row_there}
+use Rattle.core_code.proofs.KindLemmas.{same_method}
 use Rattle.transfer.specs.Callees.{AreCallees, SharedFinished, outcome_in}
 use Rattle.transfer.proofs.Every.{one-fewer, row-done}
 use Rattle.summary_store.specs.declared.machine.Hand.{Hand}
 use Rattle.summary_store.specs.declared.machine.Hand.TheVariants.{Holds}
 use Rattle.summary_store.specs.Passes.{WantsNext, PassView, pass_view}
-use Rattle.summary_store.proofs.Weights.{same_number}
 use Rattle.demand_pool.specs.Pools.{AreFound}
 
 -- ---- a place of a row, whatever stands behind its end
@@ -29,11 +31,6 @@ read_twice : (row : List MethodId) (i : ℕ) (d : MethodId) → i < length row
 read_twice [] i d low = absurd (omega arith)
 read_twice (x ∷ xs) zero d low = refl
 read_twice (x ∷ xs) (suc i) d low = read_twice xs i d (omega arith)
-
-pub read_at : (row : List MethodId) (i : ℕ) (d : MethodId) → i < length row → slice_get row i ≡ Some (get_or row i d)
-read_at [] i d low = absurd (omega arith)
-read_at (x ∷ xs) zero d low = refl
-read_at (x ∷ xs) (suc i) d low = read_at xs i d (omega arith)
 
 same_default : (row : List MethodId) (i : ℕ) (a b : MethodId) → i < length row → get_or row i a ≡ get_or row i b
 same_default [] i a b low = absurd (omega arith)
@@ -53,7 +50,7 @@ module _ (p : Core) (callees : List MethodId) where
       record {
         count = ap length is;
         same_program = subst (λ (l : List SharedFinished). All IsFor l) (sym is) (All-nil IsFor);
-        there = λ n e. or-right (is_some (outcome_in fs n)) (list_any (is_method n) callees) e;
+        there = λ n e. or_right (is_some (outcome_in fs n)) (list_any (is_method n) callees) e;
       }
 
   -- one callee more was found
@@ -67,7 +64,7 @@ module _ (p : Core) (callees : List MethodId) where
         same_program = All-push IsFor now piece before.same_program right;
         there = λ n e.
             one-fewer now piece callees i (get_or callees i d) n low (read_twice callees i d low)
-            (same_number (arc_value piece).method (get_or callees i d) named) (before.there n e);
+            (same_method (arc_value piece).method (get_or callees i d) named) (before.there n e);
       } in
       subst (λ (fs : List SharedFinished). AreFound p callees (i + 1) fs) (sym is) more
 
@@ -97,7 +94,7 @@ module _ (p : Core) (r : CallRows) (m : MethodId) (are : AreRowsOf p r) where
         → WantsNext (rows_of p) hand found (get_or row i d)
     wants hand found d holds at low =
         let P : Hand → Type 0 = λ h. WantsNext (rows_of p) h found (get_or row i d) in
-        subst P (sym holds) ((λ j. slice_get (sym row_is j) (at j)) ∙ read_at row i d low)
+        subst P (sym holds) ((λ j. slice_get (sym row_is j) (at j)) ∙ slice_get-get_or row i d low)
 
     -- all callees are found
     pub all_found : (q : Core) (fs gs : List SharedFinished) → q ≡ p → gs ≡ fs → length row ≤ i →

@@ -1,12 +1,13 @@
 -- The names of made files differ.
-use Rattle.std.proofs.Common.{◌≡◌, ℕ, zero, suc, ◌+◌, ◌<◌, ◌≤◌, ◌/◌, ◌%◌, arith, Bool, false, List, [], map}
-use Rattle.std.proofs.Common.{sym, ap, ◌∙◌, refl, bytes_eq, subst}
-use Rattle.std.specs.Prelude.{get_or, true}
+use Rattle.std.proofs.Common.{◌≡◌, ℕ, zero, suc, ◌+◌, ◌<◌, ◌≤◌, ◌/◌, ◌%◌, arith, false, List, [], map}
+use Rattle.std.proofs.Common.{sym, ap, ◌∙◌, bytes_eq, subst}
+use Rattle.std.specs.Prelude.{get_or}
 use Rattle.std.specs.List.{AllByRecursion, IsDistinct, range_with_len}
 use Rattle.std.proofs.lemmas.Map.Keys.{IsDistinct-cons, IsDistinct-from_apart}
 use Rattle.std.proofs.lemmas.Map.Text.{is_eq-slice_cmp}
 use Rattle.std.proofs.lemmas.Slice.Eq.{bytes_eq-Decides}
 use Rattle.std.proofs.lemmas.Simd.{map-map}
+use Rattle.std.proofs.lemmas.Bool.{false_from_ne_true}
 use Rattle.racer_base.specs.Outside.{same_name}
 use Rattle.racer_memory.specs.FileList.{names_of}
 use Rattle.folder_maker.specs.Folders.{file_name, made_file, made_files}
@@ -27,14 +28,10 @@ apart k j below small names =
     same_digits k j low small (ap (at 1) names) (ap (at 2) names) (ap (at 3) names) (ap (at 4) names) in
     omega (arith, below, one)
 
-unless : (b : Bool) → (b ≡ true → ⊥) → b ≡ false
-unless true never = absurd (never refl)
-unless false never = refl
-
 differs : (k j : ℕ) → k < j → j < 10000 → same_name (file_name k) (file_name j) ≡ false
 differs k j below small =
     is_eq-slice_cmp (file_name k) (file_name j)
-    ∙ unless (bytes_eq (file_name k) (file_name j))
+    ∙ false_from_ne_true (bytes_eq (file_name k) (file_name j))
     (λ is. apart k j below small ((bytes_eq-Decides (file_name k) (file_name j)).0 is))
 
 -- each of the files behind one has another name

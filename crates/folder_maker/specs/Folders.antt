@@ -1,5 +1,5 @@
--- A contract of a public call rests on this: `made`. The files of a made folder, one for each class; classes have numbers
--- from 0 on.
+-- A contract of a public call rests on this: `made`. The files of a made folder, one for each class; classes have
+-- numbers from 0 on.
 use Rattle.std.specs.Prelude.{ℕ, ◌+◌, ◌/◌, ◌%◌, ◌==◌, ◌||◌, if◌then◌else◌, Bool, List, [], ◌∷◌, ◌++◌, codes, map}
 use Rattle.std.specs.List.{flat_map, range_with_len}
 

@@ -1,15 +1,7 @@
 -- Tests of a byte that are decided by trying each.
 use Rattle.std.proofs.Common.{◌≡◌, ℕ, zero, suc, ◌<◌, Bool, true, false, ◌&&◌, not, inl, inr, ◌⊎◌, refl, arith}
 use Rattle.std.proofs.Math.Nat.{eq-or-lt_of_le}
-use Rattle.std.proofs.lemmas.Bool.{false≢true}
-
-pub and_left : (a b : Bool) → (a && b) ≡ true → a ≡ true
-and_left true b h = refl
-and_left false b h = h
-
-pub and_right : (a b : Bool) → (a && b) ≡ true → b ≡ true
-and_right true b h = h
-and_right false b h = absurd (false≢true h)
+use Rattle.std.proofs.lemmas.Bool.{false≢true, and_parts}
 
 pub or_less : (b n : ℕ) → b < suc n → (b ≡ n) ⊎ (b < n)
 or_less b n h = eq-or-lt_of_le (omega arith)
@@ -22,8 +14,8 @@ pub each_below : (n : ℕ) (test : ℕ → Bool) → all_below n test ≡ true �
 each_below zero test all b less = absurd (omega arith)
 each_below (suc n) test all b less =
     elim (or_less b n less) [
-      | inl e ↦ rw e (and_left _ _ all)
-      | inr h ↦ each_below n test (and_right _ _ all) b h
+      | inl e ↦ rw e (and_parts _ _ all).0
+      | inr h ↦ each_below n test (and_parts _ _ all).1 b h
     ]
 
 not_both : (x y : Bool) → not (x && y) ≡ true → x ≡ true → y ≡ false

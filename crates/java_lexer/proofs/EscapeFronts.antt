@@ -2,12 +2,13 @@
 use Rattle.std.proofs.Common.{◌≡◌, ℕ, zero, suc, ◌≤◌, ◌<◌, Bool, true, false, cond, ◌&&◌, ◌||◌, List, [], ◌∷◌, length}
 use Rattle.std.proofs.Common.{take, inl, inr, refl, sym, ap, ◌∙◌, arith, eqb-true, length-take}
 use Rattle.std.specs.Prelude.{nat_le, ◌==◌}
+use Rattle.std.proofs.lemmas.Bool.{and_parts, or_cases, or_left, or_right}
 use Rattle.java_lexer.specs.Literals.{is_simple, is_simple_escape, is_octal, is_octal_escape, is_allowed_unit}
 use Rattle.java_lexer.specs.Literals.{behind_u_run, is_unicode_escape, is_escape}
 use Rattle.java_lexer.specs.Fronts.{some_front}
 use Rattle.java_lexer.specs.Scanning.{begins_escape}
-use Rattle.java_lexer.proofs.Bytes.{and_left, and_right}
-use Rattle.java_lexer.proofs.SomeFronts.{or_cases, or_left, or_right, front_is, front_found}
+use Rattle.java_lexer.proofs.SomeFronts.{front_is, front_found}
+use Rattle.racer_base.proofs.Tests.{same_truth}
 
 -- ---- a run of u
 
@@ -49,7 +50,7 @@ same_take (u ∷ us) (suc j) (suc n) e = ap (λ (t : List ℕ). u ∷ t) (same_t
 -- ---- an escape
 
 length_four : (quote : ℕ) (bytes : List ℕ) → is_allowed_unit quote bytes ≡ true → length bytes ≡ 4
-length_four quote bytes h = eqb-true (length bytes) 4 (and_left _ _ (and_left _ _ h))
+length_four quote bytes h = eqb-true (length bytes) 4 (and_parts _ _ (and_parts _ _ h).0).0
 
 one_or_two : (v : Bool) → nat_le 0 (cond v 2 1) ≡ true
 one_or_two true = refl
@@ -79,7 +80,7 @@ module _ (quote b : ℕ) (bs : List ℕ) where
               | inl simple ↦ simple_is quote b simple
               | inr octal ↦ octal_is quote b octal
             ])
-        | inr e ↦ unicode_is quote b bs (and_left _ _ e) (and_right _ _ e)
+        | inr e ↦ unicode_is quote b bs (and_parts _ _ e).0 (and_parts _ _ e).1
       ]
 
   unit_there : (k : ℕ) → is_allowed_unit quote (behind_u_run (take k bs)) ≡ true →
@@ -96,12 +97,12 @@ module _ (quote b : ℕ) (bs : List ℕ) where
       elim (or_cases (is_simple_escape (b ∷ take k bs) || is_octal_escape (b ∷ take k bs))
       (is_unicode_escape quote (b ∷ take k bs)) h) [
         | inl e ↦ or_left _ _ (elim (or_cases (is_simple_escape (b ∷ take k bs)) (is_octal_escape (b ∷ take k bs)) e) [
-          | inl simple ↦ or_left (is_simple b) (is_octal b) (and_left _ _ simple)
-          | inr octal ↦ or_right (is_simple b) (is_octal b) (and_left _ _ (and_left _ _ octal))
+          | inl simple ↦ or_left (is_simple b) (is_octal b) (and_parts _ _ simple).0
+          | inr octal ↦ or_right (is_simple b) (is_octal b) (and_parts _ _ (and_parts _ _ octal).0).0
         ])
         | inr e ↦ or_right (is_simple b || is_octal b) _
-            (let u : (b == 117) ≡ true = and_left _ _ e in
-            rw (u, unit_there k (and_right (b == 117) (is_allowed_unit quote (behind_u_run (take k bs))) e)) refl)
+            (let u : (b == 117) ≡ true = (and_parts _ _ e).0 in
+            rw (u, unit_there k (and_parts (b == 117) (is_allowed_unit quote (behind_u_run (take k bs))) e).1) refl)
       ]
 
   escape_from : some_front (is_escape quote) (b ∷ bs) ≡ true → begins_escape quote (b ∷ bs) ≡ true
@@ -110,11 +111,6 @@ module _ (quote b : ℕ) (bs : List ℕ) where
       at : (n : ℕ) → 0 < n → is_escape quote (take n (b ∷ bs)) ≡ true → begins_escape quote (b ∷ bs) ≡ true
       at zero some h = absurd (omega arith)
       at (suc k) some h = escape_front k h
-
-same_truth : (v w : Bool) → (v ≡ true → w ≡ true) → (w ≡ true → v ≡ true) → v ≡ w
-same_truth true w f g = sym (f refl)
-same_truth false true f g = g refl
-same_truth false false f g = refl
 
 nil_front : (quote : ℕ) → false ≡ some_front (is_escape quote) []
 unfolding some_front

@@ -9,6 +9,7 @@ use Rattle.java_lexer.specs.Divisions.{Lexis, Piece, front_piece, piece_or, long
 use Rattle.java_lexer.specs.Divisions.{and_then, pieces_upto, pieces}
 use Rattle.java_lexer.specs.Scanning.{IsFront}
 use Rattle.std.proofs.lemmas.Bool.{false≢true}
+use Rattle.std.proofs.lemmas.Option.{same_Some}
 use Rattle.java_lexer.proofs.Bytes.{or_less}
 
 pub some_of : {A : Type 0} (o : Option A) (x : A) → o ≡ Some x → IsSome o
@@ -51,9 +52,6 @@ abbrev pub IsAmong : Lexis → List ℕ → ℕ → Piece → Type 0
 IsAmong lexis text n p = (k : ℕ) × (0 < k) × (k ≤ n) × (p ≡ front_piece text k p.kind)
     × (lexis.kind_of (take k text) ≡ Some p.kind) × ((m : ℕ) → m ≤ n → IsSome (lexis.kind_of (take m text)) → m ≤ k)
 
-some_piece : (p q : Piece) → Some p ≡ Some q → p ≡ q
-some_piece p q e = cc
-
 pub none_some : {A : Type 0} (o : Option A) → o ≡ None → IsSome o → ⊥
 none_some None e s = false≢true s
 none_some (Some x) e s = cc
@@ -77,7 +75,7 @@ among_case : (lexis : Lexis) (text : List ℕ) (n : ℕ) (p : Piece) (o : Option
     (longest_piece lexis text n ≡ Some p → IsAmong lexis text n p) → IsAmong lexis text (suc n) p
 among_case lexis text n p None e found ih = among_more lexis text n p e (ih found)
 among_case lexis text n p (Some k) e found ih =
-    let same : front_piece text (suc n) k ≡ p = some_piece _ _ found in
+    let same : front_piece text (suc n) k ≡ p = same_Some _ _ found in
     (suc n, omega arith, omega arith, rw (← same) refl, rw (← same) e, λ m le s. le)
 
 pub longest_among : (lexis : Lexis) (text : List ℕ) (n : ℕ) (p : Piece) → longest_piece lexis text n ≡ Some p →

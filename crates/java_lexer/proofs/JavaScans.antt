@@ -7,8 +7,9 @@ use Rattle.std.specs.List.{prefix_len, list_all, starts_with}
 use Rattle.std.specs.Cmp.Lexicographic.{bytes_decides}
 use Rattle.std.proofs.lemmas.List.{length-take-le}
 use Rattle.std.proofs.lemmas.List.Sums.{prefix_len-le-length}
-use Rattle.std.proofs.lemmas.Bool.{false≢true, true≢false}
+use Rattle.std.proofs.lemmas.Bool.{false≢true, and_parts, false_from_ne_true, not-false, or_cases, or_left, or_right}
 use Rattle.racer_base.specs.Name.{is_letter, is_digit, is_listed}
+use Rattle.racer_base.proofs.Tests.{different}
 use Rattle.java_lexer.specs.declared.piece.PieceKind.{PieceKind}
 use Rattle.java_lexer.specs.declared.piece.PieceKind.TheVariants.{Comment, Token}
 use Rattle.java_lexer.specs.declared.piece.LexicalFault.TheVariants.{BadCharacter, Unclosed, BadLiteral}
@@ -24,11 +25,11 @@ use Rattle.java_lexer.specs.Fronts.{some_front}
 use Rattle.java_lexer.specs.Scanning.{signs_with, begins_with, first_len, closed_len, quoted_len, number_len}
 use Rattle.java_lexer.specs.JavaKinds.{java_kind, is_piece, unless_front, literal_fault, java_fault, java_lexis}
 use Rattle.java_lexer.specs.Scanning.{IsFront}
-use Rattle.java_lexer.proofs.Bytes.{never_both, and_left, and_right}
+use Rattle.java_lexer.proofs.Bytes.{never_both}
 use Rattle.java_lexer.proofs.Ascii.{digit_below}
 use Rattle.java_lexer.proofs.Runs.{run_passes, run_longest}
 use Rattle.java_lexer.proofs.ByFirst.{if_some}
-use Rattle.java_lexer.proofs.SomeFronts.{or_cases, or_left, or_right, is_false, front_is, no_front}
+use Rattle.java_lexer.proofs.SomeFronts.{front_is, no_front}
 use Rattle.java_lexer.proofs.Closed.{closed_ends, closed_only, quoted_ends, quoted_only}
 use Rattle.java_lexer.proofs.NumberRuns.{number_fits, number_passes, number_longest}
 use Rattle.java_lexer.proofs.SignRuns.{signs_listed, signs_fall, IsLongestIn, sign_found, sign_missing}
@@ -74,12 +75,8 @@ dot_is : (d : ℕ) (ds : List ℕ) → is_digit d ≡ true → (n : ℕ) → go_
 dot_is d ds h zero go some = absurd (omega arith)
 dot_is d ds h (suc k) go some = dot_kind d h (take k ds) ∙ rw go refl
 
-not_false : (v : Bool) → not v ≡ false → v ≡ true
-not_false true h = refl
-not_false false h = absurd (true≢false h)
-
 digit_next : (d : ℕ) → is_digit d ≡ true → is_next false 46 d ≡ true
-digit_next d h = not_false (is_next false 46 d)
+digit_next d h = not-false (is_next false 46 d)
     (never_both is_digit (λ c. not (is_next false 46 c)) refl d (digit_below d h) h)
 
 pub dot_front : (d : ℕ) (ds : List ℕ) → is_digit d ≡ true →
@@ -101,8 +98,8 @@ number_case : (b : ℕ) (bs : List ℕ) (v : Bool) → is_digit b ≡ v → (v |
     IsFront java_lexis (b ∷ bs) (1 + number_len (begins_hex (b ∷ bs)) b bs) (Token Number)
 number_case b bs true e h = rw one-add (digit_front b bs e)
 number_case b bs false e h =
-    let dot : b ≡ 46 = eqb-true b 46 (and_left (b == 46) (begins_with_digit bs) h) in
-    rw dot (dot_case bs (and_right (b == 46) (begins_with_digit bs) h))
+    let dot : b ≡ 46 = eqb-true b 46 (and_parts (b == 46) (begins_with_digit bs) h).0 in
+    rw dot (dot_case bs (and_parts (b == 46) (begins_with_digit bs) h).1)
 
 pub number_front : (b : ℕ) (bs : List ℕ) → begins_number (b ∷ bs) ≡ true →
     IsFront java_lexis (b ∷ bs) (1 + number_len (begins_hex (b ∷ bs)) b bs) (Token Number)
@@ -276,7 +273,7 @@ three_quotes bs h = rw h refl
 
 pub text_unclosed : (bs : List ℕ) → starts_with nat_eq (34 ∷ bs) (34 ∷ 34 ∷ 34 ∷ []) ≡ false → quoted_len 34 bs ≡ None →
     java_fault (34 ∷ bs) ≡ Some Unclosed
-text_unclosed bs one e = literal_unclosed 34 bs is_text Text text_kind (λ xs. refl) (λ xs h. and_left _ _ h)
+text_unclosed bs one e = literal_unclosed 34 bs is_text Text text_kind (λ xs. refl) (λ xs h. (and_parts _ _ h).0)
     (text_fault bs one) e
 
 text_is : (bs : List ℕ) (n : ℕ) → quoted_len 34 bs ≡ Some n → is_text (34 ∷ take n bs) ≡ escapes_hold (take (n - 1) bs)
@@ -285,12 +282,13 @@ text_is bs n e = let f = quoted_ends 34 bs n e in rw (f.1, content 34 bs n f.0) 
 pub text_front : (bs : List ℕ) (n : ℕ) → starts_with nat_eq (34 ∷ bs) (34 ∷ 34 ∷ 34 ∷ []) ≡ false →
     quoted_len 34 bs ≡ Some n → escapes_hold (take (n - 1) bs) ≡ true →
     IsFront java_lexis (34 ∷ bs) (1 + n) (Token Text)
-text_front bs n one e h = rw one-add (literal_front 34 bs is_text Text text_kind (λ xs. refl) (λ xs h. and_left _ _ h)
+text_front bs n one e h =
+    rw one-add (literal_front 34 bs is_text Text text_kind (λ xs. refl) (λ xs h. (and_parts _ _ h).0)
     (text_fault bs one) n e (text_is bs n e ∙ h))
 
 pub text_bad : (bs : List ℕ) (n : ℕ) → starts_with nat_eq (34 ∷ bs) (34 ∷ 34 ∷ 34 ∷ []) ≡ false →
     quoted_len 34 bs ≡ Some n → escapes_hold (take (n - 1) bs) ≡ false → java_fault (34 ∷ bs) ≡ Some BadLiteral
-text_bad bs n one e h = literal_bad 34 bs is_text Text text_kind (λ xs. refl) (λ xs h. and_left _ _ h)
+text_bad bs n one e h = literal_bad 34 bs is_text Text text_kind (λ xs. refl) (λ xs h. (and_parts _ _ h).0)
     (text_fault bs one) n e (text_is bs n e ∙ h)
 
 character_is : (bs : List ℕ) (n : ℕ) → quoted_len 39 bs ≡ Some n →
@@ -299,22 +297,19 @@ character_is bs n e = let f = quoted_ends 39 bs n e in rw (f.1, content 39 bs n 
 
 pub character_unclosed : (bs : List ℕ) → quoted_len 39 bs ≡ None → java_fault (39 ∷ bs) ≡ Some Unclosed
 character_unclosed bs e = literal_unclosed 39 bs is_character Character character_kind (λ xs. refl)
-    (λ xs h. and_left _ _ h) refl e
+    (λ xs h. (and_parts _ _ h).0) refl e
 
 pub character_front : (bs : List ℕ) (n : ℕ) → quoted_len 39 bs ≡ Some n → is_one_character (take (n - 1) bs) ≡ true →
     IsFront java_lexis (39 ∷ bs) (1 + n) (Token Character)
 character_front bs n e h = rw one-add (literal_front 39 bs is_character Character character_kind (λ xs. refl)
-    (λ xs h. and_left _ _ h) refl n e (character_is bs n e ∙ h))
+    (λ xs h. (and_parts _ _ h).0) refl n e (character_is bs n e ∙ h))
 
 pub character_bad : (bs : List ℕ) (n : ℕ) → quoted_len 39 bs ≡ Some n → is_one_character (take (n - 1) bs) ≡ false →
     java_fault (39 ∷ bs) ≡ Some BadLiteral
 character_bad bs n e h = literal_bad 39 bs is_character Character character_kind (λ xs. refl)
-    (λ xs h. and_left _ _ h) refl n e (character_is bs n e ∙ h)
+    (λ xs h. (and_parts _ _ h).0) refl n e (character_is bs n e ∙ h)
 
 -- ---- signs
-
-other_byte : (x y : ℕ) → (x ≡ y → ⊥) → nat_eq x y ≡ false
-other_byte x y h = is_false (nat_eq x y) (λ e. h (eqb-true x y e))
 
 begins_take : (bs : List ℕ) (k : ℕ) → begins_with_digit (take k bs) ≡ true → begins_with_digit bs ≡ true
 begins_take bs zero h = absurd (false≢true h)
@@ -323,7 +318,7 @@ begins_take (c ∷ cs) (suc k) h = h
 
 starts_take : (x y b : ℕ) (bs : List ℕ) (k : ℕ) → starts_with nat_eq (b ∷ take k bs) (x ∷ y ∷ []) ≡ true →
     starts_with nat_eq (b ∷ bs) (x ∷ y ∷ []) ≡ true
-starts_take x y b bs zero h = absurd (false≢true (and_right (nat_eq x b) false h))
+starts_take x y b bs zero h = absurd (false≢true (and_parts (nat_eq x b) false h).1)
 starts_take x y b [] (suc k) h = h
 starts_take x y b (c ∷ cs) (suc k) h = h
 
@@ -346,29 +341,29 @@ module _ (b : ℕ) (bs : List ℕ) (small : b < 256) (white : is_white b ≡ fal
     (line : starts_with nat_eq (b ∷ bs) (codes "//") ≡ false)
     (block : starts_with nat_eq (b ∷ bs) (codes "/*") ≡ false) where
   no_number : (k : ℕ) → begins_number (b ∷ take k bs) ≡ false
-  no_number k = is_false (begins_number (b ∷ take k bs))
+  no_number k = false_from_ne_true (begins_number (b ∷ take k bs))
       (λ h. elim (or_cases (is_digit b) ((b == 46) && begins_with_digit (take k bs)) h) [
         | inl e ↦ false≢true (sym number ∙ or_left (is_digit b) ((b == 46) && begins_with_digit bs) e)
         | inr e ↦ false≢true (sym number ∙ or_right (is_digit b) ((b == 46) && begins_with_digit bs)
-            (let dot : (b == 46) ≡ true = and_left _ _ e in
-            rw (dot, begins_take bs k (and_right (b == 46) (begins_with_digit (take k bs)) e)) refl))
+            (let dot : (b == 46) ≡ true = (and_parts _ _ e).0 in
+            rw (dot, begins_take bs k (and_parts (b == 46) (begins_with_digit (take k bs)) e).1) refl))
       ])
 
   no_comment : (k : ℕ) → is_comment (b ∷ take k bs) ≡ false
-  no_comment k = is_false (is_comment (b ∷ take k bs))
+  no_comment k = false_from_ne_true (is_comment (b ∷ take k bs))
       (λ h. elim (or_cases (is_line_comment (b ∷ take k bs)) (is_block_comment (b ∷ take k bs)) h) [
         | inl e ↦ false≢true (sym line ∙ starts_take 47 47 b bs k
-            (and_left (starts_with nat_eq (b ∷ take k bs) (codes "//"))
-            (list_all is_inline (drop 2 (b ∷ take k bs))) e))
+            (and_parts (starts_with nat_eq (b ∷ take k bs) (codes "//")) (list_all is_inline (drop 2 (b ∷ take k bs)))
+            e).0)
         | inr e ↦ false≢true (sym block ∙ starts_take 47 42 b bs k
-            (and_left (starts_with nat_eq (b ∷ take k bs) (codes "/*")) (ends_closed (drop 2 (b ∷ take k bs))) e))
+            (and_parts (starts_with nat_eq (b ∷ take k bs) (codes "/*")) (ends_closed (drop 2 (b ∷ take k bs))) e).0)
       ])
 
   sign_kind : (k : ℕ) → java_kind (b ∷ take k bs) ≡ cond (is_sign (b ∷ take k bs)) (Some (Token Sign)) None
-  sign_kind k = rw (white, no_comment k, letter, no_number k, other_byte b 39 one, other_byte b 34 two) refl
+  sign_kind k = rw (white, no_comment k, letter, no_number k, different b 39 one, different b 34 two) refl
 
   sign_fault : java_fault (b ∷ bs) ≡ unless_front is_piece BadCharacter (b ∷ bs)
-  sign_fault = rw (block, other_byte 34 b (λ e. two (sym e)), other_byte 39 b (λ e. one (sym e))) refl
+  sign_fault = rw (block, different 34 b (λ e. two (sym e)), different 39 b (λ e. one (sym e))) refl
 
   sign_listed : (k : ℕ) → IsSome (java_kind (b ∷ take k bs)) → is_listed (signs_with b) (b ∷ take k bs) ≡ true
   sign_listed k s = signs_listed b (take k bs)

@@ -4,6 +4,7 @@ use Rattle.std.proofs.Common.{refl, sym, ap, ◌∙◌, subst, arith, le_antisym
 use Rattle.std.proofs.Common.{take-append-drop}
 use Rattle.std.specs.Prelude.{IsSome}
 use Rattle.std.proofs.lemmas.List.{take_at, drop_at, drop-drop}
+use Rattle.std.proofs.lemmas.Option.{same_Some}
 use Rattle.java_lexer.specs.declared.piece.PieceKind.{PieceKind}
 use Rattle.java_lexer.specs.Divisions.{Lexis, Piece, IsFirst, Divides, IsStuck, IsDivision, front_piece, next_piece}
 use Rattle.java_lexer.specs.Divisions.{and_then, pieces_upto, pieces, joined, undivided}
@@ -18,9 +19,6 @@ shorter lexis p q text after more e f first other =
     let front : take (length q.bytes) text ≡ q.bytes = rw f (take_at q.bytes more (length q.bytes) refl) in
     let some : IsSome (lexis.kind_of (take (length q.bytes) text)) = rw front (some_of _ _ other.is) in
     first.longest (length q.bytes) (omega (arith, ap length f, length-append q.bytes more)) some
-
-some_is : {A : Type 0} (x y : A) → Some x ≡ Some y → x ≡ y
-some_is x y e = cc
 
 abbrev made : List ℕ → PieceKind → Piece
 made bytes kind = record { bytes = bytes; kind = kind }
@@ -37,7 +35,7 @@ same_first lexis p q text after more e f first other =
     (shorter lexis p q text after more e f first other) in
     let bytes : p.bytes ≡ q.bytes = sym (take_at p.bytes after (length p.bytes) refl)
     ∙ ap (take (length p.bytes)) (sym e ∙ f) ∙ take_at q.bytes more (length p.bytes) (sym len) in
-    let kind : p.kind ≡ q.kind = some_is p.kind q.kind (sym first.is ∙ ap lexis.kind_of bytes ∙ other.is) in (
+    let kind : p.kind ≡ q.kind = same_Some p.kind q.kind (sym first.is ∙ ap lexis.kind_of bytes ∙ other.is) in (
       piece_is p q bytes kind,
       sym (drop_at p.bytes after (length p.bytes) refl) ∙ ap (drop (length p.bytes)) (sym e ∙ f)
           ∙ drop_at q.bytes more (length p.bytes) (sym len),

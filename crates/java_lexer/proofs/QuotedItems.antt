@@ -3,14 +3,12 @@ use Rattle.std.proofs.Common.{◌≡◌, ◌≢◌, ◌↔◌, ℕ, Bool, true, 
 use Rattle.std.proofs.Common.{refl, sym, ap, ◌∙◌, arith, All, IsTrue, eqb-true, append_assoc}
 use Rattle.std.specs.Prelude.{◌==◌}
 use Rattle.std.specs.List.{concat}
-use Rattle.std.proofs.lemmas.Bool.{false≢true, eq-eqb}
+use Rattle.std.proofs.lemmas.Bool.{false≢true, eq-eqb, and_parts, false_from_ne_true}
 use Rattle.std.proofs.lemmas.List.Elements.{All-head, All-tail, All-cons}
 use Rattle.java_lexer.specs.Kinds.{is_nothing}
 use Rattle.java_lexer.specs.Comments.{is_line_end, is_inline}
 use Rattle.java_lexer.specs.Literals.{ends_quoted, ends_behind_one, is_quoted}
 use Rattle.java_lexer.specs.Items.{is_plain, IsQuotedItem, QuotedOfItems}
-use Rattle.java_lexer.proofs.Bytes.{and_left, and_right}
-use Rattle.java_lexer.proofs.SomeFronts.{is_false}
 
 pub no_items : (P : List ℕ → Type 0) → All P []
 no_items P k d less = absurd (omega arith)
@@ -36,7 +34,7 @@ module _ (q : ℕ) where
   pub escaped_goes : (b : ℕ) (bs : List ℕ) → q ≢ 92 → is_inline b ≡ true →
       ends_quoted q (92 ∷ b ∷ bs) ≡ ends_quoted q bs
   escaped_goes b bs other p =
-      let no : (92 == q) ≡ false = is_false (92 == q) (λ e. other (sym (eqb-true 92 q e))) in
+      let no : (92 == q) ≡ false = false_from_ne_true (92 == q) (λ e. other (sym (eqb-true 92 q e))) in
       rw (no, p) refl
 
   pub quote_ends : ends_quoted q (q ∷ []) ≡ true
@@ -78,8 +76,8 @@ module _ (q : ℕ) where
   ends_case b bs true w e f h ends behind = last_one b bs (eqb-true b q e) (nothing_is bs h)
   ends_case b bs false true e f h ends behind = let is : b ≡ 92 = eqb-true b 92 f in rw is (behind h)
   ends_case b bs false false e f h ends behind =
-      one_item (b ∷ []) bs (inl (b, refl, all_fail (b == q) (b == 92) (is_line_end b) e f (and_left _ _ h)))
-      (ends (and_right (not (is_line_end b)) (ends_quoted q bs) h))
+      one_item (b ∷ []) bs (inl (b, refl, all_fail (b == q) (b == 92) (is_line_end b) e f (and_parts _ _ h).0))
+      (ends (and_parts (not (is_line_end b)) (ends_quoted q bs) h).1)
 
   both_items : (bs : List ℕ) → (ends_quoted q bs ≡ true → HasItems bs)
       × (ends_behind_one q bs ≡ true → HasItems (92 ∷ bs))
@@ -87,8 +85,8 @@ module _ (q : ℕ) where
   both_items (b ∷ bs) =
       let ih = both_items bs in (
         λ h. ends_case b bs (b == q) (b == 92) refl refl h ih.0 ih.1,
-        λ h. one_item (92 ∷ b ∷ []) bs (inr (b, refl, and_left _ _ h))
-            (ih.0 (and_right (not (is_line_end b)) (ends_quoted q bs) h)),
+        λ h. one_item (92 ∷ b ∷ []) bs (inr (b, refl, (and_parts _ _ h).0))
+            (ih.0 (and_parts (not (is_line_end b)) (ends_quoted q bs) h).1),
       )
 
   pub ends_items : (bs : List ℕ) → ends_quoted q bs ≡ true → (items : List (List ℕ)) × All (IsQuotedItem q) items
@@ -104,8 +102,8 @@ module _ (q : ℕ) where
   of_quoted : (bytes : List ℕ) → is_quoted q bytes ≡ true → QuotedOfItems q bytes
   of_quoted [] h = absurd (false≢true h)
   of_quoted (b ∷ bs) h =
-      let is : b ≡ q = eqb-true b q (and_left _ _ h) in
-      let f = ends_items bs (and_right (b == q) (ends_quoted q bs) h) in
+      let is : b ≡ q = eqb-true b q (and_parts _ _ h).0 in
+      let f = ends_items bs (and_parts (b == q) (ends_quoted q bs) h).1 in
       (f.0, f.1, ap (λ c. c ∷ bs) is ∙ ap (λ (t : List ℕ). q ∷ t) f.2)
 
   to_quoted : (bytes : List ℕ) → q ≢ 92 → QuotedOfItems q bytes → is_quoted q bytes ≡ true

@@ -2,7 +2,7 @@
 use Rattle.std.proofs.Common.{◌≡◌, ℕ, zero, suc, ◌+◌, ◌≤◌, Bool, true, false, cond, List, [], ◌∷◌, length, take, refl}
 use Rattle.std.proofs.Common.{arith, one-add}
 use Rattle.std.specs.List.{prefix_len, list_all}
-use Rattle.java_lexer.proofs.Bytes.{and_left, and_right}
+use Rattle.std.proofs.lemmas.Bool.{and_parts}
 
 run_case : (p : ℕ → Bool) (b : ℕ) (bs : List ℕ) (v : Bool) → p b ≡ v → list_all p (take (prefix_len p bs) bs) ≡ true →
     list_all p (take (cond v (1 + prefix_len p bs) 0) (b ∷ bs)) ≡ true
@@ -17,5 +17,5 @@ pub run_longest : (p : ℕ → Bool) (bs : List ℕ) (k : ℕ) → k ≤ length 
     k ≤ prefix_len p bs
 run_longest p [] k le h = le
 run_longest p (b ∷ bs) zero le h = omega arith
-run_longest p (b ∷ bs) (suc k) le h = rw (and_left (p b) (list_all p (take k bs)) h)
-    (omega (arith, run_longest p bs k (omega arith) (and_right (p b) (list_all p (take k bs)) h)))
+run_longest p (b ∷ bs) (suc k) le h = rw (and_parts (p b) (list_all p (take k bs)) h).0
+    (omega (arith, run_longest p bs k (omega arith) (and_parts (p b) (list_all p (take k bs)) h).1))

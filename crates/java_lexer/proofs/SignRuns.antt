@@ -5,14 +5,14 @@ use Rattle.std.specs.Prelude.{nat_eq, nat_le}
 use Rattle.std.specs.List.{list_all, starts_with}
 use Rattle.std.specs.Cmp.Lexicographic.{pointwise, bytes_decides}
 use Rattle.std.proofs.lemmas.List.{length-take-le}
-use Rattle.std.proofs.lemmas.Bool.{false≢true}
+use Rattle.std.proofs.lemmas.Bool.{false≢true, and_parts, or_cases, or_right}
 use Rattle.std.proofs.lemmas.Bool.Decides.{nat_tests}
+use Rattle.std.proofs.lemmas.Option.{same_Some}
 use Rattle.racer_base.specs.Name.{is_listed}
 use Rattle.java_lexer.specs.Signs.{signs}
 use Rattle.java_lexer.specs.Scanning.{signs_with, first_len}
 use Rattle.java_lexer.proofs.Tables.{cut_listed}
-use Rattle.java_lexer.proofs.Bytes.{and_left, and_right, each_below}
-use Rattle.java_lexer.proofs.SomeFronts.{or_cases, or_right}
+use Rattle.java_lexer.proofs.Bytes.{each_below}
 
 pub signs_listed : (b : ℕ) (bs : List ℕ) → is_listed (signs_with b) (b ∷ bs) ≡ is_listed signs (b ∷ bs)
 unfolding signs_with
@@ -37,8 +37,8 @@ listed_short n [] bytes short h = absurd (false≢true h)
 listed_short n (t ∷ ts) bytes short h =
     elim (or_cases (pointwise nat_eq bytes t) (is_listed ts bytes) h) [
       | inl e ↦ let same : bytes ≡ t = (bytes_decides bytes t).0 e in
-          omega (arith, ap length same, le_true (length t) n (and_left _ _ short))
-      | inr e ↦ listed_short n ts bytes (and_right _ _ short) e
+          omega (arith, ap length same, le_true (length t) n (and_parts _ _ short).0)
+      | inr e ↦ listed_short n ts bytes (and_parts _ _ short).1 e
     ]
 
 -- ---- the first in the table that begins the text is the longest
@@ -56,14 +56,11 @@ pub record IsLongestIn (table : List (List ℕ)) (text : List ℕ) (n : ℕ) : T
   pub is : is_listed table (take n text) ≡ true
   pub longest : (m : ℕ) → m ≤ length text → is_listed table (take m text) ≡ true → m ≤ n
 
-some_nat : (x y : ℕ) → Some x ≡ Some y → x ≡ y
-some_nat x y e = cc
-
 found_case : (t : List ℕ) (ts : List (List ℕ)) (text : List ℕ) (n : ℕ) (v : Bool) → starts_with nat_eq text t ≡ v →
     falls (t ∷ ts) ≡ true → cond v (Some (length t)) (first_len ts text) ≡ Some n →
     (first_len ts text ≡ Some n → IsLongestIn ts text n) → IsLongestIn (t ∷ ts) text n
 found_case t ts text n true f fall e ih =
-    let len = some_nat (length t) n e in
+    let len = same_Some (length t) n e in
     let same : t ≡ take (length t) text = (bytes_decides t (take (length t) text)).0 f in
     let fits : length t ≤ length text = omega (arith, ap length same, length-take (length t) text) in
     let back : pointwise nat_eq (take (length t) text) t ≡ true =
@@ -76,7 +73,7 @@ found_case t ts text n true f fall e ih =
         | inr e ↦ omega (
           arith,
           listed_short (length t) ts (take m text)
-              (and_left _ _ fall) e,
+              (and_parts _ _ fall).0 e,
           length-take-le m text le,
         )
       ];
@@ -96,7 +93,7 @@ pub sign_found : (table : List (List ℕ)) (text : List ℕ) (n : ℕ) → falls
     IsLongestIn table text n
 sign_found [] text n fall e = absurd cc
 sign_found (t ∷ ts) text n fall e = found_case t ts text n (starts_with nat_eq text t) refl fall e
-    (sign_found ts text n (and_right _ _ fall))
+    (sign_found ts text n (and_parts _ _ fall).1)
 
 missing_case : (t : List ℕ) (ts : List (List ℕ)) (text : List ℕ) (v : Bool) → starts_with nat_eq text t ≡ v →
     cond v (Some (length t)) (first_len ts text) ≡ None → (m : ℕ) → m ≤ length text →

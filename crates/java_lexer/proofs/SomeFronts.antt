@@ -1,25 +1,9 @@
 -- Fronts of a text that pass a test.
-use Rattle.std.proofs.Common.{◌≡◌, ℕ, zero, suc, ◌≤◌, ◌<◌, Bool, true, false, ◌||◌, List, length, take, inl, inr, ◌⊎◌}
-use Rattle.std.proofs.Common.{refl, arith}
-use Rattle.std.proofs.lemmas.Bool.{false≢true}
+use Rattle.std.proofs.Common.{◌≡◌, ℕ, zero, suc, ◌≤◌, ◌<◌, Bool, true, false, List, length, take, inl, inr}
+use Rattle.std.proofs.Common.{arith}
+use Rattle.std.proofs.lemmas.Bool.{false≢true, false_from_ne_true, or_cases, or_left, or_right}
 use Rattle.java_lexer.specs.Fronts.{some_upto, some_front}
 use Rattle.java_lexer.proofs.Bytes.{or_less}
-
-pub or_cases : (a b : Bool) → (a || b) ≡ true → (a ≡ true) ⊎ (b ≡ true)
-or_cases true b h = inl refl
-or_cases false b h = inr h
-
-pub or_left : (a b : Bool) → a ≡ true → (a || b) ≡ true
-or_left true b h = refl
-or_left false b h = absurd (false≢true h)
-
-pub or_right : (a b : Bool) → b ≡ true → (a || b) ≡ true
-or_right true b h = refl
-or_right false b h = h
-
-pub is_false : (a : Bool) → (a ≡ true → ⊥) → a ≡ false
-is_false true h = absurd (h refl)
-is_false false h = refl
 
 upto_is : (is : List ℕ → Bool) (text : List ℕ) (m n : ℕ) → 0 < n → n ≤ m → is (take n text) ≡ true →
     some_upto is text m ≡ true
@@ -51,4 +35,4 @@ front_found is text h = upto_found is text (length text) h
 
 pub no_front : (is : List ℕ → Bool) (text : List ℕ) →
     ((n : ℕ) → 0 < n → n ≤ length text → is (take n text) ≡ true → ⊥) → some_front is text ≡ false
-no_front is text h = is_false (some_front is text) (λ e. let f = front_found is text e in h f.0 f.1 f.2 f.3)
+no_front is text h = false_from_ne_true (some_front is text) (λ e. let f = front_found is text e in h f.0 f.1 f.2 f.3)

@@ -3,12 +3,10 @@ use Rattle.std.proofs.Common.{◌≡◌, ℕ, Bool, true, false, cond, ◌&&◌,
 use Rattle.std.proofs.Common.{eqb-true}
 use Rattle.std.specs.Prelude.{filter, nat_eq}
 use Rattle.std.specs.Cmp.Lexicographic.{pointwise}
-use Rattle.std.proofs.lemmas.Bool.{false≢true, true≢false}
+use Rattle.std.proofs.lemmas.Bool.{false≢true, true≢false, and_parts, false_from_ne_true}
 use Rattle.std.proofs.lemmas.Bool.Decides.{nat_tests}
 use Rattle.racer_base.specs.Name.{is_listed, keywords}
 use Rattle.java_lexer.specs.Scanning.{keywords_with, begins_with}
-use Rattle.java_lexer.proofs.Bytes.{and_left}
-use Rattle.java_lexer.proofs.SomeFronts.{is_false}
 
 -- a group of the table f, at another name of its byte
 pub row : (f : ℕ → List (List ℕ)) (n b : ℕ) (group : List (List ℕ)) → group ≡ f n → b ≡ n → group ≡ f b
@@ -25,8 +23,8 @@ or_none false (t ∷ ts) h e = absurd (false≢true h)
 
 other_first : (t : List ℕ) (b : ℕ) (bs : List ℕ) → begins_with b t ≡ false → pointwise nat_eq (b ∷ bs) t ≡ false
 other_first [] b bs h = refl
-other_first (c ∷ cs) b bs h = is_false (nat_eq b c && pointwise nat_eq bs cs) (λ e.
-    let same : b ≡ c = eqb-true b c (and_left (nat_eq b c) (pointwise nat_eq bs cs) e) in
+other_first (c ∷ cs) b bs h = false_from_ne_true (nat_eq b c && pointwise nat_eq bs cs) (λ e.
+    let same : b ≡ c = eqb-true b c (and_parts (nat_eq b c) (pointwise nat_eq bs cs) e).0 in
     false≢true (sym h ∙ grind (arith, nat_tests)))
 
 cut_case : (t : List ℕ) (ts : List (List ℕ)) (b : ℕ) (bs : List ℕ) (v : Bool) → begins_with b t ≡ v →

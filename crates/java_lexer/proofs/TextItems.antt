@@ -4,7 +4,7 @@ use Rattle.std.proofs.Common.{List, [], ◌∷◌, ◌++◌, length, take, drop,
 use Rattle.std.proofs.Common.{IsTrue, eqb-true, append_assoc, length-append, length-drop, take_at, take-append-drop}
 use Rattle.std.specs.Prelude.{◌==◌}
 use Rattle.std.specs.List.{concat, list_all}
-use Rattle.std.proofs.lemmas.Bool.{false≢true}
+use Rattle.std.proofs.lemmas.Bool.{false≢true, and_parts, not_from_false, or_cases}
 use Rattle.std.proofs.lemmas.Bool.Decides.{nat_tests}
 use Rattle.std.proofs.lemmas.List.Elements.{All-head, All-tail, All-cons}
 use Rattle.java_lexer.specs.Kinds.{is_nothing}
@@ -14,14 +14,11 @@ use Rattle.java_lexer.specs.Literals.{behind_u_run, is_unicode_escape, is_escape
 use Rattle.java_lexer.specs.Literals.{is_quoted, between_quotes, escapes_hold, hold_behind_one, is_text}
 use Rattle.java_lexer.specs.Items.{is_plain, IsTextItem, TextOfItems}
 use Rattle.java_lexer.specs.Fronts.{some_front}
-use Rattle.java_lexer.proofs.Bytes.{and_left, and_right, never_both}
-use Rattle.java_lexer.proofs.SomeFronts.{or_cases, front_is, front_found}
+use Rattle.java_lexer.proofs.Bytes.{never_both}
+use Rattle.java_lexer.proofs.SomeFronts.{front_is, front_found}
 use Rattle.java_lexer.proofs.QuotedItems.{no_items, none_of, all_fail, plain_goes, escaped_goes, quoted_is, ends_items}
 
 -- ---- the bytes of an escape behind its first are plain
-
-not_false : (v : Bool) → v ≡ false → not v ≡ true
-not_false v e = rw e refl
 
 simple_below : (b : ℕ) → is_simple b ≡ true → b < 128
 simple_below b h = grind (arith, nat_tests)
@@ -36,16 +33,16 @@ abbrev is_special : ℕ → Bool
 is_special b = b == 34 || b == 92 || is_line_end b
 
 simple_inline : (b : ℕ) → is_simple b ≡ true → is_inline b ≡ true
-simple_inline b h = not_false (is_line_end b) (never_both is_simple is_line_end refl b (simple_below b h) h)
+simple_inline b h = not_from_false (is_line_end b) (never_both is_simple is_line_end refl b (simple_below b h) h)
 
 octal_inline : (b : ℕ) → is_octal b ≡ true → is_inline b ≡ true
-octal_inline b h = not_false (is_line_end b) (never_both is_octal is_line_end refl b (octal_below b h) h)
+octal_inline b h = not_from_false (is_line_end b) (never_both is_octal is_line_end refl b (octal_below b h) h)
 
 octal_plain : (b : ℕ) → is_octal b ≡ true → is_plain 34 b ≡ true
-octal_plain b h = not_false (is_special b) (never_both is_octal is_special refl b (octal_below b h) h)
+octal_plain b h = not_from_false (is_special b) (never_both is_octal is_special refl b (octal_below b h) h)
 
 hex_plain : (b : ℕ) → is_hex b ≡ true → is_plain 34 b ≡ true
-hex_plain b h = not_false (is_special b) (never_both is_hex is_special refl b (hex_below b h) h)
+hex_plain b h = not_from_false (is_special b) (never_both is_hex is_special refl b (hex_below b h) h)
 
 abbrev ArePlain : List ℕ → Type 0
 ArePlain bs = list_all (is_plain 34) bs ≡ true
@@ -53,7 +50,7 @@ ArePlain bs = list_all (is_plain 34) bs ≡ true
 all_plain : (test : ℕ → Bool) → ((b : ℕ) → test b ≡ true → is_plain 34 b ≡ true) → (bs : List ℕ) →
     list_all test bs ≡ true → ArePlain bs
 all_plain test plain [] h = refl
-all_plain test plain (b ∷ bs) h = rw (plain b (and_left _ _ h)) (all_plain test plain bs (and_right _ _ h))
+all_plain test plain (b ∷ bs) h = rw (plain b (and_parts _ _ h).0) (all_plain test plain bs (and_parts _ _ h).1)
 
 u_run_case : (b : ℕ) (bs : List ℕ) (v : Bool) → (b == 117) ≡ v → ArePlain (cond v (behind_u_run bs) (b ∷ bs)) →
     (ArePlain (behind_u_run bs) → ArePlain bs) → ArePlain (b ∷ bs)
@@ -72,19 +69,19 @@ escape_plain : (b : ℕ) (bs : List ℕ) → is_escape 34 (b ∷ bs) ≡ true �
 escape_plain b bs h =
     elim (or_cases (is_simple_escape (b ∷ bs) || is_octal_escape (b ∷ bs)) (is_unicode_escape 34 (b ∷ bs)) h) [
       | inl e ↦ elim (or_cases (is_simple_escape (b ∷ bs)) (is_octal_escape (b ∷ bs)) e) [
-        | inl simple ↦ (simple_inline b (and_left _ _ simple), nothing_plain bs (and_right (is_simple b) _ simple))
+        | inl simple ↦ (simple_inline b (and_parts _ _ simple).0, nothing_plain bs (and_parts (is_simple b) _ simple).1)
         | inr octal ↦ (
-          octal_inline b (and_left _ _ (and_left _ _ octal)),
+          octal_inline b (and_parts _ _ (and_parts _ _ octal).0).0,
           all_plain is_octal octal_plain bs
-              (and_right (is_octal b) _ (and_left _ _ octal)),
+              (and_parts (is_octal b) _ (and_parts _ _ octal).0).1,
         )
       ]
       | inr e ↦
-          let is : b ≡ 117 = eqb-true b 117 (and_left _ _ e) in
-          let unit : is_allowed_unit 34 (behind_u_run bs) ≡ true = and_right (b == 117) _ e in (
+          let is : b ≡ 117 = eqb-true b 117 (and_parts _ _ e).0 in
+          let unit : is_allowed_unit 34 (behind_u_run bs) ≡ true = (and_parts (b == 117) _ e).1 in (
             rw is refl,
             u_run_plain bs (all_plain is_hex hex_plain (behind_u_run bs)
-                (and_right _ _ (and_left _ _ unit))),
+                (and_parts _ _ (and_parts _ _ unit).0).1),
           )
     ]
 
@@ -95,17 +92,17 @@ plain_holds b bs p = let n = none_of (b == 34) (b == 92) (is_line_end b) p in rw
 
 plains_end : (ps bs : List ℕ) → ArePlain ps → ends_quoted 34 (ps ++ bs) ≡ ends_quoted 34 bs
 plains_end [] bs h = refl
-plains_end (p ∷ ps) bs h = plain_goes 34 p (ps ++ bs) (and_left _ _ h)
-    ∙ plains_end ps bs (and_right (is_plain 34 p) _ h)
+plains_end (p ∷ ps) bs h = plain_goes 34 p (ps ++ bs) (and_parts _ _ h).0
+    ∙ plains_end ps bs (and_parts (is_plain 34 p) _ h).1
 
 plains_hold : (ps bs : List ℕ) → ArePlain ps → escapes_hold (ps ++ bs) ≡ escapes_hold bs
 plains_hold [] bs h = refl
-plains_hold (p ∷ ps) bs h = plain_holds p (ps ++ bs) (and_left _ _ h)
-    ∙ plains_hold ps bs (and_right (is_plain 34 p) _ h)
+plains_hold (p ∷ ps) bs h = plain_holds p (ps ++ bs) (and_parts _ _ h).0
+    ∙ plains_hold ps bs (and_parts (is_plain 34 p) _ h).1
 
 -- ---- items are a text literal
 
-Holds : List ℕ → Type 0
+pub Holds : List ℕ → Type 0
 Holds bs = (ends_quoted 34 (bs ++ (34 ∷ [])) ≡ true) × (escapes_hold bs ≡ true)
 
 both_hold : (bs : List ℕ) → ends_quoted 34 (bs ++ (34 ∷ [])) ≡ true → escapes_hold bs ≡ true → Holds bs
@@ -154,11 +151,8 @@ to_text bytes h =
 
 -- ---- a text literal is items
 
-HasText : List ℕ → Type 0
-HasText bs = (items : List (List ℕ)) × All IsTextItem items × (bs ≡ concat items)
-
-one_item : (item bs : List ℕ) → IsTextItem item → HasText bs → HasText (item ++ bs)
-unfolding HasText
+one_item : (item bs : List ℕ) → IsTextItem item → Holds bs → Holds (item ++ bs)
+unfolding Holds
 one_item item bs is h = (item ∷ h.0, All-cons IsTextItem item h.0 is h.1, ap (λ (t : List ℕ). item ++ t) h.2)
 
 no_more : (bs : List ℕ) → is_nothing (bs ++ (34 ∷ [])) ≡ true → ⊥
@@ -168,12 +162,12 @@ no_more (b ∷ bs) h = false≢true h
 -- a backslash, and what an escape behind it takes along
 behind_backslash : (n : ℕ) (bs : List ℕ) → length bs ≤ n → some_front (is_escape 34) bs ≡ true →
     ends_behind_one 34 (bs ++ (34 ∷ [])) ≡ true → hold_behind_one bs ≡ true →
-    ((rest : List ℕ) → length rest ≤ n → Holds rest → HasText rest) → HasText (92 ∷ bs)
+    ((rest : List ℕ) → length rest ≤ n → Holds rest → Holds rest) → Holds (92 ∷ bs)
 behind_backslash n [] le some ends hold more =
     absurd (let f = front_found (is_escape 34) [] some in omega (arith, f.1, f.2))
 behind_backslash n (c ∷ cs) le some ends hold more = let f = front_found (is_escape 34) (c ∷ cs) some in at f.0 f.1 f.3
   where
-    at : (k : ℕ) → 0 < k → is_escape 34 (take k (c ∷ cs)) ≡ true → HasText (92 ∷ c ∷ cs)
+    at : (k : ℕ) → 0 < k → is_escape 34 (take k (c ∷ cs)) ≡ true → Holds (92 ∷ c ∷ cs)
     at zero pos is = absurd (omega arith)
     at (suc j) pos is =
         let plain = escape_plain c (take j cs) is in
@@ -182,36 +176,37 @@ behind_backslash n (c ∷ cs) le some ends hold more = let f = front_found (is_e
         ap (λ (t : List ℕ). t ++ (34 ∷ [])) (sym whole) ∙ append_assoc (take j cs) (drop j cs) (34 ∷ []) in
         let ends_rest : ends_quoted 34 (drop j cs ++ (34 ∷ [])) ≡ true =
         sym (plains_end (take j cs) (drop j cs ++ (34 ∷ [])) plain.1) ∙ sym (ap (ends_quoted 34) split)
-        ∙ and_right (not (is_line_end c)) (ends_quoted 34 (cs ++ (34 ∷ []))) ends in
+        ∙ (and_parts (not (is_line_end c)) (ends_quoted 34 (cs ++ (34 ∷ []))) ends).1 in
         let hold_rest : escapes_hold (drop j cs) ≡ true =
         sym (plains_hold (take j cs) (drop j cs) plain.1) ∙ ap escapes_hold whole ∙ hold in
-        let rest : HasText (drop j cs) = more (drop j cs) (omega (arith, length-drop j cs))
+        let rest : Holds (drop j cs) = more (drop j cs) (omega (arith, length-drop j cs))
         (both_hold (drop j cs) ends_rest hold_rest) in
-        subst (λ (t : List ℕ). HasText (92 ∷ c ∷ t)) whole
+        subst (λ (t : List ℕ). Holds (92 ∷ c ∷ t)) whole
         (one_item (92 ∷ c ∷ take j cs) (drop j cs) (inr (c ∷ take j cs, refl, is)) rest)
 
 text_case : (n b : ℕ) (bs : List ℕ) (v w : Bool) → length bs ≤ n → (b == 34) ≡ v → (b == 92) ≡ w →
     cond v (is_nothing (bs ++ (34 ∷ []))) (cond w (ends_behind_one 34 (bs ++ (34 ∷ [])))
     (not (is_line_end b) && ends_quoted 34 (bs ++ (34 ∷ [])))) ≡ true →
     cond w (some_front (is_escape 34) bs && hold_behind_one bs) (escapes_hold bs) ≡ true →
-    ((rest : List ℕ) → length rest ≤ n → Holds rest → HasText rest) → HasText (b ∷ bs)
+    ((rest : List ℕ) → length rest ≤ n → Holds rest → Holds rest) → Holds (b ∷ bs)
 text_case n b bs true w le e f ends hold more = absurd (no_more bs ends)
 text_case n b bs false true le e f ends hold more =
     let is : b ≡ 92 = eqb-true b 92 f in
-    rw is (behind_backslash n bs le (and_left _ _ hold) ends (and_right (some_front (is_escape 34) bs) _ hold) more)
+    rw is (behind_backslash n bs le (and_parts _ _ hold).0 ends (and_parts (some_front (is_escape 34) bs) _ hold).1
+    more)
 text_case n b bs false false le e f ends hold more =
-    one_item (b ∷ []) bs (inl (b, refl, all_fail (b == 34) (b == 92) (is_line_end b) e f (and_left _ _ ends)))
-    (more bs le (both_hold bs (and_right (not (is_line_end b)) (ends_quoted 34 (bs ++ (34 ∷ []))) ends) hold))
+    one_item (b ∷ []) bs (inl (b, refl, all_fail (b == 34) (b == 92) (is_line_end b) e f (and_parts _ _ ends).0))
+    (more bs le (both_hold bs (and_parts (not (is_line_end b)) (ends_quoted 34 (bs ++ (34 ∷ []))) ends).1 hold))
 
-text_upto : (n : ℕ) (bs : List ℕ) → length bs ≤ n → Holds bs → HasText bs
-unfolding Holds HasText
+text_upto : (n : ℕ) (bs : List ℕ) → length bs ≤ n → Holds bs → Holds bs
+unfolding Holds Holds
 text_upto n [] le h = ([], no_items IsTextItem, refl)
 text_upto zero (b ∷ bs) le h = absurd (omega arith)
 text_upto (suc n) (b ∷ bs) le h = text_case n b bs (b == 34) (b == 92) (omega arith) refl refl h.0 h.1 (text_upto n)
 
 of_content : (b : ℕ) (bs content : List ℕ) → b ≡ 34 → bs ≡ content ++ (34 ∷ []) → ends_quoted 34 bs ≡ true →
     escapes_hold (between_quotes (b ∷ bs)) ≡ true → TextOfItems (b ∷ bs)
-unfolding Holds HasText
+unfolding Holds Holds
 of_content b bs content is e ends hold =
     let same : between_quotes (b ∷ bs) ≡ content = ap (λ (t : List ℕ). between_quotes (b ∷ t)) e ∙ between content in
     let t = text_upto (length content) content (omega arith)
@@ -221,10 +216,11 @@ of_content b bs content is e ends hold =
 of_text : (bytes : List ℕ) → is_text bytes ≡ true → TextOfItems bytes
 of_text [] h = absurd (false≢true h)
 of_text (b ∷ bs) h =
-    let quoted : is_quoted 34 (b ∷ bs) ≡ true = and_left _ _ h in
-    let ends : ends_quoted 34 bs ≡ true = and_right (b == 34) (ends_quoted 34 bs) quoted in
+    let quoted : is_quoted 34 (b ∷ bs) ≡ true = (and_parts _ _ h).0 in
+    let ends : ends_quoted 34 bs ≡ true = (and_parts (b == 34) (ends_quoted 34 bs) quoted).1 in
     let f = ends_items 34 bs ends in
-    of_content b bs (concat f.0) (eqb-true b 34 (and_left _ _ quoted)) f.2 ends (and_right (is_quoted 34 (b ∷ bs)) _ h)
+    of_content b bs (concat f.0) (eqb-true b 34 (and_parts _ _ quoted).0) f.2 ends
+    (and_parts (is_quoted 34 (b ∷ bs)) _ h).1
 
 pub text_items : (bytes : List ℕ) → (IsTrue (is_text bytes) ↔ TextOfItems bytes)
 text_items bytes = (of_text bytes, to_text bytes)

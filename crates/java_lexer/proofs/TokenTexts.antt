@@ -7,7 +7,7 @@ use Rattle.std.specs.Str.{IsAscii, IsUtf8, IsCharBoundary}
 use Rattle.std.proofs.lemmas.Str.{IsUtf8-from_ascii, IsUtf8-between, IsCharBoundary-before_ascii}
 use Rattle.std.proofs.lemmas.Str.{IsCharBoundary-after_ascii}
 use Rattle.std.proofs.lemmas.List.{length-take-le, get_or-take, get_or-drop}
-use Rattle.std.proofs.lemmas.Bool.{false≢true}
+use Rattle.std.proofs.lemmas.Bool.{false≢true, and_parts, or_cases}
 use Rattle.racer_base.specs.Name.{is_digit, is_word}
 use Rattle.java_lexer.specs.declared.piece.PieceKind.TheVariants.{White, Comment, Token}
 use Rattle.java_lexer.specs.declared.token.TokenKind.{TokenKind}
@@ -18,9 +18,7 @@ use Rattle.java_lexer.specs.Numbers.{is_next, go_on, begins_hex, is_number}
 use Rattle.java_lexer.specs.Literals.{ends_quoted, ends_behind_one, is_quoted, is_character, is_text}
 use Rattle.java_lexer.specs.Signs.{signs, is_sign}
 use Rattle.java_lexer.specs.JavaKinds.{java_kind}
-use Rattle.java_lexer.proofs.Bytes.{and_left, and_right}
 use Rattle.java_lexer.proofs.Ascii.{word_ascii, ascii_more, digit_below, word_byte_below, listed_ascii}
-use Rattle.java_lexer.proofs.SomeFronts.{or_cases}
 
 -- ---- numbers and signs
 
@@ -28,10 +26,10 @@ next_below : (hex : Bool) (b c : ℕ) → is_next hex b c ≡ true → c < 128
 next_below hex b c h =
     elim (or_cases (is_number_byte c || (c == 46)) _ h) [
       | inl e ↦ elim (or_cases (is_number_byte c) (c == 46) e) [
-        | inl number ↦ word_byte_below c (and_left _ _ number)
+        | inl number ↦ word_byte_below c (and_parts _ _ number).0
         | inr dot ↦ let is : c ≡ 46 = eqb-true c 46 dot in omega arith
       ]
-      | inr e ↦ elim (or_cases (c == 43) (c == 45) (and_left _ _ e)) [
+      | inr e ↦ elim (or_cases (c == 43) (c == 45) (and_parts _ _ e).0) [
         | inl plus ↦ let is : c ≡ 43 = eqb-true c 43 plus in omega arith
         | inr minus ↦ let is : c ≡ 45 = eqb-true c 45 minus in omega arith
       ]
@@ -42,17 +40,17 @@ none_ascii i = omega arith
 
 go_on_ascii : (hex : Bool) (b : ℕ) (bs : List ℕ) → go_on hex b bs ≡ true → IsAscii bs
 go_on_ascii hex b [] h = none_ascii
-go_on_ascii hex b (c ∷ cs) h = ascii_more c cs (next_below hex b c (and_left _ _ h))
-    (go_on_ascii hex c cs (and_right _ _ h))
+go_on_ascii hex b (c ∷ cs) h = ascii_more c cs (next_below hex b c (and_parts _ _ h).0)
+    (go_on_ascii hex c cs (and_parts _ _ h).1)
 
 number_ascii : (bytes : List ℕ) → is_number bytes ≡ true → IsAscii bytes
 number_ascii [] h = absurd (false≢true h)
 number_ascii (b ∷ bs) h =
-    let below : b < 128 = elim (or_cases (is_digit b) _ (and_left _ _ h)) [
+    let below : b < 128 = elim (or_cases (is_digit b) _ (and_parts _ _ h).0) [
       | inl digit ↦ digit_below b digit
-      | inr dot ↦ let is : b ≡ 46 = eqb-true b 46 (and_left _ _ dot) in omega arith
+      | inr dot ↦ let is : b ≡ 46 = eqb-true b 46 (and_parts _ _ dot).0 in omega arith
     ] in
-    ascii_more b bs below (go_on_ascii (begins_hex (b ∷ bs)) b bs (and_right _ _ h))
+    ascii_more b bs below (go_on_ascii (begins_hex (b ∷ bs)) b bs (and_parts _ _ h).1)
 
 sign_ascii : (bytes : List ℕ) → is_sign bytes ≡ true → IsAscii bytes
 unfolding signs
@@ -77,7 +75,7 @@ last_case : (q b : ℕ) (bs : List ℕ) (v w : Bool) → (b == q) ≡ v →
     (ends_quoted q bs ≡ true → LastIs q bs) → (ends_behind_one q bs ≡ true → LastIs q bs) → LastIs q (b ∷ bs)
 last_case q b bs true w e h ends behind = last_one q b bs (eqb-true b q e) h
 last_case q b bs false true e h ends behind = last_more q b bs (behind h)
-last_case q b bs false false e h ends behind = last_more q b bs (ends (and_right _ _ h))
+last_case q b bs false false e h ends behind = last_more q b bs (ends (and_parts _ _ h).1)
 
 last_both : (q : ℕ) (bs : List ℕ) → (ends_quoted q bs ≡ true → LastIs q bs)
     × (ends_behind_one q bs ≡ true → LastIs q bs)
@@ -86,7 +84,7 @@ last_both q (b ∷ bs) =
     let ih = last_both q bs in (
       λ h. last_case q b bs (b == q) (b == 92) refl h ih.0 ih.1,
       λ h. last_more q b bs
-          (ih.0 (and_right (not (is_line_end b)) (ends_quoted q bs) h)),
+          (ih.0 (and_parts (not (is_line_end b)) (ends_quoted q bs) h).1),
     )
 
 -- the first byte is the quote, and so is the last
@@ -95,9 +93,9 @@ quoted_edges : (q : ℕ) (bytes : List ℕ) → is_quoted q bytes ≡ true → (
 unfolding LastIs
 quoted_edges q [] h = absurd (false≢true h)
 quoted_edges q (b ∷ bs) h = (
-  eqb-true b q (and_left _ _ h),
+  eqb-true b q (and_parts _ _ h).0,
   last_more q b bs
-      ((last_both q bs).0 (and_right (b == q) (ends_quoted q bs) h)),
+      ((last_both q bs).0 (and_parts (b == q) (ends_quoted q bs) h).1),
 )
 
 quoted_utf8 : (q : ℕ) (bytes : List ℕ) (i n : ℕ) → q < 128 → IsUtf8 bytes → i + n ≤ length bytes →
@@ -153,7 +151,8 @@ token_utf8 bytes i n kind utf8 fits h =
       | inl word ↦ IsUtf8-from_ascii p (word_ascii p word)
       | inr (inl number) ↦ IsUtf8-from_ascii p (number_ascii p number)
       | inr (inr (inl character)) ↦ quoted_utf8 39 bytes i n (omega arith) utf8 fits
-          (and_left (is_quoted 39 p) _ character)
-      | inr (inr (inr (inl text))) ↦ quoted_utf8 34 bytes i n (omega arith) utf8 fits (and_left (is_quoted 34 p) _ text)
+          (and_parts (is_quoted 39 p) _ character).0
+      | inr (inr (inr (inl text))) ↦ quoted_utf8 34 bytes i n (omega arith) utf8 fits
+          (and_parts (is_quoted 34 p) _ text).0
       | inr (inr (inr (inr sign))) ↦ IsUtf8-from_ascii p (sign_ascii p sign)
     ]

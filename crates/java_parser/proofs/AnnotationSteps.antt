@@ -3,6 +3,7 @@ use Rattle.std.proofs.Common.{◌≡◌, ℕ, Bool, true, false, not, List, [], 
 use Rattle.std.proofs.Common.{codes}
 use Rattle.std.proofs.Common.{refl, ap, sym, ◌∙◌, append-nil}
 use Rattle.std.specs.Prelude.{◌&&◌, if◌then◌else◌, ◌||◌}
+use Rattle.std.proofs.lemmas.Bool.{and_parts}
 use Rattle.java_lexer.specs.declared.token.Token.{Token}
 use Rattle.java_tree.specs.declared.words.Spelled.{Spelled}
 use Rattle.java_tree.specs.declared.methods.AnnotationTree.{AnnotationTree}
@@ -11,7 +12,7 @@ use Rattle.java_tree.specs.Formed.{has_some}
 use Rattle.java_tree.specs.View.{annotation_of}
 use Rattle.java_tree.specs.Spelling.{behind_points, names_onto}
 use Rattle.java_parser_grammar.specs.Lookahead.{begins_with}
-use Rattle.java_parser_grammar.proofs.Ensuring.{name_is, and_first, and_last}
+use Rattle.java_parser_grammar.proofs.Ensuring.{name_is}
 use Rattle.java_parser_grammar.proofs.Taken.{sign_is}
 use Rattle.java_parser_grammar.specs.Tokens.{plain, plain_all, is_sign_token, is_name, begins}
 use Rattle.java_parser_grammar.specs.Declarations.{is_type_modifier}
@@ -65,8 +66,8 @@ point_spells [] name rest e = absurd cc
 point_spells (p ∷ []) name rest e = absurd cc
 point_spells (p ∷ n ∷ us) name rest e =
     let k = point_is (is_sign_token (codes ".") p && is_name n) n us name rest e in
-    let point = and_first (is_sign_token (codes ".") p) (is_name n) k.0 in
-    let named = and_last (is_sign_token (codes ".") p) (is_name n) k.0 in
+    let point = (and_parts (is_sign_token (codes ".") p) (is_name n) k.0).0 in
+    let named = (and_parts (is_sign_token (codes ".") p) (is_name n) k.0).1 in
     ap (λ (s : Spelled). s ∷ plain n ∷ plain_all us) (sign_is (codes ".") (plain p) point)
     ∙ ap (λ (s : Spelled). sign (codes ".") ∷ s ∷ plain_all us) (name_is (plain n) named)
     ∙ ap (λ (t : Token). sign (codes ".") ∷ identifier t.text ∷ plain_all us) k.1

@@ -16,6 +16,7 @@ use Rattle.java_tree.specs.Formed.{FormedTy}
 use Rattle.java_tree.specs.Nesting.{ty_nesting}
 use Rattle.java_tree.specs.KeptPlaces.{Places, kept, ty_places}
 use Rattle.java_tree.specs.View.{ty_of, modifier_of}
+use Rattle.java_tree.proofs.KeptWords.{kept-append}
 use Rattle.java_parser_grammar.specs.TypeReading.{ty_at}
 use Rattle.java_parser_grammar.proofs.Ensuring.{of_equation, name_is}
 use Rattle.java_parser_grammar.proofs.FoundTypes.{ty_found}
@@ -29,11 +30,11 @@ use Rattle.java_parser_grammar.specs.Pieces.{Item, items_from, items_of}
 use Rattle.java_parser_grammar.specs.FieldDivisions.{IsVariable, IsDivided}
 use Rattle.java_parser_grammar.specs.FieldDivisions.{before_first, between_commas, AreVariables, AreDeclared, AreFields}
 use Rattle.java_parser_grammar.proofs.Appended.{Appends, ty_append, modifiers_append}
+use Rattle.java_parser_grammar.proofs.Annotations.{ends_type}
 use Rattle.java_parser_types.specs.Tokens.{spelled}
 use Rattle.java_parser.specs.FieldModifiers.{Spells, NoModifiers, AreModifiers}
 use Rattle.java_parser.specs.Fronts.{EndsWith, IsFront}
-use Rattle.java_parser.proofs.ModifierSteps.{ends_type}
-use Rattle.java_parser.proofs.SameEnds.{same_ends, plain_append, same_size, kept_append}
+use Rattle.java_parser.proofs.SameEnds.{same_ends, plain_append, same_size}
 use Rattle.java_parser.proofs.SameEnds.{plain_ends, kept_ends}
 
 -- ---- a type is read
@@ -100,7 +101,7 @@ declared ts rest left f modifiers words read front variables =
       nested = g.small;
       spelled = sym (same_ends (map spelled all) (head_onto ms (ty_of f.kind) []) (map spelled left) (map spelled left)
           spells refl).front;
-      placed = (kept words.0, ap (λ ps. kept words.0 ++ ps) front.placed ∙ sym (kept_append words.0 front.front));
+      placed = (kept words.0, ap (λ ps. kept words.0 ++ ps) front.placed ∙ sym (kept-append words.0 front.front));
       divided = variables;
     }
 

@@ -9,7 +9,8 @@ use Rattle.java_tree.specs.declared.methods.FieldVariable.{FieldVariable}
 use Rattle.java_tree.specs.Formed.{Each}
 use Rattle.java_parser_grammar.specs.Tokens.{begins_sign}
 use Rattle.java_parser_grammar.specs.Pieces.{Item, items_of}
-use Rattle.java_parser_grammar.specs.FieldDivisions.{IsVariable, IsRead, IsDivided, AreRead, before_first, between_commas}
+use Rattle.java_parser_grammar.specs.FieldDivisions.{IsVariable, IsRead, IsDivided, AreRead, before_first}
+use Rattle.java_parser_grammar.specs.FieldDivisions.{between_commas}
 use Rattle.java_parser.specs.Divisions.{HasTree, NoDivision, EndsVariable, IsOnlySize, NoVariable, IsSized, IsCut}
 use Rattle.java_parser.specs.Divisions.{Passes, IsFirst, Divides, left_pieces}
 use Rattle.java_parser.proofs.SameEnds.{same_ends}

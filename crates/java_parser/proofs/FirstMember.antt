@@ -1,5 +1,6 @@
 -- The first member of a class is its items up to the one that ends it, and the others are those of the items behind.
-use Rattle.std.proofs.Common.{◌≡◌, ℕ, zero, suc, ◌≤◌, Bool, true, false, not, ◌&&◌, ◌||◌, List, [], ◌∷◌, ◌++◌, map, take, drop}
+use Rattle.std.proofs.Common.{◌≡◌, ℕ, zero, suc, ◌≤◌, Bool, true, false, not, ◌&&◌, ◌||◌, List, [], ◌∷◌, ◌++◌, map}
+use Rattle.std.proofs.Common.{take, drop}
 use Rattle.std.proofs.Common.{length, refl, ap, sym, ◌∙◌, codes, take-append-drop, length-append, arith}
 use Rattle.std.specs.Prelude.{if◌then◌else◌}
 use Rattle.java_lexer.specs.declared.token.Token.{Token}

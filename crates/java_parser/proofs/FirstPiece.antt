@@ -3,6 +3,7 @@ use Rattle.std.proofs.Common.{◌≡◌, ℕ, zero, suc, ◌≤◌, Bool, true, 
 use Rattle.std.proofs.Common.{length, map, Option, Some, None, refl, ap, sym, ◌∙◌, codes, arith, take-append-drop}
 use Rattle.std.proofs.lemmas.Bool.{and_parts}
 use Rattle.std.specs.Prelude.{◌==◌, if◌then◌else◌}
+use Rattle.std.proofs.Math.Bool.{and-false}
 use Rattle.java_lexer.specs.declared.token.Token.{Token}
 use Rattle.java_tree.specs.declared.words.Spelled.{Spelled}
 use Rattle.java_tree.specs.Words.{identifier, sign}
@@ -14,15 +15,14 @@ use Rattle.java_parser_grammar.specs.Cuts.{onto_first, with_cut, joined}
 use Rattle.java_parser_grammar.specs.Brackets.{is_opening, is_closing, depth_behind}
 use Rattle.java_parser_grammar.specs.Pieces.{Item, items_of, more_of_annotation, more_of_piece, cut_pieces, pieces_of}
 use Rattle.java_parser_grammar.proofs.Joined.{joined_append, joined_items}
+use Rattle.java_parser_grammar.proofs.Fronts.{nonzero}
 use Rattle.java_parser.specs.Sizes.{item_size}
-use Rattle.java_parser.specs.PieceSizes.{parentheses_size, annotation_size, behind_name, behind_at, piece_by, piece_size}
+use Rattle.java_parser.specs.PieceSizes.{parentheses_size, annotation_size, behind_name, behind_at, piece_by}
+use Rattle.java_parser.specs.PieceSizes.{piece_size}
 use Rattle.java_parser.proofs.FirstItem.{first_item, some_of}
 use Rattle.java_parser.proofs.FirstMember.{drop_front}
 
 -- ---- on items
-
-nonzero : (m : ℕ) → (suc m == 0) ≡ false
-nonzero m = grind arith
 
 run : (m : ℕ) (i : Item) (is : List Item) → m ≤ length is → with_cut (m == 0) i (cut_pieces m is) ≡ (i ∷ take m is)
     ∷ cut_pieces 0 (drop m is)
@@ -105,10 +105,6 @@ pub record SameParts (i j : Item) (is js : List Item) : Type 0 where
 parts : (i j : Item) (is js : List Item) → i ∷ is ≡ j ∷ js → SameParts i j is js
 parts i j is js e = record { first = cc; rest = cc }
 
-and_false : (b : Bool) → (b && false) ≡ false
-and_false true = refl
-and_false false = refl
-
 -- where the sign is not followed by a name among tokens, it is not among items
 not_followed : (text : List ℕ) (b : Bool) (t : Token) (ts : List Token) (i : Item) (is : List Item)
     → is_sign_token text t ≡ b → (is_sign_token text t && begins is_name ts) ≡ false → items_of (t ∷ ts) ≡ i ∷ is
@@ -171,7 +167,7 @@ by_name false p n ts h others = ends_there p (n ∷ ts) h
 
 behind : (ts : List Token) → Behind ts
 behind [] = refl
-behind (p ∷ []) = ends_there p [] (and_false (is_sign_token (codes ".") p))
+behind (p ∷ []) = ends_there p [] (and-false (is_sign_token (codes ".") p))
 behind (p ∷ n ∷ ts) = by_name (is_sign_token (codes ".") p && is_name n) p n ts refl (behind ts)
 
 -- ---- a piece
@@ -228,7 +224,7 @@ by_at false a n ts h = alone a (n ∷ ts) h
 pub first_piece : (ts : List Token) → 1 ≤ length ts → pieces_of ts ≡ take (piece_size ts) ts
     ∷ pieces_of (drop (piece_size ts) ts)
 first_piece [] some = absurd (omega arith)
-first_piece (t ∷ []) some = alone t [] (and_false (is_sign_token (codes "@") t))
+first_piece (t ∷ []) some = alone t [] (and-false (is_sign_token (codes "@") t))
 first_piece (a ∷ n ∷ ts) some = by_at (is_sign_token (codes "@") a && is_name n) a n ts refl
 
 some_by : (o : Option (List Token)) (ts : List Token) → 1 ≤ length ts → 1 ≤ piece_by o ts

@@ -1,5 +1,6 @@
 -- The head of a member is found piece by piece, and its name is the last token of it.
-use Rattle.std.proofs.Common.{◌≡◌, ℕ, ◌+◌, Bool, true, false, List, [], ◌∷◌, ◌++◌, Option, Some, None, length, take, drop}
+use Rattle.std.proofs.Common.{◌≡◌, ℕ, ◌+◌, Bool, true, false, List, [], ◌∷◌, ◌++◌, Option, Some, None, length, take}
+use Rattle.std.proofs.Common.{drop}
 use Rattle.std.proofs.Common.{refl, ap, sym, ◌∙◌, codes, take-append-drop, arith}
 use Rattle.std.proofs.lemmas.List.{append_assoc, append-nil}
 use Rattle.std.specs.Prelude.{option_map, if◌then◌else◌}

@@ -18,6 +18,7 @@ use Rattle.java_parser_grammar.proofs.SoundAnnotations.{Taken, modifiers_sound}
 use Rattle.java_parser_grammar.proofs.TypeFronts.{formed_longer}
 use Rattle.java_tree.specs.declared.unit.HeadResult.{HeadResult}
 use Rattle.java_tree.specs.declared.unit.HeadResult.TheVariants.{Void, Formed, Constructor, Unknown}
+use Rattle.java_tree.proofs.KeptWords.{kept-append}
 use Rattle.java_parser_grammar.specs.Heads.{EndsInResult, IsConstructor, HasHead, HeadSays, IsResult}
 use Rattle.java_parser_grammar.specs.Tokens.{plain_all}
 use Rattle.java_parser_types.specs.Tokens.{spelled}
@@ -27,7 +28,7 @@ use Rattle.java_parser.specs.ResultParts.{SpellsResult, SaysResult, SaysType, Is
 use Rattle.java_parser.specs.ResultParts.{HasNoModifiers}
 use Rattle.java_parser.proofs.LastPartSteps.{result_ended, is_end, EndsSo}
 use Rattle.java_parser_grammar.proofs.Appended.{modifiers_append}
-use Rattle.java_parser.proofs.SameEnds.{kept_append, plain_ends}
+use Rattle.java_parser.proofs.SameEnds.{plain_ends}
 
 -- ---- the end of tokens
 
@@ -149,7 +150,7 @@ pub head_says : (front rest : List Token) (r : HeadResult) → HasModifiers fron
 head_says front rest Void h end s = is_head front rest VoidResult h.0 h.1 s
 head_says front rest (Formed t) h end s = (
   is_head front rest (TypeResult (ty_of t)) h.0 h.1 s.0,
-  (kept end.0, ap (λ ps. kept end.0 ++ ps) s.1 ∙ sym (kept_append end.0 rest) ∙ sym (ap kept end.1)),
+  (kept end.0, ap (λ ps. kept end.0 ++ ps) s.1 ∙ sym (kept-append end.0 rest) ∙ sym (ap kept end.1)),
 )
 head_says front rest Constructor h end s = absurd s
 head_says front rest Unknown h end s = λ r some head.

@@ -26,7 +26,8 @@ use Rattle.java_parser_grammar.specs.Tokens.{plain_all}
 use Rattle.java_parser_grammar.specs.Members.{Form, SkippedForm, MethodForm, FieldForm, form_of, members_of}
 use Rattle.java_parser_grammar.specs.Pieces.{Item, items_of, pieces_of}
 use Rattle.java_parser_grammar.specs.Declarations.{types_among}
-use Rattle.java_parser_grammar.specs.Units.{BeginsAt, HasForm, IsMember, annotations_before, IsAnnotation, body_among, is_read}
+use Rattle.java_parser_grammar.specs.Units.{BeginsAt, HasForm, IsMember, annotations_before, IsAnnotation, body_among}
+use Rattle.java_parser_grammar.specs.Units.{is_read}
 use Rattle.java_parser_grammar.specs.Units.{IsClass, IsUnit}
 use Rattle.java_parser_grammar.proofs.Misfits.{one_cut}
 use Rattle.java_parser_methods.specs.PlacedMethods.{IsPlacedMethod}

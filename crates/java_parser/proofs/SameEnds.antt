@@ -4,7 +4,8 @@ use Rattle.std.proofs.Common.{if◌then◌else◌, length-append, arith}
 use Rattle.racer_base.specs.declared.ids.Place.{Place}
 use Rattle.java_lexer.specs.declared.token.Token.{Token}
 use Rattle.java_tree.specs.declared.words.Spelled.{Spelled}
-use Rattle.java_tree.specs.KeptPlaces.{Places, is_kept, place_onto, kept}
+use Rattle.java_tree.specs.KeptPlaces.{Places, is_kept, kept}
+use Rattle.java_tree.proofs.KeptWords.{kept-append}
 use Rattle.java_parser_types.specs.Tokens.{spelled}
 
 pub record SameEnds {A : Type 0} (a b x y : List A) : Type 0 where
@@ -51,12 +52,6 @@ place_append : (b : Bool) (p : Place) (ps qs : Places)
 place_append true p ps qs = refl
 place_append false p ps qs = refl
 
-pub kept_append : (r s : List Token) → kept (r ++ s) ≡ kept r ++ kept s
-kept_append [] s = refl
-kept_append (t ∷ r) s =
-    ap (place_onto t.kind t.text t.place) (kept_append r s) ∙ place_append (is_kept t.kind t.text) t.place (kept r)
-    (kept s)
-
 -- how many of these tokens are kept
 abbrev counted : Bool → ℕ → ℕ
 counted true n = suc n
@@ -83,4 +78,4 @@ kept_ends ts front rest left ps parts same places =
     let sizes : length (kept left) ≡ length (kept rest) = kept_length left ∙ ap kept_count (sym same)
     ∙ sym (kept_length rest) in
     (same_ends ps (kept front) (kept left) (kept rest)
-    (places ∙ ap kept parts ∙ kept_append front rest) sizes).front
+    (places ∙ ap kept parts ∙ kept-append front rest) sizes).front

@@ -5,7 +5,8 @@ use Rattle.java_lexer.specs.declared.token.Token.{Token}
 use Rattle.java_parser_grammar.specs.Tokens.{begins_sign, first_place}
 use Rattle.java_parser_grammar.specs.Cuts.{joined}
 use Rattle.java_parser_grammar.specs.Pieces.{Item, items_of}
-use Rattle.java_parser_grammar.specs.DeclarationWalk.{Seen, Whole, Modifiers, AtSign, AnnotationName, AnnotationPoint, TypeWord}
+use Rattle.java_parser_grammar.specs.DeclarationWalk.{Seen, Whole, Modifiers, AtSign, AnnotationName, AnnotationPoint}
+use Rattle.java_parser_grammar.specs.DeclarationWalk.{TypeWord}
 use Rattle.java_parser_grammar.specs.DeclarationWalk.{TypeName, Directive, seen_with, is_whole}
 use Rattle.java_parser.specs.declared.declarations.Declaration.{Declaration}
 use Rattle.java_parser.specs.declared.declarations.Seen as code

@@ -9,7 +9,8 @@ use Rattle.java_parser_types.specs.declared.error.ReadError.{ReadError}
 use Rattle.java_parser_types.specs.declared.error.ReadError.TheVariants.{Memory, Unformed}
 use Rattle.java_parser_grammar.specs.Taking.{◌>>=◌, match_option, after_sign}
 use Rattle.java_parser_grammar.specs.TypeReading.{after_brackets}
-use Rattle.java_parser_grammar.specs.Leads.{Lead, Assigns, Asks, Joins, Tests, Steps, Selects, Indexes, Opens, Ends, lead}
+use Rattle.java_parser_grammar.specs.Leads.{Lead, Assigns, Asks, Joins, Tests, Steps, Selects, Indexes, Opens, Ends}
+use Rattle.java_parser_grammar.specs.Leads.{lead}
 use Rattle.java_parser_grammar.specs.ExpressionReading.{Reading, Stop, Next, turn_with, climb_with, lengths_with}
 use Rattle.java_parser_grammar.specs.ExpressionReading.{items_with, operand_with, read_at, array_at}
 use Rattle.java_parser_grammar.specs.TypeReading.{ty_at, made_base_at}

@@ -14,17 +14,6 @@ use Rattle.java_parser_expressions.specs.declared.progress.Progress.{Progress}
 use Rattle.java_parser_expressions.specs.declared.progress.Progress.TheVariants as turned
 use Rattle.java_parser_expressions.specs.TurnView.{turn_of, places_put, IsWithin}
 
--- what is at most m is at most n
-pub fewer : {A : Type 0} (count : A → ℕ) (r : Result A ReadError) (m n : ℕ) → IfOk r (λ x. count x ≤ m) → m ≤ n
-    → IfOk r (λ x. count x ≤ n)
-fewer count (Ok x) m n h le = omega arith
-fewer count (Err e) m n h le = tt
-
-pub exactly : {A : Type 0} (count : A → ℕ) (r : Result A ReadError) (m n : ℕ) → IfOk r (λ x. count x ≡ m) → m ≤ n
-    → IfOk r (λ x. count x ≤ n)
-exactly count (Ok x) m n h le = omega arith
-exactly count (Err e) m n h le = tt
-
 pub within : (r : Result Progress ReadError) (m n : ℕ) → IfOk r (λ x. IsWithin x m) → m ≤ n → IfOk r (λ x. IsWithin x n)
 within (Ok (turned.Stop a)) m n h le = tt
 within (Ok (turned.Next a rest)) m n h le = omega arith

@@ -2,7 +2,8 @@
 use Rattle.std.proofs.Common.{◌≡◌, ℕ, true, false, Option, Some, Result, refl}
 use Rattle.java_tree.specs.Trees.{Expr, Postfix}
 use Rattle.java_parser_grammar.specs.Leads.{Lead, Assigns, Asks, Joins, Tests, Steps, Selects, Indexes, Opens, Ends}
-use Rattle.java_parser_grammar.specs.ExpressionReading.{Reading, Turn, Stop, turn_with, grown, assign_with, conditional_with}
+use Rattle.java_parser_grammar.specs.ExpressionReading.{Reading, Turn, Stop, turn_with, grown, assign_with}
+use Rattle.java_parser_grammar.specs.ExpressionReading.{conditional_with}
 use Rattle.java_parser_grammar.specs.ExpressionReading.{binary_with, instance_with, select_with, index_with}
 use Rattle.java_parser_grammar.specs.ExpressionReading.{read_at}
 use Rattle.java_parser_types.specs.declared.error.ReadError.{ReadError}

@@ -1,6 +1,7 @@
 -- Annotations and modifiers are read.
 use Rattle.std.proofs.Common.{◌≡◌, ℕ, zero, suc, ◌+◌, ◌≤◌, ◌<◌, false, List, [], ◌∷◌, ◌++◌, length, length-append}
 use Rattle.std.proofs.Common.{Option, Some, None, IsTrue, codes, refl, arith}
+use Rattle.std.proofs.lemmas.Bool.{and_parts}
 use Rattle.java_tree.specs.declared.words.Spelled.{Spelled}
 use Rattle.java_tree.specs.Words.{keyword, identifier}
 use Rattle.java_tree.specs.Brackets.{is_sign, awaited_behind, is_some_and, closes, are_parentheses_or_none}
@@ -13,7 +14,6 @@ use Rattle.java_parser_grammar.specs.Taking.{after_name, ◌>>=◌, after_sign}
 use Rattle.java_parser_grammar.specs.Lookahead.{begins_with, after_modifier}
 use Rattle.java_parser_grammar.specs.MethodReading.{closed_at, arguments_at, names_at, annotation_at, annotations_at}
 use Rattle.java_parser_grammar.specs.MethodReading.{modifiers_at}
-use Rattle.java_parser_grammar.proofs.Ensuring.{and_first, and_last}
 use Rattle.java_parser_grammar.proofs.Taken.{sign_is}
 use Rattle.java_parser_grammar.proofs.StatementFronts.{plain_cases}
 use Rattle.java_parser_grammar.proofs.Lengths.{names_longer}
@@ -45,8 +45,8 @@ arguments_found : (args rest : List Spelled) → IsTrue (are_parentheses_or_none
     rest ≡ false → arguments_at (args ++ rest) ≡ Some (args, rest)
 arguments_found [] rest h ends = rw ends refl
 arguments_found (t ∷ ts) rest h ends =
-    let here = and_first (is_sign (codes "(") t) (closes (codes ")" ∷ []) ts) h in
-    let inside = and_last (is_sign (codes "(") t) (closes (codes ")" ∷ []) ts) h in
+    let here = (and_parts (is_sign (codes "(") t) (closes (codes ")" ∷ []) ts) h).0 in
+    let inside = (and_parts (is_sign (codes "(") t) (closes (codes ")" ∷ []) ts) h).1 in
     rw (here, closed_found ts (codes ")" ∷ []) rest inside) refl
 
 -- no point stands before arguments
@@ -54,7 +54,7 @@ no_point_found : (args rest : List Spelled) → IsTrue (are_parentheses_or_none 
     rest ≡ None → after_sign (codes ".") (args ++ rest) ≡ None
 no_point_found [] rest h ends = ends
 no_point_found (t ∷ ts) rest h ends =
-    rw (sign_is (codes "(") t (and_first (is_sign (codes "(") t) (closes (codes ")" ∷ []) ts) h)) refl
+    rw (sign_is (codes "(") t (and_parts (is_sign (codes "(") t) (closes (codes ")" ∷ []) ts) h).0) refl
 
 -- ---- names
 
@@ -126,7 +126,7 @@ annotations_fit (n ∷ ns) rest = omega (arith, annotations_fit ns rest, annotat
 
 -- ---- modifiers
 
-modifiers_end : (ms : List Modifier) (rest : List Spelled) → EndsAnnotation rest → EndsAnnotation (modifiers_onto ms
+pub modifiers_end : (ms : List Modifier) (rest : List Spelled) → EndsAnnotation rest → EndsAnnotation (modifiers_onto ms
     rest)
 modifiers_end [] rest e = e
 modifiers_end (Word text ∷ ms) rest e = record { no_point = refl; no_open = refl }
@@ -154,7 +154,8 @@ modifiers_fit (Annotated n ∷ ms) rest =
 
 -- ---- what stands behind modifiers
 
-ends_plain : (text : List ℕ) (rest : List Spelled) → IsTrue (is_plain_word text) → EndsModifiers (keyword text ∷ rest)
+pub ends_plain : (text : List ℕ) (rest : List Spelled) → IsTrue (is_plain_word text) →
+    EndsModifiers (keyword text ∷ rest)
 ends_plain text rest h = record {
   annotation = record { no_point = refl; no_open = refl };
   no_at = refl;

@@ -17,7 +17,8 @@ use Rattle.java_tree.specs.Spelling.{more_arguments_onto, argument_onto, expr_on
 use Rattle.java_tree.specs.Spelling.{lengths_onto, array_onto, inits_onto, more_inits_onto, init_onto}
 use Rattle.java_tree.specs.Formed.{is_literal, FormedExpr, FormedExprs, FormedArray, FormedInits, FormedInit}
 use Rattle.java_parser_grammar.specs.Leads.{behind}
-use Rattle.java_parser_grammar.proofs.OperatorTexts.{assignment_balanced, prefix_balanced, step_balanced, binary_balanced}
+use Rattle.java_parser_grammar.proofs.OperatorTexts.{assignment_balanced, prefix_balanced, step_balanced}
+use Rattle.java_parser_grammar.proofs.OperatorTexts.{binary_balanced}
 
 -- ---- types
 

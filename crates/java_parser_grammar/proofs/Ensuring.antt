@@ -43,16 +43,6 @@ pub of_equation : {A : Type 0} (P : A → Type 0) (o : Option A) (x : A) → Ens
 of_equation P None x p e = absurd cc
 of_equation P (Some y) x p e = let same : y ≡ x = cc in rw (← same) p
 
--- ---- tests of two parts
-
-pub and_first : (b c : Bool) → (b && c) ≡ true → b ≡ true
-and_first true c h = refl
-and_first false c h = h
-
-pub and_last : (b c : Bool) → (b && c) ≡ true → c ≡ true
-and_last true c h = h
-and_last false c h = absurd cc
-
 -- ---- one token
 
 pub keyword_is : (text : List ℕ) (t : Spelled) → is_keyword text t ≡ true → t ≡ keyword text

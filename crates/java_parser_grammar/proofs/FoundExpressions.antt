@@ -13,9 +13,11 @@ use Rattle.java_parser_grammar.specs.Leads.{pull}
 use Rattle.java_parser_grammar.specs.ExpressionReading.{read_at, array_at, init_at}
 use Rattle.java_parser_grammar.proofs.Taken.{pull_nothing}
 use Rattle.java_parser_grammar.proofs.Meetings.{Met, alone}
-use Rattle.java_parser_grammar.proofs.MetLists.{MetArguments, GivenMore, given_none, given_some, more_none, more_some, Measured}
+use Rattle.java_parser_grammar.proofs.MetLists.{MetArguments, GivenMore, given_none, given_some, more_none, more_some}
+use Rattle.java_parser_grammar.proofs.MetLists.{Measured}
 use Rattle.java_parser_grammar.proofs.MetLists.{measured_none, measured_some, Filled, filled_none, filled_some, Begun}
-use Rattle.java_parser_grammar.proofs.MetLists.{begun_value, begun_items, FilledMore, filled_more_none, filled_more_some}
+use Rattle.java_parser_grammar.proofs.MetLists.{begun_value, begun_items, FilledMore, filled_more_none}
+use Rattle.java_parser_grammar.proofs.MetLists.{filled_more_some}
 use Rattle.java_parser_grammar.proofs.MetForms.{assign_met, conditional_met, binary_met, instance_met, prefix_met}
 use Rattle.java_parser_grammar.proofs.MetForms.{cast_met, postfix_met, literal_met, this_met, name_met, paren_met}
 use Rattle.java_parser_grammar.proofs.MetForms.{field_met, index_met, call_met, call_on_met, class_met, new_met}

@@ -124,7 +124,7 @@ made_part_found (Generic x (Angled (argument_then a others) g)) f n rest fits e 
     (argument_found a f.0 n others g rest (omega arith))
     (arguments_found others f.1 n (length s) g rest (omega arith) (omega (arith, arguments_longer others tail))))
 
-last_part : (p : Part) → FormedPart p → FormedLastPart p
+pub last_part : (p : Part) → FormedPart p → FormedLastPart p
 last_part (Bare x) f = tt
 last_part (Generic x (Angled list g)) f = f.0
 

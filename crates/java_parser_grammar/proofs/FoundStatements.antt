@@ -3,6 +3,7 @@ use Rattle.std.proofs.Common.{◌≡◌, ℕ, zero, suc, ◌≤◌, ◌<◌, max
 use Rattle.std.proofs.Common.{None, IsTrue, codes, refl, sym, ap, ◌∙◌, arith}
 use Rattle.std.specs.Prelude.{bytes_eq}
 use Rattle.std.specs.Cmp.Lexicographic.{bytes_decides}
+use Rattle.std.proofs.lemmas.Bool.{and_parts, or_right}
 use Rattle.java_tree.specs.declared.words.Spelled.{Spelled}
 use Rattle.java_tree.specs.Words.{keyword, sign}
 use Rattle.java_tree.specs.Trees.{Stmt, Block, Local, Run, If, IfElse, For, ForEach, Labelled, Empty, Row, Stmts}
@@ -33,7 +34,7 @@ use Rattle.java_parser_grammar.proofs.FoundGroups.{GroupsRead, groups_tail, grou
 use Rattle.java_parser_grammar.proofs.FoundGroups.{one_more_group, switch_read, group_less}
 use Rattle.java_parser_grammar.proofs.LongerStatements.{rows_fit, groups_fit}
 use Rattle.java_parser_grammar.proofs.ReadableRows.{Bears, RowEnd, is_readable, rows_readable, is_closed, closed_row}
-use Rattle.java_parser_grammar.proofs.ReadableRows.{and_first, and_last, or_last, row_end, name_lacks, sign_lacks}
+use Rattle.java_parser_grammar.proofs.ReadableRows.{row_end, name_lacks, sign_lacks}
 use Rattle.java_parser_grammar.proofs.ReadableRows.{body_end, last_end, list_end, list_last, absent_end, absent_last}
 use Rattle.java_parser_grammar.proofs.ReadableRows.{keyed, rows_of, groups_of}
 use Rattle.java_parser_grammar.proofs.StatementFronts.{NoJoin, joining_cases, starts_statement}
@@ -85,7 +86,7 @@ module _ (readers : Readers) (EndsTy EndsExpr : List Spelled → Type 0) (finds 
     stmt_found (If e s) (suc n) rest f fits b =
         if_found readers EndsTy EndsExpr finds (stmt_at readers n) n e s rest f.0 (omega arith) f.2
         (b (codes "else") refl refl)
-        (stmt_found s n rest f.1 (omega arith) (λ word j h. b word j (or_last (bytes_eq word (codes "else")) _ h)))
+        (stmt_found s n rest f.1 (omega arith) (λ word j h. b word j (or_right (bytes_eq word (codes "else")) _ h)))
     stmt_found (IfElse e s t) (suc n) rest f fits b =
         if_else_found readers EndsTy EndsExpr finds (stmt_at readers n) n e s t rest f.0 (omega arith) f.3 f.4
         (stmt_found s n (keyword (codes "else") ∷ stmt_onto t rest) f.1 (omega arith)
@@ -117,28 +118,28 @@ module _ (readers : Readers) (EndsTy EndsExpr : List Spelled → Type 0) (finds 
         sign_read readers EndsTy EndsExpr finds n text row t ps rest f.0 (pieces_found ps row n rest f.1 ok fits b)
     pieces_found (an_expr e ps) (AnExpr ▹ row) n rest f ok fits b =
         expr_read readers EndsTy EndsExpr finds n row e ps rest f.0 (omega arith)
-        (row_end EndsExpr finds.close_ends finds.semicolon_ends finds.colon_ends ps row rest f.1 (and_first _ _ ok))
-        (pieces_found ps row n rest f.1 (and_last _ _ ok) (omega arith) b)
+        (row_end EndsExpr finds.close_ends finds.semicolon_ends finds.colon_ends ps row rest f.1 (and_parts _ _ ok).0)
+        (pieces_found ps row n rest f.1 (and_parts _ _ ok).1 (omega arith) b)
     pieces_found (maybe_an_expr e ps) (Until end ▹ row) n rest f ok fits b =
         until_read readers EndsTy EndsExpr finds n end row e ps rest
-        (until_row readers EndsTy EndsExpr finds n end e ps row rest f.1 (and_first _ _ ok) f.0 (omega arith))
-        (pieces_found ps row n rest f.1 (and_last _ _ ok) (omega arith) b)
+        (until_row readers EndsTy EndsExpr finds n end e ps row rest f.1 (and_parts _ _ ok).0 f.0 (omega arith))
+        (pieces_found ps row n rest f.1 (and_parts _ _ ok).1 (omega arith) b)
     pieces_found (a_condition e ps) (ACondition ▹ row) n rest f ok fits b =
         condition_read readers EndsTy EndsExpr finds n row e ps rest f.0 (omega arith)
         (pieces_found ps row n rest f.1 ok (omega arith) b)
     pieces_found (maybe_a_name x ps) (MaybeName ▹ row) n rest f ok fits b =
-        name_read readers EndsTy EndsExpr finds n row x ps rest (name_lacks ps row rest f (and_first _ _ ok))
-        (pieces_found ps row n rest f (and_last _ _ ok) fits b)
+        name_read readers EndsTy EndsExpr finds n row x ps rest (name_lacks ps row rest f (and_parts _ _ ok).0)
+        (pieces_found ps row n rest f (and_parts _ _ ok).1 fits b)
     pieces_found (maybe_behind t e ps) (MaybeBehind text ▹ row) n rest f ok fits b =
-        let here = and_first _ _ ok in
+        let here = (and_parts _ _ ok).0 in
         behind_read readers EndsTy EndsExpr finds n t text row e ps rest f.0.0 f.0.1 (omega arith)
-        (row_end EndsExpr finds.close_ends finds.semicolon_ends finds.colon_ends ps row rest f.1 (and_first _ _ here))
-        (sign_lacks text ps row rest f.1 (and_last _ _ here))
-        (pieces_found ps row n rest f.1 (and_last _ _ ok) (omega arith) b)
+        (row_end EndsExpr finds.close_ends finds.semicolon_ends finds.colon_ends ps row rest f.1 (and_parts _ _ here).0)
+        (sign_lacks text ps row rest f.1 (and_parts _ _ here).1)
+        (pieces_found ps row n rest f.1 (and_parts _ _ ok).1 (omega arith) b)
     pieces_found (a_body s ps) (ABody ▹ row) n rest f ok fits b =
         body_read readers EndsTy EndsExpr finds n row s ps rest f.0.1
-        (stmt_found s n (pieces_onto ps rest) f.0.0 (omega arith) (body_end s ps row rest f.1 (and_first _ _ ok) b))
-        (pieces_found ps row n rest f.1 (and_last _ _ ok) (omega arith) (last_end s ps rest b))
+        (stmt_found s n (pieces_onto ps rest) f.0.0 (omega arith) (body_end s ps row rest f.1 (and_parts _ _ ok).0 b))
+        (pieces_found ps row n rest f.1 (and_parts _ _ ok).1 (omega arith) (last_end s ps rest b))
     pieces_found (a_block ss ps) (ABlock ▹ row) n rest f ok fits b =
         let behind = pieces_onto ps rest in
         block_read readers EndsTy EndsExpr finds n row ss ps rest
@@ -147,8 +148,8 @@ module _ (readers : Readers) (EndsTy EndsExpr : List Spelled → Type 0) (finds 
         (pieces_found ps row n rest f.1 ok (omega arith) b)
     pieces_found (maybe_resources rs ps) (MaybeResources ▹ row) n rest f ok fits b =
         resources_read readers EndsTy EndsExpr finds n row rs ps rest f.0 (omega arith)
-        (sign_lacks (codes "(") ps row rest f.1 (and_first _ _ ok))
-        (pieces_found ps row n rest f.1 (and_last _ _ ok) (omega arith) b)
+        (sign_lacks (codes "(") ps row rest f.1 (and_parts _ _ ok).0)
+        (pieces_found ps row n rest f.1 (and_parts _ _ ok).1 (omega arith) b)
     pieces_found (a_catch_parameter c ps) (ACatchParameter ▹ row) n rest f ok fits b =
         parameter_read readers EndsTy EndsExpr finds n row c ps rest f.0 (omega arith)
         (pieces_found ps row n rest f.1 ok (omega arith) b)

@@ -1,6 +1,7 @@
 -- Each formed type is read, whatever follows that does not go on with it.
 use Rattle.std.proofs.Common.{◌≡◌, ℕ, zero, suc, ◌≤◌, ◌<◌, max, Bool, List, [], ◌∷◌, length, Option, Some, None}
 use Rattle.std.proofs.Common.{IsTrue, refl, sym, ap, ◌∙◌, codes, arith}
+use Rattle.std.proofs.lemmas.Option.{same_Some}
 use Rattle.java_tree.specs.declared.words.Spelled.{Spelled}
 use Rattle.java_tree.specs.Words.{sign, sign_glued, keyword, identifier}
 use Rattle.java_tree.specs.Trees.{Ty, Typed, Base, Plain, Named, Parts, no_part, part_then, Part, Bare, Generic}
@@ -200,13 +201,10 @@ mutual
       super_found (ty_at n) t _ _ (ty_found t f n (more_arguments_onto others (sign_glued g (codes ">") ∷ rest)) fits
       (ends_argument others g rest))
 
-some_is : {A : Type 0} (p q : A) → Some p ≡ Some q → p ≡ q
-some_is p q e = cc
-
 -- two formed types with one spelling are equal
 pub one_type : (a b : Ty) → FormedTy a → FormedTy b → ty_onto a [] ≡ ty_onto b [] → a ≡ b
 one_type a b f g e =
     let n = max (ty_nesting a) (ty_nesting b) in
     let ends : EndsTy [] = record { less = refl; point = refl; brackets = refl } in
-    ap (λ (p : Ty × List Spelled). p.0) (some_is (a, []) (b, []) (sym (ty_found a f n [] (omega arith) ends)
+    ap (λ (p : Ty × List Spelled). p.0) (same_Some (a, []) (b, []) (sym (ty_found a f n [] (omega arith) ends)
     ∙ ap (ty_at n) e ∙ ty_found b g n [] (omega arith) ends))

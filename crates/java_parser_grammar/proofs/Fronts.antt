@@ -24,7 +24,7 @@ left_of n is = behind_first (with_cut (n == 0) [] (cut_pieces n is))
 abbrev pub noted : (Token → Bool) → List Item → List Item
 noted is_word is = behind_front is_word (left_of (more_of_annotation is) is)
 
-nonzero : (m : ℕ) → (suc m == 0) ≡ false
+pub nonzero : (m : ℕ) → (suc m == 0) ≡ false
 nonzero m = grind arith
 
 -- ---- outside annotations

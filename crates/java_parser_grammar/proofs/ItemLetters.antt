@@ -1,8 +1,6 @@
 -- What the tests of an item say together: it begins with one sign or word that is known, or with none of them.
-use Rattle.std.proofs.Common.{◌≡◌, ℕ, Bool, true, false, not, ◌&&◌, List, [], ◌∷◌, refl, ap, sym, ◌∙◌, subst, codes}
+use Rattle.std.proofs.Common.{◌≡◌, ℕ, Bool, true, false, not, ◌&&◌, List, [], ◌∷◌, refl, sym, ◌∙◌, subst, codes}
 use Rattle.std.proofs.lemmas.Bool.{true≢false}
-use Rattle.std.specs.Prelude.{bytes_eq}
-use Rattle.std.specs.Cmp.Lexicographic.{bytes_decides}
 use Rattle.java_lexer.specs.declared.token.Token.{Token}
 use Rattle.java_lexer.specs.declared.token.TokenKind.{TokenKind}
 use Rattle.java_lexer.specs.declared.token.TokenKind.TheVariants as kind
@@ -16,6 +14,7 @@ use Rattle.java_parser_grammar.proofs.Taken.{sign_is}
 use Rattle.java_parser_grammar.specs.Tokens.{plain, is_name, begins, begins_sign, begins_word}
 use Rattle.java_parser_grammar.specs.Pieces.{Item}
 use Rattle.java_parser_grammar.specs.Declarations.{is_type_modifier, is_type_word}
+use Rattle.java_parser_grammar.proofs.Ensuring.{keyword_is}
 
 pub data Letter : Type 0 where
   Semicolon : Letter
@@ -142,20 +141,6 @@ known l h = record {
   word = refl;
   name = refl;
 }
-
-keyword_is : (text : List ℕ) (t : Spelled) → is_keyword text t ≡ true → t ≡ keyword text
-keyword_is text t h = by_parts text t.kind t.text t.glued h where
-  by_text : (text u : List ℕ) → bytes_eq u text ≡ true → keyword u ≡ keyword text
-  by_text text u e = ap keyword ((bytes_decides u text).0 e)
-
-  by_parts : (text : List ℕ) (k : TokenKind) (u : List ℕ) (g : Bool) → is_keyword text (record {
-    kind = k;
-    text = u;
-    glued = g;
-  }) ≡ true → record { kind = k; text = u; glued = g } ≡ keyword text
-  by_parts text kind.Keyword u false e = by_text text u e
-  by_parts text kind.Keyword u true e = absurd cc
-  by_parts text _ u g e = absurd cc
 
 abbrev Read : Spelled → Type 0
 Read s = (l : Letter) × Spells s l

@@ -7,16 +7,13 @@ use Rattle.java_tree.specs.Trees.{Expr, Assign, Conditional, Binary, InstanceOf,
 use Rattle.java_tree.specs.Trees.{Index, CallOn, NewArray, NewItems}
 use Rattle.java_tree.specs.Formed.{level, is_variable, makes_array}
 use Rattle.java_tree.specs.Nesting.{expr_nesting}
-use Rattle.java_parser_grammar.proofs.OperatorTexts.{binary_cases}
+use Rattle.java_tree.proofs.Operators.{is_binary-level}
 
 -- ---- levels of binary operators
 
 least_of : (o : BinaryOperator) → 2 ≤ binary_level (text_of o)
 least_of LogicalOr = omega arith
 least_of _ = omega arith
-
-pub binary_least : (op : List ℕ) → IsTrue (is_binary op) → 2 ≤ binary_level op
-binary_least op b = binary_cases (λ op. 2 ≤ binary_level op) least_of op b
 
 most_of : (o : BinaryOperator) → level_of o ≤ 11
 most_of LogicalOr = omega arith
@@ -84,8 +81,8 @@ level_most _ = omega arith
 
 pub bears_operator : (a : Expr) (op : List ℕ) → IsTrue (is_binary op) → binary_level op ≤ level a
     → suc (binary_level op) ≤ bears a
-bears_operator (Assign a o b) op is h = absurd (omega (arith, binary_least op is))
-bears_operator (Conditional a b c) op is h = absurd (omega (arith, binary_least op is))
+bears_operator (Assign a o b) op is h = absurd (omega (arith, is_binary-level op is))
+bears_operator (Conditional a b c) op is h = absurd (omega (arith, is_binary-level op is))
 bears_operator (Binary a o b) op is h = omega arith
 bears_operator (InstanceOf a t) op is h = omega arith
 bears_operator _ op is h = omega (arith, binary_most op)

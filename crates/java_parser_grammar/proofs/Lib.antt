@@ -55,7 +55,7 @@ pub mod Appended
 pub mod OneDivision
 mod NoTrees
 mod ItemLetters
-mod Fronts
+pub mod Fronts
 mod SeenLetters
 mod OneDeclaration
 pub mod WalkedFiles

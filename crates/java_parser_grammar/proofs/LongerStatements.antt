@@ -71,7 +71,7 @@ locals_longer l f r =
     )
 
 -- what is run is formed
-runs_formed : (es : Exprs) → FormedRuns es → FormedExprs es
+pub runs_formed : (es : Exprs) → FormedRuns es → FormedExprs es
 runs_formed no_expr f = tt
 runs_formed (expr_then e es) f = (f.0.0, runs_formed es f.1)
 

@@ -30,7 +30,8 @@ use Rattle.java_parser_grammar.proofs.Operands.{object_operand, array_operand, i
 use Rattle.java_parser_grammar.proofs.Lengths.{lengths_longer}
 use Rattle.java_parser_grammar.proofs.Casts.{parens_no_cast, signed_cast}
 use Rattle.java_parser_grammar.proofs.Meetings.{Met, alone, from_operand, from_turn, pull_operator}
-use Rattle.java_parser_grammar.proofs.MetLists.{unpack_exprs, packed_exprs, MetArguments, Measured, Filled}
+use Rattle.java_parser_grammar.proofs.MetLists.{unpack_exprs, MetArguments, Measured, Filled}
+use Rattle.java_parser_grammar.proofs.FoundLists.{pack-unpack_exprs}
 
 -- ---- form by form
 
@@ -176,7 +177,7 @@ call_met x all g = record {
   by = λ n l rest k fits low quiet unclassed eq.
       from_operand n l k (Call x all) _ rest
       (call_operand (read_at n) (ty_at n) (made_base_at n) (array_at n) x all (unpack_exprs all)
-      (exprs_onto all (sign (codes ")") ∷ rest)) rest (packed_exprs all) (g.by n rest (omega arith)))
+      (exprs_onto all (sign (codes ")") ∷ rest)) rest (pack-unpack_exprs all) (g.by n rest (omega arith)))
       (omega arith);
 }
 
@@ -187,7 +188,7 @@ call_on_met a x all high m g = record {
       let r = exprs_onto all (sign (codes ")") ∷ rest) in
       from_turn n l k a (CallOn a x all) (sign (codes ".") ∷ identifier x ∷ sign (codes "(") ∷ r) rest m (omega arith)
       (omega arith) (omega (arith, bears_primary a high)) refl (omega arith)
-      (call_step (read_at n) n l a x all (unpack_exprs all) r rest high fits (packed_exprs all)
+      (call_step (read_at n) n l a x all (unpack_exprs all) r rest high fits (pack-unpack_exprs all)
       (g.by n rest (omega arith)));
 }
 
@@ -198,7 +199,7 @@ new_met t all f g = record {
       let r = sign (codes "(") ∷ s in
       from_operand n l k (New t all) _ rest
       (object_operand (read_at n) (ty_at n) (made_base_at n) (array_at n) (base_of t) t all (unpack_exprs all)
-      (ty_onto t r) s rest (whole_type t (class_arrays t f.0)) (class_named t f.0) (packed_exprs all)
+      (ty_onto t r) s rest (whole_type t (class_arrays t f.0)) (class_named t f.0) (pack-unpack_exprs all)
       (made_found t (made_class t f.0) (class_arrays t f.0) n r (omega arith) (record { less = refl; point = refl }))
       (g.by n rest (omega arith))) (omega arith);
 }
@@ -229,7 +230,7 @@ array_met t e es m f met measured = record {
       let r = expr_onto e b in
       from_operand n l k (NewArray t (expr_then e es) m) _ rest
       (array_operand (read_at n) (ty_at n) (made_base_at n) (array_at n) (base_of t) t e (unpack_exprs es) es m
-      (ty_onto t (sign (codes "[") ∷ r)) r s rest (whole_type t f.0.1) (element_diamond t f.0.0) (packed_exprs es)
+      (ty_onto t (sign (codes "[") ∷ r)) r s rest (whole_type t f.0.1) (element_diamond t f.0.0) (pack-unpack_exprs es)
       (made_found t (made_element t f.0.0) f.0.1 n (sign (codes "[") ∷ r) (omega arith) (record {
         less = refl;
         point = refl;

@@ -5,7 +5,7 @@ use Rattle.std.proofs.lemmas.Bool.{false≢true}
 use Rattle.java_tree.specs.declared.words.Spelled.{Spelled}
 use Rattle.java_tree.specs.Words.{sign}
 use Rattle.java_tree.specs.Trees.{Expr, Exprs, no_expr, expr_then, Array, Braces, Inits, no_init, init_then, Init}
-use Rattle.java_tree.specs.Trees.{Value, Items, pack_exprs, pack_inits}
+use Rattle.java_tree.specs.Trees.{Value, Items, pack_inits}
 use Rattle.java_tree.specs.Spelling.{brackets_onto, last_comma_onto, expr_onto, exprs_onto, more_exprs_onto}
 use Rattle.java_tree.specs.Spelling.{lengths_onto, array_onto, more_inits_onto, init_onto}
 use Rattle.java_tree.specs.Formed.{FormedExpr, FormedExprs, FormedInits, FormedInit}
@@ -17,7 +17,8 @@ use Rattle.java_parser_grammar.specs.ExpressionReading.{read_at, array_at, init_
 use Rattle.java_parser_grammar.proofs.CommaLoops.{commas_end, commas_turn}
 use Rattle.java_parser_grammar.proofs.GrammarFronts.{front}
 use Rattle.java_parser_grammar.proofs.Taken.{pull_bracket}
-use Rattle.java_parser_grammar.proofs.Operands.{no_arguments, first_argument, lengths_end, lengths_brackets, lengths_turn}
+use Rattle.java_parser_grammar.proofs.Operands.{no_arguments, first_argument, lengths_end, lengths_brackets}
+use Rattle.java_parser_grammar.proofs.Operands.{lengths_turn}
 use Rattle.java_parser_grammar.proofs.Operands.{value_found, items_found, no_items, some_items, items_end, items_last}
 use Rattle.java_parser_grammar.proofs.Operands.{items_turn}
 use Rattle.java_parser_grammar.proofs.Lengths.{count_exprs, count_inits, more_exprs_longer, more_inits_longer}
@@ -26,11 +27,6 @@ use Rattle.java_parser_grammar.proofs.Meetings.{Met, alone}
 unfoldable pub unpack_exprs : Exprs → List Expr
 unpack_exprs no_expr = []
 unpack_exprs (expr_then e es) = e ∷ unpack_exprs es
-
-pub packed_exprs : (es : Exprs) → pack_exprs (unpack_exprs es) ≡ es
-unfolding unpack_exprs
-packed_exprs no_expr = refl
-packed_exprs (expr_then e es) = ap (expr_then e) (packed_exprs es)
 
 unfoldable pub unpack_inits : Inits → List Init
 unpack_inits no_init = []

@@ -8,8 +8,10 @@ use Rattle.java_tree.specs.Words.{keyword, identifier, sign}
 use Rattle.java_parser_grammar.specs.Pieces.{Item}
 use Rattle.java_parser_grammar.specs.UnitExamples.{placed}
 use Rattle.java_parser_grammar.specs.Declarations.{AreDeclarations, CanBegin, GoesOn, IsMisfit}
-use Rattle.java_parser_grammar.specs.DeclarationWalk.{Seen, Whole, Modifiers, AtSign, AnnotationName, AnnotationPoint, TypeWord}
-use Rattle.java_parser_grammar.specs.DeclarationWalk.{TypeName, Directive, seen_with, is_whole, and_before, declarations}
+use Rattle.java_parser_grammar.specs.DeclarationWalk.{Seen, Whole, Modifiers, AtSign, AnnotationName, AnnotationPoint}
+use Rattle.java_parser_grammar.specs.DeclarationWalk.{TypeWord}
+use Rattle.java_parser_grammar.specs.DeclarationWalk.{TypeName, Directive, seen_with, is_whole, and_before}
+use Rattle.java_parser_grammar.specs.DeclarationWalk.{declarations}
 use Rattle.java_parser_grammar.proofs.WalkedFiles.{from, declarations_are, walk_is_file, file_is_walk}
 
 abbrev Declared : Type 0

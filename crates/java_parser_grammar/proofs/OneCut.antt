@@ -3,7 +3,7 @@ use Rattle.std.proofs.Common.{◌≡◌, Bool, true, false, not, ◌&&◌, ◌||
 use Rattle.std.proofs.Common.{None}
 use Rattle.std.proofs.Common.{Some, Result, Ok, Err, refl, ap, sym, ◌∙◌, codes}
 use Rattle.std.specs.Prelude.{IsTrue, if◌then◌else◌}
-use Rattle.std.proofs.lemmas.Bool.{and_parts}
+use Rattle.std.proofs.lemmas.Bool.{and_parts, not-true}
 use Rattle.java_tree.specs.Formed.{has_some}
 use Rattle.java_parser_grammar.specs.Pieces.{Item}
 use Rattle.java_parser_grammar.specs.Tokens.{begins_sign}
@@ -31,10 +31,6 @@ going_on : (equals : Bool) (i : Item) (is : List Item) → ends_member equals i 
     → cut_members equals (i ∷ is) ≡ onto_first i (cut_members (equals || begins_sign (codes "=") i) is)
 going_on equals i is e = ap (λ b. with_cut b i (cut_members (not b && (equals || begins_sign (codes "=") i)) is)) e
 
-not_so : (b : Bool) → not b ≡ true → b ≡ false
-not_so true h = absurd cc
-not_so false h = refl
-
 append_nothing : (is : List Item) → is ++ [] ≡ is
 append_nothing [] = refl
 append_nothing (i ∷ is) = ap (λ js. i ∷ js) (append_nothing is)
@@ -46,18 +42,18 @@ first_piece equals (i ∷ []) rest h = ending equals i rest h
 first_piece equals (i ∷ j ∷ is) rest h =
     let behind = equals || begins_sign (codes "=") i in
     let parts = and_parts (not (ends_member equals i)) (is_ended behind (j ∷ is)) h in
-    going_on equals i (j ∷ is ++ rest) (not_so (ends_member equals i) parts.0) ∙ ap (onto_first i) (first_piece behind
+    going_on equals i (j ∷ is ++ rest) (not-true (ends_member equals i) parts.0) ∙ ap (onto_first i) (first_piece behind
     (j ∷ is) rest parts.1)
 
 last_piece : (equals : Bool) (i : Item) (is : List Item) → is_endless equals (i ∷ is) ≡ true
     → cut_members equals (i ∷ is) ≡ (i ∷ is) ∷ []
-last_piece equals i [] h = going_on equals i [] (not_so (ends_member equals i) (and_parts (not
+last_piece equals i [] h = going_on equals i [] (not-true (ends_member equals i) (and_parts (not
     (ends_member equals i)) true
     h).0)
 last_piece equals i (j ∷ is) h =
     let behind = equals || begins_sign (codes "=") i in
     let parts = and_parts (not (ends_member equals i)) (is_endless behind (j ∷ is)) h in
-    going_on equals i (j ∷ is) (not_so (ends_member equals i) parts.0) ∙ ap (onto_first i) (last_piece behind j is
+    going_on equals i (j ∷ is) (not-true (ends_member equals i) parts.0) ∙ ap (onto_first i) (last_piece behind j is
     parts.1)
 
 one_piece : (p : List Item) → (IsTrue (is_ended false p)) ⊎ (IsTrue (has_some p) × IsTrue (is_endless false p))

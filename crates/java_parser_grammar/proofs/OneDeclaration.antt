@@ -3,18 +3,25 @@ use Rattle.std.proofs.Common.{◌≡◌, Bool, true, false, not, ◌&&◌, ◌||
 use Rattle.std.proofs.Common.{sym, ◌∙◌, codes}
 use Rattle.std.specs.Prelude.{if◌then◌else◌}
 use Rattle.std.proofs.lemmas.Bool.{true≢false}
+use Rattle.std.proofs.Math.Bool.{and-false}
 use Rattle.java_lexer.specs.declared.token.Token.{Token}
 use Rattle.java_parser_grammar.specs.Tokens.{is_name, begins, begins_sign, begins_word}
 use Rattle.java_parser_grammar.specs.Pieces.{Item}
-use Rattle.java_parser_grammar.specs.Declarations.{is_type_modifier, leads, ends_first, names_type, is_semicolon, is_import}
-use Rattle.java_parser_grammar.specs.DeclarationWalk.{Seen, Whole, Modifiers, AtSign, AnnotationName, AnnotationPoint, TypeWord}
+use Rattle.java_parser_grammar.specs.Declarations.{is_type_modifier, leads, ends_first, names_type, is_semicolon}
+use Rattle.java_parser_grammar.specs.Declarations.{is_import}
+use Rattle.java_parser_grammar.specs.DeclarationWalk.{Seen, Whole, Modifiers, AtSign, AnnotationName, AnnotationPoint}
+use Rattle.java_parser_grammar.specs.DeclarationWalk.{TypeWord}
 use Rattle.java_parser_grammar.specs.DeclarationWalk.{TypeName, Directive}
-use Rattle.java_parser_grammar.proofs.ItemLetters.{Letter, Semicolon, Braces, Parentheses, Point, AtMark, PackageWord, ImportWord}
+use Rattle.java_parser_grammar.proofs.ItemLetters.{Letter, Semicolon, Braces, Parentheses, Point, AtMark, PackageWord}
+use Rattle.java_parser_grammar.proofs.ItemLetters.{ImportWord}
 use Rattle.java_parser_grammar.proofs.ItemLetters.{InterfaceWord, Other, at_semicolon, at_braces, at_point}
-use Rattle.java_parser_grammar.proofs.ItemLetters.{at_mark, at_package, at_import, at_interface, at_modifier, at_word, at_name}
+use Rattle.java_parser_grammar.proofs.ItemLetters.{at_mark, at_package, at_import, at_interface, at_modifier, at_word}
+use Rattle.java_parser_grammar.proofs.ItemLetters.{at_name}
 use Rattle.java_parser_grammar.proofs.ItemLetters.{Reads, reads, IsApart, name_apart}
-use Rattle.java_parser_grammar.proofs.SeenLetters.{run, run_from, run_is, modified_at, seen_at, modified_by, same_two, same_four, seen_is}
-use Rattle.java_parser_grammar.proofs.Fronts.{front, noted, front_alone, front_noted, noted_bracketed, noted_ended, noted_pointed}
+use Rattle.java_parser_grammar.proofs.SeenLetters.{run, run_from, run_is, modified_at, seen_at, modified_by, same_two}
+use Rattle.java_parser_grammar.proofs.SeenLetters.{same_four, seen_is}
+use Rattle.java_parser_grammar.proofs.Fronts.{front, noted, front_alone, front_noted, noted_bracketed, noted_ended}
+use Rattle.java_parser_grammar.proofs.Fronts.{noted_pointed}
 
 -- ---- what the tests say of the items behind what was seen
 
@@ -102,10 +109,6 @@ plain_at early l i is =
 
 abbrev is_inner : Letter → Bool
 is_inner l = not (at_semicolon l) && not (at_braces l)
-
-not_true : (b : Bool) → not b ≡ true → b ≡ false
-not_true true h = absurd cc
-not_true false h = refl
 
 inner_parts : (l : Letter) → is_inner l ≡ true → (at_semicolon l ≡ false) × (at_braces l ≡ false)
 inner_parts Semicolon h = absurd cc
@@ -214,10 +217,6 @@ marked_interface early j js l true k e =
     (sym (not_last (begins_sign (codes "{")) j js (interface_apart j l k e)))
 marked_interface early j js l false k e = sym (never early)
 
-and_nothing : (b : Bool) → (b && false) ≡ false
-and_nothing true = refl
-and_nothing false = refl
-
 -- behind two items that neither end a line nor are braces
 behind_two : (early : Bool) (notes words : List Item) (i j : Item) (js : List Item) → IsApart i → IsApart j
     → of_fronts early notes words js ≡ of_fronts early notes words (i ∷ j ∷ js)
@@ -249,7 +248,7 @@ marked_by early i j js l false k h n =
 mark_step : (early : Bool) (i : Item) (is : List Item) → Reads i AtMark
     → tested_mark early is ≡ tested_modifiers early (i ∷ is)
 mark_step early i [] k =
-    sym (plain early i [] AtMark k (and_nothing (begins_sign (codes "@") i)) refl refl ∙ never early)
+    sym (plain early i [] AtMark k (and-false (begins_sign (codes "@") i)) refl refl ∙ never early)
 mark_step early i (j ∷ js) k =
     let l = reads j in marked_by early i j js l.0 (begins is_name j) k l.1 refl
 
@@ -309,7 +308,7 @@ pointed_by early i j js l false k h n =
 point_step : (early : Bool) (i : Item) (is : List Item) → Reads i Point
     → tested_point early is ≡ tested_noted early (i ∷ is)
 point_step early i [] k =
-    sym (noted_is_modified early i [] (and_nothing (begins_sign (codes ".") i)) k.parentheses
+    sym (noted_is_modified early i [] (and-false (begins_sign (codes ".") i)) k.parentheses
     ∙ unfit early i [] Point k refl refl refl refl)
 point_step early i (j ∷ js) k =
     let l = reads j in pointed_by early i j js l.0 (begins is_name j) k l.1 refl
@@ -346,7 +345,7 @@ one_alone early imports i [] k =
 one_alone early imports i (j ∷ js) k =
     sym (ap (λ b. if imports && (b && lines_end (i ∷ j ∷ js)) then Some (Whole false true)
     else tested_modifiers early (i ∷ j ∷ js)) k.import_word
-    ∙ ap (λ b. if b then Some (Whole false true) else tested_modifiers early (i ∷ j ∷ js)) (and_nothing imports)
+    ∙ ap (λ b. if b then Some (Whole false true) else tested_modifiers early (i ∷ j ∷ js)) (and-false imports)
     ∙ unfit early i (j ∷ js) Semicolon k refl refl refl refl)
 
 not_alone : (i : Item) (is : List Item) → begins_sign (codes ";") i ≡ false → is_semicolon (i ∷ is) ≡ false
@@ -371,9 +370,9 @@ no_import : (early imports : Bool) (i : Item) (is : List Item) (l : Letter) → 
     ≡ tested (Whole early imports) (i ∷ is)
 no_import early imports i is l k e m others =
     ap (λ b. run_from (if imports && b then Some Directive else modified_at early l) is) m
-    ∙ ap (λ b. run_from (if b then Some Directive else modified_at early l) is) (and_nothing imports)
+    ∙ ap (λ b. run_from (if b then Some Directive else modified_at early l) is) (and-false imports)
     ∙ modified_step early i is l k others
-    ∙ ap (λ b. if b then Some (Whole false true) else tested_modifiers early (i ∷ is)) (sym (and_nothing imports))
+    ∙ ap (λ b. if b then Some (Whole false true) else tested_modifiers early (i ∷ is)) (sym (and-false imports))
     ∙ ap (λ b. if imports && (b && lines_end is) then Some (Whole false true) else tested_modifiers early (i ∷ is))
     (sym m)
     ∙ sym (not_empty early imports i is l k e)

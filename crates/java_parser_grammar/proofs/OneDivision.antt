@@ -21,7 +21,7 @@ use Rattle.java_parser_grammar.specs.FieldDivisions.{BeginsWith, IsVariable, IsD
 use Rattle.java_parser_grammar.specs.ReadVariables.{initialiser_of, ReadVariable, read_of}
 use Rattle.java_parser_grammar.proofs.Appended.{init_before}
 
-plain_append : (r s : List Token) → plain_all (r ++ s) ≡ plain_all r ++ plain_all s
+pub plain_append : (r s : List Token) → plain_all (r ++ s) ≡ plain_all r ++ plain_all s
 plain_append [] s = refl
 plain_append (t ∷ r) s = ap (λ l. plain t ∷ l) (plain_append r s)
 

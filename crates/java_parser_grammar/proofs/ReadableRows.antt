@@ -4,6 +4,7 @@ use Rattle.std.proofs.Common.{◌≡◌, ℕ, Bool, true, false, not, ◌&&◌, 
 use Rattle.std.proofs.Common.{refl, sym, ap, subst}
 use Rattle.std.specs.Prelude.{bytes_eq}
 use Rattle.std.specs.Cmp.Lexicographic.{bytes_decides}
+use Rattle.std.proofs.lemmas.Bool.{and_parts, or_right}
 use Rattle.java_tree.specs.declared.words.Spelled.{Spelled}
 use Rattle.java_tree.specs.Words.{keyword, sign}
 use Rattle.java_tree.specs.Trees.{Stmt, Pieces, no_piece, a_token, an_expr, maybe_an_expr, maybe_a_name, maybe_behind}
@@ -16,11 +17,9 @@ use Rattle.java_tree.specs.Rows.{AKeyword, ASign, AnExpr, Until, MaybeName, Mayb
 use Rattle.java_tree.specs.Rows.{ASwitch, MaybeResources, ACatchParameter, Again, Perhaps, SomePart, Slots, no_slot}
 use Rattle.java_tree.specs.Rows.{◌▹◌, rows, find_row, is_row, row_of}
 use Rattle.java_parser_grammar.specs.Taking.{after_sign, after_keyword, after_name}
+use Rattle.racer_base.proofs.Tests.{bytes_same}
 
 -- ---- one token in front
-
-bytes_same : (text : List ℕ) → bytes_eq text text ≡ true
-bytes_same text = (bytes_decides text text).1 refl
 
 pub keyword_front : (text : List ℕ) (r : List Spelled) → after_keyword text (keyword text ∷ r) ≡ Some r
 keyword_front text r = rw (bytes_same text) refl
@@ -41,18 +40,6 @@ not_sign text other r h = by_test (bytes_eq text other) h where
   by_test : (b : Bool) → not b ≡ true → cond b (Some r) None ≡ None
   by_test false e = refl
   by_test true e = absurd cc
-
-pub and_first : (a b : Bool) → (a && b) ≡ true → a ≡ true
-and_first true b h = refl
-and_first false b h = h
-
-pub and_last : (a b : Bool) → (a && b) ≡ true → b ≡ true
-and_last true b h = h
-and_last false b h = absurd cc
-
-pub or_last : (a b : Bool) → b ≡ true → (a || b) ≡ true
-or_last true b h = refl
-or_last false b h = h
 
 -- ---- rows that can be read
 
@@ -137,16 +124,16 @@ pub keyed : (word : List ℕ) (sub row : Slots)
     → Keyed word sub row
 keyed word sub row h =
     let behind_joins : (is_readable sub && (is_closed sub && (ends_again word row && is_readable row))) ≡ true =
-    and_last (is_joining word) _ h in
+    (and_parts (is_joining word) _ h).1 in
     let behind_own : (is_closed sub && (ends_again word row && is_readable row)) ≡ true =
-    and_last (is_readable sub) _ behind_joins in
-    let behind_closed : (ends_again word row && is_readable row) ≡ true = and_last (is_closed sub) _ behind_own in
+    (and_parts (is_readable sub) _ behind_joins).1 in
+    let behind_closed : (ends_again word row && is_readable row) ≡ true = (and_parts (is_closed sub) _ behind_own).1 in
     record {
-      joins = and_first (is_joining word) _ h;
-      own = and_first (is_readable sub) _ behind_joins;
-      closed = and_first (is_closed sub) _ behind_own;
-      ends = and_first (ends_again word row) _ behind_closed;
-      others = and_last (ends_again word row) _ behind_closed;
+      joins = (and_parts (is_joining word) _ h).0;
+      own = (and_parts (is_readable sub) _ behind_joins).0;
+      closed = (and_parts (is_closed sub) _ behind_own).0;
+      ends = (and_parts (ends_again word row) _ behind_closed).0;
+      others = (and_parts (ends_again word row) _ behind_closed).1;
     }
 
 abbrev are_readable : List (List ℕ × Slots) → Bool
@@ -156,9 +143,9 @@ are_readable (r ∷ rs) = is_readable r.1 && are_readable rs
 found_readable : (rs : List (List ℕ × Slots)) → are_readable rs ≡ true → (word : List ℕ)
     → is_readable (find_row rs word) ≡ true
 found_readable [] h word = refl
-found_readable (r ∷ rs) h word = by_test (bytes_eq word r.0) (found_readable rs (and_last _ _ h) word) where
+found_readable (r ∷ rs) h word = by_test (bytes_eq word r.0) (found_readable rs (and_parts _ _ h).1 word) where
   by_test : (b : Bool) → is_readable (find_row rs word) ≡ true → is_readable (cond b r.1 (find_row rs word)) ≡ true
-  by_test true others = and_first _ _ h
+  by_test true others = (and_parts _ _ h).0
   by_test false others = others
 
 pub rows_readable : (word : List ℕ) → is_readable (row_of word) ≡ true
@@ -192,9 +179,9 @@ module _ (EndsExpr : List Spelled → Type 0) (close : (r : List Spelled) → En
       → EndsExpr (pieces_onto ps rest)
   row_end (a_token t ps) (ASign text ▹ row) rest f e =
       subst (λ u. EndsExpr (u ∷ pieces_onto ps rest)) (sym f.0) (sign_ends text (pieces_onto ps rest) e)
-  row_end (maybe_behind t None ps) (MaybeBehind text ▹ row) rest f e = row_end ps row rest f.1 (and_last _ _ e)
+  row_end (maybe_behind t None ps) (MaybeBehind text ▹ row) rest f e = row_end ps row rest f.1 (and_parts _ _ e).1
   row_end (maybe_behind t (Some x) ps) (MaybeBehind text ▹ row) rest f e =
-      sign_ends t _ (subst (λ u. ends_with u ≡ true) (sym f.0.0) (and_first _ _ e))
+      sign_ends t _ (subst (λ u. ends_with u ≡ true) (sym f.0.0) (and_parts _ _ e).0)
   row_end _ (ASign text ▹ row) rest f e = absurd f
   row_end _ (MaybeBehind text ▹ row) rest f e = absurd f
   row_end _ _ rest f e = absurd cc
@@ -202,8 +189,8 @@ module _ (EndsExpr : List Spelled → Type 0) (close : (r : List Spelled) → En
 pub until_end : (end text : List ℕ) → (bytes_eq end text && bytes_eq end (codes ";")) ≡ true
     → (end ≡ text) × (end ≡ codes ";")
 until_end end text h = (
-  (bytes_decides end text).0 (and_first _ _ h),
-  (bytes_decides end (codes ";")).0 (and_last _ _ h),
+  (bytes_decides end text).0 (and_parts _ _ h).0,
+  (bytes_decides end (codes ";")).0 (and_parts _ _ h).1,
 )
 
 pub name_lacks : (ps : Pieces) (row : Slots) (rest : List Spelled) → Fits ps row → lacks_name row ≡ true
@@ -263,8 +250,8 @@ again_end word (a_token t ps) (AKeyword text ▹ row) rest f e b =
 again_end word (a_token t ps) (ASign text ▹ row) rest f e b =
     subst (λ u. after_keyword word (u ∷ pieces_onto ps rest) ≡ None) (sym f.0) refl
 again_end word (present v one ps) (Perhaps other sub ▹ row) rest f e b =
-    not_keyword v word _ (subst (λ u. not (bytes_eq u word) ≡ true) (sym f.0.0) (and_first _ _ e))
-again_end word (absent v ps) (Perhaps other sub ▹ row) rest f e b = again_end word ps row rest f.1 (and_last _ _ e) b
+    not_keyword v word _ (subst (λ u. not (bytes_eq u word) ≡ true) (sym f.0.0) (and_parts _ _ e).0)
+again_end word (absent v ps) (Perhaps other sub ▹ row) rest f e b = again_end word ps row rest f.1 (and_parts _ _ e).1 b
 again_end word _ no_slot rest f e b = absurd f
 again_end word _ (AKeyword text ▹ row) rest f e b = absurd f
 again_end word _ (ASign text ▹ row) rest f e b = absurd f
@@ -280,7 +267,7 @@ list_end word w more ps row rest same f j e b =
 
 pub list_last : (w : List ℕ) (more : Several) (ps : Pieces) (rest : List Spelled) → RowEnd (a_list w more ps) rest
     → RowEnd ps rest
-list_last w more ps rest b = λ word j h. b word j (or_last _ _ h)
+list_last w more ps rest b = λ word j h. b word j (or_right _ _ h)
 
 -- where the row that it begins is left out
 pub absent_end : (word w : List ℕ) (ps : Pieces) (row : Slots) (rest : List Spelled) → w ≡ word → Fits ps row
@@ -290,7 +277,7 @@ absent_end word w ps row rest same f j e b =
     again_end word ps row rest f e (λ out. b word j (rw (out, (bytes_decides word w).1 (sym same)) refl))
 
 pub absent_last : (w : List ℕ) (ps : Pieces) (rest : List Spelled) → RowEnd (absent w ps) rest → RowEnd ps rest
-absent_last w ps rest b = λ word j h. b word j (or_last _ _ h)
+absent_last w ps rest b = λ word j h. b word j (or_right _ _ h)
 
 -- nothing goes on with a row that is closed
 closed_end : (ps : Pieces) (row : Slots) → Fits ps row → is_closed row ≡ true → (word : List ℕ)

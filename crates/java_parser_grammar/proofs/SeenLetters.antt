@@ -2,9 +2,11 @@
 use Rattle.std.proofs.Common.{◌≡◌, Bool, true, false, ◌&&◌, List, [], ◌∷◌, Option, Some, None, refl, ap, ◌∙◌}
 use Rattle.std.specs.Prelude.{if◌then◌else◌}
 use Rattle.java_parser_grammar.specs.Pieces.{Item}
-use Rattle.java_parser_grammar.specs.DeclarationWalk.{Seen, Whole, Modifiers, AtSign, AnnotationName, AnnotationPoint, TypeWord}
+use Rattle.java_parser_grammar.specs.DeclarationWalk.{Seen, Whole, Modifiers, AtSign, AnnotationName, AnnotationPoint}
+use Rattle.java_parser_grammar.specs.DeclarationWalk.{TypeWord}
 use Rattle.java_parser_grammar.specs.DeclarationWalk.{TypeName, Directive, modified, seen_with, is_whole}
-use Rattle.java_parser_grammar.proofs.ItemLetters.{Letter, at_semicolon, at_braces, at_parentheses, at_point, at_mark, at_package}
+use Rattle.java_parser_grammar.proofs.ItemLetters.{Letter, at_semicolon, at_braces, at_parentheses, at_point, at_mark}
+use Rattle.java_parser_grammar.proofs.ItemLetters.{at_package}
 use Rattle.java_parser_grammar.proofs.ItemLetters.{at_import, at_interface, at_modifier, at_word, at_name, Reads}
 
 -- ---- the walk over one declaration

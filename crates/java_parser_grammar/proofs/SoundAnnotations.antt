@@ -15,7 +15,8 @@ use Rattle.java_parser_grammar.specs.MethodReading.{closed_at, parentheses_at, a
 use Rattle.java_parser_grammar.specs.MethodReading.{annotations_at, modifiers_at}
 use Rattle.java_parser_grammar.specs.TypeReading.{points}
 use Rattle.java_parser_grammar.proofs.Annotations.{one_closed}
-use Rattle.java_parser_grammar.proofs.Ensuring.{Ensures, then_ensures, if_ensures, match_ensures, sign_taken, name_taken}
+use Rattle.java_parser_grammar.proofs.Ensuring.{Ensures, then_ensures, if_ensures, match_ensures, sign_taken}
+use Rattle.java_parser_grammar.proofs.Ensuring.{name_taken}
 
 -- it is formed and spells what was taken
 pub record Taken {A : Type 0} (Formed : A → Type 0) (onto : A → List Spelled → List Spelled) (ts : List Spelled)

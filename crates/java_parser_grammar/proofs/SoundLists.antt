@@ -9,7 +9,8 @@ use Rattle.java_tree.specs.Formed.{level, FormedExpr, FormedExprs, FormedArray, 
 use Rattle.java_tree.specs.Nesting.{expr_nesting, exprs_nesting, array_nesting, inits_nesting, init_nesting}
 use Rattle.java_parser_grammar.specs.Taking.{after_sign, commas}
 use Rattle.java_parser_grammar.specs.TypeReading.{after_brackets}
-use Rattle.java_parser_grammar.specs.ExpressionReading.{Reading, call_arguments_with, lengths_with, init_with, items_with}
+use Rattle.java_parser_grammar.specs.ExpressionReading.{Reading, call_arguments_with, lengths_with, init_with}
+use Rattle.java_parser_grammar.specs.ExpressionReading.{items_with}
 use Rattle.java_parser_grammar.specs.ExpressionReading.{braces_with}
 use Rattle.java_parser_grammar.proofs.Ensuring.{Ensures, then_ensures, match_ensures, sign_taken, brackets_taken}
 

@@ -13,7 +13,8 @@ use Rattle.java_parser_grammar.specs.Readers.{Readers}
 use Rattle.java_parser_grammar.specs.Lookahead.{begins_with, is_constructor}
 use Rattle.java_parser_grammar.specs.StatementReading.{comma_list, final_at, block_at}
 use Rattle.java_parser_grammar.specs.MethodReading.{annotations_at, modifiers_at, if_ended, result_at, parameter_at}
-use Rattle.java_parser_grammar.specs.MethodReading.{parameters_at, thrown_at, throws_at, named_at, method_from, method_at}
+use Rattle.java_parser_grammar.specs.MethodReading.{parameters_at, thrown_at, throws_at, named_at, method_from}
+use Rattle.java_parser_grammar.specs.MethodReading.{method_at}
 use Rattle.java_parser_grammar.proofs.Ensuring.{Ensures, weaker, then_ensures, if_ensures, match_ensures, sign_taken}
 use Rattle.java_parser_grammar.proofs.Ensuring.{keyword_taken, name_taken}
 use Rattle.java_parser_grammar.proofs.SoundSteps.{GotOne, SomeOf, list_sound}

@@ -27,7 +27,9 @@ use Rattle.java_parser_grammar.proofs.Ensuring.{Ensures, then_ensures, if_ensure
 use Rattle.java_parser_grammar.proofs.Ensuring.{brackets_taken, brackets_are, keyword_is, name_is}
 use Rattle.java_parser_grammar.proofs.Taken.{sign_is}
 use Rattle.java_parser_grammar.proofs.SoundTypes.{GotTy, GotMade, element_formed}
-use Rattle.java_parser_grammar.proofs.SoundLists.{Got, GotArguments, GotLengths, GotArray, arguments_sound, lengths_sound}
+use Rattle.java_parser_grammar.proofs.SoundLists.{Got, GotArguments, GotLengths, GotArray, arguments_sound}
+use Rattle.java_parser_grammar.proofs.SoundLists.{lengths_sound}
+use Rattle.racer_base.proofs.Tests.{implied}
 
 -- ---- the names of a class
 
@@ -84,10 +86,6 @@ cast_primitive t a r f g h s =
     (ty_balanced t 0 (sign (codes ")") ∷ expr_onto a r)) none h)
 
 -- ---- operands
-
-step_variable : (step variable : Bool) → (not step || variable) ≡ true → step ≡ true → variable ≡ true
-step_variable true v h s = h
-step_variable false v h s = absurd cc
 
 module _ (n : ℕ) (read : ℕ → Reading Expr) (sound : (l : ℕ) (ts : List Spelled) → Ensures (Got n l ts) (read l ts))
   where
@@ -156,7 +154,7 @@ module _ (n : ℕ) (read : ℕ → Reading Expr) (sound : (l : ℕ) (ts : List S
         then_ensures (Got n 12 ts) G (read 12 ts) _ (sound 12 ts)
         (λ a g. if_ensures G (not (is_step op) || is_variable a.0) _ _
         (λ c. record {
-          formed = (g.formed, is, g.high (omega arith), step_variable _ _ c);
+          formed = (g.formed, is, g.high (omega arith), implied _ _ c);
           high = λ h. omega arith;
           small = omega (arith, g.small);
           spelled = ap (λ (u : List Spelled). sign op ∷ u) g.spelled;

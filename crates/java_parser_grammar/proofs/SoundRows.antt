@@ -4,6 +4,7 @@ use Rattle.std.proofs.Common.{◌≡◌, ℕ, zero, suc, ◌≤◌, Bool, true, 
 use Rattle.std.proofs.Common.{Some, None, IsTrue, codes, refl, sym, ap, ◌∙◌, arith}
 use Rattle.std.specs.Prelude.{bytes_eq, is_some}
 use Rattle.std.specs.Cmp.Lexicographic.{bytes_decides}
+use Rattle.std.proofs.lemmas.Bool.{and_parts}
 use Rattle.java_tree.specs.declared.words.Spelled.{Spelled}
 use Rattle.java_tree.specs.Words.{keyword, sign}
 use Rattle.java_tree.specs.Trees.{Stmt, Stmts, pack_stmts, Pieces, no_piece, a_body, a_list, absent, some_part}
@@ -26,12 +27,12 @@ use Rattle.java_parser_grammar.specs.StatementReading.{catch_parameter_at, begin
 use Rattle.java_parser_grammar.specs.StatementReading.{groups_at, switch_at}
 use Rattle.java_parser_grammar.proofs.ReadableRows.{Bears, RowEnd}
 use Rattle.java_parser_grammar.proofs.Ensuring.{Ensures, weaker, then_ensures, if_ensures, sign_taken, keyword_taken}
-use Rattle.java_parser_grammar.proofs.Ensuring.{and_first, and_last}
 use Rattle.java_parser_grammar.proofs.SoundSteps.{match_none_ensures, GotOne}
 use Rattle.java_parser_grammar.proofs.SoundForms.{GotStmt, GotBody, never_else, body_sound}
 use Rattle.java_parser_grammar.proofs.SoundParts.{AreSound, condition_sound, until_sound}
 use Rattle.java_parser_grammar.proofs.SoundRowParts.{GotLabels, labels_sound, maybe_name_sound, behind_sound}
 use Rattle.java_parser_grammar.proofs.SoundRowParts.{resources_sound, parameter_sound}
+use Rattle.racer_base.proofs.Tests.{or_second}
 
 -- what stands behind the keyword of a row
 record GotPieces (n : ℕ) (row : Slots) (ts : List Spelled) (x : Pieces × List Spelled) : Type 0 where
@@ -46,10 +47,6 @@ record GotSeveral (n : ℕ) (sub : Slots) (word : List ℕ) (ts : List Spelled) 
   small : several_nesting x.0 ≤ n
   spelled : ts ≡ several_onto word x.0 x.1
   ends : after_keyword word x.1 ≡ None
-
-second_holds : (b c : Bool) → b ≡ false → (b || c) ≡ true → c ≡ true
-second_holds true c e h = absurd cc
-second_holds false c e h = h
 
 module _ (readers : Readers) (sound : AreSound readers) where
   last_bears : (s : Stmt) (ps : Pieces) (r rest : List Spelled) → r ≡ pieces_onto ps rest → Bears s r
@@ -73,8 +70,8 @@ module _ (readers : Readers) (sound : AreSound readers) where
     by_test : (c : Bool) → (are_left_out ps && bytes_eq w word) ≡ c → (c || go_on w ps) ≡ true
         → after_keyword w rest ≡ None
     by_test true d k =
-        subst (λ v. after_keyword v rest ≡ None) (sym ((bytes_decides w word).0 (and_last (are_left_out ps) _ d)))
-        (ap (after_keyword word) (sym (e ∙ left_out ps rest (and_first _ (bytes_eq w word) d))) ∙ none)
+        subst (λ v. after_keyword v rest ≡ None) (sym ((bytes_decides w word).0 (and_parts (are_left_out ps) _ d).1))
+        (ap (after_keyword word) (sym (e ∙ left_out ps rest (and_parts _ (bytes_eq w word) d).0)) ∙ none)
     by_test false d k = b w j k
 
   module _ (n : ℕ) (read : Reading Stmt) (block : Reading Stmts)
@@ -119,7 +116,7 @@ module _ (readers : Readers) (sound : AreSound readers) where
     last_is_empty (s ∷ ss) ts r gs e b ends none some = refl
     last_is_empty [] ts r gs e b ends none some =
         let away : begins_label readers r ≡ false = ap (begins_label readers) (sym e) ∙ b in
-        let gone : has_group gs ≡ false = none (second_holds (begins_label readers r) _ away ends) in
+        let gone : has_group gs ≡ false = none (or_second (begins_label readers r) _ away ends) in
         absurd cc
 
     groups_sound : (m : ℕ) (ts : List Spelled) → Ensures (GotGroups ts) (groups_at readers read n m ts)

@@ -1,6 +1,7 @@
 -- A turn goes on to an expression that is formed, small, and spelled by what was taken.
 use Rattle.std.proofs.Common.{◌≡◌, ℕ, zero, suc, ◌≤◌, not, ◌&&◌, leb, List, ◌∷◌, IsTrue, refl, ap, ◌∙◌, arith}
 use Rattle.std.proofs.Common.{leb-true, codes}
+use Rattle.std.proofs.lemmas.Bool.{and_parts}
 use Rattle.java_tree.specs.declared.words.Spelled.{Spelled}
 use Rattle.java_tree.specs.Words.{sign, keyword, identifier}
 use Rattle.java_tree.specs.Operators.{binary_level, is_binary, is_assignment}
@@ -11,13 +12,14 @@ use Rattle.java_tree.specs.Formed.{level, is_variable, makes_array, FormedExpr}
 use Rattle.java_tree.specs.Nesting.{expr_nesting}
 use Rattle.java_parser_grammar.specs.Taking.{after_sign, after_name}
 use Rattle.java_parser_grammar.specs.TypeReading.{bare_ty_at}
-use Rattle.java_parser_grammar.specs.Leads.{Lead, Assigns, Asks, Joins, Tests, Steps, Selects, Indexes, Opens, Ends, lead}
+use Rattle.java_parser_grammar.specs.Leads.{Lead, Assigns, Asks, Joins, Tests, Steps, Selects, Indexes, Opens, Ends}
+use Rattle.java_parser_grammar.specs.Leads.{lead}
 use Rattle.java_parser_grammar.specs.ExpressionReading.{Reading, call_arguments_with, Turn, Stop, Next, grown}
 use Rattle.java_parser_grammar.specs.ExpressionReading.{assign_with, conditional_with, binary_with, instance_with}
 use Rattle.java_parser_grammar.specs.ExpressionReading.{select_with, index_with, turn_with, go_on, climb_with}
 use Rattle.java_parser_grammar.proofs.Levels.{binary_most}
-use Rattle.java_parser_grammar.proofs.Ensuring.{Ensures, then_ensures, if_ensures, match_ensures, weaker, and_first}
-use Rattle.java_parser_grammar.proofs.Ensuring.{and_last, sign_taken, name_taken}
+use Rattle.java_parser_grammar.proofs.Ensuring.{Ensures, then_ensures, if_ensures, match_ensures, weaker}
+use Rattle.java_parser_grammar.proofs.Ensuring.{sign_taken, name_taken}
 use Rattle.java_parser_grammar.proofs.LeadFacts.{LeadIs, lead_is}
 use Rattle.java_parser_grammar.proofs.SoundTypes.{GotBare, bare_sound}
 use Rattle.java_parser_grammar.proofs.SoundLists.{Got, GotArguments, arguments_sound}
@@ -110,22 +112,23 @@ module _ (n : ℕ) (read : ℕ → Reading Expr) (sound : (l : ℕ) (ts : List S
     unfolding turn_with
     turn_sound l a ts f (Assigns op r) is =
         if_ensures (Turns n l a ts) (leb l 0 && is_variable a) _ _ (λ c. assign_sound l a op ts r is.0 f is.1
-        (and_last _ _ c) (leb-true _ _ (and_first _ _ c))) (λ c. refl)
+        (and_parts _ _ c).1 (leb-true _ _ (and_parts _ _ c).0)) (λ c. refl)
     turn_sound l a ts f (Asks r) is = if_ensures (Turns n l a ts) (leb l 1 && leb 2 (level a)) _ _
-        (λ c. conditional_sound l a ts r is f (leb-true _ _ (and_first _ _ c)) (leb-true _ _ (and_last _ _ c)))
+        (λ c. conditional_sound l a ts r is f (leb-true _ _ (and_parts _ _ c).0) (leb-true _ _ (and_parts _ _ c).1))
         (λ c. refl)
     turn_sound l a ts f (Joins op r) is = if_ensures (Turns n l a ts) (leb l (binary_level op) && leb (binary_level op)
-        (level a)) _ _ (λ c. binary_sound l a op ts r is.0 f is.1 (leb-true _ _ (and_first _ _ c))
-        (leb-true _ _ (and_last _ _ c))) (λ c. refl)
+        (level a)) _ _ (λ c. binary_sound l a op ts r is.0 f is.1 (leb-true _ _ (and_parts _ _ c).0)
+        (leb-true _ _ (and_parts _ _ c).1)) (λ c. refl)
     turn_sound l a ts f (Tests r) is = if_ensures (Turns n l a ts) (leb l 8 && leb 8 (level a)) _ _ (λ c. instance_sound
-        l a ts r is f (leb-true _ _ (and_first _ _ c)) (leb-true _ _ (and_last _ _ c))) (λ c. refl)
+        l a ts r is f (leb-true _ _ (and_parts _ _ c).0) (leb-true _ _ (and_parts _ _ c).1)) (λ c. refl)
     turn_sound l a ts f (Steps op r) is = if_ensures (Turns n l a ts) (leb l 13 && is_variable a) _ _ (λ c. grown_sound
-        l a ts (Postfix a op) r (f, is.1, and_last _ _ c) (λ _. leb-true _ _ (and_first _ _ c)) (ap (expr_onto a) is.0))
+        l a ts (Postfix a op) r (f, is.1, (and_parts _ _ c).1) (λ _. leb-true _ _ (and_parts _ _ c).0)
+        (ap (expr_onto a) is.0))
         (λ c. refl)
     turn_sound l a ts f (Selects r) is = if_ensures (Turns n l a ts) (leb 14 (level a)) _ _ (λ c. select_sound l a ts r
         is f (leb-true _ _ c)) (λ c. refl)
     turn_sound l a ts f (Indexes r) is = if_ensures (Turns n l a ts) (leb 14 (level a) && not (makes_array a)) _ _
-        (λ c. index_sound l a ts r is f (leb-true _ _ (and_first _ _ c)) (and_last _ _ c)) (λ c. refl)
+        (λ c. index_sound l a ts r is f (leb-true _ _ (and_parts _ _ c).0) (and_parts _ _ c).1) (λ c. refl)
     turn_sound l a ts f Opens is = refl
     turn_sound l a ts f Ends is = refl
 

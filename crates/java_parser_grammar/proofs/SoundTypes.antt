@@ -1,7 +1,7 @@
 -- A type that is read is formed, small, and spelled by what was taken.
-use Rattle.std.proofs.Common.{◌≡◌, ℕ, zero, suc, ◌≤◌, Bool, true, false, ◌||◌, List, [], ◌∷◌, length, Option}
+use Rattle.std.proofs.Common.{◌≡◌, ℕ, zero, suc, ◌≤◌, true, false, List, [], ◌∷◌, length, Option}
 use Rattle.std.proofs.Common.{IsTrue, refl, ap, ◌∙◌, arith, codes}
-use Rattle.std.proofs.lemmas.Bool.{false≢true}
+use Rattle.std.proofs.lemmas.Bool.{false≢true, or_parts}
 use Rattle.java_tree.specs.declared.words.Spelled.{Spelled}
 use Rattle.java_tree.specs.Words.{sign, keyword, identifier}
 use Rattle.java_tree.specs.Trees.{Ty, Typed, Base, Plain, Named, Parts, no_part, part_then, Part, Bare, Generic}
@@ -17,7 +17,8 @@ use Rattle.java_tree.specs.Nesting.{arguments_nesting, argument_nesting}
 use Rattle.java_parser_grammar.specs.Taking.{after_sign, after_keyword, after_name, after_angle, commas}
 use Rattle.java_parser_grammar.specs.TypeReading.{after_plain, points, wildcard_with, argument_with, angled_with}
 use Rattle.java_parser_grammar.specs.TypeReading.{part_with, base_with, arrays_behind, ty_at, bare_part_at, bare_ty_at}
-use Rattle.java_parser_grammar.specs.TypeReading.{is_diamond, have_diamond, has_diamond, made_part_with, made_parts_with}
+use Rattle.java_parser_grammar.specs.TypeReading.{is_diamond, have_diamond, has_diamond, made_part_with}
+use Rattle.java_parser_grammar.specs.TypeReading.{made_parts_with}
 use Rattle.java_parser_grammar.specs.TypeReading.{made_base_with, made_base_at}
 use Rattle.java_parser_grammar.proofs.FoundMadeTypes.{MadeBase}
 use Rattle.java_parser_grammar.proofs.Ensuring.{Ensures, then_ensures, if_ensures, match_ensures, weaker, sign_taken}
@@ -332,14 +333,6 @@ made_sound (suc n) ts =
     (λ x g. record { formed = g.formed; small = omega (arith, g.small); spelled = g.spelled })
     (made_base_sound n (ty_at n) (ty_sound n) ts)
 
-or_first : (b c : Bool) → (b || c) ≡ false → b ≡ false
-or_first true c h = h
-or_first false c h = refl
-
-or_last : (b c : Bool) → (b || c) ≡ false → c ≡ false
-or_last true c h = absurd cc
-or_last false c h = h
-
 whole_part : (p : Part) → FormedLastPart p → is_diamond p ≡ false → FormedPart p
 whole_part (Bare x) f d = tt
 whole_part (Generic x (Angled no_argument g)) f d = absurd cc
@@ -347,8 +340,8 @@ whole_part (Generic x (Angled (argument_then a others) g)) f d = (f, refl)
 
 whole_parts : (ps : Parts) (p : Part) → FormedClassParts (part_then p ps) → have_diamond (part_then p ps) ≡ false
     → FormedPart p × FormedParts ps
-whole_parts no_part p f d = (whole_part p f (or_first _ _ d), tt)
-whole_parts (part_then q qs) p f d = (f.0, whole_parts qs q f.1 (or_last _ _ d))
+whole_parts no_part p f d = (whole_part p f (or_parts _ _ d).0, tt)
+whole_parts (part_then q qs) p f d = (f.0, whole_parts qs q f.1 (or_parts _ _ d).1)
 
 -- what a `new` makes an array of
 pub element_formed : (b : Base) → MadeBase b → has_diamond b ≡ false → FormedBase b

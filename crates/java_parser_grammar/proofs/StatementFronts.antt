@@ -3,6 +3,7 @@ use Rattle.std.proofs.Common.{◌≡◌, ℕ, Bool, true, false, ◌&&◌, ◌||
 use Rattle.std.proofs.Common.{◌∙◌, sym, subst}
 use Rattle.std.specs.Prelude.{bytes_eq}
 use Rattle.std.specs.Cmp.Lexicographic.{bytes_decides}
+use Rattle.std.proofs.lemmas.Bool.{or_parts}
 use Rattle.java_lexer.specs.declared.token.TokenKind.{TokenKind}
 use Rattle.java_lexer.specs.declared.token.TokenKind.TheVariants as kind
 use Rattle.java_tree.specs.declared.words.Spelled.{Spelled}
@@ -74,14 +75,6 @@ is_loud t =
     is_behind t || (begins_row t || (is_sign_kind t.kind && is_listed (codes ";" ∷ codes "{" ∷ codes ")" ∷ codes "]"
     ∷ []) t.text || is_keyword_kind t.kind && is_listed (codes "if" ∷ codes "for" ∷ codes "final" ∷ []) t.text))
 
-neither_first : (a b : Bool) → (a || b) ≡ false → a ≡ false
-neither_first true b h = h
-neither_first false b h = refl
-
-neither_last : (a b : Bool) → (a || b) ≡ false → b ≡ false
-neither_last true b h = absurd cc
-neither_last false b h = h
-
 not_sign : (test : Spelled → Bool) (text : List ℕ) (t : Spelled) → IsTrue (test (sign text)) → test t ≡ false
     → is_sign text t ≡ false
 not_sign test text t loud quiet = by_test (is_sign text t) refl where
@@ -110,10 +103,10 @@ starts_with t ts quiet = record {
 
 starts_quiet : (t : Spelled) (ts : List Spelled) → is_loud t ≡ false → Starts (t ∷ ts)
 starts_quiet t ts quiet = record {
-  statement = starts_with t ts (neither_first (is_behind t) _ quiet);
+  statement = starts_with t ts (or_parts (is_behind t) _ quiet).0;
   other = λ unlabelled.
       rw (
-        neither_first (begins_row t) _ (neither_last (is_behind t) _ quiet),
+        (or_parts (begins_row t) _ (or_parts (is_behind t) _ quiet).1).0,
         not_sign is_loud (codes ";") t refl quiet,
         not_sign is_loud (codes "{") t refl quiet,
         not_keyword is_loud (codes "if") t refl quiet,

@@ -12,7 +12,8 @@ use Rattle.java_tree.specs.Formed.{level, is_variable, makes_array}
 use Rattle.java_tree.specs.Nesting.{expr_nesting}
 use Rattle.java_parser_grammar.specs.Taking.{after_sign, after_glued}
 use Rattle.java_parser_grammar.specs.TypeReading.{bare_ty_at}
-use Rattle.java_parser_grammar.specs.Leads.{Lead, Assigns, Asks, Joins, Tests, Steps, Selects, Indexes, Opens, Ends, lead}
+use Rattle.java_parser_grammar.specs.Leads.{Lead, Assigns, Asks, Joins, Tests, Steps, Selects, Indexes, Opens, Ends}
+use Rattle.java_parser_grammar.specs.Leads.{lead}
 use Rattle.java_parser_grammar.specs.Leads.{pull, pull_of}
 use Rattle.java_parser_grammar.specs.ExpressionReading.{Reading, call_arguments_with, Stop, Next, grown, assign_with}
 use Rattle.java_parser_grammar.specs.ExpressionReading.{conditional_with, binary_with, instance_with, select_with}

@@ -7,7 +7,8 @@ use Rattle.std.proofs.lemmas.Bool.{true≢false, and_parts}
 use Rattle.java_parser_grammar.specs.Tokens.{begins_sign, begins_word}
 use Rattle.java_parser_grammar.specs.Cuts.{onto_first, joined, ends}
 use Rattle.java_parser_grammar.specs.Pieces.{Item, cut_pieces}
-use Rattle.java_parser_grammar.specs.Declarations.{is_type_modifier, leads, ends_first, behind_front, names_type, is_semicolon}
+use Rattle.java_parser_grammar.specs.Declarations.{is_type_modifier, leads, ends_first, behind_front, names_type}
+use Rattle.java_parser_grammar.specs.Declarations.{is_semicolon}
 use Rattle.java_parser_grammar.specs.Declarations.{is_package, is_import, is_type, behind_one, behind_all, is_file}
 use Rattle.java_parser_grammar.specs.Declarations.{AreDeclarations}
 use Rattle.java_parser_grammar.specs.DeclarationWalk.{Seen, Whole, seen_with, is_whole, and_before, declarations}

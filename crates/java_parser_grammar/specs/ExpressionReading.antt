@@ -13,9 +13,12 @@ use Rattle.java_tree.specs.Trees.{NewArray, NewItems, expr_then, Array, Braces, 
 use Rattle.java_tree.specs.Trees.{Items, pack_exprs, pack_inits}
 use Rattle.java_tree.specs.Formed.{level, is_variable, makes_array, is_named}
 use Rattle.java_tree.specs.Nesting.{expr_nesting}
-use Rattle.java_parser_grammar.specs.Taking.{◌>>=◌, match_option, is_keyword, is_name_kind, after_sign, after_name, commas}
-use Rattle.java_parser_grammar.specs.TypeReading.{after_brackets, brackets_at, has_diamond, ty_at, bare_ty_at, made_base_at}
-use Rattle.java_parser_grammar.specs.Leads.{Lead, Assigns, Asks, Joins, Tests, Steps, Selects, Indexes, Opens, Ends, lead}
+use Rattle.java_parser_grammar.specs.Taking.{◌>>=◌, match_option, is_keyword, is_name_kind, after_sign, after_name}
+use Rattle.java_parser_grammar.specs.Taking.{commas}
+use Rattle.java_parser_grammar.specs.TypeReading.{after_brackets, brackets_at, has_diamond, ty_at, bare_ty_at}
+use Rattle.java_parser_grammar.specs.TypeReading.{made_base_at}
+use Rattle.java_parser_grammar.specs.Leads.{Lead, Assigns, Asks, Joins, Tests, Steps, Selects, Indexes, Opens, Ends}
+use Rattle.java_parser_grammar.specs.Leads.{lead}
 use Rattle.java_parser_grammar.specs.Leads.{casts}
 
 -- what is read from the front of tokens, and the tokens behind it

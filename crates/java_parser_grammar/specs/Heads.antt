@@ -15,7 +15,8 @@ use Rattle.java_tree.specs.View.{ty_of}
 use Rattle.java_tree.specs.declared.unit.HeadResult.{HeadResult}
 use Rattle.java_tree.specs.declared.unit.HeadResult.TheVariants.{Void, Formed, Constructor, Unknown}
 use Rattle.java_tree.specs.declared.unit.OutsideHead.{OutsideHead}
-use Rattle.java_parser_grammar.specs.Tokens.{plain_all, is_word_token, is_angle, begins_sign, begins_word, begins, AreLast}
+use Rattle.java_parser_grammar.specs.Tokens.{plain_all, is_word_token, is_angle, begins_sign, begins_word, begins}
+use Rattle.java_parser_grammar.specs.Tokens.{AreLast}
 use Rattle.java_parser_grammar.specs.Cuts.{joined}
 use Rattle.java_parser_grammar.specs.Pieces.{Item, items_of, inside, pieces_of, is_annotation}
 

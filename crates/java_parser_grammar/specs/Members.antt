@@ -1,5 +1,6 @@
 -- A contract of a public call rests on this: the members of a class (JLS 8.1.6), where each ends and what form it has.
-use Rattle.std.specs.Prelude.{Bool, true, false, not, ◌&&◌, ◌||◌, List, [], ◌∷◌, ◌++◌, Option, Some, None, codes, filter}
+use Rattle.std.specs.Prelude.{Bool, true, false, not, ◌&&◌, ◌||◌, List, [], ◌∷◌, ◌++◌, Option, Some, None, codes}
+use Rattle.std.specs.Prelude.{filter}
 use Rattle.std.specs.Prelude.{map, option_map, if◌then◌else◌}
 use Rattle.java_lexer.specs.declared.token.Token.{Token}
 use Rattle.java_parser_grammar.specs.Tokens.{is_sign_token, is_keyword_of, is_name, begins, begins_sign, begins_word}

@@ -6,7 +6,8 @@ use Rattle.java_tree.specs.Trees.{Ty, Typed, Base, Plain, Named, Parts, no_part,
 use Rattle.java_tree.specs.Trees.{Arguments, Angled, no_argument, argument_then, Argument, Exact, Any, Extends}
 use Rattle.java_tree.specs.Trees.{Super, pack_parts, pack_arguments}
 use Rattle.java_tree.specs.Formed.{is_plain_word}
-use Rattle.java_parser_grammar.specs.Taking.{◌>>=◌, match_option, is_keyword_kind, after_sign, after_keyword, after_name}
+use Rattle.java_parser_grammar.specs.Taking.{◌>>=◌, match_option, is_keyword_kind, after_sign, after_keyword}
+use Rattle.java_parser_grammar.specs.Taking.{after_name}
 use Rattle.java_parser_grammar.specs.Taking.{after_angle, commas}
 
 -- ---- words, points and brackets

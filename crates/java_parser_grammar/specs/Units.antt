@@ -25,7 +25,8 @@ use Rattle.java_parser_grammar.specs.Cuts.{joined}
 use Rattle.java_parser_grammar.specs.Brackets.{unbalanced, too_deep}
 use Rattle.java_parser_grammar.specs.Pieces.{Item, items_of, Piece, pieces_of, is_annotation, inside}
 use Rattle.java_parser_grammar.specs.Declarations.{is_type_modifier, types_among, AreDeclarations, IsMisfit}
-use Rattle.java_parser_grammar.specs.Members.{members_of, behind_words, Form, SkippedForm, MethodForm, FieldForm, form_of}
+use Rattle.java_parser_grammar.specs.Members.{members_of, behind_words, Form, SkippedForm, MethodForm, FieldForm}
+use Rattle.java_parser_grammar.specs.Members.{form_of}
 use Rattle.java_parser_grammar.specs.Heads.{IsMethod, IsOutside, has_synchronized}
 use Rattle.java_parser_grammar.specs.FieldDivisions.{AreFields}
 

@@ -6,6 +6,7 @@ use Rattle.java_lexer.specs.declared.token.Token.{Token}
 use Rattle.java_tree.specs.declared.words.Spelled.{Spelled}
 use Rattle.java_tree.specs.KeptPlaces.{Places, is_kept, place_onto, kept}
 use Rattle.java_tree.specs.MethodPlaces.{Marks, some_onto, each_marks, no_place, no_name, AreAt}
+use Rattle.java_tree.proofs.KeptWords.{all-at}
 use Rattle.java_parser_types.specs.Tokens.{spelled}
 use Rattle.java_parser_methods.specs.LedPlaces.{Leads}
 
@@ -52,10 +53,6 @@ some_at : (qs ps : Places) (rest : Marks) → AreAt rest ps → AreAt (some_onto
 some_at [] ps rest a = a
 some_at (q ∷ qs) ps rest a = (refl, some_at qs ps rest a)
 
-all_at : (ps : Places) → AreAt (some_onto ps []) ps
-all_at [] = tt
-all_at (p ∷ ps) = (refl, all_at ps)
-
 -- these places are kept
 pub some_led : (qs ps here : Places) → qs ++ ps ≡ here → Leads (some_onto qs) here ps
 some_led qs ps here e = λ rest a. subst (λ (rs : Places). AreAt (some_onto qs rest) rs) e (some_at qs ps rest a)
@@ -95,4 +92,4 @@ pub whole_at : (read signature : Marks → Marks) (statements here at left : Pla
     → Leads signature at left → statements ≡ left → AreAt (read (signature (some_onto statements []))) here
 whole_at read signature statements here at left so_far signed ended =
     so_far (signature (some_onto statements [])) (signed (some_onto statements [])
-    (subst (λ (ps : Places). AreAt (some_onto statements []) ps) ended (all_at statements)))
+    (subst (λ (ps : Places). AreAt (some_onto statements []) ps) ended (all-at statements)))

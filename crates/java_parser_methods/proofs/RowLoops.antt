@@ -40,11 +40,6 @@ pub last_left : (tokens : List Token) (i : ℕ) → length tokens ≤ i → i �
     → suc (length (map spelled tokens)) - i ≡ suc 0
 last_left tokens i le most = omega (arith, length-map tokens spelled)
 
--- nothing in front
-pub nothing_before : {A : Type 0} (read : Option (List A × List Spelled)) → finished as_they_are [] read ≡ read
-nothing_before (Some x) = refl
-nothing_before None = refl
-
 none_behind : (front : List Stmt) (o : Option (Stmt × List Spelled)) → finished as_they_are front (o >>= λ x. None)
     ≡ None
 none_behind front (Some x) = refl
@@ -266,7 +261,8 @@ module _ (stmts : List Spelled → Option (List Stmt × List Spelled)) (go : Lis
 module _ (readers : Readers) (read : Reading Stmt) (n : ℕ) where
   -- groups by one of them
   one_group : (m : ℕ) (here : List Spelled) → groups_at readers read n (suc m) here ≡ match_option
-      (after_sign (codes "}") here) (group_at readers read n here >>= λ g. groups_at readers read n m g.1 >>= λ gs. Some (
+      (after_sign (codes "}") here) (group_at readers read n here >>= λ g. groups_at readers read n m g.1 >>=
+      λ gs. Some (
         group_then g.0.0 g.0.1 gs.0,
         gs.1,
       )) (λ r. Some (no_group, r))

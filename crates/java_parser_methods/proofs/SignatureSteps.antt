@@ -5,7 +5,8 @@ use Rattle.java_tree.specs.Trees.{Modifier, Result}
 use Rattle.java_parser_grammar.specs.Taking.{◌>>=◌, after_sign, after_name}
 use Rattle.java_parser_grammar.specs.Readers.{Readers}
 use Rattle.java_parser_grammar.specs.StatementReading.{block_at}
-use Rattle.java_parser_grammar.specs.MethodReading.{parameters_at, throws_at, modifiers_at, result_at, named_at, method_from}
+use Rattle.java_parser_grammar.specs.MethodReading.{parameters_at, throws_at, modifiers_at, result_at, named_at}
+use Rattle.java_parser_grammar.specs.MethodReading.{method_from}
 use Rattle.java_parser_grammar.specs.MethodReading.{method_at, if_ended}
 use Rattle.java_parser_methods.specs.SignatureReading.{method_with, parameter_list_at, signature_at, last_block_at}
 use Rattle.java_parser_methods.specs.SignatureReading.{whole_named_at, whole_method_at}

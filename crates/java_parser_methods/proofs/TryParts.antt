@@ -1,5 +1,6 @@
 -- A `try` by its parts.
-use Rattle.std.proofs.Common.{◌≡◌, ℕ, ◌≤◌, true, List, [], ◌∷◌, length, map, Option, Some, None, option_map, refl, codes, arith}
+use Rattle.std.proofs.Common.{◌≡◌, ℕ, ◌≤◌, true, List, [], ◌∷◌, length, map, Option, Some, None, option_map, refl}
+use Rattle.std.proofs.Common.{codes, arith}
 use Rattle.std.specs.Prelude.{is_some}
 use Rattle.java_tree.specs.declared.words.Spelled.{Spelled}
 use Rattle.java_tree.specs.declared.statements.CatchTree.{CatchTree}

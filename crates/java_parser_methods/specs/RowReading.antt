@@ -1,5 +1,6 @@
 -- No public contract rests on this: reading parts of statements that begin with a keyword of their own, by themselves.
-use Rattle.std.specs.Prelude.{ℕ, suc, Bool, true, false, ◌||◌, List, [], ◌∷◌, ◌++◌, length, Option, Some, None, option_map, codes}
+use Rattle.std.specs.Prelude.{ℕ, suc, Bool, true, false, ◌||◌, List, [], ◌∷◌, ◌++◌, length, Option, Some, None}
+use Rattle.std.specs.Prelude.{option_map, codes}
 use Rattle.std.specs.Prelude.{if◌then◌else◌, is_some}
 use Rattle.java_tree.specs.declared.words.Spelled.{Spelled}
 use Rattle.java_tree.specs.Formed.{has_some}

@@ -3,6 +3,7 @@ use Rattle.std.proofs.Common.{◌≡◌, ℕ, zero, suc, ◌-◌, ◌<◌, ◌�
 use Rattle.std.proofs.Common.{◌∷◌, ◌++◌, map}
 use Rattle.std.proofs.Common.{filter, length, take, length-append, refl, sym, ap, ◌∙◌, subst, arith, codes}
 use Rattle.std.specs.Prelude.{◌==◌}
+use Rattle.std.proofs.lemmas.Bool.{and_parts}
 use Rattle.java_lexer.specs.declared.token.Token.{Token}
 use Rattle.java_parser_grammar.specs.Tokens.{begins_sign}
 use Rattle.java_parser_grammar.specs.Cuts.{with_cut, joined}
@@ -13,7 +14,6 @@ use Rattle.java_parser_grammar.specs.Members.{ends_member, cut_members, members_
 use Rattle.java_parser_grammar.specs.Units.{body_among}
 use Rattle.java_parser_grammar.proofs.Joined.{joined_append, joined_items}
 use Rattle.java_parser_grammar.proofs.OneCut.{joined_cut}
-use Rattle.java_parser_grammar.proofs.Ensuring.{and_last}
 
 abbrev pub Filled : {A : Type 0} → List A → Type 0
 Filled [] = ⊥
@@ -106,7 +106,7 @@ ends-filled [] e = absurd cc
 ends-filled ([] ∷ []) e = absurd cc
 ends-filled ((t ∷ i) ∷ []) e = tt
 ends-filled (i ∷ j ∷ is) e =
-    append-filled-last i (joined (j ∷ is)) (ends-filled (j ∷ is) (and_last (not (begins_sign (codes "{") i)) _ e))
+    append-filled-last i (joined (j ∷ is)) (ends-filled (j ∷ is) (and_parts (not (begins_sign (codes "{") i)) _ e).1)
 
 pub types-good : (n : ℕ) (ds : List (List Item)) → length (joined (joined ds)) < n → EachGood n (types_among ds)
 types-good n [] few = tt
@@ -115,7 +115,7 @@ types-good n (d ∷ ds) few =
     by (is_type d) refl short.0 (types-good n ds short.1) where
       by : (b : Bool) → is_type d ≡ b → length (joined d) < n → EachGood n (types_among ds)
           → EachGood n (map joined (cond b (d ∷ filter is_type ds) (filter is_type ds)))
-      by true e short k = ((ends-filled d (and_last _ _ e), short), k)
+      by true e short k = ((ends-filled d (and_parts _ _ e).1, short), k)
       by false e short k = k
 
 -- ---- the body of a class

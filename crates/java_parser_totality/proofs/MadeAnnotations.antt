@@ -6,6 +6,7 @@ use Rattle.std.specs.Prelude.{◌==◌}
 use Rattle.std.specs.List.{AllZip}
 use Rattle.std.proofs.Math.Dec.{eqb-suc-zero}
 use Rattle.std.proofs.lemmas.List.{append-nil}
+use Rattle.std.proofs.lemmas.Bool.{and_parts}
 use Rattle.java_lexer.specs.declared.token.Token.{Token}
 use Rattle.java_tree.specs.declared.words.Spelled.{Spelled}
 use Rattle.java_tree.specs.declared.methods.AnnotationTree.{AnnotationTree}
@@ -21,7 +22,7 @@ use Rattle.java_parser_grammar.specs.Pieces.{Item, items_from, items_of, more_of
 use Rattle.java_parser_grammar.specs.Pieces.{cut_pieces, pieces_of, Piece, is_annotation}
 use Rattle.java_parser_grammar.specs.Declarations.{is_type_modifier}
 use Rattle.java_parser_grammar.specs.Units.{annotations_before, IsAnnotation}
-use Rattle.java_parser_grammar.proofs.Ensuring.{and_first, and_last, name_is}
+use Rattle.java_parser_grammar.proofs.Ensuring.{name_is}
 use Rattle.java_parser_grammar.proofs.Taken.{sign_is}
 
 -- ---- an item that no bracket opens is one token
@@ -171,8 +172,8 @@ goes-on (i ∷ j ∷ is) h = by (begins_sign (codes ".") i && begins is_name j) 
       → GoesOn (cond b (suc (suc (more_of_annotation is))) (cond (begins_sign (codes "(") i) 1 0)) (i ∷ j ∷ is)
   by true e g =
       pointed (more_of_annotation is) i j is
-      (two-words (codes ".") refl i j h.0 h.1.0 (and_first (begins_sign (codes ".") i) (begins is_name j) e)
-      (and_last (begins_sign (codes ".") i) (begins is_name j) e)) g
+      (two-words (codes ".") refl i j h.0 h.1.0 (and_parts (begins_sign (codes ".") i) (begins is_name j) e).0
+      (and_parts (begins_sign (codes ".") i) (begins is_name j) e).1) g
   by false e g = in-parentheses (begins_sign (codes "(") i) i (j ∷ is) refl
 
 -- ---- pieces
@@ -251,8 +252,8 @@ shaped-within (suc k) (i ∷ j ∷ is) few h =
       by true e one many g =
           subst (λ ps. EachShaped (map joined ps)) (sym (first-many (more_of_annotation is) i j is g.fits)) (
             many-shaped (more_of_annotation is) i j is
-                (two-words (codes "@") refl i j h.0 h.1.0 (and_first (begins_sign (codes "@") i) (begins is_name j) e)
-                (and_last (begins_sign (codes "@") i) (begins is_name j) e)) g,
+                (two-words (codes "@") refl i j h.0 h.1.0 (and_parts (begins_sign (codes "@") i) (begins is_name j) e).0
+                (and_parts (begins_sign (codes "@") i) (begins is_name j) e).1) g,
             many,
           )
       by false e one many g = (single-shaped i h.0, one)

@@ -20,24 +20,27 @@ use Rattle.java_tree.specs.Spelling.{more_exprs_onto, lengths_onto, array_onto, 
 use Rattle.java_tree.specs.Formed.{is_literal, FormedExpr, FormedExprs, FormedArray, FormedInits, FormedInit}
 use Rattle.java_tree.specs.View.{name_of, expr_of, init_of, array_of}
 use Rattle.java_parser_totality.proofs.Parts.{Makes, Maker, maker, word, word-made, nothing, nothing-made, and, as-made}
-use Rattle.java_parser_totality.proofs.MadeTypes.{Same, Plain-Part, a_sign, a_glued, a_keyword, a_name, a_type, a_placed}
+use Rattle.java_parser_totality.proofs.MadeTypes.{Same, Plain-Part, a_sign, a_glued, a_keyword, a_name, a_type}
+use Rattle.java_parser_totality.proofs.MadeTypes.{a_placed}
 use Rattle.java_parser_totality.proofs.MadeTypes.{some_brackets, ty_part, class-made}
 use Rattle.java_parser_totality.proofs.ExpressionForms as form
-use Rattle.java_parser_totality.proofs.ExpressionForms.{assign-at, assign-is, binary-at, binary-is, braces-at, braces-is}
+use Rattle.java_parser_totality.proofs.ExpressionForms.{assign-at, assign-is, binary-at, binary-is, braces-at}
+use Rattle.java_parser_totality.proofs.ExpressionForms.{braces-is}
 use Rattle.java_parser_totality.proofs.ExpressionForms.{call-at, call-is, call_on-at, call_on-is, cast-at, cast-is}
-use Rattle.java_parser_totality.proofs.ExpressionForms.{class_of-at, class_of-is, conditional-at, conditional-is, element-at}
-use Rattle.java_parser_totality.proofs.ExpressionForms.{element-is, field-at, field-is, instance-at, instance-is, items-at}
+use Rattle.java_parser_totality.proofs.ExpressionForms.{class_of-at, class_of-is, conditional-at, conditional-is}
+use Rattle.java_parser_totality.proofs.ExpressionForms.{element-at}
+use Rattle.java_parser_totality.proofs.ExpressionForms.{element-is, field-at, field-is, instance-at, instance-is}
+use Rattle.java_parser_totality.proofs.ExpressionForms.{items-at}
 use Rattle.java_parser_totality.proofs.ExpressionForms.{items-is, itself-at, itself-is, literal-at, literal-is, name-at}
-use Rattle.java_parser_totality.proofs.ExpressionForms.{name-is, new-at, new-is, new_array-at, new_array-is, new_items-at}
-use Rattle.java_parser_totality.proofs.ExpressionForms.{new_items-is, paren-at, paren-is, postfix-at, postfix-is, prefix-at}
+use Rattle.java_parser_totality.proofs.ExpressionForms.{name-is, new-at, new-is, new_array-at, new_array-is}
+use Rattle.java_parser_totality.proofs.ExpressionForms.{new_items-at}
+use Rattle.java_parser_totality.proofs.ExpressionForms.{new_items-is, paren-at, paren-is, postfix-at, postfix-is}
+use Rattle.java_parser_totality.proofs.ExpressionForms.{prefix-at}
 use Rattle.java_parser_totality.proofs.ExpressionForms.{prefix-is, value-at, value-is}
+use Rattle.racer_base.proofs.Lists.{same_3}
 
 pub by2 : {A B Z : Type 0} (C : A → B → Z) {a c : A} {b d : B} → a ≡ c → b ≡ d → C a b ≡ C c d
 by2 C {c = c} {b = b} e f = ap (λ x. C x b) e ∙ ap (C c) f
-
-pub by3 : {A B D Z : Type 0} (C : A → B → D → Z) {a x : A} {b y : B} {d z : D} → a ≡ x → b ≡ y → d ≡ z
-    → C a b d ≡ C x y z
-by3 C {x = x} {b = b} {d = d} e f g = ap (λ u. C u b d) e ∙ by2 (C x) f g
 
 -- ---- words
 
@@ -179,7 +182,7 @@ mutual
       (maker Same (expr_part b) (made b f.1)) (and Same (a_sign (codes ":")) (maker Same (expr_part c)
       (made c f.2))))))
       (expr_part (Conditional a b c)) (λ x. form.conditional x.0 x.1.1.0 x.1.1.1.1) (record {
-        ok = λ x s h. conditional-is x.0 x.1.1.0 x.1.1.1.1 ∙ by3 Conditional h.0 h.1.1.0 h.1.1.1.1;
+        ok = λ x s h. conditional-is x.0 x.1.1.0 x.1.1.1.1 ∙ same_3 Conditional h.0 h.1.1.0 h.1.1.1.1;
         put = λ x s ps. conditional-at x.0 x.1.1.0 x.1.1.1.1 ps;
         size = λ x. omega arith;
         onto = λ rest. refl;
@@ -290,7 +293,7 @@ mutual
       (a_name x) (and Same (a_sign (codes "(")) (and Same (maker Same (exprs_part exprs_onto all)
       (exprs-made all f.1)) (a_sign (codes ")")))))))
       (expr_part (CallOn a x all)) (λ x. form.call_on x.0 x.1.1.0 x.1.1.1.1.0) (record {
-        ok = λ x s h. call_on-is x.0 x.1.1.0 x.1.1.1.1.0 (omega (arith, s)) ∙ by3 CallOn h.0 h.1.1.0 h.1.1.1.1.0;
+        ok = λ x s h. call_on-is x.0 x.1.1.0 x.1.1.1.1.0 (omega (arith, s)) ∙ same_3 CallOn h.0 h.1.1.0 h.1.1.1.1.0;
         put = λ x s ps. call_on-at x.0 x.1.1.0 x.1.1.1.1.0 (omega (arith, s)) ps;
         size = λ x. omega arith;
         onto = λ rest. refl;

@@ -2,6 +2,7 @@
 use Rattle.std.proofs.Common.{◌≡◌, ℕ, ◌<◌, Bool, true, false, cond, List, [], ◌∷◌, ◌++◌, Some, None}
 use Rattle.std.proofs.Common.{map, length, refl, sym, ap, ◌∙◌, subst, arith, codes}
 use Rattle.racer_base.specs.declared.ids.Place.{Place}
+use Rattle.racer_base.proofs.Lists.{same_3}
 use Rattle.java_lexer.specs.declared.token.Token.{Token}
 use Rattle.java_tree.specs.declared.words.Ident.{Ident}
 use Rattle.java_tree.specs.declared.words.Spelled.{Spelled}
@@ -25,15 +26,17 @@ use Rattle.java_tree.specs.Spelling.{parameter_onto, throws_onto, block_onto, sp
 use Rattle.java_tree.specs.Formed.{Each, FormedTy, FormedStmts, FormedResult, FormedParameter, FormedThrown}
 use Rattle.java_tree.specs.Formed.{FormedMethod}
 use Rattle.java_tree.specs.View.{ty_of, name_of, annotation_of, modifier_of, result_of, parameter_of, method_of}
+use Rattle.java_tree.proofs.KeptWords.{all-at}
 use Rattle.java_parser_grammar.specs.Tokens.{plain_all}
 use Rattle.java_parser_grammar.specs.Heads.{has_synchronized}
 use Rattle.java_parser_totality.specs.Totality.{most}
 use Rattle.java_parser_totality.proofs.Parts.{Made, Makes, Maker, maker, word, word-made, placed, placed-made, nothing}
-use Rattle.java_parser_totality.proofs.Parts.{nothing-made, and, IsAs, as-made, Front, front, kind-seen, kept-tail, unkept-tail}
+use Rattle.java_parser_totality.proofs.Parts.{nothing-made, and, as-made, Front, front, kind-seen, kept-tail}
+use Rattle.java_parser_totality.proofs.Parts.{unkept-tail}
 use Rattle.java_parser_totality.proofs.Parts.{no_tokens}
 use Rattle.java_parser_totality.proofs.Parts as parts
 use Rattle.java_parser_totality.proofs.MadeTypes.{Same, ty_part, ty-made, a_sign}
-use Rattle.java_parser_totality.proofs.MadeExpressions.{by2, by3}
+use Rattle.java_parser_totality.proofs.MadeExpressions.{by2}
 use Rattle.java_parser_totality.proofs.MadeStatements.{stmts_part, stmts-made}
 
 abbrev Marked-Part : Type 1
@@ -44,10 +47,6 @@ Marked-Part = parts.Part Marks
 pub some-at : (ps : Places) (ms : Marks) (qs : Places) → AreAt ms qs → AreAt (some_onto ps ms) (ps ++ qs)
 some-at [] ms qs h = h
 some-at (p ∷ ps) ms qs h = (refl, some-at ps ms qs h)
-
-pub all-at : (ps : Places) → AreAt (some_onto ps []) ps
-all-at [] = tt
-all-at (p ∷ ps) = (refl, all-at ps)
 
 some-append : (ps qs : Places) (ms : Marks) → some_onto (ps ++ qs) ms ≡ some_onto ps (some_onto qs ms)
 some-append [] qs ms = refl
@@ -328,7 +327,7 @@ parameter-made p f =
     (a_name p.name)))) (parameter_part p)
     (λ x. record { is_final = p.is_final; annotations = x.1.0; kind = x.1.1.0; name = x.1.1.1 }) (record {
       ok = λ x s h.
-          by3
+          same_3
           (λ (n : List Annotation) (t : Ty) (y : List ℕ).
           record { is_final = p.is_final; annotations = n; kind = t; name = y }) h.1.0 h.1.1.0 h.1.1.1;
       put = λ x s ps. refl;

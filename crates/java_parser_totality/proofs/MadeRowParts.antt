@@ -27,9 +27,10 @@ use Rattle.java_parser_totality.proofs.Parts.{Makes, Maker, maker, nothing, noth
 use Rattle.java_parser_totality.proofs.Parts.{placed-made}
 use Rattle.java_parser_totality.proofs.MadeTypes.{Same, Plain-Part, put_place, puts-place, a_sign, a_keyword, a_name}
 use Rattle.java_parser_totality.proofs.MadeTypes.{a_type}
-use Rattle.java_parser_totality.proofs.MadeExpressions.{by2, by3}
+use Rattle.java_parser_totality.proofs.MadeExpressions.{by2}
 use Rattle.java_parser_totality.proofs.MadeRows.{PlaceIf, place_if}
 use Rattle.java_parser_totality.proofs.MadeStatementParts.{an_expr_of, final_part, final-made}
+use Rattle.racer_base.proofs.Lists.{same_3}
 
 -- ---- words
 
@@ -106,7 +107,7 @@ resource-made r f =
     as-made Same (and Same (maker Same (final_part r.is_final) (final-made r.is_final)) (and Same (a_type r.kind f.0)
     (and Same (a_name r.name) (and Same (a_sign (codes "=")) (an_expr_of r.value f.1))))) (resource_part r)
     (λ x. record { is_final = r.is_final; kind = x.1.0; name = x.1.1.0; value = x.1.1.1.1 }) (record {
-      ok = λ x s h. by3 (λ (t : Ty) (y : List ℕ) (e : Expr). record {
+      ok = λ x s h. same_3 (λ (t : Ty) (y : List ℕ) (e : Expr). record {
         is_final = r.is_final;
         kind = t;
         name = y;

@@ -4,6 +4,7 @@ use Rattle.std.proofs.Common.{map, length, refl, sym, ap, ◌∙◌, subst, code
 use Rattle.std.specs.Prelude.{bytes_eq, option_map}
 use Rattle.std.specs.Cmp.Lexicographic.{bytes_decides}
 use Rattle.std.specs.Global.{Vec}
+use Rattle.std.proofs.lemmas.Bool.{and_parts}
 use Rattle.racer_base.specs.declared.ids.Place.{Place}
 use Rattle.java_lexer.specs.declared.token.TokenKind.TheVariants as kind
 use Rattle.java_tree.specs.declared.words.Ident.{Ident}
@@ -371,15 +372,11 @@ pub unkept : (a b : Bool) → (not a && b) ≡ true → (a ≡ false) × (b ≡ 
 unkept true b h = absurd cc
 unkept false b h = (refl, h)
 
-pub both : (a b : Bool) → (a && b) ≡ true → (a ≡ true) × (b ≡ true)
-both true b h = (refl, h)
-both false b h = absurd cc
-
 found-unkept : (rs : List (List ℕ × Slots)) → all_unkept rs ≡ true → (word : List ℕ)
     → are_unkept (find_row rs word) ≡ true
 found-unkept [] all word = refl
 found-unkept (r ∷ rs) all word =
-    let first = both _ _ all in by_test (bytes_eq word r.0) first.0 (found-unkept rs first.1 word) where
+    let first = and_parts _ _ all in by_test (bytes_eq word r.0) first.0 (found-unkept rs first.1 word) where
       by_test : (b : Bool) → are_unkept r.1 ≡ true → are_unkept (find_row rs word) ≡ true
           → are_unkept (cond b r.1 (find_row rs word)) ≡ true
       by_test true row others = row

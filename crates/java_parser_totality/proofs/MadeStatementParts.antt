@@ -11,16 +11,17 @@ use Rattle.java_tree.specs.declared.statements.StartTree.{StartTree}
 use Rattle.java_tree.specs.declared.statements.StartTree.TheVariants as start
 use Rattle.java_tree.specs.KeptPlaces.{each_puts, maybe_puts, expr_places, init_places, variable_places}
 use Rattle.java_tree.specs.KeptPlaces.{locals_places, start_places}
-use Rattle.java_tree.specs.Trees.{Ty, Expr, Exprs, no_expr, expr_then, Init, Variable, Locals, Start, Declares, Runs}
+use Rattle.java_tree.specs.Trees.{Ty, Expr, Exprs, Init, Variable, Locals, Start, Declares, Runs}
 use Rattle.java_tree.specs.Spelling.{behind_commas, commas_onto, final_onto, exprs_onto, maybe_expr_onto}
 use Rattle.java_tree.specs.Spelling.{maybe_init_onto, variable_onto, locals_onto, start_onto}
-use Rattle.java_tree.specs.Formed.{Each, FormedExpr, FormedExprs, FormedMaybeExpr, FormedRuns, FormedMaybeInit}
+use Rattle.java_tree.specs.Formed.{Each, FormedExpr, FormedMaybeExpr, FormedRuns, FormedMaybeInit}
 use Rattle.java_tree.specs.Formed.{FormedVariable, FormedLocals, FormedStart}
 use Rattle.java_tree.specs.View.{expr_of, init_of, variable_of, locals_of, start_of}
 use Rattle.java_parser_totality.proofs.Parts.{Makes, Maker, maker, nothing, nothing-made, and, as-made}
 use Rattle.java_parser_totality.proofs.MadeTypes.{Same, Plain-Part, a_sign, a_keyword, a_name, a_type}
 use Rattle.java_parser_totality.proofs.MadeExpressions.{by2, expr_part, exprs_part, init_part, made, exprs-made}
 use Rattle.java_parser_totality.proofs.MadeExpressions.{init-made}
+use Rattle.java_parser_grammar.proofs.LongerStatements.{runs_formed}
 
 abbrev pub an_expr_of : (e : Expr) → FormedExpr e → Maker Same
 an_expr_of e f = maker Same (expr_part e) (made e f)
@@ -166,12 +167,8 @@ maybe-expr-made (Some e) f =
     as-made Same (an_expr_of e f) (maybe_expr_part (Some e)) Some
     (record { ok = λ x s h. ap Some h; put = λ x s ps. refl; size = λ x. omega arith; onto = λ rest. refl })
 
-pub runs-formed : (es : Exprs) → FormedRuns es → FormedExprs es
-runs-formed no_expr f = tt
-runs-formed (expr_then e es) f = (f.0.0, runs-formed es f.1)
-
 abbrev pub some_runs : (es : Exprs) → FormedRuns es → Maker Same
-some_runs es f = maker Same (exprs_part exprs_onto es) (exprs-made es (runs-formed es f))
+some_runs es f = maker Same (exprs_part exprs_onto es) (exprs-made es (runs_formed es f))
 
 abbrev pub start_part : Start → Plain-Part
 start_part i =

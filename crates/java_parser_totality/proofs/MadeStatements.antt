@@ -1,6 +1,7 @@
 -- A statement of the code is made of the tokens of a formed statement.
 use Rattle.std.proofs.Common.{◌≡◌, ℕ, true, false, List, [], ◌∷◌, Some, None, map, length}
 use Rattle.std.proofs.Common.{refl, sym, ap, ◌∙◌, arith, codes, ◌&&◌}
+use Rattle.std.proofs.lemmas.Bool.{and_parts}
 use Rattle.java_lexer.specs.declared.token.TokenKind.TheVariants as kind
 use Rattle.java_tree.specs.declared.words.Spelled.{Spelled}
 use Rattle.java_tree.specs.declared.statements.Statement.{Statement}
@@ -20,9 +21,9 @@ use Rattle.java_tree.specs.Rows.{◌▹◌, row_of}
 use Rattle.java_tree.specs.View.{stmt_of, group_of, pack_groups, Group}
 use Rattle.java_parser_totality.proofs.Parts.{Makes, maker, nothing, nothing-made, and, as-made}
 use Rattle.java_parser_totality.proofs.MadeTypes.{Same, Plain-Part, a_sign, a_keyword, a_name, a_type}
-use Rattle.java_parser_totality.proofs.MadeExpressions.{by2, by3}
+use Rattle.java_parser_totality.proofs.MadeExpressions.{by2}
 use Rattle.java_parser_totality.proofs.MadeRows.{Values, seen, kept_of, count_of, all_seen, all_count, builds}
-use Rattle.java_parser_totality.proofs.MadeRows.{are_unkept, unkept, both, row-unkept}
+use Rattle.java_parser_totality.proofs.MadeRows.{are_unkept, unkept, row-unkept}
 use Rattle.java_parser_totality.proofs.MadeStatementParts.{an_expr_of, a_locals, final_part, final-made}
 use Rattle.java_parser_totality.proofs.MadeStatementParts.{maybe_expr_part, maybe-expr-made, some_runs, start_part}
 use Rattle.java_parser_totality.proofs.MadeStatementParts.{start-made}
@@ -35,10 +36,7 @@ use Rattle.java_parser_totality.proofs.StatementForms.{block-at, block-is, empty
 use Rattle.java_parser_totality.proofs.StatementForms.{for_each-at, for_each-is, if_else-at, if_else-is, local-at}
 use Rattle.java_parser_totality.proofs.StatementForms.{local-is, one_if-at, one_if-is, run-at, run-is, labelled-at}
 use Rattle.java_parser_totality.proofs.StatementForms.{labelled-is, group-at, group-is}
-
-by4 : {A B D E Z : Type 0} (C : A → B → D → E → Z) {a x : A} {b y : B} {d z : D} {e w : E} → a ≡ x → b ≡ y → d ≡ z
-    → e ≡ w → C a b d e ≡ C x y z w
-by4 C {x = x} {b = b} {d = d} {e = e} f g h k = ap (λ u. C u b d e) f ∙ by3 (C x) g h k
+use Rattle.racer_base.proofs.Lists.{same_3, same_4}
 
 -- ---- statements
 
@@ -129,7 +127,7 @@ mutual
       (and Same (a_sign (codes ")")) (and Same (maker Same (stmt_part s) (stmt-made s f.1)) (and Same (a_keyword
       (codes "else") refl) (maker Same (stmt_part t) (stmt-made t f.2))))))))
       (stmt_part (IfElse e s t)) (λ x. form.a_if_else x.1.1.0 x.1.1.1.1.0 x.1.1.1.1.1.1) (record {
-        ok = λ x few h. if_else-is x.1.1.0 x.1.1.1.1.0 x.1.1.1.1.1.1 ∙ by3 IfElse h.1.1.0 h.1.1.1.1.0 h.1.1.1.1.1.1;
+        ok = λ x few h. if_else-is x.1.1.0 x.1.1.1.1.0 x.1.1.1.1.1.1 ∙ same_3 IfElse h.1.1.0 h.1.1.1.1.0 h.1.1.1.1.1.1;
         put = λ x few ps. if_else-at x.1.1.0 x.1.1.1.1.0 x.1.1.1.1.1.1 ps;
         size = λ x. omega arith;
         onto = λ rest. refl;
@@ -141,7 +139,7 @@ mutual
       (codes ")")) (maker Same (stmt_part s) (stmt-made s f.3))))))))))
       (stmt_part (For i c updates s)) (λ x. form.a_for x.1.1.0 x.1.1.1.1.0 x.1.1.1.1.1.1.0 x.1.1.1.1.1.1.1.1) (record {
         ok = λ x few h. for-is x.1.1.0 x.1.1.1.1.0 x.1.1.1.1.1.1.0 x.1.1.1.1.1.1.1.1 (omega (arith, few))
-            ∙ by4 For h.1.1.0 h.1.1.1.1.0 h.1.1.1.1.1.1.0 h.1.1.1.1.1.1.1.1;
+            ∙ same_4 For h.1.1.0 h.1.1.1.1.0 h.1.1.1.1.1.1.0 h.1.1.1.1.1.1.1.1;
         put = λ x few ps. for-at x.1.1.0 x.1.1.1.1.0 x.1.1.1.1.1.1.0 x.1.1.1.1.1.1.1.1 (omega (arith, few)) ps;
         size = λ x. omega arith;
         onto = λ rest. refl;
@@ -154,7 +152,7 @@ mutual
       (stmt_part (ForEach final t x e s))
       (λ x. form.a_for_each final x.1.1.1.0 x.1.1.1.1.0 x.1.1.1.1.1.1.0 x.1.1.1.1.1.1.1.1) (record {
         ok = λ x few h. for_each-is final x.1.1.1.0 x.1.1.1.1.0 x.1.1.1.1.1.1.0 x.1.1.1.1.1.1.1.1
-            ∙ by4 (ForEach final) h.1.1.1.0 h.1.1.1.1.0 h.1.1.1.1.1.1.0 h.1.1.1.1.1.1.1.1;
+            ∙ same_4 (ForEach final) h.1.1.1.0 h.1.1.1.1.0 h.1.1.1.1.1.1.0 h.1.1.1.1.1.1.1.1;
         put = λ x few ps. for_each-at final x.1.1.1.0 x.1.1.1.1.0 x.1.1.1.1.1.1.0 x.1.1.1.1.1.1.1.1 ps;
         size = λ x. omega arith;
         onto = λ rest. refl;
@@ -263,7 +261,7 @@ mutual
       as-made Same (and Same (maker Same (behind_part text e) (behind-made text e f.0.1)) (maker Same
       (pieces_part row ps) (pieces-made ps row f.1 ok)))
       (pieces_part (MaybeBehind text ▹ row) (maybe_behind t e ps)) (λ x. x) (record {
-        ok = λ x s h. by3 maybe_behind (sym f.0.0) h.0 h.1;
+        ok = λ x s h. same_3 maybe_behind (sym f.0.0) h.0 h.1;
         put = λ x s ps. refl;
         size = λ x. omega arith;
         onto = λ rest. ap (λ v. maybe_behind_onto v e (pieces_onto ps rest)) f.0.0;
@@ -304,7 +302,7 @@ mutual
       })
   pieces-made (absent w ps) (Perhaps word sub ▹ row) f ok =
       let quiet = unkept (is_kept kind.Keyword word) (are_unkept sub && are_unkept row) ok in
-      as-made Same (maker Same (pieces_part row ps) (pieces-made ps row f.1 (both (are_unkept sub) _ quiet.1).1))
+      as-made Same (maker Same (pieces_part row ps) (pieces-made ps row f.1 (and_parts (are_unkept sub) _ quiet.1).1))
       (pieces_part (Perhaps word sub ▹ row) (absent w ps)) (λ x. (None, x)) (record {
         ok = λ x s h. by2 absent (sym f.0) h;
         put = λ x s ps. refl;
@@ -313,23 +311,23 @@ mutual
       })
   pieces-made (present w one ps) (Perhaps word sub ▹ row) f ok =
       let quiet = unkept (is_kept kind.Keyword word) (are_unkept sub && are_unkept row) ok in
-      let parts = both (are_unkept sub) (are_unkept row) quiet.1 in
+      let parts = and_parts (are_unkept sub) (are_unkept row) quiet.1 in
       as-made Same (and Same (a_keyword word quiet.0) (and Same (maker Same (pieces_part sub one) (pieces-made one sub
       f.0.1 parts.0)) (maker Same (pieces_part row ps) (pieces-made ps row f.1 parts.1))))
       (pieces_part (Perhaps word sub ▹ row) (present w one ps)) (λ x. (Some x.1.0, x.1.1)) (record {
-        ok = λ x s h. by3 present (sym f.0.0) h.1.0 h.1.1;
+        ok = λ x s h. same_3 present (sym f.0.0) h.1.0 h.1.1;
         put = λ x s ps. refl;
         size = λ x. omega arith;
         onto = λ rest. ap (λ v. keyword v ∷ pieces_onto one (pieces_onto ps rest)) f.0.0;
       })
   pieces-made (a_list w more ps) (Again word sub ▹ row) f ok =
       let quiet = unkept (is_kept kind.Keyword word) (are_unkept sub && are_unkept row) ok in
-      let parts = both (are_unkept sub) (are_unkept row) quiet.1 in
+      let parts = and_parts (are_unkept sub) (are_unkept row) quiet.1 in
       as-made Same (and Same (maker Same (several_part word sub more) (several-made more sub f.0.1 word quiet.0
       parts.0))
       (maker Same (pieces_part row ps) (pieces-made ps row f.1 parts.1)))
       (pieces_part (Again word sub ▹ row) (a_list w more ps)) (λ x. x) (record {
-        ok = λ x s h. by3 a_list (sym f.0.0) h.0 h.1;
+        ok = λ x s h. same_3 a_list (sym f.0.0) h.0 h.1;
         put = λ x s ps. refl;
         size = λ x. omega arith;
         onto = λ rest. ap (λ v. several_onto v more (pieces_onto ps rest)) f.0.0;
@@ -363,7 +361,7 @@ mutual
         ok = λ x few h.
             ap (λ (g : Group). group_then g.0 g.1 (pack_groups (map group_of x.1.1.1)))
             (group-is (x.0 ∷ x.1.0) x.1.1.0 (omega (arith, few)))
-            ∙ by3 group_then (by2 (λ (y : Label) (ys : List Label). y ∷ ys) h.0 h.1.0) h.1.1.0 h.1.1.1;
+            ∙ same_3 group_then (by2 (λ (y : Label) (ys : List Label). y ∷ ys) h.0 h.1.0) h.1.1.0 h.1.1.1;
         put = λ x few ps.
             group-at (x.0 ∷ x.1.0) x.1.1.0 (omega (arith, few)) (each_puts (map group_places x.1.1.1) ps);
         size = λ x. omega arith;

@@ -1,5 +1,5 @@
 -- A type of the code is made of the tokens of a formed type.
-use Rattle.std.proofs.Common.{◌≡◌, ℕ, zero, suc, ◌<◌, Bool, true, false, IsTrue, ◌||◌, List, [], ◌∷◌, ◌++◌, Some}
+use Rattle.std.proofs.Common.{◌≡◌, ℕ, zero, suc, ◌<◌, Bool, true, false, IsTrue, List, [], ◌∷◌, ◌++◌, Some}
 use Rattle.std.proofs.Common.{None, map}
 use Rattle.std.proofs.Common.{length, refl, sym, ap, ◌∙◌, arith, rules, codes}
 use Rattle.std.specs.Prelude.{bytes_eq}
@@ -24,14 +24,16 @@ use Rattle.java_tree.specs.Trees.{Arguments, Angled, ArgumentList, no_argument, 
 use Rattle.java_tree.specs.Trees.{Extends, Super, pack_parts, pack_arguments}
 use Rattle.java_tree.specs.Spelling.{ty_onto, base_onto, more_parts_onto, part_onto, angled_onto, arguments_onto}
 use Rattle.java_tree.specs.Spelling.{more_arguments_onto, argument_onto, brackets_onto}
-use Rattle.java_tree.specs.Formed.{FormedTy, FormedBase, FormedParts, FormedPart, FormedArguments, FormedArgument}
+use Rattle.java_tree.specs.Formed.{FormedTy, FormedBase, FormedParts, FormedArguments, FormedArgument}
 use Rattle.java_tree.specs.Formed.{FormedLastPart, FormedClass, FormedClassParts, is_plain_word, has_part}
 use Rattle.java_tree.specs.View.{ty_of, base_of, part_of, angled_of, argument_of, name_of}
+use Rattle.java_tree.proofs.KeptWords.{plain-unkept}
 use Rattle.java_parser_totality.specs.Totality.{most}
 use Rattle.java_parser_totality.proofs.Parts as parts
 use Rattle.java_parser_totality.proofs.Parts.{Made, Makes, Maker, maker, word, word-made, placed, placed-made, nothing}
 use Rattle.java_parser_totality.proofs.Parts.{nothing-made, and, IsAs, as-made}
 use Rattle.java_parser_totality.proofs.Vectors.{vector, vector-items}
+use Rattle.java_parser_grammar.proofs.FoundMadeTypes.{last_part}
 
 -- places that are the same
 abbrev pub Same : Places → Places → Type 0
@@ -87,14 +89,6 @@ not-this text other plain differs = by (bytes_eq text other) refl where
   by true e = absurd (let wrong : false ≡ true = sym differs
       ∙ ap is_plain_word (sym ((bytes_decides text other).0 e)) ∙ plain in cc)
   by false e = refl
-
--- a primitive type is no word whose place is kept
-pub plain-unkept : (text : List ℕ) → is_plain_word text ≡ true → is_kept kind.Keyword text ≡ false
-plain-unkept text plain =
-    ap (λ b. b || (bytes_eq text (codes "synchronized") || bytes_eq text (codes "throw")))
-    (not-this text (codes "new") plain refl)
-    ∙ ap (λ b. b || bytes_eq text (codes "throw")) (not-this text (codes "synchronized") plain refl)
-    ∙ not-this text (codes "throw") plain refl
 
 -- ---- `[ ]`
 
@@ -193,18 +187,14 @@ EachLast (part_then p ps) = FormedLastPart p × EachLast ps
 abbrev InAngles : Arguments → Type 0
 InAngles (Angled list glued) = FormedArguments list
 
-pub last-part : (p : Part) → FormedPart p → FormedLastPart p
-last-part (Bare x) f = tt
-last-part (Generic x (Angled list glued)) f = f.0
-
 pub each-last : (ps : Parts) → FormedParts ps → EachLast ps
 each-last no_part f = tt
-each-last (part_then p ps) f = (last-part p f.0, each-last ps f.1)
+each-last (part_then p ps) f = (last_part p f.0, each-last ps f.1)
 
 pub class-last : (ps : Parts) → FormedClassParts ps → EachLast ps
 class-last no_part f = tt
 class-last (part_then p no_part) f = (f, tt)
-class-last (part_then p (part_then q ps)) f = (last-part p f.0, class-last (part_then q ps) f.1)
+class-last (part_then p (part_then q ps)) f = (last_part p f.0, class-last (part_then q ps) f.1)
 
 -- ---- forms
 

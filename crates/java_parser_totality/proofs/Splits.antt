@@ -1,22 +1,9 @@
 -- Tokens that are cut in two: their spelling and the places that are kept.
-use Rattle.std.proofs.Common.{◌≡◌, ℕ, ◌<◌, Bool, true, false, cond, List, [], ◌∷◌, ◌++◌, length, length-append}
+use Rattle.std.proofs.Common.{◌≡◌, ℕ, ◌<◌, List, [], ◌∷◌, ◌++◌, length, length-append}
 use Rattle.std.proofs.Common.{refl, sym, ap, ◌∙◌, arith}
 use Rattle.java_lexer.specs.declared.token.Token.{Token}
 use Rattle.java_tree.specs.declared.words.Spelled.{Spelled}
-use Rattle.java_tree.specs.KeptPlaces.{is_kept, kept}
 use Rattle.java_parser_grammar.specs.Tokens.{plain, plain_all}
-
-pub plain-append : (a b : List Token) → plain_all (a ++ b) ≡ plain_all a ++ plain_all b
-plain-append [] b = refl
-plain-append (t ∷ a) b = ap (λ (l : List Spelled). plain t ∷ l) (plain-append a b)
-
-pub kept-append : (a b : List Token) → kept (a ++ b) ≡ kept a ++ kept b
-kept-append [] b = refl
-kept-append (t ∷ a) b = by (is_kept t.kind t.text) (kept-append a b) where
-  by : (c : Bool) → kept (a ++ b) ≡ kept a ++ kept b
-      → cond c (t.place ∷ kept (a ++ b)) (kept (a ++ b)) ≡ cond c (t.place ∷ kept a) (kept a) ++ kept b
-  by true e = ap (λ l. t.place ∷ l) e
-  by false e = e
 
 -- tokens whose spelling is two
 pub record InTwo (ts : List Token) (x y : List Spelled) : Type 0 where

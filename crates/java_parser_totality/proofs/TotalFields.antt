@@ -22,19 +22,22 @@ use Rattle.java_tree.specs.Nesting.{ty_nesting}
 use Rattle.java_parser_grammar.specs.Tokens.{plain_all, is_sign_token, is_name, begins_sign}
 use Rattle.java_parser_grammar.specs.Cuts.{joined}
 use Rattle.java_parser_grammar.specs.Pieces.{Item, items_of}
-use Rattle.java_parser_grammar.specs.FieldDivisions.{IsInit, BeginsWith, IsVariable, IsRead, IsDivided, AreRead, before_first}
+use Rattle.java_parser_grammar.specs.FieldDivisions.{IsInit, BeginsWith, IsVariable, IsRead, IsDivided, AreRead}
+use Rattle.java_parser_grammar.specs.FieldDivisions.{before_first}
 use Rattle.java_parser_grammar.specs.FieldDivisions.{between_commas, AreVariables, is_field_modifier}
 use Rattle.java_parser_grammar.specs.FieldDivisions.{FormedFieldModifier, AreDeclared, AreFields}
 use Rattle.java_parser_grammar.proofs.Appended.{modifiers_append}
 use Rattle.java_parser_grammar.proofs.Joined.{joined_items}
+use Rattle.java_parser_grammar.proofs.OneDivision.{plain_append}
 use Rattle.java_parser_totality.specs.Totality.{most}
 use Rattle.java_parser_totality.proofs.Parts.{Made, no_tokens}
 use Rattle.java_parser_totality.proofs.MadeTypes.{Same}
 use Rattle.java_parser_totality.proofs.MadeExpressions.{init_part, init-made}
 use Rattle.java_parser_totality.proofs.Deciding.{Decided, decided-as, decided-both, decided-either, decided-true, Split}
 use Rattle.java_parser_totality.proofs.Deciding.{decided-split}
-use Rattle.java_parser_totality.proofs.DecidingTrees.{Modifiers, decided-modifiers, IsType, decided-type, IsInitOf, decided-init}
-use Rattle.java_parser_totality.proofs.Splits.{plain-append, InTwo, in-two, back-within, front-within}
+use Rattle.java_parser_totality.proofs.DecidingTrees.{Modifiers, decided-modifiers, IsType, decided-type, IsInitOf}
+use Rattle.java_parser_totality.proofs.DecidingTrees.{decided-init}
+use Rattle.java_parser_totality.proofs.Splits.{InTwo, in-two, back-within, front-within}
 use Rattle.java_parser_totality.proofs.TotalHeads.{TypeTreeOf, type-tree, last-places}
 
 -- ---- what a variable begins with
@@ -352,7 +355,7 @@ declared-by ts front variables a b ms t vs whole parts fine spelled is k divided
     spelled = ap (λ l. modifiers_onto l (ty_onto (ty_of k.tree) [])) (modifier-trees ms)
         ∙ ap (λ u. modifiers_onto ms (ty_onto u [])) k.is ∙ modifiers_append ms [] (ty_onto t [])
         ∙ ap (λ l. l ++ ty_onto t []) spelled ∙ ap (λ l. plain_all a ++ l) is.spelled
-        ∙ sym (plain-append a b) ∙ ap plain_all parts;
+        ∙ sym (plain_append a b) ∙ ap plain_all parts;
     placed = last-places a b front (ty_places k.tree) parts k.places;
     divided = divided;
   },

@@ -12,18 +12,21 @@ use Rattle.java_tree.specs.View.{ty_of}
 use Rattle.java_tree.specs.declared.unit.HeadResult.{HeadResult}
 use Rattle.java_tree.specs.declared.unit.HeadResult.TheVariants.{Void, Formed, Constructor, Unknown}
 use Rattle.java_tree.specs.declared.unit.OutsideHead.{OutsideHead}
+use Rattle.java_tree.proofs.KeptWords.{kept-append}
 use Rattle.java_parser_grammar.specs.Tokens.{plain_all, AreLast}
 use Rattle.java_parser_grammar.specs.Pieces.{items_of, inside}
-use Rattle.java_parser_grammar.specs.Heads.{EndsInResult, without_annotations, IsConstructor, HasHead, HeadSays, IsResult}
+use Rattle.java_parser_grammar.specs.Heads.{EndsInResult, without_annotations, IsConstructor, HasHead, HeadSays}
+use Rattle.java_parser_grammar.specs.Heads.{IsResult}
 use Rattle.java_parser_grammar.specs.Heads.{parameters_among, has_static, has_synchronized, name_kept, IsOutside}
 use Rattle.java_parser_grammar.proofs.Appended.{modifiers_append}
+use Rattle.java_parser_grammar.proofs.OneDivision.{plain_append}
 use Rattle.java_parser_totality.specs.Totality.{most}
 use Rattle.java_parser_totality.proofs.Parts.{Made, no_tokens}
 use Rattle.java_parser_totality.proofs.MadeTypes.{Same, ty_part, ty-made}
 use Rattle.java_parser_totality.proofs.Deciding.{Decided, decided-as, decided-both, decided-true, decided-bytes, Split}
 use Rattle.java_parser_totality.proofs.Deciding.{decided-split}
 use Rattle.java_parser_totality.proofs.DecidingTrees.{Modifiers, decided-modifiers, AResult, IsResultOf, decided-result}
-use Rattle.java_parser_totality.proofs.Splits.{plain-append, kept-append, InTwo, in-two, back-within}
+use Rattle.java_parser_totality.proofs.Splits.{InTwo, in-two, back-within}
 
 -- ---- the tree of a type
 
@@ -64,7 +67,7 @@ decided-ending ts = decided-as to from (decided-split EndsSo ts (λ a b e. decid
         r.formed,
         r.nested,
         r.some,
-        ap (λ l. plain_all h.front ++ l) r.spelled ∙ sym (plain-append h.front h.back) ∙ ap plain_all h.parts,
+        ap (λ l. plain_all h.front ++ l) r.spelled ∙ sym (plain_append h.front h.back) ∙ ap plain_all h.parts,
       )
 
   of : (r : Result) {x : List Spelled} → IsResultOf (result_onto r []) r → InTwo ts x (result_onto r [])
@@ -101,7 +104,7 @@ head-spelled : (ts a b : List Token) (ms : List Modifier) (r : Result) → a ++ 
     → modifiers_onto ms (result_onto r []) ≡ plain_all ts
 head-spelled ts a b ms r parts first second =
     modifiers_append ms [] (result_onto r []) ∙ ap (λ l. l ++ result_onto r []) first
-    ∙ ap (λ l. plain_all a ++ l) second ∙ sym (plain-append a b) ∙ ap plain_all parts
+    ∙ ap (λ l. plain_all a ++ l) second ∙ sym (plain_append a b) ∙ ap plain_all parts
 
 decided-head : (ts : List Token) → Decided (AHead ts)
 decided-head ts =

@@ -18,7 +18,8 @@ use Rattle.java_tree.specs.declared.unit.Member.TheVariants as member
 use Rattle.java_parser_grammar.specs.Tokens.{plain_all, is_sign_token, is_name, begins_sign}
 use Rattle.java_parser_grammar.specs.Cuts.{joined, ends}
 use Rattle.java_parser_grammar.specs.Pieces.{Piece, items_of, pieces_of}
-use Rattle.java_parser_grammar.specs.Members.{is_endless, is_block, is_modifier, behind_words, begins_type, before_parentheses}
+use Rattle.java_parser_grammar.specs.Members.{is_endless, is_block, is_modifier, behind_words, begins_type}
+use Rattle.java_parser_grammar.specs.Members.{before_parentheses}
 use Rattle.java_parser_grammar.specs.Members.{name_at_end, Form, SkippedForm, MethodForm, FieldForm, form_by, form_of}
 use Rattle.java_tree.specs.declared.unit.OutsideHead.{OutsideHead}
 use Rattle.java_parser_grammar.specs.Heads.{IsMethod, IsOutside, has_synchronized}

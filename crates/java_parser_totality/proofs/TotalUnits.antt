@@ -15,7 +15,8 @@ use Rattle.java_parser_grammar.specs.Brackets.{unbalanced, too_deep}
 use Rattle.java_parser_grammar.specs.Pieces.{Item, items_of, pieces_of}
 use Rattle.java_parser_grammar.specs.Declarations.{types_among, AreDeclarations, IsMisfit}
 use Rattle.java_parser_grammar.specs.Members.{members_of}
-use Rattle.java_parser_grammar.specs.Units.{BeginsAt, IsMember, read_name, annotations_before, IsAnnotation, body_among, IsClass}
+use Rattle.java_parser_grammar.specs.Units.{BeginsAt, IsMember, read_name, annotations_before, IsAnnotation, body_among}
+use Rattle.java_parser_grammar.specs.Units.{IsClass}
 use Rattle.java_parser_grammar.specs.Units.{is_read}
 use Rattle.java_parser_grammar.proofs.Joined.{joined_items}
 use Rattle.java_parser_grammar.proofs.Misfits.{cut_or_misfit}

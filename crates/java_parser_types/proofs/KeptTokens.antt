@@ -1,6 +1,6 @@
 -- The places that are kept of keywords in front, and behind them.
 use Rattle.std.proofs.Common.{◌≡◌, ℕ, ◌-◌, ◌≤◌, Bool, true, false, List, [], ◌∷◌, not, ◌&&◌, length, get_or, take}
-use Rattle.std.proofs.Common.{drop, codes, if◌then◌else◌, refl, ap, ◌∙◌, arith}
+use Rattle.std.proofs.Common.{drop, if◌then◌else◌, refl, ap, ◌∙◌, arith}
 use Rattle.std.specs.Prelude.{bytes_eq}
 use Rattle.std.specs.Cmp.Lexicographic.{bytes_decides}
 use Rattle.std.proofs.Math.Seq.{take-length}
@@ -10,6 +10,7 @@ use Rattle.java_lexer.specs.declared.token.TokenKind.{TokenKind}
 use Rattle.java_lexer.specs.declared.token.TokenKind.TheVariants as kind
 use Rattle.java_tree.specs.Formed.{is_plain_word}
 use Rattle.java_tree.specs.KeptPlaces.{Places, is_kept, place_onto, kept}
+use Rattle.java_tree.proofs.KeptWords.{plain-unkept}
 use Rattle.java_parser_grammar.specs.Taking.{is_keyword_kind, is_keyword}
 use Rattle.java_parser_types.specs.Tokens.{spelled}
 
@@ -43,26 +44,11 @@ keyword_behind text (u ∷ us) t some first e =
 
 -- ---- the word of a primitive type
 
-other_than : (word text : List ℕ) → is_plain_word word ≡ false → is_plain_word text ≡ true → (b : Bool)
-    → bytes_eq text word ≡ b → b ≡ false
-other_than word text lacks plain true e =
-    let same : is_plain_word word ≡ true = rw ((bytes_decides text word).0 e) at plain in
-    absurd cc
-other_than word text lacks plain false e = refl
-
-plain_unkept : (text : List ℕ) → is_plain_word text ≡ true → is_kept kind.Keyword text ≡ false
-plain_unkept text plain =
-    rw (
-      other_than (codes "new") text refl plain (bytes_eq text (codes "new")) refl,
-      other_than (codes "synchronized") text refl plain (bytes_eq text (codes "synchronized")) refl,
-      other_than (codes "throw") text refl plain (bytes_eq text (codes "throw")) refl,
-    ) refl
-
 pub plain_behind : (ts : List Token) (t : Token) → 1 ≤ length ts → t ≡ get_or ts 0 t → t.kind ≡ kind.Keyword
     → is_plain_word t.text ≡ true → kept (take (length ts - 1) (drop 1 ts)) ≡ kept ts
 plain_behind [] t some first word plain = absurd (omega arith)
 plain_behind (u ∷ us) t some first word plain =
     let word' : u.kind ≡ kind.Keyword = rw first at word in
     let plain' : is_plain_word u.text ≡ true = rw first at plain in
-    let unkept : is_kept kind.Keyword u.text ≡ false = plain_unkept u.text plain' in
+    let unkept : is_kept kind.Keyword u.text ≡ false = plain-unkept u.text plain' in
     ap kept (behind u us) ∙ rw (word', unkept) refl

@@ -5,4 +5,4 @@ pub mod WholeTrees
 pub mod KeptTokens
 pub mod PutPlaces
 pub mod ReadParts
-mod LastCalls
+pub mod LastCalls

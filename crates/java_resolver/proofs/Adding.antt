@@ -1,15 +1,12 @@
 -- A number that goes to a name and a key.
-use Rattle.std.proofs.Common.{◌≡◌, ℕ, true, false, cond, List, Some, None, refl, sym, ap, ◌∙◌}
-use Rattle.std.specs.Prelude.{Option, bytes_eq, ◌&&◌}
+use Rattle.std.proofs.Common.{◌≡◌, ℕ, true, false, cond, List, Some, refl, sym, ap, ◌∙◌}
+use Rattle.std.specs.Prelude.{bytes_eq, ◌&&◌}
 use Rattle.std.specs.Option.{option_or}
 use Rattle.std.specs.Cmp.Lexicographic.{same_text}
 use Rattle.std.specs.BTreeMap.{get_by_text}
 use Rattle.java_resolver.specs.Numbers.{Key, key_eq, Keyed, Named, keyed_at, number_in, number_at, or_added}
 use Rattle.java_resolver.specs.Numbers.{AddsNumber}
-
-or_nothing : (o : Option ℕ) → option_or o None ≡ o
-or_nothing None = refl
-or_nothing (Some x) = refl
+use Rattle.racer_base.proofs.Lists.{option_or-none}
 
 pub number_added : (old new : Named) (name : List ℕ) (key : Key) (number : ℕ) (keyed : Keyed) →
     ((k : Key) → keyed_at keyed k ≡ or_added (key_eq key k) number (number_at old name k)) →
@@ -24,5 +21,5 @@ number_added old new name key number keyed adds puts other k =
           let same : name ≡ other = same_text name other (sym e) in
           ap (number_in k) there ∙ adds k
           ∙ ap (λ text. or_added (key_eq key k) number (number_at old text k)) same
-      | false ↦ λ e there. ap (number_in k) there ∙ sym (or_nothing had)
+      | false ↦ λ e there. ap (number_in k) there ∙ sym (option_or-none had)
     ] refl (puts other)

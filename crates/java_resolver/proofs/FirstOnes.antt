@@ -10,6 +10,7 @@ use Rattle.java_resolver.specs.Declarations.{class_names}
 use Rattle.java_resolver.specs.Firsts.{first_that}
 use Rattle.java_resolver.specs.Numbers.{Key, key_eq, Named, number_at, or_added, AddsNumber}
 use Rattle.java_resolver.specs.Indexes.{AddsElement, FindsFirsts, class_at}
+use Rattle.racer_base.proofs.Lists.{option_or-none}
 
 map_or : (o p : Option ℕ) → option_map suc (option_or o p) ≡ option_or (option_map suc o) (option_map suc p)
 map_or None p = refl
@@ -82,10 +83,6 @@ first_that-within test (x ∷ xs) n e =
       | false ↦ λ is. shifted_within (length xs) (first_that test xs) n (first_that-within test xs) is
     ] e
 
-or_nothing : (o : Option ℕ) → option_or o None ≡ o
-or_nothing None = refl
-or_nothing (Some n) = refl
-
 length_taken : {A : Type 0} (xs : List A) (i : ℕ) → i < length xs → length (take i xs) ≡ i
 length_taken xs i within = let is : length (take i xs) ≡ min i (length xs) = length-take i xs in omega arith
 
@@ -107,7 +104,7 @@ finds_next belongs old new xs i x within is finds adds =
 pub nothing_added : {A : Type 0} (belongs : List ℕ → Key → A → Bool) (numbers : Named) (x : A) (number : ℕ) →
     ((name : List ℕ) (key : Key) → false ≡ belongs name key x) → AddsElement belongs numbers numbers x number
 nothing_added belongs numbers x number nowhere name key =
-    sym (or_nothing (number_at numbers name key))
+    sym (option_or-none (number_at numbers name key))
     ∙ ap (λ b. or_added b number (number_at numbers name key)) (nowhere name key)
 
 -- what is first among the elements so far is one of all

@@ -1,4 +1,4 @@
-mod Adding
+pub mod Adding
 mod FirstOnes
 mod Repeats
 mod LastNames

@@ -1,6 +1,7 @@
 -- Names of a type before the last.
 use Rattle.std.proofs.Common.{◌≡◌, ◌&&◌, Bool, true, false, List, [], ◌∷◌, length, map, refl, ap, sym, ◌∙◌, subst}
 use Rattle.std.specs.Prelude.{◌==◌}
+use Rattle.std.proofs.lemmas.Bool.{and_left}
 use Rattle.java_tree.specs.declared.types.TypePart.{TypePart}
 use Rattle.java_tree.specs.Trees.{pack_parts}
 use Rattle.java_tree.specs.View.{part_of}
@@ -17,9 +18,6 @@ behind-first p (q ∷ rest) some = refl
 and-first : (b c : Bool) → b ≡ true → (b && c) ≡ c
 and-first b c h = ap (λ (x : Bool). x && c) h
 
-and-none : (b c : Bool) → b ≡ false → (b && c) ≡ false
-and-none b c h = ap (λ (x : Bool). x && c) h
-
 pub bare-first : (p : TypePart) (behind rest : List TypePart) → rest ≡ p ∷ behind → false ≡ (length behind == 0) →
     is_bare (part_of p) ≡ true → do_lock behind ≡ do_lock rest
 bare-first p behind rest is some bare =
@@ -28,4 +26,4 @@ bare-first p behind rest is some bare =
 pub other-first : (p : TypePart) (behind rest : List TypePart) → rest ≡ p ∷ behind → false ≡ (length behind == 0) →
     is_bare (part_of p) ≡ false → do_lock rest ≡ false
 other-first p behind rest is some bare =
-    ap do_lock is ∙ behind-first p behind some ∙ and-none (is_bare (part_of p)) (do_lock behind) bare
+    ap do_lock is ∙ behind-first p behind some ∙ and_left (is_bare (part_of p)) (do_lock behind) bare

@@ -1,3 +1,4 @@
 pub mod Operators
 pub mod SignedFronts
 pub mod TypeCounts
+pub mod KeptWords

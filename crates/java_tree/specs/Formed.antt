@@ -25,7 +25,8 @@ use Rattle.java_tree.specs.Trees.{Several, no_row, row_then, Groups, no_group, g
 use Rattle.java_tree.specs.Trees.{Resource, Resources, CatchParameter}
 use Rattle.java_tree.specs.Words.{keyword, sign}
 use Rattle.java_tree.specs.Rows.{AKeyword, ASign, AnExpr, Until, MaybeName, MaybeBehind, ACondition, ABody, ABlock}
-use Rattle.java_tree.specs.Rows.{ASwitch, MaybeResources, ACatchParameter, Again, Perhaps, SomePart, Slots, no_slot, ◌▹◌}
+use Rattle.java_tree.specs.Rows.{ASwitch, MaybeResources, ACatchParameter, Again, Perhaps, SomePart, Slots, no_slot}
+use Rattle.java_tree.specs.Rows.{◌▹◌}
 use Rattle.java_tree.specs.Rows.{is_row, row_of}
 
 -- ---- lists

@@ -1,5 +1,6 @@
 -- A contract of a public call rests on this: the places that a tree keeps, in the order of its tokens: those of names,
--- of `new`, and of `synchronized` and `throw` before a statement; and the places of a list of tokens of which a tree keeps one.
+-- of `new`, and of `synchronized` and `throw` before a statement; and the places of a list of tokens of which a tree
+-- keeps one.
 use Rattle.std.specs.Prelude.{ℕ, Bool, true, false, ◌||◌, List, [], ◌∷◌, ◌++◌, Option, Some, None, map, option_map}
 use Rattle.std.specs.Prelude.{codes, bytes_eq, if◌then◌else◌}
 use Rattle.racer_base.specs.declared.ids.Place.{Place}

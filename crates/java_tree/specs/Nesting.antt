@@ -10,7 +10,8 @@ use Rattle.java_tree.specs.Trees.{init_then, Init, Value, Items, Variable, Local
 use Rattle.java_tree.specs.Trees.{Block, Local, Run, If, IfElse, For, ForEach, Labelled, Empty, Stmts}
 use Rattle.java_tree.specs.Trees.{no_stmt, stmt_then, Result, NoResult, VoidResult, TypeResult, Parameter, Method}
 use Rattle.java_tree.specs.Trees.{Row, Pieces, no_piece, a_token, an_expr, maybe_an_expr, a_condition, a_body, a_block}
-use Rattle.java_tree.specs.Trees.{maybe_a_name, maybe_behind, maybe_resources, a_catch_parameter, a_list, present, absent}
+use Rattle.java_tree.specs.Trees.{maybe_a_name, maybe_behind, maybe_resources, a_catch_parameter, a_list, present}
+use Rattle.java_tree.specs.Trees.{absent}
 use Rattle.java_tree.specs.Trees.{some_part, a_switch, Several, no_row, row_then, Groups, no_group, group_then}
 use Rattle.java_tree.specs.Trees.{Label, Case, Default, Resource, Resources, CatchParameter}
 

@@ -2,7 +2,8 @@
 -- (JLS 14). The tree of a form, its spelling, nesting, equality and reading all follow from its row.
 use Rattle.std.specs.Prelude.{ℕ, Bool, true, false, List, [], ◌∷◌, Option, Some, None, codes, bytes_eq, if◌then◌else◌}
 use Rattle.java_tree.specs.Words.{keyword, sign}
-use Rattle.java_tree.specs.Trees.{Expr, Resources, CatchParameter, Stmt, Row, Stmts, Several, Groups, Pieces, no_piece, a_token}
+use Rattle.java_tree.specs.Trees.{Expr, Resources, CatchParameter, Stmt, Row, Stmts, Several, Groups, Pieces, no_piece}
+use Rattle.java_tree.specs.Trees.{a_token}
 use Rattle.java_tree.specs.Trees.{an_expr, maybe_an_expr, maybe_a_name, maybe_behind, a_condition, a_body, a_block}
 use Rattle.java_tree.specs.Trees.{maybe_resources, a_catch_parameter, a_list, present, absent, some_part, a_switch}
 
@@ -160,7 +161,8 @@ finally_row = ABlock ▹ no_slot
 -- `try (..) { .. } catch (..) { .. } .. finally { .. }` (JLS 14.20)
 abbrev pub try_row : Slots
 try_row =
-    SomePart ▹ MaybeResources ▹ ABlock ▹ Again (codes "catch") catch_row ▹ Perhaps (codes "finally") finally_row ▹ no_slot
+    SomePart ▹ MaybeResources ▹ ABlock ▹ Again (codes "catch") catch_row ▹ Perhaps (codes "finally") finally_row ▹
+    no_slot
 
 abbrev pub Try : Option Resources → Stmts → Several → Option Pieces → Stmt
 Try = filled try_row (Row (codes "try"))

@@ -37,8 +37,8 @@ pub struct ParameterTree {
     pub name: Ident,
 }
 
-/// A method or a constructor with its body. Whether `synchronized` stands among its tokens is kept by who reads them, and
-/// is no part of what trees are compared by.
+/// A method or a constructor with its body. Whether `synchronized` stands among its tokens is kept by who reads them,
+/// and is no part of what trees are compared by.
 #[derive(Drop)]
 pub struct MethodTree {
     pub modifiers: Items<ModifierTree>,

@@ -1,6 +1,7 @@
 -- What is reached from a named value by fields in turn: its path and the fields, or nothing that has a name.
 use Rattle.std.specs.Prelude.{◌==◌}
-use Rattle.std.proofs.Common.{◌≡◌, ℕ, zero, suc, ◌+◌, ◌<◌, ◌≤◌, Bool, true, false, cond, List, [], ◌∷◌, ◌++◌, length, refl}
+use Rattle.std.proofs.Common.{◌≡◌, ℕ, zero, suc, ◌+◌, ◌<◌, ◌≤◌, Bool, true, false, cond, List, [], ◌∷◌, ◌++◌, length}
+use Rattle.std.proofs.Common.{refl}
 use Rattle.std.proofs.Common.{None, Some, nat_lt, sym, ap, ◌∙◌, arith, append_assoc, length-append}
 use borrow.Author.Tests.{eqb-true}
 use Rattle.std.proofs.lemmas.Bool.{le-ltb, lt-ltb}

@@ -1,7 +1,6 @@
 -- A join is the same both ways, but for the order of the lost paths.
 use Rattle.std.proofs.Common.{◌≡◌, ◌+◌, Bool, true, false, cond, List, [], ◌∷◌, ◌++◌, refl, sym, ap, ◌∙◌, arith}
 use Rattle.std.specs.List.{count_by}
-use Rattle.std.proofs.lemmas.List.Sums.{sum_by-append}
 use Rattle.access_paths.specs.declared.path.Path.{Path}
 use Rattle.owner_domain.specs.declared.value.Value.{Value}
 use Rattle.owner_domain.specs.declared.value.Value.TheVariants.{Unnamed}
@@ -9,6 +8,7 @@ use Rattle.owner_domain.specs.declared.value.State.{State}
 use Rattle.owner_domain.specs.SameValue.{equal_of_same_value, same_value-laws}
 use Rattle.owner_domain.specs.Values.{names_of, same_value, joined, lost, joined_values, lost_values, joined_state}
 use Rattle.owner_domain.specs.Values.{lost_state}
+use Rattle.racer_base.proofs.Lists.{count_append}
 
 pub joined-turned : (a b : Value) → joined a b ≡ joined b a
 joined-turned a b =
@@ -20,10 +20,6 @@ joined-turned a b =
           let turned : same_value b a ≡ false = sym (same_value-laws.symm a b) ∙ e in
           sym (ap (λ t. cond t b Unnamed) turned)
     ] refl
-
-count_append : (test : Path → Bool) (xs ys : List Path) →
-    count_by test (xs ++ ys) ≡ count_by test xs + count_by test ys
-count_append test xs ys = sum_by-append (λ x. cond (test x) 1 0) xs ys
 
 count_lost : (test : Path → Bool) (a b : Value) (t : Bool) →
     count_by test (cond t [] (names_of a ++ names_of b)) ≡ count_by test (cond t [] (names_of b ++ names_of a))

@@ -1,5 +1,5 @@
 -- Joins of equal values and states.
-use Rattle.std.proofs.Common.{◌≡◌, cond, List, [], ◌∷◌, ◌++◌, refl, ap}
+use Rattle.std.proofs.Common.{◌≡◌, suc, cond, List, [], ◌∷◌, ◌++◌, length, refl, ap, arith}
 use Rattle.racer_base.specs.declared.ids.FieldId.{FieldId}
 use Rattle.owner_domain.specs.declared.value.Value.{Value}
 use Rattle.owner_domain.specs.declared.value.Value.TheVariants.{Unnamed}
@@ -31,3 +31,11 @@ lost_state-itself s = λ i. lost_values-itself s.vars i ++ lost_values-itself s.
 pub along-append : (v : Value) (fs gs : List FieldId) → along v (fs ++ gs) ≡ along (along v fs) gs
 along-append v [] gs = refl
 along-append v (f ∷ fs) gs = along-append (field_value v f) fs gs
+
+pub length-joined_values : (xs ys : List Value) → length xs ≡ length ys → length (joined_values xs ys) ≡ length xs
+length-joined_values [] [] e = refl
+length-joined_values [] (y ∷ ys) e = refl
+length-joined_values (x ∷ xs) [] e = absurd (let z : length (x ∷ xs) ≡ 0 = e in omega arith)
+length-joined_values (x ∷ xs) (y ∷ ys) e =
+    let l : suc (length xs) ≡ suc (length ys) = e in
+    ap (λ n. suc n) (length-joined_values xs ys (omega arith))

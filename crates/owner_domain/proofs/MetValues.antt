@@ -1,11 +1,14 @@
 -- Lists of values that meet others, slot by slot.
-use Rattle.std.proofs.Common.{◌≡◌, ℕ, zero, suc, ◌+◌, ◌<◌, ◌≤◌, Bool, true, false, not, ◌||◌, ◌&&◌, List, [], ◌∷◌, ◌++◌, length, get_or, take, drop, cond, refl, sym, ap, ◌∙◌, arith}
-use Rattle.std.proofs.lemmas.List.{at_drop_more, append_assoc, append-nil, drop_all, take_all, take_more_set, drop-set-lt}
+use Rattle.std.proofs.Common.{◌≡◌, ℕ, zero, suc, ◌+◌, ◌<◌, ◌≤◌, Bool, true, false, not, ◌||◌, ◌&&◌, List, [], ◌∷◌, ◌++◌}
+use Rattle.std.proofs.Common.{length, get_or, take, drop, cond, refl, sym, ap, ◌∙◌, arith}
+use Rattle.std.proofs.lemmas.List.{at_drop_more, append_assoc, append-nil, drop_all, take_all, take_more_set}
+use Rattle.std.proofs.lemmas.List.{drop-set-lt}
 use Rattle.std.proofs.lemmas.List.{reverse-append, reverse-reverse, length-reverse, get_or-reverse}
 use Rattle.std.proofs.Common.{reverse, ◌-◌}
 use Rattle.std.specs.Cmp.{both_ways}
 use Rattle.std.specs.Cmp.Lexicographic.{pointwise}
 use Rattle.std.specs.Prelude.{slice_set}
+use Rattle.std.proofs.lemmas.Bool.{and_parts}
 use Rattle.owner_domain.specs.declared.numbered.NumberedValue.{NumberedValue}
 use Rattle.owner_domain.specs.declared.numbered.NumberedValue.TheVariants.{Unnamed}
 use Rattle.owner_domain.specs.Numbered.{joined_number, joined_numbers, lost_number, lost_numbers, same_number}
@@ -80,11 +83,7 @@ pub made-all : (xs ys : List NumberedValue) (n : ℕ) → length xs ≤ n → ma
 made-all xs ys n l =
     (λ i. take_all n xs l i ++ joined_numbers (drop_all n xs l i) (drop n ys)) ∙ append-nil xs
 
-pub or_none : (b : Bool) → (b || false) ≡ b
-or_none true = refl
-or_none false = refl
-
-grouped : (a b c : Bool) → ((a || b) || c) ≡ (a || (b || c))
+pub grouped : (a b c : Bool) → ((a || b) || c) ≡ (a || (b || c))
 grouped true b c = refl
 grouped false b c = refl
 
@@ -166,11 +165,6 @@ joined-reverse (x ∷ xs) (y ∷ ys) e =
 
 -- ---- the same values
 
-both : (a b : Bool) → (a && b) ≡ true → (a ≡ true) × (b ≡ true)
-both true true e = (refl, refl)
-both true false e = cc
-both false b e = cc
-
 pub same_numbers-itself : (xs : List NumberedValue) → same_numbers xs xs ≡ true
 same_numbers-itself [] = refl
 same_numbers-itself (x ∷ xs) = (λ i. same_number-itself x i && same_numbers-itself xs i)
@@ -180,7 +174,7 @@ equal_of_same_numbers [] [] e = refl
 equal_of_same_numbers [] (y ∷ ys) e = cc
 equal_of_same_numbers (x ∷ xs) [] e = cc
 equal_of_same_numbers (x ∷ xs) (y ∷ ys) e =
-    let same = both (same_number x y) (same_numbers xs ys) e in
+    let same = and_parts (same_number x y) (same_numbers xs ys) e in
     (λ i. equal_of_same_number x y same.0 i ∷ equal_of_same_numbers xs ys same.1 i)
 
 pub same_of_equal_numbers : (xs ys : List NumberedValue) → xs ≡ ys → same_numbers xs ys ≡ true
@@ -197,7 +191,7 @@ same-reverse xs ys =
 pub kept-numbered : (changed : Bool) (new old : NumberedState) → changed ≡ not (same_numbered new old) →
     changed ≡ false → new ≡ old
 kept-numbered changed new old test same =
-    let equal = both (same_numbers new.vars old.vars) (same_numbers new.stack old.stack)
+    let equal = and_parts (same_numbers new.vars old.vars) (same_numbers new.stack old.stack)
     (by_not changed (same_numbered new old) test same) in
     (λ i. record {
       vars = equal_of_same_numbers new.vars old.vars equal.0 i;

@@ -78,7 +78,8 @@ met-in table s t low = (
   all-joined-in-range table s.stack t.stack low.1,
 )
 
-module _ (table : List Path) (once : IsTable table) (s t : NumberedState) (p : AreInRange table s) (q : AreInRange table t)
+module _ (table : List Path) (once : IsTable table) (s t : NumberedState) (p : AreInRange table s)
+    (q : AreInRange table t)
   where
     pub met-read : read_state table (met_numbers s t) ≡ joined_state (read_state table s) (read_state table t)
     met-read = λ i. record {

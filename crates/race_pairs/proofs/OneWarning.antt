@@ -2,16 +2,16 @@
 use Rattle.std.proofs.Common.{◌≡◌, ℕ, zero, suc, ◌+◌, Bool, true, false, cond, ◌&&◌, inl, inr, List, [], ◌∷◌, ◌++◌}
 use Rattle.std.proofs.Common.{Option, None, Some, option_map, is_some, map, slice_get, nat_eq, refl, sym, ap, subst}
 use Rattle.std.proofs.Common.{◌∙◌, arith, eq-eqb, zero-add}
-use Rattle.std.proofs.lemmas.Bool.{eqb-true, ne_eqb}
+use Rattle.std.proofs.lemmas.Bool.{eqb-true, ne_eqb, and_parts}
 use Rattle.std.specs.List.{count_by, enumerate_from, flat_map, filter_map, cons_option, find}
-use Rattle.std.proofs.lemmas.List.Sums.{sum_by-append}
+use Rattle.std.proofs.Math.Bool.{and-false, and-true}
 use Rattle.racer_base.specs.declared.ids.ClassId.{ClassId}
 use Rattle.racer_base.specs.declared.ids.MethodId.{MethodId}
+use Rattle.racer_base.proofs.Lists.{count_append}
 use Rattle.core_code.specs.Core.{Core, Method}
 use Rattle.core_code.specs.declared.parts.ClassCore.{ClassCore}
 use Rattle.access_domain.specs.declared.access.Access.{Access}
 use Rattle.access_domain.specs.OutcomeRecords.{records_of}
-use Rattle.access_domain.proofs.Tests.{and_false, and_true, both_parts}
 use Rattle.race_pairs.specs.declared.warning.Warning.{Warning}
 use Rattle.race_pairs.specs.Warnings.{MethodRecord, conflicts, numbered_record, numbered_records, is_entry_of}
 use Rattle.race_pairs.specs.Warnings.{entry_records, records_in, warning_of, warning_among, warnings_among}
@@ -20,9 +20,6 @@ use Rattle.race_pairs.specs.Pairs.{IsCheckedClass, IsRecord, IsPair, is_warning_
 use Rattle.core_code.proofs.Membership.{In, in_filter_map, in_map, in_enumerate_from, enumerate_from_has, flat_map_has}
 use Rattle.core_code.proofs.Membership.{map_has, find_has}
 use Rattle.race_pairs.proofs.WarningPairs.{listed_warning}
-
-count_append : {X : Type 0} (p : X → Bool) (xs ys : List X) → count_by p (xs ++ ys) ≡ count_by p xs + count_by p ys
-count_append p xs ys = sum_by-append (λ x. cond (p x) 1 0) xs ys
 
 count_one : {X : Type 0} (p : X → Bool) (x : X) (b : Bool) → p x ≡ b → count_by p (x ∷ []) ≡ cond b 1 0
 count_one p x b e = zero-add (cond (p x) 1 0) ∙ ap (λ c. cond c 1 0) e
@@ -91,11 +88,11 @@ count_given {X} {Y} p q h (x ∷ xs) alike =
     elim (h x) as (λ o. h x ≡ o → count_by p (cons_option o (filter_map h xs)) ≡ count_by counted (x ∷ xs)) [
       | None ↦ λ e.
           let here : count_by counted (x ∷ xs) ≡ 0 + count_by counted xs =
-          count_cons counted x xs false (ap (λ o. q x && is_some o) e ∙ and_false (q x)) in
+          count_cons counted x xs false (ap (λ o. q x && is_some o) e ∙ and-false (q x)) in
           omega arith
       | Some y ↦ λ e.
           let here : count_by counted (x ∷ xs) ≡ cond (q x) 1 0 + count_by counted xs =
-          count_cons counted x xs (q x) (ap (λ o. q x && is_some o) e ∙ and_true (q x)) in
+          count_cons counted x xs (q x) (ap (λ o. q x && is_some o) e ∙ and-true (q x)) in
           let there : count_by p (y ∷ filter_map h xs) ≡ cond (q x) 1 0 + count_by p (filter_map h xs) =
           count_cons p y (filter_map h xs) (q x) (alike x y e) in
           omega arith
@@ -186,7 +183,7 @@ one_of_method core c m i a has r there others =
     (λ e h other.
     let index : nat_eq e.0 i ≡ false = ne_eqb e.0 i (λ is. other (is ∙ sym (zero-add i))) in
     let no : is_record m i (numbered_record m e) ≡ false =
-    (λ k. nat_eq m.0 m.0 && index k) ∙ and_false (nat_eq m.0 m.0) in
+    (λ k. nat_eq m.0 m.0 && index k) ∙ and-false (nat_eq m.0 m.0) in
     count_one has (numbered_record m e) false (others (numbered_record m e) no))
     ∙ ap (λ (n : ℕ). count_by has (numbered_record m (n, a) ∷ [])) (zero-add i)
     ∙ count_one has (numbered_record m (i, a)) true there
@@ -234,7 +231,7 @@ other_class core c m i a r e h other w listed =
     elim (is_warning_of m i w) as (λ b. is_warning_of m i w ≡ b → b ≡ false) [
       | true ↦ λ is.
           let entry : w.entry.0 ≡ m.0 = eqb-true w.entry.0 m.0
-          (both_parts (nat_eq w.entry.0 m.0) (nat_eq w.access i) is).0 in
+          (and_parts (nat_eq w.entry.0 m.0) (nat_eq w.access i) is).0 in
           let same : Some pair.of_entry.method ≡ Some r.method =
           sym pair.of_entry.is ∙ ap (slice_get core.methods) entry ∙ r.is in
           let method : pair.of_entry.method ≡ r.method = cc in

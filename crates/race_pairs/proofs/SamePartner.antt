@@ -6,15 +6,17 @@ use Rattle.std.specs.Bool.{nat_eq}
 use Rattle.std.specs.List.{find, list_any}
 use Rattle.std.specs.Cmp.Lexicographic.{pointwise}
 use Rattle.std.proofs.lemmas.List.Folds.{find-append}
+use Rattle.std.proofs.lemmas.Bool.{and_parts}
 use Rattle.access_paths.specs.Paths.{same_path, is_formal}
 use Rattle.access_paths.specs.Order.{path_key}
 use Rattle.access_paths.specs.Same.{equal_of_same, same_path-key, same_path-laws}
 use Rattle.access_domain.specs.declared.access.Access.{Access}
 use Rattle.core_code.specs.Touches.{is_write}
 use Rattle.access_domain.specs.Records.{same_key, same_flag, same_touch}
-use Rattle.access_domain.proofs.Tests.{and_false, both_parts, equal_flags}
+use Rattle.access_domain.proofs.Tests.{equal_flags}
 use Rattle.race_pairs.specs.Warnings.{MethodRecord, conflicts}
 use Rattle.race_pairs.specs.Firsts.{Groups, group_at, with_first, AddsFirst, partner_in, FindsPartners}
+use Rattle.racer_base.proofs.Lists.{option_or-none}
 
 -- a conflict sees keys alone
 seen_by_key : (a b c : Access) → same_key b c ≡ true → conflicts a b ≡ conflicts a c
@@ -22,19 +24,15 @@ seen_by_key a b c same =
     let path : Bool = same_path b.path c.path in
     let kind : Bool = same_touch b.kind c.kind in
     let lock : Bool = same_flag b.locked c.locked in
-    let three = both_parts (path && kind && lock) (same_flag b.main c.main) same in
-    let two = both_parts (path && kind) lock three.0 in
-    let one = both_parts path kind two.0 in
+    let three = and_parts (path && kind && lock) (same_flag b.main c.main) same in
+    let two = and_parts (path && kind) lock three.0 in
+    let one = and_parts path kind two.0 in
     let paths = equal_of_same b.path c.path one.0 in
     let kinds = equal_flags (is_write b.kind) (is_write c.kind) one.1 in
     let locks = equal_flags b.locked c.locked two.1 in
     let mains = equal_flags b.main c.main three.1 in
     (λ i. same_path a.path (paths i) && not (is_formal a.path.root)
     && (is_write a.kind || kinds i) && not (a.locked && locks i) && not (a.main && mains i))
-
-option_or-none : {X : Type 0} (o : Option X) → option_or o None ≡ o
-option_or-none None = refl
-option_or-none (Some x) = refl
 
 -- where one passes, what is found is no other for what stands behind
 found_already : {X : Type 0} (kept test : X → Bool) (xs : List X) (o : Option X) →

@@ -1,7 +1,7 @@
 -- What one turn of a loop over a list adds.
-use Rattle.std.proofs.Common.{◌≡◌, ℕ, ◌+◌, ◌<◌, ◌≤◌, List, [], ◌∷◌, ◌++◌, Option, None, Some, length, get_or, map, drop}
-use Rattle.std.proofs.Common.{sym, ap, ◌∙◌, append_assoc, append-nil}
-use Rattle.std.proofs.lemmas.List.{drop_more, at_drop_all}
+use Rattle.std.proofs.Common.{◌≡◌, ℕ, ◌+◌, ◌<◌, List, [], ◌∷◌, ◌++◌, Option, None, Some, length, get_or, map, drop}
+use Rattle.std.proofs.Common.{sym, ap, ◌∙◌, append_assoc}
+use Rattle.std.proofs.lemmas.List.{drop_more}
 use Rattle.std.specs.List.{flat_map, filter_map, cons_option}
 
 -- what is left at an index begins with the element that is read there
@@ -34,9 +34,3 @@ map_turn f xs i x made more within adds =
     ap (λ ys. ys ++ map f rest) adds
     ∙ append_assoc made (f (get_or xs i x) ∷ []) (map f rest)
     ∙ ap (λ ys. made ++ map f ys) (sym (drop_more xs i x within))
-
--- what was made once all is gone through, where nothing is made of nothing
-pub at_end : {X Y : Type 0} (F : List X → List Y) (xs : List X) (i : ℕ) (made : List Y) → F [] ≡ [] →
-    length xs ≤ i → made ≡ made ++ F (drop i xs)
-at_end F xs i made none past =
-    sym (append-nil made) ∙ ap (λ ys. made ++ ys) (sym (at_drop_all F xs i past ∙ none))

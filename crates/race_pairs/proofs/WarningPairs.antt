@@ -1,13 +1,13 @@
 -- Each warning is a pair of records that conflict.
-use Rattle.std.proofs.Common.{◌≡◌, ℕ, ◌+◌, Bool, true, false, cond, ◌&&◌, [], None, Some, option_map, slice_get, nat_eq}
+use Rattle.std.proofs.Common.{◌≡◌, ℕ, ◌+◌, true, false, cond, [], None, Some, option_map, slice_get, nat_eq}
 use Rattle.std.proofs.Common.{refl, sym, ap, subst, ◌∙◌, arith}
 use borrow.Author.Tests.{eqb-true}
 use Rattle.std.specs.List.{Contains, enumerate_from, find}
+use Rattle.std.proofs.lemmas.Bool.{and_parts}
 use Rattle.racer_base.specs.declared.ids.ClassId.{ClassId}
 use Rattle.racer_base.specs.declared.ids.MethodId.{MethodId}
 use Rattle.core_code.specs.Core.{Core, Method}
 use Rattle.core_code.specs.declared.parts.ClassCore.{ClassCore}
-use Rattle.access_domain.proofs.Tests.{both_parts}
 use Rattle.race_pairs.specs.declared.warning.Warning.{Warning}
 use Rattle.race_pairs.specs.Warnings.{MethodRecord, conflicts, numbered_record, numbered_records, is_entry_of}
 use Rattle.access_domain.specs.OutcomeRecords.{records_of}
@@ -33,7 +33,7 @@ listed_record core c p h =
     as (λ b. is_entry_of c e.1 ≡ b → In (cond b (numbered_records number (records_of core number)) []) p →
     IsRecord core c p.method p.index p.access) [
       | true ↦ λ test listed.
-          let tests = both_parts e.1.entry (nat_eq e.1.class.0 c.0) test in
+          let tests = and_parts e.1.entry (nat_eq e.1.class.0 c.0) test in
           let from = in_map (numbered_record number) (enumerate_from 0 (records_of core number)) p listed in
           let index = in_enumerate_from 0 (records_of core number) from.0 from.1 in
           let index_is : index.0 ≡ from.0.0 = let is : from.0.0 ≡ 0 + index.0 = index.1 in omega arith in

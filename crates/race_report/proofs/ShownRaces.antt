@@ -1,5 +1,6 @@
 -- The lines of a confirmed warning show its race.
-use Rattle.std.proofs.Common.{◌≡◌, ◌++◌, ℕ, Bool, true, false, List, [], ◌∷◌, Some, Contains, codes, nat_eq, refl, ap, true≢false}
+use Rattle.std.proofs.Common.{◌≡◌, ◌++◌, ℕ, Bool, true, false, List, [], ◌∷◌, Some, Contains, codes, nat_eq, refl, ap}
+use Rattle.std.proofs.Common.{true≢false}
 use Rattle.access_paths.specs.declared.path.Path.{Path}
 use Rattle.core_code.specs.Core.{Core}
 use Rattle.access_domain.specs.declared.access.Access.{Access}

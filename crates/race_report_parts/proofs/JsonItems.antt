@@ -49,7 +49,7 @@ members_5 : (a b c d e f g h i : List ℕ) →
     a ++ b ++ c ++ d ++ e ++ f ++ g ++ h ++ i ≡ (a ++ b) ++ (c ++ d) ++ (e ++ f) ++ (g ++ h) ++ i
 members_5 a b c d e f g h i = simp append_assoc
 
-word_after : (a b c d e f g : List ℕ) → a ++ b ++ c ++ d ++ e ++ f ++ g ≡ a ++ (b ++ c ++ d) ++ (e ++ f) ++ g
+pub word_after : (a b c d e f g : List ℕ) → a ++ b ++ c ++ d ++ e ++ f ++ g ≡ a ++ (b ++ c ++ d) ++ (e ++ f) ++ g
 word_after a b c d e f g = simp append_assoc
 
 word_after_two : (a b c d e f g h i : List ℕ) →

@@ -1,8 +1,7 @@
 -- Arrays that are put item by item, turn by turn of a loop.
-use Rattle.std.proofs.Common.{◌≡◌, ℕ, ◌+◌, ◌<◌, Bool, true, false, List, [], ◌∷◌}
-use Rattle.std.proofs.Common.{◌++◌, codes, drop, get_or, length, map}
+use Rattle.std.proofs.Common.{◌≡◌, ℕ, ◌+◌, Bool, true, false, List, [], ◌∷◌}
+use Rattle.std.proofs.Common.{◌++◌, codes, map}
 use Rattle.std.proofs.Common.{sym, ap, ◌∙◌, append_assoc, string_bytes}
-use Rattle.std.proofs.lemmas.List.{drop_more}
 use Rattle.std.specs.List.{flat_map}
 use Rattle.serde_json.specs.Data.{Data, string}
 use Rattle.serde_json.specs.View.{items_of}
@@ -27,11 +26,6 @@ begins_behind before whole old mid new put bracket = λ h.
     begins whole mid new bracket h
     ∙ ap (λ t. t ++ (codes "[" ++ behind)) (put.text (bracket.lasts h))
     ∙ append_assoc (string_bytes old.so_far) before (codes "[" ++ behind)
-
--- an element that was read, and those behind it
-pub read_next : {X : Type 0} (xs : List X) (i : ℕ) (x : X) → i < length xs → x ≡ get_or xs i x →
-    drop i xs ≡ x ∷ drop (i + 1) xs
-read_next xs i x within is = drop_more xs i x within ∙ ap (λ y. y ∷ drop (i + 1) xs) (sym is)
 
 -- one text more
 pub more_texts : {X : Type 0} (text : X → List ℕ) (before : List ℕ) (whole : List Data) (left rest : List X) (x : X)

@@ -7,7 +7,7 @@ use Rattle.std.proofs.lemmas.List.{map-append}
 use Rattle.std.proofs.lemmas.Option.{slice_get-map, slice_get_read, slice_get_past}
 use Rattle.std.proofs.lemmas.Option.{get_or_from_slice_get, unwrap_or-slice_get}
 use Rattle.access_paths.specs.Text.{name_at}
-use Rattle.core_code.proofs.Loops.{one_turn}
+use Rattle.racer_base.proofs.Lists.{one_turn}
 
 found_at : {X : Type 0} (xs : List X) (i : ℕ) (x : X) → true ≡ ltb i (length xs) → x ≡ get_or xs i x →
     slice_get xs i ≡ Some x

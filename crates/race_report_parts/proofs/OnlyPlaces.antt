@@ -3,6 +3,7 @@ use Rattle.std.proofs.Common.{◌≡◌, ℕ, List, [], ◌∷◌, Option, None,
 use Rattle.racer_base.specs.declared.ids.MethodId.{MethodId}
 use Rattle.racer_base.specs.declared.ids.Place.{Place}
 use Rattle.racer_base.specs.declared.ids.Touch.{Touch}
+use Rattle.racer_base.proofs.Lists.{same_given}
 use Rattle.access_domain.specs.Origins.{touch_of}
 use Rattle.core_code.specs.declared.code.Op.{Op as CoreOp}
 use Rattle.core_code.specs.declared.code.Op.TheVariants.{Call}
@@ -11,12 +12,9 @@ use Rattle.core_code.specs.Tree.{Operation}
 use Rattle.race_report_parts.specs.Places.{OwnedRecord, callee_of, operation_at, owned_record_at}
 use Rattle.race_report_parts.specs.Reaching.{DoesReach, IsAccessAt, IsCallAt}
 
-same-some : {X : Type 0} (a b : X) (o : Option X) → o ≡ Some a → o ≡ Some b → a ≡ b
-same-some a b o x y = let both : Some a ≡ Some b = sym x ∙ y in cc
-
 same-place : (a b : Operation) (x y : Place) (o : Option Operation) → o ≡ Some a → o ≡ Some b → a.place ≡ x →
     b.place ≡ y → x ≡ y
-same-place a b x y o is also one other = sym one ∙ ap (λ (q : Operation). q.place) (same-some a b o is also) ∙ other
+same-place a b x y o is also one other = sym one ∙ ap (λ (q : Operation). q.place) (same_given a b o is also) ∙ other
 
 -- an operation that touches a field calls nothing
 touch-calls : (op : CoreOp) (kind : Touch) (m : MethodId) (n : ℕ) → touch_of op ≡ Some kind → op ≡ Call m n → ⊥
@@ -28,7 +26,7 @@ not-both : (core : Core) (held : OwnedRecord) (at other : Place) (Rest : OwnedRe
     IsCallAt core held other Rest → ⊥
 not-both core held at other Rest access call =
     let same : access.operation ≡ call.operation =
-    same-some access.operation call.operation (operation_at core held.method held.access.site) access.is call.is in
+    same_given access.operation call.operation (operation_at core held.method held.access.site) access.is call.is in
     touch-calls access.operation.op held.access.kind call.callee call.count access.touches
     (ap (λ (q : Operation). q.op) same ∙ call.calls)
 
@@ -39,12 +37,12 @@ same-lower : (core : Core) (held : OwnedRecord) (at other : Place) (P Q : OwnedR
     (record { method = a.callee; access = a.lower })
 same-lower core held at other P Q a b =
     let same : a.operation ≡ b.operation =
-    same-some a.operation b.operation (operation_at core held.method held.access.site) a.is b.is in
+    same_given a.operation b.operation (operation_at core held.method held.access.site) a.is b.is in
     let callee : a.callee ≡ b.callee =
-    same-some a.callee b.callee (callee_of a.operation.op) (ap callee_of a.calls)
+    same_given a.callee b.callee (callee_of a.operation.op) (ap callee_of a.calls)
     (ap (λ (q : Operation). callee_of q.op) same ∙ ap callee_of b.calls) in
-    let index : a.index ≡ b.index = same-some a.index b.index held.access.below a.below b.below in
-    same-some (record { method = b.callee; access = b.lower }) (record { method = a.callee; access = a.lower })
+    let index : a.index ≡ b.index = same_given a.index b.index held.access.below a.below b.below in
+    same_given (record { method = b.callee; access = b.lower }) (record { method = a.callee; access = a.lower })
     (owned_record_at core b.callee b.index) b.has ((λ i. owned_record_at core (sym callee i) (sym index i)) ∙ a.has)
 
 pub only-places : (core : Core) (held : OwnedRecord) (xs ys : List Place) → DoesReach core held xs →

@@ -1,8 +1,7 @@
 -- The operation of a site, read from the table of its method.
-use Rattle.std.proofs.Common.{◌≡◌, ℕ, zero, suc, Bool, true, List, [], ◌∷◌, Option, None, Some, Vec, option_map, slice_get}
+use Rattle.std.proofs.Common.{◌≡◌, ℕ, true, List, Option, None, Some, Vec, option_map, slice_get}
 use Rattle.std.proofs.Common.{refl, sym, ap, ◌∙◌}
 use Rattle.std.specs.Global.{Global}
-use Rattle.std.specs.List.{list_all}
 use Rattle.std.specs.Option.{option_and_then}
 use Rattle.std.proofs.lemmas.Option.{slice_get-map}
 use Rattle.racer_base.specs.declared.ids.MethodId.{MethodId}
@@ -14,16 +13,7 @@ use Rattle.core_code.proofs.Sites.{op_at-index}
 use Rattle.race_report_parts.specs.declared.tables.Site.{Site}
 use Rattle.race_report_parts.specs.Places.{operation_at}
 use Rattle.race_report_parts.specs.Sites.{site_of, sites_of, AreSites}
-use Rattle.core_code.proofs.BoolParts.{first_part, last_part}
-
--- what holds of all holds of one
-all_at : {X : Type 0} (test : X → Bool) (xs : List X) (k : ℕ) (x : X) →
-    list_all test xs ≡ true → slice_get xs k ≡ Some x → test x ≡ true
-all_at test [] k x all is = cc
-all_at test (y ∷ ys) zero x all is =
-    let same : y ≡ x = cc in
-    ap test (sym same) ∙ first_part (test y) (list_all test ys) all
-all_at test (y ∷ ys) (suc k) x all is = all_at test ys k x (last_part (test y) (list_all test ys) all) is
+use Rattle.access_domain.proofs.Tests.{passes_at}
 
 -- the table of a method
 table_at : (core : Core) (tables : List (Vec Site Global)) (k : ℕ) → AreSites core tables →
@@ -42,7 +32,7 @@ site_there : (core : Core) (k : ℕ) (site : SiteId) → are_sites_in_order core
 site_there core k site ordered None is = refl
 site_there core k site ordered (Some m) is =
     slice_get-map site_of (steps_of m.code) site.0
-    ∙ ap (option_map site_of) (sym (op_at-index m.code site (all_at is_in_order core.methods k m ordered is)))
+    ∙ ap (option_map site_of) (sym (op_at-index m.code site (passes_at is_in_order core.methods k m ordered is)))
 
 -- the operation of a method and a site, by the tables
 pub site_by_tables : (core : Core) (tables : List (Vec Site Global)) (m : MethodId) (site : SiteId) →

@@ -1,5 +1,6 @@
 -- Texts in byte order: the order in which they were put does not matter, and sorted texts stay as they are.
-use Rattle.std.proofs.Common.{◌≡◌, ℕ, zero, suc, ◌+◌, ◌<◌, ◌≤◌, Bool, true, false, cond, not, ◌||◌, List, [], ◌∷◌, map, length}
+use Rattle.std.proofs.Common.{◌≡◌, ℕ, zero, suc, ◌+◌, ◌<◌, Bool, true, false, cond, not, ◌||◌, List, [], ◌∷◌, map}
+use Rattle.std.proofs.Common.{length}
 use Rattle.std.proofs.Common.{get_or, refl, sym, ap, subst, ◌∙◌, arith, true≢false, ⊎_elim}
 use Rattle.std.proofs.Common.{filter, set}
 use Rattle.std.specs.List.{swap, list_any}
@@ -14,9 +15,11 @@ use Rattle.std.proofs.lemmas.List.Sorted.{IsPermutation-keeps}
 use Rattle.std.proofs.lemmas.List.{length-set, get_or-set_same, get_or-set_other}
 use Rattle.std.proofs.lemmas.Map.Views.{any-filter_same}
 use Rattle.std.proofs.lemmas.List.Edits.{swap_is}
-use Rattle.std.proofs.lemmas.Bool.{cases_eq}
+use Rattle.std.proofs.lemmas.Bool.{cases_eq, false_from_ne_true, or_parts}
 use Rattle.access_domain.specs.Records.{firsts}
+use Rattle.access_domain.proofs.Firsts.{fewer_firsts}
 use Rattle.race_report_parts.specs.ByteOrder.{is_before, put_in_order, in_byte_order}
+use Rattle.racer_base.proofs.Lists.{fewer_kept}
 
 abbrev Text : Type 0
 Text = List ℕ
@@ -153,21 +156,9 @@ order_of_moved xs ys moved = IsPermutation-keeps xs (λ l. in_byte_order l ≡ i
 
 -- ---- tests
 
-earlier : (a b : Bool) → (a || b) ≡ false → a ≡ false
-earlier true b h = h
-earlier false b h = refl
-
-later : (a b : Bool) → (a || b) ≡ false → b ≡ false
-later true b h = absurd (true≢false h)
-later false b h = h
-
 or_both : (a b c : Bool) → (a || b) ≡ false → c ≡ false → (a || c) ≡ false
 or_both true b c h k = h
 or_both false b c h k = k
-
-other : (b : Bool) → (b ≡ true → ⊥) → b ≡ false
-other true never = absurd (never refl)
-other false never = refl
 
 -- ---- lists without a thing twice
 
@@ -181,16 +172,17 @@ none_kept : {X : Type 0} (test p : X → Bool) (xs : List X) → list_any test x
 none_kept test p [] none = refl
 none_kept test p (x ∷ xs) none =
     elim (p x) as (λ b. list_any test (cond b (x ∷ filter p xs) (filter p xs)) ≡ false) [
-      | true ↦ or_both (test x) (list_any test xs) _ none (none_kept test p xs (later (test x) (list_any test xs) none))
-      | false ↦ none_kept test p xs (later (test x) (list_any test xs) none)
+      | true ↦ or_both (test x) (list_any test xs) _ none
+          (none_kept test p xs (or_parts (test x) (list_any test xs) none).1)
+      | false ↦ none_kept test p xs (or_parts (test x) (list_any test xs) none).1
     ]
 
 all_kept : {X : Type 0} (test : X → Bool) (xs : List X) → list_any test xs ≡ false → filter (λ x. not (test x)) xs ≡ xs
 all_kept test [] none = refl
 all_kept test (x ∷ xs) none =
     ap (λ b. cond (not b) (x ∷ filter (λ y. not (test y)) xs) (filter (λ y. not (test y)) xs))
-    (earlier (test x) (list_any test xs) none)
-    ∙ ap (λ l. x ∷ l) (all_kept test xs (later (test x) (list_any test xs) none))
+    (or_parts (test x) (list_any test xs) none).0
+    ∙ ap (λ l. x ∷ l) (all_kept test xs (or_parts (test x) (list_any test xs) none).1)
 
 apart_kept : {X : Type 0} (same : X → X → Bool) (p : X → Bool) (xs : List X) → Apart same xs → Apart same (filter p xs)
 apart_kept same p [] apart = tt
@@ -207,15 +199,6 @@ apart_firsts same (x ∷ xs) = (
   apart_kept same (λ y. not (same x y)) (firsts same xs) (apart_firsts same xs),
 )
 
-fewer_kept : {X : Type 0} (p : X → Bool) (xs : List X) → length (filter p xs) ≤ length xs
-fewer_kept p [] = omega arith
-fewer_kept p (x ∷ xs) =
-    let more = fewer_kept p xs in
-    elim (p x) as (λ b. length (cond b (x ∷ filter p xs) (filter p xs)) ≤ suc (length xs)) [
-      | true ↦ omega (arith, more)
-      | false ↦ omega (arith, more)
-    ]
-
 whole_kept : {X : Type 0} (p : X → Bool) (xs : List X) → length (filter p xs) ≡ length xs → filter p xs ≡ xs
 whole_kept p [] long = refl
 whole_kept p (x ∷ xs) long =
@@ -225,13 +208,6 @@ whole_kept p (x ∷ xs) long =
       | true ↦ λ e. ap (λ l. x ∷ l) (whole_kept p xs (omega (arith, e)))
       | false ↦ λ e. absurd (omega (arith, e, more))
     ] long
-
-fewer_firsts : {X : Type 0} (same : X → X → Bool) (xs : List X) → length (firsts same xs) ≤ length xs
-fewer_firsts same [] = omega arith
-fewer_firsts same (x ∷ xs) =
-    let kept = fewer_kept (λ y. not (same x y)) (firsts same xs) in
-    let more = fewer_firsts same xs in
-    omega (arith, kept, more)
 
 pub whole_firsts : {X : Type 0} (same : X → X → Bool) (xs : List X) → length (firsts same xs) ≡ length xs →
     firsts same xs ≡ xs
@@ -280,7 +256,7 @@ module _ {X : Type 0} (same : X → X → Bool) (itself : (x : X) → same x x �
             ∙ sym (any-filter_same (same z) (λ y. not (same x y)) false
             (λ y f. ap not (subst (λ w. same w y ≡ true) (sym (told x z e)) f)) ys)
         | false ↦ λ e.
-            let apart : same z x ≡ false = other (same z x) (λ f.
+            let apart : same z x ≡ false = false_from_ne_true (same z x) (λ f.
             true≢false (sym (sym e ∙ ap (same x) (told z x f) ∙ itself x))) in
             ap (λ t. t || list_any (same z) xs) (sym apart)
             ∙ alike z

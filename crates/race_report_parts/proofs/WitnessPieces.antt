@@ -20,6 +20,7 @@ use Rattle.race_report_parts.specs.Told.{Sides}
 use Rattle.race_report_parts.specs.WitnessFiles.{entry_text, file_of_run}
 use Rattle.race_report_parts.specs.Pieces.{leg_numbers, leg_object, witness_member, witness_object}
 use Rattle.race_report_parts.proofs.JsonPieces.{two_told}
+use Rattle.race_report_parts.proofs.JsonItems.{word_after}
 
 letters_alone : (turns : List Turn) → map letter turns ≡ flat_map turn_text turns
 letters_alone [] = refl
@@ -93,10 +94,6 @@ mark_pieces : (file word : Data) →
 unfolding serde_json_on_literals
 mark_pieces file word = simp append_assoc
 
-mark_grouped : (brace name file comma word w end : List ℕ) →
-    brace ++ name ++ file ++ comma ++ word ++ w ++ end ≡ brace ++ (name ++ file ++ comma) ++ (word ++ w) ++ end
-mark_grouped brace name file comma word w end = simp append_assoc
-
 -- the object of a confirmed mark
 pub witness_told : (core : Core) (sides : Sides) (objects : List StartPath) (first second : Leg) (word : Data) →
     compact_text (object (put (codes "witness") (data_of (file_of_run core sides objects first second))
@@ -106,5 +103,5 @@ pub witness_told : (core : Core) (sides : Sides) (objects : List StartPath) (fir
 witness_told core sides objects first second word =
     let file : Data = data_of (file_of_run core sides objects first second) in
     mark_pieces file word
-    ∙ mark_grouped (codes "{") (codes "\"witness\":") (compact_text file) (codes ",") (codes "\"word\":")
+    ∙ word_after (codes "{") (codes "\"witness\":") (compact_text file) (codes ",") (codes "\"word\":")
     (compact_text word) (codes "}")

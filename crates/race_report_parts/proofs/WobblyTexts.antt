@@ -1,5 +1,6 @@
 -- The wobbly paths of a summary differ, and which list they are in does not matter for their texts in byte order.
-use Rattle.std.proofs.Common.{◌≡◌, ℕ, Bool, true, false, cond, List, [], ◌∷◌, Option, None, Some, map, length, option_map}
+use Rattle.std.proofs.Common.{◌≡◌, ℕ, Bool, true, false, cond, List, [], ◌∷◌, Option, None, Some, map, length}
+use Rattle.std.proofs.Common.{option_map}
 use Rattle.std.proofs.Common.{is_none, refl, sym, ap, subst, ◌∙◌}
 use Rattle.std.proofs.Common.{◌||◌, IfSome, String, string_bytes}
 use Rattle.std.specs.Global.{Global}

@@ -123,7 +123,8 @@ const CALLS: &[Case] = &[
     },
     Case {
         words: &["src", "--json"],
-        text: b"{\"classes\":0,\"files\":0,\"methods\":0,\"not_analysed\":[],\"profile\":3,\"skipped\":[],\"warnings\":[]}\n",
+        text: b"{\"classes\":0,\"files\":0,\"methods\":0,\"not_analysed\":[],\"profile\":3,\"skipped\":[],\
+          \"warnings\":[]}\n",
         ..PLAIN
     },
     Case {
@@ -133,7 +134,8 @@ const CALLS: &[Case] = &[
     },
     Case {
         words: &["src", "--json", "--workers", "1", "--history"],
-        text: b"{\"classes\":0,\"files\":0,\"methods\":0,\"not_analysed\":[],\"profile\":3,\"skipped\":[],\"warnings\":[]}\n\
+        text: b"{\"classes\":0,\"files\":0,\"methods\":0,\"not_analysed\":[],\"profile\":3,\"skipped\":[],\
+          \"warnings\":[]}\n\
           leave 0\n",
         ..PLAIN
     },
@@ -177,8 +179,8 @@ const CALLS: &[Case] = &[
 pub(crate) const DINNER: Case = Case {
     files: &[(
         "Dinner.java",
-        b"@ThreadSafe\npublic class Dinner {\n  private int mTemperature;\n  public void makeDinner() {\n    boilWater();\n\
-          \x20 }\n  private void boilWater() {\n    mTemperature = 100;\n  }\n}\n",
+        b"@ThreadSafe\npublic class Dinner {\n  private int mTemperature;\n  public void makeDinner() {\n\
+          \x20   boilWater();\n  }\n  private void boilWater() {\n    mTemperature = 100;\n  }\n}\n",
     )],
     status: Status::Warned,
     text: b"racer report 1\nfiles 1 classes 1 methods 3\n\

@@ -11,7 +11,8 @@ use Rattle.racer_run.specs.declared.output.RunOutput.{RunOutput}
 use Rattle.racer_run.specs.declared.status.Status.{Status}
 use Rattle.racer_run.specs.declared.status.Status.TheVariants.{Clean, Warned, Usage, FolderFault, SinkFault, Refused}
 use Rattle.racer_run.specs.declared.status.Status.TheVariants.{Memory, NoRace, NotAWitness}
-use Rattle.racer_words.specs.Words.{WantedReport, WantedReplay, WantedMade, Request, ReportOn, ReplayOf, MadeOf, request_of}
+use Rattle.racer_words.specs.Words.{WantedReport, WantedReplay, WantedMade, Request, ReportOn, ReplayOf, MadeOf}
+use Rattle.racer_words.specs.Words.{request_of}
 use Rattle.racer_run.specs.RunOutputs.{SaysReport, said_from, usage_text}
 use Rattle.racer_run.specs.Replays.{IsReplaySaid, SaysReplay, replay_said}
 use Rattle.racer_run.specs.Made.{SaysMade, made_files, made_said}

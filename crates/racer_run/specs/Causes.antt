@@ -27,8 +27,8 @@ abbrev pub asked_of : {F : Type 0} → (F → Option Told) → (F → ℕ) → L
 asked_of told faults words old new =
     record { words = map string_bytes words; told = told old; before = faults old; after = faults new }
 
--- the request can be answered over a folder that tells this: it is the folder that is asked for, and a witness is one of
--- its files
+-- the request can be answered over a folder that tells this: it is the folder that is asked for, and a witness is one
+-- of its files
 abbrev pub IsFor : Request → Told → Type 0
 IsFor (ReportOn wanted) told = wanted.folder ≡ told.name
 IsFor (ReplayOf wanted) told = (wanted.folder ≡ told.name) × (contains_key told.files wanted.witness ≡ true)

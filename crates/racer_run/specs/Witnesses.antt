@@ -1,5 +1,5 @@
--- A contract of a public call rests on this: `cut_witnesses_replay`. A witness that a user cuts out of a JSON report, and
--- replays over the same sources.
+-- A contract of a public call rests on this: `cut_witnesses_replay`. A witness that a user cuts out of a JSON report,
+-- and replays over the same sources.
 use Rattle.std.specs.Prelude.{◌≡◌, ◌≢◌, ◌≤◌, ℕ, List, Some, codes, length}
 use Rattle.std.specs.List.{Contains}
 use Rattle.std.specs.FinMap.{get}

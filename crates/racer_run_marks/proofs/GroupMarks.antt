@@ -46,7 +46,8 @@ module _ (core : Core) where
   pub collected : (found : List Warning) (size : ℕ) (groups : List Group) (each : List (Result GroupMarks Memory))
       (made : Result (Vec GroupMarks Global) Memory)
       → 0 < size → map (λ (g : Group). g.now) groups ≡ chunks_of size found → AllZip AreMarks groups each
-      → MatchResult made (λ v. (ys : List GroupMarks) × (each ≡ map Ok ys) × (v.items ≡ ys)) (λ e. Contains each (Err e))
+      → MatchResult made (λ v. (ys : List GroupMarks) × (each ≡ map Ok ys) × (v.items ≡ ys))
+      (λ e. Contains each (Err e))
       → IfOk made (λ v. map said_by (flat_map vec_items v.items) ≡ map (warning_mark core) found)
   collected found size groups each (Ok v) some cut are is =
       ap (λ marks. map said_by (flat_map vec_items marks)) is.2

@@ -1,5 +1,5 @@
 -- Units of accepted sources meet the conditions of their lowering.
-use Rattle.std.proofs.Common.{◌≡◌, ℕ, suc, ◌≤◌, List, [], ◌∷◌, length, map, sym, ap, subst, arith, ◌∙◌}
+use Rattle.std.proofs.Common.{◌≡◌, ℕ, suc, ◌≤◌, List, [], ◌∷◌, length, map, ap, subst, arith, ◌∙◌}
 use Rattle.std.proofs.Common.{Option, None, Some, string_bytes}
 use Rattle.std.specs.Option.{IfSome}
 use Rattle.racer_base.specs.Outside.{Told, Files}

@@ -1,10 +1,11 @@
 -- Of a file one byte more than it may have is asked for, which tells what it is.
-use Rattle.std.proofs.Common.{◌≡◌, ℕ, ◌+◌, ◌<◌, ◌≤◌, List, [], Option, None, Some, take, length, sym, ap, subst}
+use Rattle.std.proofs.Common.{◌≡◌, ℕ, ◌+◌, ◌<◌, ◌≤◌, List, [], Option, None, Some, take, length, sym, subst}
 use Rattle.std.proofs.Common.{arith, length-take}
 use Rattle.std.proofs.lemmas.List.{take_all}
 use Rattle.std.specs.Prelude.{Result, Ok, Err, IfErr, OnOk}
 use Rattle.std.specs.Option.{option_map, IfSome}
 use Rattle.std.specs.FinMap.{get}
+use Rattle.std.proofs.lemmas.Option.{same_Some}
 use Rattle.racer_base.specs.Outside.{Told}
 use Rattle.racer_base.specs.declared.ids.FileId.{FileId}
 use Rattle.racer_base.specs.declared.limits.TheConstants.{MAX_FILE_BYTES}
@@ -67,9 +68,6 @@ module _ (file : FileId) (before : ℕ) (whole : List ℕ) where
   fault_of_front Failed h = tt
   fault_of_front Memory h = tt
 
-same_some : {A : Type 0} (x y : A) → Some x ≡ Some y → x ≡ y
-same_some {A} x y e = ap (λ (o : Option A). elim o [ None ↦ x | Some z ↦ z ]) e
-
 -- what the front of each file tells is told of the file that was read
 pub of_read : (P : List ℕ → Type 0) (o : Option Told) (name bytes : List ℕ)
     → ((whole : List ℕ) → front whole ≡ bytes → P whole)
@@ -81,7 +79,7 @@ of_read P (Some t) name bytes step read = at (get t.files name) read
     at : (f : Option (List ℕ)) → option_map front f ≡ Some bytes
         → P (elim f [ None ↦ [] | (Some whole) ↦ whole ])
     at None e = absurd (let bad : ◌≡◌ {A = Option (List ℕ)} None (Some bytes) = e in cc)
-    at (Some whole) e = step whole (same_some (front whole) bytes e)
+    at (Some whole) e = step whole (same_Some (front whole) bytes e)
 
 -- ---- what was read of a source
 

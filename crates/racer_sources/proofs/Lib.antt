@@ -6,6 +6,6 @@ mod There
 mod Together
 mod OneRefusal
 mod OneSource
-mod OneReading
+pub mod OneReading
 mod Conditions
 mod OtherFiles

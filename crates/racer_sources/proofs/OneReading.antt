@@ -1,5 +1,5 @@
 -- Two readings of the same files are readings of the same tokens.
-use Rattle.std.proofs.Common.{◌≡◌, ℕ, suc, ◌+◌, List, [], ◌∷◌, Result, Ok, Err, length, sym, subst, ◌∙◌}
+use Rattle.std.proofs.Common.{◌≡◌, ℕ, suc, ◌+◌, List, [], ◌∷◌, Result, Ok, length, sym, subst, ◌∙◌}
 use Rattle.std.specs.List.{AllZip}
 use Rattle.java_lexer.specs.declared.token.Token.{Token}
 use Rattle.java_lexer.specs.declared.token.Lexed.{Lexed}
@@ -13,7 +13,7 @@ pub record SameTokens (us vs : List unit.Unit) : Type 0 where
   pub first : AllZip IsUnit tokens us
   pub second : AllZip IsUnit tokens vs
 
-same_lexed : (a : Result Lexed LexFault) (l m : Lexed) → a ≡ Ok l → a ≡ Ok m → l ≡ m
+pub same_lexed : (a : Result Lexed LexFault) (l m : Lexed) → a ≡ Ok l → a ≡ Ok m → l ≡ m
 same_lexed a l m e g = let both : ◌≡◌ {A = Result Lexed LexFault} (Ok l) (Ok m) = sym e ∙ g in cc
 
 pub same_tokens : (n sum : ℕ) (files : List (List ℕ)) (us vs : List unit.Unit) → AreReadFrom n sum files us

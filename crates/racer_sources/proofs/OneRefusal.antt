@@ -1,5 +1,6 @@
 -- A file is refused for one reason, and is then not read.
-use Rattle.std.proofs.Common.{◌≡◌, ◌⊎◌, inl, inr, ℕ, suc, ◌+◌, ◌<◌, ◌≤◌, List, [], ◌∷◌, Option, None, Some, Result, Ok, Err}
+use Rattle.std.proofs.Common.{◌≡◌, inl, inr, ℕ, suc, ◌+◌, ◌<◌, ◌≤◌, List, [], ◌∷◌, Option, None, Some, Result, Ok}
+use Rattle.std.proofs.Common.{Err}
 use Rattle.std.proofs.Common.{length, refl, sym, ap, subst, ◌∙◌, arith}
 use Rattle.racer_base.specs.declared.ids.FileId.{FileId}
 use Rattle.racer_base.specs.declared.ids.Place.{Place}
@@ -8,7 +9,6 @@ use Rattle.java_lexer.specs.declared.token.Token.{Token}
 use Rattle.java_lexer.specs.declared.token.Lexed.{Lexed}
 use Rattle.java_lexer.specs.declared.fault.LexFault.{LexFault}
 use Rattle.java_lexer.specs.declared.fault.LexFault.TheVariants as lexical
-use Rattle.java_lexer.specs.JavaTokens.{lexed_answer}
 use Rattle.java_tree.specs.declared.unit.Unit as unit
 use Rattle.java_tree.specs.declared.unit.ParseFault.{ParseFault}
 use Rattle.java_tree.specs.declared.unit.ParseFault.TheVariants as parse
@@ -22,7 +22,9 @@ use Rattle.racer_sources.specs.declared.refusal.Refusal.TheVariants.{TooManyFile
 use Rattle.racer_sources.specs.declared.refusal.Refusal.TheVariants.{BadCharacter, Unclosed, BadLiteral, Unbalanced}
 use Rattle.racer_sources.specs.declared.refusal.Refusal.TheVariants.{TooDeep, NotAUnit, DuplicateClass, DuplicateField}
 use Rattle.racer_sources.specs.declared.refusal.Refusal.TheVariants.{TooManyClasses, TooManyMethods, TooManyCalls}
-use Rattle.racer_sources.specs.Sources.{IsShort, IsRead, HasNoTokens, IsNoUnit, IsRefusedFile, IsOneRefused, AreReadFrom}
+use Rattle.racer_sources.specs.Sources.{IsShort, IsRead, HasNoTokens, IsNoUnit, IsRefusedFile, IsOneRefused}
+use Rattle.racer_sources.specs.Sources.{AreReadFrom}
+use Rattle.racer_sources.proofs.OneReading.{same_lexed}
 
 -- ---- faults as refusals
 
@@ -85,9 +87,6 @@ module _ (file : FileId) (sum : ℕ) (bytes : List ℕ) where
 
 ok_not_err : (a : Result Lexed LexFault) (l : Lexed) (f : LexFault) → a ≡ Ok l → a ≡ Err f → ⊥
 ok_not_err a l f e g = let bad : ◌≡◌ {A = Result Lexed LexFault} (Ok l) (Err f) = sym e ∙ g in cc
-
-same_lexed : (a : Result Lexed LexFault) (l m : Lexed) → a ≡ Ok l → a ≡ Ok m → l ≡ m
-same_lexed a l m e g = let both : ◌≡◌ {A = Result Lexed LexFault} (Ok l) (Ok m) = sym e ∙ g in cc
 
 same_lex_fault : (a : Result Lexed LexFault) (f g : LexFault) → a ≡ Err f → a ≡ Err g → f ≡ g
 same_lex_fault a f g d e = let both : ◌≡◌ {A = Result Lexed LexFault} (Err f) (Err g) = sym d ∙ e in cc

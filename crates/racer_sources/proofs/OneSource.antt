@@ -1,11 +1,11 @@
 -- Where files are read in one way, the sources of a folder are one thing.
-use Rattle.std.proofs.Common.{◌≡◌, ℕ, ◌<◌, ◌≤◌, Bool, true, false, List, [], Option, None, Some, length, refl, sym, ap, subst}
+use Rattle.std.proofs.Common.{◌≡◌, ℕ, ◌<◌, ◌≤◌, Bool, true, false, List, [], Option, None, Some, length, refl, sym, ap}
+use Rattle.std.proofs.Common.{subst}
 use Rattle.std.proofs.Common.{◌∙◌, arith, ◌↔◌}
 use Rattle.std.specs.Prelude.{IsTrue}
 use Rattle.std.proofs.lemmas.Bool.{false≢true}
 use Rattle.racer_base.specs.Outside.{Files}
-use Rattle.racer_base.specs.declared.ids.MethodId.{MethodId}
-use Rattle.racer_base.specs.declared.limits.TheConstants.{MAX_FILES, MAX_CALL_EDGES}
+use Rattle.racer_base.specs.declared.limits.TheConstants.{MAX_FILES}
 use Rattle.java_tree.specs.declared.unit.Unit as unit
 use Rattle.java_resolver.specs.declared.fault.ResolveFault.{ResolveFault}
 use Rattle.java_resolver.specs.declared.fault.ResolveFault.TheVariants as resolve
@@ -20,7 +20,7 @@ use Rattle.racer_sources.specs.declared.refusal.Refusal.TheVariants.{TooManyFile
 use Rattle.racer_sources.specs.declared.refusal.Refusal.TheVariants.{BadCharacter, Unclosed, BadLiteral, Unbalanced}
 use Rattle.racer_sources.specs.declared.refusal.Refusal.TheVariants.{TooDeep, NotAUnit, DuplicateClass, DuplicateField}
 use Rattle.racer_sources.specs.declared.refusal.Refusal.TheVariants.{TooManyClasses, TooManyMethods, TooManyCalls}
-use Rattle.racer_sources.specs.Sources.{contents, source_names, AreRead, AreAccepted, AreRefusedUnits, IsFileRefused}
+use Rattle.racer_sources.specs.Sources.{contents, source_names, AreRead, AreRefusedUnits, IsFileRefused}
 use Rattle.racer_sources.specs.Lines.{refusal_line}
 use Rattle.racer_sources.specs.Programs.{Source, Refusal, Accepted, IsProgram, HasTooManyCalls, AreRefusedFor, IsSource}
 use Rattle.racer_sources.specs.OneReading.{AreAlike, OneReading, OneSource}

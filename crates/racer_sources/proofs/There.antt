@@ -1,18 +1,15 @@
 -- The sources of a folder are files of it.
-use Rattle.std.proofs.Common.{◌≡◌, ℕ, Bool, true, false, cond, ◌&&◌, ◌||◌, List, [], ◌∷◌, ◌++◌, filter, map, refl, sym, ap}
+use Rattle.std.proofs.Common.{◌≡◌, ℕ, Bool, true, false, cond, ◌||◌, List, [], ◌∷◌, ◌++◌, filter, map, refl, sym, ap}
 use Rattle.std.proofs.Common.{subst, ◌∙◌, append_assoc, String, Global, string_bytes, Option, None, Some}
 use Rattle.std.specs.Option.{is_some, IfSome}
 use Rattle.std.specs.List.{list_all, list_any}
 use Rattle.std.specs.Cmp.Lexicographic.{nat_list_cmp_total}
 use Rattle.std.proofs.lemmas.Cmp.{eq_by_cmp_equiv}
 use Rattle.std.specs.FinMap.{get, keys, contains_key-keys}
+use Rattle.std.proofs.lemmas.Bool.{and_from}
 use Rattle.racer_base.specs.Outside.{Files, Told, same_name}
 use Rattle.racer_sources.specs.Sources.{is_java, source_names}
 use Rattle.racer_sources.specs.Reading.{AreThere}
-
-both : (a b : Bool) → a ≡ true → b ≡ true → (a && b) ≡ true
-both true b e f = f
-both false b e f = e
 
 any_there : {A : Type 0} (q : A → Bool) (done xs : List A) (x : A) → q x ≡ true → list_any q (done ++ x ∷ xs) ≡ true
 any_there q [] xs x e = ap (λ b. b || list_any q xs) e
@@ -27,7 +24,8 @@ there_from files done (x ∷ xs) e =
     contains_key-keys files x ∙ ap (list_any (same_name x)) e
     ∙ any_there (same_name x) done xs x ((eq_by_cmp_equiv nat_list_cmp_total).refl x) in
     elim (is_java x) as (λ b. AreThere files (cond b (x ∷ filter is_java xs) (filter is_java xs))) [
-      | true ↦ both (is_some (get files x)) (list_all (λ name. is_some (get files name)) (filter is_java xs)) here rest
+      | true ↦ and_from (is_some (get files x)) (list_all (λ name. is_some (get files name)) (filter is_java xs)) here
+          rest
       | false ↦ rest
     ]
 

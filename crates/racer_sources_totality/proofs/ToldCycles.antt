@@ -1,18 +1,17 @@
 -- It can be told whether a chain leads from a method to another: first by chains without methods between the two, then
 -- by those that go through the methods of smaller numbers, one number more at a time.
-use Rattle.std.proofs.Common.{◌≡◌, ℕ, zero, suc, ◌<◌, Bool, true, false, ◌||◌, ◌&&◌, ◌≤◌, ◌⊎◌, inl, inr, ⊎_elim}
+use Rattle.std.proofs.Common.{◌≡◌, ℕ, zero, suc, ◌<◌, Bool, true, false, ◌||◌, ◌&&◌, ◌≤◌, ◌⊎◌, ⊎_elim}
 use Rattle.std.proofs.Common.{List, [], ◌∷◌}
 use Rattle.std.proofs.Common.{◌++◌, length, map, refl, sym, ap, ◌∙◌, subst, arith}
 use Rattle.std.specs.Prelude.{nat_eq}
 use Rattle.std.specs.List.{list_any, range_with_len}
 use Rattle.std.proofs.lemmas.List.FromFn.{get_or-map-range_with_len, length-map-range_with_len}
-use Rattle.std.proofs.lemmas.Bool.{cases_lt, eq-eqb, eqb-true}
+use Rattle.std.proofs.lemmas.Bool.{cases_lt, eq-eqb, eqb-true, and_from, and_parts, or_cases, or_left, or_right}
 use Rattle.std.proofs.lemmas.List.{get_or_past}
 use Rattle.racer_base.specs.declared.ids.MethodId.{MethodId}
 use Rattle.core_code.specs.Chains.{row_of, Calls, IsChain, flag_of, TellCycles}
 use Rattle.core_code.specs.Recursion.{all_rows}
 use Rattle.racer_sources_totality.specs.Totality.{IsTotalOnCycles, IsTotalRecursion}
-use Rattle.core_code.proofs.BoolParts.{both, first_part, last_part}
 use Rattle.core_code.proofs.ChainLemmas.{chain-append, caller_in_range}
 use Rattle.core_code.proofs.Members.{passing, passes}
 
@@ -27,17 +26,6 @@ same-is n m h = ap numbered (eqb-true m.0 n.0 h)
 
 is-same : (n : MethodId) → is_same n n ≡ true
 is-same n = eq-eqb n.0 n.0 refl
-
-either-of : (a b : Bool) → (a || b) ≡ true → (a ≡ true) ⊎ (b ≡ true)
-either-of true b h = inl refl
-either-of false b h = inr h
-
-first-of : (a b : Bool) → a ≡ true → (a || b) ≡ true
-first-of a b h = ap (λ x. x || b) h
-
-second-of : (a b : Bool) → b ≡ true → (a || b) ≡ true
-second-of true b h = refl
-second-of false b h = h
 
 module _ (rows : List (List MethodId)) where
   -- whether one calls the other
@@ -69,20 +57,21 @@ module _ (rows : List (List MethodId)) where
       ⊎_elim
       (λ (direct : reaches k m n ≡ true). reaches-is k m n direct)
       (λ (there : through k m n ≡ true).
-      let first = reaches-is k m (numbered k) (first_part (reaches k m (numbered k)) _ there) in
-      let rest = reaches-is k (numbered k) n (last_part (reaches k m (numbered k)) _ there) in
+      let first = reaches-is k m (numbered k) (and_parts (reaches k m (numbered k)) _ there).0 in
+      let rest = reaches-is k (numbered k) n (and_parts (reaches k m (numbered k)) _ there).1 in
       (first.0 ++ numbered k ∷ rest.0, chain-append rows m first.0 (numbered k) rest.0 n first.1 rest.1))
-      (either-of (reaches k m n) (through k m n) h)
+      (or_cases (reaches k m n) (through k m n) h)
 
   -- ---- what is so is told
 
   kept : (k : ℕ) (m n : MethodId) → reaches k m n ≡ true → reaches (suc k) m n ≡ true
-  kept k m n h = first-of (reaches k m n) (through k m n) h
+  kept k m n h = or_left (reaches k m n) (through k m n) h
 
   passed : (k : ℕ) (m n : MethodId) → reaches k m (numbered k) ≡ true → reaches k (numbered k) n ≡ true
       → reaches (suc k) m n ≡ true
   passed k m n first rest =
-      second-of (reaches k m n) (through k m n) (both (reaches k m (numbered k)) (reaches k (numbered k) n) first rest)
+      or_right (reaches k m n) (through k m n)
+      (and_from (reaches k m (numbered k)) (reaches k (numbered k) n) first rest)
 
   pub called : (k : ℕ) (m n : MethodId) → Calls rows m n → reaches k m n ≡ true
   called zero m n h = calls-told m n h
@@ -91,13 +80,13 @@ module _ (rows : List (List MethodId)) where
   -- to a method by itself
   to-itself : (k : ℕ) (m : MethodId) → reaches (suc k) m (numbered k) ≡ true → reaches k m (numbered k) ≡ true
   to-itself k m h =
-      ⊎_elim (λ e. e) (λ there. first_part (reaches k m (numbered k)) _ there)
-      (either-of (reaches k m (numbered k)) (through k m (numbered k)) h)
+      ⊎_elim (λ e. e) (λ there. (and_parts (reaches k m (numbered k)) _ there).0)
+      (or_cases (reaches k m (numbered k)) (through k m (numbered k)) h)
 
   from-itself : (k : ℕ) (n : MethodId) → reaches (suc k) (numbered k) n ≡ true → reaches k (numbered k) n ≡ true
   from-itself k n h =
-      ⊎_elim (λ e. e) (λ there. last_part (reaches k (numbered k) (numbered k)) _ there)
-      (either-of (reaches k (numbered k) n) (through k (numbered k) n) h)
+      ⊎_elim (λ e. e) (λ there. (and_parts (reaches k (numbered k) (numbered k)) _ there).1)
+      (or_cases (reaches k (numbered k) n) (through k (numbered k) n) h)
 
   -- by a method of a number below this one
   pub by : (k : ℕ) (a b c : MethodId) → b.0 < k → reaches k a b ≡ true → reaches k b c ≡ true → reaches k a c ≡ true
@@ -110,16 +99,16 @@ module _ (rows : List (List MethodId)) where
       ⊎_elim
       (λ (two : reaches k b c ≡ true). kept k a c (by k a b c below one two))
       (λ (two : through k b c ≡ true).
-      passed k a c (by k a b (numbered k) below one (first_part (reaches k b (numbered k)) _ two))
-      (last_part (reaches k b (numbered k)) _ two))
-      (either-of (reaches k b c) (through k b c) rest))
+      passed k a c (by k a b (numbered k) below one (and_parts (reaches k b (numbered k)) _ two).0)
+      (and_parts (reaches k b (numbered k)) _ two).1)
+      (or_cases (reaches k b c) (through k b c) rest))
       (λ (one : through k a b ≡ true).
-      passed k a c (first_part (reaches k a (numbered k)) _ one)
+      passed k a c (and_parts (reaches k a (numbered k)) _ one).0
       (⊎_elim
-      (λ (two : reaches k b c ≡ true). by k (numbered k) b c below (last_part (reaches k a (numbered k)) _ one) two)
-      (λ (two : through k b c ≡ true). last_part (reaches k b (numbered k)) _ two)
-      (either-of (reaches k b c) (through k b c) rest)))
-      (either-of (reaches k a b) (through k a b) first))
+      (λ (two : reaches k b c ≡ true). by k (numbered k) b c below (and_parts (reaches k a (numbered k)) _ one).1 two)
+      (λ (two : through k b c ≡ true). (and_parts (reaches k b (numbered k)) _ two).1)
+      (or_cases (reaches k b c) (through k b c) rest)))
+      (or_cases (reaches k a b) (through k a b) first))
       (λ (high : k ≤ b.0).
       let same : b.0 ≡ k = omega (arith, low, high) in
       let is : b ≡ numbered k = ap numbered same in

@@ -1,5 +1,6 @@
 -- A command with more arguments.
-use Rattle.std.proofs.Common.{◌≡◌, ℕ, ◌+◌, ◌<◌, Bool, false, List, [], ◌∷◌, ◌++◌, map, fold, length, get_or, drop, refl, sym, ap, ◌∙◌}
+use Rattle.std.proofs.Common.{◌≡◌, ℕ, ◌+◌, ◌<◌, Bool, false, List, [], ◌∷◌, ◌++◌, map, fold, length, get_or, drop, refl}
+use Rattle.std.proofs.Common.{sym, ap, ◌∙◌}
 use Rattle.std.proofs.lemmas.List.{at_drop_more, append_assoc}
 use Rattle.clap.specs.Walk.{Rule, rule_of}
 use Rattle.std.specs.Prelude.{Some}

@@ -4,6 +4,8 @@ use Rattle.std.proofs.Common.{codes, bytes_eq, is_some, slice_get, if◌then◌e
 use Rattle.std.specs.Prelude.{option_and_then, MatchOption}
 use Rattle.clap.specs.Values.{read_as}
 use Rattle.std.proofs.lemmas.Slice.Eq.{bytes_eq-Decides}
+use Rattle.std.proofs.lemmas.Bool.{or_parts}
+use Rattle.std.proofs.Math.Bool.{or-true}
 use Rattle.clap.specs.Walk.{Row, Text, Walk, idle, has_row, with_default, first_of, one_of, row_text, walk, settled}
 use Rattle.clap.specs.Walk.{nothing_held, arg_by_id, takes_values, reading_by}
 use Rattle.clap.specs.Simple.{App, matches_of, entered}
@@ -18,7 +20,7 @@ use Rattle.racer_words.specs.Uses.{Use, has, given, uses, differ, labels}
 use Rattle.racer_words.specs.Command.{command, fails}
 use Rattle.racer_words.specs.Readings.{AreTexts, IsRead, Gives}
 use Rattle.racer_words.proofs.BuiltRules.{built_rule, all, shape, by_id}
-use Rattle.racer_words.proofs.UsedRows.{or_left, or_right, at_end, row_of_use, rows_of_uses, due_word}
+use Rattle.racer_words.proofs.UsedRows.{at_end, row_of_use, rows_of_uses, due_word}
 use Rattle.racer_words.proofs.Turns.{at, holds}
 use Rattle.racer_words.proofs.WordTurns.{takes}
 use Rattle.racer_words.proofs.Walks.{total, end_rows}
@@ -27,19 +29,15 @@ use Rattle.racer_words.proofs.IdleReads.{idle_reads}
 
 -- ---- the faults behind the walk
 
-or_yes : (b : Bool) → (b || true) ≡ true
-or_yes true = refl
-or_yes false = refl
-
 by_flag : (b : Bool) (k : Kinds) → k ≡ [] → (if b || false then [] else k) ≡ []
 by_flag true k e = refl
 by_flag false k e = e
 
 default_ok : (l : Label) (rows : List Row) → default_fault rows (built_rule l) ≡ []
-default_ok Folder rows = rw (or_yes (has_row (codes "FOLDER") rows)) refl
-default_ok Workers rows = rw (or_yes (has_row (codes "workers") rows)) refl
-default_ok Replay rows = rw (or_yes (has_row (codes "replay") rows)) refl
-default_ok Made rows = rw (or_yes (has_row (codes "made") rows)) refl
+default_ok Folder rows = rw (or-true (has_row (codes "FOLDER") rows)) refl
+default_ok Workers rows = rw (or-true (has_row (codes "workers") rows)) refl
+default_ok Replay rows = rw (or-true (has_row (codes "replay") rows)) refl
+default_ok Made rows = rw (or-true (has_row (codes "made") rows)) refl
 default_ok Json rows = by_flag (has_row (codes "json") rows) _ refl
 default_ok Summaries rows = by_flag (has_row (codes "summaries") rows) _ refl
 default_ok History rows = by_flag (has_row (codes "history") rows) _ refl
@@ -49,7 +47,7 @@ unfolding defaults_fault
 defaults_ok [] rows = refl
 defaults_ok (l ∷ ls) rows = rw (default_ok l rows) (defaults_ok ls (with_default rows (built_rule l)))
 
-no_fault : (k : Kinds) → or_else k [] ≡ k
+pub no_fault : (k : Kinds) → or_else k [] ≡ k
 no_fault [] = refl
 no_fault (x ∷ k) = refl
 
@@ -102,8 +100,8 @@ pushed_found : (l : Label) (rows : List Row) (r : Row) → bytes_eq r.id (name_o
     → has_row (name_of l) rows ≡ false
     → row_at l (rows ++ r ∷ []) ≡ Some r
 pushed_found l [] r e h = rw e refl
-pushed_found l (x ∷ rows) r e h = rw (or_left (bytes_eq x.id (name_of l)) (has_row (name_of l) rows) h)
-    (pushed_found l rows r e (or_right (bytes_eq x.id (name_of l)) (has_row (name_of l) rows) h))
+pushed_found l (x ∷ rows) r e h = rw (or_parts (bytes_eq x.id (name_of l)) (has_row (name_of l) rows) h).0
+    (pushed_found l rows r e (or_parts (bytes_eq x.id (name_of l)) (has_row (name_of l) rows) h).1)
 
 -- ---- the rows with the defaults of the flags
 

@@ -1,22 +1,15 @@
 -- A number of a command line is not 0.
-use Rattle.std.proofs.Common.{◌≡◌, ℕ, ◌+◌, ◌-◌, ◌*◌, ◌<◌, Bool, true, false, not, ◌&&◌, List, [], ◌∷◌}
-use Rattle.std.proofs.Common.{fold, length, nat_le, refl, arith}
+use Rattle.std.proofs.Common.{◌≡◌, ℕ, ◌+◌, ◌-◌, ◌*◌, ◌<◌, true, not, ◌&&◌, List, [], ◌∷◌}
+use Rattle.std.proofs.Common.{fold, length, nat_le, arith}
 use Rattle.std.specs.Prelude.{◌==◌}
 use Rattle.std.specs.List.{list_all}
 use Rattle.std.proofs.lemmas.Bool.Decides.{nat_tests}
+use Rattle.std.proofs.lemmas.Bool.{and_parts}
 use Rattle.racer_words.specs.Uses.{Word}
 use Rattle.racer_words.specs.Words.{is_digit, is_number, number}
 
-first : (a b : Bool) → (a && b) ≡ true → a ≡ true
-first true b e = refl
-first false b e = e
-
-last : (a b : Bool) → (a && b) ≡ true → b ≡ true
-last true b e = e
-last false b e = cc
-
 digit : (b : ℕ) → not (b == 48) ≡ true → is_digit b ≡ true → 0 < b - 48
-digit b e f = let low : nat_le 48 b ≡ true = first (nat_le 48 b) (nat_le b 57) f in grind (arith, nat_tests)
+digit b e f = let low : nat_le 48 b ≡ true = (and_parts (nat_le 48 b) (nat_le b 57) f).0 in grind (arith, nat_tests)
 
 grows : (bs : List ℕ) (n : ℕ) → 0 < n → 0 < fold (λ (n b : ℕ). n * 10 + (b - 48)) n bs
 grows [] n some = some
@@ -25,7 +18,7 @@ grows (b ∷ bs) n some = grows bs (n * 10 + (b - 48)) (omega (arith, some))
 pub some_number : (word : Word) → is_number word ≡ true → 0 < number word
 some_number [] e = cc
 some_number (b ∷ bs) e =
-    let rest = last (not (b == 48)) (list_all is_digit (b ∷ bs) && nat_le (length (b ∷ bs)) 3) e in
-    let all = first (list_all is_digit (b ∷ bs)) _ rest in
-    let here = digit b (first (not (b == 48)) _ e) (first (is_digit b) (list_all is_digit bs) all) in
+    let rest = (and_parts (not (b == 48)) (list_all is_digit (b ∷ bs) && nat_le (length (b ∷ bs)) 3) e).1 in
+    let all = (and_parts (list_all is_digit (b ∷ bs)) _ rest).0 in
+    let here = digit b (and_parts (not (b == 48)) _ e).0 (and_parts (is_digit b) (list_all is_digit bs) all).0 in
     grows bs (0 * 10 + (b - 48)) (omega (arith, here))

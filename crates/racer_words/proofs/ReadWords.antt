@@ -1,6 +1,8 @@
 -- The walk over all words gives the rows of their uses, or fails where they are none.
 use Rattle.std.proofs.Common.{◌≡◌, ◌||◌, Bool, true, false, List, [], ◌∷◌, ◌++◌, Option, Some, None, map, codes}
 use Rattle.std.proofs.Common.{bytes_eq, refl, sym, ap, ◌∙◌}
+use Rattle.std.proofs.Math.Bool.{or-false, or-true}
+use Rattle.std.proofs.lemmas.List.{append-nil}
 use Rattle.clap.specs.Walk.{Row, Text, Walk, Waiting, idle, settled, walked}
 use Rattle.racer_words.specs.Uses.{Word, Label, Folder, name_of}
 use Rattle.racer_words.specs.Uses.{label_of, Use, one, has, uses, differ, put, valued, is_plain}
@@ -11,6 +13,7 @@ use Rattle.racer_words.proofs.Turns.{at, holds, Stands, Fault, value_stands}
 use Rattle.racer_words.proofs.WordKinds.{IsLong, IsShort, IsPlainWord, IsEnd, IsOther}
 use Rattle.racer_words.proofs.WordTurns.{turn, trailing_fault, trailing_walk, trailing_stray}
 use Rattle.racer_words.proofs.Walks.{total, end_rows, on, on_rows, stops, at_end, place}
+use Rattle.racer_base.proofs.Tests.{or_regrouped}
 
 pub record Good (done us : List Use) (w : Walk) (words : List Word) : Type 0 where
   pub passes : total w words ≡ []
@@ -21,10 +24,6 @@ abbrev pub Answer : List Use → Option (List Use) → Walk → List Word → Ty
 Answer done None w words = Fault (total w words)
 Answer done (Some us) w words =
     (differ done us ≡ true → Good done us w words) × (differ done us ≡ false → Fault (total w words))
-
-no_more : {A : Type 0} (xs : List A) → xs ++ [] ≡ xs
-no_more [] = refl
-no_more (x ∷ xs) = ap (λ more. x ∷ more) (no_more xs)
 
 one_more : {A : Type 0} (xs : List A) (y : A) (ys : List A) → (xs ++ y ∷ []) ++ ys ≡ xs ++ y ∷ ys
 one_more [] y ys = refl
@@ -76,31 +75,19 @@ put_again l word done (Some us) w words e a = (λ d. absurd (cc (d, repeats l wo
 
 -- ---- whether the folder is given
 
-or_no : (b : Bool) → (b || false) ≡ b
-or_no true = refl
-or_no false = refl
-
-or_yes : (b : Bool) → (b || true) ≡ true
-or_yes true = refl
-or_yes false = refl
-
-or_twice : (a b c : Bool) → (a || (b || c)) ≡ ((a || b) || c)
-or_twice true b c = refl
-or_twice false b c = refl
-
 has_more : (l m : Label) (word : Word) (done : List Use) → has m (done ++ one l word ∷ [])
     ≡ (has m done || bytes_eq (name_of l) (name_of m))
-has_more l m word [] = or_no (bytes_eq (name_of l) (name_of m))
+has_more l m word [] = or-false (bytes_eq (name_of l) (name_of m))
 has_more l m word (u ∷ us) = ap (λ b. bytes_eq (name_of u.label) (name_of m) || b) (has_more l m word us)
-    ∙ or_twice (bytes_eq (name_of u.label) (name_of m)) (has m us) (bytes_eq (name_of l) (name_of m))
+    ∙ or_regrouped (bytes_eq (name_of u.label) (name_of m)) (has m us) (bytes_eq (name_of l) (name_of m))
 
 pub other_more : (l : Label) (word : Word) (done : List Use) (b : Bool) → IsOther l → has Folder done ≡ b
     → has Folder (done ++ one l word ∷ []) ≡ b
 other_more l word done b e f =
-    has_more l Folder word done ∙ ap (λ c. has Folder done || c) e ∙ or_no (has Folder done) ∙ f
+    has_more l Folder word done ∙ ap (λ c. has Folder done || c) e ∙ or-false (has Folder done) ∙ f
 
 pub folder_more : (word : Word) (done : List Use) → has Folder (done ++ one Folder word ∷ []) ≡ true
-folder_more word done = has_more Folder Folder word done ∙ or_yes (has Folder done)
+folder_more word done = has_more Folder Folder word done ∙ or-true (has Folder done)
 
 -- ---- what the definition says of each kind of word
 
@@ -145,7 +132,7 @@ uses_open l = refl
 pub ended : (done : List Use) (w : Walk) → Stands done w.held → Answer done (Some []) w []
 unfolding differ
 ended done w s = (
-  λ d. record { passes = at_end w ∙ s.whole; rows = s.rows ∙ ap rows_of_uses (sym (no_more done)) },
+  λ d. record { passes = at_end w ∙ s.whole; rows = s.rows ∙ ap rows_of_uses (sym (append-nil done)) },
   λ d. absurd (cc d),
 )
 

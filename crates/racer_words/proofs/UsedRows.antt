@@ -1,6 +1,8 @@
 -- One use of a label: the row that it adds, and that a second one fails.
 use Rattle.std.proofs.Common.{◌≡◌, ◌||◌, Bool, true, false, List, [], ◌∷◌, ◌++◌, Some, None, map, codes, bytes_eq}
 use Rattle.std.proofs.Common.{refl, ap, ◌∙◌}
+use Rattle.std.proofs.lemmas.Bool.{or_parts}
+use Rattle.std.proofs.lemmas.List.{append-nil}
 use Rattle.clap.specs.Walk.{Row, Text, more_values, reading_by, has_row, at_row, without, with_values, used}
 use Rattle.clap.specs.Walk.{values_or_missing}
 use Rattle.clap.specs.Faults.{use_fault}
@@ -32,27 +34,15 @@ pub has_rows : (l : Label) (us : List Use) → has_row (name_of l) (rows_of_uses
 has_rows l [] = refl
 has_rows l (u ∷ us) = ap (λ b. bytes_eq (name_of u.label) (name_of l) || b) (has_rows l us)
 
-pub or_left : (a b : Bool) → (a || b) ≡ false → a ≡ false
-or_left false b e = refl
-or_left true b e = e
-
-pub or_right : (a b : Bool) → (a || b) ≡ false → b ≡ false
-or_right false b e = e
-or_right true b e = absurd (cc e)
-
 pub at_end : (id : Text) (change : Row → List Row) (missing rows : List Row) → has_row id rows ≡ false
     → at_row id change missing rows ≡ rows ++ missing
 at_end id change missing [] e = refl
 at_end id change missing (r ∷ rs) e =
-    rw (or_left (bytes_eq r.id id) (has_row id rs) e) (ap (λ more. r ∷ more)
-    (at_end id change missing rs (or_right (bytes_eq r.id id) (has_row id rs) e)))
-
-no_more : {A : Type 0} (xs : List A) → xs ++ [] ≡ xs
-no_more [] = refl
-no_more (x ∷ xs) = ap (λ more. x ∷ more) (no_more xs)
+    rw (or_parts (bytes_eq r.id id) (has_row id rs) e).0 (ap (λ more. r ∷ more)
+    (at_end id change missing rs (or_parts (bytes_eq r.id id) (has_row id rs) e).1))
 
 kept : (id : Text) (rows : List Row) → has_row id rows ≡ false → without id rows ≡ rows
-kept id rows e = at_end id (λ _. []) [] rows e ∙ no_more rows
+kept id rows e = at_end id (λ _. []) [] rows e ∙ append-nil rows
 
 set_row : (id : Text) (how : Reading) (values : List Text) (rows : List Row) → has_row id rows ≡ false
     → with_values id how CommandLine values (without id rows) ≡ rows ++ record {

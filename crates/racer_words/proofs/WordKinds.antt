@@ -1,8 +1,9 @@
 -- What a word is: `--`, `--name..`, `-name` or plain; and the label of a name.
-use Rattle.std.proofs.Common.{◌≡◌, ◌⊎◌, ℕ, ◌&&◌, ◌||◌, ◌==◌, Bool, true, false, not, [], ◌∷◌, Option, Some, None}
+use Rattle.std.proofs.Common.{◌≡◌, ◌⊎◌, ℕ, ◌&&◌, ◌==◌, Bool, true, false, not, [], ◌∷◌, Option, Some, None}
 use Rattle.std.proofs.Common.{cond, codes, bytes_eq, is_some, slice_get, option_map, refl, sym, subst, inl, inr}
 use Rattle.std.specs.Str.{chars}
 use Rattle.std.proofs.lemmas.Bool.{eqb-true}
+use Rattle.std.proofs.Math.Bool.{or-false}
 use Rattle.clap.specs.Lexer.{long_of, short_of}
 use Rattle.clap.specs.Walk.{Rule, arg_by_long, has_long}
 use Rattle.racer_words.specs.Uses.{Word, Label, Folder, Workers, Replay, Made, Json, Summaries, History, name_of}
@@ -93,18 +94,14 @@ chosen false false l found met e f = f
 chosen true false l found met e f = absurd (cc e)
 chosen false true l found met e f = absurd (cc e)
 
-or_no : (b : Bool) → (b || false) ≡ b
-or_no true = refl
-or_no false = refl
-
 pub by_long : (name : Word) → arg_by_long all name ≡ option_map built_rule (label_of name)
 by_long name =
-    chosen _ _ Workers _ _ (or_no (bytes_eq (codes "workers") name))
-    (chosen _ _ Replay _ _ (or_no (bytes_eq (codes "replay") name))
-    (chosen _ _ Made _ _ (or_no (bytes_eq (codes "made") name))
-    (chosen _ _ Json _ _ (or_no (bytes_eq (codes "json") name))
-    (chosen _ _ Summaries _ _ (or_no (bytes_eq (codes "summaries") name))
-    (chosen _ _ History _ _ (or_no (bytes_eq (codes "history") name)) refl)))))
+    chosen _ _ Workers _ _ (or-false (bytes_eq (codes "workers") name))
+    (chosen _ _ Replay _ _ (or-false (bytes_eq (codes "replay") name))
+    (chosen _ _ Made _ _ (or-false (bytes_eq (codes "made") name))
+    (chosen _ _ Json _ _ (or-false (bytes_eq (codes "json") name))
+    (chosen _ _ Summaries _ _ (or-false (bytes_eq (codes "summaries") name))
+    (chosen _ _ History _ _ (or-false (bytes_eq (codes "history") name)) refl)))))
 
 -- no name is that of the folder
 folder_last : (a b c d e f : Bool) → cond a (Some Workers) (cond b (Some Replay) (cond c (Some Made) (cond d (Some Json)

@@ -1,7 +1,8 @@
 -- What each kind of word does to the walk, and its fault.
-use Rattle.std.proofs.Common.{◌≡◌, ℕ, suc, ◌&&◌, Bool, true, false, List, [], ◌∷◌, Option, Some, None, codes}
+use Rattle.std.proofs.Common.{◌≡◌, ℕ, suc, true, false, List, [], ◌∷◌, Option, Some, None, codes}
 use Rattle.std.proofs.Common.{bytes_eq, is_some, slice_get, length, refl}
 use Rattle.std.specs.Str.{chars}
+use Rattle.std.proofs.Math.Bool.{and-false}
 use Rattle.clap.specs.Walk.{Row, Text, Held, Walk, Waiting, idle, option, settled, reacted, is_pending, walked}
 use Rattle.clap.specs.Walk.{takes_values}
 use Rattle.clap.specs.Walk.{subcommand_met, positional}
@@ -10,12 +11,10 @@ use Rattle.clap.specs.Kinds.{Kinds}
 use Rattle.racer_words.specs.Uses.{Word, Label, Folder, Workers, Replay, Made, Json, Summaries, History, name_of}
 use Rattle.racer_words.specs.Uses.{takes_value, label_of}
 use Rattle.racer_words.proofs.BuiltRules.{built_rule, all, shape}
-use Rattle.racer_words.proofs.Turns.{at, holds, Fault, no_fault, else_first}
+use Rattle.racer_words.proofs.Turns.{at, holds, Fault, else_first}
 use Rattle.racer_words.proofs.WordKinds.{IsLong, IsShort, IsPlainWord, by_long}
-
-and_no : (b : Bool) → (b && false) ≡ false
-and_no true = refl
-and_no false = refl
+use Rattle.racer_words.proofs.Finished.{no_fault}
+use Rattle.racer_base.proofs.Lists.{given_some}
 
 abbrev pub turn : Walk → Word → Kinds
 turn w word = turn_fault shape [] w word
@@ -27,25 +26,25 @@ folder_held word h = record (settled all h) { pending = Some (codes "FOLDER", wo
 
 pub trailing_fault : (waiting : Waiting) (word : Word) (h : Held)
     → turn (at true 1 waiting h) word ≡ settle_fault all false h
-trailing_fault waiting word h = rw (and_no (is_pending (built_rule Folder) h.pending)) refl
+trailing_fault waiting word h = rw (and-false (is_pending (built_rule Folder) h.pending)) refl
 
 pub trailing_walk : (waiting : Waiting) (word : Word) (h : Held)
     → walked all [] (at true 1 waiting h) word ≡ at true 2 idle (folder_held word h)
 unfolding walked
-trailing_walk waiting word h = rw (and_no (is_pending (built_rule Folder) h.pending)) refl
+trailing_walk waiting word h = rw (and-false (is_pending (built_rule Folder) h.pending)) refl
 
 pub trailing_stray : (waiting : Waiting) (word : Word) (h : Held) → Fault (turn (at true 2 waiting h) word)
 trailing_stray waiting word h = refl
 
 pub plain_fault : (word : Word) (h : Held) → IsPlainWord word → turn (at false 1 idle h) word ≡ settle_fault all false h
 plain_fault word h is =
-    rw (is.open_ended, is.long, is.short, and_no (is_pending (built_rule Folder) h.pending)) refl
+    rw (is.open_ended, is.long, is.short, and-false (is_pending (built_rule Folder) h.pending)) refl
 
 pub plain_walk : (word : Word) (h : Held) → IsPlainWord word
     → walked all [] (at false 1 idle h) word ≡ at false 2 idle (folder_held word h)
 unfolding walked
 plain_walk word h is =
-    rw (is.open_ended, is.long, is.short, and_no (is_pending (built_rule Folder) h.pending)) refl
+    rw (is.open_ended, is.long, is.short, and-false (is_pending (built_rule Folder) h.pending)) refl
 
 pub plain_stray : (word : Word) (h : Held) → IsPlainWord word → Fault (turn (at false 2 idle h) word)
 plain_stray word h is = rw (is.open_ended, is.long, is.short) refl
@@ -127,14 +126,10 @@ module _ (word : Word) (p : Word × Option Word) (is : IsLong word p) (q : ℕ) 
 
 -- ---- `-name`
 
-some_is : {A : Type 0} (o : Option A) → is_some o ≡ true → (x : A) × (o ≡ Some x)
-some_is None e = absurd (cc e)
-some_is (Some x) e = (x, refl)
-
 flags_unknown : (k c : ℕ) (flag : Word) (h : Held) → is_some (slice_get (chars (c ∷ flag)) 0) ≡ true
     → Fault (flags_fault all false (suc k) (c ∷ flag) 0 h)
 unfolding flags_fault
-flags_unknown k c flag h e = rw (some_is (slice_get (chars (c ∷ flag)) 0) e).1 refl
+flags_unknown k c flag h e = rw (given_some (slice_get (chars (c ∷ flag)) 0) e).1 refl
 
 pub short_fault : (word : Word) (c : ℕ) (flag : Word) (q : ℕ) (waiting : Waiting) (rows : List Row)
     (pending : Option (Text × List Text)) → IsShort word (c ∷ flag)

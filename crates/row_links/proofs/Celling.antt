@@ -1,5 +1,6 @@
 -- Cells: that a free one is left, and what each move keeps.
-use Rattle.std.proofs.Common.{◌≡◌, ℕ, ◌+◌, ◌<◌, inl, inr, List, [], ◌∷◌, length, slice_index, slice_get, None, Some, sym, ap, subst, ◌∙◌, arith}
+use Rattle.std.proofs.Common.{◌≡◌, ℕ, ◌+◌, ◌<◌, inl, inr, List, [], ◌∷◌, length, slice_index, slice_get, None, Some}
+use Rattle.std.proofs.Common.{sym, ap, subst, ◌∙◌, arith}
 use Rattle.std.proofs.lemmas.Bool.{cases_eq}
 use Rattle.row_links.specs.Lists.{list_at, front, times, node_count, IsInList}
 use Rattle.row_links.specs.Cells.{AreCells, IsUnnamed}

@@ -1,13 +1,11 @@
 -- How often a number stands in lists, and how long they are together.
-use Rattle.std.proofs.Common.{◌≡◌, ℕ, zero, suc, ◌+◌, ◌≤◌, ◌<◌, inl, inr, true, false, cond, not, List, [], ◌∷◌, ◌++◌, length, map, nat_eq, slice_set, refl, sym, ap, ◌∙◌, arith}
+use Rattle.std.proofs.Common.{◌≡◌, ℕ, zero, suc, ◌+◌, ◌≤◌, ◌<◌, inl, inr, cond, not, List, [], ◌∷◌, ◌++◌, length, map}
+use Rattle.std.proofs.Common.{nat_eq, slice_set, refl, sym, ap, ◌∙◌, arith}
 use Rattle.std.specs.List.{concat}
-use Rattle.std.proofs.lemmas.Bool.{eqb-true, eq-eqb, cases_eq}
+use Rattle.std.proofs.lemmas.Bool.{eq-eqb, cases_eq}
 use Rattle.std.proofs.lemmas.List.{length-append}
 use Rattle.row_links.specs.Lists.{list_at, without, one_if, times, node_count}
-
-pub different : (x y : ℕ) → (x ≡ y → ⊥) → nat_eq x y ≡ false
-different x y other = elim (nat_eq x y) as (λ b. nat_eq x y ≡ b → b ≡ false)
-    [ true ↦ λ e. absurd (other (eqb-true x y e)) | false ↦ λ e. refl ] refl
+use Rattle.racer_base.proofs.Tests.{different}
 
 pub same_once : (x y : ℕ) → x ≡ y → one_if (nat_eq x y) ≡ 1
 same_once x y e = ap one_if (eq-eqb x y e)

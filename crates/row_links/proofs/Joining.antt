@@ -1,10 +1,12 @@
 -- Nodes linked both ways: what is walked, what other links leave, and what one more link joins.
-use Rattle.std.proofs.Common.{◌≡◌, ℕ, zero, suc, ◌≤◌, ◌<◌, inl, inr, cond, not, List, [], ◌∷◌, ◌++◌, length, slice_index, slice_set, refl, sym, ap, subst, ◌∙◌, arith}
+use Rattle.std.proofs.Common.{◌≡◌, ℕ, zero, suc, ◌≤◌, ◌<◌, inl, inr, cond, not, List, [], ◌∷◌, ◌++◌, length}
+use Rattle.std.proofs.Common.{slice_index, slice_set, refl, sym, ap, subst, ◌∙◌, arith}
 use Rattle.std.proofs.lemmas.Bool.{eq-eqb, cases_eq}
 use Rattle.std.proofs.lemmas.List.{get_or-set_same, get_or-set_other, append-nil}
 use Rattle.row_links.specs.Lists.{without, times}
 use Rattle.row_links.specs.Rings.{Joined, walk}
-use Rattle.row_links.proofs.Counting.{different, same_once, other_never, times-append, without-append, without-none}
+use Rattle.row_links.proofs.Counting.{same_once, other_never, times-append, without-append, without-none}
+use Rattle.racer_base.proofs.Tests.{different}
 
 abbrev pub first_or : List ℕ → ℕ → ℕ
 first_or [] e = e

@@ -1,5 +1,6 @@
 -- What the calls of lists with cells read, and what they keep.
-use Rattle.std.proofs.Common.{◌≡◌, ℕ, ◌+◌, ◌-◌, ◌^◌, ◌≤◌, ◌<◌, inl, inr, List, length, slice_index, slice_index_or, slice_set, None, Some, refl, sym, ap, subst, ◌∙◌, arith}
+use Rattle.std.proofs.Common.{◌≡◌, ℕ, ◌+◌, ◌-◌, ◌^◌, ◌≤◌, ◌<◌, inl, inr, List, length, slice_index, slice_index_or}
+use Rattle.std.proofs.Common.{slice_set, None, Some, refl, sym, ap, subst, ◌∙◌, arith}
 use Rattle.std.proofs.lemmas.List.{length-set}
 use Rattle.row_links.specs.Lists.{moved, spliced, front, node_count, IsInList}
 use Rattle.row_links.specs.Cells.{AreTold, AreCells, IsKept, IsUnnamed}

@@ -1,6 +1,6 @@
 pub mod Counting
 pub mod Lists
-mod Joining
+pub mod Joining
 mod Ringing
 mod Seeing
 pub mod Starting

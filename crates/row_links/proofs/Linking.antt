@@ -1,5 +1,6 @@
 -- What the calls of links read and leave.
-use Rattle.std.proofs.Common.{◌≡◌, ℕ, zero, suc, ◌+◌, ◌≤◌, ◌<◌, inl, inr, List, [], ◌∷◌, length, map, slice_index, slice_set, slice_index_or, None, Some, refl, sym, ap, subst, ◌∙◌, arith}
+use Rattle.std.proofs.Common.{◌≡◌, ℕ, zero, suc, ◌+◌, ◌≤◌, ◌<◌, inl, inr, List, [], ◌∷◌, length, map, slice_index}
+use Rattle.std.proofs.Common.{slice_set, slice_index_or, None, Some, refl, sym, ap, subst, ◌∙◌, arith}
 use Rattle.std.proofs.lemmas.List.{length-set, length-map}
 use Rattle.row_links.specs.Lists.{without, moved, spliced, front, node_count, IsInList}
 use Rattle.row_links.specs.Rings.{rings, AreRings, AreLinked}

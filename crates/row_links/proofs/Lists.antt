@@ -1,10 +1,14 @@
 -- What the moves do to each list, and that each node stays once.
-use Rattle.std.proofs.Common.{◌≡◌, ℕ, zero, suc, ◌+◌, ◌≤◌, ◌<◌, ◌⊎◌, inl, inr, List, [], ◌∷◌, ◌++◌, length, map, nat_eq, slice_set, refl, sym, ap, subst, ◌∙◌, arith}
+use Rattle.std.proofs.Common.{◌≡◌, ℕ, zero, suc, ◌+◌, ◌≤◌, ◌<◌, ◌⊎◌, inl, inr, List, [], ◌∷◌, ◌++◌, length, map, nat_eq}
+use Rattle.std.proofs.Common.{slice_set, refl, sym, ap, subst, ◌∙◌, arith}
 use Rattle.std.specs.List.{concat}
 use Rattle.std.proofs.lemmas.Bool.{cases_eq, cases_lt}
 use Rattle.std.proofs.lemmas.List.{length-append, length-set, length-map, get_or-set_same, get_or-set_other}
-use Rattle.row_links.specs.Lists.{list_at, without, put_last, moved, spliced, one_if, times, node_count, HasEachOnce, IsInList}
-use Rattle.row_links.proofs.Counting.{same_once, other_never, times-append, times-without, times-without_other, length-without, without-concat, times-set, count-set, times-in_lists, one_list, some_list}
+use Rattle.row_links.specs.Lists.{list_at, without, put_last, moved, spliced, one_if, times, node_count, HasEachOnce}
+use Rattle.row_links.specs.Lists.{IsInList}
+use Rattle.row_links.proofs.Counting.{same_once, other_never, times-append, times-without, times-without_other}
+use Rattle.row_links.proofs.Counting.{length-without, without-concat, times-set, count-set, times-in_lists, one_list}
+use Rattle.row_links.proofs.Counting.{some_list}
 
 -- ---- each list
 

@@ -1,12 +1,14 @@
 -- Cells at the start: each list has one, and the first list's is named by all nodes.
-use Rattle.std.proofs.Common.{◌≡◌, ℕ, ◌+◌, ◌≤◌, ◌<◌, inl, inr, List, [], length, slice_index, slice_set, replicate, refl, sym, ap, subst, ◌∙◌, arith}
+use Rattle.std.proofs.Common.{◌≡◌, ℕ, ◌+◌, ◌≤◌, ◌<◌, inl, inr, List, [], length, slice_index, slice_set, replicate}
+use Rattle.std.proofs.Common.{refl, sym, ap, subst, ◌∙◌, arith}
 use Rattle.std.specs.List.{range_with_len}
 use Rattle.std.proofs.lemmas.Bool.{cases_eq}
 use Rattle.std.proofs.lemmas.List.{length-set, length-replicate}
 use Rattle.std.proofs.lemmas.List.FromFn.{length-range_with_len}
 use Rattle.row_links.specs.Lists.{all_in, moved, times, node_count, HasEachOnce, IsInList}
 use Rattle.row_links.specs.Cells.{AreTold, AreCells, AreOpened, IsKept}
-use Rattle.row_links.proofs.Lists.{length-moved, count-moved, each-moved, is_below, in-moved, in-moved_other, from-moved}
+use Rattle.row_links.proofs.Lists.{length-moved, count-moved, each-moved, is_below, in-moved, in-moved_other}
+use Rattle.row_links.proofs.Lists.{from-moved}
 use Rattle.row_links.proofs.Columns.{set_here, set_other, times-replicate_same, times-replicate_other, index-replicate}
 use Rattle.row_links.proofs.Splicing.{told-moved}
 use Rattle.row_links.proofs.Starting.{length-all_in, count-all_in, each-all_in, at-all_in_other, alone-at}

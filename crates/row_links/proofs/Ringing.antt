@@ -1,13 +1,17 @@
 -- Rings of nodes: what a node that leaves, one that comes and a row behind another leave.
-use Rattle.std.proofs.Common.{◌≡◌, ℕ, ◌+◌, ◌≤◌, ◌<◌, ◌⊎◌, inl, inr, List, [], ◌∷◌, ◌++◌, length, map, nat_eq, slice_index, slice_set, refl, sym, ap, subst, ◌∙◌, arith}
+use Rattle.std.proofs.Common.{◌≡◌, ℕ, ◌+◌, ◌≤◌, ◌<◌, ◌⊎◌, inl, inr, List, [], ◌∷◌, ◌++◌, length, map, nat_eq}
+use Rattle.std.proofs.Common.{slice_index, slice_set, refl, sym, ap, subst, ◌∙◌, arith}
 use Rattle.std.specs.List.{concat}
 use Rattle.std.proofs.lemmas.Bool.{cases_eq, cases_lt}
 use Rattle.std.proofs.lemmas.List.{length-set, length-map, get_or-set_same, append_assoc}
 use Rattle.row_links.specs.Lists.{list_at, without, put_last, spliced, one_if, times, IsInList}
 use Rattle.row_links.specs.Rings.{Joined, AreRings}
-use Rattle.row_links.proofs.Counting.{same_once, other_never, times-append, without-none, times-without, times-without_other, without-concat, times-in_lists, times-in_two, one_list}
-use Rattle.row_links.proofs.Lists.{list_at-without, put-here, put-other, spliced-from, spliced-to, spliced-other, length-spliced, times-put_last, times-spliced}
-use Rattle.row_links.proofs.Joining.{first_or, last_or, framed, split, glued, ends, last_in, last_or-append, ended, linked, parted, without-parted}
+use Rattle.row_links.proofs.Counting.{same_once, other_never, times-append, without-none, times-without}
+use Rattle.row_links.proofs.Counting.{times-without_other, without-concat, times-in_lists, times-in_two, one_list}
+use Rattle.row_links.proofs.Lists.{list_at-without, put-here, put-other, spliced-from, spliced-to, spliced-other}
+use Rattle.row_links.proofs.Lists.{length-spliced, times-put_last, times-spliced}
+use Rattle.row_links.proofs.Joining.{first_or, last_or, framed, split, glued, ends, last_in, last_or-append, ended}
+use Rattle.row_links.proofs.Joining.{linked, parted, without-parted}
 
 -- a point of the ring of this row
 abbrev pub IsOf : ℕ → List (List ℕ) → ℕ → ℕ → Type 0

@@ -1,5 +1,6 @@
 -- Rings: that they are the lists, and what each move does to these.
-use Rattle.std.proofs.Common.{◌≡◌, ℕ, zero, suc, ◌+◌, ◌-◌, ◌≤◌, ◌<◌, ◌⊎◌, inl, inr, List, [], ◌∷◌, ◌++◌, length, map, slice_index, slice_set, None, Some, slice_get, refl, sym, ap, subst, ◌∙◌, arith}
+use Rattle.std.proofs.Common.{◌≡◌, ℕ, zero, suc, ◌+◌, ◌-◌, ◌≤◌, ◌<◌, ◌⊎◌, inl, inr, List, [], ◌∷◌, ◌++◌, length, map}
+use Rattle.std.proofs.Common.{slice_index, slice_set, None, Some, slice_get, refl, sym, ap, subst, ◌∙◌, arith}
 use Rattle.std.specs.List.{concat}
 use Rattle.std.proofs.lemmas.Bool.{cases_eq}
 use Rattle.std.proofs.lemmas.List.{length-append, length-map, append-nil}
@@ -7,7 +8,8 @@ use Rattle.std.proofs.lemmas.List.FromFn.{get_or-map-range_with_len, length-map-
 use Rattle.row_links.specs.Lists.{list_at, without, moved, spliced, front, times, node_count, HasEachOnce, IsInList}
 use Rattle.row_links.specs.Rings.{ring, rings, AreRings, AreLinked}
 use Rattle.row_links.proofs.Counting.{same_once, times-without, without-concat}
-use Rattle.row_links.proofs.Lists.{spliced-from, spliced-to, spliced-other, length-spliced, count-moved, count-spliced, each-moved, each-spliced, in-some}
+use Rattle.row_links.proofs.Lists.{spliced-from, spliced-to, spliced-other, length-spliced, count-moved, count-spliced}
+use Rattle.row_links.proofs.Lists.{each-moved, each-spliced, in-some}
 use Rattle.row_links.proofs.Joining.{first_or, walked, ends}
 use Rattle.row_links.proofs.Ringing.{in_row, own_apart, taken_out, put_in, appended}
 

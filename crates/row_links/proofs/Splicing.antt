@@ -1,15 +1,19 @@
 -- Cells: what all nodes of a list behind another leave.
-use Rattle.std.proofs.Common.{◌≡◌, ℕ, ◌+◌, ◌<◌, ◌⊎◌, inl, inr, List, [], ◌∷◌, ◌++◌, length, slice_index, slice_set, slice_get, None, Some, refl, sym, ap, subst, ◌∙◌, arith}
+use Rattle.std.proofs.Common.{◌≡◌, ℕ, ◌+◌, ◌<◌, ◌⊎◌, inl, inr, List, [], ◌∷◌, ◌++◌, length, slice_index, slice_set}
+use Rattle.std.proofs.Common.{slice_get, None, Some, refl, sym, ap, subst, ◌∙◌, arith}
 use Rattle.std.proofs.lemmas.Bool.{cases_eq}
 use Rattle.std.proofs.lemmas.List.{length-set, append_assoc, append-nil}
 use Rattle.row_links.specs.Lists.{list_at, without, moved, spliced, front, times, node_count, HasEachOnce, IsInList}
 use Rattle.row_links.specs.Cells.{AreTold, AreCells, IsUnnamed}
 use Rattle.row_links.proofs.Counting.{without-none, times-in_lists, times-in_two, length-without}
-use Rattle.row_links.proofs.Lists.{moved-here, moved-other, spliced-from, spliced-to, spliced-other, length-moved, length-spliced, count-moved, count-spliced, each-moved, each-spliced, at_most_once, in-moved, in-moved_other, from-moved, in-spliced, in-spliced_other, from-spliced}
+use Rattle.row_links.proofs.Lists.{moved-here, moved-other, spliced-from, spliced-to, spliced-other, length-moved}
+use Rattle.row_links.proofs.Lists.{length-spliced, count-moved, count-spliced, each-moved, each-spliced, at_most_once}
+use Rattle.row_links.proofs.Lists.{in-moved, in-moved_other, from-moved, in-spliced, in-spliced_other, from-spliced}
 use Rattle.row_links.proofs.Seeing.{same_lists}
 use Rattle.row_links.proofs.Joining.{without-parted}
 use Rattle.row_links.proofs.Columns.{set_here, set_other}
 use Rattle.row_links.proofs.Celling.{front_in, not_fresh, not_named, fresh_low}
+use Rattle.racer_base.proofs.Lists.{no_first}
 
 -- ---- one cell after another
 
@@ -17,10 +21,6 @@ use Rattle.row_links.proofs.Celling.{front_in, not_fresh, not_named, fresh_low}
 first_parts : (c : ℕ) (xs : List ℕ) → slice_get xs 0 ≡ Some c → (ys : List ℕ) × (xs ≡ c ∷ ys)
 first_parts c [] e = cc
 first_parts c (x ∷ xs) e = (xs, ap (λ z. z ∷ xs) (let same : x ≡ c = cc in same))
-
-pub nothing_left : (xs : List ℕ) → slice_get xs 0 ≡ None → xs ≡ []
-nothing_left [] e = refl
-nothing_left (x ∷ xs) e = cc
 
 pub fewer_left : (from to c : ℕ) (cells : List (List ℕ)) → (from ≡ to → ⊥) → front from cells ≡ Some c →
     length (list_at (moved c to cells) from) < length (list_at cells from)
@@ -87,7 +87,7 @@ spliced_none from to cells other low_from low_to none =
     ])
   where
     empty : list_at cells from ≡ []
-    empty = nothing_left (list_at cells from) none
+    empty = no_first (list_at cells from) none
 
 pub told-moved : (c l : ℕ) (cells : List (List ℕ)) (list_of : List ℕ) → l < length cells → c < length list_of →
     AreTold cells list_of → AreTold (moved c l cells) (slice_set list_of c l)

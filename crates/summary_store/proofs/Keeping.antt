@@ -7,7 +7,6 @@ use Rattle.std.specs.Prelude.{◌↔◌}
 use Rattle.std.specs.List.{list_all}
 use Rattle.std.proofs.lemmas.List.Elements.{All-cons, All-head, All-nil, All-tail}
 use Rattle.std.proofs.lemmas.Option.{slice_get_within}
-use Rattle.core_code.proofs.BoolParts.{both, first_part, last_part}
 use Rattle.racer_base.specs.declared.ids.MethodId.{MethodId}
 use Rattle.core_code.specs.Counting.{times, IsIn}
 use Rattle.core_code.specs.Chains.{row_of}
@@ -19,6 +18,7 @@ use Rattle.summary_store.specs.Machine.{Setup, Machine, start, step, run, LegalA
 use Rattle.summary_store.specs.Machine.{IsDone}
 use Rattle.row_links.specs.Lists.{moved, spliced}
 use Rattle.std.proofs.lemmas.List.{length-map}
+use Rattle.std.proofs.lemmas.Bool.{and_from, and_parts}
 use Rattle.summary_store.specs.Lists.{numbered, next_front, next_taken, AreLists, IsRoused}
 use Rattle.summary_store.specs.Passes.{is_gone}
 use Rattle.summary_store.proofs.Listing.{roused, taken, leaves, next_is, rouses, puts_aside, wakes}
@@ -85,10 +85,6 @@ table_same [] i y low = absurd (omega arith)
 table_same (x ∷ xs) zero y low = refl
 table_same (x ∷ xs) (suc i) y low = table_same xs i y (omega arith)
 
-pub no_passes : {X : Type 0} (xs : List X) → length xs ≡ 0 → xs ≡ []
-no_passes [] none = refl
-no_passes (x ∷ xs) none = absurd (omega arith)
-
 pieces_of-append : {A P : Type 0} (value : A → P) (xs ys : List (Option A)) →
     pieces_of value (xs ++ ys) ≡ pieces_of value xs ++ pieces_of value ys
 pieces_of-append value [] ys = refl
@@ -99,7 +95,7 @@ pub pieces_of-push : {A P : Type 0} (value : A → P) (now then : List (Option A
 pieces_of-push {P = P} value now then n e f = ap (pieces_of value) e ∙ pieces_of-append value now (None ∷ [])
     ∙ ap (λ (l : List (Option P)). l ++ None ∷ []) f ∙ replicate-push n None
 
-past : {X : Type 0} (xs : List X) (i : ℕ) → slice_get xs i ≡ None → i < length xs → ⊥
+pub past : {X : Type 0} (xs : List X) (i : ℕ) → slice_get xs i ≡ None → i < length xs → ⊥
 past [] i e low = absurd (omega arith)
 past (x ∷ xs) zero e low = cc
 past (x ∷ xs) (suc i) e low = past xs i e (omega arith)
@@ -281,7 +277,7 @@ module _ {X : Type 0} {fits : ℕ → X → Type 0} {u : Setup} {h : List Event}
             (let Q : Bool → Type 0 = λ b. (m.0 == x) ≡ b → fits x p × (0 < times x (replay u h').done) in
             let f : Q (m.0 == x) = elim (m.0 == x) as Q [
               | true ↦ (λ j. let same : m.0 ≡ x = eqb_yes _ _ j in
-                  let both : Some (Some piece) ≡ Some (Some p) = sym at ∙ ap (slice_get table') same ∙ is in
+                  let same_piece : Some (Some piece) ≡ Some (Some p) = sym at ∙ ap (slice_get table') same ∙ is in
                   let this : piece ≡ p = cc in
                   let R : ℕ → X → Type 0 = λ n q. fits n q × (0 < times n (replay u h').done) in
                   let S : ℕ → Type 0 = λ n. R n p in let T : X → Type 0 = λ q. R m.0 q in
@@ -293,7 +289,7 @@ module _ {X : Type 0} {fits : ℕ → X → Type 0} {u : Setup} {h : List Event}
             (let Q : Bool → Type 0 = λ b. (m.0 == x) ≡ b → times x (replay u h').done ≡ 0 in
             let f : Q (m.0 == x) = elim (m.0 == x) as Q [
               | true ↦ (λ j. let same : m.0 ≡ x = eqb_yes _ _ j in
-                  let both : Some (Some piece) ≡ Some None = sym at ∙ ap (slice_get table') same ∙ is in cc)
+                  let same_piece : Some (Some piece) ≡ Some None = sym at ∙ ap (slice_get table') same ∙ is in cc)
               | false ↦ (λ j. let old = k.none x (sym (other x (eqb_no _ _ j)) ∙ is) in
                   let z : cond {A = ℕ} (m.0 == x) 1 0 ≡ 0 = ap (λ (b : Bool). cond {A = ℕ} b 1 0) j in
                   omega (arith, done x))
@@ -338,14 +334,14 @@ module _ {X : Type 0} {fits : ℕ → X → Type 0} {u : Setup} {h : List Event}
   all_done (m ∷ ms) there =
       let others = list_all (λ (c : MethodId). has_piece (slice_get table c.0)) ms in
       All-cons (IsDone (replay u h)) m ms
-      (there_is_done m (slice_get table m.0) refl (first_part (has_piece (slice_get table m.0)) others there))
-      (all_done ms (last_part (has_piece (slice_get table m.0)) others there))
+      (there_is_done m (slice_get table m.0) refl (and_parts (has_piece (slice_get table m.0)) others there).0)
+      (all_done ms (and_parts (has_piece (slice_get table m.0)) others there).1)
 
   all_there : (ms : List MethodId) → All (IsDone (replay u h)) ms →
       list_all (λ (c : MethodId). has_piece (slice_get table c.0)) ms ≡ true
   all_there [] done = refl
   all_there (m ∷ ms) done =
-      both (has_piece (slice_get table m.0)) (list_all (λ (c : MethodId). has_piece (slice_get table c.0)) ms)
+      and_from (has_piece (slice_get table m.0)) (list_all (λ (c : MethodId). has_piece (slice_get table c.0)) ms)
       (done_is_there m (All-head (IsDone (replay u h)) m ms done))
       (all_there ms (All-tail (IsDone (replay u h)) m ms done))
 

@@ -6,6 +6,7 @@ use Rattle.std.specs.Prelude.{slice_get, slice_set}
 use Rattle.std.proofs.lemmas.Bool.{cases_eq}
 use Rattle.std.proofs.lemmas.Option.{slice_get_within}
 use Rattle.racer_base.specs.declared.ids.MethodId.{MethodId}
+use Rattle.racer_base.proofs.Lists.{same_given}
 use Rattle.row_links.specs.Lists.{list_at, without, moved, spliced, front_taken, moved_if_some, times, node_count}
 use Rattle.row_links.specs.Lists.{IsInList}
 use Rattle.row_links.proofs.Lists.{spliced-from, spliced-to, spliced-other, length-spliced, count-spliced, each-spliced}
@@ -31,9 +32,6 @@ read_get : {X : Type 0} (xs : List X) (i : ℕ) (x : X) → i < length xs → x 
 read_get [] i x low is = absurd (omega arith)
 read_get (y ∷ ys) zero x low is = ap Some (sym is)
 read_get (y ∷ ys) (suc i) x low is = read_get ys i x (omega arith) is
-
-same_hand : (a b : Hand) (o : Option Hand) → o ≡ Some a → o ≡ Some b → a ≡ b
-same_hand a b o e f = let both : Some a ≡ Some b = sym e ∙ f in cc
 
 -- the state in which an idle callee is ready, and the one in which a method is parked
 abbrev pub roused : ℕ → Machine → Machine
@@ -79,7 +77,7 @@ module _ {u : Setup} {s : Machine} {lists : List (List ℕ)} {left : List Bool} 
       list_at then (4 + v) ≡ numbers_held hand
   held_after w old new then is here others v hand now = elim (cases_eq v w) [
     | inl e ↦ ap (λ n. list_at then (4 + n)) e ∙ here
-        ∙ ap numbers_held (same_hand new hand (slice_get (slice_set s.hands w new) w)
+        ∙ ap numbers_held (same_given new hand (slice_get (slice_set s.hands w new) w)
         (slice_get-set_same s.hands w old new is) (ap (slice_get (slice_set s.hands w new)) (sym e) ∙ now))
     | inr e ↦ let before = sym (slice_get-set_other s.hands w v new (λ q. e (sym q))) ∙ now in
         others v e (low_worker v hand before) ∙ k.held v hand before

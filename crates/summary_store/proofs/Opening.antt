@@ -2,12 +2,13 @@
 use Rattle.std.proofs.Common.{◌≡◌, ℕ, zero, suc, ◌+◌, ◌<◌, List, [], ◌∷◌, length, get_or, replicate, Option, Some}
 use Rattle.std.proofs.Common.{None, refl, sym, ap, subst, arith, length-append}
 use Rattle.std.specs.Prelude.{slice_get, All, ◌^◌}
-use Rattle.std.proofs.Common.{◌-◌, ◌≤◌, ◌++◌, ◌∙◌, Bool, false, map, take, append-nil, append_assoc}
+use Rattle.std.proofs.Common.{◌-◌, ◌++◌, ◌∙◌, Bool, false, map, take, append-nil, append_assoc}
 use Rattle.std.specs.List.{range_with_len}
 use Rattle.row_links.specs.Lists.{all_in, list_at, moved, without, times, node_count, HasEachOnce, IsInList}
-use Rattle.row_links.proofs.Counting.{times-append, times-in_lists, same_once, without-append, without-none, left_out}
+use Rattle.row_links.proofs.Counting.{times-append, times-in_lists, same_once}
 use Rattle.row_links.proofs.Lists.{at_most_once}
 use Rattle.row_links.proofs.Starting.{length-all_in, each-all_in, count-all_in, at-all_in, at-all_in_other}
+use Rattle.row_links.proofs.Joining.{without-parted}
 use Rattle.core_code.specs.Counting.{flagged}
 use Rattle.summary_store.specs.Lists.{numbers, numbers_held, AreLists, AreFirst}
 use Rattle.summary_store.specs.Machine.{start}
@@ -92,11 +93,6 @@ none_sorted flags workers n k lists n_is k_is few is = let long = length-all_in 
 rest-first : (i n : ℕ) → i < n → range_with_len i (n - i) ≡ i ∷ range_with_len (i + 1) (n - (i + 1))
 rest-first i n low = ap (range_with_len i) (let e : n - i ≡ suc (n - (i + 1)) = omega arith in e)
 
-without-middle : (x : ℕ) (xs ys : List ℕ) → times x (xs ++ x ∷ ys) ≤ 1 → without x (xs ++ x ∷ ys) ≡ xs ++ ys
-without-middle x xs ys few = let parts = times-append x xs (x ∷ ys) in let here = same_once x x refl in
-    without-append x xs (x ∷ ys)
-    ∙ (λ i. without-none x xs (omega arith) i ++ (left_out x x ys refl ∙ without-none x ys (omega arith)) i)
-
 module _ {flags : List Bool} {workers i : ℕ} {lists : List (List ℕ)} (k : AreSorted flags workers i lists)
     (low : i < length flags) (b : Bool) (flag : b ≡ get_or flags i b) where
   split : list_at lists 0 ≡ numbers (flagged 0 (take i flags)) ++ i ∷ range_with_len (i + 1) (length flags - (i + 1))
@@ -134,7 +130,7 @@ module _ {flags : List Bool} {workers i : ℕ} {lists : List (List ℕ)} (k : Ar
         nodes = v.nodes ∙ k.nodes;
         count = v.count ∙ k.count;
         few = (let few = k.few in omega (arith, v.count));
-        idle = v.left ∙ ap (without i) split ∙ without-middle i front rest (omega arith)
+        idle = v.left ∙ ap (without i) split ∙ without-parted i front rest (omega arith)
             ∙ sym (ap (λ l. l ++ rest) (more ∙ ap (λ c. front ++ numbers (flagged i (c ∷ []))) unset
             ∙ append-nil front));
         others = λ l not_idle not_analysed. v.rest l not_idle not_analysed ∙ k.others l not_idle not_analysed;

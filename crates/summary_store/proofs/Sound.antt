@@ -6,6 +6,7 @@ use Rattle.std.specs.Prelude.{◌==◌, slice_get, slice_set, replicate, ◌⊎�
 use Rattle.racer_base.specs.declared.ids.MethodId.{MethodId}
 use Rattle.core_code.specs.Counting.{weigh, times, IsIn}
 use Rattle.core_code.specs.Chains.{row_of}
+use Rattle.core_code.proofs.KindLemmas.{same_method}
 use Rattle.summary_store.specs.declared.machine.Event.{Event}
 use Rattle.summary_store.specs.declared.machine.Event.TheVariants.{Take, Park, Publish, Leave}
 use Rattle.summary_store.specs.declared.machine.Hand.{Hand}
@@ -17,7 +18,7 @@ use Rattle.summary_store.proofs.Weights.{weigh-append, weigh-set, weigh-get, tim
 use Rattle.summary_store.proofs.Weights.{times_without, firsts, pairs, times_parked, length_parked, pairs-le-firsts}
 use Rattle.summary_store.proofs.Weights.{pairs_elsewhere_same, pairs_elsewhere-le, pairs_elsewhere_other, times_taken}
 use Rattle.summary_store.proofs.Weights.{length_taken, weigh_replicate, times_idle_after-le, slice_get-set_same}
-use Rattle.summary_store.proofs.Weights.{slice_get-set_other, length-slice_set, weigh-lt-length, same_number, eqb_yes}
+use Rattle.summary_store.proofs.Weights.{slice_get-set_other, length-slice_set, weigh-lt-length, eqb_yes}
 use Rattle.summary_store.proofs.Weights.{eqb_no, eqb_same}
 
 abbrev pub held_one : ℕ → Hand → ℕ
@@ -108,7 +109,7 @@ edge_here rows m c (d ∷ ds) some row =
     let P : Bool → Type 0 = λ b. (d.0 == m.0) ≡ b →
     0 < pairs m.0 c.0 (from_row d (row_of rows d) ++ edge_list rows ds) in
     let f : P (d.0 == m.0) = elim (d.0 == m.0) as P [
-      | true ↦ (λ e. let is : m ≡ d = sym (same_number d m (eqb_yes _ _ e)) in
+      | true ↦ (λ e. let is : m ≡ d = sym (same_method d m (eqb_yes _ _ e)) in
           let Q : MethodId → Type 0 = λ k. 0 < pairs m.0 c.0 (from_row k (row_of rows k)) in
           let here = subst Q is (pair_edge m c (row_of rows m) row) in omega arith)
       | false ↦ (λ e. let z : cond {A = ℕ} (d.0 == m.0) 1 0 ≡ 0 = ap (λ (b : Bool). cond {A = ℕ} b 1 0) e in
@@ -233,11 +234,11 @@ sound_park u rank h s w m c well ok legal =
     let Q : Bool → Type 0 = λ b. (c.0 == d.0) ≡ b → m ≡ a → (cond {A = ℕ} b 1 0 ≡ 0) ⊎ ((m ≡ a) × (c ≡ d)) in
     let g : Q (c.0 == d.0) = elim (c.0 == d.0) as Q [
       | true ↦
-          (λ i j. inr (j, same_number c d (eqb_yes _ _ i)))
+          (λ i j. inr (j, same_method c d (eqb_yes _ _ i)))
       | false ↦ (λ i j. inl refl)
     ] in
     let f : P (m.0 == a.0) = elim (m.0 == a.0) as P [
-      | true ↦ (λ i. g refl (same_number m a (eqb_yes _ _ i)))
+      | true ↦ (λ i. g refl (same_method m a (eqb_yes _ _ i)))
       | false ↦
           (λ i. inl refl)
     ] in f refl) in

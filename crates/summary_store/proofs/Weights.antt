@@ -191,9 +191,6 @@ weigh-lt-length f small (x ∷ xs) zero y is none = let e : x ≡ y = cc in let 
     omega (arith, weigh-le-length f small xs)
 weigh-lt-length f small (x ∷ xs) (suc i) y is none = omega (arith, small x, weigh-lt-length f small xs i y is none)
 
-pub same_number : (m c : MethodId) → m.0 ≡ c.0 → m ≡ c
-same_number m c e = ap (λ (n : ℕ). let k : MethodId = record { 0 = n } in k) e
-
 pub eqb_yes : (a b : ℕ) → (a == b) ≡ true → a ≡ b
 eqb_yes a b e = grind (arith, nat_tests)
 

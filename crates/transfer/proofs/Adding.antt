@@ -5,6 +5,7 @@ use Rattle.std.proofs.lemmas.List.{append-nil}
 use Rattle.std.specs.FinSet as set
 use Rattle.std.specs.List.{list_any}
 use Rattle.std.specs.Ordering.{eq_by_cmp}
+use Rattle.std.proofs.Math.Bool.{or-false}
 use Rattle.access_paths.specs.declared.path.Path.{Path}
 use Rattle.access_paths.specs.Order.{PathSet, path_cmp}
 use Rattle.access_paths.specs.Same.{path_cmp-total, path_cmp-IsAntisymmetric}
@@ -19,7 +20,6 @@ use Rattle.call_subst.proofs.SameSets.{any-append, any-same_set}
 use Rattle.transfer.specs.declared.found.Found.{Found}
 use Rattle.transfer.specs.Marks.{marks, paths_after, added}
 use Rattle.transfer.proofs.JoinedResults.{joined_result-none, lost_result-none, joined_result-assoc, lost_result-assoc}
-use Rattle.transfer.proofs.Bools.{or_false}
 
 abbrev is_among : Path → List Path → Bool
 is_among q = list_any (eq_by_cmp path_cmp q)
@@ -145,7 +145,7 @@ chosen-alike l r =
           ∙ sym (any-append test (own ++ lost) returned
           ∙ ap (λ b. b || list_any test returned) (any-append test own lost)));
       result = joined_result-none (joined_result l.result r.result);
-      large = or_false (l.large || r.large);
+      large = or-false (l.large || r.large);
     }
 
 pub repeated-alike : (lost : List Path) (last : State) (body : State → Effects) →

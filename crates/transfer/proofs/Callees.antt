@@ -5,12 +5,13 @@ use Rattle.std.specs.FinSet as set
 use Rattle.std.specs.List.{list_any, enumerate_from, flat_map}
 use Rattle.std.specs.Ordering.{eq_by_cmp}
 use Rattle.std.specs.Prelude.{Result, Ok, Err, OnOk}
+use Rattle.std.proofs.Math.Bool.{or-true}
 use Rattle.indexmap.specs.IndexSet.{insert_key}
 use Rattle.racer_base.specs.declared.ids.SiteId.{SiteId}
 use Rattle.access_paths.specs.declared.path.Path.{Path}
 use Rattle.access_paths.specs.Order.{PathSet, path_cmp}
 use Rattle.access_paths.specs.Paths.{same_path}
-use Rattle.access_paths.specs.Same.{path_cmp-total, path_cmp-IsAntisymmetric, equal_of_same, same_path-itself}
+use Rattle.access_paths.specs.Same.{path_cmp-total, path_cmp-IsAntisymmetric, same_path-itself}
 use Rattle.owner_domain.specs.declared.value.Value.{Value}
 use Rattle.owner_domain.specs.declared.value.State.{State}
 use Rattle.access_domain.specs.declared.access.Access.{Access}
@@ -20,10 +21,10 @@ use Rattle.access_domain.specs.Findings.{Findings, Whole, summary_from}
 use Rattle.access_domain.specs.Flow.{both, lost_result}
 use Rattle.access_domain.specs.FlowContext.{FlowContext}
 use Rattle.access_domain.specs.Operations.{Effects, call_effects, found_effects, passed_from}
-use Rattle.access_domain.specs.Records.{same_flag, same_touch, same_key, first_of_keys, different_paths}
+use Rattle.access_domain.specs.Records.{same_key, first_of_keys, different_paths}
 use Rattle.core_code.specs.Touches.{is_write}
 use Rattle.access_domain.specs.Substitution.{Actuals, actuals_from, substituted, substituted_path, substituted_record}
-use Rattle.access_domain.proofs.AdditionLemmas.{any-push, keys_added-nil, keys_added-append, contains_added}
+use Rattle.access_domain.proofs.AdditionLemmas.{any-push, keys_added-nil, keys_added-append, contains_added, alike_keys}
 use Rattle.access_domain.proofs.Different.{from_list-different}
 use Rattle.transfer.specs.declared.found.Found.{Found}
 use Rattle.transfer.specs.declared.found.Stop.{Stop}
@@ -32,7 +33,7 @@ use Rattle.transfer.specs.declared.noted_calls.NotedCall.{NotedCall}
 use Rattle.call_subst.proofs.SameSets.{from_list-items}
 use Rattle.transfer.specs.Known.{findings_in}
 use Rattle.transfer.specs.Marks.{marks, added, paths_after, IsNoted, IsStopped, IsMarked}
-use Rattle.transfer.specs.NotedCalls.{flags, flag-itself, same_call, equal_of_same_call, call_records, call_names}
+use Rattle.transfer.specs.NotedCalls.{flag-itself, same_call, equal_of_same_call, call_records, call_names}
 use Rattle.transfer.specs.NotedCalls.{passed_by, ArePresent, IsFound}
 use Rattle.transfer.specs.NotedCalls.{AreFound, PassingCall}
 use Rattle.transfer.specs.Numbered.{read_call, read_calls}
@@ -42,7 +43,6 @@ use Rattle.transfer.proofs.EarlyEnds.{added_again}
 use Rattle.transfer.proofs.Flows.{parts-alike, marked-flow}
 use Rattle.transfer.proofs.JoinedResults.{joined_result-none, lost_result-none}
 use Rattle.transfer.proofs.Marking.{marked-then, marked-alike, stopped-first, stopped-alike}
-use Rattle.transfer.proofs.Bools.{or_true, both_true}
 
 -- ---- keys
 
@@ -51,26 +51,10 @@ key-itself x =
     (λ i. same_path-itself x.path i && flag-itself
     (is_write x.kind) i && flag-itself x.locked i && flag-itself x.main i)
 
--- what has one key has each that is the same
-alike : (x y e : Access) → same_key x y ≡ true → same_key e x ≡ same_key e y
-alike x y e h =
-    let paths = same_path x.path y.path in
-    let touches = same_touch x.kind y.kind in
-    let locks = same_flag x.locked y.locked in
-    let three = both_true (paths && touches && locks) (same_flag x.main y.main) h in
-    let two = both_true (paths && touches) locks three.0 in
-    let one = both_true paths touches two.0 in
-    let path = equal_of_same x.path y.path one.0 in
-    let touch = flags (is_write x.kind) (is_write y.kind) one.1 in
-    let lock = flags x.locked y.locked two.1 in
-    let main = flags x.main y.main three.1 in
-    (λ i. same_path e.path (path i) && same_flag (is_write e.kind) (touch i) && same_flag e.locked (lock i)
-    && same_flag e.main (main i))
-
 any-alike : (x y : Access) (old : List Access) → same_key x y ≡ true →
     list_any (λ e. same_key e x) old ≡ list_any (λ e. same_key e y) old
 any-alike x y [] h = refl
-any-alike x y (e ∷ old) h = (λ i. alike x y e h i || any-alike x y old h i)
+any-alike x y (e ∷ old) h = (λ i. alike_keys x y e h i || any-alike x y old h i)
 
 any-one : (test : Access → Bool) (old : List Access) (x : Access) → list_any test old ≡ true →
     list_any test (key_added old x) ≡ true
@@ -95,7 +79,7 @@ any-put old x a h =
       | false ↦ λ e.
           any-push (λ e. same_key e a) old x
           ∙ ap (λ b. list_any (λ e. same_key e a) old || b) h
-          ∙ or_true (list_any (λ e. same_key e a) old)
+          ∙ or-true (list_any (λ e. same_key e a) old)
     ] refl
 
 any-added : (old xs : List Access) (a : Access) → list_any (λ e. same_key e a) xs ≡ true →

@@ -13,7 +13,7 @@ use Rattle.access_domain.specs.Operations.{Effects}
 use Rattle.access_domain.specs.Flow.{rounds}
 use Rattle.access_domain.proofs.AdditionLemmas.{contains_added, paths_added-append, paths_added-empty}
 use Rattle.transfer_loops.specs.Rounds.{round_next, round_lost, IsSettled}
-use Rattle.transfer.proofs.Flows.{rounds-turn}
+use Rattle.transfer_bodies.proofs.ShorterCode.{rounds_turn}
 
 or_again : (a b : Bool) → ((a || b) || b) ≡ (a || b)
 or_again true b = refl
@@ -41,11 +41,11 @@ rounds-more body (suc k) n s =
     let end = round_next s (body s).next in
     let lost = round_lost s (body s).next in
     let first : rounds body (suc k) s ≡ ((rounds body k end).0, lost ++ (rounds body k end).1) =
-    rounds-turn body k s in
+    rounds_turn body k s in
     let rest = rounds body n (rounds body k end).0 in
     let one : suc k + n ≡ suc (k + n) = omega arith in
     ap (λ (m : ℕ). rounds body m s) one
-    ∙ rounds-turn body (k + n) s
+    ∙ rounds_turn body (k + n) s
     ∙ ap (λ (p : State × List Path). (p.0, lost ++ p.1)) (rounds-more body k n end)
     ∙ ap (λ (ps : List Path). (rest.0, ps)) (sym (append_assoc lost (rounds body k end).1 rest.1))
     ∙ ap (λ (p : State × List Path). ((rounds body n p.0).0, p.1 ++ (rounds body n p.0).1)) (sym first)
@@ -53,7 +53,7 @@ rounds-more body (suc k) n s =
 settled-state : (body : State → Effects) (n : ℕ) (s : State) → IsSettled body s → (rounds body n s).0 ≡ s
 settled-state body zero s same = refl
 settled-state body (suc n) s same =
-    ap (λ (p : State × List Path). p.0) (rounds-turn body n s)
+    ap (λ (p : State × List Path). p.0) (rounds_turn body n s)
     ∙ ap (λ (t : State). (rounds body n t).0) same
     ∙ settled-state body n s same
 
@@ -65,7 +65,7 @@ settled-lost body zero s w same = refl
 settled-lost body (suc n) s w same =
     let lost = round_lost s (body s).next in
     let all = paths_added w lost in
-    ap (λ (p : State × List Path). paths_added all p.1) (rounds-turn body n s)
+    ap (λ (p : State × List Path). paths_added all p.1) (rounds_turn body n s)
     ∙ ap (λ (t : State). paths_added all (lost ++ (rounds body n t).1)) same
     ∙ paths_added-append all lost (rounds body n s).1
     ∙ ap (λ (v : PathSet). paths_added v (rounds body n s).1) (added_again w lost)
@@ -88,7 +88,7 @@ lost_from body s k n same =
     let known = paths_added set.empty before in
     ap (λ (p : State × List Path). paths_added set.empty p.1) (rounds-more body k (suc n) s)
     ∙ paths_added-append set.empty before (rounds body (suc n) end).1
-    ∙ ap (λ (p : State × List Path). paths_added known p.1) (rounds-turn body n end)
+    ∙ ap (λ (p : State × List Path). paths_added known p.1) (rounds_turn body n end)
     ∙ ap (λ (t : State). paths_added known (lost ++ (rounds body n t).1)) same
     ∙ paths_added-append known lost (rounds body n end).1
     ∙ settled-lost body n end known same

@@ -7,7 +7,7 @@ use Rattle.std.proofs.Common.{slice_index_or, ◌⊎◌, inl, inr}
 use Rattle.std.proofs.Common.{append_assoc, add-one, replicate, get_or}
 use Rattle.std.specs.Arc.{arc_value}
 use Rattle.std.proofs.Math.Dec.{ltb}
-use Rattle.std.proofs.lemmas.Bool.{eq-eqb, ltb-true, ltb-false}
+use Rattle.std.proofs.lemmas.Bool.{eq-eqb, ltb-true, ltb-false, or_left, or_right}
 use Rattle.std.proofs.lemmas.Option.{slice_get_read, slice_get_past}
 use Rattle.std.proofs.lemmas.List.{at_drop_more, drop_all, length-map}
 use Rattle.std.specs.List.{list_any, list_all}
@@ -23,7 +23,7 @@ use Rattle.core_code.specs.CalleeRows.{rows_of}
 use Rattle.access_domain.specs.declared.summary.Outcome.{Outcome}
 use Rattle.access_domain.specs.Findings.{Known, outcome_from}
 use Rattle.access_domain.specs.Summaries.{outcome_of, outcomes_from, known_given, known_of_callees}
-use Rattle.core_code.proofs.RowCallees.{is_method, or-left, or-right, nat_eq-same, analysed_at, in_row_called}
+use Rattle.core_code.proofs.RowCallees.{is_method, nat_eq-same, analysed_at, in_row_called}
 use Rattle.transfer.specs.declared.finished.Finished.{Finished}
 use Rattle.transfer.specs.Callees.{SharedFinished, AreCallees, outcome_in}
 use Rattle.transfer.specs.Tables.{IsFinished, IsTable, finished_at}
@@ -138,7 +138,7 @@ either_true : (a b c d : Bool) → (a ≡ true → d ≡ true) → (b ≡ true �
     (d || c) ≡ true
 either_true true b c d f g e = ap (λ (x : Bool). x || c) (f refl)
 either_true false true c d f g e = ap (λ (x : Bool). x || c) (g refl)
-either_true false false c d f g e = or-right d c e
+either_true false false c d f g e = or_right d c e
 
 pub one-fewer : (fs : List SharedFinished) (f : SharedFinished) (row : List MethodId) (i : ℕ) (x n : MethodId) →
     i < length row →
@@ -158,8 +158,8 @@ all_from : (p : MethodId → Bool) (ms : List MethodId) →
     ((n : MethodId) → list_any (is_method n) ms ≡ true → p n ≡ true) → list_all p ms ≡ true
 all_from p [] h = refl
 all_from p (m ∷ ms) h = (λ i.
-    h m (or-left (nat_eq m.0 m.0) (list_any (is_method m) ms) (eq-eqb m.0 m.0 refl)) i
-    && all_from p ms (λ n e. h n (or-right (nat_eq m.0 n.0) (list_any (is_method n) ms) e)) i)
+    h m (or_left (nat_eq m.0 m.0) (list_any (is_method m) ms) (eq-eqb m.0 m.0 refl)) i
+    && all_from p ms (λ n e. h n (or_right (nat_eq m.0 n.0) (list_any (is_method n) ms) e)) i)
 
 or_none : (a b : Bool) → b ≡ false → (a || b) ≡ true → a ≡ true
 or_none true b e h = refl

@@ -33,6 +33,7 @@ use Rattle.transfer.specs.Walks.{IsFlow, next_of, is_quiet, moved}
 use Rattle.transfer.proofs.Adding.{Alike, chosen-alike, repeated-alike}
 use Rattle.transfer.proofs.Marking.{noted-then, noted-alike, noted-nothing, stopped-then, stopped-first}
 use Rattle.transfer.proofs.Marking.{stopped-alike, marked-then, marked-alike}
+use Rattle.transfer_bodies.proofs.ShorterCode.{rounds_turn}
 
 -- ---- records and wobbly paths
 
@@ -265,12 +266,6 @@ turn_at : (o : Option State) (body : State → Effects) (n : ℕ) (s : State) �
 turn_at None body n s = refl
 turn_at (Some end) body n s = refl
 
-pub rounds-turn : (body : State → Effects) (n : ℕ) (s : State) → rounds body (suc n) s ≡ (
-  (rounds body n (round_next s (body s).next)).0,
-  round_lost s (body s).next ++ (rounds body n (round_next s (body s).next)).1,
-)
-rounds-turn body n s = turn_at (body s).next body n s
-
 -- so many rounds are left, and lead to the same state and the same lost paths as all of them do from the beginning
 pub record AreRounds (body : State → Effects) (total left : ℕ) (start here : State) (old now : Found) : Type 0 where
   pub last : (rounds body left here).0 ≡ (rounds body total start).0
@@ -288,7 +283,7 @@ rounds-step body total left rest start here end old now new e at next m =
     let lost_here = round_lost here (body here).next in
     let turn : rounds body left here ≡
     ((rounds body rest next_here).0, lost_here ++ (rounds body rest next_here).1) =
-    ap (λ (k : ℕ). rounds body k here) e ∙ rounds-turn body rest here in
+    ap (λ (k : ℕ). rounds body k here) e ∙ rounds_turn body rest here in
     subst (λ (s : State). AreRounds body total rest start s old new) (sym next)
     (record {
       last = sym (ap (λ (p : State × List Path). p.0) turn) ∙ at.last;

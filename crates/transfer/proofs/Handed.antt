@@ -4,14 +4,13 @@ use Rattle.std.proofs.Common.{List, [], ◌∷◌, ◌++◌, Option, None, Some}
 use Rattle.std.proofs.Common.{refl, sym, ap, ◌∙◌, option_map, nat_eq, nat_lt, is_some, is_none}
 use Rattle.std.proofs.Common.{All, slice_get, get_or, map, length}
 use Rattle.std.proofs.Common.{arith}
-use Rattle.std.proofs.Math.Nat.{add-zero, zero-add}
-use Rattle.std.proofs.lemmas.Bool.{ltb-true}
+use Rattle.std.proofs.Math.Nat.{zero-add}
+use Rattle.std.proofs.lemmas.Bool.{ltb-true, and_parts}
 use Rattle.std.proofs.lemmas.List.Elements.{All-head, All-tail}
 use Rattle.std.specs.Arc.{arc_value}
-use Rattle.std.specs.List.{list_any, list_all, enumerate_from}
+use Rattle.std.specs.List.{list_any, list_all}
 use Rattle.std.specs.Option.{option_or, option_and_then}
 use Rattle.racer_base.specs.declared.ids.MethodId.{MethodId}
-use Rattle.core_code.specs.declared.code.Reason.{Reason}
 use Rattle.core_code.specs.Calls.{rank_of, method_at, calls_in, calls_of}
 use Rattle.core_code.specs.CallFacts.{is_above, has_ranks}
 use Rattle.core_code.specs.declared.parts.MethodCore.{MethodCore}
@@ -27,8 +26,9 @@ use Rattle.transfer.specs.Callees.{SharedFinished, AreCallees, outcome_in}
 use Rattle.transfer.specs.Known.{known_in, callee_outcome, table_of}
 use Rattle.transfer.proofs.Callees.{held}
 use Rattle.core_code.proofs.RowCallees.{is_method, nat_eq-same, analysed_at}
+use Rattle.core_code.proofs.KindLemmas.{where_analysed}
+use Rattle.core_code.proofs.NoCycles.{numbered}
 use Rattle.transfer.proofs.Tables.{outcome-agree}
-use Rattle.transfer.proofs.Bools.{both_true}
 
 -- ---- one more
 
@@ -50,10 +50,6 @@ among-push (x ∷ cs) c m =
 or-assoc : (p q r : Option Outcome) → option_or (option_or p q) r ≡ option_or p (option_or q r)
 or-assoc None q r = refl
 or-assoc (Some x) q r = refl
-
-pub or-none : (p : Option Outcome) → option_or p None ≡ p
-or-none None = refl
-or-none (Some x) = refl
 
 first_or : (b : Bool) (x : Outcome) (o : Option Outcome) → option_or (cond b (Some x) None) o ≡ cond b (Some x) o
 first_or true x o = refl
@@ -106,26 +102,11 @@ all_any : (p : MethodId → Bool) (n : MethodId) (ms : List MethodId) → list_a
     list_any (is_method n) ms ≡ true → p n ≡ true
 all_any p n [] all there = absurd cc
 all_any p n (m ∷ ms) all there =
-    let parts = both_true (p m) (list_all p ms) all in
+    let parts = and_parts (p m) (list_all p ms) all in
     elim (nat_eq m.0 n.0) as (λ b. nat_eq m.0 n.0 ≡ b → (b || list_any (is_method n) ms) ≡ true → p n ≡ true) [
       | true ↦ λ e _. ap p (sym (nat_eq-same m n e)) ∙ parts.0
       | false ↦ λ _ k. all_any p n ms parts.1 k
     ] refl there
-
-numbered : (p : ℕ × Method → Bool) (k i : ℕ) (xs : List Method) (x : Method) →
-    list_all p (enumerate_from k xs) ≡ true → slice_get xs i ≡ Some x → p (k + i, x) ≡ true
-numbered p k i [] x all is = absurd cc
-numbered p k zero (y ∷ xs) x all is =
-    let same : y ≡ x = cc in
-    (λ j. p (add-zero k j, sym same j)) ∙ (both_true (p (k, y)) (list_all p (enumerate_from (k + 1) xs)) all).0
-numbered p k (suc i) (y ∷ xs) x all is =
-    let one : k + suc i ≡ (k + 1) + i = omega arith in
-    ap (λ (n : ℕ). p (n, x)) one
-    ∙ numbered p (k + 1) i xs x (both_true (p (k, y)) (list_all p (enumerate_from (k + 1) xs)) all).1 is
-
-no_status : (o : Option Reason) (b : Bool) → is_none o ≡ true → (is_some o || b) ≡ true → b ≡ true
-no_status None b e k = k
-no_status (Some r) b e k = absurd cc
 
 callee_below : (program : Core) (m n : MethodId) (method : Method) → has_ranks program ≡ true →
     method_at program m ≡ Some method → is_none method.status ≡ true →
@@ -137,7 +118,7 @@ callee_below program m n method ranks is analysed there =
     ∙ numbered (is_above (rank_of program)) 0 m.0 program.methods method ranks is in
     ltb-true (rank_of program n) (rank_of program m)
     (all_any test n (calls_in method.code)
-    (no_status method.status (list_all test (calls_in method.code)) analysed above)
+    (where_analysed method.status (list_all test (calls_in method.code)) analysed above)
     there)
 
 pub outcome-known : (program : Core) (m : MethodId) (method : Method) (callees : List Callee)

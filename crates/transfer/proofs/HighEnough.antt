@@ -16,16 +16,13 @@ use Rattle.transfer_loops.proofs.Heights.{flow-sized, sized_pop, sized_round, si
 use Rattle.transfer_loops.proofs.Monotone.{rounds-state}
 use Rattle.transfer_loops.specs.Order.{rounded}
 use Rattle.std.specs.Prelude.{Result, Ok, Err, OnOk}
+use Rattle.std.proofs.lemmas.Bool.{and_parts}
 use Rattle.transfer.specs.declared.resuming.Passed.{Passed}
 use Rattle.transfer.specs.Resumes.{heads_in, AreLeft, IsResumed}
 use Rattle.transfer.specs.Walks.{next_of}
 use Rattle.transfer.specs.Heights.{IsHighEnough, AreSound}
 use Rattle.transfer_loops.specs.Rounds.{round_next, rounds_of}
-use Rattle.transfer.proofs.Bools.{both_true}
-
-pub some_of : (o : Option ℕ) → is_some o ≡ true → (m : ℕ) × (o ≡ Some m)
-some_of None e = cc
-some_of (Some m) e = (m, refl)
+use Rattle.racer_base.proofs.Lists.{given_some}
 
 is_high : (code : Tree) (s : State) (m : ℕ) → height_after code (length s.stack) ≡ Some m → IsHighEnough code s
 is_high code s m e = ap is_some e
@@ -34,39 +31,39 @@ sized : (s : State) → IsSized (length s.vars) (length s.stack) s
 sized s = record { vars = refl; stack = refl }
 
 pub high_first : (first rest : Tree) (s : State) → IsHighEnough (Seq first rest) s → IsHighEnough first s
-high_first first rest s e = let m = some_of (height_after (Seq first rest) (length s.stack)) e in
+high_first first rest s e = let m = given_some (height_after (Seq first rest) (length s.stack)) e in
     let at = then_heights first rest (length s.stack) m.0 m.1 in is_high first s at.0 at.1
 
 pub high_rest : (g : FlowContext) (first rest : Tree) (locked : Bool) (s t : State) → IsHighEnough (Seq first rest) s →
     (flow g first locked s).next ≡ Some t → IsHighEnough rest t
-high_rest g first rest locked s t e is = let m = some_of (height_after (Seq first rest) (length s.stack)) e in
+high_rest g first rest locked s t e is = let m = given_some (height_after (Seq first rest) (length s.stack)) e in
     let at = then_heights first rest (length s.stack) m.0 m.1 in
     let size = flow-sized g first locked (length s.vars) (length s.stack) at.0 s t at.1 (sized s) is in
     is_high rest t m.0 (ap (height_after rest) size.stack ∙ at.2)
 
 pub high_left : (left right : Tree) (s : State) → IsHighEnough (Choice left right) s → IsHighEnough left s
-high_left left right s e = let m = some_of (height_after (Choice left right) (length s.stack)) e in
+high_left left right s e = let m = given_some (height_after (Choice left right) (length s.stack)) e in
     is_high left s m.0 (either_heights left right (length s.stack) m.0 m.1).0
 
 pub high_right : (left right : Tree) (s : State) → IsHighEnough (Choice left right) s → IsHighEnough right s
-high_right left right s e = let m = some_of (height_after (Choice left right) (length s.stack)) e in
+high_right left right s e = let m = given_some (height_after (Choice left right) (length s.stack)) e in
     is_high right s m.0 (either_heights left right (length s.stack) m.0 m.1).1
 
 pub high_held : (lock : LockAt) (body : Tree) (s : State) → IsHighEnough (Sync lock body) s →
     IsHighEnough body (popped s 1)
-high_held lock body s e = let m = some_of (height_after (Sync lock body) (length s.stack)) e in
+high_held lock body s e = let m = given_some (height_after (Sync lock body) (length s.stack)) e in
     let less = sized_pop (length s.vars) (length s.stack) (length s.stack - 1) 1 s (popped s 1) (sized s) refl refl in
     is_high body (popped s 1) m.0 (ap (height_after body) less.stack
     ∙ held_heights lock body (length s.stack) m.0 m.1)
 
 pub high_body : (body : Tree) (s : State) → IsHighEnough (Loop body) s → IsHighEnough body s
-high_body body s e = let m = some_of (height_after (Loop body) (length s.stack)) e in
+high_body body s e = let m = given_some (height_after (Loop body) (length s.stack)) e in
     is_high body s (length s.stack) (loop_heights body (length s.stack) m.0 m.1).1
 
 -- a state behind a round is as high as before
 pub high_round : (g : FlowContext) (body : Tree) (locked : Bool) (s : State) → IsHighEnough (Loop body) s →
     IsHighEnough (Loop body) (round_next s (flow g body locked s).next)
-high_round g body locked s e = let n = length s.stack in let m = some_of (height_after (Loop body) n) e in
+high_round g body locked s e = let n = length s.stack in let m = given_some (height_after (Loop body) n) e in
     let at = loop_heights body n m.0 m.1 in let o = (flow g body locked s).next in
     let size : IsSized (length s.vars) n (round_next s o) =
     sized_round (length s.vars) n s o (sized s)
@@ -79,7 +76,7 @@ pub high_rounds : (g : FlowContext) (body : Tree) (locked : Bool) (s t : State) 
 high_rounds g body locked s t e is =
     let n = length s.stack in
     let v = length s.vars in
-    let m = some_of (height_after (Loop body) n) e in
+    let m = given_some (height_after (Loop body) n) e in
     let at = loop_heights body n m.0 m.1 in
     let f : State → Option State = λ x. (flow g body locked x).next in
     let size : IsSized v n (rounded f (rounds_of s) s) =
@@ -95,7 +92,7 @@ pub resumed_flow : (g : FlowContext) (body : Tree) (locked : Bool) (old new : Li
     ((resumed g body locked 0 (heads_in old) s).0 ≡ (flow g body locked s).next)
     × AreSound g body locked new (round_next s (flow g body locked s).next)
 resumed_flow g body locked old new s e sound left = let n = length s.stack in
-    let m = some_of (height_after (Loop body) n) e in let at = loop_heights body n m.0 m.1 in
+    let m = given_some (height_after (Loop body) n) e in let at = loop_heights body n m.0 m.1 in
     let o = (flow g body locked s).next in let exact =
     resumed-exact g body locked 0 n (heads_in old) s at.1 sound.0 in
     let here : IsSound g body locked 0 (heads_in new) s =
@@ -157,6 +154,6 @@ pub enough_at : (methods : List Method) (i : ℕ) (m : Method) → list_all is_s
     slice_get methods i ≡ Some m → is_stack_enough m ≡ true
 enough_at [] i m all at = cc
 enough_at (x ∷ methods) zero m all at = let same : x ≡ m = cc in
-    ap is_stack_enough (sym same) ∙ (both_true (is_stack_enough x) (list_all is_stack_enough methods) all).0
+    ap is_stack_enough (sym same) ∙ (and_parts (is_stack_enough x) (list_all is_stack_enough methods) all).0
 enough_at (x ∷ methods) (suc i) m all at =
-    enough_at methods i m (both_true (is_stack_enough x) (list_all is_stack_enough methods) all).1 at
+    enough_at methods i m (and_parts (is_stack_enough x) (list_all is_stack_enough methods) all).1 at

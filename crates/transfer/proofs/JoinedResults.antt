@@ -2,6 +2,7 @@
 use Rattle.std.proofs.Common.{◌≡◌, Bool, true, false, cond, ◌||◌, [], ◌++◌, Option, None, Some, refl, sym, ap}
 use Rattle.std.proofs.Common.{◌∙◌}
 use Rattle.std.specs.List.{list_any}
+use Rattle.std.proofs.Math.Bool.{or-false}
 use Rattle.access_paths.specs.declared.path.Path.{Path}
 use Rattle.owner_domain.specs.declared.value.Value.{Value}
 use Rattle.owner_domain.specs.declared.value.Value.TheVariants.{Owned, Named, Unnamed}
@@ -10,19 +11,9 @@ use Rattle.owner_domain.specs.Values.{names_of, same_value, joined, lost}
 use Rattle.owner_domain.proofs.Joins.{joined-itself}
 use Rattle.access_domain.specs.Flow.{joined_result, lost_result}
 use Rattle.call_subst.proofs.SameSets.{any-append}
-use Rattle.transfer.proofs.Bools.{or_false}
+use Rattle.transfer_loops.proofs.Monotone.{joined-unnamed, unnamed-joined}
 
 -- ---- joins
-
-joined-unnamed : (a : Value) → joined a Unnamed ≡ Unnamed
-joined-unnamed Owned = refl
-joined-unnamed Unnamed = refl
-joined-unnamed (Named p) = refl
-
-unnamed-joined : (a : Value) → joined Unnamed a ≡ Unnamed
-unnamed-joined Owned = refl
-unnamed-joined Unnamed = refl
-unnamed-joined (Named p) = refl
 
 joined-again : (b c : Value) → joined b c ≡ joined b (joined b c)
 joined-again b c =
@@ -178,7 +169,7 @@ joined_result-assoc (Some a) (Some b) (Some c) = ap Some (joined-assoc a b c)
 pub lost_result-assoc : (test : Path → Bool) (a b c : Option Value) →
     (list_any test (lost_result a b) || list_any test (lost_result (joined_result a b) c)) ≡
     (list_any test (lost_result b c) || list_any test (lost_result a (joined_result b c)))
-lost_result-assoc test None b c = sym (or_false (list_any test (lost_result b c)))
+lost_result-assoc test None b c = sym (or-false (list_any test (lost_result b c)))
 lost_result-assoc test (Some a) None c = refl
-lost_result-assoc test (Some a) (Some b) None = or_false (list_any test (lost a b))
+lost_result-assoc test (Some a) (Some b) None = or-false (list_any test (lost a b))
 lost_result-assoc test (Some a) (Some b) (Some c) = lost-assoc test a b c

@@ -1,5 +1,3 @@
-pub mod PartsLeft
-pub mod Bools
 pub mod JoinedResults
 pub mod Adding
 pub mod Marking

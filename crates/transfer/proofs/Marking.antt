@@ -1,10 +1,11 @@
 -- What is noted of one piece of code and then of another is noted of both.
 use Rattle.std.proofs.Common.{◌≡◌, ℕ, ◌+◌, ◌≤◌, Bool, true, false, cond, ◌||◌, List, [], ◌∷◌, ◌++◌, Option}
 use Rattle.std.proofs.Common.{Some, length, nat_lt, refl, sym, ap, ◌∙◌, arith, length-append}
-use Rattle.std.proofs.lemmas.Bool.{ltb-true, lt-ltb}
+use Rattle.std.proofs.lemmas.Bool.{ltb-true, lt-ltb, or_from}
 use Rattle.std.specs.FinSet as set
 use Rattle.std.specs.List.{list_any}
 use Rattle.std.specs.Prelude.{Result, Ok, Err}
+use Rattle.std.proofs.Math.Bool.{or-true}
 use Rattle.racer_base.specs.declared.limits.TheConstants.{MAX_SUMMARY_KEYS}
 use Rattle.access_paths.specs.declared.path.Path.{Path}
 use Rattle.access_paths.specs.Order.{PathSet}
@@ -26,13 +27,8 @@ use Rattle.transfer.specs.Marks.{IsMarked}
 use Rattle.transfer.proofs.JoinedResults.{joined_result-none, lost_result-none}
 use Rattle.transfer.proofs.Adding.{Alike, paths-both, added-both}
 use Rattle.transfer.proofs.Adding.{added-alike, paths_after-alike, added-nothing}
-use Rattle.transfer.proofs.Bools.{or_true}
 
 -- ---- tests
-
-no_or : (a b : Bool) → a ≡ false → b ≡ false → (a || b) ≡ false
-no_or true b h g = h
-no_or false b h g = g
 
 later_true : (a b m : Bool) → (b || m) ≡ true → ((a || b) || m) ≡ true
 later_true true b m h = refl
@@ -40,11 +36,11 @@ later_true false b m h = h
 
 either_more : (a b c d : Bool) → (a ≡ true → c ≡ true) → (b ≡ true → d ≡ true) → (a || b) ≡ true → (c || d) ≡ true
 either_more true b c d f g h = ap (λ (t : Bool). t || d) (f refl)
-either_more false b c d f g h = ap (λ (t : Bool). c || t) (g h) ∙ or_true c
+either_more false b c d f g h = ap (λ (t : Bool). c || t) (g h) ∙ or-true c
 
 sooner_true : (a b m n : Bool) → (m ≡ true → n ≡ true) → (a || m) ≡ true → ((a || b) || n) ≡ true
 sooner_true true b m n f h = refl
-sooner_true false b m n f h = ap (λ (t : Bool). b || t) (f h) ∙ or_true b
+sooner_true false b m n f h = ap (λ (t : Bool). b || t) (f h) ∙ or-true b
 
 lt_more : (n m : ℕ) → n ≤ m → nat_lt MAX_SUMMARY_KEYS n ≡ true → nat_lt MAX_SUMMARY_KEYS m ≡ true
 lt_more n m more h = let many = ltb-true MAX_SUMMARY_KEYS n h in lt-ltb MAX_SUMMARY_KEYS m (omega arith)
@@ -76,7 +72,7 @@ pub noted-then : (old : Found) (e : Effects) (now : Found) (f : Effects) (new : 
     IsNoted now f new → IsNoted old (both e f) new
 noted-then old e now f new m k = (
   k.0 ∙ ap (λ (g : Found). added g f) m.0 ∙ added-both old e f,
-  no_or e.large f.large m.1 k.1,
+  or_from e.large f.large m.1 k.1,
 )
 
 pub stopped-then : (old : Found) (e : Effects) (now : Found) (f : Effects) (stop : Stop) → IsNoted old e now →
@@ -157,7 +153,7 @@ full-path old p fresh full =
     ap (λ (w : PathSet). nat_lt MAX_SUMMARY_KEYS (set.len w)) same
     ∙ lt-ltb MAX_SUMMARY_KEYS (set.len (set.insert old.wobbly p)) (omega arith) in
     ap (λ (b : Bool). nat_lt MAX_SUMMARY_KEYS (length old.records) || b) many
-    ∙ or_true (nat_lt MAX_SUMMARY_KEYS (length old.records))
+    ∙ or-true (nat_lt MAX_SUMMARY_KEYS (length old.records))
 
 -- ---- whatever the answer
 
@@ -192,7 +188,3 @@ module _ {X : Type 0} where
       ap (paths_added old.wobbly) (loses ∙ sym (ap (λ (o : Option Value). lost_result o (Some v)) was)) in
       (λ i. nat_lt MAX_SUMMARY_KEYS (length old.records) || nat_lt MAX_SUMMARY_KEYS (set.len (sym wobbly i))) ∙ m
   marked-return old earlier v made names new (Err Memory) was is loses m = tt
-
-pub nothing_left : {X : Type 0} (xs : List X) (n : ℕ) → n ≡ length xs → n ≡ 0 → xs ≡ []
-nothing_left [] n e z = refl
-nothing_left (x ∷ xs) n e z = absurd (omega arith)

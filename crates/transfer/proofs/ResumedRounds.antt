@@ -15,6 +15,7 @@ use Rattle.transfer.specs.declared.resuming.Passed.{Passed}
 use Rattle.transfer.specs.Resumes.{heads_in, IsResumed, IsRound, AreResumedRounds}
 use Rattle.transfer.specs.Walks.{next_of}
 use Rattle.transfer.proofs.SameValues.{same-itself}
+use Rattle.racer_base.proofs.Tests.{different}
 
 abbrev Go : Type 0
 Go = Heads → State → Option State × Heads
@@ -86,18 +87,15 @@ round_ends go n left h later x here changed e next test heads unchanged = let al
     )
 
 -- ---- heads in a list
-apart : (i k : ℕ) → (i ≡ k → ⊥) → nat_eq i k ≡ false
-apart i k other = elim (nat_eq i k) as (λ b. nat_eq i k ≡ b → b ≡ false)
-    [ true ↦ λ e. absurd (other (eqb-true i k e)) | false ↦ λ e. refl ] refl
 
 set-head : (list : List (Option State)) (k i : ℕ) (x : State) → k < length list →
     heads_in (slice_set list k (Some x)) i ≡ put_head (heads_in list) k x i
 set-head [] k i x low = absurd (omega arith)
 set-head (h ∷ list) zero zero x low = refl
 set-head (h ∷ list) zero (suc i) x low = ap (λ b. cond b (Some x) (heads_in list i))
-    (sym (apart (suc i) 0 (λ e. absurd (let z : suc i ≡ 0 = e in omega arith))))
+    (sym (different (suc i) 0 (λ e. absurd (let z : suc i ≡ 0 = e in omega arith))))
 set-head (h ∷ list) (suc k) zero x low = ap (λ b. cond b (Some x) h)
-    (sym (apart 0 (suc k) (λ e. absurd (let z : 0 ≡ suc k = e in omega arith))))
+    (sym (different 0 (suc k) (λ e. absurd (let z : 0 ≡ suc k = e in omega arith))))
 set-head (h ∷ list) (suc k) (suc i) x low = let l : suc k < suc (length list) = low in
     set-head list k i x (omega arith) ∙ ap (λ b. cond b (Some x) (heads_in list i)) (same_suc i k)
   where

@@ -16,8 +16,9 @@ use Rattle.transfer_loops.specs.Rounds.{round_next, round_lost, rounds_of}
 use Rattle.transfer.specs.Walks.{AreRoundsDone}
 use Rattle.transfer.proofs.JoinedResults.{joined_result-none, lost_result-none}
 use Rattle.transfer.proofs.Marking.{marked-then, marked-alike, stopped-first, stopped-alike}
-use Rattle.transfer.proofs.Flows.{append-alike, AreRounds, rounds-step, rounds-turn, all_lost, here_last}
+use Rattle.transfer.proofs.Flows.{append-alike, AreRounds, rounds-step, all_lost, here_last}
 use Rattle.transfer.proofs.EarlyEnds.{added_again}
+use Rattle.transfer_bodies.proofs.ShorterCode.{rounds_turn}
 
 abbrev with_paths : Found → PathSet → Found
 with_paths found paths = record { records = found.records; wobbly = paths; result = found.result }
@@ -88,7 +89,7 @@ rounds-stopped body left rest start here later old now last stop e at m =
     let end = round_next here (body here).next in
     let lost = round_lost here (body here).next in
     let turn : (rounds body left here).1 ≡ lost ++ (rounds body rest end).1 =
-    ap (λ (p : State × List Path). p.1) (ap (λ (k : ℕ). rounds body k here) e ∙ rounds-turn body rest here) in (
+    ap (λ (p : State × List Path). p.1) (ap (λ (k : ℕ). rounds body k here) e ∙ rounds_turn body rest here) in (
       tt,
       at.leads now (Err stop)
           (subst (λ (ps : List Path). IsStopped now (marks [] ps) stop) (sym turn)

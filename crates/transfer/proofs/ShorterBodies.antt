@@ -16,7 +16,8 @@ use Rattle.transfer.specs.declared.found.Stop.{Stop}
 use Rattle.transfer.specs.Heights.{IsHighEnough}
 use Rattle.transfer.specs.Marks.{IsMarked, marks}
 use Rattle.transfer.specs.Walks.{AreRoundsDone}
-use Rattle.transfer.proofs.HighEnough.{some_of, on_ok_then, high_rounds}
+use Rattle.transfer.proofs.HighEnough.{on_ok_then, high_rounds}
+use Rattle.racer_base.proofs.Lists.{given_some}
 
 -- what is said of a shortened body, where the stack has this height
 pub record IsBody (from : ℕ) (short body : Tree) : Type 0 where
@@ -26,7 +27,7 @@ pub record IsBody (from : ℕ) (short body : Tree) : Type 0 where
 
 body_height : (body : Tree) (n : ℕ) → is_some (height_after (Loop body) n) ≡ true → height_after body n ≡ Some n
 body_height body n e =
-    let m = some_of (height_after (Loop body) n) e in
+    let m = given_some (height_after (Loop body) n) e in
     (loop_heights body n m.0 m.1).1
 
 pub rounds_whole : (g : FlowContext) (locked : Bool) (height : ℕ) (short body : Tree) (s here : State) (old new : Found)

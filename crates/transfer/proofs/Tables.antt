@@ -2,7 +2,7 @@
 use Rattle.std.proofs.Common.{◌≡◌, ℕ, zero, suc, ◌+◌, Bool, true, false, cond, ◌||◌, List}
 use Rattle.std.proofs.Common.{[], ◌∷◌, ◌++◌, Option, None, Some}
 use Rattle.std.proofs.Common.{length, refl, sym, ap, subst, ◌∙◌, option_map, nat_lt, unwrap_or}
-use Rattle.std.proofs.lemmas.Bool.{eq-eqb}
+use Rattle.std.proofs.lemmas.Bool.{eq-eqb, or_left, or_right}
 use Rattle.std.specs.FinSet as set
 use Rattle.std.specs.List.{list_any, flat_map, enumerate_from}
 use Rattle.std.specs.Ordering.{eq_by_cmp}
@@ -20,7 +20,7 @@ use Rattle.core_code.specs.declared.code.Op.TheVariants.{Set, Prim, Outside, Cal
 use Rattle.core_code.specs.Calls.{called_by, calls_in}
 use Rattle.core_code.specs.Core.{Core, Method}
 use Rattle.core_code.specs.Tree.{Tree, Op, Skip, Seq, Choice, Loop, Sync, Operation, steps_of}
-use Rattle.core_code.proofs.RowCallees.{is_method, or-left, or-right}
+use Rattle.core_code.proofs.RowCallees.{is_method}
 use Rattle.access_domain.specs.declared.summary.Summary.{Summary}
 use Rattle.access_domain.specs.declared.summary.Outcome.TheVariants as code
 use Rattle.access_domain.specs.Records.{first_of_keys, different_paths}
@@ -234,11 +234,11 @@ AreSame t u ops = (n : MethodId) → list_any (is_method n) (calls_at ops) ≡ t
 
 same-first : (t u : Table) (xs ys : List Operation) → AreSame t u (xs ++ ys) → AreSame t u xs
 same-first t u xs ys h n e = h n (any_call-append (is_method n) xs ys
-    ∙ or-left (list_any (is_method n) (calls_at xs)) (list_any (is_method n) (calls_at ys)) e)
+    ∙ or_left (list_any (is_method n) (calls_at xs)) (list_any (is_method n) (calls_at ys)) e)
 
 same-rest : (t u : Table) (xs ys : List Operation) → AreSame t u (xs ++ ys) → AreSame t u ys
 same-rest t u xs ys h n e = h n (any_call-append (is_method n) xs ys
-    ∙ or-right (list_any (is_method n) (calls_at xs)) (list_any (is_method n) (calls_at ys)) e)
+    ∙ or_right (list_any (is_method n) (calls_at xs)) (list_any (is_method n) (calls_at ys)) e)
 
 any-alone : (p : MethodId → Bool) (ms : List MethodId) → list_any p (ms ++ []) ≡ list_any p ms
 any-alone p [] = refl

@@ -4,6 +4,7 @@ use Rattle.std.proofs.Common.{unwrap_or}
 use Rattle.std.proofs.lemmas.Bool.{le-ltb}
 use Rattle.std.specs.FinSet as set
 use Rattle.racer_base.specs.declared.limits.TheConstants.{MAX_SUMMARY_KEYS}
+use Rattle.racer_base.proofs.Tests.{or_regrouped}
 use Rattle.owner_domain.specs.declared.value.Value.TheVariants.{Unnamed}
 use Rattle.access_domain.specs.declared.summary.Summary.{Summary}
 use Rattle.access_domain.specs.declared.summary.Outcome.TheVariants as code
@@ -16,7 +17,6 @@ use Rattle.access_domain.proofs.Different.{from_list-different}
 use Rattle.transfer.specs.declared.found.Found.{Found}
 use Rattle.transfer.specs.declared.found.Stop.TheVariants as stop
 use Rattle.transfer.specs.Marks.{IsNoted, IsStopped, nothing, summary_held}
-use Rattle.transfer.proofs.Bools.{or-assoc}
 
 held-findings : (e : Effects) (new : Found) → IsNoted nothing e new → summary_held new ≡ summary_from (findings_from e)
 held-findings e new m =
@@ -46,7 +46,7 @@ pub outcome-large : (e : Effects) → IsStopped nothing e stop.Large → code.La
 outcome-large e m =
     let count = ap set.len (paths_added-empty e.wobbly) ∙ len-from_list e.wobbly in
     let many : is_large e ≡ true =
-    sym (or-assoc e.large (nat_lt MAX_SUMMARY_KEYS (length (first_of_keys e.records)))
+    sym (or_regrouped e.large (nat_lt MAX_SUMMARY_KEYS (length (first_of_keys e.records)))
     (nat_lt MAX_SUMMARY_KEYS (length (different_paths e.wobbly))))
     ∙ (λ i. e.large || (nat_lt MAX_SUMMARY_KEYS (length (sym (keys_added-nil e.records) i))
     || nat_lt MAX_SUMMARY_KEYS (sym count i)))

@@ -1,5 +1,5 @@
 -- No public contract rests on this: what a flow is given, where a method is gone through.
-use Rattle.std.specs.Prelude.{Bool, List, [], ◌∷◌, None, Some, if◌then◌else◌}
+use Rattle.std.specs.Prelude.{Bool, true, List, [], ◌∷◌, None, Some, if◌then◌else◌}
 use Rattle.racer_base.specs.declared.ids.FieldId.{FieldId}
 use Rattle.racer_base.specs.declared.ids.SiteId.{SiteId}
 use Rattle.racer_base.specs.declared.ids.Touch.{Touch}
@@ -17,6 +17,16 @@ use Rattle.transfer.specs.Known.{table_of}
 
 abbrev pub given : MethodContext → FlowContext
 given context = given_of (core context.program.now) (table_of context.callees.now) context.main
+
+-- what it is for code under a lock
+abbrev pub under_lock : MethodContext → MethodContext
+under_lock context = record {
+  alloc = context.alloc;
+  program = context.program;
+  main = context.main;
+  locked = true;
+  callees = context.callees;
+}
 
 -- the effects of code there
 abbrev pub flow_in : MethodContext → Tree → State → Effects

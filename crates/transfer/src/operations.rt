@@ -12,7 +12,7 @@ ghost use Rattle.core_code.specs.declared.code.Op.TheVariants.{Get, Put};
 ghost use Rattle.core_code.specs.Program.{core};
 ghost use Rattle.access_domain.specs.Operations.{op_effects, popped, top};
 ghost use Rattle.access_domain.specs.Reached.{reached_path};
-ghost use Rattle.transfer.specs.Contexts.{given, record_reached};
+ghost use Rattle.transfer.specs.Contexts.{given, record_reached, under_lock};
 ghost use Rattle.transfer.specs.Marks.{IsMarked, marks, returns_of};
 ghost use Rattle.transfer.specs.Numbered.{read_found, AreFoundNumbers, IsBelow, IsFlowOf, named_or_unnamed};
 ghost use Rattle.owner_domain.specs.Slots.{popped_numbers};
@@ -42,6 +42,21 @@ pub struct MethodContext<'a> {
     /// Whether the code runs under a lock.
     pub locked: bool,
     pub callees: &'a [Callee],
+}
+
+impl<'a> MethodContext<'a> {
+    /// What it is for code under a lock.
+    pub(crate) fn under_lock(&self) -> MethodContext<'a>
+        ensures { result ≡ under_lock self.now }
+    {
+        MethodContext {
+            alloc: self.alloc,
+            program: self.program,
+            main: self.main,
+            locked: true,
+            callees: self.callees,
+        }
+    }
 }
 
 /// Whether an operation finds nothing and goes on.

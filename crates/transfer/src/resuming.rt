@@ -108,10 +108,7 @@ pub fn resume(
             }),
             Err(memory) => Err(memory),
         },
-        Code::Seq(parts) => {
-            let parts = parts.as_slice();
-            resume_through(context, parts, first, state, table, heads)
-        }
+        Code::Seq(parts) => resume_through(context, parts.as_slice(), first, state, table, heads),
         Code::Choice(left, right) => {
             let Ok(under) = lifted(context.alloc, code, state) else {
                 return Err(Memory);
@@ -137,13 +134,7 @@ pub fn resume(
         Code::Loop(body) => resume_loop(context, body, first, state, table, heads),
         Code::Sync(_, _, body) => {
             mem::drop(state.pop());
-            let within = MethodContext {
-                alloc: context.alloc,
-                program: context.program,
-                main: context.main,
-                locked: true,
-                callees: context.callees,
-            };
+            let within = context.under_lock();
             resume(&within, body, first, state, table, heads)
         }
     }

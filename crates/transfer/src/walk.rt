@@ -66,13 +66,7 @@ impl Walk {
             Code::Loop(body) => self.repeat(context, body, state),
             Code::Sync(_, _, body) => {
                 mem::drop(state.pop());
-                let within = MethodContext {
-                    alloc: context.alloc,
-                    program: context.program,
-                    main: context.main,
-                    locked: true,
-                    callees: context.callees,
-                };
+                let within = context.under_lock();
                 self.walk_code(&within, body, state)
             }
         }

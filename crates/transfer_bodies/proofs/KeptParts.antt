@@ -1,36 +1,28 @@
 -- What is kept of the parts of a sequence.
-use Rattle.std.proofs.Common.{◌≡◌, ℕ, Bool, true, false, not, ◌&&◌, List, [], ◌∷◌, ◌++◌, Option, None, Some, map}
+use Rattle.std.proofs.Common.{◌≡◌, ℕ, true, List, [], ◌∷◌, ◌++◌, Option, None, Some, map}
 use Rattle.std.proofs.Common.{take, refl, sym, ap, subst, ◌∙◌, append_assoc}
 use Rattle.std.proofs.lemmas.List.{take_at, map-append, take-map}
+use Rattle.std.proofs.lemmas.Bool.{and_from, and_parts}
 use Rattle.core_code.specs.declared.code.Code.{Code}
 use Rattle.core_code.specs.Tree.{Tree, tree_of, in_sequence}
 use Rattle.transfer_bodies.specs.declared.kept.Kept.{Kept}
 use Rattle.transfer_bodies.specs.declared.kept.Short.{Short}
 use Rattle.transfer_bodies.specs.Shortening.{IsShorter, IsShort, HasRun, MayHaveRun, IsKept}
 use Rattle.transfer_bodies.specs.Still.{is_still}
-use Rattle.transfer_bodies.proofs.StillCode.{both_hold}
 use Rattle.transfer_bodies.proofs.ShorterCode.{shorter-trans, shorter-more, shorter-without}
-
-pub is_yes : (b : Bool) → not b ≡ false → b ≡ true
-is_yes true e = refl
-is_yes false e = cc
-
-pub both_are : (a b : Bool) → a ≡ true → b ≡ true → (a && b) ≡ true
-both_are true b e f = f
-both_are false b e f = cc
 
 still-more : (xs : List Tree) (a : Tree) → is_still (in_sequence xs) ≡ true → is_still a ≡ true →
     is_still (in_sequence (xs ++ a ∷ [])) ≡ true
-still-more [] a e f = both_are (is_still a) true f refl
+still-more [] a e f = and_from (is_still a) true f refl
 still-more (x ∷ xs) a e f =
-    let both = both_hold (is_still x) (is_still (in_sequence xs)) e in
-    both_are (is_still x) (is_still (in_sequence (xs ++ a ∷ []))) both.0 (still-more xs a both.1 f)
+    let both = and_parts (is_still x) (is_still (in_sequence xs)) e in
+    and_from (is_still x) (is_still (in_sequence (xs ++ a ∷ []))) both.0 (still-more xs a both.1 f)
 
 still-front : (xs ys : List Tree) → is_still (in_sequence (xs ++ ys)) ≡ true → is_still (in_sequence xs) ≡ true
 still-front [] ys e = refl
 still-front (x ∷ xs) ys e =
-    let both = both_hold (is_still x) (is_still (in_sequence (xs ++ ys))) e in
-    both_are (is_still x) (is_still (in_sequence xs)) both.0 (still-front xs ys both.1)
+    let both = and_parts (is_still x) (is_still (in_sequence (xs ++ ys))) e in
+    and_from (is_still x) (is_still (in_sequence xs)) both.0 (still-front xs ys both.1)
 
 -- one still part more
 pub run-more : (from : ℕ) (parts : List Tree) (o : Option ℕ) (a : Tree) → is_still a ≡ true →

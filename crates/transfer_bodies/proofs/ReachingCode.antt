@@ -14,8 +14,8 @@ use Rattle.access_paths.specs.declared.path.Path.{Path}
 use Rattle.owner_domain.specs.declared.value.Value.{Value}
 use Rattle.owner_domain.specs.declared.value.Value.TheVariants.{Unnamed}
 use Rattle.owner_domain.specs.declared.value.State.{State}
-use Rattle.owner_domain.specs.Values.{joined, lost, names_of, joined_values, lost_values}
-use Rattle.owner_domain.specs.SameValue.{same_value-itself}
+use Rattle.owner_domain.specs.Values.{joined, lost, joined_values, lost_values}
+use Rattle.owner_domain.proofs.Joins.{joined_values-itself, lost_values-itself}
 use Rattle.core_code.specs.declared.code.Code.{Code}
 use Rattle.core_code.specs.Tree.{LockAt, Tree, Op, Skip, Seq, Choice, Loop, Sync, tree_of, in_sequence}
 use Rattle.core_code.specs.Facts.{pops, pushes, height_after}
@@ -36,27 +36,19 @@ use Rattle.transfer_bodies.specs.Reaching.{above, all_above, LeadsFrom, IsWithin
 
 -- ---- lists
 
-values_same : (us : List Value) → joined_values us us ≡ us
-values_same [] = refl
-values_same (u ∷ us) = (λ i. cond (same_value-itself u i) u Unnamed ∷ values_same us i)
-
-values_kept : (us : List Value) → lost_values us us ≡ []
-values_kept [] = refl
-values_kept (u ∷ us) = (λ i. cond (same_value-itself u i) [] (names_of u ++ names_of u) ++ values_kept us i)
-
 less : (n m : ℕ) → suc n ≡ suc m → n ≡ m
 less n m e = omega arith
 
 joined-above : (us xs ys : List Value) → length xs ≡ length ys →
     joined_values (xs ++ us) (ys ++ us) ≡ joined_values xs ys ++ us
-joined-above us [] [] e = values_same us
+joined-above us [] [] e = joined_values-itself us
 joined-above us [] (y ∷ ys) e = absurd (let z : 0 ≡ suc (length ys) = e in omega arith)
 joined-above us (x ∷ xs) [] e = absurd (let z : suc (length xs) ≡ 0 = e in omega arith)
 joined-above us (x ∷ xs) (y ∷ ys) e =
     ap (λ (vs : List Value). joined x y ∷ vs) (joined-above us xs ys (less (length xs) (length ys) e))
 
 lost-above : (us xs ys : List Value) → length xs ≡ length ys → lost_values (xs ++ us) (ys ++ us) ≡ lost_values xs ys
-lost-above us [] [] e = values_kept us
+lost-above us [] [] e = lost_values-itself us
 lost-above us [] (y ∷ ys) e = absurd (let z : 0 ≡ suc (length ys) = e in omega arith)
 lost-above us (x ∷ xs) [] e = absurd (let z : suc (length xs) ≡ 0 = e in omega arith)
 lost-above us (x ∷ xs) (y ∷ ys) e =
@@ -154,7 +146,11 @@ module _ (us : List Value) (s : State) where
     op-above (Put f) low = put-above f low
     op-above (Set x) low =
         (λ i. record {
-          next = Some (let made : State = record { vars = slice_set s.vars x.0 (slot_is 0 low i); stack = s.stack ++ us }
+          next = Some (let made : State = record {
+            vars = slice_set s.vars x.0 (slot_is 0 low i);
+            stack =
+                s.stack ++ us;
+          }
               in made);
           records = [];
           wobbly = [];
@@ -257,7 +253,8 @@ flow-above g (Seq first rest) locked us h k s none high long =
 flow-above g (Choice left right) locked us h k s none high long =
     let no = nothing_left (loops left) (loops right) none in
     let m = either_heights left right h k high in
-    (λ i. chosen (flow-above g left locked us h k s no.0 m.0 long i) (flow-above g right locked us h k s no.1 m.1 long i))
+    (λ i. chosen (flow-above g left locked us h k s no.0 m.0 long i)
+    (flow-above g right locked us h k s no.1 m.1 long i))
     ∙ chosen-above us (flow g left locked s) (flow g right locked s) k
     (λ t is. (flow-sized g left locked (length s.vars) h k s t m.0 (sized s h long) is).stack)
     (λ t is. (flow-sized g right locked (length s.vars) h k s t m.1 (sized s h long) is).stack)
@@ -312,7 +309,8 @@ is-within height to code high none =
           ∙ ap (λ (e : Effects). (let p : Option State × Heads = (e.next, h) in p))
           (flow-above g code locked us height to s none high long)
           ∙ sym (ap (λ (p : Option State × Heads).
-          (let q : Option State × Heads = (option_map (above us) p.0, p.1) in q)) (resumed-plain g code locked k h s none));
+          (let q : Option State × Heads = (option_map (above us) p.0, p.1) in q))
+          (resumed-plain g code locked k h s none));
     }
 
 -- ---- heights

@@ -78,7 +78,7 @@ shorter-held h k lock a c e p =
     }
 
 -- one round, and those behind it
-rounds_turn : (body : State → Effects) (n : ℕ) (s : State) → rounds body (suc n) s ≡ (
+pub rounds_turn : (body : State → Effects) (n : ℕ) (s : State) → rounds body (suc n) s ≡ (
   (rounds body n (round_next s (body s).next)).0,
   round_lost s (body s).next ++ (rounds body n (round_next s (body s).next)).1,
 )

@@ -1,13 +1,14 @@
 -- Code that sets no variable and does not return goes on with the variables as they were.
-use Rattle.std.proofs.Common.{◌≡◌, ℕ, zero, suc, Bool, true, false, cond, ◌&&◌, List, [], ◌∷◌, Option, None, Some}
-use Rattle.std.proofs.Common.{length, refl, sym, ap, subst, ◌∙◌, arith}
+use Rattle.std.proofs.Common.{◌≡◌, ℕ, zero, suc, Bool, true, List, Option, None, Some}
+use Rattle.std.proofs.Common.{length, refl, sym, ap, subst, ◌∙◌}
+use Rattle.std.proofs.lemmas.Bool.{and_parts}
 use Rattle.racer_base.specs.declared.ids.SiteId.{SiteId}
 use Rattle.racer_base.specs.declared.ids.MethodId.{MethodId}
+use Rattle.racer_base.proofs.Lists.{no_items}
 use Rattle.owner_domain.specs.declared.value.Value.{Value}
-use Rattle.owner_domain.specs.declared.value.Value.TheVariants.{Unnamed}
 use Rattle.owner_domain.specs.declared.value.State.{State}
 use Rattle.owner_domain.specs.Values.{joined_values}
-use Rattle.owner_domain.specs.SameValue.{same_value-itself}
+use Rattle.owner_domain.proofs.Joins.{joined_values-itself}
 use Rattle.core_code.specs.Tree.{Tree, Op, Skip, Seq, Choice, Loop, Sync}
 use Rattle.core_code.specs.Facts.{height_after}
 use Rattle.core_code.specs.declared.code.Op.{Op as CoreOp}
@@ -53,15 +54,11 @@ still-op g locked site (Unread m n) s e = refl
 still-op g locked site Ret s e = cc
 still-op g locked site Throw s e = cc
 
-joined_same : (vars : List Value) → joined_values vars vars ≡ vars
-joined_same [] = refl
-joined_same (v ∷ vars) = (λ i. cond (same_value-itself v i) v Unnamed ∷ joined_same vars i)
-
 still-joined : (vars : List Value) (a b : Option State) → EndsWith vars a → EndsWith vars b →
     EndsWith vars (joined_next a b)
 still-joined vars None b p q = absurd p
 still-joined vars (Some a) None p q = absurd q
-still-joined vars (Some a) (Some b) p q = (λ i. joined_values (p i) (q i)) ∙ joined_same vars
+still-joined vars (Some a) (Some b) p q = (λ i. joined_values (p i) (q i)) ∙ joined_values-itself vars
 
 still-then : (vars : List Value) (o : Option State) (f : State → Option State) → EndsWith vars o →
     ((t : State) → t.vars ≡ vars → EndsWith vars (f t)) → EndsWith vars (after_next o f)
@@ -71,7 +68,7 @@ still-then vars (Some t) f p rest = rest t p
 still-round : (vars : List Value) (s : State) (o : Option State) → s.vars ≡ vars → EndsWith vars o →
     (round_next s o).vars ≡ vars
 still-round vars s None same p = same
-still-round vars s (Some t) same p = (λ i. joined_values (same i) (p i)) ∙ joined_same vars
+still-round vars s (Some t) same p = (λ i. joined_values (same i) (p i)) ∙ joined_values-itself vars
 
 still-rounds : (vars : List Value) (f : State → Option State) →
     ((t : State) → t.vars ≡ vars → EndsWith vars (f t)) → (n : ℕ) (s : State) → s.vars ≡ vars →
@@ -80,24 +77,19 @@ still-rounds vars f keep zero s same = same
 still-rounds vars f keep (suc n) s same =
     still-rounds vars f keep n (round_next s (f s)) (still-round vars s (f s) same (keep s same))
 
-pub both_hold : (a b : Bool) → (a && b) ≡ true → (a ≡ true) × (b ≡ true)
-both_hold true true e = (refl, refl)
-both_hold true false e = cc
-both_hold false b e = cc
-
 still-flow : (g : FlowContext) (code : Tree) (locked : Bool) (vars : List Value) (s : State) → is_still code ≡ true →
     s.vars ≡ vars → EndsWith vars (flow g code locked s).next
 still-flow g (Op site place op) locked vars s e same =
     subst (λ (vs : List Value). EndsWith vs (op_effects g locked site op s).next) same (still-op g locked site op s e)
 still-flow g Skip locked vars s e same = same
 still-flow g (Seq first rest) locked vars s e same =
-    let both = both_hold (is_still first) (is_still rest) e in
+    let both = and_parts (is_still first) (is_still rest) e in
     let o = (flow g first locked s).next in
     subst (EndsWith vars) (sym (next-after (flow g first locked s) (flow g rest locked) o refl))
     (still-then vars o (λ t. (flow g rest locked t).next) (still-flow g first locked vars s both.0 same)
     (λ t is. still-flow g rest locked vars t both.1 is))
 still-flow g (Choice left right) locked vars s e same =
-    let both = both_hold (is_still left) (is_still right) e in
+    let both = and_parts (is_still left) (is_still right) e in
     still-joined vars (flow g left locked s).next (flow g right locked s).next
     (still-flow g left locked vars s both.0 same) (still-flow g right locked vars s both.1 same)
 still-flow g (Loop body) locked vars s e same =
@@ -106,13 +98,9 @@ still-flow g (Loop body) locked vars s e same =
     ∙ still-rounds vars f (λ t is. still-flow g body locked vars t e is) (rounds_of s) s same
 still-flow g (Sync place body) locked vars s e same = still-flow g body true vars (popped s 1) e same
 
-no_values : (vs : List Value) → length vs ≡ 0 → vs ≡ []
-no_values [] e = refl
-no_values (v ∷ vs) e = absurd (let z : length (v ∷ vs) ≡ 0 = e in omega arith)
-
 same_ends : (s t : State) → t.vars ≡ s.vars → length s.stack ≡ 0 → length t.stack ≡ 0 → t ≡ s
 same_ends s t vars none no_more =
-    (λ i. record { vars = vars i; stack = (no_values t.stack no_more ∙ sym (no_values s.stack none)) i })
+    (λ i. record { vars = vars i; stack = (no_items t.stack no_more ∙ sym (no_items s.stack none)) i })
 
 -- still code from an empty stack to an empty one
 pub still-end : (g : FlowContext) (code : Tree) (locked : Bool) (s : State) → is_still code ≡ true →

@@ -1,10 +1,13 @@
 -- What is made of code is shorter than it.
 use Rattle.std.proofs.Common.{◌≡◌, ℕ, ◌+◌, ◌-◌, ◌<◌, ◌≤◌, Bool, true, false, cond, ◌&&◌, List, [], ◌∷◌, ◌++◌}
-use Rattle.std.proofs.Common.{Option, None, Some, length, map, take, drop, get_or, nat_le, is_some, refl, sym, ap}
+use Rattle.std.proofs.Common.{None, Some, length, map, take, drop, get_or, nat_le, is_some, refl, sym, ap}
 use Rattle.std.proofs.Common.{subst, ◌∙◌}
 use Rattle.std.proofs.lemmas.List.{at_drop_more, at_drop_all, take_more, take_all, map-append}
 use Rattle.std.specs.Prelude.{Result, Ok, Err, IfOk}
+use Rattle.std.proofs.lemmas.Bool.{and_from, and_parts}
+use Rattle.std.proofs.lemmas.Option.{same_Some}
 use Rattle.racer_base.specs.declared.Memory.{Memory}
+use Rattle.racer_base.proofs.Lists.{given_some}
 use Rattle.owner_domain.specs.declared.value.State.{State}
 use Rattle.core_code.specs.declared.code.Code.{Code}
 use Rattle.core_code.specs.Tree.{LockAt, Tree, Skip, Seq, Choice, Loop, Sync, tree_of, in_sequence}
@@ -16,9 +19,7 @@ use Rattle.transfer_bodies.specs.declared.kept.Kept.{Kept}
 use Rattle.transfer_bodies.specs.declared.kept.Short.{Short}
 use Rattle.transfer_bodies.specs.Shortening.{IsShorter, IsShort, IsShortened, IsKept}
 use Rattle.transfer_bodies.specs.Still.{is_still}
-use Rattle.transfer_bodies.proofs.StillCode.{both_hold}
 use Rattle.transfer_bodies.proofs.ShorterCode.{shorter-either, shorter-again, shorter-held}
-use Rattle.transfer_bodies.proofs.KeptParts.{both_are}
 
 -- what is made, by what its parts are made of
 short-made : (from to : ℕ) (code made : Tree) (height : ℕ) (still : Bool) (short : Short) → tree_of short.code ≡ made →
@@ -45,8 +46,8 @@ shortened-choice from left right a b (Ok short) p q is high same = λ to e.
     (a.is_still && b.is_still) short is high same one.height
     (shorter-either from to (tree_of a.code) (tree_of b.code) left right one.shorter two.shorter)
     (λ f.
-    let both = both_hold a.is_still b.is_still f in
-    both_are (is_still (tree_of a.code)) (is_still (tree_of b.code)) (one.still both.0) (two.still both.1))
+    let both = and_parts a.is_still b.is_still f in
+    and_from (is_still (tree_of a.code)) (is_still (tree_of b.code)) (one.still both.0) (two.still both.1))
 
 pub shortened-loop : (from : ℕ) (body : Tree) (a : Short) (r : Result Short Memory) → IsShortened from body a →
     IfOk r (λ short. tree_of short.code ≡ Loop (tree_of a.code)) → IfOk r (λ short. short.height ≡ a.height) →
@@ -118,9 +119,6 @@ walks-on from parts i part old new short within is w p keep high to e =
       left = ap (height_after rest) (high ∙ one.height) ∙ heights.2;
     }
 
-some_same : (a b : ℕ) → Some a ≡ Some b → a ≡ b
-some_same a b e = cc
-
 pub walks-all : (from : ℕ) (parts : List Code) (i : ℕ) (kept : Kept) (short : Short) → length parts ≤ i →
     Walks from parts i kept →
     ((begin end : ℕ) (done : List Tree) → IsKept begin done kept → kept.height ≡ end →
@@ -130,24 +128,21 @@ walks-all from parts i kept short all w join to e =
     let none : in_sequence (map tree_of (drop i parts)) ≡ Skip =
     at_drop_all (λ ps. in_sequence (map tree_of ps)) parts i all in
     let end : kept.height ≡ to =
-    some_same kept.height to (ap (λ (t : Tree). height_after t kept.height) (sym none) ∙ at.left) in
+    same_Some kept.height to (ap (λ (t : Tree). height_after t kept.height) (sym none) ∙ at.left) in
     subst (λ (ps : List Code). IsShort from to (in_sequence (map tree_of ps)) short) (take_all i parts all)
     (join from to (map tree_of (take i parts)) at.before end)
 
 -- ---- what callers are told
-some_of : (o : Option ℕ) → is_some o ≡ true → (m : ℕ) × (o ≡ Some m)
-some_of None e = cc
-some_of (Some m) e = (m, refl)
 
 pub shortened-height : (from : ℕ) (code : Tree) (short : Short) → IsShortened from code short →
     is_some (height_after code from) ≡ true → height_after (tree_of short.code) from ≡ height_after code from
 shortened-height from code short p e =
-    let m = some_of (height_after code from) e in
+    let m = given_some (height_after code from) e in
     (p m.0 m.1).shorter.height ∙ sym m.1
 
 pub shortened-next : (from : ℕ) (code : Tree) (short : Short) → IsShortened from code short → (g : FlowContext)
     (locked : Bool) (s : State) → length s.stack ≡ from → is_some (height_after code from) ≡ true →
     (flow g (tree_of short.code) locked s).next ≡ (flow g code locked s).next
 shortened-next from code short p g locked s long e =
-    let m = some_of (height_after code from) e in
+    let m = given_some (height_after code from) e in
     (p m.0 m.1).shorter.next g locked s long

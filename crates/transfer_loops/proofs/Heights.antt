@@ -1,12 +1,15 @@
 -- The flow keeps the number of variables, and ends with the stack that the code's height tells.
-use Rattle.std.proofs.Common.{◌≡◌, ℕ, zero, suc, ◌+◌, ◌-◌, ◌≤◌, Bool, true, false, cond, List, [], ◌∷◌, Option, None, Some, length, nat_eq, nat_le, refl, sym, ap, subst, ◌∙◌, arith}
+use Rattle.std.proofs.Common.{◌≡◌, ℕ, zero, suc, ◌+◌, ◌-◌, ◌≤◌, Bool, true, false, cond, List, Option, None, Some}
+use Rattle.std.proofs.Common.{length, nat_eq, nat_le, refl, sym, ap, subst, ◌∙◌, arith}
 use Rattle.std.proofs.lemmas.List.{length-drop, length-set}
 use Rattle.std.proofs.lemmas.Bool.{leb-true, eqb-true}
+use Rattle.std.proofs.lemmas.Option.{same_Some, cond_some}
 use Rattle.racer_base.specs.declared.ids.SiteId.{SiteId}
 use Rattle.racer_base.specs.declared.ids.MethodId.{MethodId}
 use Rattle.owner_domain.specs.declared.value.Value.{Value}
 use Rattle.owner_domain.specs.declared.value.State.{State}
 use Rattle.owner_domain.specs.Values.{joined_values, joined_state}
+use Rattle.owner_domain.proofs.Joins.{length-joined_values}
 use Rattle.core_code.specs.Tree.{LockAt, Tree, Op, Skip, Seq, Choice, Loop, Sync}
 use Rattle.core_code.specs.Facts.{pops, pushes, same_height, height_after}
 use Rattle.core_code.specs.declared.code.Op.{Op as CoreOp}
@@ -24,10 +27,6 @@ use Rattle.transfer_loops.proofs.Monotone.{rounds-state, after_next, next-after}
 pub record IsSized (v h : ℕ) (s : State) : Type 0 where
   pub vars : length s.vars ≡ v
   pub stack : length s.stack ≡ h
-
-if_some : (b : Bool) (x k : ℕ) → cond b (Some x) None ≡ Some k → (b ≡ true) × (x ≡ k)
-if_some true x k e = (refl, cc)
-if_some false x k e = cc
 
 sized_push : (v h k : ℕ) (s t : State) (a : Value) → IsSized v h s → h + 1 ≡ k → Some (pushed s a) ≡ Some t →
     IsSized v k t
@@ -62,35 +61,35 @@ sized_set v h k s t vars long p e is = let same : (let made : State = record { v
 sized_op : (g : FlowContext) (locked : Bool) (site : SiteId) (op : CoreOp) (v h k : ℕ) (s t : State) → IsSized v h s →
     cond (nat_le (pops op) h) (Some (h - pops op + pushes op)) None ≡ Some k →
     (op_effects g locked site op s).next ≡ Some t → IsSized v k t
-sized_op g locked site (Push x) v h k s t p e is = let r = if_some (nat_le 0 h) (h - 0 + 1) k e in
+sized_op g locked site (Push x) v h k s t p e is = let r = cond_some (nat_le 0 h) (h - 0 + 1) k e in
     sized_push v h k s t _ p (let i : h - 0 + 1 ≡ k = r.1 in omega arith) is
-sized_op g locked site (PushClass c) v h k s t p e is = let r = if_some (nat_le 0 h) (h - 0 + 1) k e in
+sized_op g locked site (PushClass c) v h k s t p e is = let r = cond_some (nat_le 0 h) (h - 0 + 1) k e in
     sized_push v h k s t _ p (let i : h - 0 + 1 ≡ k = r.1 in omega arith) is
-sized_op g locked site PushPrim v h k s t p e is = let r = if_some (nat_le 0 h) (h - 0 + 1) k e in
+sized_op g locked site PushPrim v h k s t p e is = let r = cond_some (nat_le 0 h) (h - 0 + 1) k e in
     sized_push v h k s t _ p (let i : h - 0 + 1 ≡ k = r.1 in omega arith) is
-sized_op g locked site PushNull v h k s t p e is = let r = if_some (nat_le 0 h) (h - 0 + 1) k e in
+sized_op g locked site PushNull v h k s t p e is = let r = cond_some (nat_le 0 h) (h - 0 + 1) k e in
     sized_push v h k s t _ p (let i : h - 0 + 1 ≡ k = r.1 in omega arith) is
-sized_op g locked site (New c) v h k s t p e is = let r = if_some (nat_le 0 h) (h - 0 + 1) k e in
+sized_op g locked site (New c) v h k s t p e is = let r = cond_some (nat_le 0 h) (h - 0 + 1) k e in
     sized_push v h k s t _ p (let i : h - 0 + 1 ≡ k = r.1 in omega arith) is
-sized_op g locked site Dup v h k s t p e is = let r = if_some (nat_le 1 h) (h - 1 + 2) k e in
+sized_op g locked site Dup v h k s t p e is = let r = cond_some (nat_le 1 h) (h - 1 + 2) k e in
     let some : 1 ≤ h = leb-true 1 h r.0 in sized_push v h k s t _ p (let i : h - 1 + 2 ≡ k = r.1 in omega arith) is
-sized_op g locked site Drop v h k s t p e is = let r = if_some (nat_le 1 h) (h - 1 + 0) k e in
+sized_op g locked site Drop v h k s t p e is = let r = cond_some (nat_le 1 h) (h - 1 + 0) k e in
     sized_pop v h k 1 s t p (let i : h - 1 + 0 ≡ k = r.1 in omega arith) is
-sized_op g locked site (Get f) v h k s t p e is = let r = if_some (nat_le 1 h) (h - 1 + 1) k e in
+sized_op g locked site (Get f) v h k s t p e is = let r = cond_some (nat_le 1 h) (h - 1 + 1) k e in
     sized_replace v h k 1 s t _ p r.1 is
-sized_op g locked site (Put f) v h k s t p e is = let r = if_some (nat_le 2 h) (h - 2 + 1) k e in
+sized_op g locked site (Put f) v h k s t p e is = let r = cond_some (nat_le 2 h) (h - 2 + 1) k e in
     sized_replace v h k 2 s t _ p r.1 is
-sized_op g locked site (Set x) v h k s t p e is = let r = if_some (nat_le 1 h) (h - 1 + 1) k e in
+sized_op g locked site (Set x) v h k s t p e is = let r = cond_some (nat_le 1 h) (h - 1 + 1) k e in
     let some : 1 ≤ h = leb-true 1 h r.0 in sized_set v h k s t _ (length-set s.vars x.0 _) p
     (let i : h - 1 + 1 ≡ k = r.1 in omega arith) is
 sized_op g locked site (PrimOp n) v h k s t p e is =
-    sized_replace v h k n s t _ p (if_some (nat_le n h) (h - n + 1) k e).1 is
+    sized_replace v h k n s t _ p (cond_some (nat_le n h) (h - n + 1) k e).1 is
 sized_op g locked site (Outside n) v h k s t p e is =
-    sized_replace v h k n s t _ p (if_some (nat_le n h) (h - n + 1) k e).1 is
+    sized_replace v h k n s t _ p (cond_some (nat_le n h) (h - n + 1) k e).1 is
 sized_op g locked site (Call m n) v h k s t p e is =
-    sized_call g locked site m n (g.known_of m) v h k s t p (if_some (nat_le n h) (h - n + 1) k e).1 is
+    sized_call g locked site m n (g.known_of m) v h k s t p (cond_some (nat_le n h) (h - n + 1) k e).1 is
 sized_op g locked site (Unread m n) v h k s t p e is =
-    sized_replace v h k n s t _ p (if_some (nat_le n h) (h - n + 1) k e).1 is
+    sized_replace v h k n s t _ p (cond_some (nat_le n h) (h - n + 1) k e).1 is
 sized_op g locked site Ret v h k s t p e is = cc
 sized_op g locked site Throw v h k s t p e is = cc
 
@@ -105,20 +104,17 @@ then_heights first rest h k e = elim (height_after first h)
 same_heights : (a b : Option ℕ) (k : ℕ) → same_height a b ≡ Some k → (a ≡ Some k) × (b ≡ Some k)
 same_heights None b k e = cc
 same_heights (Some a) None k e = cc
-same_heights (Some a) (Some b) k e = let r = if_some (nat_eq a b) a k e in
+same_heights (Some a) (Some b) k e = let r = cond_some (nat_eq a b) a k e in
     (ap Some r.1, ap Some (sym (eqb-true a b r.0) ∙ r.1))
 
 pub either_heights : (left right : Tree) (h k : ℕ) → height_after (Choice left right) h ≡ Some k →
     (height_after left h ≡ Some k) × (height_after right h ≡ Some k)
 either_heights left right h k e = same_heights (height_after left h) (height_after right h) k e
 
-some_same : (a b : ℕ) → Some a ≡ Some b → a ≡ b
-some_same a b e = cc
-
 pub loop_heights : (body : Tree) (h k : ℕ) → height_after (Loop body) h ≡ Some k → (h ≡ k)
     × (height_after body h ≡ Some h)
 loop_heights body h k e = let r = same_heights (Some h) (height_after body h) k e in
-    let same : h ≡ k = some_same h k r.0 in (same, r.1 ∙ ap Some (sym same))
+    let same : h ≡ k = same_Some h k r.0 in (same, r.1 ∙ ap Some (sym same))
 
 pub held_heights : (lock : LockAt) (body : Tree) (h k : ℕ) → height_after (Sync lock body) h ≡ Some k →
     height_after body (h - 1) ≡ Some k
@@ -127,18 +123,12 @@ held_heights lock body h k e = elim (nat_le 1 h)
     [ true ↦ λ f. f | false ↦ λ f. cc ] e
 
 -- ---- joins and rounds
-pub joined_long : (xs ys : List Value) → length xs ≡ length ys → length (joined_values xs ys) ≡ length xs
-joined_long [] [] e = refl
-joined_long [] (y ∷ ys) e = refl
-joined_long (x ∷ xs) [] e = absurd (let z : length (x ∷ xs) ≡ 0 = e in omega arith)
-joined_long (x ∷ xs) (y ∷ ys) e = let l : suc (length xs) ≡ suc (length ys) = e in
-    ap (λ n. suc n) (joined_long xs ys (omega arith))
 
 pub sized_join : (v h : ℕ) (s t : State) → IsSized v h s → IsSized v h t → IsSized v h (joined_state s t)
 sized_join v h s t p q = record {
-  vars = joined_long s.vars t.vars (p.vars ∙ sym q.vars) ∙ p.vars;
+  vars = length-joined_values s.vars t.vars (p.vars ∙ sym q.vars) ∙ p.vars;
   stack =
-      joined_long s.stack t.stack (p.stack ∙ sym q.stack) ∙ p.stack;
+      length-joined_values s.stack t.stack (p.stack ∙ sym q.stack) ∙ p.stack;
 }
 
 pub sized_round : (v h : ℕ) (s : State) (o : Option State) → IsSized v h s →
@@ -169,7 +159,7 @@ sized_then v k (Some u) f t P first rest is = rest u (first u refl) is
 pub flow-sized : (g : FlowContext) (code : Tree) (locked : Bool) (v h k : ℕ) (s t : State) →
     height_after code h ≡ Some k → IsSized v h s → (flow g code locked s).next ≡ Some t → IsSized v k t
 flow-sized g (Op site place op) locked v h k s t e p is = sized_op g locked site op v h k s t p e is
-flow-sized g Skip locked v h k s t e p is = let same : s ≡ t = cc in let high : h ≡ k = some_same h k e in
+flow-sized g Skip locked v h k s t e p is = let same : s ≡ t = cc in let high : h ≡ k = same_Some h k e in
     subst (IsSized v k) same (subst (λ (n : ℕ). IsSized v n s) high p)
 flow-sized g (Seq first rest) locked v h k s t e p is = let m = then_heights first rest h k e in
     sized_then v k (flow g first locked s).next (λ x. (flow g rest locked x).next) t (IsSized v m.0)

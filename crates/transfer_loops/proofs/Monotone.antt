@@ -1,5 +1,6 @@
 -- The flow keeps the order of states.
-use Rattle.std.proofs.Common.{◌≡◌, ℕ, zero, suc, ◌+◌, inl, inr, Bool, true, false, cond, List, [], ◌∷◌, ◌++◌, Option, None, Some, length, drop, take, refl, sym, ap, subst, ◌∙◌}
+use Rattle.std.proofs.Common.{◌≡◌, ℕ, zero, suc, ◌+◌, inl, inr, Bool, true, false, cond, List, [], ◌∷◌, ◌++◌, Option}
+use Rattle.std.proofs.Common.{None, Some, length, drop, take, refl, sym, ap, subst, ◌∙◌}
 use Rattle.std.specs.Prelude.{slice_index_or, slice_set}
 use mathlib.Core.List.{reverse_aux}
 use Rattle.racer_base.specs.declared.ids.FieldId.{FieldId}
@@ -12,7 +13,9 @@ use Rattle.owner_domain.specs.declared.value.Value.{Value}
 use Rattle.owner_domain.specs.declared.value.Value.TheVariants.{Owned, Named, Unnamed}
 use Rattle.owner_domain.specs.declared.value.State.{State}
 use Rattle.owner_domain.specs.Values.{joined, joined_values, joined_state, lost_state, same_value, field_value, along}
-use Rattle.owner_domain.specs.SameValue.{equal_of_same_value, same_value-itself}
+use Rattle.owner_domain.specs.SameValue.{equal_of_same_value}
+use Rattle.owner_domain.proofs.Along.{along-unnamed}
+use Rattle.owner_domain.proofs.Joins.{joined-itself}
 use Rattle.core_code.specs.Tree.{Tree, Op, Skip, Seq, Choice, Loop, Sync}
 use Rattle.core_code.specs.declared.code.Op.{Op as CoreOp}
 use Rattle.core_code.specs.declared.code.Op.TheVariants.{Push, PushClass, PushPrim, PushNull, New, Dup, Drop, Get, Put}
@@ -20,7 +23,8 @@ use Rattle.core_code.specs.declared.code.Op.TheVariants.{Set, Prim as PrimOp, Ou
 use Rattle.access_domain.specs.FlowContext.{FlowContext}
 use Rattle.access_domain.specs.Findings.{Known, Large, Whole}
 use Rattle.access_domain.specs.Substitution.{root_value, substituted_value, actuals_from}
-use Rattle.access_domain.specs.Operations.{Effects, top, pushed, popped, replaced, read_value, op_effects, call_effects, passed_from}
+use Rattle.access_domain.specs.Operations.{Effects, top, pushed, popped, replaced, read_value, op_effects, call_effects}
+use Rattle.access_domain.specs.Operations.{passed_from}
 use Rattle.access_domain.specs.Flow.{flow, rounds, joined_next, after, both}
 use Rattle.transfer_loops.specs.Rounds.{round_next, rounds_of}
 use Rattle.transfer_loops.specs.Order.{Below, BelowAll, BelowState, BelowNext, IsMonotone, rounded}
@@ -37,12 +41,12 @@ below-trans a b c (inl e) h = subst (λ (v : Value). Below v c) (sym e) h
 below-trans a b c (inr e) (inl f) = inr (sym f ∙ e)
 below-trans a b c (inr e) (inr f) = inr f
 
-joined-unnamed : (a : Value) → joined a Unnamed ≡ Unnamed
+pub joined-unnamed : (a : Value) → joined a Unnamed ≡ Unnamed
 joined-unnamed Owned = refl
 joined-unnamed Unnamed = refl
 joined-unnamed (Named p) = refl
 
-unnamed-joined : (a : Value) → joined Unnamed a ≡ Unnamed
+pub unnamed-joined : (a : Value) → joined Unnamed a ≡ Unnamed
 unnamed-joined Owned = refl
 unnamed-joined Unnamed = refl
 unnamed-joined (Named p) = refl
@@ -54,9 +58,6 @@ joined-above a b = elim (same_value a b) as (λ t. Below a (cond t a Unnamed)) [
 pub joined-above-other : (a b : Value) → Below b (joined a b)
 joined-above-other a b = elim (same_value a b) as (λ t. same_value a b ≡ t → Below b (cond t a Unnamed))
     [ true ↦ λ e. inl (sym (equal_of_same_value a b e)) | false ↦ λ e. inr refl ] refl
-
-joined-itself : (a : Value) → joined a a ≡ a
-joined-itself a = ap (λ t. cond t a Unnamed) (same_value-itself a)
 
 pub joined-least : (a b c : Value) → Below a c → Below b c → Below (joined a b) c
 joined-least a b c (inr e) h = inr e
@@ -71,10 +72,6 @@ joined-keeps a b c d h k = joined-least a b (joined c d) (below-trans a c (joine
 keeps : (f : Value → Value) → f Unnamed ≡ Unnamed → (a b : Value) → Below a b → Below (f a) (f b)
 keeps f none a b (inl e) = inl (ap f e)
 keeps f none a b (inr e) = inr (ap f e ∙ none)
-
-along-unnamed : (fs : List FieldId) → along Unnamed fs ≡ Unnamed
-along-unnamed [] = refl
-along-unnamed (f ∷ fs) = along-unnamed fs
 
 -- ---- lists
 pub all-itself : (xs : List Value) → BelowAll xs xs

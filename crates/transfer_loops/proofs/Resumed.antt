@@ -1,5 +1,6 @@
 -- Loops in a loop that go on from where they were left end in the state in which the stated rounds end.
-use Rattle.std.proofs.Common.{◌≡◌, ℕ, zero, suc, ◌+◌, ◌-◌, ◌≤◌, ◌<◌, ◌⊎◌, inl, inr, Bool, true, false, cond, ◌&&◌, List, [], ◌∷◌, Option, None, Some, length, nat_eq, refl, sym, ap, subst, ◌∙◌, arith}
+use Rattle.std.proofs.Common.{◌≡◌, ℕ, zero, suc, ◌+◌, ◌-◌, ◌≤◌, ◌<◌, ◌⊎◌, inl, inr, Bool, true, false, cond, ◌&&◌, List}
+use Rattle.std.proofs.Common.{[], ◌∷◌, Option, None, Some, length, nat_eq, refl, sym, ap, subst, ◌∙◌, arith}
 use Rattle.std.proofs.lemmas.Bool.{eqb-true, eq-eqb}
 use Rattle.owner_domain.specs.declared.value.Value.{Value}
 use Rattle.owner_domain.specs.declared.value.Value.TheVariants.{Owned, Named, Unnamed}
@@ -13,10 +14,14 @@ use Rattle.access_domain.specs.Operations.{popped}
 use Rattle.access_domain.specs.Flow.{flow, rounds}
 use Rattle.transfer_loops.specs.Rounds.{round_next, same_values, same_state, rounds_of}
 use Rattle.transfer_loops.specs.Order.{Below, BelowAll, BelowState, BelowNext, IsMonotone, IsClosed, rounded}
-use Rattle.transfer_loops.specs.Resuming.{loops, Heads, no_heads, put_head, kept_head, entered, is_settled, iterated, resumed, OnNext, IsSound}
+use Rattle.transfer_loops.specs.Resuming.{loops, Heads, no_heads, put_head, kept_head, entered, is_settled, iterated}
+use Rattle.transfer_loops.specs.Resuming.{resumed, OnNext, IsSound}
 use Rattle.transfer_loops.proofs.Settled.{same_state-equal}
-use Rattle.transfer_loops.proofs.Monotone.{joined-above, joined-above-other, joined-least, all-long, state-itself, state-trans, round-keeps, rounded-keeps, rounds-state, flow-monotone, after_next, next-after, next-joined, pop-keeps}
-use Rattle.transfer_loops.proofs.Heights.{IsSized, then_heights, either_heights, loop_heights, held_heights, sized_round, sized_pop, flow-sized}
+use Rattle.transfer_loops.proofs.Monotone.{joined-above, joined-above-other, joined-least, all-long, state-itself}
+use Rattle.transfer_loops.proofs.Monotone.{state-trans, round-keeps, rounded-keeps, rounds-state, flow-monotone}
+use Rattle.transfer_loops.proofs.Monotone.{after_next, next-after, next-joined, pop-keeps}
+use Rattle.transfer_loops.proofs.Heights.{IsSized, then_heights, either_heights, loop_heights, held_heights}
+use Rattle.transfer_loops.proofs.Heights.{sized_round, sized_pop, flow-sized}
 
 -- ---- the order
 below-both : (a b : Value) → Below a b → Below b a → a ≡ b

@@ -1,5 +1,6 @@
 -- Tests of equal states.
-use Rattle.std.proofs.Common.{◌≡◌, Bool, true, false, ◌&&◌, List, [], ◌∷◌, refl}
+use Rattle.std.proofs.Common.{◌≡◌, true, List, [], ◌∷◌, refl}
+use Rattle.std.proofs.lemmas.Bool.{and_parts}
 use Rattle.owner_domain.specs.declared.value.Value.{Value}
 use Rattle.owner_domain.specs.declared.value.State.{State}
 use Rattle.owner_domain.specs.SameValue.{equal_of_same_value}
@@ -11,27 +12,11 @@ same_values-equal [] [] e = refl
 same_values-equal [] (y ∷ ys) e = cc
 same_values-equal (x ∷ xs) [] e = cc
 same_values-equal (x ∷ xs) (y ∷ ys) e = (λ i. equal_of_same_value x y
-    (and_left (same_value x y) (same_values xs ys) e) i ∷ same_values-equal xs ys
-    (and_right (same_value x y) (same_values xs ys) e) i)
-  where
-    and_left : (a b : Bool) → (a && b) ≡ true → a ≡ true
-    and_left true b e = refl
-    and_left false b e = e
-
-    and_right : (a b : Bool) → (a && b) ≡ true → b ≡ true
-    and_right true b e = e
-    and_right false b e = cc
-
-and_left : (a b : Bool) → (a && b) ≡ true → a ≡ true
-and_left true b e = refl
-and_left false b e = e
-
-and_right : (a b : Bool) → (a && b) ≡ true → b ≡ true
-and_right true b e = e
-and_right false b e = cc
+    (and_parts (same_value x y) (same_values xs ys) e).0 i ∷ same_values-equal xs ys
+    (and_parts (same_value x y) (same_values xs ys) e).1 i)
 
 pub same_state-equal : (s t : State) → same_state s t ≡ true → s ≡ t
 same_state-equal s t e = (λ i. record {
-  vars = same_values-equal s.vars t.vars (and_left (same_values s.vars t.vars) (same_values s.stack t.stack) e) i;
-  stack = same_values-equal s.stack t.stack (and_right (same_values s.vars t.vars) (same_values s.stack t.stack) e) i;
+  vars = same_values-equal s.vars t.vars (and_parts (same_values s.vars t.vars) (same_values s.stack t.stack) e).0 i;
+  stack = same_values-equal s.stack t.stack (and_parts (same_values s.vars t.vars) (same_values s.stack t.stack) e).1 i;
 })

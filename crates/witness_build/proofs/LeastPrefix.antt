@@ -1,7 +1,7 @@
 -- The shortest prefix of a path that is wobbly in one of two methods.
 use Rattle.std.proofs.Common.{◌≡◌, ℕ, zero, suc, ◌+◌, ◌≤◌, ◌<◌, Bool, true, false, cond, ◌||◌, length, refl}
 use Rattle.std.proofs.Common.{sym, ap, ◌∙◌, Option, None, Some, map, nat_lt, arith, inl, inr, option_map}
-use Rattle.std.proofs.lemmas.Bool.{cases_lt, false≢true, lt-ltb, ltb-true}
+use Rattle.std.proofs.lemmas.Bool.{cases_lt, false≢true, lt-ltb, ltb-true, or_from, or_left, or_right}
 use Rattle.std.specs.FinSet as set
 use Rattle.std.specs.List.{find, list_any}
 use Rattle.racer_base.specs.declared.ids.MethodId.{MethodId}
@@ -17,18 +17,6 @@ use Rattle.witness_build.specs.ShortestPrefix.{IsFirst, IsLeast, is_held, least}
 
 -- ---- the first of two tests
 
-or-left : (a b : Bool) → a ≡ true → (a || b) ≡ true
-or-left true b e = refl
-or-left false b e = absurd cc
-
-or-right : (a b : Bool) → b ≡ true → (a || b) ≡ true
-or-right true b e = refl
-or-right false b e = e
-
-or-neither : (a b : Bool) → a ≡ false → b ≡ false → (a || b) ≡ false
-or-neither true b e f = absurd cc
-or-neither false b e f = f
-
 abbrev pub either : (ℕ → Bool) → (ℕ → Bool) → ℕ → Bool
 either t u k = t k || u k
 
@@ -38,16 +26,16 @@ smaller t u n j k true e a c =
     let less : j < k = ltb-true j k e in
     record {
       within = a.within;
-      passes = or-left (t j) (u j) a.passes;
-      none_before = λ i lt. or-neither (t i) (u i) (a.none_before i lt) (c.none_before i (omega arith));
+      passes = or_left (t j) (u j) a.passes;
+      none_before = λ i lt. or_from (t i) (u i) (a.none_before i lt) (c.none_before i (omega arith));
     }
 smaller t u n j k false e a c =
     elim (cases_lt j k) [
       | inl less ↦ absurd (false≢true (not_less j k less e))
       | inr more ↦ record {
         within = c.within;
-        passes = or-right (t k) (u k) c.passes;
-        none_before = λ i lt. or-neither (t i) (u i) (a.none_before i (omega arith)) (c.none_before i lt);
+        passes = or_right (t k) (u k) c.passes;
+        none_before = λ i lt. or_from (t i) (u i) (a.none_before i (omega arith)) (c.none_before i lt);
       }
     ]
   where
@@ -56,18 +44,18 @@ smaller t u n j k false e a c =
 
 pub least-both : (t u : ℕ → Bool) (n : ℕ) (a b : Option ℕ) → IsLeast t n a → IsLeast u n b →
     IsLeast (either t u) n (least a b)
-least-both t u n None None a b = λ k lt. or-neither (t k) (u k) (a k lt) (b k lt)
+least-both t u n None None a b = λ k lt. or_from (t k) (u k) (a k lt) (b k lt)
 least-both t u n None (Some k) a b =
     record {
       within = b.within;
-      passes = or-right (t k) (u k) b.passes;
-      none_before = λ i lt. or-neither (t i) (u i) (a i (omega (arith, b.within))) (b.none_before i lt);
+      passes = or_right (t k) (u k) b.passes;
+      none_before = λ i lt. or_from (t i) (u i) (a i (omega (arith, b.within))) (b.none_before i lt);
     }
 least-both t u n (Some j) None a b =
     record {
       within = a.within;
-      passes = or-left (t j) (u j) a.passes;
-      none_before = λ i lt. or-neither (t i) (u i) (a.none_before i lt) (b i (omega (arith, a.within)));
+      passes = or_left (t j) (u j) a.passes;
+      none_before = λ i lt. or_from (t i) (u i) (a.none_before i lt) (b i (omega (arith, a.within)));
     }
 least-both t u n (Some j) (Some k) a b = smaller t u n j k (nat_lt j k) refl a b
 

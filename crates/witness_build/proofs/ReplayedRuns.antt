@@ -6,13 +6,14 @@ use Rattle.std.specs.Prelude.{IsTrue, Result, Ok, Err, IfOk}
 use Rattle.std.specs.Global.{Global}
 use Rattle.std.specs.List.{Contains, list_all}
 use Rattle.std.specs.declared.vec.Vec.{Vec}
+use Rattle.std.proofs.lemmas.Bool.{and_parts}
 use Rattle.racer_base.specs.declared.ids.MethodId.{MethodId}
 use Rattle.core_code.specs.declared.program.Program.{Program}
 use Rattle.core_code.specs.Calls.{is_analysed, method_at}
 use Rattle.core_code.specs.Core.{Core, Method}
 use Rattle.core_code.specs.Facts.{is_checked, may_be_entry}
 use Rattle.core_code.specs.Program.{core as core_of}
-use Rattle.core_code.proofs.Members.{at_place, each, first_part}
+use Rattle.core_code.proofs.Members.{at_place, each}
 use Rattle.race_pairs.specs.declared.warning.Warning.{Warning}
 use Rattle.race_pairs.specs.Pairs.{IsPair}
 use Rattle.race_pairs.specs.Warnings.{warnings}
@@ -37,8 +38,8 @@ entry-analysed p m method there entry =
     let may : may_be_entry core method ≡ true =
     each (may_be_entry core) core.methods method p.entries_analysed (at_place core.methods m.0 method there) in
     let none : is_none method.status ≡ true =
-    first_part (is_none method.status) (is_checked core method.class)
-    (sym (ap (λ (b : Bool). not b || (is_none method.status && is_checked core method.class)) entry) ∙ may) in
+    (and_parts (is_none method.status) (is_checked core method.class)
+    (sym (ap (λ (b : Bool). not b || (is_none method.status && is_checked core method.class)) entry) ∙ may)).0 in
     ap (λ o. elim o as (λ _. Bool) [ None ↦ false | Some x ↦ is_none x.status ]) there ∙ none
 
 are-right : (p : Program) (w : Warning) (objects : List StartPath) (legs : List Leg) →
@@ -93,7 +94,8 @@ if-confirmed P (Confirmed objects legs) mark is holds = holds objects legs (sym 
 
 -- the mark at a place is that of the warning there
 mark-there : (core : Core) (found : List Warning) (marks : List Mark) →
-    map said_by marks ≡ map (warning_mark core) found → (k : ℕ) (w : Warning) (mark : Mark) → slice_get found k ≡ Some w → slice_get marks k ≡ Some mark →
+    map said_by marks ≡ map (warning_mark core) found → (k : ℕ) (w : Warning) (mark : Mark) → slice_get found k ≡ Some w
+    → slice_get marks k ≡ Some mark →
     said_by mark ≡ warning_mark core w
 mark-there core found marks are k w mark of is =
     let same : Some (said_by mark) ≡ Some (warning_mark core w) =

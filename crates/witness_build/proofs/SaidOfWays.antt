@@ -14,6 +14,7 @@ use Rattle.core_ways.specs.Marks.{mark_by_calls, mark_by_run}
 use Rattle.core_ways.specs.Ways.{Trip, way_of}
 use Rattle.core_ways.specs.declared.way_pair.WayPair.TheVariants as code
 use Rattle.core_ways.specs.WayPairs.{IsWayPair, said_by_length, said_of}
+use Rattle.witness_build_laws.proofs.WholeWarnings.{none_long, none_unread}
 
 -- ---- the first call that is not read, and the first way that is long
 
@@ -41,10 +42,6 @@ unread-second a b place none e =
     first [] e = absurd cc
     first (p ∷ ps) e = e
 
-none-unread : (a b : Trip) → a.unread ≡ [] → b.unread ≡ [] → first_unread (a ∷ b ∷ []) ≡ None
-none-unread a b x y =
-    ap (λ unread. first_call unread (first_call b.unread None)) x ∙ ap (λ unread. first_call unread None) y
-
 long-first : (a b : Trip) (steps : ℕ) → MAX_WAY_STEPS < a.steps → steps ≡ counted a.steps →
     first_long (a ∷ b ∷ []) ≡ Some steps
 long-first a b steps long count =
@@ -60,20 +57,15 @@ long-second a b steps short long count =
     ∙ ap (λ l. long_or l b.steps None) (lt-ltb MAX_WAY_STEPS b.steps long)
     ∙ ap (λ (n : ℕ). Some n) (sym count)
 
-none-long : (a b : Trip) → a.steps ≤ MAX_WAY_STEPS → b.steps ≤ MAX_WAY_STEPS → first_long (a ∷ b ∷ []) ≡ None
-none-long a b x y =
-    ap (λ l. long_or l a.steps (long_or (nat_lt MAX_WAY_STEPS b.steps) b.steps None)) (le-ltb MAX_WAY_STEPS a.steps x)
-    ∙ ap (λ l. long_or l b.steps None) (le-ltb MAX_WAY_STEPS b.steps y)
-
 -- ---- by what both ways are
 
 pub both-long-first : (a b : Trip) (steps : ℕ) → IsLong a steps → b.unread ≡ [] → IsWayPair a b (code.Long steps)
-both-long-first a b steps is read = (none-unread a b is.read read, long-first a b steps is.long is.count)
+both-long-first a b steps is read = (none_unread a b is.read read, long-first a b steps is.long is.count)
 
 pub both-long-second : (a b : Trip) (steps : ℕ) → a.unread ≡ [] → a.steps ≤ MAX_WAY_STEPS → IsLong b steps →
     IsWayPair a b (code.Long steps)
 both-long-second a b steps read short is =
-    (none-unread a b read is.read, long-second a b steps short is.long is.count)
+    (none_unread a b read is.read, long-second a b steps short is.long is.count)
 
 -- ---- what is said
 
@@ -109,7 +101,7 @@ pub said-taken : (core : Core) (w : Pair) (t u : ℕ) (a b : Trip) (f g : Leg) �
 said-taken core w t u a b f g ra rb sa sb x y =
     (λ i. mark_by_run core (same-leg t a f x.0 x.1 x.2 i ∷ same-leg u b g y.0 y.1 y.2 i ∷ [])
     (begun core w.m1 w.m2 All))
-    ∙ sym (ap (by_calls core w t u a b) (none-unread a b ra rb) ∙ ap (by_long core w t u a b) (none-long a b sa sb))
+    ∙ sym (ap (by_calls core w t u a b) (none_unread a b ra rb) ∙ ap (by_long core w t u a b) (none_long a b sa sb))
 
 -- ---- in running order
 

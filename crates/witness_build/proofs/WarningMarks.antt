@@ -10,7 +10,7 @@ use Rattle.access_domain.specs.Outcomes.{record_among}
 use Rattle.access_domain.specs.OutcomeRecords.{record_at}
 use Rattle.core_code.specs.Core.{Core}
 use Rattle.core_ways.specs.declared.mark.Mark.{Mark}
-use Rattle.core_ways.specs.Marks.{Pair, Said, Unnamed, Unstable, is_locked, mark_by_calls, mark_of, said_by}
+use Rattle.core_ways.specs.Marks.{Pair, Said, Unnamed, Unstable, mark_by_calls, mark_of, said_by}
 use Rattle.core_ways.specs.Stable.{unstable_prefix}
 use Rattle.race_pairs.specs.declared.warning.Warning.{Warning}
 use Rattle.witness_build_laws.specs.Warned.{pair_of, warning_mark}
@@ -52,10 +52,6 @@ pub mark-stable : (core : Core) (w : Warning) (r : Access) → record_at core w.
     mark_by_calls core (pair_of w) ≡ warning_mark core w
 mark-stable core w r at named none =
     sym (ap (mark_by core w) at ∙ ap (by_root core (pair_of w) r.path) named ∙ ap (by_prefix core (pair_of w)) none)
-
-pub locked-record : (core : Core) (w : Warning) (r : Access) → record_at core w.entry w.access ≡ Some r →
-    is_locked core w.entry w.access ≡ r.locked
-locked-record core w r at = ap (λ (o : Option Access). elim o as (λ _. Bool) [ None ↦ false | Some x ↦ x.locked ]) at
 
 -- an answer that says one thing says what is equal to it
 pub said-then : {E : Type 0} (r : Result Mark E) (a b : Said) → a ≡ b → IfOk r (λ mark. said_by mark ≡ a) →

@@ -16,6 +16,7 @@ use Rattle.core_semantics.specs.Advances.{made_of, one_step, straight, turned}
 use Rattle.core_ways.specs.Ends.{Past, Stopped, leg_end, leg_reads}
 use Rattle.core_ways.specs.Gathered.{gathered}
 use Rattle.core_ways.specs.Marks.{Confirmed, blocked_at, mark_by_run}
+use Rattle.core_ways.proofs.Beside.{other-stays}
 use Rattle.witness_build_apart_laws.specs.Apart.{AreAlike}
 use Rattle.witness_build_apart_laws.specs.Goes.{leg_goes, nothing}
 use Rattle.witness_build_apart_laws.specs.Starts.{entry_of}
@@ -25,7 +26,7 @@ use Rattle.witness_build_apart_laws.proofs.Marks.{comes-alike, goes-past, other-
 use Rattle.witness_build_apart_laws.proofs.Prefixes.{both, first-of}
 use Rattle.witness_build_apart_laws.proofs.SaidByRun.{said-both, said-second}
 use Rattle.witness_build_apart_laws.proofs.Starts.{begun-alike, other-free, same-thread}
-use Rattle.witness_build_apart_laws.proofs.Storing.{other-stays, turns-made}
+use Rattle.witness_build_apart_laws.proofs.Storing.{turns-made}
 use Rattle.witness_build_apart_laws.proofs.Walked.{Came, avoids-none, comes-to}
 
 -- ---- the other thread stays as it is

@@ -2,6 +2,7 @@
 use Rattle.std.proofs.Common.{◌≡◌, ℕ, zero, suc, Bool, true, false, cond, List, [], ◌∷◌, ◌++◌, Option, None, Some}
 use Rattle.std.proofs.Common.{refl, sym, ap, subst, ◌∙◌, nat_eq, slice_get}
 use Rattle.std.specs.Option.{option_and_then}
+use Rattle.std.proofs.lemmas.Bool.{not-true}
 use Rattle.racer_base.specs.declared.ids.Touch.TheVariants.{Read, Write}
 use Rattle.core_code.specs.Core.{Core}
 use Rattle.core_semantics.specs.declared.answer.Holder.{Holder}
@@ -14,33 +15,13 @@ use Rattle.core_semantics.specs.Steps.{After, Next, Goes, Sticks, Waits, Ends, s
 use Rattle.core_semantics.specs.Advances.{Going, made_of, one_step}
 use Rattle.core_ways.specs.Ends.{Ended, end_behind, leg_end, leg_reads, reads_behind}
 use Rattle.core_semantics.specs.Advances.{straight, turned, with_turns}
+use Rattle.core_semantics.proofs.ThreadLemmas.{store-now, thread-now}
 use Rattle.core_ways.specs.Ends.{step_reads}
 use Rattle.core_ways.specs.Marks.{given_by, next_read, paths_in}
-use Rattle.witness_build_apart_laws.specs.Apart.{AreAlike, AreEndsAlike, DoesAvoid, ReadAlike, avoids_behind, is_avoided}
+use Rattle.witness_build_apart_laws.specs.Apart.{AreAlike, AreEndsAlike, DoesAvoid, ReadAlike, avoids_behind}
+use Rattle.witness_build_apart_laws.specs.Apart.{is_avoided}
 use Rattle.witness_build_apart_laws.specs.Goes.{GoingAlike}
-use Rattle.witness_build_apart_laws.proofs.Steps.{AfterAlike, Spots, not-true, thread-alike}
-
-thread-now : (s : State) (t : ℕ) (a : After) → thread_of (with_thread s t a.store a.thread) t ≡ a.thread
-thread-now s t a =
-    elim (nat_eq t 0) as (λ b.
-    (let x : State = cond b
-    (let u : State = record { store = a.store; first = a.thread; second = s.second } in u)
-    (let v : State = record { store = a.store; first = s.first; second = a.thread } in v) in
-    cond b x.first x.second) ≡ a.thread) [
-      | true ↦ refl
-      | false ↦ refl
-    ]
-
-pub store-now : (s : State) (t : ℕ) (a : After) → (with_thread s t a.store a.thread).store ≡ a.store
-store-now s t a =
-    elim (nat_eq t 0) as (λ b.
-    (let x : State = cond b
-    (let u : State = record { store = a.store; first = a.thread; second = s.second } in u)
-    (let v : State = record { store = a.store; first = s.first; second = a.thread } in v) in
-    x.store) ≡ a.store) [
-      | true ↦ refl
-      | false ↦ refl
-    ]
+use Rattle.witness_build_apart_laws.proofs.Steps.{AfterAlike, Spots, thread-alike}
 
 pub other-now : (s : State) (t : ℕ) (a : After) →
     (other_of (with_thread s t a.store a.thread) t).locks ≡ (other_of s t).locks

@@ -1,7 +1,8 @@
 -- The fields that a leg is said to store in are of no primitive type.
-use Rattle.std.proofs.Common.{◌≡◌, ℕ, zero, suc, Bool, true, false, cond, ◌&&◌, ◌||◌, List, [], ◌∷◌, Option, None, Some}
+use Rattle.std.proofs.Common.{◌≡◌, ℕ, zero, suc, Bool, true, false, cond, ◌&&◌, List, [], ◌∷◌, Option, None, Some}
 use Rattle.std.proofs.Common.{refl, sym, ap, subst, ◌∙◌, slice_get}
 use Rattle.std.specs.List.{list_any}
+use Rattle.std.proofs.lemmas.Bool.{or_from}
 use Rattle.racer_base.specs.declared.ids.FieldId.{FieldId}
 use Rattle.access_paths.specs.Paths.{same_field}
 use Rattle.core_code.specs.declared.code.Op.{Op as CoreOp}
@@ -73,10 +74,6 @@ not-there core p o g f true e other plain =
     clash h = absurd cc
 not-there core p o g f false e other plain = refl
 
-both-false : (a b : Bool) → a ≡ false → b ≡ false → (a || b) ≡ false
-both-false true b h k = absurd cc
-both-false false b h k = k
-
 none-among : (core : Core) (c : Change) (spots all : List Spot) (o : Object) (f : FieldId) → IsOther core c →
     noted c (Some spots) ≡ Some all → is_plain_kind (kind_of core f) ≡ true → among spots o f ≡ false →
     among all o f ≡ false
@@ -85,7 +82,7 @@ none-among core Quiet spots all o f other e plain none =
 none-among core (Stores p g) spots all o f other e plain none =
     let same : (p, g) ∷ spots ≡ all = cc in
     subst (λ (xs : List Spot). among xs o f ≡ false) same
-    (both-false (is_spot o f (p, g)) (among spots o f)
+    (or_from (is_spot o f (p, g)) (among spots o f)
     (not-there core p o g f (same_object p o && same_field g f) refl other plain) none)
 none-among core Loud spots all o f other e plain none = absurd cc
 

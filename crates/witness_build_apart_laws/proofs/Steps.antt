@@ -1,9 +1,11 @@
 -- One step over two stores that read alike.
-use Rattle.std.proofs.Common.{◌≡◌, ℕ, suc, Bool, true, false, cond, not, ◌&&◌, List, [], ◌∷◌, Option, None, Some, refl, ap}
+use Rattle.std.proofs.Common.{◌≡◌, ℕ, suc, Bool, true, false, cond, not, ◌&&◌, List, [], ◌∷◌, Option, None, Some, refl}
+use Rattle.std.proofs.Common.{ap}
 use Rattle.std.proofs.Common.{nat_lt, slice_index_or, slice_get}
 use Rattle.std.specs.Prelude.{Result, Ok, Err}
 use Rattle.std.specs.List.{list_any}
 use Rattle.std.specs.Option.{option_and_then}
+use Rattle.std.proofs.lemmas.Bool.{not-true}
 use Rattle.racer_base.specs.declared.ids.FieldId.{FieldId}
 use Rattle.racer_base.specs.declared.ids.MethodId.{MethodId}
 use Rattle.racer_base.specs.declared.ids.Touch.TheVariants.{Read}
@@ -28,7 +30,8 @@ use Rattle.core_semantics.specs.State.{Frame, Store, Thread, Todo, Op, Choice, L
 use Rattle.core_semantics.specs.Steps.{After, Inner, Next, Spot, Goes, Sticks, Waits, Ends, after, base_of, called}
 use Rattle.core_semantics.specs.Steps.{called_method, entering, inner_step, kind_of}
 use Rattle.core_semantics.specs.Steps.{lock_with, monitor_of, on_base, op_step, operated, passed_from, put}
-use Rattle.core_semantics.specs.Steps.{read, replaced, returned, slot_of, thread_step, todo_step, top, unlocked, unstored}
+use Rattle.core_semantics.specs.Steps.{read, replaced, returned, slot_of, thread_step, todo_step, top, unlocked}
+use Rattle.core_semantics.specs.Steps.{unstored}
 use Rattle.core_semantics.specs.Steps.{with_inner, within, written, with_lock}
 use Rattle.witness_build_apart_laws.specs.Apart.{ReadAlike, is_avoided}
 
@@ -68,10 +71,6 @@ InnerAlike core but _ _ = ⊥
 
 abbrev pub at : Store → Frame → Inner
 at s f = record { store = s; frame = f }
-
-pub not-true : (b : Bool) → not b ≡ true → b ≡ false
-not-true true e = absurd cc
-not-true false e = refl
 
 get-alike : (core : Core) (but : Spots) (a b : Store) (f : Frame) (x : FieldId) (v : Value) → ReadAlike core but a b →
     is_avoided but (access_of v x Read) ≡ true →

@@ -1,5 +1,6 @@
 -- What one step changes of what is stored.
-use Rattle.std.proofs.Common.{◌≡◌, ℕ, Bool, true, false, cond, ◌&&◌, List, [], ◌∷◌, None, Some, refl, sym, ap, subst, ◌∙◌}
+use Rattle.std.proofs.Common.{◌≡◌, ℕ, Bool, true, false, cond, ◌&&◌, List, [], ◌∷◌, None, Some, refl, sym, ap, subst}
+use Rattle.std.proofs.Common.{◌∙◌}
 use Rattle.std.proofs.Common.{nat_lt, slice_index_or, slice_get}
 use Rattle.std.specs.Prelude.{Result, Ok, Err}
 use Rattle.std.specs.List.{list_any}
@@ -22,11 +23,12 @@ use Rattle.core_semantics.specs.declared.object.Value.TheVariants.{Null, Plain, 
 use Rattle.core_semantics.specs.Objects.{same_monitor, same_object}
 use Rattle.core_semantics.specs.State.{Frame, Store, Todo, Op, Choice, Loop, Sync, Unlock}
 use Rattle.core_semantics.specs.Steps.{After, Inner, Next, Goes, Sticks, Waits, Ends, after, base_of, called}
-use Rattle.core_semantics.specs.Steps.{called_method, entering, inner_step, kind_of, lock_with, monitor_of, on_base, op_step}
-use Rattle.core_semantics.specs.Steps.{operated, passed_from, put, read, replaced, returned, slot_of, thread_step, todo_step}
+use Rattle.core_semantics.specs.Steps.{called_method, entering, inner_step, kind_of, lock_with, monitor_of, on_base}
+use Rattle.core_semantics.specs.Steps.{op_step}
+use Rattle.core_semantics.specs.Steps.{operated, passed_from, put, read, replaced, returned, slot_of, thread_step}
+use Rattle.core_semantics.specs.Steps.{todo_step}
 use Rattle.core_semantics.specs.Steps.{top, unlocked, unstored, with_inner, with_lock, within, written}
-use Rattle.core_code.proofs.BoolParts.{last_part}
-use Rattle.std.proofs.lemmas.Bool.{eqb-true}
+use Rattle.std.proofs.lemmas.Bool.{eqb-true, and_parts}
 use Rattle.witness_build_apart_laws.specs.Apart.{ReadAlike}
 use Rattle.core_semantics.specs.Changes.{Change, Loud, Quiet, Stores, is_plain, is_plain_kind, op_change, stored_in}
 use Rattle.witness_build_apart_laws.specs.Stores.{ArePlain}
@@ -80,7 +82,7 @@ plain-value (Ref o) e = absurd cc
 pub kind-same : (core : Core) (f g : FieldId) (b : Bool) → (b && same_field f g) ≡ true →
     kind_of core f ≡ kind_of core g
 kind-same core f g b e =
-    let numbers : f.0 ≡ g.0 = eqb-true f.0 g.0 (last_part b (same_field f g) e) in
+    let numbers : f.0 ≡ g.0 = eqb-true f.0 g.0 (and_parts b (same_field f g) e).1 in
     ap (λ (n : ℕ). let h : FieldId = record { 0 = n } in kind_of core h) numbers
 
 -- a plain value in a field of a primitive type

@@ -1,7 +1,8 @@
 -- What a leg changes of what is stored.
-use Rattle.std.proofs.Common.{◌≡◌, ℕ, zero, suc, Bool, true, false, cond, ◌||◌, List, [], ◌∷◌, Option, None, Some}
-use Rattle.std.proofs.Common.{refl, sym, ap, subst, ◌∙◌, nat_eq}
+use Rattle.std.proofs.Common.{◌≡◌, ℕ, zero, suc, Bool, true, false, cond, List, [], ◌∷◌, Option, None, Some}
+use Rattle.std.proofs.Common.{refl, sym, ap, subst, ◌∙◌}
 use Rattle.std.specs.List.{list_any}
+use Rattle.std.proofs.lemmas.Bool.{or_parts}
 use Rattle.racer_base.specs.declared.ids.FieldId.{FieldId}
 use Rattle.core_code.specs.Core.{Core}
 use Rattle.core_semantics.specs.declared.answer.Turn.{Turn}
@@ -15,23 +16,13 @@ use Rattle.witness_build_apart_laws.specs.Goes.{leg_goes}
 use Rattle.core_semantics.specs.Changes.{Change, Loud, Quiet, Spot, Stores}
 use Rattle.witness_build_apart_laws.specs.Stores.{ArePlain, HasStored, is_spot, leg_stores, noted}
 use Rattle.core_semantics.specs.Changes.{step_change}
+use Rattle.core_semantics.proofs.ThreadLemmas.{store-now}
 use Rattle.witness_build_apart_laws.specs.Stores.{stores_behind}
-use Rattle.witness_build_apart_laws.proofs.Legs.{store-now}
 use Rattle.witness_build_apart_laws.proofs.Prefixes.{both, first-of}
 use Rattle.witness_build_apart_laws.proofs.Stored.{AfterChanged, IsChanged, thread-changed}
+use Rattle.core_ways.proofs.Beside.{other-stays}
 
 -- ---- one step
-
-pub other-stays : (s : State) (t : ℕ) (a : After) → other_of (with_thread s t a.store a.thread) t ≡ other_of s t
-other-stays s t a =
-    elim (nat_eq t 0) as (λ b.
-    (let x : State = cond b
-    (let u : State = record { store = a.store; first = a.thread; second = s.second } in u)
-    (let v : State = record { store = a.store; first = s.first; second = a.thread } in v) in
-    cond b x.second x.first) ≡ cond b s.second s.first) [
-      | true ↦ refl
-      | false ↦ refl
-    ]
 
 record Steps (core : Core) (t : ℕ) (s next : State) : Type 0 where
   changed : IsChanged core s.store (step_change core s t) next.store
@@ -82,14 +73,6 @@ one-changed core t turns s next left plain =
 abbrev among : List Spot → Object → FieldId → Bool
 among spots o f = list_any (is_spot o f) spots
 
-left-false : (a b : Bool) → (a || b) ≡ false → a ≡ false
-left-false true b e = absurd cc
-left-false false b e = refl
-
-right-false : (a b : Bool) → (a || b) ≡ false → b ≡ false
-right-false true b e = absurd cc
-right-false false b e = e
-
 pub some-in : (o : Option (List Spot)) (all : List Spot) (c : Change) → noted c o ≡ Some all →
     (spots : List Spot) × (o ≡ Some spots)
 some-in (Some spots) all c e = (spots, refl)
@@ -118,8 +101,8 @@ joined core a b to (Stores p g) spots all changed stored e =
         fresh = changed.0.fresh ∙ stored.alike.fresh;
         heap = changed.0.heap ∙ stored.alike.heap;
         reads = λ o f h.
-            changed.0.reads o f (left-false (is_spot o f (p, g)) (among spots o f) h)
-            ∙ stored.alike.reads o f (right-false (is_spot o f (p, g)) (among spots o f) h);
+            changed.0.reads o f (or_parts (is_spot o f (p, g)) (among spots o f) h).0
+            ∙ stored.alike.reads o f (or_parts (is_spot o f (p, g)) (among spots o f) h).1;
       };
       plain = stored.plain;
     })

@@ -1,5 +1,5 @@
--- A contract of a public call rests on this: where so many steps of a thread lead, what they store and whether they make
--- an object.
+-- A contract of a public call rests on this: where so many steps of a thread lead, what they store and whether they
+-- make an object.
 use Rattle.std.specs.Prelude.{◌≡◌, ℕ, zero, suc, Bool, false, List, Option, None, Some}
 use Rattle.racer_base.specs.declared.ids.FieldId.{FieldId}
 use Rattle.core_code.specs.Core.{Core}

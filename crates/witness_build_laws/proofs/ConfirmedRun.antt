@@ -3,9 +3,10 @@ use Rattle.std.proofs.Common.{◌≡◌, ℕ, Bool, true, false, cond, not, ◌&
 use Rattle.std.proofs.Common.{refl, sym}
 use Rattle.std.proofs.Common.{ap, subst, ◌∙◌}
 use Rattle.std.specs.List.{Contains}
-use Rattle.std.proofs.lemmas.Bool.{not-true}
+use Rattle.std.proofs.lemmas.Bool.{not-true, and_parts}
 use Rattle.racer_base.specs.declared.ids.MethodId.{MethodId}
 use Rattle.racer_base.specs.declared.ids.Touch.{Touch}
+use Rattle.racer_base.proofs.Tests.{and_second}
 use Rattle.access_paths.specs.declared.path.Path.{Path}
 use Rattle.access_paths.specs.declared.path.Root.{Root}
 use Rattle.access_paths.specs.declared.path.Root.TheVariants.{This, Class, Formal, Some as SomeOf}
@@ -27,7 +28,6 @@ use Rattle.core_ways.specs.Marks.{objects_of}
 use Rattle.core_ways.specs.Stable.{IsStable, is_lasting_root}
 use Rattle.core_ways.specs.Ways.{way_of}
 use Rattle.witness_build_laws.specs.Heaps.{Heap, state_in}
-use Rattle.access_domain.proofs.Tests.{both_parts}
 use Rattle.race_pairs.specs.declared.warning.Warning.{Warning}
 use Rattle.race_pairs.specs.Pairs.{IsPair}
 use Rattle.race_pairs.specs.Warnings.{conflicts, warnings}
@@ -77,10 +77,10 @@ conflict-parts a b is =
     let write : Bool = is_write a.kind || is_write b.kind in
     let locks : Bool = not (a.locked && b.locked) in
     let main : Bool = not (a.main && b.main) in
-    let four = both_parts (same && formal && write && locks) main is in
-    let three = both_parts (same && formal && write) locks four.0 in
-    let two = both_parts (same && formal) write three.0 in
-    let one = both_parts same formal two.0 in
+    let four = and_parts (same && formal && write && locks) main is in
+    let three = and_parts (same && formal && write) locks four.0 in
+    let two = and_parts (same && formal) write three.0 in
+    let one = and_parts same formal two.0 in
     record {
       path = sym (equal_of_same a.path b.path one.0);
       formal = not-true (is_formal a.path.root) one.1;
@@ -99,10 +99,6 @@ swapped true true = refl
 swapped true false = refl
 swapped false true = refl
 swapped false false = refl
-
-pub unlocked-second : (a b : Bool) → a ≡ true → (a && b) ≡ false → b ≡ false
-unlocked-second true b e f = f
-unlocked-second false b e f = absurd cc
 
 -- ---- a warning, with its records and their ways
 
@@ -232,7 +228,7 @@ by-order : (core : Core) (w : Warning) (a b : Access) (f g : Method) (objects : 
     first_halt core (legs_by core w locked) (full core w) ≡ None →
     objects ≡ objects_of core (legs_by core w locked) (full core w) → RacesOn core w objects legs a.path
 by-order core w a b f g objects legs true e ready are made is =
-    partner-first core w a b f g objects legs ready (unlocked-second a.locked b.locked e ready.conflict.locks) are
+    partner-first core w a b f g objects legs ready (and_second a.locked b.locked e ready.conflict.locks) are
     made is
 by-order core w a b f g objects legs false e ready are made is =
     entry-first core w a b f g objects legs ready e are made is

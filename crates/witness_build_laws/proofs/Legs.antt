@@ -1,5 +1,5 @@
 -- Legs from the beginning, in the heap of all start paths and in that of the objects read.
-use Rattle.std.proofs.Common.{◌≡◌, Bool, true, false, ◌||◌, List, [], ◌∷◌, Option, refl, sym, ap}
+use Rattle.std.proofs.Common.{◌≡◌, true, List, [], ◌∷◌, Option, refl, sym, ap}
 use Rattle.std.proofs.Common.{◌∙◌, option_map}
 use Rattle.std.specs.List.{list_any}
 use Rattle.std.proofs.lemmas.Bool.{or_left, or_right}

@@ -29,7 +29,8 @@ use Rattle.witness_build_laws.proofs.MarkParts.{halt_in}
 use Rattle.witness_build_laws.proofs.TableRows.{AreMade, DoStop, Ends, IsByRun, halt, legs-end, said-stopped}
 use Rattle.witness_build_laws.proofs.WholeWarnings.{said-made}
 use Rattle.witness_build_laws.proofs.TableRows.{same-record, whole-ways}
-use Rattle.witness_build_laws.proofs.WholeWarnings.{confirmed, not_some}
+use Rattle.witness_build_laws.proofs.WholeWarnings.{confirmed}
+use Rattle.core_ways_laws.proofs.StableMeets.{lasting-known}
 
 -- ---- the row of a mark
 
@@ -155,7 +156,7 @@ module _ (core : Core) (w : Warning) (p : Path) where
   known-mark known = ap (λ b. cond b Unnamed (by_prefix (unstable_prefix core w.entry w.partner p))) known
 
   stable-mark : IsStable core w.entry w.partner p → mark_of core (pair_of w) p ≡ mark_by_calls core (pair_of w)
-  stable-mark stable = known-mark (not_some p.root stable.root) ∙ ap by_prefix stable.prefixes
+  stable-mark stable = known-mark (lasting-known p.root stable.root) ∙ ap by_prefix stable.prefixes
 
   path-mark : (said : Said) → IsRow core w p said → mark_of core (pair_of w) p ≡ said
   path-mark Unnamed row = ap (λ b. cond b Unnamed (by_prefix (unstable_prefix core w.entry w.partner p))) row

@@ -7,6 +7,7 @@ use Rattle.std.specs.Option.{option_and_then}
 use Rattle.racer_base.specs.declared.ids.MethodId.{MethodId}
 use Rattle.racer_base.specs.declared.ids.Place.{Place}
 use Rattle.racer_base.specs.declared.limits.TheConstants.{MAX_WAY_STEPS}
+use Rattle.racer_base.proofs.Tests.{and_second}
 use Rattle.access_paths.specs.declared.path.Path.{Path}
 use Rattle.access_paths.specs.Paths.{is_some_root}
 use Rattle.access_domain.specs.declared.access.Access.{Access}
@@ -34,7 +35,7 @@ use Rattle.core_ways_laws.proofs.WayEnds.{way-ends}
 use Rattle.witness_build_laws.specs.Table.{IsBlocked, IsStopped}
 use Rattle.witness_build_laws.specs.Warned.{pair_of, warning_mark}
 use Rattle.witness_build_laws.proofs.ConfirmedRun.{Conflict, conflict-parts, first-entered, full, lasting, legs_by}
-use Rattle.witness_build_laws.proofs.ConfirmedRun.{locked-is, mark_by, second-entered, unlocked-second}
+use Rattle.witness_build_laws.proofs.ConfirmedRun.{locked-is, mark_by, second-entered}
 use Rattle.witness_build_laws.proofs.LegPairs.{unlocked-free}
 use Rattle.witness_build_laws.proofs.MarkParts.{by_halt, halt_in, start}
 use Rattle.witness_build_laws.proofs.StuckPlaces.{stuck-place}
@@ -174,7 +175,7 @@ by-order p w pair locked is =
           both-end core 1 0 w.partner w.entry w.partner_access w.access b a g f s ends
           (λ to at. way-ends p w.entry f w.access a (given_to 0 f) to 0 pair.of_entry.is of_a (at.other ∙ zero_in)
           (unlocked-free core w.partner w.partner_access b (given_to 1 g) s 1 to at
-          (unlocked-second a.locked b.locked e conflict.locks)))
+          (and_second a.locked b.locked e conflict.locks)))
           (runs core 1 (way_of core w.partner w.partner_access).steps (way_of core w.partner w.partner_access).turns s)
           refl ends
       | false ↦ λ e.

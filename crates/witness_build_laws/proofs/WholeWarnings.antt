@@ -6,9 +6,6 @@ use Rattle.std.proofs.lemmas.Bool.{false≢true}
 use Rattle.racer_base.specs.declared.ids.Place.{Place}
 use Rattle.racer_base.specs.declared.limits.TheConstants.{MAX_WAY_STEPS}
 use Rattle.access_paths.specs.declared.path.Path.{Path}
-use Rattle.access_paths.specs.declared.path.Root.{Root}
-use Rattle.access_paths.specs.declared.path.Root.TheVariants.{This, Class, Formal, Some as SomeOf}
-use Rattle.access_paths.specs.Paths.{is_some_root}
 use Rattle.core_code.specs.Core.{Core}
 use Rattle.core_semantics.specs.declared.object.Start.TheVariants.{All}
 use Rattle.core_semantics.specs.Legs.{Leg, Ran, Came, Halted, run, runs, whole}
@@ -17,25 +14,20 @@ use Rattle.core_semantics.specs.State.{State}
 use Rattle.access_domain.specs.declared.access.Access.{Access}
 use Rattle.access_domain.specs.OutcomeRecords.{record_at}
 use Rattle.race_pairs.specs.declared.warning.Warning.{Warning}
-use Rattle.core_ways.specs.Stable.{IsStable, is_lasting_root}
+use Rattle.core_ways.specs.Stable.{IsStable}
 use Rattle.core_ways.specs.Ways.{Trip, way_of}
 use Rattle.core_ways.specs.Marks.{Pair, IsWhole, Confirmed, is_locked, legs_of, ways_in_order, objects_of, mark_of}
 use Rattle.core_ways.specs.Marks.{mark_by_calls, mark_by_length, mark_by_run, first_unread, first_long, first_halt}
 use Rattle.witness_build_laws.specs.Warned.{pair_of, warning_mark}
+use Rattle.core_ways_laws.proofs.StableMeets.{lasting-known}
 
-pub not_some : (r : Root) → is_lasting_root r ≡ true → is_some_root r ≡ false
-not_some This e = refl
-not_some (Class c) e = refl
-not_some (Formal i) e = refl
-not_some (SomeOf c) e = cc
-
-none_unread : (a b : Trip) → a.unread ≡ [] → b.unread ≡ [] → first_unread (a ∷ b ∷ []) ≡ None
+pub none_unread : (a b : Trip) → a.unread ≡ [] → b.unread ≡ [] → first_unread (a ∷ b ∷ []) ≡ None
 none_unread a b ea eb = rw (ea, eb) refl
 
 not_longer : (n : ℕ) → n ≤ MAX_WAY_STEPS → nat_lt MAX_WAY_STEPS n ≡ false
 not_longer n h = grind arith
 
-none_long : (a b : Trip) → a.steps ≤ MAX_WAY_STEPS → b.steps ≤ MAX_WAY_STEPS → first_long (a ∷ b ∷ []) ≡ None
+pub none_long : (a b : Trip) → a.steps ≤ MAX_WAY_STEPS → b.steps ≤ MAX_WAY_STEPS → first_long (a ∷ b ∷ []) ≡ None
 none_long a b ha hb = rw (not_longer a.steps ha, not_longer b.steps hb) refl
 
 -- what holds of both ways in either order holds of them in running order
@@ -74,7 +66,7 @@ by_calls : (core : Core) (w : Pair) → first_unread (ways_in_order core w) ≡ 
 by_calls core w none = rw (mark_by_calls, none) refl
 
 by_path : (core : Core) (w : Pair) (p : Path) → IsStable core w.m1 w.m2 p → mark_of core w p ≡ mark_by_calls core w
-by_path core w p stable = rw (not_some p.root stable.root, stable.prefixes) refl
+by_path core w p stable = rw (lasting-known p.root stable.root, stable.prefixes) refl
 
 pub confirmed : (core : Core) (w : Pair) (p : Path) → IsStable core w.m1 w.m2 p → IsWhole core w →
     mark_of core w p ≡ Confirmed (objects_of core (legs_of core w) (begun core w.m1 w.m2 All)) (legs_of core w)

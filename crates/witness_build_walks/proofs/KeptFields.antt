@@ -1,7 +1,7 @@
 -- Fields that are kept.
 use Rattle.std.proofs.Common.{◌≡◌, Bool, true, false, cond, ◌&&◌, ◌||◌, List, [], ◌∷◌, ◌++◌}
 use Rattle.std.proofs.Common.{Option, None, Some, refl, sym, ap, subst, ◌∙◌}
-use Rattle.std.proofs.lemmas.Bool.{eq-eqb}
+use Rattle.std.proofs.lemmas.Bool.{eq-eqb, false_from_ne_true}
 use Rattle.std.proofs.lemmas.List.{append-nil, map-append}
 use Rattle.std.specs.BTreeSet.{BTreeSet, IsDisjoint, Updates, contains}
 use Rattle.std.specs.Cmp.{unsigned_ties}
@@ -147,10 +147,6 @@ spot-in ((p, g) ∷ spots) o f e = by_head (same_object p o) (same_field g f) (s
 same-itself : (f : FieldId) → same_field f f ≡ true
 same-itself f = eq-eqb f.0 f.0 refl
 
-not-both : (b : Bool) → (b ≡ true → ⊥) → b ≡ false
-not-both true never = absurd (never refl)
-not-both false never = refl
-
 true-is-false : (b : Bool) → b ≡ true → b ≡ false → ⊥
 true-is-false true e h = absurd cc
 true-is-false false e h = absurd cc
@@ -163,7 +159,7 @@ module _ (writes reads : BTreeSet FieldId) (spots : List Spot) (are : AreKept wr
   none-hit (x ∷ looks) kept =
       both_false (list_any (is_spot x.0 x.1) spots)
       (list_any (λ (y : Spot). list_any (is_spot y.0 y.1) spots) looks)
-      (not-both (list_any (is_spot x.0 x.1) spots) (λ hit.
+      (false_from_ne_true (list_any (is_spot x.0 x.1) spots) (λ hit.
       true-is-false (contains field_cmp reads x.1) (kept x.1 (first_in (is_in (fields_of looks) x.1)))
       (disjoint x.1 (are x.1 (spot-in spots x.0 x.1 hit)))))
       (none-hit looks (λ f e. kept f (later_in (same_field x.1 f) (is_in (fields_of looks) f) e)))

@@ -1,6 +1,6 @@
 -- One step of a walk, with the turn that it used.
 use Rattle.std.proofs.Common.{◌≡◌, ℕ, Bool, true, false, cond, List, [], ◌∷◌, ◌++◌, Option, None, Some, slice_get}
-use Rattle.std.proofs.Common.{sym, ap, subst, ◌∙◌}
+use Rattle.std.proofs.Common.{sym, ap, ◌∙◌}
 use Rattle.std.proofs.lemmas.List.{append-nil}
 use Rattle.std.specs.Borrow.{Bor}
 use Rattle.core_code.specs.Core.{Core}
@@ -11,6 +11,7 @@ use Rattle.core_semantics.specs.Runs.{wants_turn}
 use Rattle.core_semantics.specs.State.{State}
 use Rattle.core_semantics.specs.Steps.{step}
 use Rattle.witness_build_walks.specs.Walks.{HasTurned}
+use Rattle.core_ways.proofs.LegSteps.{made-of}
 
 -- the step by whether it takes a turn
 by-wants : (core : Core) (t : ℕ) (turns : List Turn) (s : State) (b : Bool) → wants_turn s t ≡ b →
@@ -24,10 +25,6 @@ split turns left (Some s) new e =
     let both : ◌≡◌ {A = Going} (s, turns) (new, left) = cc in
     (ap (λ (g : Going). Some g.0) both, ap (λ (g : Going). g.1) both)
 
-made : (next : Option Going) (old new : State) (o : Option (Bor (List Turn))) (left : Bor (List Turn)) →
-    IsAdvance next old new o → o ≡ Some left → next ≡ Some (new, left.now)
-made next old new o left is some = subst (IsAdvance next old new) some is
-
 -- it takes one
 pub took-turn : (core : Core) (t : ℕ) (rest : List Turn) (old new : State) (o : Option (Bor (List Turn)))
     (left : Bor (List Turn)) (turn : Turn) (before after : List Turn) (takes : Bool) → takes ≡ wants_turn old t →
@@ -39,12 +36,13 @@ took-turn core t (x ∷ xs) old new o left turn before after takes wants so is s
     let takes_one : wants_turn old t ≡ true = sym wants ∙ so in
     let parts =
     split xs left.now (made_of (step core old t x)) new
-    (sym (by-wants core t (x ∷ xs) old true takes_one) ∙ made (one_step core t (x ∷ xs) old) old new o left is some) in
+    (sym (by-wants core t (x ∷ xs) old true takes_one) ∙ made-of (one_step core t (x ∷ xs) old) old new o left is some)
+    in
     record {
       used = x ∷ [];
       behind = behind ∙ ap (λ (y : Turn). before ++ y ∷ []) (sym same);
       front = ap (λ (ys : List Turn). x ∷ ys) parts.1;
-      made = by-wants core t (x ∷ []) old true takes_one ∙ ap (with_turns []) parts.0;
+      made-of = by-wants core t (x ∷ []) old true takes_one ∙ ap (with_turns []) parts.0;
     }
 
 -- it takes none
@@ -56,10 +54,10 @@ took-none core t rest old new o left before takes wants so is some =
     let takes_none : wants_turn old t ≡ false = sym wants ∙ so in
     let parts =
     split rest left.now (made_of (step core old t Right)) new
-    (sym (by-wants core t rest old false takes_none) ∙ made (one_step core t rest old) old new o left is some) in
+    (sym (by-wants core t rest old false takes_none) ∙ made-of (one_step core t rest old) old new o left is some) in
     record {
       used = [];
       behind = sym (append-nil before);
       front = parts.1;
-      made = by-wants core t [] old false takes_none ∙ ap (with_turns []) parts.0;
+      made-of = by-wants core t [] old false takes_none ∙ ap (with_turns []) parts.0;
     }

@@ -27,7 +27,8 @@ use Rattle.witness_build_apart_laws.specs.Looks.{leg_looks, looks_behind}
 use Rattle.witness_build_apart_laws.specs.Stores.{leg_stores, noted, stored_both, stores_behind}
 use Rattle.witness_build_apart_laws.proofs.Prefixes.{goes-on, looks-go-on, reads-go-on, stores-go-on}
 use Rattle.witness_build_walks.specs.declared.walk.Walk.{Walk}
-use Rattle.witness_build_walks.specs.Walks.{AreKept, IsNoted, IsStopped, IsWalk, entry_state, fields_of, is_loud_behind, listed}
+use Rattle.witness_build_walks.specs.Walks.{AreKept, IsNoted, IsStopped, IsWalk, entry_state, fields_of, is_loud_behind}
+use Rattle.witness_build_walks.specs.Walks.{listed}
 use Rattle.witness_build_walks.specs.Walks.{written}
 use Rattle.witness_build_walks.proofs.KeptFields.{fields-both, first-kept, none-kept, noted-on, same-kept}
 

@@ -2,8 +2,8 @@
 //! once and not once for each warning.
 //!
 //! What two legs do one after the other is told of their walks where the second is apart from the first: it reads
-//! nothing that the first stored, and waits for no monitor (`witness_build_apart_laws`). Else the second is run on a machine
-//! in which what the first walk stored is there, and the first is not.
+//! nothing that the first stored, and waits for no monitor (`witness_build_apart_laws`). Else the second is run on a
+//! machine in which what the first walk stored is there, and the first is not.
 //!
 //! The fields that a walk read are among those that it keeps, noted before its step is made, so no lemma says that a
 //! step that is stuck reads nothing. Fields are told apart by their numbers alone, whatever the objects are.

@@ -8,6 +8,7 @@ use Rattle.std.proofs.lemmas.Fmt.{decimal_by_steps}
 use Rattle.std.specs.Fmt.{decimal}
 use Rattle.std.specs.List.{All, list_all}
 use Rattle.std.specs.Option.{option_and_then}
+use Rattle.std.proofs.lemmas.Bool.{and_parts}
 use Rattle.racer_base.specs.declared.ids.ClassId.{ClassId}
 use Rattle.racer_base.specs.declared.ids.FieldId.{FieldId}
 use Rattle.racer_base.specs.Name.{fixed_words, is_listed, is_word, keywords}
@@ -20,7 +21,6 @@ use Rattle.core_code.specs.Facts.{is_class, is_field_in_range, is_kind, is_metho
 use Rattle.core_code.specs.Kinds.{same_class}
 use Rattle.core_code.specs.Names.{is_field_name, is_identifier}
 use Rattle.core_code.specs.Program.{core as core_of}
-use Rattle.core_code.proofs.BoolParts.{first_part, last_part}
 use Rattle.core_code.proofs.FieldNames.{field_name-no-dot}
 use Rattle.access_paths.specs.Text.{name_at}
 use Rattle.core_semantics.specs.declared.object.StartPath.{StartPath}
@@ -32,12 +32,14 @@ use Rattle.race_report_parts.specs.Texts.{class_names, field_names}
 use Rattle.core_semantics_kinds.specs.Reached.{Reached, Roots, TheClass, behind, behind_field, has_field, is_right}
 use Rattle.core_semantics_kinds.specs.Reached.{reached_from, roots_of}
 use Rattle.witness_text_names.specs.Objects.{object_named, path_along, path_named}
-use Rattle.witness_text.proofs.Differing.{in-at, mapped-at, passes-in}
+use Rattle.witness_text.proofs.Differing.{mapped-at}
 use Rattle.witness_text.proofs.NamedFields.{GoesOn, LeadAll, all-lead, behind-class, field-there, name-of, name_from}
 use Rattle.witness_text.proofs.NamedFields.{path-found}
 use Rattle.witness_text.proofs.NamesInTexts.{AreDotless, is_dot, names-in, no-dots, word-no-dots}
 use Rattle.witness_text.proofs.RootsFound.{IsRoot, all-are, class-word, root-found, root-there}
 use Rattle.witness_text.proofs.Replayed.{AreNamed}
+use Rattle.access_domain.proofs.Members.{in_at}
+use Rattle.access_domain.proofs.Tests.{passes_in}
 
 -- ---- bytes that are no dots
 
@@ -87,10 +89,10 @@ module _ (p : Program) (roots : Roots) where
     subst (λ (t : List ℕ). All (λ b. is_dot b ≡ false) t)
         (sym (mapped-at (λ (y : FieldCore). y.name) (core_of p).fields x.0 h.0.0 [] h.0.1))
         (field_name-no-dot h.0.0.name
-        (passes-in (λ (y : FieldCore). is_field_name y.name) (core_of p).fields h.0.0
-        (last_part (list_all (λ (y : ClassCore). is_identifier y.name) (core_of p).classes)
-        (list_all (λ (y : FieldCore). is_field_name y.name) (core_of p).fields) p.names_right)
-        (in-at (core_of p).fields x.0 h.0.0 h.0.1))),
+        (passes_in (λ (y : FieldCore). is_field_name y.name) (core_of p).fields h.0.0
+        (and_parts (list_all (λ (y : ClassCore). is_identifier y.name) (core_of p).classes)
+        (list_all (λ (y : FieldCore). is_field_name y.name) (core_of p).fields) p.names_right).1
+        (in_at (core_of p).fields x.0 h.0.0 h.0.1))),
     dotless xs h.1,
   )
 
@@ -107,8 +109,8 @@ module _ (p : Program) (f g : Method) (few_f : length f.parameters < 2 ^ 64) (fe
       where
         word-of : (t : List ℕ) → is_identifier t ≡ true → is_word t ≡ true
         word-of t e =
-            first_part (is_word t) (not (is_listed keywords t))
-            (first_part (is_word t && not (is_listed keywords t)) (not (is_listed fixed_words t)) e)
+            (and_parts (is_word t) (not (is_listed keywords t)) (and_parts (is_word t && not (is_listed keywords t))
+            (not (is_listed fixed_words t)) e).0).0
     root-dotless (Param t i) h =
         let below : t < 2 = h.0 in
         All-append (λ b. is_dot b ≡ false) (decimal t ++ codes "#") (decimal i)
@@ -122,12 +124,12 @@ module _ (p : Program) (f g : Method) (few_f : length f.parameters < 2 ^ 64) (fe
     field-class c x field there of_class =
         let class : c.0 ≡ field.class.0 = eqb-true c.0 field.class.0 of_class in
         let in_range : is_field_in_range (core_of p) field ≡ true =
-        passes-in (is_field_in_range (core_of p)) (core_of p).fields field
-        (last_part _ (list_all (is_field_in_range (core_of p)) (core_of p).fields)
-        (first_part _ (list_all (is_method_in_range (core_of p)) (core_of p).methods) p.numbers_in_range))
-        (in-at (core_of p).fields x.0 field there) in
+        passes_in (is_field_in_range (core_of p)) (core_of p).fields field
+        (and_parts _ (list_all (is_field_in_range (core_of p)) (core_of p).fields)
+        (and_parts _ (list_all (is_method_in_range (core_of p)) (core_of p).methods) p.numbers_in_range).0).1
+        (in_at (core_of p).fields x.0 field there) in
         ap (λ (n : ℕ). nat_lt n (length (core_of p).classes)) class
-        ∙ first_part (is_class (core_of p) field.class) (is_kind (core_of p) field.kind) in_range
+        ∙ (and_parts (is_class (core_of p) field.class) (is_kind (core_of p) field.kind) in_range).0
 
     -- a class root of a right path is a class that there is
     pub class-root-there : (c : ClassId) (x : FieldId) (xs : List FieldId) →
@@ -180,20 +182,21 @@ module _ (p : Program) (f g : Method) (few_f : length f.parameters < 2 ^ 64) (fe
     object-found : (q : StartPath) → is_right (core_of p) (roots_of f g) q ≡ true →
         object_named (core_of p) f g (start_text (core_of p) q) ≡ Some q
     object-found q h =
-        by q.fields refl (first_part (has_field q.fields) (is_some (reached_from (core_of p) (roots_of f g) q)) h)
+        by q.fields refl (and_parts (has_field q.fields) (is_some (reached_from (core_of p) (roots_of f g) q)) h).0
       where
         by : (xs : List FieldId) → q.fields ≡ xs → has_field xs ≡ true →
             object_named (core_of p) f g (start_text (core_of p) q) ≡ Some q
         by [] e t = absurd cc
         by (x ∷ xs) e t =
-            object-by q x xs e (last_part (has_field q.fields) (is_some (reached_from (core_of p) (roots_of f g) q)) h)
+            object-by q x xs e (and_parts (has_field q.fields) (is_some (reached_from (core_of p) (roots_of f g) q))
+            h).1
 
     pub objects-found : (qs : List StartPath) → list_all (is_right (core_of p) (roots_of f g)) qs ≡ true →
         AreNamed (core_of p) f g qs
     objects-found [] h = tt
     objects-found (q ∷ qs) h = (
-      object-found q (first_part (is_right (core_of p) (roots_of f g) q)
-          (list_all (is_right (core_of p) (roots_of f g)) qs) h),
-      objects-found qs (last_part (is_right (core_of p) (roots_of f g) q)
-          (list_all (is_right (core_of p) (roots_of f g)) qs) h),
+      object-found q (and_parts (is_right (core_of p) (roots_of f g) q)
+          (list_all (is_right (core_of p) (roots_of f g)) qs) h).0,
+      objects-found qs (and_parts (is_right (core_of p) (roots_of f g) q)
+          (list_all (is_right (core_of p) (roots_of f g)) qs) h).1,
     )

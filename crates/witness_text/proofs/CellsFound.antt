@@ -2,7 +2,7 @@
 use Rattle.std.proofs.Common.{◌≡◌, ◌<◌, ◌≤◌, ◌^◌, ◌+◌, arith, ℕ, Bool, true, false, cond, not, List, [], ◌∷◌, ◌++◌}
 use Rattle.std.proofs.Common.{Option, None, Some, is_some, length, map, refl, sym, ap, subst, ◌∙◌}
 use Rattle.std.proofs.Common.{append_assoc, append-nil, fold}
-use Rattle.std.proofs.lemmas.Bool.{lt-ltb}
+use Rattle.std.proofs.lemmas.Bool.{lt-ltb, and_parts}
 use Rattle.std.proofs.lemmas.List.Sums.{fold_push}
 use Rattle.std.specs.Option.{option_and_then, option_map}
 use Rattle.racer_base.specs.declared.ids.ClassId.{ClassId}
@@ -15,7 +15,6 @@ use Rattle.core_code.specs.Kinds.{same_class}
 use Rattle.core_code.specs.KindCheck.{field_at}
 use Rattle.core_code.specs.Facts.{is_class}
 use Rattle.core_code.specs.Program.{core as core_of}
-use Rattle.core_code.proofs.BoolParts.{first_part}
 use Rattle.core_code.proofs.Membership.{In}
 use Rattle.access_paths.specs.declared.path.Path.{Path}
 use Rattle.access_paths.specs.declared.path.Root.{Root}
@@ -85,8 +84,8 @@ cell-parts core (Some r) x h = by (field_at core x) refl h
     by (Some field) e g = record { from = r; is = refl; field = field; there = e; has = g }
 
 has-class : (field : FieldCore) (r : Reached) → has_cell field r ≡ true → same_class (class_in r) field.class ≡ true
-has-class field (ObjectOf c) h = first_part (same_class c field.class) (not field.is_static) h
-has-class field (TheClass c) h = first_part (same_class c field.class) field.is_static h
+has-class field (ObjectOf c) h = (and_parts (same_class c field.class) (not field.is_static) h).0
+has-class field (TheClass c) h = (and_parts (same_class c field.class) field.is_static h).0
 
 abbrev IsThere : Core → FieldId → Type 0
 IsThere core x = (field : FieldCore) × (field_at core x ≡ Some field)

@@ -2,24 +2,12 @@
 use Rattle.std.proofs.Common.{◌≡◌, ◌<◌, ℕ, zero, suc, ◌+◌, Bool, true, false, cond, not, List, [], ◌∷◌, Option, Some}
 use Rattle.std.proofs.Common.{filter, length, map, nat_lt, slice_get, slice_index_or, refl, sym, ap, subst, ◌∙◌}
 use Rattle.std.proofs.Common.{arith, inl, inr, ⊎_elim}
-use Rattle.std.proofs.lemmas.Bool.{lt-ltb, ltb-true}
+use Rattle.std.proofs.lemmas.Bool.{lt-ltb, ltb-true, and_parts}
 use Rattle.std.specs.List.{enumerate_from, find, list_all}
 use Rattle.core_code.specs.Names.{all_differ}
-use Rattle.core_code.proofs.BoolParts.{first_part, last_part}
 use Rattle.core_code.proofs.Membership.{In}
-
-pub in-at : {X : Type 0} (xs : List X) (i : ℕ) (x : X) → slice_get xs i ≡ Some x → In xs x
-in-at [] i x is = cc
-in-at (y ∷ xs) zero x is = let e : y ≡ x = cc in inl e
-in-at (y ∷ xs) (suc i) x is = inr (in-at xs i x is)
-
-pub passes-in : {X : Type 0} (test : X → Bool) (xs : List X) (x : X) → list_all test xs ≡ true → In xs x →
-    test x ≡ true
-passes-in test [] x all there = absurd there
-passes-in test (y ∷ xs) x all there =
-    ⊎_elim
-    (λ e. ap test (sym e) ∙ first_part (test y) (list_all test xs) all)
-    (λ r. passes-in test xs x (last_part (test y) (list_all test xs) all) r) there
+use Rattle.access_domain.proofs.Members.{filter_has, in_at}
+use Rattle.access_domain.proofs.Tests.{passes_in}
 
 kept-behind : {X : Type 0} (ys : List X) (y x : X) (b : Bool) → In ys x → In (cond b (y ∷ ys) ys) x
 kept-behind ys y x true h = inr h
@@ -30,24 +18,18 @@ kept-here : {X : Type 0} (keep : X → Bool) (ys : List X) (y x : X) → y ≡ x
 kept-here keep ys y x e k =
     subst (λ (b : Bool). In (cond b (y ∷ ys) ys) x) (sym (ap keep e ∙ k)) (inl e)
 
-in-kept : {X : Type 0} (keep : X → Bool) (xs : List X) (x : X) → In xs x → keep x ≡ true → In (filter keep xs) x
-in-kept keep [] x h k = absurd h
-in-kept keep (y ∷ xs) x h k =
-    ⊎_elim (λ e. kept-here keep (filter keep xs) y x e k)
-    (λ r. kept-behind (filter keep xs) y x (keep y) (in-kept keep xs x r k)) h
-
-both-not : (b : Bool) → b ≡ true → not b ≡ true → ⊥
+pub both-not : (b : Bool) → b ≡ true → not b ≡ true → ⊥
 both-not true a b = let wrong : false ≡ true = b in absurd cc
 both-not false a b = let wrong : false ≡ true = a in absurd cc
 
 differ-rest : {X : Type 0} (same : X → X → Bool) (y : X) (ys : List X) (b : Bool) →
     all_differ same (cond b (y ∷ ys) ys) ≡ true → all_differ same ys ≡ true
-differ-rest same y ys true h = last_part (list_all (λ z. not (same y z)) ys) (all_differ same ys) h
+differ-rest same y ys true h = (and_parts (list_all (λ z. not (same y z)) ys) (all_differ same ys) h).1
 differ-rest same y ys false h = h
 
 differ-first : {X : Type 0} (same : X → X → Bool) (y : X) (ys : List X) (b : Bool) → b ≡ true →
     all_differ same (cond b (y ∷ ys) ys) ≡ true → list_all (λ z. not (same y z)) ys ≡ true
-differ-first same y ys true e h = first_part (list_all (λ z. not (same y z)) ys) (all_differ same ys) h
+differ-first same y ys true e h = (and_parts (list_all (λ z. not (same y z)) ys) (all_differ same ys) h).0
 differ-first same y ys false e h = absurd cc
 
 -- what passes is kept, and is the same as the one at the index
@@ -74,8 +56,8 @@ found-kept same keep test n (y ∷ xs) (suc i) x differ is passes kept one =
     (λ t.
     let y_is = one y (inl refl) t in
     both-not (same y x) y_is.1
-    (passes-in (λ z. not (same y z)) (filter keep xs) x (differ-first same y (filter keep xs) (keep y) y_is.0 differ)
-    (in-kept keep xs x (in-at xs i x is) kept)))
+    (passes_in (λ z. not (same y z)) (filter keep xs) x (differ-first same y (filter keep xs) (keep y) y_is.0 differ)
+    (filter_has keep xs x (in_at xs i x is) kept)))
     (found-kept same keep test (n + 1) xs i x (differ-rest same y (filter keep xs) (keep y) differ) is passes kept
     (λ z there t. one z (inr there) t)
     ∙ (λ k. Some (shift k, x)))
@@ -89,16 +71,16 @@ one-index same (y ∷ xs) zero (suc j) a b differ is_a is_b ab ba =
     let e : y ≡ a = cc in
     absurd (both-not (same a b) ab
     (subst (λ (z : _). not (same z b) ≡ true) e
-    (passes-in (λ z. not (same y z)) xs b (first_part (list_all (λ z. not (same y z)) xs) (all_differ same xs) differ)
-    (in-at xs j b is_b))))
+    (passes_in (λ z. not (same y z)) xs b (and_parts (list_all (λ z. not (same y z)) xs) (all_differ same xs) differ).0
+    (in_at xs j b is_b))))
 one-index same (y ∷ xs) (suc i) zero a b differ is_a is_b ab ba =
     let e : y ≡ b = cc in
     absurd (both-not (same b a) ba
     (subst (λ (z : _). not (same z a) ≡ true) e
-    (passes-in (λ z. not (same y z)) xs a (first_part (list_all (λ z. not (same y z)) xs) (all_differ same xs) differ)
-    (in-at xs i a is_a))))
+    (passes_in (λ z. not (same y z)) xs a (and_parts (list_all (λ z. not (same y z)) xs) (all_differ same xs) differ).0
+    (in_at xs i a is_a))))
 one-index same (y ∷ xs) (suc i) (suc j) a b differ is_a is_b ab ba =
-    ap suc (one-index same xs i j a b (last_part (list_all (λ z. not (same y z)) xs) (all_differ same xs) differ) is_a
+    ap suc (one-index same xs i j a b (and_parts (list_all (λ z. not (same y z)) xs) (all_differ same xs) differ).1 is_a
     is_b ab ba)
 
 -- an element at an index in range

@@ -2,7 +2,7 @@
 use Rattle.std.proofs.Common.{◌≡◌, ◌<◌, ℕ, ◌+◌, ◌^◌, Bool, true, ◌&&◌, ◌||◌, not, List, []}
 use Rattle.std.proofs.Common.{◌≤◌, false, Option, None, Some, is_none, is_some, length, nat_eq, nat_le, slice_get}
 use Rattle.std.proofs.Common.{refl, sym, ap, ◌∙◌, arith}
-use Rattle.std.proofs.lemmas.Bool.{eq-eqb, leb-true}
+use Rattle.std.proofs.lemmas.Bool.{eq-eqb, leb-true, and_from, and_parts}
 use Rattle.std.specs.List.{list_all}
 use Rattle.racer_base.specs.declared.ids.ClassId.{ClassId}
 use Rattle.racer_base.specs.declared.ids.MethodId.{MethodId}
@@ -16,15 +16,16 @@ use Rattle.core_code.specs.Facts.{are_parameters_few, has_few_parameters, is_cla
 use Rattle.core_code.specs.Facts.{is_method_in_range, is_place, may_be_entry}
 use Rattle.core_code.specs.Names.{same_signature, same_text}
 use Rattle.core_code.specs.Program.{core as core_of}
-use Rattle.core_code.proofs.BoolParts.{first_part, last_part}
 use Rattle.core_code.proofs.Membership.{In}
 use Rattle.access_paths.specs.Text.{name_at}
 use Rattle.race_report_parts.specs.Texts.{class_names}
 use Rattle.race_report_parts.specs.WitnessFiles.{entry_text}
 use Rattle.witness_text_names.specs.Names.{entry_named, is_named}
-use Rattle.witness_text.proofs.Differing.{OneOf, found-kept, in-at, mapped-at, one-index, passes-in, there}
+use Rattle.witness_text.proofs.Differing.{OneOf, found-kept, mapped-at, one-index, there}
 use Rattle.witness_text.proofs.EntryTexts.{entry-told}
-use Rattle.witness_text.proofs.NamedFields.{both, text-equal, text-refl}
+use Rattle.witness_text.proofs.NamedFields.{text-equal, text-refl}
+use Rattle.access_domain.proofs.Members.{in_at}
+use Rattle.access_domain.proofs.Tests.{passes_in}
 
 abbrev same_name : ClassCore → ClassCore → Bool
 same_name a b = same_text a.name b.name
@@ -52,31 +53,30 @@ one-class p c d in_c in_d e =
 
 in-range : (p : Program) (m : Method) → In (core_of p).methods m → is_method_in_range (core_of p) m ≡ true
 in-range p m stands =
-    passes-in (is_method_in_range (core_of p)) (core_of p).methods m
-    (last_part _ (list_all (is_method_in_range (core_of p)) (core_of p).methods) p.numbers_in_range) stands
+    passes_in (is_method_in_range (core_of p)) (core_of p).methods m
+    (and_parts _ (list_all (is_method_in_range (core_of p)) (core_of p).methods) p.numbers_in_range).1 stands
 
 class-in : (core : Core) (m : Method) → is_method_in_range core m ≡ true → is_class core m.class ≡ true
 class-in core m h =
-    first_part (is_class core m.class) (is_place core m.place)
-    (first_part (is_class core m.class && is_place core m.place) (list_all (is_kind core) m.parameters)
-    (first_part (is_class core m.class && is_place core m.place && list_all (is_kind core) m.parameters)
-    (is_kind core m.result)
-    (first_part _ (list_all (is_kind core) m.variables)
-    (first_part _ (is_code core (length m.variables) m.code) h))))
+    (and_parts (is_class core m.class) (is_place core m.place)
+    (and_parts (is_class core m.class && is_place core m.place) (list_all (is_kind core) m.parameters)
+    (and_parts (is_class core m.class && is_place core m.place && list_all (is_kind core) m.parameters)
+    (is_kind core m.result) (and_parts _ (list_all (is_kind core) m.variables)
+    (and_parts _ (is_code core (length m.variables) m.code) h).0).0).0).0).0
 
 pub method-class : (p : Program) (m : Method) → In (core_of p).methods m → is_class (core_of p) m.class ≡ true
 method-class p m stands = class-in (core_of p) m (in-range p m stands)
 
 entry-analysed : (core : Core) (m : Method) → may_be_entry core m ≡ true → m.entry ≡ true → is_none m.status ≡ true
 entry-analysed core m h e =
-    first_part (is_none m.status) (is_checked core m.class)
-    (sym (ap (λ (b : Bool). not b || (is_none m.status && is_checked core m.class)) e) ∙ h)
+    (and_parts (is_none m.status) (is_checked core m.class)
+    (sym (ap (λ (b : Bool). not b || (is_none m.status && is_checked core m.class)) e) ∙ h)).0
 
 pub few-of : (core : Core) (m : Method) → are_parameters_few core ≡ true → In core.methods m →
     is_none m.status ≡ true →
     length m.parameters < 2 ^ 64
 few-of core m few stands analysed =
-    let has : has_few_parameters m ≡ true = passes-in has_few_parameters core.methods m few stands in
+    let has : has_few_parameters m ≡ true = passes_in has_few_parameters core.methods m few stands in
     let below : length m.parameters ≤ MAX_PARAMETERS =
     leb-true (length m.parameters) MAX_PARAMETERS (at-most m.status analysed has) in
     let most : MAX_PARAMETERS ≡ 64 = refl in
@@ -93,7 +93,7 @@ pub entry-few : (p : Program) (m : Method) → In (core_of p).methods m → m.en
 entry-few p m stands entry =
     few-of (core_of p) m p.parameters_few stands
     (entry-analysed (core_of p) m
-    (passes-in (may_be_entry (core_of p)) (core_of p).methods m p.entries_analysed stands) entry)
+    (passes_in (may_be_entry (core_of p)) (core_of p).methods m p.entries_analysed stands) entry)
 
 -- ---- entries
 
@@ -113,24 +113,25 @@ named-parts : (core : Core) (class text : List ℕ) (m : Method) → is_named co
     (m.entry ≡ true) × (class_of core m ≡ class) × (entry_text m ≡ text)
 named-parts core class text m h =
     let two : (m.entry && same_text (class_of core m) class) ≡ true =
-    first_part (m.entry && same_text (class_of core m) class) (same_text (entry_text m) text) h in (
-      first_part m.entry (same_text (class_of core m) class) two,
-      text-equal (class_of core m) class (last_part m.entry (same_text (class_of core m) class) two),
+    (and_parts (m.entry && same_text (class_of core m) class) (same_text (entry_text m) text) h).0 in (
+      (and_parts m.entry (same_text (class_of core m) class) two).0,
+      text-equal (class_of core m) class (and_parts m.entry (same_text (class_of core m) class) two).1,
       text-equal (entry_text m) text
-          (last_part (m.entry && same_text (class_of core m) class) (same_text (entry_text m) text) h),
+          (and_parts (m.entry && same_text (class_of core m) class) (same_text (entry_text m) text) h).1,
     )
 
 named-self : (core : Core) (m : Method) → m.entry ≡ true → is_named core (class_of core m) (entry_text m) m ≡ true
 named-self core m entry =
-    both (m.entry && same_text (class_of core m) (class_of core m)) (same_text (entry_text m) (entry_text m))
-    (both m.entry (same_text (class_of core m) (class_of core m)) entry (text-refl (class_of core m)))
+    and_from (m.entry && same_text (class_of core m) (class_of core m)) (same_text (entry_text m) (entry_text m))
+    (and_from m.entry (same_text (class_of core m) (class_of core m)) entry (text-refl (class_of core m)))
     (text-refl (entry_text m))
 
 same-signature : (a b : Method) → a.class.0 ≡ b.class.0 → a.name ≡ b.name → length a.parameters ≡ length b.parameters →
     same_signature a b ≡ true
 same-signature a b class name count =
-    both (nat_eq a.class.0 b.class.0 && same_text a.name b.name) (nat_eq (length a.parameters) (length b.parameters))
-    (both (nat_eq a.class.0 b.class.0) (same_text a.name b.name) (eq-eqb a.class.0 b.class.0 class)
+    and_from (nat_eq a.class.0 b.class.0 && same_text a.name b.name)
+    (nat_eq (length a.parameters) (length b.parameters))
+    (and_from (nat_eq a.class.0 b.class.0) (same_text a.name b.name) (eq-eqb a.class.0 b.class.0 class)
     (ap (λ (n : List ℕ). same_text n b.name) name ∙ text-refl b.name))
     (eq-eqb (length a.parameters) (length b.parameters) count)
 
@@ -145,11 +146,11 @@ entry-found p m f is entry =
     core = core_of p
 
     f_in : In core.methods f
-    f_in = in-at core.methods m.0 f is
+    f_in = in_at core.methods m.0 f is
 
     analysed : (x : Method) → In core.methods x → x.entry ≡ true → is_none x.status ≡ true
     analysed x x_in e =
-        entry-analysed core x (passes-in (may_be_entry core) core.methods x p.entries_analysed x_in) e
+        entry-analysed core x (passes_in (may_be_entry core) core.methods x p.entries_analysed x_in) e
 
     one : OneOf same_signature (λ x. is_none x.status) (is_named core (class_of core f) (entry_text f)) core.methods f
     one y y_in t =

@@ -2,7 +2,7 @@
 use Rattle.std.proofs.Common.{◌≡◌, ℕ, ◌+◌, Bool, true, false, cond, ◌&&◌, not, List, [], ◌∷◌, ◌++◌, Option, None, Some}
 use Rattle.std.proofs.Common.{is_some, map, nat_eq, refl, sym, ap, subst, ◌∙◌, arith, append_assoc, append-nil, fold}
 use borrow.Author.Tests.{eqb-true}
-use Rattle.std.proofs.lemmas.Bool.{eq-eqb}
+use Rattle.std.proofs.lemmas.Bool.{eq-eqb, and_from, and_parts}
 use Rattle.std.proofs.lemmas.List.Sums.{fold_push}
 use Rattle.std.specs.Option.{option_and_then, option_map}
 use Rattle.racer_base.specs.declared.ids.FieldId.{FieldId}
@@ -13,7 +13,6 @@ use Rattle.core_code.specs.Kinds.{same_class}
 use Rattle.core_code.specs.KindCheck.{field_at}
 use Rattle.core_code.specs.Names.{do_fields_differ, same_field, same_text}
 use Rattle.core_code.specs.Program.{core as core_of}
-use Rattle.core_code.proofs.BoolParts.{first_part, last_part}
 use Rattle.core_semantics.specs.declared.object.StartPath.{StartPath}
 use Rattle.core_semantics.specs.Objects.{lengthened, root_path}
 use Rattle.core_semantics_kinds.specs.Reached.{ObjectOf, Reached, Roots, TheClass, behind, behind_field, object_of}
@@ -22,22 +21,19 @@ use Rattle.witness_text_names.specs.Names.{class_in, field_named, is_field_named
 use Rattle.witness_text_names.specs.Objects.{one_field, path_along}
 use Rattle.witness_text.proofs.FirstFound.{found-first}
 
-pub both : (a b : Bool) → a ≡ true → b ≡ true → (a && b) ≡ true
-both a b p q = ap (λ (x : Bool). x && b) p ∙ q
-
 -- ---- texts
 
 pub text-refl : (t : List ℕ) → same_text t t ≡ true
 text-refl [] = refl
-text-refl (b ∷ bs) = both (nat_eq b b) (same_text bs bs) (eq-eqb b b refl) (text-refl bs)
+text-refl (b ∷ bs) = and_from (nat_eq b b) (same_text bs bs) (eq-eqb b b refl) (text-refl bs)
 
 pub text-equal : (s t : List ℕ) → same_text s t ≡ true → s ≡ t
 text-equal [] [] h = refl
 text-equal [] (b ∷ bs) h = absurd cc
 text-equal (a ∷ cs) [] h = absurd cc
 text-equal (a ∷ cs) (b ∷ bs) h =
-    let head : a ≡ b = eqb-true a b (first_part (nat_eq a b) (same_text cs bs) h) in
-    let rest : cs ≡ bs = text-equal cs bs (last_part (nat_eq a b) (same_text cs bs) h) in
+    let head : a ≡ b = eqb-true a b (and_parts (nat_eq a b) (same_text cs bs) h).0 in
+    let rest : cs ≡ bs = text-equal cs bs (and_parts (nat_eq a b) (same_text cs bs) h).1 in
     (λ i. head i ∷ rest i)
 
 -- ---- the field of a name
@@ -67,7 +63,7 @@ pub named-field : (core : Core) (r : Reached) (f : FieldId) (field : FieldCore) 
 named-field core r f field differ there of_class =
     ap (option_map (λ (e : ℕ × FieldCore). let g : FieldId = record { 0 = e.0 } in g))
     (found-first same_field (is_field_named (class_in r) field.name) 0 core.fields f.0 field differ there
-    (both (same_class (class_in r) field.class) (same_text field.name field.name) of_class
+    (and_from (same_class (class_in r) field.class) (same_text field.name field.name) of_class
     (text-refl field.name)) one)
     ∙ (let zero_on : 0 + f.0 ≡ f.0 = omega arith in
     ap (λ (n : ℕ). let g : FieldId = record { 0 = n } in Some g) zero_on)
@@ -76,12 +72,12 @@ named-field core r f field differ there of_class =
     one y h =
         let class : (class_in r).0 ≡ y.class.0 =
         eqb-true (class_in r).0 y.class.0
-        (first_part (same_class (class_in r) y.class) (same_text y.name field.name) h) in
+        (and_parts (same_class (class_in r) y.class) (same_text y.name field.name) h).0 in
         let wanted : (class_in r).0 ≡ field.class.0 =
         eqb-true (class_in r).0 field.class.0 of_class in
-        both (nat_eq y.class.0 field.class.0) (same_text y.name field.name)
+        and_from (nat_eq y.class.0 field.class.0) (same_text y.name field.name)
         (eq-eqb y.class.0 field.class.0 (sym class ∙ wanted))
-        (last_part (same_class (class_in r) y.class) (same_text y.name field.name) h)
+        (and_parts (same_class (class_in r) y.class) (same_text y.name field.name) h).1
 
 -- ---- along the fields of a path
 

@@ -5,9 +5,9 @@ use borrow.Author.Tests.{eqb-true}
 use Rattle.std.proofs.lemmas.List.Splits.{slice_split_at, slice_split_none}
 use Rattle.std.proofs.lemmas.List.Elements.{All-cons, All-nil}
 use Rattle.std.specs.List.{All, list_all, slice_split}
+use Rattle.std.proofs.lemmas.Bool.{and_parts}
 use Rattle.racer_base.specs.declared.ids.FieldId.{FieldId}
 use Rattle.racer_base.specs.Name.{is_digit, is_letter, is_word, is_word_byte}
-use Rattle.core_code.proofs.BoolParts.{first_part, last_part}
 use Rattle.access_paths.specs.Text.{fields_text, name_at}
 use Rattle.witness_text_names.specs.Names.{names_in}
 
@@ -27,8 +27,8 @@ no-dot-byte b h = by (is_dot b) refl
 pub no-dots : (bs : List ℕ) → list_all is_word_byte bs ≡ true → All (λ b. is_dot b ≡ false) bs
 no-dots [] h = All-nil (λ b. is_dot b ≡ false)
 no-dots (b ∷ bs) h =
-    All-cons (λ b. is_dot b ≡ false) b bs (no-dot-byte b (first_part (is_word_byte b) (list_all is_word_byte bs) h))
-    (no-dots bs (last_part (is_word_byte b) (list_all is_word_byte bs) h))
+    All-cons (λ b. is_dot b ≡ false) b bs (no-dot-byte b (and_parts (is_word_byte b) (list_all is_word_byte bs) h).0)
+    (no-dots bs (and_parts (is_word_byte b) (list_all is_word_byte bs) h).1)
 
 letter-is : (b : ℕ) → is_letter b ≡ true → is_word_byte b ≡ true
 letter-is b h = ap (λ (t : Bool). t || is_digit b) h
@@ -37,8 +37,8 @@ pub word-no-dots : (text : List ℕ) → is_word text ≡ true → All (λ b. is
 word-no-dots [] h = All-nil (λ b. is_dot b ≡ false)
 word-no-dots (b ∷ bs) h =
     All-cons (λ b. is_dot b ≡ false) b bs
-    (no-dot-byte b (letter-is b (first_part (is_letter b) (list_all is_word_byte bs) h)))
-    (no-dots bs (last_part (is_letter b) (list_all is_word_byte bs) h))
+    (no-dot-byte b (letter-is b (and_parts (is_letter b) (list_all is_word_byte bs) h).0))
+    (no-dots bs (and_parts (is_letter b) (list_all is_word_byte bs) h).1)
 
 -- no name of a field has a dot
 abbrev pub AreDotless : List (List ℕ) → List FieldId → Type 0

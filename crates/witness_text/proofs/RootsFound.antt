@@ -3,7 +3,7 @@ use Rattle.std.proofs.Common.{◌≡◌, ◌<◌, ℕ, zero, suc, ◌+◌, ◌^�
 use Rattle.std.proofs.Common.{Option, None, Some, codes, is_some, length, map, nat_eq, nat_lt, slice_get}
 use Rattle.std.proofs.Common.{refl, sym, ap, subst, ◌∙◌, arith, ◌⊎◌, inl, inr, ⊎_elim, cond}
 use borrow.Author.Tests.{eqb-true}
-use Rattle.std.proofs.lemmas.Bool.{lt-ltb}
+use Rattle.std.proofs.lemmas.Bool.{lt-ltb, and_parts}
 use Rattle.std.proofs.lemmas.Fmt.{decimal_digit, decimal_injective}
 use Rattle.std.specs.Fmt.{decimal}
 use Rattle.std.specs.List.{enumerate_from, list_all}
@@ -17,8 +17,7 @@ use Rattle.core_code.specs.Core.{Method}
 use Rattle.core_code.specs.Facts.{is_class}
 use Rattle.core_code.specs.Names.{is_field_name, is_identifier, same_text}
 use Rattle.core_code.specs.Program.{core as core_of}
-use Rattle.core_code.proofs.BoolParts.{first_part}
-use Rattle.core_code.proofs.Membership.{In}
+use Rattle.core_code.proofs.Membership.{In, in_append, in_left, in_right}
 use Rattle.access_paths.specs.Text.{name_at}
 use Rattle.core_semantics.specs.declared.object.StartRoot.{StartRoot}
 use Rattle.core_semantics.specs.declared.object.StartRoot.TheVariants.{This, Class, Param}
@@ -26,24 +25,13 @@ use Rattle.race_report_parts.specs.Marks.{start_root_text}
 use Rattle.race_report_parts.specs.Texts.{class_names}
 use Rattle.core_semantics_kinds.specs.Reached.{object_of, parameter_root, roots_of}
 use Rattle.witness_text_names.specs.Names.{all_roots, class_roots, parameters_of, root_named}
-use Rattle.witness_text.proofs.Differing.{found-one, in-at, passes-in}
+use Rattle.witness_text.proofs.Differing.{found-one}
 use Rattle.witness_text.proofs.EntriesFound.{class-there, one-class}
 use Rattle.witness_text.proofs.NamedFields.{text-equal, text-refl}
+use Rattle.access_domain.proofs.Members.{in_at}
+use Rattle.access_domain.proofs.Tests.{passes_in}
 
 -- ---- members
-
-in-left : {X : Type 0} (xs ys : List X) (y : X) → In xs y → In (xs ++ ys) y
-in-left [] ys y h = absurd h
-in-left (x ∷ xs) ys y h = ⊎_elim (λ e. inl e) (λ r. inr (in-left xs ys y r)) h
-
-in-right : {X : Type 0} (xs ys : List X) (y : X) → In ys y → In (xs ++ ys) y
-in-right [] ys y h = h
-in-right (x ∷ xs) ys y h = inr (in-right xs ys y h)
-
-in-either : {X : Type 0} (xs ys : List X) (y : X) → In (xs ++ ys) y → In xs y ⊎ In ys y
-in-either [] ys y h = inr h
-in-either (x ∷ xs) ys y h =
-    ⊎_elim (λ e. inl (inl e)) (λ r. ⊎_elim (λ a. inl (inr a)) (λ b. inr b) (in-either xs ys y r)) h
 
 -- numbered elements of a list, each made into something
 numbered-has : {X Y : Type 0} (h : ℕ → X → Y) (n : ℕ) (xs : List X) (i : ℕ) (x : X) → slice_get xs i ≡ Some x →
@@ -86,9 +74,9 @@ module _ (p : Program) (f g : Method) (few_f : length f.parameters < 2 ^ 64) (fe
         subst (λ (k : ℕ). nat_lt k (length (core_of p).classes) ≡ true) (sym same)
         (lt-ltb i (length (core_of p).classes) below)) c)
         (λ q. numbered-of (Param 0) 0 f.parameters y IsRoot (λ i below. (omega arith, omega (arith, below, few_f))) q)
-        (in-either (class_roots (core_of p)) (parameters_of 0 f) y a))
+        (in_append (class_roots (core_of p)) (parameters_of 0 f) y a))
         (λ b. numbered-of (Param 1) 0 g.parameters y IsRoot (λ i below. (omega arith, omega (arith, below, few_g))) b)
-        (in-either (class_roots (core_of p) ++ parameters_of 0 f) (parameters_of 1 g) y r)) h
+        (in_append (class_roots (core_of p) ++ parameters_of 0 f) (parameters_of 1 g) y r)) h
 
     -- ---- texts of different roots differ
 
@@ -106,10 +94,10 @@ module _ (p : Program) (f g : Method) (few_f : length f.parameters < 2 ^ 64) (fe
     class-word c h =
         let one = class-there (core_of p) c h in
         ap is_identifier one.2
-        ∙ passes-in (λ (x : ClassCore). is_identifier x.name) (core_of p).classes one.0
-        (first_part (list_all (λ (x : ClassCore). is_identifier x.name) (core_of p).classes)
-        (list_all (λ (x : FieldCore). is_field_name x.name) (core_of p).fields) p.names_right)
-        (in-at (core_of p).classes c.0 one.0 one.1)
+        ∙ passes_in (λ (x : ClassCore). is_identifier x.name) (core_of p).classes one.0
+        (and_parts (list_all (λ (x : ClassCore). is_identifier x.name) (core_of p).classes)
+        (list_all (λ (x : FieldCore). is_field_name x.name) (core_of p).fields) p.names_right).0
+        (in_at (core_of p).classes c.0 one.0 one.1)
 
     this-no-class : (name : List ℕ) → is_identifier name ≡ true → codes "this" ≡ name → ⊥
     this-no-class name h e =
@@ -174,8 +162,8 @@ module _ (p : Program) (f g : Method) (few_f : length f.parameters < 2 ^ 64) (fe
         let one = class-there (core_of p) c h in
         let has = numbered-has (λ n (x : ClassCore). Class (record { 0 = n })) 0 (core_of p).classes c.0 one.0 one.1 in
         let same : 0 + c.0 ≡ c.0 = omega arith in
-        inr (in-left (class_roots (core_of p) ++ parameters_of 0 f) (parameters_of 1 g) (Class c)
-        (in-left (class_roots (core_of p)) (parameters_of 0 f) (Class c)
+        inr (in_left (class_roots (core_of p) ++ parameters_of 0 f) (parameters_of 1 g) (Class c)
+        (in_left (class_roots (core_of p)) (parameters_of 0 f) (Class c)
         (subst (λ (n : ℕ). In (class_roots (core_of p)) (Class (record { 0 = n }))) same has.1)))
 
     kind-there : (kinds : List Kind) (i : ℕ) → is_some (parameter_root i kinds) ≡ true →
@@ -193,8 +181,8 @@ module _ (p : Program) (f g : Method) (few_f : length f.parameters < 2 ^ 64) (fe
         let one = kind-there f.parameters i h in
         let has = numbered-has (λ n (x : Kind). Param 0 n) 0 f.parameters i one.0 one.1 in
         let same : 0 + i ≡ i = omega arith in
-        inr (in-left (class_roots (core_of p) ++ parameters_of 0 f) (parameters_of 1 g) (Param 0 i)
-        (in-right (class_roots (core_of p)) (parameters_of 0 f) (Param 0 i)
+        inr (in_left (class_roots (core_of p) ++ parameters_of 0 f) (parameters_of 1 g) (Param 0 i)
+        (in_right (class_roots (core_of p)) (parameters_of 0 f) (Param 0 i)
         (subst (λ (n : ℕ). In (parameters_of 0 f) (Param 0 n)) same has.1)))
 
     parameter-second : (i : ℕ) → is_some (parameter_root i g.parameters) ≡ true →
@@ -203,7 +191,7 @@ module _ (p : Program) (f g : Method) (few_f : length f.parameters < 2 ^ 64) (fe
         let one = kind-there g.parameters i h in
         let has = numbered-has (λ n (x : Kind). Param 1 n) 0 g.parameters i one.0 one.1 in
         let same : 0 + i ≡ i = omega arith in
-        inr (in-right (class_roots (core_of p) ++ parameters_of 0 f) (parameters_of 1 g) (Param 1 i)
+        inr (in_right (class_roots (core_of p) ++ parameters_of 0 f) (parameters_of 1 g) (Param 1 i)
         (subst (λ (n : ℕ). In (parameters_of 1 g) (Param 1 n)) same has.1))
 
     -- a root that leads somewhere, a class being one that there is

@@ -33,9 +33,9 @@ use Rattle.witness_text_names.specs.Names.{entry_named}
 use Rattle.witness_text_names.specs.Objects.{named_path}
 use Rattle.witness_text.proofs.Assembled.{objects-found}
 use Rattle.witness_text.proofs.CellsFound.{cell-found, cell_at}
-use Rattle.witness_text.proofs.Differing.{in-at}
 use Rattle.witness_text.proofs.EntriesFound.{entry-few, entry-found}
 use Rattle.witness_text.proofs.Replayed.{all-named, legs-end, race-is}
+use Rattle.access_domain.proofs.Members.{in_at}
 
 -- the verdict where the entries are found, and the objects and the cell are named
 pub verdict-races : (core : Core) (file : File) (m1 m2 : MethodId) (objects : List StartPath) (cell : Cell)
@@ -61,8 +61,8 @@ pub written-named : (p : Program) (m1 m2 : MethodId) (f g : Method) (path : Path
     (cell_at path x)
 written-named p m1 m2 f g path x objects a b is_f is_g entry_f entry_g class right limit last lasts cell =
     let core : Core = core_of p in
-    let few_f : length f.parameters < 2 ^ 64 = entry-few p f (in-at core.methods m1.0 f is_f) entry_f in
-    let few_g : length g.parameters < 2 ^ 64 = entry-few p g (in-at core.methods m2.0 g is_g) entry_g in
+    let few_f : length f.parameters < 2 ^ 64 = entry-few p f (in_at core.methods m1.0 f is_f) entry_f in
+    let few_g : length g.parameters < 2 ^ 64 = entry-few p g (in_at core.methods m2.0 g is_g) entry_g in
     record {
       entry = f;
       partner = g;

@@ -92,7 +92,8 @@ no_names core f g text cut =
     by (root_named core f g text) ∙ sym (ap (λ (ns : List (List ℕ)). cell_of core f g ns) cut)
   where
     by_root : (r : StartRoot) (b : Bool) →
-        None ≡ option_and_then short_cell (cond b (cell_along core (roots_of f g) [] (at core (roots_of f g) r [])) None)
+        None ≡ option_and_then short_cell
+        (cond b (cell_along core (roots_of f g) [] (at core (roots_of f g) r [])) None)
     by_root r true = refl
     by_root r false = refl
 

@@ -1,7 +1,6 @@
 -- The index of fields has each field at its name and class, of two the first.
 use Rattle.std.proofs.Common.{◌≡◌, ◌<◌, ◌≤◌, ℕ, ◌+◌, Bool, true, false, cond, ◌&&◌, List, ◌∷◌, Option, None, Some}
 use Rattle.std.proofs.Common.{drop, get_or, length, nat_eq, refl, sym, ap, ◌∙◌}
-use Rattle.std.proofs.lemmas.Bool.{eq-eqb, eqb-true}
 use Rattle.std.proofs.lemmas.List.{at_drop_all, at_drop_more}
 use Rattle.std.specs.BTreeMap.{get, get_by_text}
 use Rattle.std.specs.Cmp.Lexicographic.{same_text}
@@ -11,13 +10,11 @@ use Rattle.std.specs.Ordering.{nat_cmp}
 use Rattle.std.specs.Prelude.{bytes_eq}
 use Rattle.racer_base.specs.declared.ids.ClassId.{ClassId}
 use Rattle.racer_base.specs.declared.ids.FieldId.{FieldId}
+use Rattle.racer_base.proofs.Lists.{option_or-none}
 use Rattle.core_code.specs.declared.parts.FieldCore.{FieldCore}
 use Rattle.witness_text_names.specs.Indexes.{AddsField, FieldIndex, FindsFields, Keyed, field_among, field_at, keyed_at}
 use Rattle.witness_text_names.specs.Names.{is_field_named}
-
-or_nothing : (o : Option FieldId) → option_or o None ≡ o
-or_nothing None = refl
-or_nothing (Some x) = refl
+use Rattle.access_domain.proofs.NumberedKeys.{numbers_back}
 
 -- the first of two, and then what is left
 or_next : (o : Option FieldId) (b : Bool) (x : FieldId) (rest : Option FieldId) →
@@ -25,17 +22,6 @@ or_next : (o : Option FieldId) (b : Bool) (x : FieldId) (rest : Option FieldId) 
 or_next None true x rest = refl
 or_next None false x rest = refl
 or_next (Some y) b x rest = refl
-
-swapped : (m n : ℕ) → nat_eq m n ≡ nat_eq n m
-swapped m n = by (nat_eq m n) (nat_eq n m) refl refl
-  where
-    by : (a b : Bool) → nat_eq m n ≡ a → nat_eq n m ≡ b → a ≡ b
-    by true true p q = refl
-    by false false p q = refl
-    by true false p q =
-        let wrong : false ≡ true = sym q ∙ eq-eqb n m (sym (eqb-true m n p)) in absurd cc
-    by false true p q =
-        let wrong : false ≡ true = sym p ∙ eq-eqb m n (sym (eqb-true n m q)) in absurd cc
 
 and_true : (b : Bool) → b ≡ (b && true)
 and_true true = refl
@@ -64,10 +50,10 @@ field_added old new field number name keyed is adds puts c other =
           ∙ ap (λ text. option_or (field_at old c text) (cond here (Some number) None)) same
           ∙ ap (λ b. option_or had (cond b (Some number) None)) (and_true here)
       | false ↦ λ e there.
-          ap (keyed_at c.0) there ∙ sym (or_nothing had)
+          ap (keyed_at c.0) there ∙ sym (option_or-none had)
           ∙ ap (λ b. option_or had (cond b (Some number) None)) (and_false here)
     ] refl (puts other)
-    ∙ ap (λ b. option_or had (cond (b && bytes_eq name other) (Some number) None)) (swapped field.class.0 c.0)
+    ∙ ap (λ b. option_or had (cond (b && bytes_eq name other) (Some number) None)) (numbers_back field.class.0 c.0)
     ∙ ap (λ text. option_or had (cond (nat_eq c.0 field.class.0 && bytes_eq text other) (Some number) None)) is
 
 -- what was found so far, and then what is left, finds what all do
@@ -113,6 +99,6 @@ fields_next old new fields i x number within is counts adds left c name =
 pub fields_end : (index : FieldIndex) (fields : List FieldCore) (i : ℕ) → length fields ≤ i →
     FieldsLeft index i fields → FindsFields fields index
 fields_end index fields i past left c name =
-    sym (or_nothing (field_at index c name))
+    sym (option_or-none (field_at index c name))
     ∙ ap (option_or (field_at index c name)) (sym (at_drop_all (λ ys. field_among i ys c name) fields i past))
     ∙ left c name

@@ -12,10 +12,7 @@ use Rattle.core_semantics.specs.declared.object.StartRoot.{StartRoot}
 use Rattle.core_semantics.specs.declared.object.StartRoot.TheVariants.{This}
 use Rattle.race_report_parts.specs.Marks.{start_root_text}
 use Rattle.witness_text_names.specs.Indexes.{AddsRoots, FindsRoots, RootIndex, has_text, root_at}
-
-or_nothing : (o : Option StartRoot) → option_or o None ≡ o
-or_nothing None = refl
-or_nothing (Some x) = refl
+use Rattle.racer_base.proofs.Lists.{option_or-none}
 
 or_next : (o : Option StartRoot) (b : Bool) (x : StartRoot) (rest : Option StartRoot) →
     option_or (option_or o (cond b (Some x) None)) rest ≡ option_or o (cond b (Some x) rest)
@@ -36,7 +33,7 @@ root_added core root old new own is none puts other =
           let same : own ≡ other = same_text own other (sym e) in
           there
           ∙ ap (λ o. option_or o (Some root)) (none ∙ ap (root_at old) same)
-      | false ↦ λ e there. there ∙ sym (or_nothing (root_at old other))
+      | false ↦ λ e there. there ∙ sym (option_or-none (root_at old other))
     ] refl (puts other)
     ∙ ap (λ text. option_or (root_at old other) (cond (bytes_eq text other) (Some root) None)) is
 
@@ -74,7 +71,7 @@ roots_next core h xs i root start old new within is adds left text =
 pub roots_end : {X : Type 0} (core : Core) (h : ℕ → StartRoot) (xs : List X) (i : ℕ) (start now : RootIndex) →
     length xs ≤ i → RootsLeft core h xs i start now → AddsRoots core (numbered h 0 xs) start now
 roots_end core h xs i start now past left text =
-    sym (or_nothing (root_at now text))
+    sym (option_or-none (root_at now text))
     ∙ ap (option_or (root_at now text))
     (sym (at_drop_all (λ ys. find (has_text core text) (numbered h i ys)) xs i past))
     ∙ left text

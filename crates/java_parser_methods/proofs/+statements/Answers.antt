@@ -1,4 +1,5 @@
-use Rattle.std.proofs.Common.{◌≡◌, ℕ, Bool, true, false, codes, length, suc, ◌-◌, ◌++◌, ◌∷◌, [], map, refl, sym, ap, ◌∙◌, arith}
+use Rattle.std.proofs.Common.{◌≡◌, ℕ, true, false, codes, length, suc, ◌-◌, ◌++◌, ◌∷◌, [], map, refl, sym, ap}
+use Rattle.std.proofs.Common.{◌∙◌, arith}
 use Rattle.std.proofs.lemmas.Result.{err_from_is_err_and}
 use Rattle.std.proofs.lemmas.List.{map_push}
 use Rattle.java_tree.specs.KeptPlaces.{kept, expr_places, stmt_places, group_places, catch_places}
@@ -24,7 +25,7 @@ use Rattle.java_parser_methods.proofs.PassedOn.{puts_back, within_back, tested_n
 use Rattle.java_parser_methods.specs.StatementLeadView.{row_text}
 use Rattle.java_parser_methods.proofs.RowLoops.{grouped_goes_on, grouped_fails, grouped_ends, grouped_runs_out}
 use Rattle.java_parser_methods.proofs.RowLoops.{group_goes_on, group_fails, groups_end, groups_run_out, row_goes_on}
-use Rattle.java_parser_methods.proofs.RowLoops.{row_fails, rows_end, no_keyword, nothing_before, no_group_before}
+use Rattle.java_parser_methods.proofs.RowLoops.{row_fails, rows_end, no_keyword, no_group_before}
 use Rattle.java_parser_methods.proofs.RowLoops.{no_row_before}
 use Rattle.java_parser_methods.proofs.TryParts.{try_by_parts}
 use Rattle.java_parser_methods.proofs.+statements.Goals as goal
@@ -32,6 +33,7 @@ use Rattle.java_parser_methods.proofs.+statements.Goals.{switches::group_stateme
 use Rattle.java_parser_methods.proofs.+statements.Goals.{switches::group_statements-then-loop-test+then-ends_group}
 use Rattle.java_parser_methods.proofs.+statements.Goals.{tries::clauses-else-loop-test}
 use Rattle.java_parser_methods.proofs.+statements.Goals.{tries::clauses-then-loop-test+in_default}
+use Rattle.java_parser_methods.proofs.AnnotationLoops.{alone}
 
 pub statements::braces-returns-in-Some-clause-gives : goal.statements::braces-returns-in-Some-clause-gives
 statements::braces-returns-in-Some-clause-gives t c =
@@ -108,7 +110,8 @@ statements::by_lead-returns-in-Semicolon-clause-gives t c = ends_give _ c.empty.
     c.args.tokens.now)) (sym c.in-Semicolon.ensures.gives)) c.empty.ensures.gives
 
 pub statements::by_lead-returns-in-IfWord-clause-gives : goal.statements::by_lead-returns-in-IfWord-clause-gives
-statements::by_lead-returns-in-IfWord-clause-gives t c = ends_give _ c.if_statement.result (by_lead method_readers (stmt_at
+statements::by_lead-returns-in-IfWord-clause-gives t c = ends_give _ c.if_statement.result
+    (by_lead method_readers (stmt_at
     method_readers c.args.limit) (block_at method_readers c.args.limit) c.args.limit (statement_lead (map spelled
     c.args.tokens.now)) (map spelled c.args.tokens.now)) _ (ap (λ (l : StatementLead). by_lead method_readers
     (stmt_at method_readers c.args.limit) (block_at method_readers c.args.limit) c.args.limit l (map spelled
@@ -127,14 +130,16 @@ statements::body-returns-in_err-body-clause-gives t c =
     rw (p.1, p.2) (part_fails c.in_err-body.field-0.0 (stmt_at method_readers c.args.limit (map spelled
     c.args.tokens.now)) _ (λ n. rw n refl) c.in_err-body.ensures.gives)
 
-pub statements::if_statement-returns-in_err-condition-clause-gives : goal.statements::if_statement-returns-in_err-condition-clause-gives
+pub statements::if_statement-returns-in_err-condition-clause-gives :
+    goal.statements::if_statement-returns-in_err-condition-clause-gives
 unfolding if_at
 statements::if_statement-returns-in_err-condition-clause-gives t c =
     let p = err_from_is_err_and c.from_residual.result c.from_residual.ensures.1 in
     rw (p.1, p.2) (part_fails c.in_err-condition.field-0.0 (condition_at method_readers c.args.limit (map spelled
     c.args.tokens.now)) _ (λ n. rw n refl) c.in_err-condition.ensures.gives)
 
-pub statements::if_statement-returns-in_err-then-clause-gives : goal.statements::if_statement-returns-in_err-then-clause-gives
+pub statements::if_statement-returns-in_err-then-clause-gives :
+    goal.statements::if_statement-returns-in_err-then-clause-gives
 unfolding if_at
 statements::if_statement-returns-in_err-then-clause-gives t c =
     let p = err_from_is_err_and c.from_residual-in_err-then.result c.from_residual-in_err-then.ensures.1 in
@@ -150,7 +155,8 @@ statements::if_statement-returns-clause-gives t c = rw (c.in_ok-condition.ensure
 pub statements::otherwise-returns-in_default-clause-gives : goal.statements::otherwise-returns-in_default-clause-gives
 statements::otherwise-returns-in_default-clause-gives t c = rw c.in_default.ensures.gives c.without_else.ensures.gives
 
-pub statements::otherwise-returns-in_err-other-clause-gives : goal.statements::otherwise-returns-in_err-other-clause-gives
+pub statements::otherwise-returns-in_err-other-clause-gives :
+    goal.statements::otherwise-returns-in_err-other-clause-gives
 statements::otherwise-returns-in_err-other-clause-gives t c =
     let p = err_from_is_err_and c.from_residual.result c.from_residual.ensures.1 in
     rw (p.1, p.2) (part_fails c.in_err-other.field-0.0 (body_at method_readers (stmt_at method_readers c.args.limit)
@@ -160,13 +166,15 @@ pub statements::otherwise-returns-clause-gives : goal.statements::otherwise-retu
 statements::otherwise-returns-clause-gives t c = rw (c.in-Some.ensures.gives, c.in_ok-other.ensures.gives)
     c.with_else.ensures.gives
 
-pub statements::for_statement-returns-in_err-head-clause-gives : goal.statements::for_statement-returns-in_err-head-clause-gives
+pub statements::for_statement-returns-in_err-head-clause-gives :
+    goal.statements::for_statement-returns-in_err-head-clause-gives
 statements::for_statement-returns-in_err-head-clause-gives t c =
     let p = err_from_is_err_and c.from_residual.result c.from_residual.ensures.1 in
     rw (p.1, p.2) (part_fails c.in_err-head.field-0.0 (head_at method_readers c.args.limit (map spelled
     c.args.tokens.now)) _ (λ n. rw n refl) c.in_err-head.ensures.gives)
 
-pub statements::for_statement-returns-in_err-body-clause-gives : goal.statements::for_statement-returns-in_err-body-clause-gives
+pub statements::for_statement-returns-in_err-body-clause-gives :
+    goal.statements::for_statement-returns-in_err-body-clause-gives
 statements::for_statement-returns-in_err-body-clause-gives t c =
     let p = err_from_is_err_and c.from_residual-in_err-body.result c.from_residual-in_err-body.ensures.1 in
     rw (p.1, p.2) (part_fails c.in_err-body.field-0.0 (body_at method_readers (stmt_at method_readers c.args.limit)
@@ -180,7 +188,8 @@ statements::for_statement-returns-clause-gives t c = rw (c.in_ok-head.ensures.gi
 -- ---- places, and how many tokens are left
 
 pub statements::synchronized-returns-clause-places : goal.statements::synchronized-returns-clause-places
-statements::synchronized-returns-clause-places t c = puts_back c.locked.result (λ x. stmt_places x.0.value (kept x.1.now)) _ _
+statements::synchronized-returns-clause-places t c = puts_back c.locked.result
+    (λ x. stmt_places x.0.value (kept x.1.now)) _ _
     (ap (λ ps. c.args.place ∷ expr_places c.in_ok-lock.lock.value ps) c.in_ok-statements.ensures.places
     ∙ ap (λ ps. c.args.place ∷ ps) c.in_ok-lock.ensures.places) c.locked.ensures.places
 
@@ -193,7 +202,8 @@ statements::synchronized-returns-clause-shorter t c = within_back c.locked.resul
     c.locked.ensures.shorter
 
 pub statements::for_statement-returns-clause-places : goal.statements::for_statement-returns-clause-places
-statements::for_statement-returns-clause-places t c = puts_back c.headed.result (λ x. stmt_places x.0.value (kept x.1.now)) _ _
+statements::for_statement-returns-clause-places t c = puts_back c.headed.result
+    (λ x. stmt_places x.0.value (kept x.1.now)) _ _
     (ap (λ ps. head_places c.in_ok-head.head ps) c.in_ok-body.ensures.places ∙ c.in_ok-head.ensures.places)
     c.headed.ensures.places
 
@@ -206,21 +216,24 @@ statements::for_statement-returns-clause-shorter t c = within_back c.headed.resu
     c.headed.ensures.shorter
 
 pub statements::while_statement-returns-clause-places : goal.statements::while_statement-returns-clause-places
-statements::while_statement-returns-clause-places t c = puts_back c.repeated.result (λ x. stmt_places x.0.value (kept x.1.now))
+statements::while_statement-returns-clause-places t c = puts_back c.repeated.result
+    (λ x. stmt_places x.0.value (kept x.1.now))
     _ _
     (ap (λ ps. expr_places c.in_ok-condition.condition.value ps) c.in_ok-body.ensures.places
     ∙ c.in_ok-condition.ensures.places) c.repeated.ensures.places
 
 pub statements::while_statement-returns-clause-shorter : goal.statements::while_statement-returns-clause-shorter
-statements::while_statement-returns-clause-shorter t c = within_back c.repeated.result (λ x. length x.1.now) _ _ (omega (
-  arith,
-  c.in_ok-condition.ensures.shorter,
-  c.in_ok-body.ensures.shorter,
-))
+statements::while_statement-returns-clause-shorter t c = within_back c.repeated.result (λ x. length x.1.now) _ _
+    (omega (
+      arith,
+      c.in_ok-condition.ensures.shorter,
+      c.in_ok-body.ensures.shorter,
+    ))
     c.repeated.ensures.shorter
 
 pub statements::if_statement-returns-clause-places : goal.statements::if_statement-returns-clause-places
-statements::if_statement-returns-clause-places t c = puts_back c.otherwise.result (λ x. stmt_places x.0.value (kept x.1.now)) _ _
+statements::if_statement-returns-clause-places t c = puts_back c.otherwise.result
+    (λ x. stmt_places x.0.value (kept x.1.now)) _ _
     (ap (λ ps. expr_places c.in_ok-condition.condition.value ps) c.in_ok-then.ensures.places
     ∙ c.in_ok-condition.ensures.places) c.otherwise.ensures.places
 
@@ -233,7 +246,8 @@ statements::if_statement-returns-clause-shorter t c = within_back c.otherwise.re
     c.otherwise.ensures.shorter
 
 pub statements::otherwise-returns-clause-places : goal.statements::otherwise-returns-clause-places
-statements::otherwise-returns-clause-places t c = puts_back c.with_else.result (λ x. stmt_places x.0.value (kept x.1.now)) _ _
+statements::otherwise-returns-clause-places t c = puts_back c.with_else.result
+    (λ x. stmt_places x.0.value (kept x.1.now)) _ _
     (ap (λ ps. expr_places c.args.condition.value (stmt_places c.args.then.value ps))
     (c.in_ok-other.ensures.places ∙ c.in-Some.ensures.places)) c.with_else.ensures.places
 
@@ -252,7 +266,8 @@ statements::body-returns-then-not-is_body-clause-gives t c = tested_no (stmt_at 
     (ap (λ s. is_body (stmt_of s)) (sym c.deref.ensures) ∙ sym c.is_body.ensures ∙ c.if-not-is_body.true)
 
 pub statements::body-returns-clause-gives : goal.statements::body-returns-clause-gives
-statements::body-returns-clause-gives t c = tested_yes (stmt_at method_readers c.args.limit (map spelled c.args.tokens.now))
+statements::body-returns-clause-gives t c =
+    tested_yes (stmt_at method_readers c.args.limit (map spelled c.args.tokens.now))
     (stmt_of c.in_ok-body.body.value, map spelled c.in_ok-body.rest.now) (λ x. is_body x.0) c.in_ok-body.ensures.gives
     (ap (λ s. is_body (stmt_of s)) (sym c.deref.ensures) ∙ sym c.is_body.ensures ∙ c.if-not-is_body.false)
 
@@ -263,7 +278,8 @@ statements::by_lead-returns-in-Semicolon-clause-places t c =
     puts_back c.empty.result (λ x. stmt_places x.0.value (kept x.1.now)) _ _ c.in-Semicolon.ensures.places
     c.empty.ensures.places
 
-pub statements::by_lead-returns-in-Semicolon-clause-shorter : goal.statements::by_lead-returns-in-Semicolon-clause-shorter
+pub statements::by_lead-returns-in-Semicolon-clause-shorter :
+    goal.statements::by_lead-returns-in-Semicolon-clause-shorter
 statements::by_lead-returns-in-Semicolon-clause-shorter t c =
     within_back c.empty.result (λ x. length x.1.now) _ _ (omega (arith, c.in-Semicolon.ensures.shorter))
     c.empty.ensures.shorter
@@ -334,7 +350,7 @@ switches::group_statements-loop-init t c =
     let all : suc (length (map spelled c.args.tokens.now)) - 0 ≡ suc (length (map spelled c.args.tokens.now)) =
     omega arith in
     record {
-      gives = rw (c.new-items.ensures.items, all) (nothing_before _);
+      gives = rw (c.new-items.ensures.items, all) (alone _);
       places = rw c.new-items.ensures.items refl;
       few = omega arith;
       shorter = omega arith;

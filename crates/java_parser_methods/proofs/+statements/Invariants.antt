@@ -2,7 +2,8 @@ use Rattle.std.proofs.Common.{◌≡◌, ◌+◌, ◌*◌, ◌-◌, ◌≤◌, s
 use Rattle.java_tree.specs.KeptPlaces.{kept, each_puts, stmt_places, group_places, catch_places}
 use Rattle.java_tree.specs.Rows.{catch_row}
 use Rattle.java_tree.specs.View.{stmt_of, group_of, catch_of}
-use Rattle.java_parser_grammar.specs.StatementReading.{stmts_at, braces_at, stmt_at, block_at, group_stmts_at, groups_at}
+use Rattle.java_parser_grammar.specs.StatementReading.{stmts_at, braces_at, stmt_at, block_at, group_stmts_at}
+use Rattle.java_parser_grammar.specs.StatementReading.{groups_at}
 use Rattle.java_parser_grammar.specs.StatementReading.{again_at, pieces_at}
 use Rattle.java_parser_grammar.specs.JavaReaders.{method_readers}
 use Rattle.java_parser_methods.specs.RowReading.{clauses_at, groups_finished, rows_finished}

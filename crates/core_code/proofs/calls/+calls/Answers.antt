@@ -1,10 +1,10 @@
 use Rattle.std.proofs.Common.{◌≡◌, List, ◌++◌, map, refl, sym, ap, ◌∙◌, subst, arith, rules, append_assoc, OnOk}
 use Rattle.racer_base.specs.declared.ids.MethodId.{MethodId}
+use Rattle.racer_base.proofs.Lists.{at_end, one_turn}
 use Rattle.core_code.specs.declared.code.Code.{Code}
 use Rattle.core_code.specs.declared.code.Code.TheFolds.{the_lemmas}
 use Rattle.core_code.specs.Tree.{Tree, Choice, tree_of, in_sequence}
 use Rattle.core_code.specs.Gathered.{callees_of}
-use Rattle.core_code.proofs.Loops.{one_turn, at_end}
 use Rattle.core_code.proofs.calls.+calls.Goals as goal
 
 pub push_all_callees-loop-part-preserved : goal.push_all_callees-loop-part-preserved

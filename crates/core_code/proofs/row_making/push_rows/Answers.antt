@@ -1,12 +1,12 @@
 use Rattle.std.proofs.Common.{◌≡◌, ℕ, List, [], ◌∷◌, ◌++◌, length, map, false, refl, sym, ap, ◌∙◌, subst, ◌+◌}
 use Rattle.racer_base.specs.declared.ids.MethodId.{MethodId}
+use Rattle.racer_base.proofs.Lists.{at_end, one_turn}
 use Rattle.core_code.specs.declared.parts.MethodCore.{MethodCore}
 use Rattle.core_code.specs.Tree.{tree_of}
 use Rattle.core_code.specs.CalleeRows.{different}
 use Rattle.core_code.specs.Stamps.{AreBelow}
 use Rattle.core_code.specs.Gathered.{callees_of, callee_rows}
 use Rattle.core_code.proofs.FirstStamps.{none_yet, written}
-use Rattle.core_code.proofs.Loops.{one_turn, at_end}
 use Rattle.core_code.proofs.row_making.push_rows.Goals as goal
 
 pub loop-number-init : goal.loop-number-init

@@ -1,4 +1,4 @@
-use Rattle.std.proofs.Common.{◌≡◌, ◌+◌, ◌++◌, map, drop, false}
+use Rattle.std.proofs.Common.{◌≡◌, ◌+◌, ◌++◌, map, drop}
 use Rattle.core_code.specs.CalleeRows.{different}
 use Rattle.core_code.specs.Gathered.{callee_rows}
 use Rattle.core_code.specs.Stamps.{AreBelow}

@@ -1,11 +1,12 @@
 use Rattle.std.proofs.Common.{List, [], ◌∷◌, ◌++◌, map, refl, ap, ◌∙◌}
 use Rattle.racer_base.specs.declared.ids.MethodId.{MethodId}
+use Rattle.racer_base.proofs.Lists.{ended, turn}
 use Rattle.core_lowering_methods.specs.Views.{folder_of}
 use Rattle.core_lowering_methods.specs.declared.sources.Source.{Source}
 use Rattle.core_lowering_methods.specs.Sources.{source_of}
 use Rattle.core_lowering.specs.Calls.{row_in}
 use Rattle.core_lowering.specs.Reasons.{reason_of}
-use Rattle.core_lowering.proofs.Loops.{turn, map-step, ended}
+use Rattle.core_lowering.proofs.Loops.{map-step}
 use Rattle.core_lowering.proofs.calls.drafts_of.Goals as goal
 
 pub loop-source-preserved : goal.loop-source-preserved

@@ -1,6 +1,7 @@
 use Rattle.std.proofs.Common.{map, refl}
 use Rattle.core_lowering_rules.specs.Programs.{field_core}
-use Rattle.core_lowering.proofs.Loops.{map-step, ended}
+use Rattle.core_lowering.proofs.Loops.{map-step}
+use Rattle.racer_base.proofs.Lists.{ended}
 use Rattle.core_lowering.proofs.classes.fields.Goals as goal
 
 pub loop-info-preserved : goal.loop-info-preserved

@@ -1,5 +1,6 @@
 use Rattle.std.proofs.Common.{List, ℕ, String, Global, map, refl, ◌∙◌, string_bytes}
-use Rattle.core_lowering.proofs.Loops.{map-step, ended}
+use Rattle.core_lowering.proofs.Loops.{map-step}
+use Rattle.racer_base.proofs.Lists.{ended}
 use Rattle.core_lowering.proofs.classes.file_names.Goals as goal
 
 abbrev name_of : String Global → List ℕ

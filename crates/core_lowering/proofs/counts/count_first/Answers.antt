@@ -1,11 +1,8 @@
-use Rattle.std.proofs.Common.{◌+◌, Ok, Err, Result, OnOk, slice_index_or, sym, ap, ◌∙◌}
+use Rattle.std.proofs.Common.{◌+◌, slice_index_or, sym, ap, ◌∙◌}
 use Rattle.core_lowering.specs.Counts.{one_at}
 use Rattle.core_lowering.proofs.Tallies.{counted-at}
+use Rattle.racer_base.proofs.Lists.{on_ok}
 use Rattle.core_lowering.proofs.counts.count_first.Goals as goal
-
-on_ok : {T E : Type 0} (result : Result T E) (P Q : Type 0) → (P → Q) → OnOk result P → OnOk result Q
-on_ok (Ok x) P Q f h = f h
-on_ok (Err e) P Q f h = h
 
 pub returns-in-Some : goal.returns-in-Some
 returns-in-Some c =

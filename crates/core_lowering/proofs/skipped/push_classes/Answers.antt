@@ -3,7 +3,8 @@ use Rattle.std.specs.List.{flat_map}
 use Rattle.java_tree.specs.declared.unit.Member.{Member}
 use Rattle.core_lowering_rules.specs.Programs.{skipped_member}
 use Rattle.core_lowering.specs.Skipped.{skipped_class}
-use Rattle.core_lowering.proofs.Loops.{flat_map-step, ended}
+use Rattle.core_lowering.proofs.Loops.{flat_map-step}
+use Rattle.racer_base.proofs.Lists.{ended}
 use Rattle.core_lowering.proofs.skipped.push_classes.Goals as goal
 
 pub loop-class-preserved : goal.loop-class-preserved

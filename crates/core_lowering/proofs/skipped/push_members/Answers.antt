@@ -1,7 +1,8 @@
 use Rattle.std.proofs.Common.{refl}
 use Rattle.std.specs.List.{flat_map}
 use Rattle.core_lowering_rules.specs.Programs.{skipped_member}
-use Rattle.core_lowering.proofs.Loops.{flat_map-step, ended}
+use Rattle.core_lowering.proofs.Loops.{flat_map-step}
+use Rattle.racer_base.proofs.Lists.{ended}
 use Rattle.core_lowering.proofs.skipped.push_members.Goals as goal
 
 pub loop-member-preserved : goal.loop-member-preserved

@@ -2,7 +2,8 @@ use Rattle.std.proofs.Common.{List, ◌++◌, map, refl, ap, ◌∙◌}
 use Rattle.std.specs.List.{flat_map}
 use Rattle.java_tree.specs.declared.unit.ClassTree.{ClassTree}
 use Rattle.core_lowering.specs.Parts.{MethodPart, part_of, class_parts, unit_parts, parts_of}
-use Rattle.core_lowering.proofs.Loops.{flat_map-step, ended}
+use Rattle.core_lowering.proofs.Loops.{flat_map-step}
+use Rattle.racer_base.proofs.Lists.{ended}
 use Rattle.core_lowering.proofs.sources.parts_of.Goals as goal
 
 pub loop-unit-preserved : goal.loop-unit-preserved

@@ -1,7 +1,8 @@
 use Rattle.std.proofs.Common.{map, refl}
 use Rattle.std.specs.List.{flat_map}
 use Rattle.core_lowering.specs.Parts.{part_of, class_parts}
-use Rattle.core_lowering.proofs.Loops.{flat_map-step, ended}
+use Rattle.core_lowering.proofs.Loops.{flat_map-step}
+use Rattle.racer_base.proofs.Lists.{ended}
 use Rattle.core_lowering.proofs.sources.push_classes.Goals as goal
 
 pub loop-class-preserved : goal.loop-class-preserved

@@ -2,7 +2,7 @@ use Rattle.std.proofs.Common.{refl}
 use Rattle.std.specs.List.{flat_map}
 use Rattle.core_lowering_rules.specs.Methods.{member_begun}
 use Rattle.core_lowering_methods.specs.Drafts.{code_of}
-use Rattle.core_lowering_methods.proofs.Pieces.{turn, ended}
+use Rattle.racer_base.proofs.Lists.{ended, turn}
 use Rattle.core_lowering_methods.proofs.fields.begin_members.Goals as goal
 
 pub loop-member-preserved : goal.loop-member-preserved

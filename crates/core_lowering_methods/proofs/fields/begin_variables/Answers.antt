@@ -4,7 +4,7 @@ use Rattle.java_tree.specs.declared.methods.FieldVariable.{FieldVariable}
 use Rattle.core_lowering_rules.specs.Context.{Context, Code}
 use Rattle.core_lowering_rules.specs.Methods.{field_begun}
 use Rattle.core_lowering_methods.specs.Drafts.{code_of}
-use Rattle.core_lowering_methods.proofs.Pieces.{turn, ended}
+use Rattle.racer_base.proofs.Lists.{ended, turn}
 use Rattle.core_lowering_methods.proofs.fields.begin_variables.Goals as goal
 
 abbrev begun : Context → FieldVariable → Code

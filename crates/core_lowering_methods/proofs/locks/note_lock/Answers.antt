@@ -1,18 +1,11 @@
-use Rattle.std.proofs.Common.{◌≡◌, Bool, true, false, not, ◌||◌, refl, sym, ap, ◌∙◌}
+use Rattle.std.proofs.Common.{◌≡◌, Bool, true, false, not, ◌||◌, sym, ap, ◌∙◌}
+use Rattle.std.proofs.Math.Bool.{or-false, or-true}
 use Rattle.core_lowering_rules.specs.Trees.{Expr}
 use Rattle.core_lowering_rules.specs.TreesOf.{expr_of}
 use Rattle.core_lowering_rules.specs.Context.{Context}
 use Rattle.core_lowering_rules.specs.Locks.{is_lock, lock_noted}
 use Rattle.core_lowering_methods.specs.Parts.{with_other_lock}
 use Rattle.core_lowering_methods.proofs.locks.note_lock.Goals as goal
-
-or-false : (b : Bool) → (b || false) ≡ b
-or-false true = refl
-or-false false = refl
-
-or-true : (b : Bool) → (b || true) ≡ true
-or-true true = refl
-or-true false = refl
 
 abbrev with_lock : Context → Bool → Context
 with_lock context b = record context { other_lock = b }

@@ -5,7 +5,7 @@ use Rattle.core_lowering_rules.specs.Trees.{pack_exprs}
 use Rattle.core_lowering_rules.specs.TreesOf.{expr_of}
 use Rattle.core_lowering_rules.specs.Statements.{run, run_all}
 use Rattle.core_lowering_methods.specs.Drafts.{code_of}
-use Rattle.core_lowering_methods.proofs.Pieces.{turn, ended}
+use Rattle.racer_base.proofs.Lists.{ended, turn}
 use Rattle.core_lowering_methods.proofs.parts.lower_run_all.Goals as goal
 
 abbrev runs_of : Context → List Expression → Code

@@ -1,15 +1,8 @@
-use Rattle.std.proofs.Common.{◌≡◌, ℕ, ◌+◌, ◌<◌, List, map, drop, length, get_or, slice_get, sym, ap, ◌∙◌}
-use Rattle.std.proofs.lemmas.List.{at_drop_more}
-use Rattle.core_code.specs.declared.code.Code.{Code}
-use Rattle.core_code.specs.Tree.{Tree, Seq, tree_of, in_sequence}
+use Rattle.std.proofs.Common.{◌+◌, map, drop, slice_get, sym, ap, ◌∙◌}
+use Rattle.core_code.specs.Tree.{Tree, tree_of, in_sequence}
+use Rattle.core_code.proofs.PartsLeft.{parts-turn}
 use Rattle.core_semantics.specs.State.{before}
 use Rattle.core_semantics.proofs.ahead.+first.Goals as goal
-
-turn : (parts : List Code) (i : ℕ) (part : Code) → i < length parts → part ≡ get_or parts i part →
-    in_sequence (map tree_of (drop i parts)) ≡ Seq (tree_of part) (in_sequence (map tree_of (drop (i + 1) parts)))
-turn parts i part within is =
-    at_drop_more (λ ps. in_sequence (map tree_of ps)) parts i part within
-    ∙ ap (λ (p : Code). Seq (tree_of p) (in_sequence (map tree_of (drop (i + 1) parts)))) (sym is)
 
 pub first_of_parts-loop-part-preserved : goal.first_of_parts-loop-part-preserved
 first_of_parts-loop-part-preserved t c = λ todo.
@@ -17,7 +10,7 @@ first_of_parts-loop-part-preserved t c = λ todo.
     let i = c.loop-part.part-index in
     let rest = in_sequence (map tree_of (drop (i + 1) parts)) in
     sym (ap (λ (code : Tree). slice_get (before code todo) 0)
-    (turn parts i c.part-item.result c.loop-part-test.true c.part-item.is)
+    (parts-turn parts i c.part-item.result c.loop-part-test.true c.part-item.is)
     ∙ c.in_default.ensures (before rest todo))
     ∙ c.loop-part.invariant todo
 
@@ -28,5 +21,5 @@ first_of_parts-returns-in-Some t c = λ todo.
     let rest = in_sequence (map tree_of (drop (i + 1) parts)) in
     sym (c.loop-part.invariant todo)
     ∙ ap (λ (code : Tree). slice_get (before code todo) 0)
-    (turn parts i c.part-item.result c.loop-part-test.true c.part-item.is)
+    (parts-turn parts i c.part-item.result c.loop-part-test.true c.part-item.is)
     ∙ c.in-Some.ensures (before rest todo)

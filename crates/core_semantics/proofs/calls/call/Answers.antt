@@ -5,7 +5,8 @@ use Rattle.core_semantics.specs.State.{Frame}
 use Rattle.core_semantics.specs.Steps.{base_of, reason}
 use Rattle.core_semantics.specs.declared.object.Value.{Value}
 use Rattle.core_semantics.specs.declared.object.Value.TheVariants.{Null}
-use Rattle.core_semantics.proofs.calls.call.Goals.{else-not-method-via-else-not-method, else-not-method-via-then-not-method+in-None-1}
+use Rattle.core_semantics.proofs.calls.call.Goals.{else-not-method-via-else-not-method}
+use Rattle.core_semantics.proofs.calls.call.Goals.{else-not-method-via-then-not-method+in-None-1}
 use Rattle.core_semantics.proofs.Entries.{no_call, call_sticks, call_goes}
 use Rattle.core_semantics.proofs.calls.call.Goals as goal
 

@@ -13,7 +13,8 @@ returns-in-Ok-monitor_of c = λ store callers.
     let s = behind_at store frame callers c.args.locks.now in
     let same =
     ap (monitor_of c.args.kind) (sym c.in-Ok.ensures) ∙ sym c.monitor_of.ensures ∙ c.in-Ok-monitor_of.is in
-    along (locking others s body c.in-Ok-monitor_of.monitor) (lock_step others s c.args.kind body (top (frame_of frame)))
+    along (locking others s body c.in-Ok-monitor_of.monitor)
+    (lock_step others s c.args.kind body (top (frame_of frame)))
     (after (spot_at store frame callers c.args.locks.now))
     (after (spot_at store c.take.new.frame callers c.take.new.locks))
     c.take.result (ap (lock_with others s body) same) (c.take.ensures store callers)

@@ -3,12 +3,12 @@ use Rattle.std.proofs.lemmas.Option.{slice_get_within}
 use Rattle.core_semantics.specs.declared.pending.Pending.{Pending}
 use Rattle.core_semantics.specs.View.{todo_of}
 use Rattle.core_semantics.specs.Weights.{part_weight, pending_weight}
-use Rattle.core_semantics.proofs.Stacks.{empty_stack}
 use Rattle.core_semantics.proofs.Unfolding.{kept, weighs, lighter, lighter_by_one, lighter_by_none}
+use Rattle.racer_base.proofs.Lists.{no_first}
 use Rattle.core_semantics.proofs.pending.unfold_next.Goals as goal
 
 pub returns-clause-next : goal.returns-clause-next
-returns-clause-next c = ap todo_of (empty_stack c.loop-part.pending (sym c.first.ensures ∙ c.in_default.is))
+returns-clause-next c = ap todo_of (no_first c.loop-part.pending (sym c.first.ensures ∙ c.in_default.is))
 
 pub returns-in-Next-clause-next : goal.returns-in-Next-clause-next
 returns-in-Next-clause-next c =

@@ -5,9 +5,9 @@ use Rattle.core_code.specs.declared.code.Code.{Code}
 use Rattle.core_code.specs.declared.code.Code.TheFolds.{the_lemmas}
 use Rattle.core_code.specs.declared.code.Op.{Op as CoreOp}
 use Rattle.core_code.specs.Tree.{LockAt, Tree, Op, Seq, Choice, Loop, Sync, tree_of, in_sequence}
+use Rattle.core_code.proofs.PartsLeft.{parts-turn}
 use Rattle.core_ways.specs.Paths.{op_there, path_to, path_where}
 use Rattle.core_ways.specs.Ways.{has_site}
-use Rattle.core_ways.proofs.PassedCode.{turn}
 use Rattle.core_ways.proofs.SitePaths.{op-found, op-missed, op-path, none-path-whole}
 use Rattle.core_ways.proofs.SitePaths.{first-there, second-there, has-found, first-path, second-path, none-path}
 use Rattle.core_ways.proofs.SitePaths.{cut-back, start-stays, path-on, where-there}
@@ -117,7 +117,7 @@ find_among-returns-then-is_some-clause-there t c =
     let codes = c.args.codes.now in
     let a = tree_of c.code-item.result in
     let b = in_sequence (map tree_of (drop (at.code-index + 1) codes)) in
-    let left = turn codes at.code-index c.code-item.result c.loop-code-test.true c.code-item.is in
+    let left = parts-turn codes at.code-index c.code-item.result c.loop-code-test.true c.code-item.is in
     let found = c.in-Ok-find.found in
     let some : is_some found ≡ true = search rules in
     first-there a b site found c.in-Ok-find.ensures.there some
@@ -132,7 +132,7 @@ find_among-returns-then-is_some-clause-path t c =
     let whole = in_sequence (map tree_of codes) in
     let a = tree_of c.code-item.result in
     let b = in_sequence (map tree_of (drop (at.code-index + 1) codes)) in
-    let left = turn codes at.code-index c.code-item.result c.loop-code-test.true c.code-item.is in
+    let left = parts-turn codes at.code-index c.code-item.result c.loop-code-test.true c.code-item.is in
     let found = c.in-Ok-find.found in
     let some : is_some found ≡ true = search rules in
     let has : has_site a site ≡ true = has-found a site found true c.in-Ok-find.ensures.there some in
@@ -156,7 +156,7 @@ find_among-loop-code-preserved t c =
     let codes = c.args.codes.now in
     let a = tree_of c.code-item.result in
     let b = in_sequence (map tree_of (drop (at.code-index + 1) codes)) in
-    let left = turn codes at.code-index c.code-item.result c.loop-code-test.true c.code-item.is in
+    let left = parts-turn codes at.code-index c.code-item.result c.loop-code-test.true c.code-item.is in
     let found = c.in-Ok-find.found in
     let none : is_some found ≡ false = search rules in
     let has : has_site a site ≡ false = has-found a site found false c.in-Ok-find.ensures.there none in

@@ -3,12 +3,13 @@ use Rattle.std.proofs.lemmas.List.{at_drop_all}
 use Rattle.core_code.specs.declared.code.Code.{Code}
 use Rattle.core_code.specs.declared.code.Code.TheFolds.{the_lemmas}
 use Rattle.core_code.specs.Tree.{LockAt, Tree, Op, Seq, Choice, Loop, Sync, in_sequence, tree_of}
+use Rattle.core_code.proofs.PartsLeft.{parts-turn}
 use Rattle.core_semantics.specs.declared.answer.Turn.{Turn}
 use Rattle.core_ways.specs.declared.part.WayPart.{WayPart}
 use Rattle.core_ways.specs.declared.part.WayPart.TheVariants.{Branched}
 use Rattle.core_ways.specs.Paths.{followed}
 use Rattle.core_ways.specs.Ways.{passed}
-use Rattle.core_ways.proofs.PassedCode.{turn, more}
+use Rattle.core_ways.proofs.PassedCode.{more}
 use Rattle.core_ways.proofs.FollowedCode.{nothing-followed, left-followed, right-followed, loop-followed, held-followed}
 use Rattle.core_ways.proofs.FollowedCode.{first-followed, others-followed}
 use Rattle.core_ways.proofs.passing.+following.Goals as goal
@@ -47,7 +48,7 @@ follow-returns-then-is_left t c =
     subst (λ (ps : List WayPart). OnOk c.follow.result (c.follow.new.parts.items ≡ ps))
     (left-followed c.args.end c.args.locks left right old c.push.new.self.items path c.in-Some.rest.now
     c.in-Some.is_left
-    c.in-Some.ensures (c.in-Ok.ensures.items ∙ ap (λ (turn : Turn). old ++ Branched turn ∷ []) c.turn_to.ensures)
+    c.in-Some.ensures (c.in-Ok.ensures.items ∙ ap (λ (made : Turn). old ++ Branched made ∷ []) c.turn_to.ensures)
     c.if-is_left.true
     ∙ ap (λ (code : Tree). old ++ followed c.args.end c.args.locks path code) (sym sides))
     c.follow.ensures
@@ -62,7 +63,7 @@ follow-returns-else-is_left t c =
     subst (λ (ps : List WayPart). OnOk c.follow-in-Choice.result (c.follow-in-Choice.new.parts.items ≡ ps))
     (right-followed c.args.end c.args.locks left right old c.push.new.self.items path c.in-Some.rest.now
     c.in-Some.is_left
-    c.in-Some.ensures (c.in-Ok.ensures.items ∙ ap (λ (turn : Turn). old ++ Branched turn ∷ []) c.turn_to.ensures)
+    c.in-Some.ensures (c.in-Ok.ensures.items ∙ ap (λ (made : Turn). old ++ Branched made ∷ []) c.turn_to.ensures)
     c.if-is_left.false
     ∙ ap (λ (code : Tree). old ++ followed c.args.end c.args.locks path code) (sym sides))
     c.follow-in-Choice.ensures
@@ -99,7 +100,7 @@ follow_through-loop-code-preserved t c =
     let first = tree_of c.code-item.result in
     let others = in_sequence (map tree_of (drop (at.code-index + 1) codes)) in
     let left = in_sequence (map tree_of (drop at.code-index codes)) in
-    let is : left ≡ Seq first others = turn codes at.code-index c.code-item.result c.loop-code-test.true
+    let is : left ≡ Seq first others = parts-turn codes at.code-index c.code-item.result c.loop-code-test.true
     c.code-item.is in
     more c.pass.new.parts.items at.parts.items (passed locks first)
     (followed c.args.end locks c.in-Some.rest.now others)
@@ -119,7 +120,7 @@ follow_through-returns-in_default t c =
     let first = tree_of c.code-item.result in
     let others = in_sequence (map tree_of (drop (at.code-index + 1) codes)) in
     let left = in_sequence (map tree_of (drop at.code-index codes)) in
-    let is : left ≡ Seq first others = turn codes at.code-index c.code-item.result c.loop-code-test.true
+    let is : left ≡ Seq first others = parts-turn codes at.code-index c.code-item.result c.loop-code-test.true
     c.code-item.is in
     nothing-followed at.parts.items (followed c.args.end locks at.path.now left)
     (ap (followed c.args.end locks at.path.now) is ∙ ap
@@ -134,7 +135,7 @@ follow_through-returns-then-is_first t c =
     let first = tree_of c.code-item.result in
     let others = in_sequence (map tree_of (drop (at.code-index + 1) codes)) in
     let left = in_sequence (map tree_of (drop at.code-index codes)) in
-    let is : left ≡ Seq first others = turn codes at.code-index c.code-item.result c.loop-code-test.true
+    let is : left ≡ Seq first others = parts-turn codes at.code-index c.code-item.result c.loop-code-test.true
     c.code-item.is in
     subst (λ (ps : List WayPart). OnOk c.follow.result (c.follow.new.parts.items ≡ ps))
     (ap (λ (ps : List WayPart). at.parts.items ++ ps)

@@ -4,9 +4,10 @@ use Rattle.std.proofs.lemmas.List.{append-nil, at_drop_all}
 use Rattle.core_code.specs.declared.code.Code.{Code}
 use Rattle.core_code.specs.declared.code.Code.TheFolds.{the_lemmas}
 use Rattle.core_code.specs.Tree.{LockAt, Tree, Op, Seq, Choice, Loop, Sync, can_end, in_sequence, tree_of}
+use Rattle.core_code.proofs.PartsLeft.{parts-turn}
 use Rattle.core_ways.specs.declared.part.WayPart.{WayPart}
 use Rattle.core_ways.specs.Ways.{passed}
-use Rattle.core_ways.proofs.PassedCode.{turn, passed-on, passed-ended, more, right-ends, left-ends, right-passed}
+use Rattle.core_ways.proofs.PassedCode.{passed-on, passed-ended, more, right-ends, left-ends, right-passed}
 use Rattle.core_ways.proofs.PassedCode.{left-passed, held-stays, held-ends}
 use Rattle.core_ways.proofs.passing.+passing.Goals as goal
 
@@ -156,7 +157,7 @@ pass_through-loop-code-preserved t c =
     let rest = in_sequence (map tree_of (drop (at.code-index + 1) codes)) in
     let left = in_sequence (map tree_of (drop at.code-index codes)) in
     let whole = c.args.parts.now.items ++ passed locks (in_sequence (map tree_of codes)) in
-    let is : left ≡ Seq first rest = turn codes at.code-index c.code-item.result c.loop-code-test.true
+    let is : left ≡ Seq first rest = parts-turn codes at.code-index c.code-item.result c.loop-code-test.true
     c.code-item.is in
     let on : c.in-Ok.ends ≡ true = search rules in
     let ends = sym c.in-Ok.ensures.ends ∙ on in
@@ -174,7 +175,7 @@ pass_through-returns-then-not-ends t c =
     let first = tree_of c.code-item.result in
     let rest = in_sequence (map tree_of (drop (at.code-index + 1) codes)) in
     let left = in_sequence (map tree_of (drop at.code-index codes)) in
-    let is : left ≡ Seq first rest = turn codes at.code-index c.code-item.result c.loop-code-test.true
+    let is : left ≡ Seq first rest = parts-turn codes at.code-index c.code-item.result c.loop-code-test.true
     c.code-item.is in
     let off : c.in-Ok.ends ≡ false = search rules in
     let ends = sym c.in-Ok.ensures.ends ∙ off in

@@ -1,18 +1,20 @@
 use Rattle.std.proofs.Common.{◌≡◌, ℕ, ◌+◌, ◌&&◌, not, List, length, map, drop, rules, sym, ap, subst, ◌∙◌}
 use Rattle.std.specs.BTreeSet.{contains}
 use Rattle.std.specs.Ordering.{nat_cmp}
+use Rattle.std.proofs.lemmas.Bool.{and_left}
 use Rattle.core_code.specs.Program.{core}
 use Rattle.core_code.specs.declared.code.Code.TheFolds.{the_lemmas}
 use Rattle.core_code.specs.Tree.{Tree, Op, Seq, Choice, Loop, in_sequence, tree_of}
+use Rattle.core_code.proofs.PartsLeft.{parts-turn}
 use Rattle.core_semantics.specs.declared.answer.Turn.{Turn}
 use Rattle.core_semantics.specs.declared.answer.Turn.TheVariants.{Right}
 use Rattle.core_ways.specs.Ways.{has_site, passed, trip_along, trip_of}
-use Rattle.core_ways.proofs.PassedCode.{turn}
 use Rattle.core_ways_sites.specs.Gone.{IsLonger, one_turn}
 use Rattle.core_ways_sites.specs.Sites.{AreLed, AreLeft}
-use Rattle.core_ways_sites.proofs.LeadsOn.{cut-back, longer-then, on-ok}
-use Rattle.core_ways_sites.proofs.SiteLeads.{Onward, and-none, led-again, led-first, led-left, led-rest, led-right}
+use Rattle.core_ways_sites.proofs.LeadsOn.{cut-back, longer-then}
+use Rattle.core_ways_sites.proofs.SiteLeads.{Onward, led-again, led-first, led-left, led-rest, led-right}
 use Rattle.core_ways_sites.proofs.SiteLeads.{left-both, left-step, none-wanted}
+use Rattle.racer_base.proofs.Lists.{on_ok}
 use Rattle.core_ways_sites.proofs.noting.+visiting.Goals as goal
 
 pub visit-returns-in-Op-clause-found : goal.visit-returns-in-Op-clause-found
@@ -36,7 +38,7 @@ visit-returns-in-Ok-turn-clause-longer t c =
     cut-back old c.visit.new.turns.items c.truncate.new.self.items c.len-before.result count
     (longer-then old c.to_left.new.turns.items c.visit.new.turns.items c.in-Ok.ensures.longer
     c.in-Ok-visit.ensures.longer) c.truncate.ensures.items in
-    on-ok c.visit-in-Choice.result (IsLonger c.turn.new.turns.items all) (IsLonger old all)
+    on_ok c.visit-in-Choice.result (IsLonger c.turn.new.turns.items all) (IsLonger old all)
     (longer-then old c.turn.new.turns.items all
     (subst (λ (turns : List Turn). IsLonger turns c.turn.new.turns.items) cut
     c.in-Ok-turn.ensures.longer)) c.visit-in-Choice.ensures.longer
@@ -49,7 +51,7 @@ visit-returns-in-Ok-turn-clause-left t c =
     let mid = c.visit.new.sites.wanted in
     let new = c.visit-in-Choice.new.sites.wanted in
     let sides : tree_of c.args.code.now ≡ Choice left right = search (rules, the_lemmas) in
-    on-ok c.visit-in-Choice.result (AreLeft right mid new) (AreLeft (tree_of c.args.code.now) old new)
+    on_ok c.visit-in-Choice.result (AreLeft right mid new) (AreLeft (tree_of c.args.code.now) old new)
     (λ out. subst (λ (code : Tree). AreLeft code old new) (sym sides)
     (left-both left right old mid new c.in-Ok-visit.ensures.left out)) c.visit-in-Choice.ensures.left
 
@@ -101,10 +103,10 @@ visit_through-returns-then-is_empty-clause-left t c = λ s.
     let rest = in_sequence (map tree_of (drop (at.code-index + 1) codes)) in
     let left = in_sequence (map tree_of (drop at.code-index codes)) in
     let is : left ≡ Seq first rest =
-    turn codes at.code-index c.code-item.result c.loop-code-test.true c.code-item.is in
+    parts-turn codes at.code-index c.code-item.result c.loop-code-test.true c.code-item.is in
     let none = none-wanted new s.0 (c.is_empty.ensures.0 c.if-is_empty.true) in
     none
-    ∙ sym (and-none (contains nat_cmp new s.0) (not (has_site rest s)) none)
+    ∙ sym (and_left (contains nat_cmp new s.0) (not (has_site rest s)) none)
     ∙ left-step first rest s at.sites.wanted new c.in-Ok.ensures.left
     ∙ ap (λ (code : Tree). contains nat_cmp at.sites.wanted s.0 && not (has_site code s)) (sym is)
     ∙ at.invariant.left s
@@ -118,7 +120,7 @@ visit_through-returns-then-is_empty-clause-found t c = λ whole led noted.
     let rest = in_sequence (map tree_of (drop (at.code-index + 1) codes)) in
     let left = in_sequence (map tree_of (drop at.code-index codes)) in
     let is : left ≡ Seq first rest =
-    turn codes at.code-index c.code-item.result c.loop-code-test.true c.code-item.is in
+    parts-turn codes at.code-index c.code-item.result c.loop-code-test.true c.code-item.is in
     let both = at.invariant.found whole led noted in
     c.in-Ok.ensures.found whole
     (led-first program whole c.args.locks first rest at.sites.wanted at.count at.turns.items
@@ -138,7 +140,7 @@ visit_through-loop-code-preserved t c =
     let rest = in_sequence (map tree_of (drop (at.code-index + 1) codes)) in
     let left = in_sequence (map tree_of (drop at.code-index codes)) in
     let is : left ≡ Seq first rest =
-    turn codes at.code-index c.code-item.result c.loop-code-test.true c.code-item.is in
+    parts-turn codes at.code-index c.code-item.result c.loop-code-test.true c.code-item.is in
     let length_of : c.len-before.result ≡ length old = search rules in
     let cut : c.truncate.new.self.items ≡ old =
     cut-back old c.visit.new.turns.items c.truncate.new.self.items c.len-before.result length_of

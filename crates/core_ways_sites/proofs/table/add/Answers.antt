@@ -1,9 +1,7 @@
 use Rattle.std.proofs.Common.{◌++◌, List, ap, sym, ◌∙◌}
 use Rattle.std.proofs.lemmas.Bool.{false≢true}
 use Rattle.core_semantics.specs.declared.answer.Turn.{Turn}
-use Rattle.core_ways.specs.Counts.{added}
-use Rattle.core_ways_sites.specs.Gone.{IsOpen}
-use Rattle.core_ways_sites.proofs.LeadsOn.{adds, open-behind}
+use Rattle.core_ways_sites.proofs.LeadsOn.{adds}
 use Rattle.core_ways_sites.proofs.table.add.Goals as goal
 
 pub returns-in_ok-extend_from_slice : goal.returns-in_ok-extend_from_slice

@@ -1,4 +1,4 @@
-use Rattle.std.proofs.Common.{◌≡◌, ℕ, Option, Some, ap, refl, sym, subst, ◌∙◌}
+use Rattle.std.proofs.Common.{refl, sym, ◌∙◌}
 use Rattle.std.proofs.lemmas.Bool.{false≢true}
 use Rattle.core_ways_sites.proofs.KnownWays.{goes-in, none-entered}
 use Rattle.core_ways_sites.proofs.table.enter.Goals as goal

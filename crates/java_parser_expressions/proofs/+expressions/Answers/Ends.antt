@@ -4,8 +4,9 @@ use Rattle.std.proofs.Common.{arith, sym, subst, IfOk}
 use Rattle.java_tree.specs.KeptPlaces.{kept, expr_places}
 use Rattle.java_tree.specs.View.{expr_of}
 use Rattle.java_parser_types.specs.Tokens.{spelled}
+use Rattle.java_parser_types.proofs.LastCalls.{exactly, fewer}
 use Rattle.java_tree.specs.Trees.{Assign, Conditional, Binary, CallOn, Field, pack_exprs}
-use Rattle.java_parser_expressions.proofs.LastCalls.{fewer, exactly, within, grown_places, first_and_rest}
+use Rattle.java_parser_expressions.proofs.LastCalls.{within, grown_places, first_and_rest}
 use Rattle.java_parser_expressions.proofs.+expressions.Goals as goal
 
 pub expressions::assign-returns-clause-places : goal.expressions::assign-returns-clause-places

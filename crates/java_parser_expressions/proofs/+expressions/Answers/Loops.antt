@@ -15,10 +15,10 @@ use Rattle.java_parser_types.specs.Endings.{call_end, lengths_end, items_end}
 use Rattle.java_parser_types.proofs.PutPlaces.{one_put}
 use Rattle.java_parser_types.proofs.PushedNesting.{exprs_nesting_push, inits_nesting_push}
 use Rattle.java_parser_types.proofs.ReadLoops.{comma_goes_on, comma_fails, comma_ends, comma_runs_out, ends_give}
+use Rattle.java_parser_types.proofs.LastCalls.{exactly, fewer}
 use Rattle.java_parser_expressions.proofs.ExpressionLoops.{length_goes_on, length_fails, length_unclosed, length_ends}
 use Rattle.java_parser_expressions.proofs.ExpressionLoops.{length_runs_out, item_goes_on, item_fails, items_stop}
 use Rattle.java_parser_expressions.proofs.ExpressionLoops.{items_run_out, climbs_on, climb_stops, climb_runs_out}
-use Rattle.java_parser_expressions.proofs.LastCalls.{fewer, exactly}
 use Rattle.java_parser_expressions.proofs.+expressions.Goals as goal
 use Rattle.java_parser_expressions.proofs.+expressions.Goals.{creations::lengths-else-loop-test}
 use Rattle.java_parser_expressions.proofs.+expressions.Goals.{creations::lengths-then-loop-test+in_default}

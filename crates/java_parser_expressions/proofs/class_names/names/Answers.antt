@@ -9,8 +9,9 @@ use Rattle.java_parser_types.specs.Tokens.{spelled}
 use Rattle.java_parser_types.specs.Finishing.{finished}
 use Rattle.java_parser_types.proofs.PutPlaces.{one_put}
 use Rattle.java_parser_types.proofs.ReadLoops.{ends_give}
-use Rattle.java_parser_expressions.proofs.LastCalls.{fewer}
-use Rattle.java_parser_expressions.proofs.ClassFacts.{class_unpointed, class_goes_on, class_ends, class_fails, class_runs_out}
+use Rattle.java_parser_types.proofs.LastCalls.{fewer}
+use Rattle.java_parser_expressions.proofs.ClassFacts.{class_unpointed, class_goes_on, class_ends, class_fails}
+use Rattle.java_parser_expressions.proofs.ClassFacts.{class_runs_out}
 use Rattle.java_parser_expressions.proofs.class_names.names.Goals as goal
 
 pub loop-init : goal.loop-init

@@ -7,7 +7,8 @@ use Rattle.java_parser_methods.proofs.LedMarks.{one_led}
 use Rattle.java_tree.specs.View.{modifier_of}
 use Rattle.java_parser_grammar.specs.MethodReading.{modifiers_at}
 use Rattle.java_parser_types.specs.Tokens.{spelled}
-use Rattle.java_parser_methods.proofs.AnnotationLoops.{modifier_goes_on, modifier_fails, modifiers_end, modifiers_run_out}
+use Rattle.java_parser_methods.proofs.AnnotationLoops.{modifier_goes_on, modifier_fails, modifiers_end}
+use Rattle.java_parser_methods.proofs.AnnotationLoops.{modifiers_run_out}
 use Rattle.java_parser_methods.proofs.annotations.modifiers.Goals as goal
 
 pub returns-in_err-next-clause-gives : goal.returns-in_err-next-clause-gives

@@ -9,7 +9,8 @@ use Rattle.java_parser_methods.specs.AwaitedBrackets.{closing, awaited_onto}
 use Rattle.java_parser_types.specs.Tokens.{spelled}
 use Rattle.java_parser_types.specs.Finishing.{finished}
 use Rattle.java_parser_types.specs.Endings.{as_they_are}
-use Rattle.java_parser_methods.proofs.BracketLoops.{awaited_push, closed_goes_on, closed_fails, closed_lacks, closed_ends}
+use Rattle.java_parser_methods.proofs.BracketLoops.{awaited_push, closed_goes_on, closed_fails, closed_lacks}
+use Rattle.java_parser_methods.proofs.BracketLoops.{closed_ends}
 use Rattle.java_parser_methods.proofs.brackets.closed.Goals as goal
 
 pub returns-in_err-next-clause-gives : goal.returns-in_err-next-clause-gives

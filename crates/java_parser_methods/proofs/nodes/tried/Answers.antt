@@ -1,4 +1,4 @@
-use Rattle.std.proofs.Common.{◌≡◌, ◌∙◌, Bool, true, false, ◌||◌, is_some, List, map, option_map, refl, sym, ap}
+use Rattle.std.proofs.Common.{◌≡◌, ◌∙◌, true, false, ◌||◌, is_some, List, map, option_map, refl, sym, ap}
 use Rattle.java_tree.specs.declared.statements.CatchTree.{CatchTree}
 use Rattle.java_tree.specs.Trees.{pack_stmts}
 use Rattle.java_tree.specs.View.{stmt_of, resources_of, catch_of, Finally, pack_rows}

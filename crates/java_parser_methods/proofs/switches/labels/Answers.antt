@@ -7,9 +7,10 @@ use Rattle.java_tree.specs.View.{label_of}
 use Rattle.java_parser_grammar.specs.StatementReading.{labels_at}
 use Rattle.java_parser_grammar.specs.JavaReaders.{method_readers}
 use Rattle.java_parser_types.specs.Tokens.{spelled}
-use Rattle.java_parser_methods.proofs.RowLoops.{label_goes_on, label_fails, labels_end, labels_run_out, nothing_before}
+use Rattle.java_parser_methods.proofs.RowLoops.{label_goes_on, label_fails, labels_end, labels_run_out}
 use Rattle.java_parser_methods.proofs.switches.labels.Goals as goal
 use Rattle.java_parser_methods.proofs.switches.labels.Goals.{else-loop-test, then-loop-test+then-not-begins_label}
+use Rattle.java_parser_methods.proofs.AnnotationLoops.{alone}
 
 pub returns-in_err-next-clause-gives : goal.returns-in_err-next-clause-gives
 returns-in_err-next-clause-gives c =
@@ -42,7 +43,7 @@ pub loop-init : goal.loop-init
 loop-init c =
     let none : length (map spelled c.args.tokens.now) - 0 ≡ length (map spelled c.args.tokens.now) = omega arith in
     record {
-      gives = rw (c.new-items.ensures.items, none) (nothing_before _);
+      gives = rw (c.new-items.ensures.items, none) (alone _);
       places = rw c.new-items.ensures.items refl;
       shorter = omega arith;
     }

@@ -15,10 +15,12 @@ use Rattle.java_parser_methods.proofs.try_heads.more_types.Goals.{else-loop-test
 
 pub returns-in_err-next-clause-gives : goal.returns-in_err-next-clause-gives
 returns-in_err-next-clause-gives c =
-    let total = finished as_they_are (ty_of c.args.first ∷ []) (bars_at method_readers c.args.limit (length (map spelled c.args.tokens.now))
+    let total = finished as_they_are (ty_of c.args.first ∷ [])
+    (bars_at method_readers c.args.limit (length (map spelled c.args.tokens.now))
     (map spelled c.args.tokens.now)) in
     let p = err_from_is_err_and c.from_residual-in_err-next.result c.from_residual-in_err-next.ensures.1 in
-    rw (p.1, p.2) (bar_fails method_readers c.args.limit total c.args.tokens.now c.loop.counter (map ty_of c.loop.items.items)
+    rw (p.1, p.2) (bar_fails method_readers c.args.limit total c.args.tokens.now c.loop.counter
+    (map ty_of c.loop.items.items)
     c.in_err-next.field-0.0 (map spelled c.loop.rest.now) (map spelled c.in-Some.after.now) c.loop-test.true
     c.in-Some.ensures.gives c.in_err-next.ensures.gives c.loop.invariant.gives)
 
@@ -27,7 +29,8 @@ loop-preserved c =
     let n = c.in_ok-next.next in
     let e : map ty_of c.push-in-loop.new.self.items ≡ map ty_of c.loop.items.items ++ ty_of n ∷ [] =
     rw c.in_ok-push-2.ensures.items (map_push _ c.loop.items.items n) in
-    let total = finished as_they_are (ty_of c.args.first ∷ []) (bars_at method_readers c.args.limit (length (map spelled c.args.tokens.now))
+    let total = finished as_they_are (ty_of c.args.first ∷ [])
+    (bars_at method_readers c.args.limit (length (map spelled c.args.tokens.now))
     (map spelled c.args.tokens.now)) in
     record {
       gives = rw e (bar_goes_on method_readers c.args.limit total c.args.tokens.now c.loop.counter
@@ -42,7 +45,8 @@ loop-preserved c =
 
 pub returns-clause-gives : goal.returns-clause-gives
 returns-clause-gives c =
-    let total = finished as_they_are (ty_of c.args.first ∷ []) (bars_at method_readers c.args.limit (length (map spelled c.args.tokens.now))
+    let total = finished as_they_are (ty_of c.args.first ∷ [])
+    (bars_at method_readers c.args.limit (length (map spelled c.args.tokens.now))
     (map spelled c.args.tokens.now)) in
     elim c.loop-test.branch [
       | else-loop-test w ↦ bar_runs_out method_readers c.args.limit total c.args.tokens.now c.loop.counter

@@ -4,7 +4,7 @@ use Rattle.java_tree.specs.declared.unit.ClassTree.{ClassTree}
 use Rattle.java_resolver.specs.declared.infos.ClassInfo.{ClassInfo}
 use Rattle.java_resolver.specs.Declarations.{class_info}
 use Rattle.java_resolver.specs.Indexes.{trees_behind}
-use Rattle.java_resolver.proofs.Loops.{one_turn, at_end}
+use Rattle.racer_base.proofs.Lists.{at_end, one_turn}
 use Rattle.java_resolver.proofs.classes.class_infos.Goals as goal
 
 abbrev infos_of : List (Bor ClassTree) → List ClassInfo

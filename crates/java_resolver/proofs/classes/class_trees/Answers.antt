@@ -3,7 +3,7 @@ use Rattle.java_tree.specs.declared.unit.ClassTree.{ClassTree}
 use Rattle.java_tree.specs.declared.unit.Unit.{Unit}
 use Rattle.java_resolver.specs.Declarations.{trees_of}
 use Rattle.java_resolver.specs.Indexes.{trees_behind}
-use Rattle.java_resolver.proofs.Loops.{one_turn, at_end}
+use Rattle.racer_base.proofs.Lists.{at_end, one_turn}
 use Rattle.java_resolver.proofs.classes.class_trees.Goals as goal
 
 pub loop-unit-preserved : goal.loop-unit-preserved

@@ -1,7 +1,8 @@
 use Rattle.std.proofs.Common.{List, [], ◌∷◌, refl, ap, ◌∙◌, arith}
 use Rattle.java_tree.specs.declared.unit.ClassTree.{ClassTree}
 use Rattle.java_resolver.specs.Indexes.{trees_behind}
-use Rattle.java_resolver.proofs.Loops.{one_turn, at_end, behind-push}
+use Rattle.java_resolver.proofs.Loops.{behind-push}
+use Rattle.racer_base.proofs.Lists.{at_end, one_turn}
 use Rattle.java_resolver.proofs.classes.push_trees.Goals as goal
 
 pub loop-class-preserved : goal.loop-class-preserved

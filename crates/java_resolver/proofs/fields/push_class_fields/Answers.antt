@@ -1,7 +1,7 @@
 use Rattle.std.proofs.Common.{refl, ◌∙◌, arith}
 use Rattle.std.specs.List.{flat_map}
 use Rattle.java_resolver.specs.Declarations.{class_names, member_fields}
-use Rattle.java_resolver.proofs.Loops.{one_turn, at_end}
+use Rattle.racer_base.proofs.Lists.{at_end, one_turn}
 use Rattle.java_resolver.proofs.fields.push_class_fields.Goals as goal
 
 pub loop-member-preserved : goal.loop-member-preserved

@@ -2,7 +2,7 @@ use Rattle.std.proofs.Common.{◌≡◌, ◌<◌, List, [], ◌∷◌, ◌++◌,
 use Rattle.java_tree.specs.declared.methods.FieldVariable.{FieldVariable}
 use Rattle.java_resolver.specs.declared.infos.FieldInfo.{FieldInfo}
 use Rattle.java_resolver.specs.Declarations.{class_names, field_info}
-use Rattle.java_resolver.proofs.Loops.{one_turn, at_end}
+use Rattle.racer_base.proofs.Lists.{at_end, one_turn}
 use Rattle.java_resolver.proofs.fields.push_variables.Goals as goal
 
 pub loop-variable-preserved : goal.loop-variable-preserved

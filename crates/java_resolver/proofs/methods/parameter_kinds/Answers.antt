@@ -1,10 +1,10 @@
 use Rattle.std.proofs.Common.{[], ◌∷◌, ◌++◌, refl, ap, ◌∙◌, arith}
 use Rattle.racer_base.specs.declared.ids.Kind.{Kind}
+use Rattle.racer_base.proofs.Lists.{at_end, one_turn}
 use Rattle.java_tree.specs.View.{ty_of}
 use Rattle.java_tree.specs.declared.methods.ParameterTree.{ParameterTree}
 use Rattle.java_resolver.specs.Declarations.{class_names, kinds_of}
 use Rattle.java_resolver.specs.TypeKinds.{kind_of}
-use Rattle.java_resolver.proofs.Loops.{one_turn, at_end}
 use Rattle.java_resolver.proofs.methods.parameter_kinds.Goals as goal
 
 pub loop-parameter-preserved : goal.loop-parameter-preserved

@@ -1,10 +1,11 @@
 use Rattle.std.proofs.Common.{◌≡◌, ◌≤◌, ◌||◌, not, List, length, take, drop, nat_lt, sym, ap, ◌∙◌, arith}
 use Rattle.std.proofs.lemmas.Bool.{ltb-true, ltb-false}
 use Rattle.std.proofs.lemmas.List.{drop_all}
+use Rattle.std.proofs.Math.Bool.{or-false}
 use Rattle.owner_domain.specs.declared.numbered.NumberedValue.{NumberedValue}
 use Rattle.owner_domain.specs.Numbered.{joined_numbers}
 use Rattle.owner_domain.specs.Slots.{same_numbers}
-use Rattle.owner_domain.proofs.MetValues.{changed_slots, changed-is, cut-joined, cut-changed, cut-long, made-all, or_none}
+use Rattle.owner_domain.proofs.MetValues.{changed_slots, changed-is, cut-joined, cut-changed, cut-long, made-all}
 use Rattle.owner_domain.proofs.meeting.meet_values.Goals as goal
 
 pub loop-slot-init : goal.loop-slot-init
@@ -36,7 +37,7 @@ returns-clause-changed c =
     let long : length at.mine.items ≤ at.slot = omega arith in
     let whole : at.mine.items ≡ joined_numbers old others =
     sym (made-all at.mine.items others at.slot long) ∙ at.invariant.values in
-    sym (or_none at.changed)
+    sym (or-false at.changed)
     ∙ sym (ap (λ (xs : List NumberedValue). at.changed || changed_slots xs (drop at.slot others))
     (drop_all at.slot at.mine.items long))
     ∙ at.invariant.changed

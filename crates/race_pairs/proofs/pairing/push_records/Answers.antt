@@ -3,8 +3,8 @@ use Rattle.std.specs.List.{enumerate_from}
 use Rattle.access_domain.specs.declared.access.Access.{Access}
 use Rattle.race_pairs.specs.Warnings.{numbered_record}
 use Rattle.race_pairs.specs.MethodRecords.{all_records}
-use Rattle.race_pairs.proofs.Turns.{at_end}
 use Rattle.race_pairs.proofs.Numbered.{record_turn}
+use Rattle.racer_base.proofs.Lists.{at_end}
 use Rattle.race_pairs.proofs.pairing.push_records.Goals as goal
 
 pub loop-index-preserved : goal.loop-index-preserved

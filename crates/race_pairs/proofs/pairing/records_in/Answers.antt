@@ -4,6 +4,7 @@ use Rattle.std.specs.declared.vec.Vec.{Vec}
 use Rattle.std.specs.Global.{Global}
 use Rattle.std.proofs.lemmas.List.{append-nil}
 use Rattle.racer_base.specs.declared.ids.MethodId.{MethodId}
+use Rattle.racer_base.proofs.Lists.{at_end}
 use Rattle.core_code.specs.Core.{Method, method_of}
 use Rattle.core_code.specs.Program.{core}
 use Rattle.core_code.specs.declared.parts.MethodCore.{MethodCore}
@@ -12,7 +13,7 @@ use Rattle.access_domain.specs.OutcomeRecords.{records_held}
 use Rattle.race_pairs.specs.declared.method_access.MethodAccess.{MethodAccess}
 use Rattle.race_pairs.specs.Warnings.{MethodRecord, numbered_records, entry_records}
 use Rattle.race_pairs.specs.MethodRecords.{all_records}
-use Rattle.race_pairs.proofs.Turns.{rest_of, flat_map_turn, at_end}
+use Rattle.race_pairs.proofs.Turns.{rest_of, flat_map_turn}
 use Rattle.race_pairs.proofs.Known.{entry_adds, other_adds}
 use Rattle.race_pairs.proofs.pairing.records_in.Goals as goal
 use Rattle.race_pairs.proofs.pairing.records_in.Goals.{then-is_entry_of+in_ok-number+in_ok-push_records}

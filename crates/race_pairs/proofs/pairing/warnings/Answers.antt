@@ -4,11 +4,12 @@ use Rattle.std.specs.declared.vec.Vec.{Vec}
 use Rattle.std.specs.Global.{Global}
 use Rattle.std.proofs.lemmas.List.{append-nil}
 use Rattle.racer_base.specs.declared.ids.ClassId.{ClassId}
+use Rattle.racer_base.proofs.Lists.{at_end}
 use Rattle.core_code.specs.Program.{core}
 use Rattle.core_code.specs.declared.parts.ClassCore.{ClassCore}
 use Rattle.race_pairs.specs.declared.warning.Warning.{Warning}
 use Rattle.race_pairs.specs.Warnings.{records_in, warnings_among, class_warnings}
-use Rattle.race_pairs.proofs.Turns.{rest_of, flat_map_turn, at_end}
+use Rattle.race_pairs.proofs.Turns.{rest_of, flat_map_turn}
 use Rattle.race_pairs.proofs.pairing.warnings.Goals as goal
 use Rattle.race_pairs.proofs.pairing.warnings.Goals.{then-class+in_ok-number+in_ok-push_warnings, else-class}
 

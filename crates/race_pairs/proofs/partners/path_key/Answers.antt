@@ -1,6 +1,7 @@
 use Rattle.std.proofs.Common.{map, refl, ◌∙◌}
 use Rattle.racer_base.specs.declared.ids.FieldId.{FieldId}
-use Rattle.race_pairs.proofs.Turns.{map_turn, at_end}
+use Rattle.racer_base.proofs.Lists.{at_end}
+use Rattle.race_pairs.proofs.Turns.{map_turn}
 use Rattle.race_pairs.proofs.partners.path_key.Goals as goal
 
 pub loop-field-preserved : goal.loop-field-preserved

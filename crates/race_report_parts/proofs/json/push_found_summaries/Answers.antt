@@ -5,7 +5,8 @@ use Rattle.core_code.specs.Core.{method_of}
 use Rattle.core_code.specs.Program.{core}
 use Rattle.core_code.specs.declared.parts.MethodCore.{MethodCore}
 use Rattle.race_report_parts.specs.Json.{summary_values}
-use Rattle.race_report_parts.proofs.JsonTurns.{read_next, more_items, ends}
+use Rattle.race_report_parts.proofs.JsonTurns.{more_items, ends}
+use Rattle.race_pairs.proofs.Turns.{rest_of}
 use Rattle.race_report_parts.proofs.json.push_found_summaries.Goals as goal
 
 pub loop-number-preserved : goal.loop-number-preserved
@@ -16,7 +17,7 @@ loop-number-preserved c =
           (c.loop-number.number, method_of c.index-methods-number.result) c.loop-number.later
           c.push_summary-later.result c.args.text.now c.loop-number.text c.push_summary-later.new.text
           (ap (λ (left : List MethodCore). enumerate_from c.loop-number.number (map method_of left))
-          (read_next _ c.loop-number.number c.index-methods-number.result c.loop-number-test.true
+          (rest_of _ c.loop-number.number c.index-methods-number.result c.loop-number-test.true
           c.index-methods-number.is))
           c.loop-number.invariant.leaves c.push_summary-later.ensures;
     }

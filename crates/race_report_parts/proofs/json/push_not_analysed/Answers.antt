@@ -5,7 +5,8 @@ use Rattle.core_code.specs.Core.{method_of}
 use Rattle.core_code.specs.Program.{core}
 use Rattle.core_code.specs.declared.parts.MethodCore.{MethodCore}
 use Rattle.race_report_parts.specs.Json.{not_analysed_values}
-use Rattle.race_report_parts.proofs.JsonTurns.{read_next, more_items, ends}
+use Rattle.race_report_parts.proofs.JsonTurns.{more_items, ends}
+use Rattle.race_pairs.proofs.Turns.{rest_of}
 use Rattle.race_report_parts.proofs.json.push_not_analysed.Goals as goal
 
 pub loop-number-preserved : goal.loop-number-preserved
@@ -17,7 +18,7 @@ loop-number-preserved c =
           c.push_not_analysed_item-later.result c.args.text.now c.loop-number.text
           c.push_not_analysed_item-later.new.text
           (ap (λ (left : List MethodCore). enumerate_from c.loop-number.number (map method_of left))
-          (read_next _ c.loop-number.number c.index-methods-number.result c.loop-number-test.true
+          (rest_of _ c.loop-number.number c.index-methods-number.result c.loop-number-test.true
           c.index-methods-number.is))
           c.loop-number.invariant.leaves c.push_not_analysed_item-later.ensures;
     }

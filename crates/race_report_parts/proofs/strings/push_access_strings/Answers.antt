@@ -4,7 +4,8 @@ use Rattle.serde_json.specs.Data.{string}
 use Rattle.core_code.specs.Program.{core}
 use Rattle.access_domain.specs.declared.access.Access.{Access}
 use Rattle.race_report_parts.specs.Told.{access_text}
-use Rattle.race_report_parts.proofs.JsonTurns.{begins_behind, read_next, more_texts, ends}
+use Rattle.race_report_parts.proofs.JsonTurns.{begins_behind, more_texts, ends}
+use Rattle.race_pairs.proofs.Turns.{rest_of}
 use Rattle.race_report_parts.proofs.strings.push_access_strings.Goals as goal
 
 pub loop-access-init : goal.loop-access-init
@@ -22,7 +23,7 @@ loop-access-preserved c =
       leaves = more_texts (access_text (core c.args.program.now) (record { 0 = c.args.number })) c.args.before.now
           _ _ _ _ c.loop-access.later c.comma.result.now
           c.args.text.now c.loop-access.text c.push_access_string.new.text
-          (read_next _ c.loop-access.access-index c.access-item.result c.loop-access-test.true c.access-item.is)
+          (rest_of _ c.loop-access.access-index c.access-item.result c.loop-access-test.true c.access-item.is)
           c.comma.ensures c.loop-access.invariant.leaves c.push_access_string.ensures;
     }
 

@@ -4,7 +4,8 @@ use Rattle.serde_json.specs.Data.{string}
 use Rattle.std.specs.Global.{Global}
 use Rattle.serde_json.specs.Written.{compact_text}
 use Rattle.race_report_parts.proofs.PutChains.{same_piece}
-use Rattle.race_report_parts.proofs.JsonTurns.{begins_behind, read_next, more_texts, ends}
+use Rattle.race_report_parts.proofs.JsonTurns.{begins_behind, more_texts, ends}
+use Rattle.race_pairs.proofs.Turns.{rest_of}
 use Rattle.race_report_parts.proofs.strings.push_strings.Goals as goal
 
 pub loop-string-init : goal.loop-string-init
@@ -22,7 +23,7 @@ loop-string-preserved c =
       leaves = more_texts string_bytes c.args.before.now
           _ _ _ _ c.loop-string.later c.comma.result.now
           c.args.text.now c.loop-string.text c.push_string.new.text
-          (read_next _ c.loop-string.string-index c.string-item.result c.loop-string-test.true c.string-item.is)
+          (rest_of _ c.loop-string.string-index c.string-item.result c.loop-string-test.true c.string-item.is)
           c.comma.ensures c.loop-string.invariant.leaves (same_piece c.push_string.ensures
           (ap (λ t. c.comma.result.now ++ compact_text (string t)) c.as_str.ensures.value));
     }

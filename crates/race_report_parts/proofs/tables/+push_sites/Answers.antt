@@ -3,9 +3,9 @@ use Rattle.std.proofs.lemmas.List.{map-append}
 use Rattle.core_code.specs.declared.code.Code.{Code}
 use Rattle.core_code.specs.declared.code.Code.TheFolds.{the_lemmas}
 use Rattle.core_code.specs.Tree.{Tree, Choice, tree_of, in_sequence, steps_of}
-use Rattle.core_code.proofs.Loops.{one_turn, at_end}
 use Rattle.race_report_parts.specs.declared.tables.Site.{Site}
 use Rattle.race_report_parts.specs.Sites.{site_of, sites_of}
+use Rattle.racer_base.proofs.Lists.{at_end, one_turn}
 use Rattle.race_report_parts.proofs.tables.+push_sites.Goals as goal
 
 pub loop-part-preserved : goal.loop-part-preserved

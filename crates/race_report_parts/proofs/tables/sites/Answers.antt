@@ -3,10 +3,10 @@ use Rattle.std.specs.Global.{Global}
 use Rattle.core_code.specs.declared.parts.MethodCore.{MethodCore}
 use Rattle.core_code.specs.Core.{Method, method_of}
 use Rattle.core_code.specs.Tree.{tree_of}
-use Rattle.core_code.proofs.Loops.{at_end}
 use Rattle.race_report_parts.specs.declared.tables.Site.{Site}
 use Rattle.race_report_parts.specs.Sites.{sites_of}
 use Rattle.race_report_parts.proofs.LookUps.{more_mapped}
+use Rattle.racer_base.proofs.Lists.{at_end}
 use Rattle.race_report_parts.proofs.tables.sites.Goals as goal
 
 pub loop-method-preserved : goal.loop-method-preserved

@@ -4,7 +4,8 @@ use Rattle.serde_json.specs.Data.{string}
 use Rattle.core_code.specs.Program.{core}
 use Rattle.core_semantics.specs.declared.object.StartPath.{StartPath}
 use Rattle.race_report_parts.specs.Marks.{start_text}
-use Rattle.race_report_parts.proofs.JsonTurns.{begins_behind, read_next, more_texts, ends}
+use Rattle.race_report_parts.proofs.JsonTurns.{begins_behind, more_texts, ends}
+use Rattle.race_pairs.proofs.Turns.{rest_of}
 use Rattle.race_report_parts.proofs.witness.push_start_strings.Goals as goal
 
 pub loop-start-init : goal.loop-start-init
@@ -22,7 +23,7 @@ loop-start-preserved c =
       leaves = more_texts (start_text (core c.args.program.now)) c.args.before.now
           _ _ _ _ c.loop-start.later c.comma.result.now
           c.args.text.now c.loop-start.text c.push_start_string.new.text
-          (read_next _ c.loop-start.start-index c.start-item.result c.loop-start-test.true c.start-item.is)
+          (rest_of _ c.loop-start.start-index c.start-item.result c.loop-start-test.true c.start-item.is)
           c.comma.ensures c.loop-start.invariant.leaves c.push_start_string.ensures;
     }
 

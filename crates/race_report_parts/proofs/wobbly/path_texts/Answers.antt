@@ -1,8 +1,8 @@
 use Rattle.std.proofs.Common.{map, refl, string_bytes, ◌∙◌}
 use Rattle.core_code.specs.Program.{core}
-use Rattle.core_code.proofs.Loops.{at_end}
 use Rattle.race_report_parts.specs.Texts.{path_text}
 use Rattle.race_report_parts.proofs.LookUps.{more_mapped}
+use Rattle.racer_base.proofs.Lists.{at_end}
 use Rattle.race_report_parts.proofs.wobbly.path_texts.Goals as goal
 
 pub loop-path-preserved : goal.loop-path-preserved

@@ -1,4 +1,4 @@
-use Rattle.racer_sources.proofs.OneReading.{SameTokens, same_tokens}
+use Rattle.racer_sources.proofs.OneReading.{same_tokens}
 use Rattle.racer_sources.proofs.laws.one_reading.Goals as goal
 
 pub returns : goal.returns

@@ -4,7 +4,8 @@ use Rattle.racer_base.specs.Outside.{Told}
 use Rattle.racer_sources.specs.declared.fault.SourceFault.TheVariants.{Failed}
 use Rattle.racer_sources.specs.Sources.{bytes_of}
 use Rattle.racer_sources.specs.Reading.{IsAdded, IsNextRefused, IfRefused, AreThere}
-use Rattle.racer_sources.proofs.Added.{steady_there, counted_more, somehow_more, leads_more, read_all_told, refused_there}
+use Rattle.racer_sources.proofs.Added.{steady_there, counted_more, somehow_more, leads_more, read_all_told}
+use Rattle.racer_sources.proofs.Added.{refused_there}
 use Rattle.racer_sources.proofs.Faults.{anyhow, keeps_on}
 use Rattle.racer_sources.proofs.units.read_all.Goals as goal
 

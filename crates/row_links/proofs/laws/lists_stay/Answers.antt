@@ -1,4 +1,4 @@
-use Rattle.std.proofs.Common.{ℕ, List, [], ◌++◌, ◌∷◌, map, slice_set, ◌∙◌}
+use Rattle.std.proofs.Common.{[], ◌++◌, ◌∷◌, map, slice_set, ◌∙◌}
 use Rattle.std.proofs.lemmas.List.{length-set, length-map}
 use Rattle.row_links.specs.Lists.{list_at, without}
 use Rattle.row_links.proofs.Starting.{length-all_in}

@@ -2,7 +2,7 @@ use Rattle.std.proofs.Common.{[], ◌∷◌, ap, arith, length, length-append}
 use Rattle.std.specs.Prelude.{sum_by}
 use Rattle.std.proofs.lemmas.List.Sums.{sum_by_push}
 use Rattle.summary_store.specs.Passes.{PassView}
-use Rattle.summary_store.proofs.Keeping.{no_passes}
+use Rattle.racer_base.proofs.Lists.{no_items}
 use Rattle.summary_store.proofs.closing.audit.Goals as goal
 
 pub loop-pass-init : goal.loop-pass-init
@@ -51,7 +51,7 @@ loop-pass-preserved g c =
 
 pub returns : goal.returns
 returns g c =
-    let none = no_passes c.loop-pass.passes.items (omega (
+    let none = no_items c.loop-pass.passes.items (omega (
       arith,
       c.in_default-pop.ensures.cases.0,
       c.loop-pass.passes.ok.0,

@@ -3,7 +3,8 @@ use Rattle.std.proofs.Common.{vec_capacity, length-take}
 use Rattle.racer_base.specs.declared.ids.MethodId.{MethodId}
 use Rattle.core_code.specs.Counting.{flags_of}
 use Rattle.core_code.specs.Program.{core}
-use Rattle.summary_store.proofs.Weights.{flagged_step, flagged-length, same_number}
+use Rattle.core_code.proofs.KindLemmas.{same_method}
+use Rattle.summary_store.proofs.Weights.{flagged_step, flagged-length}
 use Rattle.summary_store.proofs.starting.idle_methods.Goals.{then-is_analysed, else-is_analysed}
 use Rattle.summary_store.proofs.starting.idle_methods.Goals as goal
 
@@ -29,7 +30,7 @@ loop-place-preserved c =
         items = flagged_step (flags_of (core c.args.program.now)) c.loop-place.place true c.loop-place.methods.items _
             low w.if-is_analysed.ensures c.loop-place.invariant.items (ap (λ v. v.items) w.methods-is
             ∙ w.push_reserved.ensures.items ∙ ap (λ (k : MethodId). c.loop-place.methods.items ++ k ∷ [])
-            (same_number c.in_ok-m.m (record { 0 = c.loop-place.place }) c.in_ok-m.ensures));
+            (same_method c.in_ok-m.m (record { 0 = c.loop-place.place }) c.in_ok-m.ensures));
         room = (let e = ap vec_capacity w.methods-is in
             omega (arith, w.push_reserved.ensures.capacity, c.loop-place.invariant.room));
       }

@@ -6,7 +6,8 @@ use Rattle.transfer.specs.declared.calls.Callee.{Callee}
 use Rattle.transfer.specs.declared.finished.Finished.{Finished}
 use Rattle.transfer.specs.Callees.{SharedFinished, outcome_in}
 use Rattle.transfer.specs.Known.{callee_outcome}
-use Rattle.transfer.proofs.Handed.{one-more, or-none}
+use Rattle.transfer.proofs.Handed.{one-more}
+use Rattle.racer_base.proofs.Lists.{option_or-none}
 use Rattle.transfer.proofs.analysis.known.Goals as goal
 
 pub loop-one-preserved : goal.loop-one-preserved
@@ -37,4 +38,4 @@ returns c = λ m.
     let made = callee_outcome c.loop-one.callees.items m in
     let over = at_drop_all (λ (fs : List SharedFinished). outcome_in fs m) c.args.finished.now c.loop-one.one-index
     (omega (arith, c.loop-one-test.false)) in
-    sym (or-none made) ∙ ap (option_or made) (sym over) ∙ c.loop-one.invariant m
+    sym (option_or-none made) ∙ ap (option_or made) (sym over) ∙ c.loop-one.invariant m

@@ -2,6 +2,7 @@ use Rattle.std.proofs.Common.{◌≡◌, ◌+◌, ◌-◌, suc, ℕ, ◌≤◌, 
 use Rattle.std.proofs.Common.{true, Ok, refl, sym, ap, subst, ◌∙◌, arith, rules}
 use Rattle.std.proofs.lemmas.List.{at_drop_all, take_all, length-drop}
 use Rattle.std.specs.Prelude.{slice_set}
+use Rattle.std.proofs.lemmas.Bool.{not-false, not-true}
 use Rattle.access_paths.specs.Table.{GoesOn}
 use Rattle.access_paths.proofs.Numbers.{goes_on-same, goes_on-trans}
 use Rattle.owner_domain.specs.declared.value.State.{State}
@@ -12,13 +13,14 @@ use Rattle.core_code.specs.declared.code.Code.TheFolds.{the_lemmas}
 use Rattle.core_code.proofs.code.Code.TheLaws.{the_size}
 use borrow.Author.Sizes.{sizes}
 use Rattle.core_code.specs.Tree.{LockAt, Tree, Op, Seq, Choice, Loop, Sync, tree_of, in_sequence}
+use Rattle.core_code.proofs.PartsLeft.{parts-turn}
 use Rattle.transfer_loops.specs.Resuming.{Heads, resumed, loops, iterated}
 use Rattle.transfer.specs.declared.resuming.Passed.{Passed}
+use Rattle.transfer.specs.declared.operations.MethodContext.{MethodContext}
 use Rattle.transfer.specs.Contexts.{given}
 use Rattle.transfer.specs.Numbered.{read_heads, IsResumedIn}
 use Rattle.transfer.specs.Resumes.{heads_in, IsResumed, IsRound, AreResumedRounds}
 use Rattle.transfer.proofs.HeadsRead.{long-back, long-read, heads-long, heads-still, rounds-read}
-use Rattle.transfer.proofs.Bools.{is_no, is_yes}
 use Rattle.transfer.proofs.NumberedRounds.{round-kept, round-met, left-in, loop-begun, loop-put, loop-in}
 use Rattle.transfer.proofs.Readings.{state-still}
 use Rattle.transfer.proofs.ResumedRounds.{round_goes_on, round_ends, loop_kept, loop_left}
@@ -29,7 +31,6 @@ use Rattle.owner_domain.proofs.Reading.{met-in}
 use Rattle.transfer.proofs.WalkedNumbers.{copied-in, always}
 use Rattle.transfer.proofs.Lowered.{lifted-in, lowered-in, lowered-resumed}
 use Rattle.transfer.proofs.resuming.+resumes.Goals as goal
-use Rattle.transfer.proofs.PartsLeft.{parts-turn}
 
 -- ---- one round
 
@@ -38,7 +39,7 @@ resume_round-returns-then-not-passed t c =
     let older = c.args.table.now in
     let new = c.resume.new in
     let m = c.in-Ok-resume.ensures in
-    let ends = is_no c.in-Ok-resume.passed.goes_on c.if-not-passed.true in
+    let ends = not-true c.in-Ok-resume.passed.goes_on c.if-not-passed.true in
     record {
       resumed =
           round-kept (given c.args.context.now)
@@ -248,7 +249,7 @@ resume_round-returns t c =
     let older = c.args.table.now in
     let new = c.resume.new in
     let m = c.in-Ok-resume.ensures in
-    let goes = is_yes c.in-Ok-resume.passed.goes_on c.if-not-passed.false in
+    let goes = not-false c.in-Ok-resume.passed.goes_on c.if-not-passed.false in
     let met = c.meet-changed in
     let start = c.args.state.now in
     let still = state-still older new.table m.table start c.requires.numbers.state in
@@ -307,7 +308,7 @@ resume_through-loop-index-preserved t c =
           through-more g (tree_of part) rest whole c.args.context.now.locked at.number c.args.first
           (read_state at.table at.state)
           (read_state new.table new.state) start hs later begin p same k.resumed all
-          (is_yes p.goes_on c.if-not-passed.false) at.invariant.same;
+          (not-false p.goes_on c.if-not-passed.false) at.invariant.same;
       number =
           through-number g (tree_of part) rest whole c.args.context.now.locked at.number c.args.first
           (read_state at.table at.state)
@@ -340,7 +341,7 @@ resume_through-returns-then-not-passed t c =
           (read_state older c.args.state.now) (read_heads at.table at.heads.items)
           (read_heads older c.args.heads.now.items)
           (tree_of part) rest whole (read_state new.table new.state) (read_heads new.table new.heads.items) p
-          c.pass_over.result same k.resumed (is_no p.goes_on c.if-not-passed.true) at.invariant.number
+          c.pass_over.result same k.resumed (not-true p.goes_on c.if-not-passed.true) at.invariant.number
           (long-read older at.table c.args.heads.now.items at.heads.items at.invariant.long) at.invariant.same
           (passed-behind _ (drop (i + 1) parts) p.next c.pass_over.result c.pass_over.ensures
           (take_all (length parts - (i + 1)) (drop (i + 1) parts) (omega (arith, length-drop (i + 1) parts))));
@@ -515,7 +516,10 @@ resume-returns-in-Sync t c =
           done.result) (sym is)
           (sync-resumed g lock body c.args.context.now.locked c.args.first table start here hs later done.result
           (subst (λ (s : NumberedState). IsResumed g body true c.args.first (read_state table s) here hs later
-          done.result) c.pop.ensures.rest m.resumed));
+          done.result) c.pop.ensures.rest
+          (subst (λ (x : MethodContext). IsResumed (given x) body x.locked c.args.first
+          (read_state table c.pop.new.self)
+          here hs later done.result) c.under_lock-within.ensures m.resumed)));
       numbers = m.numbers;
       table = m.table;
     }
@@ -525,7 +529,7 @@ resume-returns-in-Seq t c =
     let older = c.args.table.now in
     let new = c.resume_through.new in
     let m = c.resume_through.ensures in
-    let is : tree_of c.args.code.now ≡ in_sequence (map tree_of c.as_slice-parts.result.now) =
+    let is : tree_of c.args.code.now ≡ in_sequence (map tree_of c.as_slice.result.now) =
     search (rules, the_lemmas) in
     record {
       resumed =

@@ -6,13 +6,14 @@ use Rattle.std.specs.Arc.{arc_value}
 use Rattle.std.specs.List.{list_any}
 use Rattle.std.specs.Option.{IfSome}
 use Rattle.std.specs.Prelude.{slice_index_or}
+use Rattle.std.proofs.lemmas.Bool.{or_right}
 use Rattle.racer_base.specs.declared.ids.MethodId.{MethodId}
 use Rattle.core_code.specs.Chains.{row_of}
 use Rattle.core_code.specs.Falling.{number_of}
 use Rattle.core_code.specs.Calls.{is_analysed}
 use Rattle.core_code.specs.Program.{core}
 use Rattle.core_code.specs.CalleeRows.{rows_in, rows_of, ranks_in}
-use Rattle.core_code.proofs.RowCallees.{is_method, or-right, read_any, row_analysed, row_there}
+use Rattle.core_code.proofs.RowCallees.{is_method, read_any, row_analysed, row_there}
 use Rattle.transfer.specs.Callees.{SharedFinished, AreCallees, outcome_in}
 use Rattle.transfer.specs.declared.finished.Finished.{Finished}
 use Rattle.transfer.specs.Tables.{IsFinished, finished_at}
@@ -98,7 +99,7 @@ loop-callee-init t c =
       table = c.requires.table;
       same_program = subst (λ (fs : List SharedFinished). All IsFor fs) (sym c.new-callees.ensures.items)
           (All-nil IsFor);
-      there = λ n e. or-right (is_some (outcome_in made n)) (list_any (is_method n) row) e;
+      there = λ n e. or_right (is_some (outcome_in made n)) (list_any (is_method n) row) e;
     }
 
 pub returns-clause-made : goal.returns-clause-made

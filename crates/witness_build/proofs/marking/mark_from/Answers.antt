@@ -4,7 +4,8 @@ use Rattle.access_domain.specs.Outcomes.{outcomes_held}
 use Rattle.core_code.specs.Program.{core}
 use Rattle.core_ways.specs.Marks.{mark_by_calls}
 use Rattle.witness_build_laws.specs.Warned.{pair_of, warning_mark}
-use Rattle.witness_build.proofs.WarningMarks.{found-record, locked-record, mark-none, mark-stable, mark-unnamed}
+use Rattle.witness_build_laws.proofs.ConfirmedRun.{locked-is}
+use Rattle.witness_build.proofs.WarningMarks.{found-record, mark-none, mark-stable, mark-unnamed}
 use Rattle.witness_build.proofs.WarningMarks.{mark-unstable, said-then}
 use Rattle.witness_build.proofs.marking.mark_from.Goals as goal
 
@@ -40,7 +41,7 @@ mark_by_ways-requires-clause-locked c =
     let program = core c.args.program.now in
     let w = c.args.warning.now in
     let r = c.in-Some.record.now in
-    locked-record program w r
+    locked-is program w r
     (found-record program (outcomes_held c.args.outcomes.now.items) w (option_copied c.record_of.result) _
     c.requires.outcomes c.record_of.ensures (ap option_copied c.in-Some.is))
 

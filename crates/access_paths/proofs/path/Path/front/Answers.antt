@@ -10,7 +10,8 @@ returns c =
     let whole : List FieldId → Path = λ fields. record { root = c.args.self.now.root; fields = fields } in
     let count : c.len.result ≡ length all =
     c.len.ensures.count ∙ sym (ap (λ (fields : List FieldId). length fields) c.as_slice-all.ensures) in
-    let kept : c.from_vec.result ≡ take c.min-count.result all = c.from_vec.ensures ∙ c.in_ok-from_slice.ensures.items in
+    let kept : c.from_vec.result ≡ take c.min-count.result all = c.from_vec.ensures
+    ∙ c.in_ok-from_slice.ensures.items in
     ap whole
     (kept
     ∙ ap (λ (n : ℕ). take n all) (c.min-count.ensures ∙ ap (λ (n : ℕ). min c.args.fields n) count)

@@ -13,7 +13,8 @@ loop-variable-preserved c =
       code =
           mapped-next (cleared c.args.self.now) c.args.variables.now c.loop-variable.variable-index
           c.variable-item.result one new _
-          c.loop-variable-test.true c.variable-item.is c.in_ok-clear_variable.ensures.code c.loop-variable.invariant.code;
+          c.loop-variable-test.true c.variable-item.is c.in_ok-clear_variable.ensures.code
+          c.loop-variable.invariant.code;
       front =
           front-then old one new c.loop-variable.invariant.front
           (front-more one new (cleared c.args.self.now c.variable-item.result) c.in_ok-clear_variable.ensures.code);

@@ -1,6 +1,7 @@
 use Rattle.std.proofs.Common.{length, ap, arith}
 use Rattle.std.specs.Vec.Iter.{into_iter_items}
-use Rattle.core_semantics.proofs.HeapLemmas.{one_more, all_made, nothing_left}
+use Rattle.core_semantics.proofs.HeapLemmas.{one_more, all_made}
+use Rattle.racer_base.proofs.Lists.{nothing_left}
 use Rattle.core_semantics.proofs.store.Heap.only.Goals as goal
 
 pub loop-path-preserved : goal.loop-path-preserved

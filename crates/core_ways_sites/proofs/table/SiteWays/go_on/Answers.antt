@@ -1,9 +1,8 @@
-use Rattle.std.proofs.Common.{◌≡◌, Some, ap, refl, subst, ◌∙◌}
-use Rattle.std.specs.Option.{IfSome, option_copied}
+use Rattle.std.proofs.Common.{◌≡◌, Some, ap, refl, ◌∙◌}
+use Rattle.std.specs.Option.{option_copied}
 use Rattle.core_code.specs.Program.{core}
 use Rattle.access_domain.proofs.MethodOutcomes.{known-record}
 use Rattle.access_domain.specs.OutcomeRecords.{record_at}
-use Rattle.core_ways_sites.specs.Sites.{IsSite}
 use Rattle.core_ways_sites.proofs.table.SiteWays.go_on.Goals as goal
 
 pub returns-in-Some-reached-clause-leads : goal.returns-in-Some-reached-clause-leads

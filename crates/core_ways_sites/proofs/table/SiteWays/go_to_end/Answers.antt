@@ -1,6 +1,5 @@
-use Rattle.std.proofs.Common.{List, ap, subst, sym, ◌∙◌}
+use Rattle.std.proofs.Common.{◌∙◌}
 use Rattle.core_code.specs.Program.{core}
-use Rattle.core_ways.specs.declared.part.WayPart.{WayPart}
 use Rattle.core_ways_sites.proofs.KnownWays.{ends-along}
 use Rattle.core_ways_sites.proofs.table.SiteWays.go_to_end.Goals as goal
 

@@ -1,6 +1,7 @@
 use Rattle.std.proofs.Common.{ℕ, ◌<◌, List, [], length, sym, subst, arith}
 use Rattle.row_links.specs.Lists.{node_count}
-use Rattle.row_links.proofs.Keeping.{in_cells, in_list_of, in_uses, open_in_uses, home_low, some_use, use_fits, kept_used, kept_open, kept_freed}
+use Rattle.row_links.proofs.Keeping.{in_cells, in_list_of, in_uses, open_in_uses, home_low, some_use, use_fits}
+use Rattle.row_links.proofs.Keeping.{kept_used, kept_open, kept_freed}
 use Rattle.row_links.proofs.rows.Rows.move_to.Goals as goal
 
 pub index_mut-requires-2 : goal.index_mut-requires-2

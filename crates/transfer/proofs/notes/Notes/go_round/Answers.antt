@@ -1,9 +1,9 @@
 use Rattle.core_code.specs.Tree.{tree_of}
 use Rattle.transfer.specs.Contexts.{given}
-use Rattle.transfer.proofs.Bools.{is_no, is_yes}
 use Rattle.transfer.proofs.RoundsNumbered.{ended-state, ended-found, ended-sound, ended-high, ended-unchanged}
 use Rattle.transfer.proofs.RoundsNumbered.{round-ready}
 use Rattle.transfer.proofs.RoundsNumbered.{met-state, met-unchanged, met-found, met-sound, met-high, met-numbers}
+use Rattle.std.proofs.lemmas.Bool.{not-false, not-true}
 use Rattle.transfer.proofs.notes.Notes.go_round.Goals as goal
 
 pub returns-then-not-passed-clause-state : goal.returns-then-not-passed-clause-state
@@ -14,7 +14,7 @@ returns-then-not-passed-clause-state c =
     c.in-Ok-resume.ensures.table c.args.state.now c.in-Ok.end c.resume.new.state c.args.heads.now.items
     c.resume.new.heads.items c.in-Ok-resume.passed c.args.self.now.found c.in-Ok.ensures c.requires.numbers
     c.in-Ok-resume.ensures.resumed c.in-Ok-resume.ensures.numbers c.requires.high c.requires.sound
-    (is_no c.in-Ok-resume.passed.goes_on c.if-not-passed.true)
+    (not-true c.in-Ok-resume.passed.goes_on c.if-not-passed.true)
 
 pub returns-then-not-passed-clause-unchanged : goal.returns-then-not-passed-clause-unchanged
 returns-then-not-passed-clause-unchanged c = λ _.
@@ -33,7 +33,7 @@ returns-then-not-passed-clause-found c =
     c.in-Ok-resume.ensures.table c.args.state.now c.in-Ok.end c.resume.new.state c.args.heads.now.items
     c.resume.new.heads.items c.in-Ok-resume.passed c.args.self.now.found c.in-Ok.ensures c.requires.numbers
     c.in-Ok-resume.ensures.resumed c.in-Ok-resume.ensures.numbers c.requires.high c.requires.sound
-    (is_no c.in-Ok-resume.passed.goes_on c.if-not-passed.true)
+    (not-true c.in-Ok-resume.passed.goes_on c.if-not-passed.true)
 
 pub returns-then-not-passed-clause-sound : goal.returns-then-not-passed-clause-sound
 returns-then-not-passed-clause-sound c =
@@ -43,7 +43,7 @@ returns-then-not-passed-clause-sound c =
     c.in-Ok-resume.ensures.table c.args.state.now c.in-Ok.end c.resume.new.state c.args.heads.now.items
     c.resume.new.heads.items c.in-Ok-resume.passed c.args.self.now.found c.in-Ok.ensures c.requires.numbers
     c.in-Ok-resume.ensures.resumed c.in-Ok-resume.ensures.numbers c.requires.high c.requires.sound
-    (is_no c.in-Ok-resume.passed.goes_on c.if-not-passed.true)
+    (not-true c.in-Ok-resume.passed.goes_on c.if-not-passed.true)
 
 pub returns-then-not-passed-clause-high : goal.returns-then-not-passed-clause-high
 returns-then-not-passed-clause-high c =
@@ -71,7 +71,7 @@ returns-clause-state c =
     c.in-Ok-resume.ensures.table c.args.state.now c.in-Ok.end c.resume.new.state c.args.heads.now.items
     c.resume.new.heads.items c.in-Ok-resume.passed c.args.self.now.found c.in-Ok.ensures c.requires.numbers
     c.in-Ok-resume.ensures.resumed c.in-Ok-resume.ensures.numbers c.requires.high c.requires.sound
-    (is_yes c.in-Ok-resume.passed.goes_on c.if-not-passed.false) c.meet.new.state c.meet.new.found c.meet.result
+    (not-false c.in-Ok-resume.passed.goes_on c.if-not-passed.false) c.meet.new.state c.meet.new.found c.meet.result
     c.meet.ensures.state
 
 pub returns-clause-unchanged : goal.returns-clause-unchanged
@@ -82,7 +82,7 @@ returns-clause-unchanged c =
     c.in-Ok-resume.ensures.table c.args.state.now c.in-Ok.end c.resume.new.state c.args.heads.now.items
     c.resume.new.heads.items c.in-Ok-resume.passed c.args.self.now.found c.in-Ok.ensures c.requires.numbers
     c.in-Ok-resume.ensures.resumed c.in-Ok-resume.ensures.numbers c.requires.high c.requires.sound
-    (is_yes c.in-Ok-resume.passed.goes_on c.if-not-passed.false) c.meet.new.state c.meet.new.found c.meet.result
+    (not-false c.in-Ok-resume.passed.goes_on c.if-not-passed.false) c.meet.new.state c.meet.new.found c.meet.result
     c.meet.ensures.unchanged
 
 pub returns-clause-found : goal.returns-clause-found
@@ -93,7 +93,7 @@ returns-clause-found c =
     c.in-Ok-resume.ensures.table c.args.state.now c.in-Ok.end c.resume.new.state c.args.heads.now.items
     c.resume.new.heads.items c.in-Ok-resume.passed c.args.self.now.found c.in-Ok.ensures c.requires.numbers
     c.in-Ok-resume.ensures.resumed c.in-Ok-resume.ensures.numbers c.requires.high c.requires.sound
-    (is_yes c.in-Ok-resume.passed.goes_on c.if-not-passed.false) c.meet.new.state c.meet.new.found c.meet.result
+    (not-false c.in-Ok-resume.passed.goes_on c.if-not-passed.false) c.meet.new.state c.meet.new.found c.meet.result
     c.meet.ensures.found
 
 pub returns-clause-sound : goal.returns-clause-sound
@@ -104,7 +104,7 @@ returns-clause-sound c =
     c.in-Ok-resume.ensures.table c.args.state.now c.in-Ok.end c.resume.new.state c.args.heads.now.items
     c.resume.new.heads.items c.in-Ok-resume.passed c.args.self.now.found c.in-Ok.ensures c.requires.numbers
     c.in-Ok-resume.ensures.resumed c.in-Ok-resume.ensures.numbers c.requires.high c.requires.sound
-    (is_yes c.in-Ok-resume.passed.goes_on c.if-not-passed.false) c.meet.new.state c.meet.new.found c.meet.result
+    (not-false c.in-Ok-resume.passed.goes_on c.if-not-passed.false) c.meet.new.state c.meet.new.found c.meet.result
     c.meet.ensures.state
 
 pub returns-clause-high : goal.returns-clause-high
@@ -115,7 +115,7 @@ returns-clause-high c =
     c.in-Ok-resume.ensures.table c.args.state.now c.in-Ok.end c.resume.new.state c.args.heads.now.items
     c.resume.new.heads.items c.in-Ok-resume.passed c.args.self.now.found c.in-Ok.ensures c.requires.numbers
     c.in-Ok-resume.ensures.resumed c.in-Ok-resume.ensures.numbers c.requires.high c.requires.sound
-    (is_yes c.in-Ok-resume.passed.goes_on c.if-not-passed.false) c.meet.new.state c.meet.new.found c.meet.result
+    (not-false c.in-Ok-resume.passed.goes_on c.if-not-passed.false) c.meet.new.state c.meet.new.found c.meet.result
     c.meet.ensures.state
 
 pub returns-clause-numbers : goal.returns-clause-numbers
@@ -126,5 +126,5 @@ returns-clause-numbers c =
     c.in-Ok-resume.ensures.table c.args.state.now c.in-Ok.end c.resume.new.state c.args.heads.now.items
     c.resume.new.heads.items c.in-Ok-resume.passed c.args.self.now.found c.in-Ok.ensures c.requires.numbers
     c.in-Ok-resume.ensures.resumed c.in-Ok-resume.ensures.numbers c.requires.high c.requires.sound
-    (is_yes c.in-Ok-resume.passed.goes_on c.if-not-passed.false) c.meet.new.state c.meet.new.found c.meet.result
+    (not-false c.in-Ok-resume.passed.goes_on c.if-not-passed.false) c.meet.new.state c.meet.new.found c.meet.result
     c.meet.ensures.numbers

@@ -1,11 +1,11 @@
 use Rattle.std.proofs.Common.{option_map, length, sym, ap, subst, ◌∙◌}
+use Rattle.std.proofs.lemmas.Bool.{not-false, not-true}
 use Rattle.access_paths.specs.Table.{GoesOn, path_at}
 use Rattle.access_paths.proofs.Numbers.{goes_on-same}
 use Rattle.owner_domain.specs.Numbered.{read_value}
 use Rattle.transfer.specs.Numbered.{read_found, IsBelow}
 use Rattle.transfer.proofs.Noting.{notes-ready}
 use Rattle.transfer.proofs.Readings.{found-still}
-use Rattle.transfer.proofs.Bools.{is_no, is_yes}
 use Rattle.transfer.proofs.NumberedSteps.{none-noted, not-noted, access-noted, at-table}
 use Rattle.transfer.proofs.WalkedNumbers.{always}
 use Rattle.transfer.proofs.notes.Notes.note_access.Goals as goal
@@ -18,7 +18,7 @@ returns-then-not-touched_field c =
       found =
           not-noted context c.args.kind context.locked c.args.site c.args.f (read_found old.table old.found)
           (read_value old.table c.args.value)
-          (sym c.touched_field.ensures.recorded ∙ is_no c.touched_field.result.recorded c.if-not-touched_field.true);
+          (sym c.touched_field.ensures.recorded ∙ not-true c.touched_field.result.recorded c.if-not-touched_field.true);
       ready = c.requires.ready;
       table = goes_on-same old.table;
     }
@@ -57,7 +57,7 @@ returns c =
           c.requires.ready.noted (read_value old.table c.args.value) c.in-Some.path (read_found newer new)
           c.note_record.result
           (sym c.touched_field.ensures.recorded
-          ∙ is_yes c.touched_field.result.recorded c.if-not-touched_field.false)
+          ∙ not-false c.touched_field.result.recorded c.if-not-touched_field.false)
           (sym m.path ∙ ap (option_map (path_at newer)) c.in-Some.is)
           (c.note_record.ensures.found newer m.once still below);
       ready =

@@ -10,7 +10,9 @@ use Rattle.core_code.specs.declared.code.Code.TheFolds.{the_lemmas}
 use Rattle.core_code.proofs.code.Code.TheLaws.{the_size}
 use borrow.Author.Sizes.{sizes}
 use Rattle.core_code.specs.Tree.{LockAt, Tree, Op, Seq, Choice, Loop, Sync, tree_of, in_sequence}
+use Rattle.core_code.proofs.PartsLeft.{parts-turn}
 use Rattle.access_domain.specs.Flow.{flow}
+use Rattle.transfer.specs.declared.operations.MethodContext.{MethodContext}
 use Rattle.transfer.specs.Contexts.{given, flow_in}
 use Rattle.transfer.specs.Marks.{IsStopped}
 use Rattle.transfer.specs.NotedCalls.{AreFound}
@@ -29,7 +31,6 @@ use Rattle.transfer.proofs.WalkedNumbers.{body-high, body-ready, body-found, loo
 use Rattle.transfer.proofs.Lowered.{lifted-in, lifted-ready, lifted-stopped}
 use Rattle.transfer.proofs.Lowered.{lowered-flow, lowered-numbers, lowered-same}
 use Rattle.transfer.proofs.notes.Walk.+codes.Goals as goal
-use Rattle.transfer.proofs.PartsLeft.{parts-turn}
 
 pub walk_code-returns-in-Err : goal.walk_code-returns-in-Err
 walk_code-returns-in-Err t c =
@@ -427,7 +428,9 @@ walk_code-returns-in-Sync t c =
     let new = walked.new.self.notes in
     let end = read_state new.table walked.new.state in
     let later = read_found new.table new.found in
-    let m = walked.ensures in
+    let m =
+    subst (λ (x : MethodContext). IsWalked (given x) (flow_in x body) c.args.self.now c.pop.new.self walked.new.self
+    walked.new.state walked.result) c.under_lock-within.ensures walked.ensures in
     record {
       flow =
           subst (λ (code : Tree). IsFlow (flow g code c.args.context.now.locked (read_state table start)) end

@@ -5,7 +5,7 @@ use Rattle.racer_base.specs.declared.limits.TheConstants.{MAX_SUMMARY_KEYS}
 use Rattle.access_paths.specs.declared.path.Path.{Path}
 use Rattle.access_paths.specs.Order.{PathSet}
 use Rattle.wobbly_paths.specs.Inside.{set_of, IsWithin}
-use Rattle.wobbly_paths.proofs.SetLemmas.{contains-set, set_of-added, IsWithin-added, IsWithin-limit}
+use Rattle.wobbly_paths.proofs.SetLemmas.{contains-set, set_of-added, IsWithin-added}
 use Rattle.wobbly_paths.proofs.wobbly.Wobbly.add.Goals as goal
 
 was_new : (there added : Bool) → added ≡ not there → added ≡ true → there ≡ false
