@@ -102,7 +102,7 @@ plains_hold (p ∷ ps) bs h = plain_holds p (ps ++ bs) (and_parts _ _ h).0
 
 -- ---- items are a text literal
 
-pub Holds : List ℕ → Type 0
+Holds : List ℕ → Type 0
 Holds bs = (ends_quoted 34 (bs ++ (34 ∷ [])) ≡ true) × (escapes_hold bs ≡ true)
 
 both_hold : (bs : List ℕ) → ends_quoted 34 (bs ++ (34 ∷ [])) ≡ true → escapes_hold bs ≡ true → Holds bs
@@ -151,8 +151,11 @@ to_text bytes h =
 
 -- ---- a text literal is items
 
-one_item : (item bs : List ℕ) → IsTextItem item → Holds bs → Holds (item ++ bs)
-unfolding Holds
+HasText : List ℕ → Type 0
+HasText bs = (items : List (List ℕ)) × All IsTextItem items × (bs ≡ concat items)
+
+one_item : (item bs : List ℕ) → IsTextItem item → HasText bs → HasText (item ++ bs)
+unfolding HasText
 one_item item bs is h = (item ∷ h.0, All-cons IsTextItem item h.0 is h.1, ap (λ (t : List ℕ). item ++ t) h.2)
 
 no_more : (bs : List ℕ) → is_nothing (bs ++ (34 ∷ [])) ≡ true → ⊥
@@ -162,12 +165,12 @@ no_more (b ∷ bs) h = false≢true h
 -- a backslash, and what an escape behind it takes along
 behind_backslash : (n : ℕ) (bs : List ℕ) → length bs ≤ n → some_front (is_escape 34) bs ≡ true →
     ends_behind_one 34 (bs ++ (34 ∷ [])) ≡ true → hold_behind_one bs ≡ true →
-    ((rest : List ℕ) → length rest ≤ n → Holds rest → Holds rest) → Holds (92 ∷ bs)
+    ((rest : List ℕ) → length rest ≤ n → Holds rest → HasText rest) → HasText (92 ∷ bs)
 behind_backslash n [] le some ends hold more =
     absurd (let f = front_found (is_escape 34) [] some in omega (arith, f.1, f.2))
 behind_backslash n (c ∷ cs) le some ends hold more = let f = front_found (is_escape 34) (c ∷ cs) some in at f.0 f.1 f.3
   where
-    at : (k : ℕ) → 0 < k → is_escape 34 (take k (c ∷ cs)) ≡ true → Holds (92 ∷ c ∷ cs)
+    at : (k : ℕ) → 0 < k → is_escape 34 (take k (c ∷ cs)) ≡ true → HasText (92 ∷ c ∷ cs)
     at zero pos is = absurd (omega arith)
     at (suc j) pos is =
         let plain = escape_plain c (take j cs) is in
@@ -179,16 +182,16 @@ behind_backslash n (c ∷ cs) le some ends hold more = let f = front_found (is_e
         ∙ (and_parts (not (is_line_end c)) (ends_quoted 34 (cs ++ (34 ∷ []))) ends).1 in
         let hold_rest : escapes_hold (drop j cs) ≡ true =
         sym (plains_hold (take j cs) (drop j cs) plain.1) ∙ ap escapes_hold whole ∙ hold in
-        let rest : Holds (drop j cs) = more (drop j cs) (omega (arith, length-drop j cs))
+        let rest : HasText (drop j cs) = more (drop j cs) (omega (arith, length-drop j cs))
         (both_hold (drop j cs) ends_rest hold_rest) in
-        subst (λ (t : List ℕ). Holds (92 ∷ c ∷ t)) whole
+        subst (λ (t : List ℕ). HasText (92 ∷ c ∷ t)) whole
         (one_item (92 ∷ c ∷ take j cs) (drop j cs) (inr (c ∷ take j cs, refl, is)) rest)
 
 text_case : (n b : ℕ) (bs : List ℕ) (v w : Bool) → length bs ≤ n → (b == 34) ≡ v → (b == 92) ≡ w →
     cond v (is_nothing (bs ++ (34 ∷ []))) (cond w (ends_behind_one 34 (bs ++ (34 ∷ [])))
     (not (is_line_end b) && ends_quoted 34 (bs ++ (34 ∷ [])))) ≡ true →
     cond w (some_front (is_escape 34) bs && hold_behind_one bs) (escapes_hold bs) ≡ true →
-    ((rest : List ℕ) → length rest ≤ n → Holds rest → Holds rest) → Holds (b ∷ bs)
+    ((rest : List ℕ) → length rest ≤ n → Holds rest → HasText rest) → HasText (b ∷ bs)
 text_case n b bs true w le e f ends hold more = absurd (no_more bs ends)
 text_case n b bs false true le e f ends hold more =
     let is : b ≡ 92 = eqb-true b 92 f in
@@ -198,15 +201,15 @@ text_case n b bs false false le e f ends hold more =
     one_item (b ∷ []) bs (inl (b, refl, all_fail (b == 34) (b == 92) (is_line_end b) e f (and_parts _ _ ends).0))
     (more bs le (both_hold bs (and_parts (not (is_line_end b)) (ends_quoted 34 (bs ++ (34 ∷ []))) ends).1 hold))
 
-text_upto : (n : ℕ) (bs : List ℕ) → length bs ≤ n → Holds bs → Holds bs
-unfolding Holds Holds
+text_upto : (n : ℕ) (bs : List ℕ) → length bs ≤ n → Holds bs → HasText bs
+unfolding Holds HasText
 text_upto n [] le h = ([], no_items IsTextItem, refl)
 text_upto zero (b ∷ bs) le h = absurd (omega arith)
 text_upto (suc n) (b ∷ bs) le h = text_case n b bs (b == 34) (b == 92) (omega arith) refl refl h.0 h.1 (text_upto n)
 
 of_content : (b : ℕ) (bs content : List ℕ) → b ≡ 34 → bs ≡ content ++ (34 ∷ []) → ends_quoted 34 bs ≡ true →
     escapes_hold (between_quotes (b ∷ bs)) ≡ true → TextOfItems (b ∷ bs)
-unfolding Holds Holds
+unfolding Holds HasText
 of_content b bs content is e ends hold =
     let same : between_quotes (b ∷ bs) ≡ content = ap (λ (t : List ℕ). between_quotes (b ∷ t)) e ∙ between content in
     let t = text_upto (length content) content (omega arith)

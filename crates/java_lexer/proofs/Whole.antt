@@ -24,7 +24,6 @@ use Rattle.java_lexer.proofs.Bytes.{or_less}
 use Rattle.java_lexer.proofs.Fronts.{none_some, found_front}
 use Rattle.java_lexer.proofs.Calm.{nil_kind}
 use Rattle.java_lexer.proofs.OneDivision.{pieces_divide}
-use Rattle.java_lexer.proofs.TextItems.{Holds}
 
 -- what passes one of the tests is a piece
 piece_case : (w c l n x t s : Bool) (word : TokenKind) → (c ≡ true) ⊎ ((x ≡ true) ⊎ (t ≡ true)) →
@@ -46,15 +45,18 @@ passes : (bytes : List ℕ) → (is_comment bytes ≡ true) ⊎ ((is_character b
 passes bytes h = piece_case (is_white_space bytes) (is_comment bytes) (is_word bytes) (is_number bytes)
     (is_character bytes) (is_text bytes) (is_sign bytes) (word_kind bytes) h
 
+HasPiece : List ℕ → Type 0
+HasPiece text = (n : ℕ) × (n ≤ length text) × (is_piece (take n text) ≡ true)
+
 by_front : (is : List ℕ → Bool) (text : List ℕ) (fault : LexicalFault) (v : Bool) → some_front is text ≡ v →
-    cond v None (Some fault) ≡ None → ((bytes : List ℕ) → is bytes ≡ true → is_piece bytes ≡ true) → Holds text
-unfolding Holds
+    cond v None (Some fault) ≡ None → ((bytes : List ℕ) → is bytes ≡ true → is_piece bytes ≡ true) → HasPiece text
+unfolding HasPiece
 by_front is text fault true e h passes = let f = front_found is text e in (f.0, f.2, passes (take f.0 text) f.3)
 by_front is text fault false e h passes = absurd (let no : Some fault ≡ None = h in cc)
 
 by_literal : (is_closed is_literal : List ℕ → Bool) (text : List ℕ) (v : Bool) →
     cond v (unless_front is_literal BadLiteral text) (Some Unclosed) ≡ None →
-    ((bytes : List ℕ) → is_literal bytes ≡ true → is_piece bytes ≡ true) → Holds text
+    ((bytes : List ℕ) → is_literal bytes ≡ true → is_piece bytes ≡ true) → HasPiece text
 by_literal is_closed is_literal text true h passes =
     by_front is_literal text BadLiteral (some_front is_literal text) refl h passes
 by_literal is_closed is_literal text false h passes = absurd cc
@@ -64,7 +66,7 @@ module _ (b : ℕ) (bs : List ℕ) where
       cond block (unless_front is_block_comment Unclosed (b ∷ bs))
       (cond three (Some BadLiteral) (cond two (literal_fault (is_quoted 34) is_text (b ∷ bs))
       (cond one (literal_fault (is_quoted 39) is_character (b ∷ bs)) (unless_front is_piece BadCharacter (b ∷ bs)))))
-      ≡ None → Holds (b ∷ bs)
+      ≡ None → HasPiece (b ∷ bs)
   has_piece true three two one h = by_front is_block_comment (b ∷ bs) Unclosed
       (some_front is_block_comment (b ∷ bs)) refl h
       (λ bytes e. passes bytes (inl (or_right (is_line_comment bytes) (is_block_comment bytes) e)))
@@ -96,8 +98,8 @@ some_longest text zero (suc n) le s = absurd (omega arith)
 some_longest text (suc m) n le s = found_case text m n (java_kind (take (suc m) text)) refl le s
     (λ less. some_longest text m n less s)
 
-some_first : (text : List ℕ) → java_fault text ≡ None → Holds text → IsSome (next_piece java_lexis text)
-unfolding next_piece Holds
+some_first : (text : List ℕ) → java_fault text ≡ None → HasPiece text → IsSome (next_piece java_lexis text)
+unfolding next_piece HasPiece
 some_first text e h = rw e (some_longest text (length text) h.0 h.1 h.2)
 
 stuck_case : (text : List ℕ) (o : Option Piece) → next_piece java_lexis text ≡ o → IsSome o → IsStuck java_lexis text →

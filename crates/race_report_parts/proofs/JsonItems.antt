@@ -18,7 +18,7 @@ use Rattle.race_report_parts.specs.Json.{texts, reason_values, found_values, sid
 use Rattle.race_report_parts.specs.Json.{count, place_value}
 use Rattle.race_report_parts.specs.Pieces.{PutsItems, reason_object, summary_object, detail_text, side_first, side_last}
 use Rattle.race_report_parts.specs.Pieces.{warning_object}
-use Rattle.race_report_parts.proofs.WitnessPieces.{witness_told}
+use Rattle.race_report_parts.proofs.WitnessPieces.{witness_told, word_after}
 
 -- these items are one, whose text is this
 abbrev pub IsItem : List Data → List ℕ → Type 0
@@ -48,9 +48,6 @@ members_4 a b c d e f g = simp append_assoc
 members_5 : (a b c d e f g h i : List ℕ) →
     a ++ b ++ c ++ d ++ e ++ f ++ g ++ h ++ i ≡ (a ++ b) ++ (c ++ d) ++ (e ++ f) ++ (g ++ h) ++ i
 members_5 a b c d e f g h i = simp append_assoc
-
-pub word_after : (a b c d e f g : List ℕ) → a ++ b ++ c ++ d ++ e ++ f ++ g ≡ a ++ (b ++ c ++ d) ++ (e ++ f) ++ g
-word_after a b c d e f g = simp append_assoc
 
 word_after_two : (a b c d e f g h i : List ℕ) →
     a ++ b ++ c ++ d ++ e ++ f ++ d ++ g ++ h ++ i ≡ a ++ ((b ++ c ++ d) ++ (e ++ f ++ d)) ++ (g ++ h) ++ i

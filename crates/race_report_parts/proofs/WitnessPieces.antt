@@ -20,7 +20,6 @@ use Rattle.race_report_parts.specs.Told.{Sides}
 use Rattle.race_report_parts.specs.WitnessFiles.{entry_text, file_of_run}
 use Rattle.race_report_parts.specs.Pieces.{leg_numbers, leg_object, witness_member, witness_object}
 use Rattle.race_report_parts.proofs.JsonPieces.{two_told}
-use Rattle.race_report_parts.proofs.JsonItems.{word_after}
 
 letters_alone : (turns : List Turn) → map letter turns ≡ flat_map turn_text turns
 letters_alone [] = refl
@@ -93,6 +92,9 @@ mark_pieces : (file word : Data) →
     ++ codes "}"
 unfolding serde_json_on_literals
 mark_pieces file word = simp append_assoc
+
+pub word_after : (a b c d e f g : List ℕ) → a ++ b ++ c ++ d ++ e ++ f ++ g ≡ a ++ (b ++ c ++ d) ++ (e ++ f) ++ g
+word_after a b c d e f g = simp append_assoc
 
 -- the object of a confirmed mark
 pub witness_told : (core : Core) (sides : Sides) (objects : List StartPath) (first second : Leg) (word : Data) →

@@ -21,7 +21,7 @@ use Rattle.racer_words.specs.Command.{command, fails}
 use Rattle.racer_words.specs.Readings.{AreTexts, IsRead, Gives}
 use Rattle.racer_words.proofs.BuiltRules.{built_rule, all, shape, by_id}
 use Rattle.racer_words.proofs.UsedRows.{at_end, row_of_use, rows_of_uses, due_word}
-use Rattle.racer_words.proofs.Turns.{at, holds}
+use Rattle.racer_words.proofs.Turns.{at, holds, no_fault}
 use Rattle.racer_words.proofs.WordTurns.{takes}
 use Rattle.racer_words.proofs.Walks.{total, end_rows}
 use Rattle.racer_words.proofs.ReadWords.{Answer}
@@ -46,10 +46,6 @@ defaults_ok : (ls : List Label) (rows : List Row) → defaults_fault rows (map b
 unfolding defaults_fault
 defaults_ok [] rows = refl
 defaults_ok (l ∷ ls) rows = rw (default_ok l rows) (defaults_ok ls (with_default rows (built_rule l)))
-
-pub no_fault : (k : Kinds) → or_else k [] ≡ k
-no_fault [] = refl
-no_fault (x ∷ k) = refl
 
 no_entry : (stop : Option (Text × List Text)) → entered (record { top = shape; subs = [] }) stop ≡ None
 no_entry None = refl

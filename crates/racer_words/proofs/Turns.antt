@@ -43,6 +43,10 @@ else_first (x ∷ k) next e = refl
 pub else_second : (k next : Kinds) → k ≡ [] → or_else k next ≡ next
 else_second k next e = ap (λ z. or_else z next) e
 
+pub no_fault : (k : Kinds) → or_else k [] ≡ k
+no_fault [] = refl
+no_fault (x ∷ k) = refl
+
 mapped : (xs ys : List Use) → rows_of_uses (xs ++ ys) ≡ rows_of_uses xs ++ rows_of_uses ys
 mapped [] ys = refl
 mapped (x ∷ xs) ys = ap (λ more. row_of_use x ∷ more) (mapped xs ys)

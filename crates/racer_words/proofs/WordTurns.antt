@@ -11,9 +11,8 @@ use Rattle.clap.specs.Kinds.{Kinds}
 use Rattle.racer_words.specs.Uses.{Word, Label, Folder, Workers, Replay, Made, Json, Summaries, History, name_of}
 use Rattle.racer_words.specs.Uses.{takes_value, label_of}
 use Rattle.racer_words.proofs.BuiltRules.{built_rule, all, shape}
-use Rattle.racer_words.proofs.Turns.{at, holds, Fault, else_first}
+use Rattle.racer_words.proofs.Turns.{at, holds, Fault, no_fault, else_first}
 use Rattle.racer_words.proofs.WordKinds.{IsLong, IsShort, IsPlainWord, by_long}
-use Rattle.racer_words.proofs.Finished.{no_fault}
 use Rattle.racer_base.proofs.Lists.{given_some}
 
 abbrev pub turn : Walk → Word → Kinds
