@@ -1,17 +1,18 @@
 -- Whether a statement is seen whole is told by its tree without places.
 use Rattle.std.proofs.Common.{◌≡◌, Bool, true, false, ◌&&◌, List, [], ◌∷◌, Option, Some, None, map, refl, ap, ap₂}
-use Rattle.std.proofs.Common.{sym, ◌∙◌}
+use Rattle.std.proofs.Common.{sym, ◌∙◌, subst, rules}
 use Rattle.std.specs.Prelude.{Vec}
 use Rattle.std.specs.Global.{Global}
 use Rattle.racer_base.specs.declared.ids.Place.{Place}
 use Rattle.java_tree.specs.declared.statements.ResourcesTree.{ResourcesTree}
 use Rattle.java_tree.specs.declared.words.Ident.{Ident}
 use Rattle.java_tree.specs.declared.methods.MethodTree.{MethodTree}
-use Rattle.java_tree.specs.declared.statements.Statement.{Statement, map-Statement}
-use Rattle.java_tree.specs.declared.statements.CatchTree.{CatchTree, map-CatchTree}
+use Rattle.java_tree.specs.declared.statements.Statement.{Statement, roll-Statement, map-Statement}
+use Rattle.java_tree.specs.declared.statements.CatchTree.{CatchTree, roll-CatchTree, map-CatchTree}
 use Rattle.java_tree.specs.declared.statements.GroupTree.{GroupTree}
-use Rattle.java_tree.specs.declared.statements.TryTree.{TryTree, map-TryTree}
+use Rattle.java_tree.specs.declared.statements.TryTree.{TryTree, roll-TryTree, map-TryTree}
 use Rattle.java_tree.specs.declared.statements.Statement.TheOpen as statement
+use Rattle.java_tree.specs.declared.statements.Statement.TheFolds.{ind-Statement, the_lemmas}
 use Rattle.java_tree.specs.Trees as view
 use Rattle.java_tree.specs.View.{method_of}
 use Rattle.java_tree.specs.View as viewed
@@ -25,7 +26,6 @@ use Rattle.core_lowering_rules.specs.TreesOf as lowered
 use Rattle.core_lowering_rules.specs.Methods.{body_of}
 use Rattle.core_lowering_rules.proofs.LoweredTrees.{is_part, are_parts, are_parts_caught, call-part, unlock-parts}
 use Rattle.core_lowering_rules.proofs.LoweredTrees.{call-locks}
-use Rattle.core_lowering_rules.proofs.FilledStatements.{stmt-is}
 
 -- ---- of the tree without places
 
@@ -182,6 +182,15 @@ stmt-seen (statement.Assert e f) = refl
 stmt-seen (statement.Switch e gs) = refl
 stmt-seen (statement.Try t) = t.value.1
 
+stmt-case : (y : Layer) → HasStmt (roll-Statement (plain y))
+stmt-case y =
+    let seen : viewed.stmt_of (roll-Statement (plain y)) ≡ viewed_in (plain y) = search (rules, the_lemmas) in
+    let lower : stmt_of (roll-Statement (plain y)) ≡ lowered_in (plain y) = search (rules, the_lemmas) in
+    ap is_seen seen ∙ stmt-seen y ∙ ap is_part (sym lower)
+
+stmt-has : (x : Plain) (y : Layer) → plain y ≡ x → HasStmt (roll-Statement x)
+stmt-has x y is = subst (λ z. HasStmt (roll-Statement z)) is (stmt-case y)
+
 -- ---- catch clauses
 
 abbrev CatchLayer : Type 0
@@ -205,6 +214,16 @@ abbrev catch_lowered_in : PlainCatch → Clause
 catch_lowered_in x =
     lowered.catch_step
     (map-CatchTree Statement CatchTree GroupTree TryTree Stmt Clause (Unit {0}) Stmt stmt_of catch_of group_of try_of x)
+
+catch-case : (y : CatchLayer) → HasCatch (roll-CatchTree (plain_catch y))
+catch-case y =
+    let x = plain_catch y in
+    let seen : viewed.catch_of (roll-CatchTree x) ≡ catch_viewed_in x = search (rules, the_lemmas) in
+    let lower : catch_of (roll-CatchTree x) ≡ catch_lowered_in x = search (rules, the_lemmas) in
+    ap does_clause_see seen ∙ items-seen y.body.items ∙ ap (λ (c : Clause). are_parts c.1) (sym lower)
+
+catch-has : (x : PlainCatch) (y : CatchLayer) → plain_catch y ≡ x → HasCatch (roll-CatchTree x)
+catch-has x y is = subst (λ z. HasCatch (roll-CatchTree z)) is (catch-case y)
 
 -- ---- a `try`
 
@@ -257,13 +276,26 @@ parts-seen (Some rs) body cs None = refl
 try-seen : (y : TryLayer) → TrySeen y
 try-seen y = parts-seen y.resources y.body y.clauses y.finally
 
+try-case : (y : TryLayer) → HasTry (roll-TryTree (plain_try y))
+try-case y =
+    let x = plain_try y in
+    let seen : viewed.try_of (roll-TryTree x) ≡ try_viewed_in x = search (rules, the_lemmas) in
+    let lower : try_of (roll-TryTree x) ≡ try_lowered_in x = search (rules, the_lemmas) in
+    ap is_seen seen ∙ try-seen y ∙ ap is_part (sym lower)
+
+try-has : (x : PlainTry) (y : TryLayer) → plain_try y ≡ x → HasTry (roll-TryTree x)
+try-has x y is = subst (λ z. HasTry (roll-TryTree z)) is (try-case y)
+
 -- ---- all
+
+stmt-is_seen : (s : Statement) → HasStmt s
+stmt-is_seen = ind-Statement HasStmt HasCatch (λ g. Unit {0}) HasTry stmt-has catch-has (λ x y is. tt) try-has
 
 stmts-are_seen : (ss : List Statement) →
     are_seen (view.pack_stmts (map viewed.stmt_of ss)) ≡ are_parts (pack_stmts (map stmt_of ss))
 stmts-are_seen [] = refl
 stmts-are_seen (s ∷ ss) =
-    ap₂ (λ a b. a && b) (stmt-is s) (stmts-are_seen ss) ∙ sym (put-seen (stmt_of s) (pack_stmts (map stmt_of ss)))
+    ap₂ (λ a b. a && b) (stmt-is_seen s) (stmts-are_seen ss) ∙ sym (put-seen (stmt_of s) (pack_stmts (map stmt_of ss)))
 
 -- methods of one tree without places are both seen whole, or neither
 pub parts-alike : (m n : MethodTree) → method_of m ≡ method_of n → are_parts (body_of m) ≡ are_parts (body_of n)

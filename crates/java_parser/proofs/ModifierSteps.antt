@@ -6,15 +6,16 @@ use Rattle.java_lexer.specs.declared.token.TokenKind.{TokenKind}
 use Rattle.java_lexer.specs.declared.token.TokenKind.TheVariants as kind
 use Rattle.java_tree.specs.declared.words.Spelled.{Spelled}
 use Rattle.java_tree.specs.Words.{keyword, sign}
-use Rattle.java_tree.specs.Trees.{Modifier, Word, Annotated}
-use Rattle.java_tree.specs.Spelling.{modifier_onto, modifiers_onto, annotation_onto}
-use Rattle.java_tree.specs.Formed.{Each, FormedAnnotation}
+use Rattle.java_tree.specs.Trees.{Modifier, Word, Annotated, Ty, Typed, Plain, Named, no_part, part_then}
+use Rattle.java_tree.specs.Trees.{Bare, Generic}
+use Rattle.java_tree.specs.Spelling.{modifier_onto, modifiers_onto, annotation_onto, ty_onto, brackets_onto}
+use Rattle.java_tree.specs.Formed.{Each, FormedAnnotation, FormedTy, is_plain_word}
 use Rattle.java_parser_grammar.specs.Taking.{after_sign}
 use Rattle.java_parser_grammar.specs.MethodReading.{annotation_at}
-use Rattle.java_parser_grammar.proofs.Annotations.{EndsAnnotation, annotation_found, modifiers_end}
-use Rattle.java_parser_grammar.proofs.Ensuring.{Ensures, then_ensures, if_ensures, match_ensures, sign_taken}
-use Rattle.java_parser_grammar.proofs.Ensuring.{of_equation}
+use Rattle.java_parser_grammar.proofs.Annotations.{EndsAnnotation, annotation_found}
+use Rattle.java_parser_grammar.proofs.Ensuring.{Ensures, then_ensures, if_ensures, match_ensures, sign_taken, of_equation}
 use Rattle.java_parser_grammar.proofs.SoundAnnotations.{Taken, annotation_sound}
+use Rattle.java_parser_grammar.proofs.StatementFronts.{plain_cases}
 use Rattle.java_parser_grammar.specs.FieldDivisions.{FormedFieldModifier, is_field_modifier}
 use Rattle.java_parser_grammar.proofs.Appended.{modifiers_append}
 use Rattle.java_parser_types.specs.Tokens.{spelled}
@@ -24,6 +25,8 @@ use Rattle.java_parser.specs.FieldModifiers.{SkipsModifiers, NoModifiers, AreMod
 
 -- ---- a modifier is found
 
+modifiers_end : (ms : List Modifier) (rest : List Spelled) → EndsAnnotation rest
+    → EndsAnnotation (modifiers_onto ms rest)
 modifiers_end [] rest e = e
 modifiers_end (Word text ∷ ms) rest e = record { no_point = refl; no_open = refl }
 modifiers_end (Annotated n ∷ ms) rest e = record { no_point = refl; no_open = refl }
@@ -131,6 +134,22 @@ spells_more ts here rest ms m s e =
     }
 
 -- ---- what stands behind modifiers
+
+ends_plain : (text : List ℕ) (rest : List Spelled) → IsTrue (is_plain_word text) → EndsModifiers (keyword text ∷ rest)
+ends_plain text rest h = record {
+  no_point = refl;
+  no_open = refl;
+  ended = plain_cases (λ word. field_modifier_at (keyword word ∷ rest) ≡ Some None) refl refl refl refl refl refl refl
+      refl text h;
+}
+
+pub ends_type : (t : Ty) (rest : List Spelled) → FormedTy t → EndsModifiers (ty_onto t rest)
+ends_type (Typed (Plain text) arrays) rest f = ends_plain text (brackets_onto arrays rest) f
+ends_type (Typed (Named no_part) arrays) rest f = absurd cc
+ends_type (Typed (Named (part_then (Bare x) ps)) arrays) rest f =
+    record { no_point = refl; no_open = refl; ended = refl }
+ends_type (Typed (Named (part_then (Generic x a) ps)) arrays) rest f =
+    record { no_point = refl; no_open = refl; ended = refl }
 
 -- the tokens at the end that were left, behind the same modifiers
 pub modifiers_left : (ts words rest left : List Token) (ms : List Modifier) → ts ≡ words ++ rest

@@ -23,12 +23,11 @@ use Rattle.java_parser_grammar.specs.FieldDivisions.{between_commas}
 use Rattle.java_parser_grammar.specs.Pieces.{items_of}
 use Rattle.java_parser_grammar.specs.Tokens.{AreLast}
 use Rattle.java_parser_grammar.proofs.OneDivision.{one_division}
-use Rattle.java_parser_grammar.proofs.Annotations.{ends_type}
 use Rattle.java_parser_types.specs.Tokens.{spelled}
 use Rattle.java_tree.proofs.TypeCounts.{ty_count, ty_counts}
 use Rattle.java_parser.specs.FieldModifiers.{field_modifier_at, EndsModifiers, Spells}
 use Rattle.java_parser.proofs.DeclaredFields.{declaration_spells, ends_type_here, variables_begin, push_ends, left_of}
-use Rattle.java_parser.proofs.ModifierSteps.{first_found}
+use Rattle.java_parser.proofs.ModifierSteps.{first_found, ends_type}
 use Rattle.java_parser.proofs.SameEnds.{same_ends, same_size}
 use Rattle.java_tree.specs.SameUnits.{SameType, SameInitialiser, SameVariable, SameField}
 

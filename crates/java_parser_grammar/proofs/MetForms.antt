@@ -30,8 +30,8 @@ use Rattle.java_parser_grammar.proofs.Operands.{object_operand, array_operand, i
 use Rattle.java_parser_grammar.proofs.Lengths.{lengths_longer}
 use Rattle.java_parser_grammar.proofs.Casts.{parens_no_cast, signed_cast}
 use Rattle.java_parser_grammar.proofs.Meetings.{Met, alone, from_operand, from_turn, pull_operator}
-use Rattle.java_parser_grammar.proofs.MetLists.{unpack_exprs, MetArguments, Measured, Filled}
-use Rattle.java_parser_grammar.proofs.FoundLists.{pack-unpack_exprs}
+use Rattle.java_parser_grammar.proofs.MetLists.{MetArguments, Measured, Filled}
+use Rattle.java_parser_grammar.proofs.FoundLists.{unpack_exprs, pack-unpack_exprs}
 
 -- ---- form by form
 

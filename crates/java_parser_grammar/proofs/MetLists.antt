@@ -15,6 +15,7 @@ use Rattle.java_parser_grammar.specs.Leads.{lead, pull}
 use Rattle.java_parser_grammar.specs.ExpressionReading.{call_arguments_with, lengths_with, items_with, braces_with}
 use Rattle.java_parser_grammar.specs.ExpressionReading.{read_at, array_at, init_at}
 use Rattle.java_parser_grammar.proofs.CommaLoops.{commas_end, commas_turn}
+use Rattle.java_parser_grammar.proofs.FoundLists.{unpack_exprs}
 use Rattle.java_parser_grammar.proofs.GrammarFronts.{front}
 use Rattle.java_parser_grammar.proofs.Taken.{pull_bracket}
 use Rattle.java_parser_grammar.proofs.Operands.{no_arguments, first_argument, lengths_end, lengths_brackets}
@@ -23,10 +24,6 @@ use Rattle.java_parser_grammar.proofs.Operands.{value_found, items_found, no_ite
 use Rattle.java_parser_grammar.proofs.Operands.{items_turn}
 use Rattle.java_parser_grammar.proofs.Lengths.{count_exprs, count_inits, more_exprs_longer, more_inits_longer}
 use Rattle.java_parser_grammar.proofs.Meetings.{Met, alone}
-
-unfoldable pub unpack_exprs : Exprs → List Expr
-unpack_exprs no_expr = []
-unpack_exprs (expr_then e es) = e ∷ unpack_exprs es
 
 unfoldable pub unpack_inits : Inits → List Init
 unpack_inits no_init = []

@@ -102,8 +102,8 @@ pub entry-is-analysed : (p : Program) (m : MethodId) (f : Method) → method_at 
 entry-is-analysed p m f there entry =
     ap (λ (o : Option Method). elim o as (λ _. Bool) [ None ↦ false | Some x ↦ is_none x.status ]) there
     ∙ entry-analysed (core_of p) f
-    (passes-in (may_be_entry (core_of p)) (core_of p).methods f p.entries_analysed
-    (in-at (core_of p).methods m.0 f there)) entry
+    (passes_in (may_be_entry (core_of p)) (core_of p).methods f p.entries_analysed
+    (in_at (core_of p).methods m.0 f there)) entry
 
 abbrev class_of : Core → Method → List ℕ
 class_of core m = name_at (class_names core) m.class.0
