@@ -42,7 +42,7 @@ took-turn core t (x ∷ xs) old new o left turn before after takes wants so is s
       used = x ∷ [];
       behind = behind ∙ ap (λ (y : Turn). before ++ y ∷ []) (sym same);
       front = ap (λ (ys : List Turn). x ∷ ys) parts.1;
-      made-of = by-wants core t (x ∷ []) old true takes_one ∙ ap (with_turns []) parts.0;
+      made = by-wants core t (x ∷ []) old true takes_one ∙ ap (with_turns []) parts.0;
     }
 
 -- it takes none
@@ -59,5 +59,5 @@ took-none core t rest old new o left before takes wants so is some =
       used = [];
       behind = sym (append-nil before);
       front = parts.1;
-      made-of = by-wants core t [] old false takes_none ∙ ap (with_turns []) parts.0;
+      made = by-wants core t [] old false takes_none ∙ ap (with_turns []) parts.0;
     }
