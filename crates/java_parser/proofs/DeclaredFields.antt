@@ -30,7 +30,7 @@ use Rattle.java_parser_grammar.specs.Pieces.{Item, items_from, items_of}
 use Rattle.java_parser_grammar.specs.FieldDivisions.{IsVariable, IsDivided}
 use Rattle.java_parser_grammar.specs.FieldDivisions.{before_first, between_commas, AreVariables, AreDeclared, AreFields}
 use Rattle.java_parser_grammar.proofs.Appended.{Appends, ty_append, modifiers_append}
-use Rattle.java_parser_grammar.proofs.Annotations.{ends_type}
+use Rattle.java_parser.proofs.ModifierSteps.{ends_type}
 use Rattle.java_parser_types.specs.Tokens.{spelled}
 use Rattle.java_parser.specs.FieldModifiers.{Spells, NoModifiers, AreModifiers}
 use Rattle.java_parser.specs.Fronts.{EndsWith, IsFront}
