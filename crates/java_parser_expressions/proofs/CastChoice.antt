@@ -1,4 +1,4 @@
--- The first parenthesis behind a `(` decides between a cast and parentheses.
+-- Where another `(` is the first parenthesis behind a `(`, parentheses are read, and no operand behind them.
 use Rattle.std.proofs.Common.{◌≡◌, ◌∙◌, ℕ, zero, suc, Bool, true, false, not, ◌&&◌, ◌||◌, cond, List, [], ◌∷◌, Option}
 use Rattle.std.proofs.Common.{Some, None, refl, ap, codes}
 use Rattle.std.specs.Prelude.{bytes_eq}
@@ -6,7 +6,7 @@ use Rattle.java_lexer.specs.declared.token.TokenKind.{TokenKind}
 use Rattle.java_lexer.specs.declared.token.TokenKind.TheVariants as kind
 use Rattle.java_tree.specs.declared.words.Spelled.{Spelled}
 use Rattle.java_tree.specs.Words.{sign_glued}
-use Rattle.java_tree.specs.Brackets.{is_sign, is_some_and}
+use Rattle.java_tree.specs.Brackets.{is_some_and}
 use Rattle.java_tree.specs.Formed.{is_plain_word}
 use Rattle.java_tree.specs.Operators.{unary_level, is_prefix}
 use Rattle.java_tree.specs.Trees.{Ty, Typed, Base, Plain, Named, Parts, no_part, part_then, Part, Bare, Generic}
@@ -24,26 +24,8 @@ use Rattle.java_parser_grammar.proofs.SoundExpressions.{read_sound}
 use Rattle.java_parser_grammar.proofs.SoundLists.{Got}
 use Rattle.java_parser_grammar.proofs.SoundTypes.{GotTy, ty_sound}
 use Rattle.java_parser_grammar.proofs.Taken.{after_sign_is}
-use Rattle.java_parser_expressions.specs.FirstParenthesis.{behind_first, lone_parens_with}
-
--- ---- where the first one closes
-
-closes_at : (b c : Bool) (ts r : List Spelled) → (behind_first ts ≡ Some r → behind 0 ts ≡ r)
-    → cond b None (cond c (Some ts) (behind_first ts)) ≡ Some r → cond b (behind 1 ts) (cond c ts (behind 0 ts)) ≡ r
-closes_at true c ts r later e = absurd cc
-closes_at false true ts r later e = cc
-closes_at false false ts r later e = later e
-
-closes : (ts r : List Spelled) → behind_first ts ≡ Some r → behind 0 ts ≡ r
-unfolding behind behind_first
-closes [] r e = absurd cc
-closes (t ∷ ts) r e = closes_at (is_sign (codes "(") t) (is_sign (codes ")") t) ts r (closes ts r) e
-
--- then it decides
-pub first_decides : (ts r : List Spelled) → behind_first ts ≡ Some r
-    → casts ts ≡ (opens_operand r || (is_plain_cast ts && opens_signed r))
-unfolding casts
-first_decides ts r e = rw (closes ts r e) refl
+use Rattle.java_parser_lookahead.specs.FirstParenthesis.{behind_first}
+use Rattle.java_parser_expressions.specs.Closings.{lone_parens_with}
 
 -- ---- types have no parentheses
 

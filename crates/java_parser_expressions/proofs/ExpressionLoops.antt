@@ -17,7 +17,7 @@ use Rattle.java_parser_grammar.specs.TypeReading.{ty_at, made_base_at}
 use Rattle.java_parser_types.specs.Tokens.{spelled}
 use Rattle.java_parser_types.specs.Finishing.{finished}
 use Rattle.java_parser_types.specs.Endings.{length_behind, item_behind, items_close, items_end}
-use Rattle.java_parser_expressions.specs.GoingOn.{goes_on}
+use Rattle.java_parser_lookahead.specs.GoingOn.{goes_on}
 use Rattle.java_parser_types.specs.ReadAnswer.{Fails}
 use Rattle.java_parser_types.proofs.ReadLoops.{some_left, none_left, regroup}
 

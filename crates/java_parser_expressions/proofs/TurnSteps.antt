@@ -10,7 +10,7 @@ use Rattle.java_parser_types.specs.declared.error.ReadError.{ReadError}
 use Rattle.java_parser_types.specs.ReadAnswer.{Gives}
 use Rattle.java_parser_types.proofs.ReadLoops.{ends_give}
 use Rattle.java_parser_expressions.specs.declared.progress.Progress.{Progress}
-use Rattle.java_parser_expressions.specs.GoingOn.{goes_on}
+use Rattle.java_parser_lookahead.specs.GoingOn.{goes_on}
 use Rattle.java_parser_expressions.specs.TurnView.{turn_of}
 
 -- a turn with this, where the expression goes on with it

@@ -1,15 +1,22 @@
 -- No public contract rests on this: what is made of an expression by the sign behind it.
-use Rattle.std.specs.Prelude.{ℕ, Bool, List, [], Option, Some, codes}
+use Rattle.std.specs.Prelude.{ℕ, Bool, List, [], Option, Some, None, codes, if◌then◌else◌}
 use Rattle.java_tree.specs.declared.words.Spelled.{Spelled}
 use Rattle.java_tree.specs.Trees.{Expr, Init, Paren, Index}
 use Rattle.java_parser_grammar.specs.Taking.{◌>>=◌, after_sign}
-use Rattle.java_parser_grammar.specs.ExpressionReading.{Reading, Turn, grown}
+use Rattle.java_parser_grammar.specs.Leads.{opens_operand}
+use Rattle.java_parser_grammar.specs.ExpressionReading.{Reading, Turn, grown, parens_with}
 
 -- an expression in parentheses (JLS 15.8.5)
 abbrev pub paren_end : Expr → Reading Expr
 paren_end a ts = do
   r ← after_sign (codes ")") ts
   Some (Paren a, r)
+
+-- in parentheses behind their `(`, where no operand stands behind them (JLS 15.16)
+abbrev pub lone_parens_with : (ℕ → Reading Expr) → Reading Expr
+lone_parens_with read ts = do
+  x ← parens_with read ts
+  if opens_operand x.1 then None else Some x
 
 -- an element of an array (JLS 15.10.3)
 abbrev pub index_end : ℕ → Expr → (index : Expr) → List Spelled → Option Turn

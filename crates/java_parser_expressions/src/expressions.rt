@@ -11,12 +11,12 @@ ghost use Rattle.java_parser_types.specs.ReadAnswer.{Gives};
 
 use super::arguments::call_arguments;
 use super::first_operand::operand;
-use super::leads::{Lead, lead_at};
-use super::levels::{binary_level, goes_on};
 use super::nested::NestedExpression;
 use super::progress::Progress;
 use super::turns::{assigned, called, chosen, indexed, joined, selected, stepped, tested};
 use java_lexer::Token;
+use java_parser_lookahead::leads::{Lead, lead_at};
+use java_parser_lookahead::levels::{binary_level, goes_on};
 use java_parser_types::error::ReadError;
 use java_parser_types::look::{after_sign, name, sign};
 use std::alloc::Global;

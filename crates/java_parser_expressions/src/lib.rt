@@ -1,9 +1,8 @@
 //! Expressions of Java, read from their tokens.
 //!
-//! The first parenthesis behind a `(` decides between a cast and parentheses: a type has none. A name and `.class`
-//! behind it are found by looking ahead, since fields that are folded afterwards would nest as deep as there are
-//! names. Loops over points and commas give what they have when their count is used up, since fields end their tokens
-//! so.
+//! A name and `.class` behind it are found by looking ahead, since fields that are folded afterwards would nest as deep
+//! as there are names. Loops over points and commas give what they have when their count is used up, since fields end
+//! their tokens so.
 #![tactic(auto)]
 
 mod arguments;
@@ -13,8 +12,6 @@ pub mod expressions;
 mod first_operand;
 pub mod initialisers;
 pub mod laws;
-pub mod leads;
-mod levels;
 mod lists;
 pub mod nested;
 mod operands;

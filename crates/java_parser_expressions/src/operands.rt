@@ -13,10 +13,10 @@ ghost use Rattle.java_parser_types.specs.Endings.{prefix_end};
 ghost use Rattle.java_parser_types.specs.Tokens.{spelled};
 ghost use Rattle.java_parser_types.specs.ReadAnswer.{Gives};
 
-use super::leads::is_step;
-use super::levels::is_variable;
 use super::nested::{NestedArray, NestedExpression, NestedExpressions};
 use java_lexer::Token;
+use java_parser_lookahead::leads::is_step;
+use java_parser_lookahead::levels::is_variable;
 use java_parser_types::error::ReadError;
 use java_parser_types::look::{ident, sign};
 use java_parser_types::made_types::made_base;

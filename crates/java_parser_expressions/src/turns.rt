@@ -1,5 +1,5 @@
 //! Larger expressions, made of what was read before and behind an operator, a point or a bracket.
-ghost use Rattle.std.specs.Prelude.{◌≡◌, ◌<◌, ◌≤◌, ◌^◌, suc, ◌∷◌, nat_le, length, map, IfOk};
+ghost use Rattle.std.specs.Prelude.{◌≡◌, ◌<◌, ◌≤◌, ◌^◌, suc, ◌∷◌, length, map, IfOk};
 ghost use Rattle.java_tree.specs.Trees.{Assign, Conditional, Binary, Postfix, Field, CallOn, pack_exprs};
 ghost use Rattle.java_tree.specs.Nesting.{expr_nesting};
 ghost use Rattle.java_tree.specs.KeptPlaces.{kept, each_puts, expr_places};
@@ -13,20 +13,13 @@ ghost use Rattle.java_parser_types.specs.ReadAnswer.{Gives};
 use super::nested::{NestedExpression, NestedExpressions};
 use super::progress::Progress;
 use java_lexer::Token;
+use java_parser_lookahead::levels::is_within;
 use java_parser_types::error::ReadError;
 use java_parser_types::look::sign;
 use java_parser_types::made_types::read_bare_type;
 use java_tree::{Apart, Expression, Ident};
 use racer_base::Text;
 use std::alloc::Global;
-
-/// Whether a larger expression of this nesting is not nested too deep.
-fn is_within(limit: u32, nesting: u32) -> bool
-    requires { suc (suc limit) < 2 ^ 32 }
-    ensures { result ≡ nat_le nesting (suc limit) }
-{
-    nesting <= limit + 1
-}
 
 /// A larger expression, if it is not nested too deep.
 fn grown<'a>(

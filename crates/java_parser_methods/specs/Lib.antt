@@ -1,4 +1,3 @@
-pub mod StatementLeadView
 pub mod HeadReading
 pub mod RowReading
 pub mod HeadView

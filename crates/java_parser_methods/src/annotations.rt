@@ -14,8 +14,8 @@ ghost use Rattle.java_parser_types.specs.Endings.{as_they_are};
 ghost use Rattle.java_parser_types.specs.ReadAnswer.{Gives};
 
 use super::brackets::arguments;
-use super::lookahead::after_modifier;
 use java_lexer::Token;
+use java_parser_lookahead::lookahead::after_modifier;
 use java_parser_types::error::ReadError;
 use java_parser_types::look::{after_sign, name};
 use java_tree::{AnnotationTree, ModifierTree};

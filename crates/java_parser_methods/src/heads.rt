@@ -17,11 +17,11 @@ ghost use Rattle.java_parser_types.specs.Endings.{as_they_are};
 ghost use Rattle.java_parser_types.specs.ReadAnswer.{Gives};
 
 use super::locals::{boxed_type, variables};
-use super::lookahead::{begins_with, final_at, looks_local, name_and_colon};
 use java_lexer::Token;
 use java_parser_expressions::expressions::read_expression;
-use java_parser_expressions::leads::is_step;
 use java_parser_expressions::nested::push_tree;
+use java_parser_lookahead::leads::is_step;
+use java_parser_lookahead::lookahead::{begins_with, final_at, looks_local, name_and_colon};
 use java_parser_types::error::ReadError;
 use java_parser_types::look::{after_sign, ident, sign};
 use java_tree::{Apart, Expression, Ident, StartTree, TypeTree};

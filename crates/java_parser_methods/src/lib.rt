@@ -10,7 +10,6 @@ mod heads;
 pub mod laws;
 mod lines;
 mod locals;
-mod lookahead;
 mod methods;
 mod nodes;
 mod parameters;

@@ -10,9 +10,9 @@ ghost use Rattle.java_parser_types.specs.ReadAnswer.{Gives};
 
 use super::heads::run;
 use super::locals::locals;
-use super::lookahead::looks_local;
 use super::nodes::{local, ran};
 use java_lexer::Token;
+use java_parser_lookahead::lookahead::looks_local;
 use java_parser_types::error::ReadError;
 use java_parser_types::look::sign;
 use java_tree::Statement;

@@ -15,10 +15,10 @@ ghost use Rattle.java_parser_types.specs.Finishing.{finished};
 ghost use Rattle.java_parser_types.specs.Endings.{as_they_are};
 ghost use Rattle.java_parser_types.specs.ReadAnswer.{Gives};
 
-use super::lookahead::final_at;
 use java_lexer::Token;
 use java_parser_expressions::initialisers::read_initialiser;
 use java_parser_expressions::nested::push_tree;
+use java_parser_lookahead::lookahead::final_at;
 use java_parser_types::error::ReadError;
 use java_parser_types::look::{after_sign, name};
 use java_parser_types::types::read_type;

@@ -16,11 +16,11 @@ ghost use Rattle.java_parser_types.specs.Tokens.{spelled};
 ghost use Rattle.java_parser_types.specs.ReadAnswer.{Gives};
 
 use super::annotations::modifiers;
-use super::lookahead::is_constructor;
 use super::signatures::{Signature, read_signature};
 use super::statements::read_block;
 use super::words::has_synchronized;
 use java_lexer::Token;
+use java_parser_lookahead::lookahead::is_constructor;
 use java_parser_types::error::ReadError;
 use java_parser_types::look::after_keyword;
 use java_parser_types::types::read_type;

@@ -15,8 +15,8 @@ ghost use Rattle.java_parser_types.specs.Endings.{as_they_are};
 ghost use Rattle.java_parser_types.specs.ReadAnswer.{Gives};
 
 use super::annotations::annotations;
-use super::lookahead::{begins_with, final_at};
 use java_lexer::Token;
+use java_parser_lookahead::lookahead::{begins_with, final_at};
 use java_parser_types::error::ReadError;
 use java_parser_types::look::{after_keyword, after_sign, name};
 use java_parser_types::types::read_type;

@@ -7,7 +7,7 @@ ghost use Rattle.java_tree.specs.View.{expr_of, stmt_of};
 ghost use Rattle.java_parser_grammar.specs.Lookahead.{statement_lead};
 ghost use Rattle.java_parser_grammar.specs.StatementReading.{body_at, braces_at, if_at, by_lead};
 ghost use Rattle.java_parser_grammar.specs.StatementReading.{row_at};
-ghost use Rattle.java_parser_methods.specs.StatementLeadView.{row_text, word_onto};
+ghost use Rattle.java_parser_lookahead.specs.StatementLeadView.{row_text, word_onto};
 ghost use Rattle.java_parser_methods.specs.RowReading.{labelled_at};
 ghost use Rattle.java_parser_grammar.specs.StatementReading.{stmt_at, block_at};
 ghost use Rattle.java_parser_methods.specs.HeadReading.{else_at, headed_at};
@@ -17,7 +17,6 @@ ghost use Rattle.java_parser_types.specs.ReadAnswer.{Gives};
 
 use super::heads::{condition, head};
 use super::lines::{is_body, simple};
-use super::lookahead::{RowWord, StatementLead, behind_else, keyword, statement_lead};
 use super::nodes::{
     block, empty, headed, labelled, locked, repeated, repeated_after, with_else, without_else,
 };
@@ -26,6 +25,9 @@ use super::switches::switch_statement;
 use super::tries::try_statement;
 use java_lexer::Token;
 use java_parser_expressions::nested::push_tree;
+use java_parser_lookahead::lookahead::{
+    RowWord, StatementLead, behind_else, keyword, statement_lead,
+};
 use java_parser_types::error::ReadError;
 use java_parser_types::look::{after_sign, sign};
 use java_tree::{Expression, Statement};

@@ -12,12 +12,12 @@ ghost use Rattle.java_parser_types.specs.Tokens.{spelled};
 ghost use Rattle.java_parser_types.specs.ReadAnswer.{Gives};
 
 use super::heads::condition;
-use super::lookahead::{after_word, keyword};
 use super::nodes::switched;
 use super::statements::read_statement;
 use java_lexer::Token;
 use java_parser_expressions::expressions::read_expression;
 use java_parser_expressions::nested::push_tree;
+use java_parser_lookahead::lookahead::{after_word, keyword};
 use java_parser_types::error::ReadError;
 use java_parser_types::look::{after_sign, sign};
 use java_tree::{GroupTree, LabelTree, Statement};

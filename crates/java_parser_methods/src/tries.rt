@@ -10,11 +10,11 @@ ghost use Rattle.java_parser_methods.specs.RowReading.{clauses_at, finally_at, t
 ghost use Rattle.java_parser_types.specs.Tokens.{spelled};
 ghost use Rattle.java_parser_types.specs.ReadAnswer.{Gives};
 
-use super::lookahead::after_word;
 use super::nodes::tried;
 use super::statements::read_block;
 use super::try_heads::{catch_parameter, resources};
 use java_lexer::Token;
+use java_parser_lookahead::lookahead::after_word;
 use java_parser_types::error::ReadError;
 use java_tree::{CatchTree, Statement};
 use std::alloc::Global;

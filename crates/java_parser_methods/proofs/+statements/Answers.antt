@@ -22,7 +22,7 @@ use Rattle.java_parser_methods.proofs.StatementLoops.{statements_run_out, stmt_w
 use Rattle.java_tree.specs.Formed.{is_body}
 use Rattle.java_parser_methods.specs.HeadView.{head_places}
 use Rattle.java_parser_methods.proofs.PassedOn.{puts_back, within_back, tested_no, tested_yes}
-use Rattle.java_parser_methods.specs.StatementLeadView.{row_text}
+use Rattle.java_parser_lookahead.specs.StatementLeadView.{row_text}
 use Rattle.java_parser_methods.proofs.RowLoops.{grouped_goes_on, grouped_fails, grouped_ends, grouped_runs_out}
 use Rattle.java_parser_methods.proofs.RowLoops.{group_goes_on, group_fails, groups_end, groups_run_out, row_goes_on}
 use Rattle.java_parser_methods.proofs.RowLoops.{row_fails, rows_end, no_keyword, no_group_before}

@@ -11,7 +11,7 @@ use Rattle.java_parser_grammar.specs.ExpressionReading.{operand_of, read_at, arr
 use Rattle.java_parser_grammar.specs.ExpressionReading.{new_with}
 use Rattle.java_parser_grammar.specs.ExpressionReading.{call_arguments_with, name_with}
 use Rattle.java_parser_grammar.specs.Leads.{lead, casts}
-use Rattle.java_parser_expressions.specs.LeadView.{lead_of}
+use Rattle.java_parser_lookahead.specs.LeadView.{lead_of}
 use Rattle.java_parser_expressions.proofs.TurnSteps.{turn_given, turn_stops}
 use Rattle.java_parser_expressions.proofs.CastChoice.{parens_alone}
 use Rattle.java_parser_types.specs.Tokens.{spelled}

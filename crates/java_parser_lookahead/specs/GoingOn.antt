@@ -1,4 +1,4 @@
--- No public contract rests on this: whether an expression goes on with what the first token begins.
+-- A contract of a public call rests on this: whether an expression goes on with what the first token begins.
 use Rattle.std.specs.Prelude.{ℕ, suc, Bool, false, not, ◌&&◌, nat_le}
 use Rattle.java_tree.specs.Trees.{Expr}
 use Rattle.java_tree.specs.Operators.{assignment_level, conditional_level, relational_level, postfix_level}

@@ -7,10 +7,10 @@ ghost use Rattle.java_tree.specs.KeptPlaces.{kept, place_onto};
 ghost use Rattle.java_tree.specs.Operators.{is_assignment, is_step, is_prefix, is_signed};
 ghost use Rattle.java_parser_grammar.specs.Leads.{lead_of_angle, lead_of_sign, lead_of_word, lead, one_sign_operators};
 ghost use Rattle.java_parser_grammar.specs.Leads.{opens, opens_operand, opens_signed, is_plain_cast, casts};
-ghost use Rattle.java_parser_expressions.specs.FirstParenthesis.{behind_first};
+ghost use Rattle.java_parser_lookahead.specs.FirstParenthesis.{behind_first};
 ghost use Rattle.java_parser_types.specs.Tokens.{spelled};
-ghost use Rattle.java_parser_expressions.specs.MarkLeads.{lead_of_mark};
-ghost use Rattle.java_parser_expressions.specs.LeadView.{lead_of, places_behind, IsBelow};
+ghost use Rattle.java_parser_lookahead.specs.MarkLeads.{lead_of_mark};
+ghost use Rattle.java_parser_lookahead.specs.LeadView.{lead_of, places_behind, IsBelow};
 
 use java_lexer::{Token, TokenKind};
 use java_parser_types::look::{after_glued, after_plain, after_sign, is_listed, is_sign};

@@ -1,7 +1,7 @@
 use Rattle.std.proofs.Common.{map, sym, ◌∙◌}
 use Rattle.java_parser_types.specs.Tokens.{spelled}
-use Rattle.java_parser_expressions.proofs.CastChoice.{first_decides}
-use Rattle.java_parser_expressions.proofs.leads.casts.Goals as goal
+use Rattle.java_parser_lookahead.proofs.FirstClosing.{first_decides}
+use Rattle.java_parser_lookahead.proofs.leads.casts.Goals as goal
 
 pub returns-in-Some : goal.returns-in-Some
 returns-in-Some c =

@@ -1,7 +1,7 @@
 use Rattle.std.proofs.Common.{◌≡◌, length, map}
-use Rattle.java_parser_expressions.specs.FirstParenthesis.{behind_first}
+use Rattle.java_parser_lookahead.specs.FirstParenthesis.{behind_first}
 use Rattle.java_parser_types.specs.Tokens.{spelled}
-use Rattle.java_parser_expressions.proofs.leads.behind_first.Given as goal
+use Rattle.java_parser_lookahead.proofs.leads.behind_first.Given as goal
 
 abbrev pub invariant-loop-rest : goal.invariant-loop-rest
 invariant-loop-rest l = record {

@@ -1,8 +1,8 @@
--- No public contract rests on this: what a first token begins, without places.
+-- A contract of a public call rests on this: what a first token begins, without places.
 use Rattle.std.specs.Prelude.{ℕ, ◌<◌, length, map}
 use Rattle.java_tree.specs.KeptPlaces.{Places, kept}
-use Rattle.java_parser_expressions.specs.declared.leads.Lead as leads
-use Rattle.java_parser_expressions.specs.declared.leads.Lead.TheVariants as lead
+use Rattle.java_parser_lookahead.specs.declared.leads.Lead as leads
+use Rattle.java_parser_lookahead.specs.declared.leads.Lead.TheVariants as lead
 use Rattle.java_parser_grammar.specs.Leads.{Lead, Assigns, Asks, Joins, Tests, Steps, Selects, Indexes, Opens, Ends}
 use Rattle.java_parser_types.specs.Tokens.{spelled}
 

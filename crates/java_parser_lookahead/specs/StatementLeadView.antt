@@ -1,14 +1,14 @@
--- No public contract rests on this: what the code says of how a statement begins, without places.
+-- A contract of a public call rests on this: what the code says of how a statement begins, without places.
 use Rattle.std.specs.Prelude.{ℕ, ◌<◌, List, ◌∷◌, length, map, codes}
 use Rattle.racer_base.specs.declared.ids.Place.{Place}
 use Rattle.java_lexer.specs.declared.token.TokenKind.TheVariants as kind
 use Rattle.java_tree.specs.KeptPlaces.{Places, kept, place_onto}
-use Rattle.java_parser_methods.specs.declared.lookahead.StatementLead as leads
-use Rattle.java_parser_methods.specs.declared.lookahead.StatementLead.TheVariants as lead
+use Rattle.java_parser_lookahead.specs.declared.lookahead.StatementLead as leads
+use Rattle.java_parser_lookahead.specs.declared.lookahead.StatementLead.TheVariants as lead
 use Rattle.java_parser_grammar.specs.Lookahead.{StatementLead, Semicolon, Brace, IfWord, ForWord}
 use Rattle.java_parser_grammar.specs.Lookahead.{RowWord, LabelWord, Other}
-use Rattle.java_parser_methods.specs.declared.lookahead.RowWord as words
-use Rattle.java_parser_methods.specs.declared.lookahead.RowWord.TheVariants as word
+use Rattle.java_parser_lookahead.specs.declared.lookahead.RowWord as words
+use Rattle.java_parser_lookahead.specs.declared.lookahead.RowWord.TheVariants as word
 use Rattle.java_parser_types.specs.Tokens.{spelled}
 
 abbrev pub row_text : words.RowWord → List ℕ

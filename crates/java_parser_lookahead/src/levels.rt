@@ -1,11 +1,11 @@
-//! Levels of expressions, and whether an expression goes on (JLS 15.14 to 15.26).
-ghost use Rattle.std.specs.Prelude.{◌≡◌, ◌≤◌};
+//! Levels of expressions, whether an expression goes on (JLS 15.14 to 15.26), and how deep it may be nested.
+ghost use Rattle.std.specs.Prelude.{◌≡◌, ◌<◌, ◌≤◌, ◌^◌, suc, nat_le};
 ghost use Rattle.java_tree.specs.Operators.{binary_level};
 ghost use Rattle.java_tree.specs.Formed.{level, is_variable, makes_array};
 ghost use Rattle.java_tree.specs.View.{expr_of};
-ghost use Rattle.java_parser_expressions.specs.LeadView.{lead_of};
-ghost use Rattle.java_parser_expressions.specs.GoingOn.{goes_on};
-ghost use Rattle.java_parser_expressions.specs.NearerLevels.{nearer_level};
+ghost use Rattle.java_parser_lookahead.specs.LeadView.{lead_of};
+ghost use Rattle.java_parser_lookahead.specs.GoingOn.{goes_on};
+ghost use Rattle.java_parser_lookahead.specs.NearerLevels.{nearer_level};
 
 use super::leads::{Lead, is_text};
 use java_parser_types::look::is_listed;
@@ -117,4 +117,12 @@ pub fn goes_on(least: u32, tree: &Expression, lead: &Lead<'_>) -> bool
         Lead::Indexes(_) => level(tree) >= 14 && !makes_array(tree),
         Lead::Opens | Lead::Ends => false,
     }
+}
+
+/// Whether a larger expression of this nesting is not nested too deep.
+pub fn is_within(limit: u32, nesting: u32) -> bool
+    requires { suc (suc limit) < 2 ^ 32 }
+    ensures { result ≡ nat_le nesting (suc limit) }
+{
+    nesting <= limit + 1
 }

@@ -1,7 +1,7 @@
 use Rattle.std.proofs.Common.{◌≡◌, true, length, map}
 use Rattle.java_parser_grammar.specs.Lookahead.{goes_local}
 use Rattle.java_parser_types.specs.Tokens.{spelled}
-use Rattle.java_parser_methods.proofs.lookahead.goes_local.Given as goal
+use Rattle.java_parser_lookahead.proofs.lookahead.goes_local.Given as goal
 
 abbrev pub invariant-loop-rest : goal.invariant-loop-rest
 invariant-loop-rest l = goes_local l.at_name (map spelled l.rest) ≡ goes_local true (map spelled l.tokens)

@@ -14,8 +14,8 @@ ghost use Rattle.java_parser_grammar.specs.Lookahead.{begins_with, is_word_name,
 ghost use Rattle.java_parser_grammar.specs.Lookahead.{looks_local};
 ghost use Rattle.java_parser_grammar.specs.Lookahead.{name_and_colon, statement_lead, is_constructor};
 ghost use Rattle.java_parser_grammar.specs.Lookahead.{after_modifier};
-ghost use Rattle.java_parser_methods.specs.StatementLeadView.{statement_lead_of, places_from, LeadIsBelow};
-ghost use Rattle.java_parser_methods.specs.StatementLeadView.{row_text};
+ghost use Rattle.java_parser_lookahead.specs.StatementLeadView.{statement_lead_of, places_from, LeadIsBelow};
+ghost use Rattle.java_parser_lookahead.specs.StatementLeadView.{row_text};
 ghost use Rattle.java_parser_grammar.specs.StatementReading.{final_at};
 ghost use Rattle.java_parser_grammar.specs.Taking.{after_keyword, after_name, match_option};
 ghost use Rattle.java_parser_types.specs.Tokens.{spelled};

@@ -1,0 +1,6 @@
+pub mod LeadView
+pub mod GoingOn
+pub mod NearerLevels
+pub mod MarkLeads
+pub mod FirstParenthesis
+pub mod StatementLeadView
